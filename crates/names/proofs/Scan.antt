@@ -1,0 +1,84 @@
+-- A class name's front, found byte by byte.
+use Rattle.std.proofs.Common.{◌≡◌, ℕ, ◌+◌, ◌<◌, Bool, true, false, not, eqb, ◌&&◌, List, [], ◌∷◌, ◌++◌, length, get_or, take, drop, refl, sym, ap, ◌∙◌, append_assoc, arith}
+use Rattle.std.specs.Prelude.{◌↔◌}
+use Rattle.std.proofs.lemmas.List.{drop_more, take_more, drop_all, append-nil, nil_from_length}
+use Rattle.std.proofs.lemmas.Bool.{and_left, false≢true}
+use Rattle.names.specs.Names.{slash, semicolon, IsClassName}
+use Rattle.names.specs.Reading.{Reading, found, outside, mapped, goes_on, ends_class_name, read_class}
+use Rattle.names.proofs.ClassNameLaws.{class_name_ends, class_name_from_ends}
+use Rattle.names.proofs.FieldReader.{class_on, class_end, class_outside, class_nothing, wants_no_more}
+
+ends_go : (fresh : Bool) (b : ℕ) (rest : List ℕ) → goes_on fresh b ≡ true → ends_class_name fresh (b ∷ rest) ≡ ends_class_name (eqb b slash) rest
+unfolding ends_class_name
+ends_go fresh b rest on = ap (λ (t : Bool). t && ends_class_name (eqb b slash) rest) on
+
+ends_stop : (fresh : Bool) (b : ℕ) (rest : List ℕ) → goes_on fresh b ≡ false → ends_class_name fresh (b ∷ rest) ≡ false
+unfolding ends_class_name
+ends_stop fresh b rest off = and_left (goes_on fresh b) (ends_class_name (eqb b slash) rest) off
+
+ends_nothing : (fresh : Bool) → ends_class_name fresh [] ≡ not fresh
+unfolding ends_class_name
+ends_nothing fresh = refl
+
+pub scan_ends : (bytes : List ℕ) (at : ℕ) (fresh : Bool) → at < length bytes → goes_on fresh (get_or bytes at 0) ≡ true → ends_class_name true bytes ≡ ends_class_name fresh (drop at bytes)
+    → ends_class_name true bytes ≡ ends_class_name (eqb (get_or bytes at 0) slash) (drop (at + 1) bytes)
+scan_ends bytes at fresh lt on so_far = so_far ∙ ap (ends_class_name fresh) (drop_more bytes at 0 lt) ∙ ends_go fresh (get_or bytes at 0) (drop (at + 1) bytes) on
+
+joined : (front more : List ℕ) (b : ℕ) (r : Reading (List ℕ)) → more ≡ front ++ b ∷ [] → mapped (λ name. front ++ name) (mapped (λ name. b ∷ name) r) ≡ mapped (λ name. more ++ name) r
+joined front more b (found name rest) e = ap (λ (x : List ℕ). found x rest) (sym (append_assoc front (b ∷ []) name) ∙ ap (λ (x : List ℕ). x ++ name) (sym e))
+joined front more b (outside rest) e = refl
+
+pub scan_reads : (bytes : List ℕ) (at : ℕ) (fresh : Bool) → at < length bytes → goes_on fresh (get_or bytes at 0) ≡ true
+    → read_class true bytes ≡ mapped (λ name. take at bytes ++ name) (read_class fresh (drop at bytes))
+    → read_class true bytes ≡ mapped (λ name. take (at + 1) bytes ++ name) (read_class (eqb (get_or bytes at 0) slash) (drop (at + 1) bytes))
+scan_reads bytes at fresh lt on so_far =
+    so_far
+    ∙ ap (λ (x : List ℕ). mapped (λ name. take at bytes ++ name) (read_class fresh x)) (drop_more bytes at 0 lt)
+    ∙ ap (mapped (λ name. take at bytes ++ name)) (class_on fresh (get_or bytes at 0) (drop (at + 1) bytes) on)
+    ∙ joined (take at bytes) (take (at + 1) bytes) (get_or bytes at 0) (read_class (eqb (get_or bytes at 0) slash) (drop (at + 1) bytes)) (take_more bytes at 0 lt)
+
+-- all bytes go on as a class name
+pub class_to_the_end : (bytes : List ℕ) (front : ℕ) (fresh : Bool) → front ≡ length bytes → ends_class_name true bytes ≡ ends_class_name fresh (drop front bytes) → (not fresh ≡ true) ↔ IsClassName bytes
+class_to_the_end bytes front fresh all e =
+    let is : ends_class_name true bytes ≡ not fresh = e ∙ ap (ends_class_name fresh) (drop_all front bytes (omega arith)) ∙ ends_nothing fresh in
+    (λ h. class_name_from_ends bytes (is ∙ h), λ c. sym is ∙ class_name_ends bytes c)
+
+-- a byte stands where a class name cannot go on
+pub no_class_there : (bytes : List ℕ) (front : ℕ) (fresh : Bool) → front < length bytes → ((b : ℕ) (rest : List ℕ) → drop front bytes ≡ b ∷ rest → goes_on fresh b ≡ false)
+    → ends_class_name true bytes ≡ ends_class_name fresh (drop front bytes) → IsClassName bytes → ⊥
+no_class_there bytes front fresh lt stops e c =
+    let b = get_or bytes front 0 in
+    let rest = drop (front + 1) bytes in
+    let is = drop_more bytes front 0 lt in
+    false≢true (sym (e ∙ ap (ends_class_name fresh) is ∙ ends_stop fresh b rest (stops b rest is)) ∙ class_name_ends bytes c)
+
+-- ---- reading behind the front
+
+-- the bytes are a front of a class name and a rest with which it does not go on
+pub record Scanned (bytes name rest : List ℕ) (fresh : Bool) : Type 0 where
+  reads : read_class true bytes ≡ mapped (λ more. name ++ more) (read_class fresh rest)
+  stops : (b : ℕ) (others : List ℕ) → rest ≡ b ∷ others → goes_on fresh b ≡ false
+
+pub scanned : (bytes name rest : List ℕ) (front : ℕ) (fresh : Bool) → name ≡ take front bytes → rest ≡ drop front bytes
+    → read_class true bytes ≡ mapped (λ more. take front bytes ++ more) (read_class fresh (drop front bytes))
+    → ((b : ℕ) (others : List ℕ) → drop front bytes ≡ b ∷ others → goes_on fresh b ≡ false) → Scanned bytes name rest fresh
+scanned bytes name rest front fresh is_front is_rest reads stops = rw (is_front, is_rest) (record { reads = reads; stops = stops })
+
+pub class_read : (bytes name rest others : List ℕ) (b : ℕ) (fresh : Bool) → Scanned bytes name rest fresh → rest ≡ b ∷ others → fresh ≡ false → b ≡ semicolon → read_class true bytes ≡ found name others
+class_read bytes name rest others b fresh s is later end =
+    s.reads
+    ∙ ap (λ (x : List ℕ). mapped (λ more. name ++ more) (read_class fresh x)) is
+    ∙ ap (mapped (λ more. name ++ more)) (class_end fresh b others (s.stops b others is) (rw (later, end) refl))
+    ∙ ap (λ (x : List ℕ). found x others) (append-nil name)
+
+pub class_unread : (bytes name rest others : List ℕ) (b : ℕ) (fresh : Bool) → Scanned bytes name rest fresh → rest ≡ b ∷ others → wants_no_more fresh b ≡ false → read_class true bytes ≡ outside rest
+class_unread bytes name rest others b fresh s is more =
+    s.reads
+    ∙ ap (λ (x : List ℕ). mapped (λ more. name ++ more) (read_class fresh x)) is
+    ∙ ap (mapped (λ more. name ++ more)) (class_outside fresh b others (s.stops b others is) more)
+    ∙ ap outside (sym is)
+
+pub class_cut : (bytes name rest : List ℕ) (fresh : Bool) → Scanned bytes name rest fresh → length rest ≡ 0 → read_class true bytes ≡ outside rest
+class_cut bytes name rest fresh s none =
+    let is = nil_from_length rest none in
+    s.reads ∙ ap (λ (x : List ℕ). mapped (λ more. name ++ more) (read_class fresh x)) is ∙ ap (mapped (λ more. name ++ more)) (class_nothing fresh) ∙ ap outside (sym is)

@@ -1,0 +1,9 @@
+pub mod Answers
+pub mod Descriptors
+pub mod Faults
+pub mod Names
+pub mod ReadTypes
+pub mod Reading
+pub mod Texts
+pub mod Types
+pub mod Units

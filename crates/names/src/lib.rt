@@ -1,0 +1,33 @@
+//! Texts, names and descriptors of class files: modified UTF-8 (JVMS 4.4.7), the forms of names
+//! (JVMS 4.2) and the types that descriptors name (JVMS 4.3).
+//!
+//! The calls are proved against the spelling of units (`specs/Texts.antt`), the forms of names
+//! (`specs/Names.antt`) and the grammar of descriptors (`specs/Descriptors.antt`), with what each refusal
+//! says of a text in `specs/Faults.antt`. The call to know is [`check_text`]: all others take the
+//! [`Text`] that it gives, or what was read from one.
+//!
+//! - `text`: texts, and the units that they spell.
+//! - `name`: whether a text is a class name, a field's name or a method's name.
+//! - `base`, `descriptor`: the types that descriptors name, their widths, and their texts.
+//! - `reading`: the types of a descriptor's text.
+//! - `fault`: the refusals.
+#![tactic(auto)]
+
+mod base;
+mod descriptor;
+mod fault;
+mod name;
+mod reading;
+mod text;
+
+pub use base::{Base, Primitive};
+pub use descriptor::{FieldType, MethodType};
+pub use fault::NameFault;
+pub use name::{is_class_name, is_field_name, is_method_name, names_by_units};
+pub use reading::{
+    field_answers, field_type, method_answers, method_type, one_field_type, one_method_type,
+};
+pub use text::{Text, check_text, one_unit_list, spell, text_answers, units};
+
+#[cfg(test)]
+mod tests;

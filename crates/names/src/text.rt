@@ -1,0 +1,170 @@
+//! Texts: bytes that are well-spelled modified UTF-8 (JVMS 4.4.7).
+
+ghost use Rattle.std.specs.Prelude.{◌≡◌, ◌↔◌, ◌++◌, ℕ, List, [], length, IsTrue, IsOk, IfOk, OnOk, IfErr, IsOkUnless, MatchResult, Err, Some, None};
+ghost use Rattle.names.specs.Units.{unit_at, bad_text};
+ghost use Rattle.names.specs.Texts.{IsText, FirstBad, AreUnits, unit, spelling};
+ghost use Rattle.names.specs.declared.fault.NameFault.TheVariants.{BadText, OutOfMemory};
+
+use crate::fault::NameFault;
+use std::alloc::{AllocError, Global};
+
+/// Bytes that are well-spelled modified UTF-8: each 16-bit unit in its shortest spelling, where 0 takes
+/// two bytes. Unpaired surrogates are units like any other.
+#[derive(Clone, Copy, Debug, PartialEq, Eq)]
+pub struct Text<'a> {
+    bytes: &'a [u8],
+    pub ghost well_spelled: { ∥ IsText bytes.now ∥₁ },
+}
+
+impl<'a> Text<'a> {
+    /// The bytes of the text.
+    pub fn bytes(self) -> &'a [u8]
+        ensures { result.now ≡ self.entry.bytes.now }
+    {
+        self.bytes
+    }
+
+    /// The bytes of the text, in which no unit is badly spelled.
+    pub fn spelling(self) -> &'a [u8]
+        ensures same { result.now ≡ self.entry.bytes.now }
+        ensures good { bad_text self.entry.bytes.now ≡ None }
+    {
+        self.bytes
+    }
+
+    /// How many bytes the text has.
+    pub fn len(self) -> usize
+        ensures { result ≡ length self.entry.bytes.now }
+    {
+        self.bytes.len()
+    }
+
+    /// Whether the text has no bytes, and so no units.
+    pub fn is_empty(self) -> bool
+        ensures { IsTrue result ↔ (self.entry.bytes.now ≡ []) }
+    {
+        self.bytes.is_empty()
+    }
+}
+
+/// The unit that the bytes begin with, and how many bytes it takes.
+fn unit_at(bytes: &[u8]) -> Option<(u16, usize)>
+    ensures { result ≡ unit_at bytes.now }
+{
+    match bytes {
+        [] => None,
+        [0, ..] => None,
+        [a @ 1..=127, ..] => Some((*a as u16, 1)),
+        [a @ 192..=223, b @ 128..=191, ..] => {
+            let unit = (*a as u16 - 192) * 64 + (*b as u16 - 128);
+            if unit == 0 || unit >= 128 {
+                Some((unit, 2))
+            } else {
+                None
+            }
+        }
+        [a @ 224..=239, b @ 128..=191, c @ 128..=191, ..] => {
+            let unit = ((*a as u16 - 224) * 64 + (*b as u16 - 128)) * 64 + (*c as u16 - 128);
+            if unit >= 2048 { Some((unit, 3)) } else { None }
+        }
+        _ => None,
+    }
+}
+
+/// Where the first unit without a right spelling begins.
+fn first_bad(bytes: &[u8]) -> Option<usize>
+    ensures { result ≡ bad_text bytes.now }
+{
+    let mut at = 0;
+    while at < bytes.len() {
+        let (_, rest) = bytes.split_at(at);
+        match unit_at(rest) {
+            None => return Some(at),
+            Some((_, n)) => at += n,
+        }
+    }
+    None
+}
+
+/// The bytes as a text (JVMS 4.4.7). Takes no memory.
+///
+/// Refuses by 3 at the first byte of the first unit that has no right spelling there.
+pub fn check_text(bytes: &[u8]) -> Result<Text<'_>, NameFault>
+    // A text exactly where the bytes are the spelling of units.
+    ensures text { IfOk result (λ t. (t.bytes.now ≡ bytes.now) × IsText bytes.now) }
+    ensures accepted { IsText bytes.now → IsOk result }
+
+    // 3 exactly where one is badly spelled, at the first such; it is the only refusal.
+    ensures fault { IfErr result (λ e. (at : ℕ) × (e ≡ BadText at) × FirstBad bytes.now at) }
+    ensures refused { (at : ℕ) → FirstBad bytes.now at → result ≡ Err (BadText at) }
+
+    // The same in words that compute.
+    ensures exact { MatchResult result (λ _. bad_text bytes.now ≡ None) (λ e. (k : ℕ) × (e ≡ BadText k) × (bad_text bytes.now ≡ Some k)) }
+{
+    match first_bad(bytes) {
+        None => Ok(Text { bytes }),
+        Some(at) => Err(NameFault::BadText { at }),
+    }
+}
+
+/// Appends the one spelling of the unit.
+fn push_unit(out: &mut Vec<u8>, u: u16) -> Result<(), AllocError>
+    ensures { OnOk result (out.new.items ≡ out.old.items ++ unit u) }
+{
+    if u == 0 {
+        out.extend_from_slice(&[192, 128])
+    } else if u < 128 {
+        out.extend_from_slice(&[u as u8])
+    } else if u < 2048 {
+        out.extend_from_slice(&[(192 + u / 64) as u8, (128 + u % 64) as u8])
+    } else {
+        out.extend_from_slice(&[
+            (224 + u / 4096) as u8,
+            (128 + (u / 64) % 64) as u8,
+            (128 + u % 64) as u8,
+        ])
+    }
+}
+
+/// The one spelling of the units (JVMS 4.4.7). Refuses by 1 alone.
+pub fn spell(alloc: Global, units: &[u16]) -> Result<Vec<u8>, NameFault>
+    ensures spelled { IfOk result (λ v. v.items ≡ spelling units.now) }
+    ensures memory { IsOkUnless result OutOfMemory }
+{
+    let mut out = Vec::new(alloc);
+    for u in units {
+        push_unit(&mut out, *u)?;
+    }
+    Ok(out)
+}
+
+/// The units that the text spells. Refuses by 1 alone.
+pub fn units(alloc: Global, text: Text<'_>) -> Result<Vec<u16>, NameFault>
+    ensures fit { IfOk result (λ v. AreUnits v.items) }
+    ensures spelled { IfOk result (λ v. spelling v.items ≡ text.entry.bytes.now) }
+    ensures memory { IsOkUnless result OutOfMemory }
+{
+    let mut out = Vec::new(alloc);
+    let mut rest = text.bytes;
+    'units: loop {
+        match unit_at(rest) {
+            None => return Ok(out),
+            Some((u, n)) => {
+                out.push(u)?;
+                let (_, after) = rest.split_at(n);
+                rest = after;
+            }
+        }
+    }
+}
+
+/// A text spells one list of units: different lists have different spellings.
+pub fn one_unit_list()
+    ensures { (a b : List ℕ) → AreUnits a → AreUnits b → spelling a ≡ spelling b → a ≡ b }
+{}
+
+/// The words that compute say of bytes what the spelling of units says.
+pub fn text_answers()
+    ensures text { (bytes : List ℕ) → (bad_text bytes ≡ None) ↔ IsText bytes }
+    ensures bad { (bytes : List ℕ) (at : ℕ) → (bad_text bytes ≡ Some at) ↔ FirstBad bytes at }
+{}
