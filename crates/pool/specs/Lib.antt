@@ -1,0 +1,6 @@
+pub mod Kinds
+pub mod Entries
+pub mod EntryLaws
+pub mod Views
+pub mod Refusals
+pub mod Lookups

@@ -1,0 +1,22 @@
+//! Laws of the look-ups. The function does nothing: its contract is the laws.
+
+ghost use Rattle.std.specs.Prelude.{◌≡◌, ◌↔◌, ℕ, List, Ok};
+ghost use Rattle.pool.specs.Entries.{Entry};
+ghost use Rattle.pool.specs.Lookups.{entry_at, text_at, class_name_at, name_and_type_at, field_ref_at, method_ref_at};
+ghost use Rattle.pool.specs.Lookups.{Named, FieldOf, MethodOf, StandsAt, HasText, HasClassName, HasNameAndType, HasField, HasMethod};
+
+/// A look-up finds exactly what stands where its indices lead.
+pub fn found_where_it_stands()
+    ensures entry { (es : List Entry) (index : ℕ) (e : Entry)
+        → (entry_at es index ≡ Ok e) ↔ StandsAt es index e }
+    ensures text { (es : List Entry) (index : ℕ) (bytes : List ℕ)
+        → (text_at es index ≡ Ok bytes) ↔ HasText es index bytes }
+    ensures class_name { (es : List Entry) (index : ℕ) (bytes : List ℕ)
+        → (class_name_at es index ≡ Ok bytes) ↔ HasClassName es index bytes }
+    ensures name_and_type { (es : List Entry) (index : ℕ) (x : Named)
+        → (name_and_type_at es index ≡ Ok x) ↔ HasNameAndType es index x }
+    ensures field_ref { (es : List Entry) (index : ℕ) (x : FieldOf)
+        → (field_ref_at es index ≡ Ok x) ↔ HasField es index x }
+    ensures method_ref { (es : List Entry) (index : ℕ) (x : MethodOf)
+        → (method_ref_at es index ≡ Ok x) ↔ HasMethod es index x }
+{}

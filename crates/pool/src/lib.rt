@@ -1,0 +1,38 @@
+//! The constant pool of a class file: read, written and looked up.
+//!
+//! Proved against the pool's format and its look-ups over a list of entries (JVMS 4.1, 4.4;
+//! `specs/Entries.antt`, `specs/Lookups.antt`). The one type to know is [`Pool`]: as a
+//! [`Part`](layout::Part) it is read and written, and [`Pool::get`] and its kin look up in it.
+//!
+//! - `constant`: what stands at an index
+//! - `constant_pool`: the pool as one value, and as a part
+//! - `fault`: why a look-up fails
+//! - `kind`: the kinds of a method handle's reference
+//! - `laws`: what the look-ups find, by what stands where, without code
+//! - `lookups`: what stands at an index, and to which texts it leads
+//! - `reading`: bytes to constants
+//! - `reference`: the texts of a NameAndType, a Fieldref and a method's reference
+//! - `writing`: constants to bytes
+#![tactic(auto)]
+
+mod constant;
+mod constant_pool;
+mod fault;
+mod kind;
+mod laws;
+mod lookups;
+mod reading;
+mod reference;
+mod writing;
+
+pub use constant::Constant;
+pub use constant_pool::Pool;
+pub use fault::PoolFault;
+pub use kind::ReferenceKind;
+pub use laws::found_where_it_stands;
+pub use reading::read_pool;
+pub use reference::{FieldRef, MethodRef, NameAndType};
+pub use writing::put_pool;
+
+#[cfg(test)]
+mod tests;

@@ -1,0 +1,156 @@
+//! Looking up in the constant pool. No look-up takes memory.
+ghost use Rattle.std.specs.Prelude.{◌≡◌, ◌<◌, length, slice_get, Some, MatchResult};
+ghost use Rattle.pool.specs.Lookups.{Answers, entry_at, text_at, class_name_at, named, name_and_type_at, member, field_ref_at, method, method_ref_at};
+ghost use Rattle.pool.specs.Views.{view, views, name_and_type_view, field_ref_view, method_ref_view};
+
+use crate::constant::Constant;
+use crate::constant_pool::Pool;
+use crate::fault::PoolFault;
+use crate::reference::{FieldRef, MethodRef, NameAndType};
+use names::Text;
+
+fn constant_at<'a>(constants: &[Constant<'a>], place: usize) -> Constant<'a>
+    requires { place < length constants.now }
+    ensures { slice_get constants.now place ≡ Some result }
+{
+    constants[place]
+}
+
+/// What stands at an index, in a list of constants of which the first has index 1.
+#[tactic(auto, unfolding(crate::specs::Lookups::entry_at))]
+fn usable_at<'a>(constants: &[Constant<'a>], index: u16) -> Result<Constant<'a>, PoolFault>
+    ensures { Answers view (entry_at (views constants.now) index) result }
+{
+    if index == 0 {
+        return Err(PoolFault::BadIndex { index });
+    }
+    let place = index as usize - 1;
+    if place >= constants.len() {
+        return Err(PoolFault::BadIndex { index });
+    }
+    match constant_at(constants, place) {
+        Constant::Unusable => Err(PoolFault::BadIndex { index }),
+        constant => Ok(constant),
+    }
+}
+
+impl<'a> Pool<'a> {
+    /// The constant at this index, or 8 `BadIndex` where it is 0, past the end, or the second index
+    /// of a Long or Double.
+    pub fn get(&self, index: u16) -> Result<Constant<'a>, PoolFault>
+        ensures { Answers view (entry_at self.now index) result }
+    {
+        usable_at(self.constants(), index)
+    }
+
+    /// The text of the Utf8 at this index, or 8 as [`get`](Pool::get), or 9 `WrongKind` where
+    /// another kind stands there.
+    #[tactic(auto, unfolding(crate::specs::Lookups::text_at))]
+    pub fn text(&self, index: u16) -> Result<Text<'a>, PoolFault>
+        ensures { Answers (λ t. t.bytes.now) (text_at self.now index) result }
+    {
+        match self.get(index)? {
+            Constant::Utf8(text) => Ok(text),
+            _ => Err(PoolFault::WrongKind { index }),
+        }
+    }
+
+    /// The name of the Class at this index (JVMS 4.4.1), which may be an array's descriptor; or 8
+    /// or 9, with the index at fault: this one, or that of the name.
+    #[tactic(auto, unfolding(crate::specs::Lookups::class_name_at))]
+    pub fn class_name(&self, index: u16) -> Result<Text<'a>, PoolFault>
+        ensures { Answers (λ t. t.bytes.now) (class_name_at self.now index) result }
+    {
+        match self.get(index)? {
+            Constant::Class { name } => self.text(name),
+            _ => Err(PoolFault::WrongKind { index }),
+        }
+    }
+
+    /// The texts of the NameAndType at this index (JVMS 4.4.6); or 8 or 9, with the index at fault:
+    /// this one, that of the name, or that of the descriptor.
+    #[tactic(auto, unfolding(crate::specs::Lookups::name_and_type_at))]
+    pub fn name_and_type(&self, index: u16) -> Result<NameAndType<'a>, PoolFault>
+        ensures { Answers name_and_type_view (name_and_type_at self.now index) result }
+    {
+        match self.get(index)? {
+            Constant::NameAndType { name, descriptor } => self.named(name, descriptor),
+            _ => Err(PoolFault::WrongKind { index }),
+        }
+    }
+
+    /// The texts of the Fieldref at this index (JVMS 4.4.2); or 8 or 9, with the first index at
+    /// fault: this one, then those of the class and its name, then those of the NameAndType, its
+    /// name and its descriptor.
+    #[tactic(auto, unfolding(crate::specs::Lookups::field_ref_at))]
+    pub fn field_ref(&self, index: u16) -> Result<FieldRef<'a>, PoolFault>
+        ensures { Answers field_ref_view (field_ref_at self.now index) result }
+    {
+        match self.get(index)? {
+            Constant::Fieldref {
+                class,
+                name_and_type,
+            } => self.member(class, name_and_type),
+            _ => Err(PoolFault::WrongKind { index }),
+        }
+    }
+
+    /// The texts of the Methodref or InterfaceMethodref at this index (JVMS 4.4.2), and which of
+    /// the two it is; or 8 or 9 as [`field_ref`](Pool::field_ref).
+    #[tactic(auto, unfolding(crate::specs::Lookups::method_ref_at))]
+    pub fn method_ref(&self, index: u16) -> Result<MethodRef<'a>, PoolFault>
+        ensures { Answers method_ref_view (method_ref_at self.now index) result }
+    {
+        match self.get(index)? {
+            Constant::Methodref {
+                class,
+                name_and_type,
+            } => self.method(false, class, name_and_type),
+            Constant::InterfaceMethodref {
+                class,
+                name_and_type,
+            } => self.method(true, class, name_and_type),
+            _ => Err(PoolFault::WrongKind { index }),
+        }
+    }
+
+    #[tactic(auto, unfolding(crate::specs::Lookups::named))]
+    fn named(&self, name: u16, descriptor: u16) -> Result<NameAndType<'a>, PoolFault>
+        ensures { Answers name_and_type_view (named self.now name descriptor) result }
+    {
+        let name = self.text(name)?;
+        let descriptor = self.text(descriptor)?;
+        Ok(NameAndType { name, descriptor })
+    }
+
+    #[tactic(auto, unfolding(crate::specs::Lookups::member))]
+    fn member(&self, class: u16, name_and_type: u16) -> Result<FieldRef<'a>, PoolFault>
+        ensures { Answers field_ref_view (member self.now class name_and_type) result }
+    {
+        let class = self.class_name(class)?;
+        let named = self.name_and_type(name_and_type)?;
+        Ok(FieldRef {
+            class,
+            name: named.name,
+            descriptor: named.descriptor,
+        })
+    }
+
+    #[tactic(auto, unfolding(crate::specs::Lookups::method))]
+    fn method(
+        &self,
+        interface: bool,
+        class: u16,
+        name_and_type: u16,
+    ) -> Result<MethodRef<'a>, PoolFault>
+        ensures { Answers method_ref_view (method self.now interface class name_and_type) result }
+    {
+        let member = self.member(class, name_and_type)?;
+        Ok(MethodRef {
+            interface,
+            class: member.class,
+            name: member.name,
+            descriptor: member.descriptor,
+        })
+    }
+}
