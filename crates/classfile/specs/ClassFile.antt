@@ -1,0 +1,118 @@
+-- The layout of class files (JVMS 4.1, 4.5 to 4.7): which bytes spell which class, and which fault comes first.
+-- Each layout is the parts that stand one behind the other, in the order of the file.
+use Rattle.std.specs.Prelude.{◌≡◌, ℕ, ◌≤◌, ◌<◌, Bool, List, ◌++◌, length, nat_le, nat_eq, ◌&&◌, ◌||◌, if◌then◌else◌, ◌⊎◌}
+use Rattle.layout.specs.Format.{Format, Spells, FirstFault, done, part, refuse, andthen, number, times, inside}
+use Rattle.layout.specs.PieceLaws.{fields as by_field, raw}
+use Rattle.layout.specs.declared.limits.TheConstants.{MAX_CLASS_BYTES}
+use Rattle.layout.specs.declared.fault.ReadFault.{ReadFault}
+use Rattle.layout.specs.declared.fault.ReadFault.TheVariants.{BadMagic, BadVersion, BytesAfter, TooLong}
+use Rattle.pool.specs.Entries.{Entry, pool}
+use Rattle.classfile.specs.declared.location.Location.{Location}
+use Rattle.classfile.specs.declared.location.Location.TheVariants as location
+use Rattle.classfile.specs.Locations.{is_code, is_stack_map}
+use Rattle.classfile.specs.Values.{Handler, Nested, CodeBody, Attribute, Member, Class}
+
+-- a table: a count of two bytes, and so many items
+abbrev pub table : {V : Type 0} → Format V → Format (List V)
+table item = andthen (number 2) (λ n. times n item)
+
+-- an item of an exception table
+unfoldable pub handler : Format Handler
+handler = andthen (number 2) (λ start. andthen (number 2) (λ end. andthen (number 2) (λ handler. andthen (number 2) (λ catch.
+    done (record { start_pc = start; end_pc = end; handler_pc = handler; catch_type = catch })))))
+
+-- an attribute of a Code attribute: its name's index, the length of its body, and the body as it is
+unfoldable pub nested : List Entry → Format Nested
+nested pool = andthen (number 2) (λ name. andthen (number 4) (λ n. part n (λ body.
+    if is_stack_map pool location.Code name then done (by_field name body) else done (raw name body))))
+
+-- what stands before the exception table of a Code attribute
+pub record Sizes : Type 0 where
+  pub max_stack : ℕ
+  pub max_locals : ℕ
+  pub code : List ℕ
+
+unfoldable pub sizes : Format Sizes
+sizes = andthen (number 2) (λ max_stack. andthen (number 2) (λ max_locals. andthen (number 4) (λ n. part n (λ code.
+    done (record { max_stack = max_stack; max_locals = max_locals; code = code })))))
+
+unfoldable pub handlers : Format (List Handler)
+handlers = table handler
+
+unfoldable pub nested_attributes : List Entry → Format (List Nested)
+nested_attributes pool = table (nested pool)
+
+-- the body of a Code attribute
+unfoldable pub code : List Entry → Format CodeBody
+code pool = andthen sizes (λ s. andthen handlers (λ handlers. andthen (nested_attributes pool) (λ attributes.
+    done (record { max_stack = s.max_stack; max_locals = s.max_locals; code = s.code; exception_table = handlers; attributes = attributes }))))
+
+-- an attribute: its name's index, the length of its body, and the body, which is read by field where it is a Code attribute
+unfoldable pub attribute : List Entry → Location → Format Attribute
+attribute pool place = andthen (number 2) (λ name. andthen (number 4) (λ n. part n (λ body.
+    if is_code pool place name then inside n body (code pool) (λ c. done (by_field name c)) else done (raw name body))))
+
+unfoldable pub attributes : List Entry → Location → Format (List Attribute)
+attributes pool place = table (attribute pool place)
+
+unfoldable pub three : Format (ℕ × ℕ × ℕ)
+three = andthen (number 2) (λ a. andthen (number 2) (λ b. andthen (number 2) (λ c. done (a, b, c))))
+
+-- a field or a method: access flags, the indices of its name and descriptor, and its attributes
+unfoldable pub member : List Entry → Location → Format Member
+member pool place = andthen three (λ head. andthen (attributes pool place) (λ attributes.
+    done (record { access_flags = head.0; name = head.1; descriptor = head.2; attributes = attributes })))
+
+unfoldable pub members : List Entry → Location → Format (List Member)
+members pool place = table (member pool place)
+
+-- major versions 51 to 55 with any minor version, 56 to 60 with 0
+abbrev pub is_version : ℕ → ℕ → Bool
+is_version minor major = nat_le 51 major && nat_le major 60 && (nat_le major 55 || nat_eq minor 0)
+
+-- the magic number and the version, the minor one first
+unfoldable pub version : Format (ℕ × ℕ)
+version = andthen (number 4) (λ magic. if nat_eq magic 0xCAFEBABE
+    then andthen (number 2) (λ minor. andthen (number 2) (λ major. if is_version minor major then done (minor, major) else refuse (λ at. BadVersion major minor)))
+    else refuse (λ at. BadMagic))
+
+unfoldable pub interfaces : Format (List ℕ)
+interfaces = table (number 2)
+
+unfoldable pub class : Format Class
+class = andthen version (λ version. andthen pool (λ pool. andthen three (λ head. andthen interfaces (λ interfaces.
+    andthen (members pool location.Field) (λ fields. andthen (members pool location.Method) (λ methods. andthen (attributes pool location.Class) (λ attributes.
+    done (record {
+      minor_version = version.0;
+      major_version = version.1;
+      constant_pool = pool;
+      access_flags = head.0;
+      this_class = head.1;
+      super_class = head.2;
+      interfaces = interfaces;
+      fields = fields;
+      methods = methods;
+      attributes = attributes;
+    }))))))))
+
+-- All the bytes, at most 16,777,216 of them, are a class file, and spell this class.
+pub record IsClass (bytes : List ℕ) (c : Class) : Type 0 where
+  pub within : length bytes ≤ MAX_CLASS_BYTES
+  pub spelled : Spells class bytes c
+
+-- a class stands in front of the bytes, and more behind it
+pub record HasMore (bytes : List ℕ) (at : ℕ) : Type 0 where
+  pub front : List ℕ
+  pub others : List ℕ
+  pub is : Class
+  pub spelled : Spells class front is
+  pub parts : bytes ≡ front ++ others
+  pub place : length front ≡ at
+  pub some : 0 < length others
+
+-- The first fault in the order of the file: more bytes than a class file may have goes before all others;
+-- then the first part that is not whole or breaks its rule; then bytes behind a class.
+abbrev pub ClassFault : List ℕ → ReadFault → Type 0
+ClassFault bytes e =
+    ((MAX_CLASS_BYTES < length bytes) × (e ≡ TooLong 0))
+    ⊎ ((length bytes ≤ MAX_CLASS_BYTES) × (FirstFault class 0 bytes e ⊎ ((at : ℕ) × (e ≡ BytesAfter at) × HasMore bytes at)))

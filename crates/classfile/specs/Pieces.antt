@@ -1,0 +1,250 @@
+-- What a class file is written as, part by part in the order of the file, and that its layout spells exactly that.
+use Rattle.std.proofs.Common.{◌≡◌, ℕ, Bool, true, false, cond, List, [], ◌∷◌, ◌++◌, length, refl, sym, ap, subst, ◌∙◌}
+use Rattle.std.specs.Prelude.{nat_eq}
+use Rattle.std.proofs.lemmas.Bool.{eqb-true}
+use Rattle.std.proofs.lemmas.List.{append-nil}
+use Rattle.layout.specs.declared.fault.ReadFault.TheVariants.{BadMagic, BadVersion}
+use Rattle.layout.specs.Format.{AreBytes, Format, done, refuse, Spells, andthen, number}
+use Rattle.layout.specs.FormatLaws.{AreBytes-parts, andthen_spelled, andthen_parts, number_2, number_4}
+use Rattle.layout.specs.Pieces.{Piece, plain, field, text, ArePlain, lengthened, marked}
+use Rattle.layout.specs.PieceLaws.{Made, Writes, Bodies, Either, fields as by_field, raw, name_of, not, made_headed, made_then, made_last, made_number, made_counted, made_held, made_whole, counted, attribute_pieces as pieces_by, writes_attribute, text_append, plain_parts, plain_append}
+use Rattle.pool.specs.Entries.{Entry, pool_pieces}
+use Rattle.pool.specs.EntryLaws.{writes_pool}
+use Rattle.classfile.specs.declared.location.Location.{Location}
+use Rattle.classfile.specs.declared.location.Location.TheVariants as location
+use Rattle.classfile.specs.Locations.{is_code, is_stack_map}
+use Rattle.classfile.specs.Values.{Handler, Nested, CodeBody, Attribute, Member, Class}
+use Rattle.classfile.specs.ClassFile.{Sizes, handler, nested, sizes, handlers, nested_attributes, code, attribute, attributes, three, member, members, is_version, version, interfaces, class}
+
+-- ---- what each part is written as
+
+abbrev pub handler_pieces : Handler → List Piece
+handler_pieces h = field 2 h.start_pc ++ (field 2 h.end_pc ++ (field 2 h.handler_pc ++ field 2 h.catch_type))
+
+-- the body as it is, where the name says so
+abbrev pub kept_pieces : (ℕ → Bool) → Either (List ℕ) → List Piece
+kept_pieces test (by_field name body) = marked (test name) (plain body ∷ [])
+kept_pieces test (raw name body) = marked (not (test name)) (plain body ∷ [])
+
+abbrev pub nested_pieces : List Entry → Nested → List Piece
+nested_pieces pool x = field 2 (name_of x) ++ lengthened (kept_pieces (is_stack_map pool location.Code) x)
+
+abbrev pub sizes_pieces : Sizes → List Piece
+sizes_pieces s = field 2 s.max_stack ++ (field 2 s.max_locals ++ lengthened (plain s.code ∷ []))
+
+abbrev pub code_pieces : List Entry → CodeBody → List Piece
+code_pieces pool c =
+    sizes_pieces (record { max_stack = c.max_stack; max_locals = c.max_locals; code = c.code })
+    ++ (counted handler_pieces c.exception_table ++ counted (nested_pieces pool) c.attributes)
+
+abbrev pub attribute_pieces : List Entry → Location → Attribute → List Piece
+attribute_pieces pool place = pieces_by (is_code pool place) (code_pieces pool)
+
+abbrev pub three_pieces : ℕ × ℕ × ℕ → List Piece
+three_pieces x = field 2 x.0 ++ (field 2 x.1 ++ field 2 x.2)
+
+abbrev pub member_pieces : List Entry → Location → Member → List Piece
+member_pieces pool place m = three_pieces (m.access_flags, m.name, m.descriptor) ++ counted (attribute_pieces pool place) m.attributes
+
+-- the magic number, the minor and the major version
+abbrev pub version_pieces : ℕ × ℕ → List Piece
+version_pieces v = field 4 0xCAFEBABE ++ (field 2 v.0 ++ marked (is_version v.0 v.1) (field 2 v.1))
+
+-- the fields, the methods and the attributes of a class, where this is its pool
+abbrev pub tables_pieces : List Entry → Class → List Piece
+tables_pieces pool c =
+    counted (member_pieces pool location.Field) c.fields
+    ++ (counted (member_pieces pool location.Method) c.methods ++ counted (attribute_pieces pool location.Class) c.attributes)
+
+abbrev pub behind_pool_pieces : List Entry → Class → List Piece
+behind_pool_pieces pool c =
+    three_pieces (c.access_flags, c.this_class, c.super_class) ++ (counted (field 2) c.interfaces ++ tables_pieces pool c)
+
+abbrev pub pieces_with : List Entry → Class → List Piece
+pieces_with pool c = version_pieces (c.minor_version, c.major_version) ++ (pool_pieces pool ++ behind_pool_pieces pool c)
+
+unfoldable pub class_pieces : Class → List Piece
+class_pieces c = pieces_with c.constant_pool c
+
+-- ---- the layouts spell exactly these
+
+handler_of : ℕ → ℕ → ℕ → ℕ → Handler
+handler_of a b c d = record { start_pc = a; end_pc = b; handler_pc = c; catch_type = d }
+
+pub writes_handler : Writes handler handler_pieces
+unfolding handler handler_of
+writes_handler = made_whole {A = ℕ × (ℕ × (ℕ × ℕ))} (λ h. (h.start_pc, (h.end_pc, (h.handler_pc, h.catch_type)))) (λ h. refl) (λ a. refl)
+    (made_then _ (made_number 2 number_2) (λ a. made_then _ (made_number 2 number_2) (λ b. made_then _ (made_number 2 number_2) (λ c. made_last (λ d. handler_of a b c d) (made_number 2 number_2)))))
+
+pub writes_handlers : Writes handlers (counted handler_pieces)
+unfolding handlers
+writes_handlers = made_counted number_2 writes_handler
+
+abbrev kept : (ℕ → Bool) → ℕ → ℕ → List ℕ → Format (Either (List ℕ))
+kept test name n body = cond (test name) (done (by_field name body)) (done (raw name body))
+
+bodies_kept : (test : ℕ → Bool) → Bodies (kept test) name_of (λ x. x) (kept_pieces test)
+bodies_kept test = record { has = has; only = λ name body bytes v fit s. only name body bytes v (test name) refl s }
+  where
+    so : (body : List ℕ) (b : Bool) → ArePlain (marked b (plain body ∷ [])) → (b ≡ true) × (text (marked b (plain body ∷ [])) ≡ body)
+    so body true h = (refl, append-nil body)
+    so body false h = absurd h
+
+    not_so : (body : List ℕ) (b : Bool) → ArePlain (marked (not b) (plain body ∷ [])) → (b ≡ false) × (text (marked (not b) (plain body ∷ [])) ≡ body)
+    not_so body true h = absurd h
+    not_so body false h = (refl, append-nil body)
+
+    has : (x : Either (List ℕ)) → ArePlain (kept_pieces test x) → Spells (kept test (name_of x) (length (text (kept_pieces test x))) (text (kept_pieces test x))) [] x
+    has (by_field name body) h =
+        let t = text (marked (test name) (plain body ∷ [])) in
+        let r = so body (test name) h in
+        subst (λ (b : Bool). Spells (cond b (done (by_field name t)) (done (raw name t))) [] (by_field name body)) (sym r.0) (refl, ap (λ (b : List ℕ). by_field name b) r.1)
+    has (raw name body) h =
+        let t = text (marked (not (test name)) (plain body ∷ [])) in
+        let r = not_so body (test name) h in
+        subst (λ (b : Bool). Spells (cond b (done (by_field name t)) (done (raw name t))) [] (raw name body)) (sym r.0) (refl, ap (λ (b : List ℕ). raw name b) r.1)
+
+    only : (name : ℕ) (body bytes : List ℕ) (v : Either (List ℕ)) (b : Bool) → test name ≡ b → Spells (cond b (done (by_field name body)) (done (raw name body))) bytes v
+        → (bytes ≡ []) × (x : Either (List ℕ)) × (x ≡ v) × (name_of x ≡ name) × (body ≡ text (kept_pieces test x)) × ArePlain (kept_pieces test x)
+    only name body bytes v true e s =
+        let same : plain body ∷ [] ≡ marked (test name) (plain body ∷ []) = ap (λ (b : Bool). marked b (plain body ∷ [])) (sym e) in
+        (s.0, by_field name body, s.1, refl, sym (append-nil body) ∙ ap text same, subst ArePlain same tt)
+    only name body bytes v false e s =
+        let same : plain body ∷ [] ≡ marked (not (test name)) (plain body ∷ []) = ap (λ (b : Bool). marked (not b) (plain body ∷ [])) (sym e) in
+        (s.0, raw name body, s.1, refl, sym (append-nil body) ∙ ap text same, subst ArePlain same tt)
+
+pub writes_nested : (pool : List Entry) → Writes (nested pool) (nested_pieces pool)
+unfolding nested
+writes_nested pool = made_headed number_2 number_4 (bodies_kept (is_stack_map pool location.Code))
+
+pub writes_nested_attributes : (pool : List Entry) → Writes (nested_attributes pool) (counted (nested_pieces pool))
+unfolding nested_attributes
+writes_nested_attributes pool = made_counted number_2 (writes_nested pool)
+
+sizes_of : ℕ → ℕ → List ℕ → Sizes
+sizes_of a b c = record { max_stack = a; max_locals = b; code = c }
+
+pub writes_sizes : Writes sizes sizes_pieces
+unfolding sizes sizes_of
+writes_sizes = made_whole {A = ℕ × (ℕ × List ℕ)} (λ s. (s.max_stack, (s.max_locals, s.code))) (λ s. refl) (λ a. refl)
+    (made_then _ (made_number 2 number_2) (λ x. made_then _ (made_number 2 number_2) (λ y. made_held (λ b. sizes_of x y b) number_4)))
+
+pub writes_code : (pool : List Entry) → Writes (code pool) (code_pieces pool)
+unfolding code
+writes_code pool = made_whole {A = Sizes × (List Handler × List Nested)} (λ c. (record { max_stack = c.max_stack; max_locals = c.max_locals; code = c.code }, (c.exception_table, c.attributes))) (λ c. refl) (λ a. refl)
+    (made_then _ writes_sizes (λ s. made_then _ writes_handlers (λ h. made_last _ (writes_nested_attributes pool))))
+
+pub writes_of : (pool : List Entry) (place : Location) → Writes (attribute pool place) (attribute_pieces pool place)
+unfolding attribute
+writes_of pool place = writes_attribute (is_code pool place) number_2 number_4 (writes_code pool)
+
+pub writes_attributes : (pool : List Entry) (place : Location) → Writes (attributes pool place) (counted (attribute_pieces pool place))
+unfolding attributes
+writes_attributes pool place = made_counted number_2 (writes_of pool place)
+
+triple : ℕ → ℕ → ℕ → ℕ × ℕ × ℕ
+triple a b c = (a, b, c)
+
+pub writes_three : Writes three three_pieces
+unfolding three triple
+writes_three = made_whole {A = ℕ × (ℕ × ℕ)} (λ x. (x.0, (x.1, x.2))) (λ x. refl) (λ a. refl)
+    (made_then _ (made_number 2 number_2) (λ a. made_then _ (made_number 2 number_2) (λ b. made_last (λ c. triple a b c) (made_number 2 number_2))))
+
+pub writes_member : (pool : List Entry) (place : Location) → Writes (member pool place) (member_pieces pool place)
+unfolding member
+writes_member pool place = made_whole {A = (ℕ × ℕ × ℕ) × List Attribute} (λ m. ((m.access_flags, m.name, m.descriptor), m.attributes)) (λ m. refl) (λ a. refl)
+    (made_then _ writes_three (λ h. made_last _ (writes_attributes pool place)))
+
+pub writes_members : (pool : List Entry) (place : Location) → Writes (members pool place) (counted (member_pieces pool place))
+unfolding members
+writes_members pool place = made_counted number_2 (writes_member pool place)
+
+pub writes_interfaces : Writes interfaces (counted (field 2))
+unfolding interfaces
+writes_interfaces = made_counted number_2 (made_number 2 number_2)
+
+abbrev by_version : Bool → ℕ → ℕ → Format (ℕ × ℕ)
+by_version b minor major = cond b (done (minor, major)) (refuse (λ at. BadVersion major minor))
+
+marked_version : (major : ℕ) (b : Bool) → ArePlain (marked b (field 2 major)) → (b ≡ true) × ArePlain (field 2 major)
+marked_version major true h = (refl, h)
+marked_version major false h = absurd h
+
+-- the two numbers behind the magic one
+made_numbers : Made {A = ℕ × ℕ} (andthen (number 2) (λ minor. andthen (number 2) (λ major. by_version (is_version minor major) minor major))) (λ v. v) (λ v. field 2 v.0 ++ marked (is_version v.0 v.1) (field 2 v.1))
+made_numbers = made_then _ (made_number 2 number_2) (λ minor. majors minor)
+  where
+    majors : (minor : ℕ) → Made (andthen (number 2) (λ major. by_version (is_version minor major) minor major)) (λ major. (minor, major)) (λ major. marked (is_version minor major) (field 2 major))
+    majors minor = record { has = has; only = only }
+      where
+        next_part : ℕ → Format (ℕ × ℕ)
+        next_part major = by_version (is_version minor major) minor major
+
+        has : (major : ℕ) → ArePlain (marked (is_version minor major) (field 2 major)) → Spells (andthen (number 2) next_part) (text (marked (is_version minor major) (field 2 major))) (minor, major)
+        has major h =
+            let m = marked_version major (is_version minor major) h in
+            let same : field 2 major ≡ marked (is_version minor major) (field 2 major) = ap (λ (b : Bool). marked b (field 2 major)) (sym m.0) in
+            let there : Spells (next_part major) [] (minor, major) = subst (λ (b : Bool). Spells (by_version b minor major) [] (minor, major)) (sym m.0) (refl, refl) in
+            subst (λ (t : List ℕ). Spells (andthen (number 2) next_part) t (minor, major)) (append-nil (text (field 2 major)) ∙ ap text same)
+            (andthen_spelled (number 2) next_part (text (field 2 major)) [] major (minor, major) ((made_number 2 number_2).has major m.1) there)
+
+        behind : (major : ℕ) (b : Bool) (bytes : List ℕ) (v : ℕ × ℕ) → Spells (by_version b minor major) bytes v → (b ≡ true) × (bytes ≡ []) × ((minor, major) ≡ v)
+        behind major true bytes v s = (refl, s.0, s.1)
+        behind major false bytes v s = absurd s
+
+        only : (v : ℕ × ℕ) (bytes : List ℕ) → AreBytes bytes → Spells (andthen (number 2) next_part) bytes v
+            → (major : ℕ) × ((minor, major) ≡ v) × (bytes ≡ text (marked (is_version minor major) (field 2 major))) × ArePlain (marked (is_version minor major) (field 2 major))
+        only v bytes fit s =
+            let i = andthen_parts (number 2) next_part bytes v s in
+            let bs = AreBytes-parts i.0 i.1 (subst AreBytes i.3 fit) in
+            let x = (made_number 2 number_2).only i.2 i.0 bs.0 i.4 in
+            let y = behind i.2 (is_version minor i.2) i.1 v i.5 in
+            let same : field 2 i.2 ≡ marked (is_version minor i.2) (field 2 i.2) = ap (λ (b : Bool). marked b (field 2 i.2)) (sym y.0) in
+            (i.2, y.2, i.3 ∙ ap (λ (t : List ℕ). i.0 ++ t) y.1 ∙ append-nil i.0 ∙ x.2 ∙ ap (λ (k : ℕ). text (field 2 k)) x.1 ∙ ap text same, subst ArePlain same (subst (λ (k : ℕ). ArePlain (field 2 k)) x.1 x.3))
+
+abbrev two_numbers : Format (ℕ × ℕ)
+two_numbers = andthen (number 2) (λ minor. andthen (number 2) (λ major. by_version (is_version minor major) minor major))
+
+abbrev by_magic : Bool → Format (ℕ × ℕ)
+by_magic b = cond b two_numbers (refuse (λ at. BadMagic))
+
+pub writes_version : Writes version version_pieces
+unfolding version
+writes_version = record { has = has; only = only }
+  where
+    next_part : ℕ → Format (ℕ × ℕ)
+    next_part magic = by_magic (nat_eq magic 0xCAFEBABE)
+
+    rest_of : ℕ × ℕ → List Piece
+    rest_of v = field 2 v.0 ++ marked (is_version v.0 v.1) (field 2 v.1)
+
+    has : (v : ℕ × ℕ) → ArePlain (version_pieces v) → Spells (andthen (number 4) next_part) (text (version_pieces v)) v
+    has v h =
+        let p = plain_parts (field 4 0xCAFEBABE) (rest_of v) h in
+        subst (λ (t : List ℕ). Spells (andthen (number 4) next_part) t v) (sym (text_append (field 4 0xCAFEBABE) (rest_of v)))
+        (andthen_spelled (number 4) next_part (text (field 4 0xCAFEBABE)) (text (rest_of v)) 0xCAFEBABE v ((made_number 4 number_4).has 0xCAFEBABE p.0) (made_numbers.has v p.1))
+
+    behind : (magic : ℕ) (b : Bool) (bytes : List ℕ) (v : ℕ × ℕ) → nat_eq magic 0xCAFEBABE ≡ b → Spells (by_magic b) bytes v → (magic ≡ 0xCAFEBABE) × Spells two_numbers bytes v
+    behind magic true bytes v e s = (eqb-true _ _ e, s)
+    behind magic false bytes v e s = absurd s
+
+    only : (v : ℕ × ℕ) (bytes : List ℕ) → AreBytes bytes → Spells (andthen (number 4) next_part) bytes v → (x : ℕ × ℕ) × (x ≡ v) × (bytes ≡ text (version_pieces x)) × ArePlain (version_pieces x)
+    only v bytes fit s =
+        let i = andthen_parts (number 4) next_part bytes v s in
+        let bs = AreBytes-parts i.0 i.1 (subst AreBytes i.3 fit) in
+        let x = (made_number 4 number_4).only i.2 i.0 bs.0 i.4 in
+        let y = behind i.2 (nat_eq i.2 0xCAFEBABE) i.1 v refl i.5 in
+        let z = made_numbers.only v i.1 bs.1 y.1 in
+        let magic = x.1 ∙ y.0 in (
+          z.0,
+          z.1,
+          i.3 ∙ ap (λ (t : List ℕ). t ++ i.1) (x.2 ∙ ap (λ (k : ℕ). text (field 4 k)) magic) ∙ ap (λ (t : List ℕ). text (field 4 0xCAFEBABE) ++ t) z.2 ∙ sym (text_append (field 4 0xCAFEBABE) (rest_of z.0)),
+          plain_append (field 4 0xCAFEBABE) (rest_of z.0) (subst (λ (k : ℕ). ArePlain (field 4 k)) magic x.3) z.3,
+        )
+
+pub writes_class : Writes class class_pieces
+unfolding class class_pieces
+writes_class = made_whole {A = (ℕ × ℕ) × (List Entry × ((ℕ × ℕ × ℕ) × (List ℕ × (List Member × (List Member × List Attribute)))))}
+    (λ c. ((c.minor_version, c.major_version), (c.constant_pool, ((c.access_flags, c.this_class, c.super_class), (c.interfaces, (c.fields, (c.methods, c.attributes))))))) (λ c. refl) (λ a. refl)
+    (made_then _ writes_version (λ v. made_then _ writes_pool (λ pool. made_then _ writes_three (λ head. made_then _ writes_interfaces (λ i.
+    made_then _ (writes_members pool location.Field) (λ f. made_then _ (writes_members pool location.Method) (λ m. made_last _ (writes_attributes pool location.Class))))))))

@@ -1,0 +1,48 @@
+-- What a class file holds (JVMS 4.1, 4.5 to 4.7): its numbers and tables in the order of the file.
+-- Names, descriptors and other constants stand as their indices into the constant pool.
+use Rattle.std.specs.Prelude.{ℕ, List}
+use Rattle.layout.specs.PieceLaws.{Either}
+use Rattle.pool.specs.Entries.{Entry}
+
+-- an item of the exception table of a Code attribute (4.7.3)
+pub record Handler : Type 0 where
+  pub start_pc : ℕ
+  pub end_pc : ℕ
+  pub handler_pc : ℕ
+  pub catch_type : ℕ
+
+-- an attribute of a Code attribute: a StackMapTable by its body, or another
+abbrev pub Nested : Type 0
+Nested = Either (List ℕ)
+
+-- the body of a Code attribute (4.7.3)
+pub record CodeBody : Type 0 where
+  pub max_stack : ℕ
+  pub max_locals : ℕ
+  pub code : List ℕ
+  pub exception_table : List Handler
+  pub attributes : List Nested
+
+-- an attribute of a class, field or method: Code, or another (4.7)
+abbrev pub Attribute : Type 0
+Attribute = Either CodeBody
+
+-- a field or a method (4.5, 4.6)
+pub record Member : Type 0 where
+  pub access_flags : ℕ
+  pub name : ℕ
+  pub descriptor : ℕ
+  pub attributes : List Attribute
+
+-- a class file (4.1)
+pub record Class : Type 0 where
+  pub minor_version : ℕ
+  pub major_version : ℕ
+  pub constant_pool : List Entry
+  pub access_flags : ℕ
+  pub this_class : ℕ
+  pub super_class : ℕ
+  pub interfaces : List ℕ
+  pub fields : List Member
+  pub methods : List Member
+  pub attributes : List Attribute

@@ -1,0 +1,100 @@
+//! Attributes of classes, fields and methods (JVMS 4.7).
+ghost use Rattle.std.specs.Prelude.{◌≡◌, ◌++◌};
+ghost use Rattle.layout.specs.Pieces.{Goes, field, lengthened, marked};
+ghost use Rattle.classfile.specs.Pieces.{code_pieces};
+ghost use Rattle.classfile.specs.Views.{code_view};
+
+use crate::code::{CodeAttr, put_code, whole_code};
+use crate::location::{Location, is_code};
+use crate::nested::put_kept;
+use crate::table::Item;
+use layout::{Cursor, Output, ReadFault, WriteFault};
+use pool::Pool;
+use std::alloc::Global;
+
+/// An attribute of a class, field or method. The name is the index of a Utf8 constant where the class is well formed.
+#[derive(Drop)]
+pub enum Attribute<'a> {
+    /// A Code attribute (4.7.3), which stands in a method alone.
+    Code { name: u16, code: Box<CodeAttr<'a>> },
+    /// An attribute of another name or place, whose body is kept as it is.
+    Raw { name: u16, body: &'a [u8] },
+}
+
+fn put_marked_code(
+    out: &mut Output,
+    pool: &Pool<'_>,
+    fine: bool,
+    code: &CodeAttr<'_>,
+) -> Result<(), WriteFault>
+    ensures { Goes (marked fine (code_pieces pool.now (code_view code.now))) out.old out.new result }
+{
+    if !fine {
+        out.put_nothing();
+    }
+    put_code(out, pool, code)
+}
+
+fn put_code_attribute(
+    out: &mut Output,
+    pool: &Pool<'_>,
+    name: u16,
+    fine: bool,
+    code: &CodeAttr<'_>,
+) -> Result<(), WriteFault>
+    ensures { Goes (field 2 name ++ lengthened (marked fine (code_pieces pool.now (code_view code.now)))) out.old out.new result }
+{
+    out.put_u2(name)?;
+    let mark = out.begin()?;
+    put_marked_code(out, pool, fine, code)?;
+    out.end(mark)
+}
+
+impl<'a> Item<'a> for Attribute<'a> {
+    ghost use Rattle.classfile.specs.Values as values;
+    ghost use Rattle.classfile.specs.ClassFile.{attribute};
+    ghost use Rattle.classfile.specs.Pieces.{attribute_pieces};
+    ghost use Rattle.classfile.specs.Views.{attribute_view};
+
+    ghost View = { values.Attribute };
+
+    ghost view = { attribute_view };
+
+    ghost format = { attribute };
+
+    ghost pieces = { attribute_pieces };
+
+    #[tactic(auto, unfolding(crate::specs::ClassFile::attribute))]
+    fn take(
+        alloc: Global,
+        pool: &Pool<'a>,
+        location: Location,
+        cursor: &mut Cursor<'a>,
+    ) -> Result<Self, ReadFault> {
+        let name_at = cursor.at();
+        let name = cursor.u2()?;
+        let length = cursor.u4()?;
+        let start = cursor.at();
+        let body = cursor.part(length as usize)?;
+        if is_code(pool, location, name) {
+            let code = whole_code(alloc, pool, name_at, start, body)?;
+            Ok(Attribute::Code {
+                name,
+                code: Box::new(alloc, code)?,
+            })
+        } else {
+            Ok(Attribute::Raw { name, body })
+        }
+    }
+
+    fn put(&self, pool: &Pool<'_>, location: Location, out: &mut Output) -> Result<(), WriteFault> {
+        match self {
+            Attribute::Code { name, code } => {
+                put_code_attribute(out, pool, *name, is_code(pool, location, *name), code)
+            }
+            Attribute::Raw { name, body } => {
+                put_kept(out, *name, !is_code(pool, location, *name), body)
+            }
+        }
+    }
+}

@@ -1,0 +1,42 @@
+//! Class files (JVMS chapter 4): the bytes of a class as a value, and back.
+//!
+//! Reading and writing are proved against one layout, the relation `IsClass` of `specs/ClassFile.antt`:
+//! [`decode`] answers a class exactly where the bytes spell one, and otherwise the first fault in the
+//! file's order; [`encode`] answers the one spelling, exactly where there is one.
+//!
+//! | File | What it holds |
+//! |---|---|
+//! | `class_file` | [`ClassFile`], its version and what stands behind its pool |
+//! | `member` | [`Member`], a field or a method |
+//! | `attribute` | [`Attribute`] of a class, field or method |
+//! | `code` | [`CodeAttr`] and its [`ExceptionHandler`]s |
+//! | `nested` | [`NestedAttribute`], an attribute of a Code attribute |
+//! | `location` | [`Location`], where an attribute stands, and which are read by field there |
+//! | `table` | a count and so many items, for all tables of a class file |
+//! | `decoding`, `encoding` | the two calls |
+//! | `laws` | that they undo one another |
+#![tactic(auto)]
+
+mod attribute;
+mod class_file;
+mod code;
+mod decoding;
+mod encoding;
+mod laws;
+mod location;
+mod member;
+mod nested;
+mod table;
+
+pub use attribute::Attribute;
+pub use class_file::ClassFile;
+pub use code::{CodeAttr, ExceptionHandler};
+pub use decoding::decode;
+pub use encoding::encode;
+pub use laws::{class_or_fault, no_fault_in_class, one_class, one_fault, one_spelling};
+pub use location::Location;
+pub use member::Member;
+pub use nested::NestedAttribute;
+
+#[cfg(test)]
+mod tests;

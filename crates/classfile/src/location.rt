@@ -1,0 +1,48 @@
+//! Where an attribute stands, and whether its body is read by field there (JVMS 4.7, table 4.7-C).
+ghost use Rattle.std.specs.Prelude.{◌≡◌};
+ghost use Rattle.classfile.specs.Locations.{is_named, is_code, is_stack_map};
+
+use pool::Pool;
+
+/// The table that an attribute stands in.
+#[derive(Clone, Copy, Debug, PartialEq, Eq)]
+pub enum Location {
+    /// The attributes of the class file.
+    Class,
+    /// The attributes of a field.
+    Field,
+    /// The attributes of a method.
+    Method,
+    /// The attributes of a Code attribute.
+    Code,
+}
+
+/// Whether the index names this text.
+fn is_named(pool: &Pool<'_>, index: u16, text: &[u8]) -> bool
+    ensures { result ≡ is_named pool.now index text.now }
+{
+    match pool.text(index) {
+        Ok(name) => name.bytes() == text,
+        Err(_) => false,
+    }
+}
+
+/// Whether an attribute of this name is read as a Code attribute here.
+pub fn is_code(pool: &Pool<'_>, location: Location, name: u16) -> bool
+    ensures { result ≡ is_code pool.now location name }
+{
+    match location {
+        Location::Method => is_named(pool, name, b"Code"),
+        Location::Class | Location::Field | Location::Code => false,
+    }
+}
+
+/// Whether an attribute of this name is a StackMapTable here.
+pub fn is_stack_map(pool: &Pool<'_>, location: Location, name: u16) -> bool
+    ensures { result ≡ is_stack_map pool.now location name }
+{
+    match location {
+        Location::Code => is_named(pool, name, b"StackMapTable"),
+        Location::Class | Location::Field | Location::Method => false,
+    }
+}
