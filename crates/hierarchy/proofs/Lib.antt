@@ -1,0 +1,7 @@
+pub mod Names
+pub mod Chain
+pub mod Breaking
+pub mod Table
+pub mod Worlds
+pub mod Subclass
+pub mod Ancestors

@@ -1,0 +1,8 @@
+use Rattle.std.proofs.Common.{subst}
+use Rattle.std.specs.Cmp.Lexicographic.{same_text}
+use Rattle.hierarchy.specs.World.{same}
+use Rattle.hierarchy.specs.Class.{IsSubclass}
+use Rattle.hierarchy.proofs.chains.ChainsClasses.is_subclass.Goals as goal
+
+pub returns-then-eq : goal.returns-then-eq
+returns-then-eq g c = subst (λ x. IsSubclass c.args.self.now c.args.a.now x) (same_text _ _ c.if-eq.ensures) same

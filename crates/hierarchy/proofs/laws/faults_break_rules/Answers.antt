@@ -1,0 +1,24 @@
+use Rattle.std.proofs.Common.{◌≢◌, ℕ, List, refl, arith}
+use Rattle.std.proofs.lemmas.Option.{slice_get_within}
+use Rattle.hierarchy.specs.declared.fault.HierarchyFault.{HierarchyFault}
+use Rattle.hierarchy.specs.declared.fault.HierarchyFault.TheVariants.{OutOfMemory, ClassTwice, Cycle, SuperMissing, NoObject, BadArrayInterface, TooManyClasses, InterfaceSuper}
+use Rattle.hierarchy.specs.Class.{ClassFact}
+use Rattle.hierarchy.specs.Rules.{IsTwice, IsOnCycle, LacksSuper, IsBadArrayInterface, HasWrongSuper, NoClass, IsFirst, IsHierarchy}
+use Rattle.hierarchy.specs.Faults.{FaultOf}
+use Rattle.hierarchy.proofs.laws.faults_break_rules.Goals as goal
+
+none_first : (P : ClassFact → Type 0) (classes : List ClassFact) (name : List ℕ) → NoClass P classes → IsFirst P classes name → ⊥
+none_first P classes name none first = none first.0 (slice_get_within classes first.0 first.1 first.2) first.1 first.2 first.4
+
+broken : (classes : List ClassFact) (fault : HierarchyFault) → fault ≢ OutOfMemory → FaultOf classes fault → IsHierarchy classes → ⊥
+broken classes OutOfMemory n f h = n refl
+broken classes (ClassTwice name) n f h = none_first (IsTwice classes) classes name.now h.one_each f
+broken classes (Cycle name) n f h = none_first (IsOnCycle classes) classes name.now h.acyclic f.1
+broken classes (SuperMissing name) n f h = none_first (LacksSuper classes) classes name.now h.rooted f.2
+broken classes NoObject n f h = f.3 h.object
+broken classes (BadArrayInterface name) n f h = none_first IsBadArrayInterface classes name.now h.arrays f.4
+broken classes TooManyClasses n f h = let few = h.few in absurd (omega (arith, few, f.5))
+broken classes (InterfaceSuper name) n f h = none_first HasWrongSuper classes name.now h.interfaces f.6
+
+pub returns : goal.returns
+returns c = broken

@@ -1,0 +1,115 @@
+//! Classes by a walk along the chain of superclasses.
+ghost use Rattle.std.specs.Prelude.{◌≡◌, IfOk, IfErr, OnOk};
+ghost use Rattle.hierarchy.specs.Summary.{facts_of};
+ghost use Rattle.hierarchy.specs.Faults.{FaultOf};
+ghost use Rattle.hierarchy.specs.Rules.{IsHierarchy, IsTwice, NoClass};
+
+use crate::answer::Answer;
+use crate::classes::Classes;
+use crate::cycles::first_on_cycle;
+use crate::fault::HierarchyFault;
+use crate::index::Index;
+use crate::rules::{ArrayInterfaces, InterfaceSupers, NoSuper, first_breaking, has_object};
+use crate::summary::Summary;
+use std::alloc::Global;
+use std::hash::BuildHasher;
+use std::marker::Model;
+
+// Whether classes of which no name stands twice keep the other rules.
+fn check_rules<'s, 'a, S: BuildHasher>(
+    alloc: Global,
+    classes: &[Summary<'a>],
+    index: &Index<'s, 'a, S>,
+) -> Result<(), HierarchyFault<'a>>
+    requires same { index.now ≡ facts_of classes.now }
+    requires one_each { NoClass (IsTwice (facts_of classes.now)) (facts_of classes.now) }
+    ensures ok { OnOk result (IsHierarchy (facts_of classes.now)) }
+    ensures err { IfErr result (FaultOf (facts_of classes.now)) }
+{
+    let on_cycle = first_on_cycle(alloc, classes, index)?;
+    if let Some(name) = on_cycle {
+        return Err(HierarchyFault::Cycle { name });
+    }
+    if let Some(name) = first_breaking(classes, &NoSuper { index }) {
+        return Err(HierarchyFault::SuperMissing { name });
+    }
+    if !has_object(index) {
+        return Err(HierarchyFault::NoObject);
+    }
+    if let Some(name) = first_breaking(classes, &ArrayInterfaces) {
+        return Err(HierarchyFault::BadArrayInterface { name });
+    }
+    if classes.len() > 65535 {
+        return Err(HierarchyFault::TooManyClasses);
+    }
+    if let Some(name) = first_breaking(classes, &InterfaceSupers) {
+        return Err(HierarchyFault::InterfaceSuper { name });
+    }
+    Ok(())
+}
+
+/// A hierarchy that answers by a walk along the chain of superclasses. It borrows the list that it is made from, and copies no name.
+#[derive(Drop)]
+pub struct Chains<'s, 'a, S: BuildHasher> {
+    index: Index<'s, 'a, S>,
+}
+
+impl<'s, 'a, S: BuildHasher> Model for Chains<'s, 'a, S> {
+    ghost use Rattle.std.specs.Prelude.{List};
+    ghost use Rattle.hierarchy.specs.Class.{ClassFact};
+    ghost use Rattle.hierarchy.specs.Rules.{IsHierarchy};
+
+    ghost Value = { List ClassFact };
+
+    ghost view = { λ c. c.index };
+
+    ghost invariant = { λ c. IsHierarchy c.index };
+}
+
+impl<'s, 'a, S: BuildHasher + Drop> Chains<'s, 'a, S> {
+    /// The classes of a list, in time n log n for n classes.
+    ///
+    /// Refused by the least number that holds, with the name of the first class in the list's order: 40 `ClassTwice`, 41 `Cycle`, 42 `SuperMissing`, 43 `NoObject`, 44 `BadArrayInterface`, 45 `TooManyClasses`, 46 `InterfaceSuper`; and 1 where there was no memory left.
+    pub fn new(
+        alloc: Global,
+        classes: &'s [Summary<'a>],
+        hasher: S,
+    ) -> Result<Self, HierarchyFault<'a>>
+        ensures ok { IfOk result (λ c. c ≡ facts_of classes.now) }
+        ensures formed { IfOk result IsHierarchy }
+        ensures err { IfErr result (FaultOf (facts_of classes.now)) }
+    {
+        let index = Index::new(alloc, classes, hasher)?;
+        check_rules(alloc, classes, &index)?;
+        Ok(Chains { index })
+    }
+}
+
+impl<'s, 'a, S: BuildHasher> Classes for Chains<'s, 'a, S> {
+    ghost content = { λ c. c };
+
+    fn find(&self, name: &[u8]) -> Option<&Summary<'_>> {
+        self.index.find(name)
+    }
+
+    fn is_interface(&self, name: &[u8]) -> Option<bool> {
+        match self.index.find(name) {
+            None => None,
+            Some(class) => Some(class.interface),
+        }
+    }
+
+    fn is_subclass<'n>(&self, a: &'n [u8], b: &'n [u8]) -> Answer<'n> {
+        if a == b {
+            return Answer::Yes;
+        }
+        if self.index.find(a).is_none() {
+            return Answer::Missing(a);
+        }
+        if self.index.reaches(a, b) {
+            Answer::Yes
+        } else {
+            Answer::No
+        }
+    }
+}

@@ -1,0 +1,29 @@
+//! The questions that are asked of a set of classes, however it is kept.
+ghost use Rattle.std.specs.Prelude.{◌≡◌, List, option_map};
+ghost use Rattle.std.specs.Option.{option_copied};
+ghost use Rattle.hierarchy.specs.Class.{ClassFact, class_of, interface_of};
+ghost use Rattle.hierarchy.specs.Summary.{fact_of};
+ghost use Rattle.hierarchy.specs.Rules.{IsHierarchy};
+ghost use Rattle.hierarchy.specs.Answer.{SubclassAnswer, outcome_of};
+
+use crate::answer::Answer;
+use crate::summary::Summary;
+
+/// A set of classes without faults. Its content is a list of summaries, one for each name. No question takes memory.
+pub trait Classes {
+    /// The summaries.
+    ghost content: { Self → List ClassFact };
+
+    /// The summary of the class of this name.
+    fn find(&self, name: &[u8]) -> Option<&Summary<'_>>
+        ensures found { option_map fact_of (option_copied result) ≡ class_of (content self.now) name.now }
+        ensures formed { IsHierarchy (content self.now) };
+
+    /// Whether the class of this name is an interface, where there is one.
+    fn is_interface(&self, name: &[u8]) -> Option<bool>
+        ensures { result ≡ interface_of (content self.now) name.now };
+
+    /// Whether `a` is `b` or stands below it: `Yes` where they are equal, `Missing(a)` where `a` is absent, and otherwise whether `b` is on the chain of superclasses of `a` (JVMS 4.10.1.2).
+    fn is_subclass<'n>(&self, a: &'n [u8], b: &'n [u8]) -> Answer<'n>
+        ensures { SubclassAnswer (content self.now) a.now b.now (outcome_of result) };
+}

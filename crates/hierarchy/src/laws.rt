@@ -1,0 +1,29 @@
+//! Laws of faults, of chains of superclasses and of worlds.
+ghost use Rattle.hierarchy.specs.Answer.{HasOneSubclassAnswer};
+ghost use Rattle.hierarchy.specs.Faults.{FaultsBreakRules};
+ghost use Rattle.hierarchy.specs.Extends.{KeepsSubclasses, ExtendsItself, ChainsAreSteps};
+
+/// What is a subclass in a list of classes is one in each world that extends the list.
+pub fn keeps_subclasses()
+    ensures { KeepsSubclasses }
+{}
+
+/// A hierarchy, as a world, extends itself.
+pub fn extends_itself()
+    ensures { ExtendsItself }
+{}
+
+/// A chain of superclasses is a number of steps up.
+pub fn chains_are_steps()
+    ensures { ChainsAreSteps }
+{}
+
+/// A question about a subclass has one answer.
+pub fn has_one_subclass_answer()
+    ensures { HasOneSubclassAnswer }
+{}
+
+/// A list of classes that has a fault is no hierarchy, want of memory aside.
+pub fn faults_break_rules()
+    ensures { FaultsBreakRules }
+{}

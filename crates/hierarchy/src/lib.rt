@@ -1,0 +1,33 @@
+//! The classes that a class is verified against, their superclasses, and what is asked of them. Proved against the finite chains of superclasses in specs/World.antt (JVMS 4.10.1.2). The call to know is [`Chains::new`], which makes a list of summaries answer as [`Classes`].
+//!
+//! - `summary`: what is known of a class, and the names that the standard fixes.
+//! - `answer`: yes, no, or a class that would be needed and is absent.
+//! - `classes`: the questions, whatever keeps the classes.
+//! - `fault`: why a list of classes is refused.
+//! - `index`: a list of classes with a table of their names.
+//! - `places`: places in a list of classes.
+//! - `rules`: the rules that a single class may break, and the first class that does.
+//! - `cycles`: the first class that stands on the chain of its own superclasses.
+//! - `chains`: classes by a walk along their superclasses.
+//! - `laws`: what holds of faults, chains and worlds.
+#![tactic(auto)]
+
+mod answer;
+mod chains;
+mod classes;
+mod cycles;
+mod fault;
+mod index;
+pub mod laws;
+mod places;
+mod rules;
+mod summary;
+
+pub use answer::Answer;
+pub use chains::Chains;
+pub use classes::Classes;
+pub use fault::HierarchyFault;
+pub use summary::{CLONEABLE, Kind, MemberSummary, OBJECT, SERIALIZABLE, Summary};
+
+#[cfg(test)]
+mod tests;

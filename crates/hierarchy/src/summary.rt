@@ -1,0 +1,43 @@
+//! What is known of a class.
+
+/// The name of the class above all others (JVMS 4.1).
+pub const OBJECT: &[u8] = b"java/lang/Object";
+
+/// The name of an interface of every array (JVMS 4.10.1.2).
+pub const CLONEABLE: &[u8] = b"java/lang/Cloneable";
+
+/// The name of the other interface of every array (JVMS 4.10.1.2).
+pub const SERIALIZABLE: &[u8] = b"java/io/Serializable";
+
+/// Whether a member is a field (JVMS 4.5) or a method (JVMS 4.6).
+#[derive(Clone, Copy, Debug, PartialEq, Eq)]
+pub enum Kind {
+    Field,
+    Method,
+}
+
+/// A field or method, by the bytes of its name and descriptor.
+#[derive(Clone, Copy, Debug, PartialEq, Eq)]
+pub struct MemberSummary<'a> {
+    pub name: &'a [u8],
+    pub descriptor: &'a [u8],
+    pub kind: Kind,
+    /// Its flag ACC_STATIC.
+    pub is_static: bool,
+    /// Its flag ACC_PROTECTED.
+    pub is_protected: bool,
+}
+
+/// What is known of a class. Names are the bytes of internal names (JVMS 4.2.1).
+#[derive(Debug, Drop)]
+pub struct Summary<'a> {
+    pub name: &'a [u8],
+    /// The direct superclass, which `java/lang/Object` alone has not.
+    pub superclass: Option<&'a [u8]>,
+    /// Whether it is an interface.
+    pub interface: bool,
+    /// Its flag ACC_FINAL.
+    pub is_final: bool,
+    /// Its fields and methods in the order of its file.
+    pub members: Vec<MemberSummary<'a>>,
+}
