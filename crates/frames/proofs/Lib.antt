@@ -1,0 +1,4 @@
+pub mod Arrays
+pub mod Slots
+pub mod Types
+pub mod Frames

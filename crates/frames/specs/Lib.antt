@@ -1,0 +1,5 @@
+pub mod VerificationType
+pub mod FrameFact
+pub mod Assignable
+pub mod FrameAssignable
+pub mod Meaning

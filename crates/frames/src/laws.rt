@@ -1,0 +1,22 @@
+//! What the answers of the comparisons mean.
+ghost use Rattle.frames.specs.Meaning.{ClassesHaveOneAnswer, TypesMean, FramesHaveOneAnswer, FramesToThemselves};
+
+/// A comparison of two classes has one answer, by the chain of superclasses.
+pub fn classes_have_one_answer()
+    ensures { ClassesHaveOneAnswer }
+{}
+
+/// A comparison of two types is `Yes` exactly where the first is assignable to the second, and `Missing` exactly where the comparison of their classes is.
+pub fn types_mean()
+    ensures { TypesMean }
+{}
+
+/// A comparison of two frames has one answer, by those of their slots.
+pub fn frames_have_one_answer()
+    ensures { FramesHaveOneAnswer }
+{}
+
+/// Each frame is assignable to itself.
+pub fn frames_to_themselves()
+    ensures { FramesToThemselves }
+{}

@@ -1,0 +1,173 @@
+use super::*;
+use hierarchy::{Answer, Chains, Classes, OBJECT, Summary};
+use names::{Base, Primitive};
+use std::alloc::{AllocError, Global};
+use std::hash::{BuildHasherDefault, FoldHasher};
+use std::process::Abort;
+use std::test::Fail;
+
+fn class<'a>(
+    alloc: Global,
+    name: &'a [u8],
+    superclass: Option<&'a [u8]>,
+    interface: bool,
+) -> Summary<'a> {
+    Summary {
+        name,
+        superclass,
+        interface,
+        is_final: false,
+        members: Vec::new(alloc),
+    }
+}
+
+fn frame<'a>(
+    alloc: Global,
+    locals: &[VType<'a>],
+    stack: &[VType<'a>],
+    flag: bool,
+) -> Result<Frame<'a>, AllocError> {
+    let locals = locals.iter().copied().collect(alloc)?;
+    let stack = stack.iter().copied().collect(alloc)?;
+    Ok(Frame {
+        locals,
+        stack,
+        flag,
+    })
+}
+
+fn array<'a>(dims: u8, base: Base<'a>) -> VType<'a> {
+    VType::Array { dims, base }
+}
+
+fn setting<'a>(alloc: Global) -> [Summary<'a>; 3] {
+    [
+        class(alloc, OBJECT, None, false),
+        class(alloc, b"A", Some(OBJECT), false),
+        class(alloc, b"I", Some(OBJECT), true),
+    ]
+}
+
+fn compare_types<C: Classes>(rt: &impl Abort, classes: &C) {
+    let a = VType::Class(b"A");
+    let b = VType::Class(b"B");
+    let i = VType::Class(b"I");
+    let object = VType::Class(OBJECT);
+    let rows = [
+        (a, i, Answer::Yes),
+        (i, a, Answer::No),
+        (a, b, Answer::Missing(b"B")),
+        (b, a, Answer::Missing(b"B")),
+        (b, object, Answer::Yes),
+        (
+            array(1, Base::Class(b"B")),
+            array(1, Base::Class(OBJECT)),
+            Answer::Yes,
+        ),
+        (
+            array(1, Base::Class(b"B")),
+            array(1, Base::Class(b"A")),
+            Answer::Missing(b"B"),
+        ),
+        (
+            array(2, Base::Primitive(Primitive::Int)),
+            array(1, Base::Class(OBJECT)),
+            Answer::Yes,
+        ),
+        (
+            array(1, Base::Primitive(Primitive::Int)),
+            array(1, Base::Class(OBJECT)),
+            Answer::No,
+        ),
+        (VType::Uninit(0), VType::Top, Answer::Yes),
+        (VType::Uninit(0), a, Answer::No),
+    ];
+    for (from, to, want) in rows {
+        assert_eq!(rt; assignable(&from, &to, classes), want);
+    }
+}
+
+fn stacks<'a, C: Classes>(
+    alloc: Global,
+    classes: &C,
+    from: &[VType<'a>],
+    to: &[VType<'a>],
+) -> Result<Answer<'a>, AllocError> {
+    let from = frame(alloc, &[], from, false)?;
+    let to = frame(alloc, &[], to, false)?;
+    Ok(frame_assignable(&from, &to, classes))
+}
+
+fn locals<'a, C: Classes>(
+    alloc: Global,
+    classes: &C,
+    from: &[VType<'a>],
+    to: &[VType<'a>],
+    flags: (bool, bool),
+) -> Result<Answer<'a>, AllocError> {
+    let from = frame(alloc, from, &[], flags.0)?;
+    let to = frame(alloc, to, &[], flags.1)?;
+    Ok(frame_assignable(&from, &to, classes))
+}
+
+fn compare_frames<C: Classes>(
+    rt: &impl Abort,
+    alloc: Global,
+    classes: &C,
+) -> Result<(), AllocError> {
+    let a = VType::Class(b"A");
+    let b = VType::Class(b"B");
+    assert_eq!(rt; stacks(alloc, classes, &[VType::Int], &[a])?, Answer::No);
+    assert_eq!(rt; stacks(alloc, classes, &[VType::Null], &[a])?, Answer::Yes);
+    assert_eq!(rt;
+        stacks(alloc, classes, &[VType::Long], &[VType::Top])?,
+        Answer::No
+    );
+    assert_eq!(rt;
+        stacks(alloc, classes, &[a, VType::Int], &[b, a])?,
+        Answer::No
+    );
+    assert_eq!(rt;
+        stacks(alloc, classes, &[a, a], &[a, b])?,
+        Answer::Missing(b"B")
+    );
+    assert_eq!(rt;
+        locals(
+            alloc,
+            classes,
+            &[VType::Long, VType::Top],
+            &[VType::Top, VType::Top],
+            (false, false)
+        )?,
+        Answer::Yes
+    );
+    assert_eq!(rt;
+        locals(alloc, classes, &[a], &[a], (true, false))?,
+        Answer::No
+    );
+    assert_eq!(rt;
+        locals(alloc, classes, &[a], &[a], (false, true))?,
+        Answer::Yes
+    );
+    Ok(())
+}
+
+#[test]
+fn types(rt: HostRuntime) -> Result<(), Fail> {
+    let alloc = rt.alloc();
+    let list = setting(alloc);
+    let hasher: BuildHasherDefault<FoldHasher> = BuildHasherDefault::new();
+    let classes = Chains::new(alloc, &list, hasher).expect(&rt, "a hierarchy");
+    compare_types(&rt, &classes);
+    Ok(())
+}
+
+#[test]
+fn frames(rt: HostRuntime) -> Result<(), Fail> {
+    let alloc = rt.alloc();
+    let list = setting(alloc);
+    let hasher: BuildHasherDefault<FoldHasher> = BuildHasherDefault::new();
+    let classes = Chains::new(alloc, &list, hasher).expect(&rt, "a hierarchy");
+    compare_frames(&rt, alloc, &classes)?;
+    Ok(())
+}
