@@ -1,0 +1,4 @@
+pub mod Judgements
+pub mod OneAnswer
+pub mod Rows
+pub mod Writings

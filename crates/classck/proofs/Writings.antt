@@ -1,0 +1,43 @@
+-- Texts written one behind the other.
+use Rattle.std.proofs.Common.{◌≡◌, ◌<◌, ◌+◌, ℕ, List, ◌++◌, ◌∙◌, Option, Some, None, Result, Ok, Err, sym, ap, subst, append_assoc, length, drop, slice_index_or}
+use Rattle.std.specs.List.{flat_map}
+use Rattle.std.proofs.lemmas.List.{at_drop_more}
+use Rattle.std.specs.Io.KnownBytes.{Appends, Keeps}
+use Rattle.std.proofs.KnownBytes.{Appends-trans}
+use Rattle.classck.specs.Writing.{Writes, AppendsFront}
+use Rattle.classck.specs.declared.text.WriteFailed.{WriteFailed}
+
+pub Appends_kept : (a b c : Option (List ℕ)) (bs : List ℕ) → Appends a b bs → Keeps b c → Appends a c bs
+Appends_kept None b c bs p q = tt
+Appends_kept (Some x) None c bs p q = absurd p
+Appends_kept (Some x) (Some y) None bs p q = absurd q
+Appends_kept (Some x) (Some y) (Some z) bs p q = q ∙ p
+
+-- a beginning of what stands behind a text
+pub front_behind : (a b c : Option (List ℕ)) (xs ys : List ℕ) → Appends a b xs → AppendsFront b c ys → AppendsFront a c (xs ++ ys)
+front_behind a b c xs ys p q =
+    let (front, rest, split, more) = q in
+    (xs ++ front, rest, ap (λ l. xs ++ l) split ∙ sym (append_assoc xs front rest), Appends-trans a b c xs front p more)
+
+-- behind a text, what writes another
+pub then_writes : (a b c : Option (List ℕ)) (xs ys : List ℕ) (r : Result (Unit {0}) WriteFailed)
+    → Appends a b xs → Writes b c ys r → Writes a c (xs ++ ys) r
+then_writes a b c xs ys (Ok u) p q = Appends-trans a b c xs ys p q
+then_writes a b c xs ys (Err e) p q = front_behind a b c xs ys p q
+
+-- a beginning of the front is one of the whole
+pub front_of_more : (a b : Option (List ℕ)) (xs ys : List ℕ) → AppendsFront a b xs → AppendsFront a b (xs ++ ys)
+front_of_more a b xs ys p =
+    let (front, rest, split, more) = p in
+    (front, rest ++ ys, ap (λ l. l ++ ys) split ∙ append_assoc front rest ys, more)
+
+-- the item at i, in front of those behind it
+pub at_item : {X : Type 0} (f : X → List ℕ) (xs : List X) (i : ℕ) (x : X) (whole done : List ℕ) → i < length xs → x ≡ slice_index_or xs i x
+    → whole ≡ done ++ flat_map f (drop i xs) → whole ≡ done ++ (f x ++ flat_map f (drop (i + 1) xs))
+at_item f xs i x whole done lt here e =
+    e ∙ ap (λ l. done ++ l) (at_drop_more (flat_map f) xs i x lt) ∙ ap (λ y. done ++ (f y ++ flat_map f (drop (i + 1) xs))) (sym here)
+
+pub front_inside : (a b c : Option (List ℕ)) (whole done part others : List ℕ) → whole ≡ done ++ (part ++ others)
+    → Appends a b done → AppendsFront b c part → AppendsFront a c whole
+front_inside a b c whole done part others split p q =
+    subst (AppendsFront a c) (sym split) (front_behind a b c done (part ++ others) p (front_of_more b c part others q))

@@ -1,0 +1,5 @@
+pub mod Answers
+pub mod Laws
+pub mod Line
+pub mod Texts
+pub mod Writing

@@ -1,0 +1,59 @@
+//! Answers a request.
+ghost use Rattle.std.specs.Prelude.{◌≡◌, length, map, Err, true};
+ghost use Rattle.classck.specs.Answers.{Answered, Says, has_lost, is_lost, read_view};
+ghost use Rattle.classck.specs.declared.fault.AnswerFault.TheVariants.{OutOfMemory};
+
+use crate::checking::check;
+use crate::fault::AnswerFault;
+use crate::line::{Command, Request};
+use layout::{ReadFault, StreamFault};
+use std::alloc::Global;
+use std::hash::BuildHasher;
+use std::io::Write;
+
+/// Writes the answer to a request, of whose files each was read so, and gives the status that goes with it.
+///
+/// 1 where memory ran out, also while a file was read: then nothing was written. 19 where a write fails or takes
+/// nothing: then what went out is a beginning of the text.
+pub fn answer<W: Write, S: BuildHasher + Drop>(
+    alloc: Global,
+    request: &Request,
+    reads: &[Result<Vec<u8>, StreamFault>],
+    _hasher: S,
+    out: &mut W,
+) -> Result<u8, AnswerFault>
+    requires { length reads.now ≡ length request.now.files.items }
+    ensures answered { Answered (Says request.now.command (map read_view reads.now)) (W.contents out.old) (W.contents out.new) result }
+    ensures memory { has_lost (map read_view reads.now) ≡ true → result ≡ Err OutOfMemory }
+{
+    if has_lost(reads) {
+        return Err(AnswerFault::OutOfMemory);
+    }
+    match reads {
+        [] => Ok(0),
+        [read, ..] => match request.command {
+            Command::Check => check(alloc, read, out),
+        },
+    }
+}
+
+fn is_lost(read: &Result<Vec<u8>, StreamFault>) -> bool
+    ensures { result ≡ is_lost (read_view read.now) }
+{
+    match read {
+        Err(fault) => matches!(fault.why, ReadFault::OutOfMemory),
+        Ok(_) => false,
+    }
+}
+
+/// Whether memory ran out while one of the files was read.
+fn has_lost(reads: &[Result<Vec<u8>, StreamFault>]) -> bool
+    ensures { result ≡ has_lost (map read_view reads.now) }
+{
+    for read in reads {
+        if is_lost(read) {
+            return true;
+        }
+    }
+    false
+}

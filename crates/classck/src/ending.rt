@@ -1,0 +1,58 @@
+//! Ends without an answer, with status 2.
+
+use crate::complaining::complaint;
+use crate::fault::{AnswerFault, MainFault};
+use crate::line::LineFault;
+use std::alloc::{AllocError, AllocFailed};
+
+/// Why the program ends with status 2.
+#[derive(Drop)]
+pub enum Ending {
+    /// The line is wrong, or asks for help.
+    Line(clap::Error),
+    /// A word of the line is no UTF-8.
+    NoText,
+    /// Something else went wrong.
+    Fault(MainFault),
+}
+
+impl Ending {
+    /// Says why on standard error, as far as that takes it.
+    pub fn tell(&self, rt: &HostRuntime) {
+        let _ = match self {
+            Ending::Line(error) => rt.eprint(error).is_ok(),
+            Ending::NoText => rt.eprint(&"the line is no UTF-8\n").is_ok(),
+            Ending::Fault(fault) => complaint(fault, &mut rt.stderr()).is_ok(),
+        };
+    }
+}
+
+impl From<AllocError> for Ending {
+    fn from(_e: AllocError) -> Ending {
+        Ending::Fault(MainFault::Memory)
+    }
+}
+
+impl<T: Drop> From<AllocFailed<T>> for Ending {
+    fn from(_e: AllocFailed<T>) -> Ending {
+        Ending::Fault(MainFault::Memory)
+    }
+}
+
+impl From<LineFault> for Ending {
+    fn from(fault: LineFault) -> Ending {
+        match fault {
+            LineFault::OutOfMemory => Ending::Fault(MainFault::Memory),
+            LineFault::NoRequest(error) => Ending::Line(error),
+        }
+    }
+}
+
+impl From<AnswerFault> for Ending {
+    fn from(fault: AnswerFault) -> Ending {
+        match fault {
+            AnswerFault::OutOfMemory => Ending::Fault(MainFault::Memory),
+            AnswerFault::WriteFailed => Ending::Fault(MainFault::NotWritten),
+        }
+    }
+}

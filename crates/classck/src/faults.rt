@@ -1,0 +1,56 @@
+//! The texts of faults: a number, and where it was met.
+ghost use Rattle.std.specs.Prelude.{◌≡◌, ◌++◌, codes, decimal};
+ghost use Rattle.classck.specs.Writing.{Writes};
+ghost use Rattle.classck.specs.Texts.{at_text};
+
+use crate::text::{Number, Text, Then, Word, WriteFailed};
+use layout::ReadFault;
+use std::io::Write;
+
+/// A number of a fault and the place where it was met.
+fn put_at<W: Write>(out: &mut W, number: &str, at: usize) -> Result<(), WriteFailed>
+    ensures { Writes (W.contents out.old) (W.contents out.new) (number.now ++ at_text at) result }
+{
+    Then(Word(number), Then(Word(" at "), Number(at as u64))).put(out)
+}
+
+impl Text for ReadFault {
+    ghost use Rattle.classck.specs.Texts.{fault_text};
+
+    ghost text = { fault_text };
+
+    fn put<W: Write>(&self, out: &mut W) -> Result<(), WriteFailed> {
+        match *self {
+            ReadFault::OutOfMemory => Word("1").put(out),
+            ReadFault::EndsEarly { at } => put_at(out, "2", at),
+            ReadFault::BadText { at } => put_at(out, "3", at),
+            ReadFault::BadTag { at, tag } => Then(
+                Word("7"),
+                Then(
+                    Word(" at "),
+                    Then(
+                        Number(at as u64),
+                        Then(Word(" tag "), Number(u64::from(tag))),
+                    ),
+                ),
+            )
+            .put(out),
+            ReadFault::BadMagic => Word("10").put(out),
+            ReadFault::BadVersion { major, minor } => Then(
+                Word("11 "),
+                Then(
+                    Number(u64::from(major)),
+                    Then(Word("."), Number(u64::from(minor))),
+                ),
+            )
+            .put(out),
+            ReadFault::AttributeLength { at } => put_at(out, "12", at),
+            ReadFault::BytesAfter { at } => put_at(out, "13", at),
+            ReadFault::TooLong { at } => put_at(out, "14", at),
+            ReadFault::ReadFailed { at } => put_at(out, "15", at),
+            ReadFault::BadPoolCount { at } => put_at(out, "16", at),
+            ReadFault::BadFrameType { at } => put_at(out, "47", at),
+            ReadFault::BadTypeTag { at } => put_at(out, "48", at),
+        }
+    }
+}

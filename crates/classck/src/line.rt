@@ -1,0 +1,46 @@
+//! What a command line asks for, or why it asks for nothing.
+ghost use Rattle.std.specs.Prelude.{◌≡◌};
+ghost use Rattle.classck.specs.declared.line.LineFault.TheVariants.{OutOfMemory};
+
+use std::alloc::{AllocError, AllocFailed};
+
+/// The commands of the program.
+#[derive(Clone, Copy, Debug, PartialEq, Eq)]
+pub enum Command {
+    /// `check FILE`: whether the file is a class file.
+    Check,
+}
+
+/// What a command line asks for.
+#[derive(Debug, Drop)]
+pub struct Request {
+    /// The command.
+    pub command: Command,
+    /// The paths of its files, in the order of the line, as they stand there.
+    pub files: Vec<String>,
+}
+
+/// Why a command line asks for nothing.
+#[derive(Debug, Drop)]
+pub enum LineFault {
+    /// 1: memory ran out.
+    OutOfMemory,
+    /// 36: the line is wrong, or asks for help; `clap` says which, in its own words.
+    NoRequest(clap::Error),
+}
+
+impl From<AllocError> for LineFault {
+    ghost from_gives = { λ _ e. e ≡ OutOfMemory };
+
+    fn from(_e: AllocError) -> LineFault {
+        LineFault::OutOfMemory
+    }
+}
+
+impl<T: Drop> From<AllocFailed<T>> for LineFault {
+    ghost from_gives = { λ _ e. e ≡ OutOfMemory };
+
+    fn from(_e: AllocFailed<T>) -> LineFault {
+        LineFault::OutOfMemory
+    }
+}

@@ -1,0 +1,223 @@
+ghost use Rattle.std.specs.Prelude.{◌≡◌, Some, IfOk, length};
+
+use crate::answering::answer;
+use crate::complaining::complaint;
+use crate::fault::{AnswerFault, MainFault};
+use crate::line::{Command, LineFault, Request};
+use crate::parsing::request;
+use clap::error::ErrorKind;
+use layout::{ReadFault, StreamFault};
+use std::alloc::{AllocError, Global};
+use std::hash::RandomState;
+use std::io::{self, Write};
+use std::test::*;
+
+const K: [u8; 97] = [
+    0xCA, 0xFE, 0xBA, 0xBE, 0, 0, 0, 0x34, 0, 8, 7, 0, 2, 1, 0, 1, 0x4B, 7, 0, 4, 1, 0, 0x10, 0x6A,
+    0x61, 0x76, 0x61, 0x2F, 0x6C, 0x61, 0x6E, 0x67, 0x2F, 0x4F, 0x62, 0x6A, 0x65, 0x63, 0x74, 1, 0,
+    1, 0x66, 1, 0, 3, 0x28, 0x29, 0x56, 1, 0, 4, 0x43, 0x6F, 0x64, 0x65, 0, 0x21, 0, 1, 0, 3, 0, 0,
+    0, 0, 0, 1, 0, 9, 0, 5, 0, 6, 0, 1, 0, 7, 0, 0, 0, 0x0D, 0, 0, 0, 0, 0, 0, 0, 1, 0xB1, 0, 0, 0,
+    0, 0, 0,
+];
+
+/// Takes one byte at each write, and fails at the write that its number says.
+#[derive(Drop)]
+struct Slow {
+    left: usize,
+    taken: Vec<u8>,
+}
+
+impl Write for Slow {
+    ghost contents = { λ s. Some s.taken.items };
+
+    fn write(&mut self, buf: &[u8]) -> io::Result<usize> {
+        if self.left == 0 {
+            return Err(io::Error::from(io::ErrorKind::BrokenPipe));
+        }
+        self.left -= 1;
+        match buf {
+            [] => Ok(0),
+            [byte, ..] => {
+                self.taken.push(*byte)?;
+                Ok(1)
+            }
+        }
+    }
+
+    fn flush(&mut self) -> io::Result<()> {
+        Ok(())
+    }
+}
+
+/// Counts the bytes that it takes, with no memory.
+#[derive(Drop)]
+struct Counted {
+    taken: usize,
+}
+
+impl Write for Counted {
+    fn write(&mut self, buf: &[u8]) -> io::Result<usize> {
+        self.taken = self.taken.saturating_add(buf.len());
+        Ok(buf.len())
+    }
+
+    fn flush(&mut self) -> io::Result<()> {
+        Ok(())
+    }
+}
+
+fn one_file(alloc: Global) -> Result<Request, AllocError>
+    ensures { IfOk result (λ r. length r.files.items ≡ 1) }
+{
+    let mut files = Vec::new(alloc);
+    files.push(String::from_str(alloc, "a")?)?;
+    Ok(Request {
+        command: Command::Check,
+        files,
+    })
+}
+
+fn one_read(alloc: Global, bytes: &[u8]) -> Result<Vec<Result<Vec<u8>, StreamFault>>, AllocError>
+    ensures { IfOk result (λ v. length v.items ≡ 1) }
+{
+    let mut reads = Vec::new(alloc);
+    reads.push(Ok(bytes.to_vec(alloc)?))?;
+    Ok(reads)
+}
+
+#[test]
+fn a_line(rt: HostRuntime) -> Result<(), Fail> {
+    let words = ["classck", "check", "--", "-a"];
+    let asked = request(rt.alloc(), &words).expect(&rt, "a request");
+    assert_eq!(rt; asked.files.len(), 1);
+    assert_eq!(rt; asked.files[0].as_str(), "-a");
+    Ok(())
+}
+
+#[test]
+fn no_line(rt: HostRuntime) {
+    let words = ["classck", "check"];
+    match request(rt.alloc(), &words) {
+        Err(LineFault::NoRequest(error)) => {
+            assert!(rt; error.kind() == ErrorKind::MissingRequiredArgument)
+        }
+        _ => panic!(rt; "a request"),
+    }
+}
+
+#[test]
+fn a_writer_that_fails(rt: HostRuntime) -> Result<(), Fail> {
+    let whole = b"ok\n";
+    for left in 0..5 {
+        let mut out = Slow {
+            left,
+            taken: Vec::new(rt.alloc()),
+        };
+        let asked = one_file(rt.alloc())?;
+        let reads = one_read(rt.alloc(), &K)?;
+        let hasher = RandomState::new(&rt)?;
+        match answer(rt.alloc(), &asked, &reads, hasher, &mut out) {
+            Ok(status) => assert!(rt;
+                left >= 3 && status == 0 && out.taken.as_slice() == whole.as_slice()
+            ),
+            Err(AnswerFault::WriteFailed) => {
+                assert!(rt; left < 3 && out.taken.as_slice() == whole.as_slice().split_at(left).0)
+            }
+            Err(AnswerFault::OutOfMemory) => panic!(rt; "no memory"),
+        }
+    }
+    Ok(())
+}
+
+#[test]
+fn a_failed_read(rt: HostRuntime) -> Result<(), Fail> {
+    let mut reads = Vec::new(rt.alloc());
+    reads.push(Err(StreamFault {
+        taken: 50,
+        why: ReadFault::ReadFailed { at: 50 },
+    }))?;
+    let mut out: Vec<u8> = Vec::new(rt.alloc());
+    let asked = one_file(rt.alloc())?;
+    let hasher = RandomState::new(&rt)?;
+    let status = answer(rt.alloc(), &asked, &reads, hasher, &mut out).expect(&rt, "an answer");
+    assert_eq!(rt; status, 2);
+    assert!(rt; out.as_slice() == b"refused 15 at 50\n".as_slice());
+    Ok(())
+}
+
+#[test]
+fn a_refused_file(rt: HostRuntime) -> Result<(), Fail> {
+    let mut out: Vec<u8> = Vec::new(rt.alloc());
+    let asked = one_file(rt.alloc())?;
+    let reads = one_read(rt.alloc(), &K[..96])?;
+    let hasher = RandomState::new(&rt)?;
+    let status = answer(rt.alloc(), &asked, &reads, hasher, &mut out).expect(&rt, "an answer");
+    assert_eq!(rt; status, 1);
+    assert!(rt; out.as_slice() == b"refused 2 at 95\n".as_slice());
+    Ok(())
+}
+
+#[test]
+fn a_lost_file(rt: HostRuntime) -> Result<(), Fail> {
+    let mut reads = Vec::new(rt.alloc());
+    reads.push(Err(StreamFault {
+        taken: 0,
+        why: ReadFault::OutOfMemory,
+    }))?;
+    let mut out: Vec<u8> = Vec::new(rt.alloc());
+    let asked = one_file(rt.alloc())?;
+    let hasher = RandomState::new(&rt)?;
+    assert!(rt;
+        matches!(
+            answer(rt.alloc(), &asked, &reads, hasher, &mut out),
+            Err(AnswerFault::OutOfMemory)
+        )
+    );
+    assert!(rt; out.is_empty());
+    Ok(())
+}
+
+/// Each complaint, in the order of the enum.
+#[test]
+fn complaints(rt: HostRuntime) {
+    let mut out: Vec<u8> = Vec::new(rt.alloc());
+    for fault in [
+        MainFault::NoRandom,
+        MainFault::CannotOpen(2),
+        MainFault::Memory,
+        MainFault::NotWritten,
+    ] {
+        complaint(&fault, &mut out).expect(&rt, "a line");
+    }
+    assert!(rt;
+        out.as_slice()
+            == b"no random words\nfile 2 cannot be opened\nrefused 1\nrefused 19\n".as_slice()
+    );
+}
+
+/// Where memory runs out a line is refused 1, and otherwise read as ever.
+#[test]
+fn memory_runs_out_for_a_line(rt: HostRuntime) {
+    let words = ["classck", "check", "a"];
+    match request(rt.alloc(), &words) {
+        Ok(asked) => assert_eq!(rt; asked.files.len(), 1),
+        Err(fault) => assert!(rt; matches!(fault, LineFault::OutOfMemory)),
+    }
+}
+
+/// Where memory runs out nothing is written, and otherwise the whole answer.
+#[test]
+fn memory_runs_out_for_an_answer(rt: HostRuntime) {
+    let (Ok(asked), Ok(reads), Ok(hasher)) = (
+        one_file(rt.alloc()),
+        one_read(rt.alloc(), &K),
+        RandomState::new(&rt),
+    ) else {
+        return;
+    };
+    let mut out = Counted { taken: 0 };
+    match answer(rt.alloc(), &asked, &reads, hasher, &mut out) {
+        Ok(status) => assert!(rt; status == 0 && out.taken == 3),
+        Err(fault) => assert!(rt; matches!(fault, AnswerFault::OutOfMemory) && out.taken == 0),
+    }
+}
