@@ -1,0 +1,155 @@
+"""The layout of class files once more, read from the standard and not from the program: what `classck check` should print.
+
+It follows The Java Virtual Machine Specification, Java SE 17, 4.1, 4.4 to 4.7: the parts in the order of the file, up to
+the first that is not whole (2, or 12 in the body of a Code attribute) or that breaks its rule.
+"""
+
+LIMIT = 16_777_216
+
+
+class Refused(Exception):
+    """The file is refused: a number, and where."""
+
+
+class Reader:
+    """Bytes that are read from left to right; `end` is where the innermost body ends, `name_at` where its attribute begins."""
+
+    def __init__(self, data):
+        self.data = data
+        self.at = 0
+        self.end = len(data)
+        self.name_at = None
+
+    def part(self, size):
+        if self.at + size > self.end:
+            raise Refused(f"2 at {self.at}" if self.name_at is None else f"12 at {self.name_at}")
+        self.at += size
+        return self.data[self.at - size : self.at]
+
+    def number(self, size):
+        return int.from_bytes(self.part(size), "big")
+
+
+def bad_unit(text):
+    """Where the first unit without a right spelling begins (4.4.7), in its shortest spelling alone; None where there is none."""
+    k = 0
+    while k < len(text):
+        first, rest = text[k], text[k + 1 : k + 3]
+        follows = [it - 0x80 for it in rest if 0x80 <= it < 0xC0]
+        if 0x01 <= first < 0x80:
+            k += 1
+        elif 0xC0 <= first < 0xE0 and len(rest) > 0 and 0x80 <= rest[0] < 0xC0:
+            unit = (first - 0xC0) * 64 + follows[0]
+            if 0 < unit < 0x80:
+                return k
+            k += 2
+        elif 0xE0 <= first < 0xF0 and len(rest) == 2 and len(follows) == 2:
+            if ((first - 0xE0) * 64 + follows[0]) * 64 + follows[1] < 0x800:
+                return k
+            k += 3
+        else:
+            return k
+    return None
+
+
+# The bodies of the constants that have a fixed size, as the sizes of their numbers (4.4).
+BODIES = {3: [4], 4: [4], 5: [4, 4], 6: [4, 4], 7: [2], 8: [2], 9: [2, 2], 10: [2, 2], 11: [2, 2], 12: [2, 2], 16: [2], 17: [2, 2], 18: [2, 2]}
+
+
+def constant(reader, is_last):
+    """A constant: its text where it is one, and whether it takes two indices."""
+    at = reader.at
+    tag = reader.number(1)
+    if tag == 1:
+        size = reader.number(2)
+        start = reader.at
+        text = reader.part(size)
+        bad = bad_unit(text)
+        if bad is not None:
+            raise Refused(f"3 at {start + bad}")
+        return text, False
+    if tag == 15:
+        at = reader.at
+        kind = reader.number(1)
+        if not 1 <= kind <= 9:
+            raise Refused(f"7 at {at} tag {kind}")
+        reader.number(2)
+        return None, False
+    if tag not in BODIES or (tag in (5, 6) and is_last):
+        raise Refused(f"7 at {at} tag {tag}")
+    for size in BODIES[tag]:
+        reader.number(size)
+    return None, tag in (5, 6)
+
+
+def pool(reader):
+    """The texts of the constant pool, by their indices."""
+    at = reader.at
+    count = reader.number(2)
+    if count == 0:
+        raise Refused(f"16 at {at}")
+    texts, index = {}, 1
+    while index < count:
+        text, is_wide = constant(reader, index == count - 1)
+        if text is not None:
+            texts[index] = text
+        index += 2 if is_wide else 1
+    return texts
+
+
+def code(reader, texts):
+    """The body of a Code attribute (4.7.3)."""
+    reader.number(2)
+    reader.number(2)
+    reader.part(reader.number(4))
+    for _ in range(reader.number(2)):
+        for _ in range(4):
+            reader.number(2)
+    attributes(reader, texts, is_method=False)
+
+
+def attributes(reader, texts, is_method):
+    for _ in range(reader.number(2)):
+        name_at = reader.at
+        name = reader.number(2)
+        size = reader.number(4)
+        start = reader.at
+        reader.part(size)
+        if is_method and texts.get(name) == b"Code":
+            outer, reader.at, reader.end, reader.name_at = (reader.end, reader.name_at), start, start + size, name_at
+            code(reader, texts)
+            if reader.at != reader.end:
+                raise Refused(f"12 at {name_at}")
+            reader.end, reader.name_at = outer
+
+
+def class_file(reader):
+    if reader.number(4) != 0xCAFEBABE:
+        raise Refused("10")
+    minor, major = reader.number(2), reader.number(2)
+    if not 51 <= major <= 60 or (major > 55 and minor):
+        raise Refused(f"11 {major}.{minor}")
+    texts = pool(reader)
+    for _ in range(3):
+        reader.number(2)
+    for _ in range(reader.number(2)):
+        reader.number(2)
+    for is_method in (False, True):
+        for _ in range(reader.number(2)):
+            for _ in range(3):
+                reader.number(2)
+            attributes(reader, texts, is_method)
+    attributes(reader, texts, is_method=False)
+    if reader.at != reader.end:
+        raise Refused(f"13 at {reader.at}")
+
+
+def check(data):
+    """What `check` prints of a file, and its status."""
+    try:
+        if len(data) > LIMIT:
+            raise Refused("14 at 0")
+        class_file(Reader(data))
+    except Refused as fault:
+        return f"refused {fault}", 1
+    return "ok", 0
