@@ -1,0 +1,5 @@
+pub mod CodeLaws
+pub mod Keys
+pub mod Numbers
+pub mod Starts
+pub mod Steps

@@ -1,0 +1,88 @@
+-- What the program's instructions are, without where their bytes lie in memory.
+use Rattle.std.specs.Prelude.{ℕ, ℤ, List, map}
+use Rattle.insn.specs.declared.operation.Act.{Act}
+use Rattle.insn.specs.declared.operation.Act.TheVariants as acts
+use Rattle.insn.specs.declared.operation.Targets.{Targets}
+use Rattle.insn.specs.declared.operation.Targets.TheVariants as targets
+use Rattle.insn.specs.Meanings as means
+use Rattle.insn.specs.declared.instruction.Operands.{Operands}
+use Rattle.insn.specs.declared.instruction.Operands.TheVariants as operands
+use Rattle.insn.specs.declared.instruction.Insn as insns
+use Rattle.insn.specs.Instructions as is
+use Rattle.insn.specs.Instructions.{Instruction}
+
+abbrev pub operands_view : Operands → is.Operands
+operands_view operands.Nothing = is.nothing
+operands_view (operands.Byte value) = is.byte value
+operands_view (operands.Short value) = is.short value
+operands_view (operands.Constant index) = is.constant index
+operands_view (operands.Index index) = is.index index
+operands_view (operands.Local local) = is.local local
+operands_view (operands.Increment local by) = is.increment local by
+operands_view (operands.Branch offset) = is.branch offset
+operands_view (operands.WideBranch offset) = is.wide_branch offset
+operands_view (operands.InvokeInterface index count) = is.invoke_interface index count
+operands_view (operands.InvokeDynamic index) = is.invoke_dynamic index
+operands_view (operands.NewArray element) = is.new_array element
+operands_view (operands.MultiNewArray index dimensions) = is.multi_new_array index dimensions
+operands_view (operands.TableSwitch padding default low high offsets) = is.table_switch padding.now default low high offsets.now
+operands_view (operands.LookupSwitch padding default pairs) = is.lookup_switch padding.now default pairs.now
+operands_view (operands.WideLocal opcode local) = is.wide_local opcode local
+operands_view (operands.WideIncrement opcode local by) = is.wide_increment opcode local by
+
+abbrev pub view : insns.Insn → Instruction
+view i = record { opcode = i.opcode; operands = operands_view i.operands }
+
+-- instructions with the offsets where they begin
+abbrev pub views : List (ℕ × insns.Insn) → List (ℕ × Instruction)
+views xs = map (λ x. (x.0, view x.1)) xs
+
+-- where a switch goes, by its bytes
+abbrev pub targets_view : Targets → List ℤ
+targets_view (targets.Offsets bytes) = means.offsets bytes.now
+targets_view (targets.Pairs bytes) = means.pair_offsets bytes.now
+
+abbrev pub act_view : Act → means.Act
+act_view acts.Nothing = means.Nothing
+act_view (acts.Constant kind) = means.Constant kind
+act_view acts.ConstantNull = means.ConstantNull
+act_view (acts.LoadConstant index) = means.LoadConstant index
+act_view (acts.LoadWideConstant index) = means.LoadWideConstant index
+act_view (acts.Load kind local) = means.Load kind local
+act_view (acts.LoadReference local) = means.LoadReference local
+act_view (acts.Store kind local) = means.Store kind local
+act_view (acts.StoreReference local) = means.StoreReference local
+act_view (acts.Increment local) = means.Increment local
+act_view (acts.Numeric operator) = means.Numeric operator
+act_view (acts.Stack operator) = means.Stack operator
+act_view (acts.IfInt offset) = means.IfInt offset
+act_view (acts.IfInts offset) = means.IfInts offset
+act_view (acts.IfReferences offset) = means.IfReferences offset
+act_view (acts.IfNull offset) = means.IfNull offset
+act_view (acts.Goto offset) = means.Goto offset
+act_view (acts.Switch default where_to) = means.Switch default (targets_view where_to)
+act_view (acts.Return kind) = means.Return kind
+act_view acts.ReturnReference = means.ReturnReference
+act_view acts.ReturnVoid = means.ReturnVoid
+act_view (acts.GetStatic index) = means.GetStatic index
+act_view (acts.PutStatic index) = means.PutStatic index
+act_view (acts.GetField index) = means.GetField index
+act_view (acts.PutField index) = means.PutField index
+act_view (acts.InvokeVirtual index) = means.InvokeVirtual index
+act_view (acts.InvokeSpecial index) = means.InvokeSpecial index
+act_view (acts.InvokeStatic index) = means.InvokeStatic index
+act_view (acts.InvokeInterface index count) = means.InvokeInterface index count
+act_view (acts.New index) = means.New index
+act_view (acts.LoadElement element) = means.LoadElement element
+act_view (acts.StoreElement element) = means.StoreElement element
+act_view acts.LoadReferenceElement = means.LoadReferenceElement
+act_view acts.StoreReferenceElement = means.StoreReferenceElement
+act_view acts.ArrayLength = means.ArrayLength
+act_view (acts.NewArray element) = means.NewArray element
+act_view (acts.NewReferenceArray index) = means.NewReferenceArray index
+act_view (acts.NewMultiArray index dimensions) = means.NewMultiArray index dimensions
+act_view (acts.CheckCast index) = means.CheckCast index
+act_view (acts.InstanceOf index) = means.InstanceOf index
+act_view acts.Throw = means.Throw
+act_view acts.Monitor = means.Monitor
+act_view acts.Unsupported = means.Unsupported

@@ -1,0 +1,150 @@
+//! Instructions: an opcode and what stands behind it.
+ghost use Rattle.std.specs.Prelude.{◌≡◌, true};
+ghost use Rattle.insn.specs.Code.{is_start, modified};
+ghost use Rattle.insn.specs.Opcodes.{mnemonic};
+ghost use Rattle.insn.specs.Views.{view, views};
+
+use crate::opcode::Opcode;
+
+/// What stands behind an opcode (JVMS 6.5), as its [`Form`](crate::Form) says. The tables of
+/// switches are parts of the code.
+#[derive(Clone, Copy, Debug)]
+pub enum Operands<'a> {
+    /// Nothing.
+    Nothing,
+    /// The `int` that `bipush` pushes.
+    Byte(i8),
+    /// The `int` that `sipush` pushes.
+    Short(i16),
+    /// The index of `ldc` into the constant pool.
+    Constant(u8),
+    /// An index into the constant pool.
+    Index(u16),
+    /// The number of a local variable.
+    Local(u8),
+    /// The local variable of `iinc`, and what is added to it.
+    Increment {
+        local: u8,
+        by: i8,
+    },
+    /// Where a branch goes, in bytes from the instruction's own start.
+    Branch(i16),
+    /// Where `goto_w` or `jsr_w` goes, in bytes from the instruction's own start.
+    WideBranch(i32),
+    /// The index and the count of `invokeinterface`; the byte behind them is 0.
+    InvokeInterface {
+        index: u16,
+        count: u8,
+    },
+    /// The index of `invokedynamic`; the two bytes behind it are 0.
+    InvokeDynamic {
+        index: u16,
+    },
+    /// The number of the element type of `newarray` (JVMS 6.5, table 6.5.newarray-A).
+    NewArray(u8),
+    /// The index of `multianewarray`, and how many dimensions are made.
+    MultiNewArray {
+        index: u16,
+        dimensions: u8,
+    },
+    /// `tableswitch`: the padding, 0 to 3 bytes as they stand, where to go for other keys, the
+    /// bounds, and for each key in between four bytes that say where to go.
+    TableSwitch {
+        padding: &'a [u8],
+        default: i32,
+        low: i32,
+        high: i32,
+        offsets: &'a [u8],
+    },
+    /// `lookupswitch`: the padding, 0 to 3 bytes as they stand, where to go for other keys, and
+    /// pairs of four bytes for a key and four that say where to go.
+    LookupSwitch {
+        padding: &'a [u8],
+        default: i32,
+        pairs: &'a [u8],
+    },
+    /// `wide` before a load, a store or `ret`: that opcode, and the number of a local variable.
+    WideLocal {
+        opcode: Opcode,
+        local: u16,
+    },
+    /// `wide` before `iinc`: that opcode, the local variable, and what is added to it.
+    WideIncrement {
+        opcode: Opcode,
+        local: u16,
+        by: i16,
+    },
+}
+
+/// An instruction (JVMS 6.5).
+#[derive(Clone, Copy, Debug)]
+pub struct Insn<'a> {
+    /// The instruction's first byte.
+    pub opcode: Opcode,
+    /// What stands behind it.
+    pub operands: Operands<'a>,
+}
+
+/// The opcode that says what is done: behind `wide` the one that is modified.
+pub fn modified(insn: &Insn<'_>) -> Opcode
+    ensures { result ≡ modified (view insn.now).opcode (view insn.now).operands }
+{
+    match insn.operands {
+        Operands::WideLocal { opcode, .. } => opcode,
+        Operands::WideIncrement { opcode, .. } => opcode,
+        Operands::Nothing
+        | Operands::Byte(_)
+        | Operands::Short(_)
+        | Operands::Constant(_)
+        | Operands::Index(_)
+        | Operands::Local(_)
+        | Operands::Increment { .. }
+        | Operands::Branch(_)
+        | Operands::WideBranch(_)
+        | Operands::InvokeInterface { .. }
+        | Operands::InvokeDynamic { .. }
+        | Operands::NewArray(_)
+        | Operands::MultiNewArray { .. }
+        | Operands::TableSwitch { .. }
+        | Operands::LookupSwitch { .. } => insn.opcode,
+    }
+}
+
+/// The standard's name of the instruction (JVMS 6.5); behind `wide` that of the opcode which is
+/// modified. Takes no memory.
+pub fn mnemonic(insn: &Insn<'_>) -> &'static str
+    ensures { result.now ≡ mnemonic (modified (view insn.now).opcode (view insn.now).operands) }
+{
+    modified(insn).mnemonic()
+}
+
+/// Whether an instruction of the list begins at this offset. Takes no memory. Where the list is in
+/// the order of the offsets, as [`decode_code`](crate::decode_code) gives it, a start is found by
+/// halving.
+pub fn is_start(list: &[(u16, Insn<'_>)], at: u16) -> bool
+    ensures { result ≡ is_start (views list.now) at }
+{
+    halved(list, at) || listed(list, at)
+}
+
+/// Whether halving the list leads to the offset.
+fn halved(list: &[(u16, Insn<'_>)], at: u16) -> bool
+    ensures { result ≡ true → is_start (views list.now) at ≡ true }
+{
+    match list.binary_search_by_key(&at, |(start, _)| *start) {
+        Ok(place) => list[place].0 == at,
+        Err(_) => false,
+    }
+}
+
+/// Whether the offset stands anywhere in the list.
+fn listed(list: &[(u16, Insn<'_>)], at: u16) -> bool
+    ensures { result ≡ is_start (views list.now) at }
+{
+    for (start, _) in list {
+        if *start == at {
+            return true;
+        }
+    }
+    false
+}

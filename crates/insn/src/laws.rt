@@ -1,0 +1,22 @@
+//! Laws of code. The functions do nothing: their contracts are the laws.
+ghost use Rattle.std.specs.Prelude.{◌≡◌, ℕ, List, Some};
+ghost use Rattle.insn.specs.declared.fault.CodeFault.{CodeFault};
+ghost use Rattle.insn.specs.declared.opcode.Opcode.{Opcode};
+ghost use Rattle.insn.specs.Instructions.{Instruction};
+ghost use Rattle.insn.specs.Code.{SpellsCode, FaultyCode};
+ghost use Rattle.insn.specs.Opcodes.{number, opcode_of};
+
+/// Bytes are the code of one list of instructions at most, and then no instruction in them is at
+/// fault.
+pub fn code_is_one_list()
+    ensures one { (bytes : List ℕ) (xs ys : List (ℕ × Instruction))
+        → SpellsCode 0 bytes xs → SpellsCode 0 bytes ys → xs ≡ ys }
+    ensures either { (bytes : List ℕ) (xs : List (ℕ × Instruction)) (e : CodeFault)
+        → SpellsCode 0 bytes xs → FaultyCode bytes e → ⊥ }
+{}
+
+/// Opcodes and their numbers are two ways through one table.
+pub fn opcodes_have_numbers()
+    ensures number { (o : Opcode) → opcode_of (number o) ≡ Some o }
+    ensures opcode { (n : ℕ) (o : Opcode) → opcode_of n ≡ Some o → number o ≡ n }
+{}

@@ -1,0 +1,39 @@
+//! The instructions of the Java Virtual Machine: read one by one, or a method's whole code.
+//!
+//! Proved against the table of opcodes (`specs/Opcodes.antt`), the bytes of each instruction
+//! (`specs/Instructions.antt`, JVMS 6.5) and of code (`specs/Code.antt`). The call to know is
+//! [`decode_code`]; [`read_insn`] reads one instruction and takes no memory.
+//!
+//! - `decoding`: all of a method's code
+//! - `fault`: why bytes are no code
+//! - `instruction`: an opcode and what stands behind it
+//! - `laws`: laws of code, without code
+//! - `meaning`: what an instruction means
+//! - `opcode`: opcodes and their numbers
+//! - `operation`: operators, and what instructions may mean
+//! - `reading`: one instruction
+//! - `table`: the instruction set, a row for each opcode
+#![tactic(auto)]
+
+mod decoding;
+mod fault;
+mod instruction;
+mod laws;
+mod meaning;
+mod opcode;
+mod operation;
+mod reading;
+mod table;
+
+pub use decoding::decode_code;
+pub use fault::CodeFault;
+pub use instruction::{Insn, Operands, is_start, mnemonic};
+pub use laws::{code_is_one_list, opcodes_have_numbers};
+pub use meaning::act;
+pub use opcode::Opcode;
+pub use operation::{Act, Kind, Meaning, NumericOperator, StackOperator, Targets};
+pub use reading::read_insn;
+pub use table::Form;
+
+#[cfg(test)]
+mod tests;

@@ -1,0 +1,268 @@
+//! Reading one instruction. No call takes memory.
+ghost use Rattle.std.specs.Prelude.{◌≡◌, Some};
+ghost use Rattle.insn.specs.Code.{ReadsInstruction};
+ghost use Rattle.insn.specs.Faults.{Decodes, or_cut};
+ghost use Rattle.insn.specs.Instructions.{operands_at, behind_opcode, instruction_at, wide_at, widened, widened_opcode, invoke_interface_at, invoke_dynamic_at, table_switch_at, table_behind, lookup_switch_at, pairs_behind, keys, rising, follows};
+ghost use Rattle.insn.specs.Views.{operands_view, view};
+
+use crate::fault::CodeFault;
+use crate::instruction::{Insn, Operands};
+use crate::opcode::Opcode;
+use crate::table::Form;
+use byteorder::{BigEndian, ByteOrder};
+use layout::{Cursor, ReadFault};
+
+/// A part of the instruction at `at`, which is cut where the part is not whole.
+fn or_cut<T: Drop>(at: usize, answer: Result<T, ReadFault>) -> Result<T, CodeFault>
+    ensures { result ≡ or_cut at answer }
+{
+    match answer {
+        Ok(part) => Ok(part),
+        Err(_) => Err(CodeFault::CutInstruction { at }),
+    }
+}
+
+/// What stands behind an opcode of this form.
+#[tactic(auto, unfolding(crate::specs::Instructions::operands_at))]
+fn operands<'a>(cursor: &mut Cursor<'a>, at: usize, form: Form) -> Result<Operands<'a>, CodeFault>
+    ensures { Decodes at (operands_at at form) operands_view cursor.old cursor.new result }
+{
+    match form {
+        Form::Nothing => Ok(Operands::Nothing),
+        Form::Byte => Ok(Operands::Byte(or_cut(at, cursor.u1())?.cast_signed())),
+        Form::Short => Ok(Operands::Short(or_cut(at, cursor.u2())?.cast_signed())),
+        Form::Constant => Ok(Operands::Constant(or_cut(at, cursor.u1())?)),
+        Form::Index => Ok(Operands::Index(or_cut(at, cursor.u2())?)),
+        Form::Local => Ok(Operands::Local(or_cut(at, cursor.u1())?)),
+        Form::Increment => {
+            let local = or_cut(at, cursor.u1())?;
+            let by = or_cut(at, cursor.u1())?.cast_signed();
+            Ok(Operands::Increment { local, by })
+        }
+        Form::Branch => Ok(Operands::Branch(or_cut(at, cursor.u2())?.cast_signed())),
+        Form::WideBranch => Ok(Operands::WideBranch(or_cut(at, cursor.u4())?.cast_signed())),
+        Form::InvokeInterface => invoke_interface(cursor, at),
+        Form::InvokeDynamic => invoke_dynamic(cursor, at),
+        Form::NewArray => Ok(Operands::NewArray(or_cut(at, cursor.u1())?)),
+        Form::MultiNewArray => {
+            let index = or_cut(at, cursor.u2())?;
+            let dimensions = or_cut(at, cursor.u1())?;
+            Ok(Operands::MultiNewArray { index, dimensions })
+        }
+        Form::TableSwitch => table_switch(cursor, at),
+        Form::LookupSwitch => lookup_switch(cursor, at),
+        Form::Wide => wide(cursor, at),
+    }
+}
+
+/// What stands behind `invokeinterface`.
+#[tactic(auto, unfolding(crate::specs::Instructions::invoke_interface_at))]
+fn invoke_interface<'a>(cursor: &mut Cursor<'a>, at: usize) -> Result<Operands<'a>, CodeFault>
+    ensures { Decodes at (invoke_interface_at at) operands_view cursor.old cursor.new result }
+{
+    let index = or_cut(at, cursor.u2())?;
+    let count = or_cut(at, cursor.u1())?;
+    let zero = or_cut(at, cursor.u1())?;
+    if zero != 0 {
+        return Err(CodeFault::NonZeroByte { at });
+    }
+    Ok(Operands::InvokeInterface { index, count })
+}
+
+/// What stands behind `invokedynamic`.
+#[tactic(auto, unfolding(crate::specs::Instructions::invoke_dynamic_at))]
+fn invoke_dynamic<'a>(cursor: &mut Cursor<'a>, at: usize) -> Result<Operands<'a>, CodeFault>
+    ensures { Decodes at (invoke_dynamic_at at) operands_view cursor.old cursor.new result }
+{
+    let index = or_cut(at, cursor.u2())?;
+    let zero = or_cut(at, cursor.u2())?;
+    if zero != 0 {
+        return Err(CodeFault::NonZeroByte { at });
+    }
+    Ok(Operands::InvokeDynamic { index })
+}
+
+/// What stands behind `wide`.
+#[tactic(auto, unfolding(crate::specs::Instructions::wide_at))]
+fn wide<'a>(cursor: &mut Cursor<'a>, at: usize) -> Result<Operands<'a>, CodeFault>
+    ensures { Decodes at (wide_at at) operands_view cursor.old cursor.new result }
+{
+    let number = or_cut(at, cursor.u1())?;
+    match Opcode::from_number(number) {
+        Some(opcode) => widened(cursor, at, opcode, opcode.form()),
+        None => Err(CodeFault::BadWide { at }),
+    }
+}
+
+/// What stands behind `wide` and an opcode of this form.
+fn widened<'a>(
+    cursor: &mut Cursor<'a>,
+    at: usize,
+    opcode: Opcode,
+    form: Form,
+) -> Result<Operands<'a>, CodeFault>
+    ensures { Decodes at (widened at opcode form) operands_view cursor.old cursor.new result }
+{
+    match form {
+        Form::Local => {
+            let local = or_cut(at, cursor.u2())?;
+            Ok(Operands::WideLocal { opcode, local })
+        }
+        Form::Increment => {
+            let local = or_cut(at, cursor.u2())?;
+            let by = or_cut(at, cursor.u2())?.cast_signed();
+            Ok(Operands::WideIncrement { opcode, local, by })
+        }
+        Form::Nothing
+        | Form::Byte
+        | Form::Short
+        | Form::Constant
+        | Form::Index
+        | Form::Branch
+        | Form::WideBranch
+        | Form::InvokeInterface
+        | Form::InvokeDynamic
+        | Form::NewArray
+        | Form::MultiNewArray
+        | Form::TableSwitch
+        | Form::LookupSwitch
+        | Form::Wide => Err(CodeFault::BadWide { at }),
+    }
+}
+
+/// What stands behind `tableswitch`. The table is taken as it stands, so that it costs nothing
+/// before its bytes are there.
+#[tactic(auto, unfolding(crate::specs::Instructions::table_switch_at))]
+fn table_switch<'a>(cursor: &mut Cursor<'a>, at: usize) -> Result<Operands<'a>, CodeFault>
+    ensures { Decodes at (table_switch_at at) operands_view cursor.old cursor.new result }
+{
+    let padding = or_cut(at, cursor.part(3 - at % 4))?;
+    let default = or_cut(at, cursor.u4())?.cast_signed();
+    let low = or_cut(at, cursor.u4())?.cast_signed();
+    let high = or_cut(at, cursor.u4())?.cast_signed();
+    offsets(cursor, at, padding, default, low, high)
+}
+
+/// The offsets of a `tableswitch`, behind its bounds.
+fn offsets<'a>(
+    cursor: &mut Cursor<'a>,
+    at: usize,
+    padding: &'a [u8],
+    default: i32,
+    low: i32,
+    high: i32,
+) -> Result<Operands<'a>, CodeFault>
+    ensures { Decodes at (table_behind at padding.now default low high) operands_view cursor.old cursor.new result }
+{
+    if high < low {
+        return Err(CodeFault::BadSwitch { at });
+    }
+    let length = (i64::from(high) - i64::from(low)).unsigned_abs() as usize + 1;
+    let offsets = or_cut(at, cursor.part(4 * length))?;
+    Ok(Operands::TableSwitch {
+        padding,
+        default,
+        low,
+        high,
+        offsets,
+    })
+}
+
+/// What stands behind `lookupswitch`. The pairs are taken as they stand, so that they cost nothing
+/// before their bytes are there.
+#[tactic(auto, unfolding(crate::specs::Instructions::lookup_switch_at))]
+fn lookup_switch<'a>(cursor: &mut Cursor<'a>, at: usize) -> Result<Operands<'a>, CodeFault>
+    ensures { Decodes at (lookup_switch_at at) operands_view cursor.old cursor.new result }
+{
+    let padding = or_cut(at, cursor.part(3 - at % 4))?;
+    let default = or_cut(at, cursor.u4())?.cast_signed();
+    let count = or_cut(at, cursor.u4())?.cast_signed();
+    pairs(cursor, at, padding, default, count)
+}
+
+/// The pairs of a `lookupswitch`, behind their count.
+fn pairs<'a>(
+    cursor: &mut Cursor<'a>,
+    at: usize,
+    padding: &'a [u8],
+    default: i32,
+    count: i32,
+) -> Result<Operands<'a>, CodeFault>
+    ensures { Decodes at (pairs_behind at padding.now default count) operands_view cursor.old cursor.new result }
+{
+    if count < 0 {
+        return Err(CodeFault::BadSwitch { at });
+    }
+    let pairs = or_cut(at, cursor.part(8 * count.unsigned_abs() as usize))?;
+    if !rising(pairs) {
+        return Err(CodeFault::BadSwitch { at });
+    }
+    Ok(Operands::LookupSwitch {
+        padding,
+        default,
+        pairs,
+    })
+}
+
+/// Whether the keys of the pairs rise.
+fn rising(pairs: &[u8]) -> bool
+    ensures { result ≡ rising (keys pairs.now) }
+{
+    let mut last = None;
+    let mut rest = pairs;
+    while let [a, b, c, d, _, _, _, _, others @ ..] = rest {
+        let key = BigEndian::read_i32(&[*a, *b, *c, *d]);
+        if !follows(last, key) {
+            return false;
+        }
+        last = Some(key);
+        rest = others;
+    }
+    true
+}
+
+/// Whether the key is over the last one, where there is one.
+fn follows(last: Option<i32>, key: i32) -> bool
+    ensures { result ≡ follows last key }
+{
+    match last {
+        Some(last) => last < key,
+        None => true,
+    }
+}
+
+/// The instruction at the cursor, as its operands' helpers read it.
+#[tactic(auto, unfolding(crate::specs::Instructions::instruction_at))]
+fn instruction<'a>(cursor: &mut Cursor<'a>, at: usize) -> Result<Insn<'a>, CodeFault>
+    ensures { Decodes at (instruction_at at) view cursor.old cursor.new result }
+{
+    let number = or_cut(at, cursor.u1())?;
+    match Opcode::from_number(number) {
+        Some(opcode) => behind_opcode(cursor, at, opcode),
+        None => Err(CodeFault::BadOpcode { at }),
+    }
+}
+
+/// The instruction of this opcode, which was just read.
+fn behind_opcode<'a>(
+    cursor: &mut Cursor<'a>,
+    at: usize,
+    opcode: Opcode,
+) -> Result<Insn<'a>, CodeFault>
+    ensures { Decodes at (behind_opcode at (Some opcode)) view cursor.old cursor.new result }
+{
+    let operands = operands(cursor, at, opcode.form())?;
+    Ok(Insn { opcode, operands })
+}
+
+/// Reads the instruction in front, whose offset is the cursor's place, and goes behind it; or
+/// answers why there is none, 31 to 35 at its offset, and the cursor is where it was.
+pub fn read_insn<'a>(cursor: &mut Cursor<'a>) -> Result<Insn<'a>, CodeFault>
+    ensures { ReadsInstruction view cursor.old cursor.new result }
+{
+    let at = cursor.at();
+    let mut step = cursor.fork();
+    let insn = instruction(&mut step, at)?;
+    *cursor = step;
+    Ok(insn)
+}
