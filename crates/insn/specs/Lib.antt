@@ -4,4 +4,5 @@ pub mod Faults
 pub mod Instructions
 pub mod Meanings
 pub mod Opcodes
+pub mod Table
 pub mod Views

@@ -1,6 +1,7 @@
 //! The instruction set of the Java Virtual Machine: one row for each opcode (JVMS 6.5).
-ghost use Rattle.std.specs.Prelude.{◌≡◌};
-ghost use Rattle.insn.specs.Opcodes.{mnemonic, form, meaning};
+ghost use Rattle.std.specs.Prelude.{◌≡◌, map};
+ghost use Rattle.insn.specs.Opcodes.{row, mnemonic, form, meaning, opcodes, opcode_of};
+ghost use Rattle.insn.specs.Table.{table_row, table_opcode};
 
 use crate::opcode::Opcode;
 use crate::operation::{Kind, Meaning, NumericOperator, StackOperator};
@@ -44,439 +45,258 @@ pub enum Form {
     Wide,
 }
 
+/// A row of the table: an opcode, the standard's name for it, what stands behind it, and what it
+/// means.
+type Row = (Opcode, &'static str, Form, Meaning);
+
+/// The rows in the order of the opcodes' numbers.
+static ROWS: [Row; 202] = [
+    (Opcode::Nop, "nop", Form::Nothing, Meaning::Nothing),
+    (Opcode::AconstNull, "aconst_null", Form::Nothing, Meaning::ConstantNull),
+    (Opcode::IconstM1, "iconst_m1", Form::Nothing, Meaning::Constant(Kind::Int)),
+    (Opcode::Iconst0, "iconst_0", Form::Nothing, Meaning::Constant(Kind::Int)),
+    (Opcode::Iconst1, "iconst_1", Form::Nothing, Meaning::Constant(Kind::Int)),
+    (Opcode::Iconst2, "iconst_2", Form::Nothing, Meaning::Constant(Kind::Int)),
+    (Opcode::Iconst3, "iconst_3", Form::Nothing, Meaning::Constant(Kind::Int)),
+    (Opcode::Iconst4, "iconst_4", Form::Nothing, Meaning::Constant(Kind::Int)),
+    (Opcode::Iconst5, "iconst_5", Form::Nothing, Meaning::Constant(Kind::Int)),
+    (Opcode::Lconst0, "lconst_0", Form::Nothing, Meaning::Constant(Kind::Long)),
+    (Opcode::Lconst1, "lconst_1", Form::Nothing, Meaning::Constant(Kind::Long)),
+    (Opcode::Fconst0, "fconst_0", Form::Nothing, Meaning::Constant(Kind::Float)),
+    (Opcode::Fconst1, "fconst_1", Form::Nothing, Meaning::Constant(Kind::Float)),
+    (Opcode::Fconst2, "fconst_2", Form::Nothing, Meaning::Constant(Kind::Float)),
+    (Opcode::Dconst0, "dconst_0", Form::Nothing, Meaning::Constant(Kind::Double)),
+    (Opcode::Dconst1, "dconst_1", Form::Nothing, Meaning::Constant(Kind::Double)),
+    (Opcode::Bipush, "bipush", Form::Byte, Meaning::Constant(Kind::Int)),
+    (Opcode::Sipush, "sipush", Form::Short, Meaning::Constant(Kind::Int)),
+    (Opcode::Ldc, "ldc", Form::Constant, Meaning::LoadConstant),
+    (Opcode::LdcW, "ldc_w", Form::Index, Meaning::LoadConstant),
+    (Opcode::Ldc2W, "ldc2_w", Form::Index, Meaning::LoadWideConstant),
+    (Opcode::Iload, "iload", Form::Local, Meaning::Load(Kind::Int)),
+    (Opcode::Lload, "lload", Form::Local, Meaning::Load(Kind::Long)),
+    (Opcode::Fload, "fload", Form::Local, Meaning::Load(Kind::Float)),
+    (Opcode::Dload, "dload", Form::Local, Meaning::Load(Kind::Double)),
+    (Opcode::Aload, "aload", Form::Local, Meaning::LoadReference),
+    (Opcode::Iload0, "iload_0", Form::Nothing, Meaning::LoadFrom(Kind::Int, 0)),
+    (Opcode::Iload1, "iload_1", Form::Nothing, Meaning::LoadFrom(Kind::Int, 1)),
+    (Opcode::Iload2, "iload_2", Form::Nothing, Meaning::LoadFrom(Kind::Int, 2)),
+    (Opcode::Iload3, "iload_3", Form::Nothing, Meaning::LoadFrom(Kind::Int, 3)),
+    (Opcode::Lload0, "lload_0", Form::Nothing, Meaning::LoadFrom(Kind::Long, 0)),
+    (Opcode::Lload1, "lload_1", Form::Nothing, Meaning::LoadFrom(Kind::Long, 1)),
+    (Opcode::Lload2, "lload_2", Form::Nothing, Meaning::LoadFrom(Kind::Long, 2)),
+    (Opcode::Lload3, "lload_3", Form::Nothing, Meaning::LoadFrom(Kind::Long, 3)),
+    (Opcode::Fload0, "fload_0", Form::Nothing, Meaning::LoadFrom(Kind::Float, 0)),
+    (Opcode::Fload1, "fload_1", Form::Nothing, Meaning::LoadFrom(Kind::Float, 1)),
+    (Opcode::Fload2, "fload_2", Form::Nothing, Meaning::LoadFrom(Kind::Float, 2)),
+    (Opcode::Fload3, "fload_3", Form::Nothing, Meaning::LoadFrom(Kind::Float, 3)),
+    (Opcode::Dload0, "dload_0", Form::Nothing, Meaning::LoadFrom(Kind::Double, 0)),
+    (Opcode::Dload1, "dload_1", Form::Nothing, Meaning::LoadFrom(Kind::Double, 1)),
+    (Opcode::Dload2, "dload_2", Form::Nothing, Meaning::LoadFrom(Kind::Double, 2)),
+    (Opcode::Dload3, "dload_3", Form::Nothing, Meaning::LoadFrom(Kind::Double, 3)),
+    (Opcode::Aload0, "aload_0", Form::Nothing, Meaning::LoadReferenceFrom(0)),
+    (Opcode::Aload1, "aload_1", Form::Nothing, Meaning::LoadReferenceFrom(1)),
+    (Opcode::Aload2, "aload_2", Form::Nothing, Meaning::LoadReferenceFrom(2)),
+    (Opcode::Aload3, "aload_3", Form::Nothing, Meaning::LoadReferenceFrom(3)),
+    (Opcode::Iaload, "iaload", Form::Nothing, Meaning::LoadElement(Primitive::Int)),
+    (Opcode::Laload, "laload", Form::Nothing, Meaning::LoadElement(Primitive::Long)),
+    (Opcode::Faload, "faload", Form::Nothing, Meaning::LoadElement(Primitive::Float)),
+    (Opcode::Daload, "daload", Form::Nothing, Meaning::LoadElement(Primitive::Double)),
+    (Opcode::Aaload, "aaload", Form::Nothing, Meaning::LoadReferenceElement),
+    (Opcode::Baload, "baload", Form::Nothing, Meaning::LoadElement(Primitive::Byte)),
+    (Opcode::Caload, "caload", Form::Nothing, Meaning::LoadElement(Primitive::Char)),
+    (Opcode::Saload, "saload", Form::Nothing, Meaning::LoadElement(Primitive::Short)),
+    (Opcode::Istore, "istore", Form::Local, Meaning::Store(Kind::Int)),
+    (Opcode::Lstore, "lstore", Form::Local, Meaning::Store(Kind::Long)),
+    (Opcode::Fstore, "fstore", Form::Local, Meaning::Store(Kind::Float)),
+    (Opcode::Dstore, "dstore", Form::Local, Meaning::Store(Kind::Double)),
+    (Opcode::Astore, "astore", Form::Local, Meaning::StoreReference),
+    (Opcode::Istore0, "istore_0", Form::Nothing, Meaning::StoreTo(Kind::Int, 0)),
+    (Opcode::Istore1, "istore_1", Form::Nothing, Meaning::StoreTo(Kind::Int, 1)),
+    (Opcode::Istore2, "istore_2", Form::Nothing, Meaning::StoreTo(Kind::Int, 2)),
+    (Opcode::Istore3, "istore_3", Form::Nothing, Meaning::StoreTo(Kind::Int, 3)),
+    (Opcode::Lstore0, "lstore_0", Form::Nothing, Meaning::StoreTo(Kind::Long, 0)),
+    (Opcode::Lstore1, "lstore_1", Form::Nothing, Meaning::StoreTo(Kind::Long, 1)),
+    (Opcode::Lstore2, "lstore_2", Form::Nothing, Meaning::StoreTo(Kind::Long, 2)),
+    (Opcode::Lstore3, "lstore_3", Form::Nothing, Meaning::StoreTo(Kind::Long, 3)),
+    (Opcode::Fstore0, "fstore_0", Form::Nothing, Meaning::StoreTo(Kind::Float, 0)),
+    (Opcode::Fstore1, "fstore_1", Form::Nothing, Meaning::StoreTo(Kind::Float, 1)),
+    (Opcode::Fstore2, "fstore_2", Form::Nothing, Meaning::StoreTo(Kind::Float, 2)),
+    (Opcode::Fstore3, "fstore_3", Form::Nothing, Meaning::StoreTo(Kind::Float, 3)),
+    (Opcode::Dstore0, "dstore_0", Form::Nothing, Meaning::StoreTo(Kind::Double, 0)),
+    (Opcode::Dstore1, "dstore_1", Form::Nothing, Meaning::StoreTo(Kind::Double, 1)),
+    (Opcode::Dstore2, "dstore_2", Form::Nothing, Meaning::StoreTo(Kind::Double, 2)),
+    (Opcode::Dstore3, "dstore_3", Form::Nothing, Meaning::StoreTo(Kind::Double, 3)),
+    (Opcode::Astore0, "astore_0", Form::Nothing, Meaning::StoreReferenceTo(0)),
+    (Opcode::Astore1, "astore_1", Form::Nothing, Meaning::StoreReferenceTo(1)),
+    (Opcode::Astore2, "astore_2", Form::Nothing, Meaning::StoreReferenceTo(2)),
+    (Opcode::Astore3, "astore_3", Form::Nothing, Meaning::StoreReferenceTo(3)),
+    (Opcode::Iastore, "iastore", Form::Nothing, Meaning::StoreElement(Primitive::Int)),
+    (Opcode::Lastore, "lastore", Form::Nothing, Meaning::StoreElement(Primitive::Long)),
+    (Opcode::Fastore, "fastore", Form::Nothing, Meaning::StoreElement(Primitive::Float)),
+    (Opcode::Dastore, "dastore", Form::Nothing, Meaning::StoreElement(Primitive::Double)),
+    (Opcode::Aastore, "aastore", Form::Nothing, Meaning::StoreReferenceElement),
+    (Opcode::Bastore, "bastore", Form::Nothing, Meaning::StoreElement(Primitive::Byte)),
+    (Opcode::Castore, "castore", Form::Nothing, Meaning::StoreElement(Primitive::Char)),
+    (Opcode::Sastore, "sastore", Form::Nothing, Meaning::StoreElement(Primitive::Short)),
+    (Opcode::Pop, "pop", Form::Nothing, Meaning::Stack(StackOperator::Pop)),
+    (Opcode::Pop2, "pop2", Form::Nothing, Meaning::Stack(StackOperator::Pop2)),
+    (Opcode::Dup, "dup", Form::Nothing, Meaning::Stack(StackOperator::Dup)),
+    (Opcode::DupX1, "dup_x1", Form::Nothing, Meaning::Stack(StackOperator::DupX1)),
+    (Opcode::DupX2, "dup_x2", Form::Nothing, Meaning::Stack(StackOperator::DupX2)),
+    (Opcode::Dup2, "dup2", Form::Nothing, Meaning::Stack(StackOperator::Dup2)),
+    (Opcode::Dup2X1, "dup2_x1", Form::Nothing, Meaning::Stack(StackOperator::Dup2X1)),
+    (Opcode::Dup2X2, "dup2_x2", Form::Nothing, Meaning::Stack(StackOperator::Dup2X2)),
+    (Opcode::Swap, "swap", Form::Nothing, Meaning::Stack(StackOperator::Swap)),
+    (Opcode::Iadd, "iadd", Form::Nothing, Meaning::Numeric(NumericOperator::Iadd)),
+    (Opcode::Ladd, "ladd", Form::Nothing, Meaning::Numeric(NumericOperator::Ladd)),
+    (Opcode::Fadd, "fadd", Form::Nothing, Meaning::Numeric(NumericOperator::Fadd)),
+    (Opcode::Dadd, "dadd", Form::Nothing, Meaning::Numeric(NumericOperator::Dadd)),
+    (Opcode::Isub, "isub", Form::Nothing, Meaning::Numeric(NumericOperator::Isub)),
+    (Opcode::Lsub, "lsub", Form::Nothing, Meaning::Numeric(NumericOperator::Lsub)),
+    (Opcode::Fsub, "fsub", Form::Nothing, Meaning::Numeric(NumericOperator::Fsub)),
+    (Opcode::Dsub, "dsub", Form::Nothing, Meaning::Numeric(NumericOperator::Dsub)),
+    (Opcode::Imul, "imul", Form::Nothing, Meaning::Numeric(NumericOperator::Imul)),
+    (Opcode::Lmul, "lmul", Form::Nothing, Meaning::Numeric(NumericOperator::Lmul)),
+    (Opcode::Fmul, "fmul", Form::Nothing, Meaning::Numeric(NumericOperator::Fmul)),
+    (Opcode::Dmul, "dmul", Form::Nothing, Meaning::Numeric(NumericOperator::Dmul)),
+    (Opcode::Idiv, "idiv", Form::Nothing, Meaning::Numeric(NumericOperator::Idiv)),
+    (Opcode::Ldiv, "ldiv", Form::Nothing, Meaning::Numeric(NumericOperator::Ldiv)),
+    (Opcode::Fdiv, "fdiv", Form::Nothing, Meaning::Numeric(NumericOperator::Fdiv)),
+    (Opcode::Ddiv, "ddiv", Form::Nothing, Meaning::Numeric(NumericOperator::Ddiv)),
+    (Opcode::Irem, "irem", Form::Nothing, Meaning::Numeric(NumericOperator::Irem)),
+    (Opcode::Lrem, "lrem", Form::Nothing, Meaning::Numeric(NumericOperator::Lrem)),
+    (Opcode::Frem, "frem", Form::Nothing, Meaning::Numeric(NumericOperator::Frem)),
+    (Opcode::Drem, "drem", Form::Nothing, Meaning::Numeric(NumericOperator::Drem)),
+    (Opcode::Ineg, "ineg", Form::Nothing, Meaning::Numeric(NumericOperator::Ineg)),
+    (Opcode::Lneg, "lneg", Form::Nothing, Meaning::Numeric(NumericOperator::Lneg)),
+    (Opcode::Fneg, "fneg", Form::Nothing, Meaning::Numeric(NumericOperator::Fneg)),
+    (Opcode::Dneg, "dneg", Form::Nothing, Meaning::Numeric(NumericOperator::Dneg)),
+    (Opcode::Ishl, "ishl", Form::Nothing, Meaning::Numeric(NumericOperator::Ishl)),
+    (Opcode::Lshl, "lshl", Form::Nothing, Meaning::Numeric(NumericOperator::Lshl)),
+    (Opcode::Ishr, "ishr", Form::Nothing, Meaning::Numeric(NumericOperator::Ishr)),
+    (Opcode::Lshr, "lshr", Form::Nothing, Meaning::Numeric(NumericOperator::Lshr)),
+    (Opcode::Iushr, "iushr", Form::Nothing, Meaning::Numeric(NumericOperator::Iushr)),
+    (Opcode::Lushr, "lushr", Form::Nothing, Meaning::Numeric(NumericOperator::Lushr)),
+    (Opcode::Iand, "iand", Form::Nothing, Meaning::Numeric(NumericOperator::Iand)),
+    (Opcode::Land, "land", Form::Nothing, Meaning::Numeric(NumericOperator::Land)),
+    (Opcode::Ior, "ior", Form::Nothing, Meaning::Numeric(NumericOperator::Ior)),
+    (Opcode::Lor, "lor", Form::Nothing, Meaning::Numeric(NumericOperator::Lor)),
+    (Opcode::Ixor, "ixor", Form::Nothing, Meaning::Numeric(NumericOperator::Ixor)),
+    (Opcode::Lxor, "lxor", Form::Nothing, Meaning::Numeric(NumericOperator::Lxor)),
+    (Opcode::Iinc, "iinc", Form::Increment, Meaning::Increment),
+    (Opcode::I2l, "i2l", Form::Nothing, Meaning::Numeric(NumericOperator::I2l)),
+    (Opcode::I2f, "i2f", Form::Nothing, Meaning::Numeric(NumericOperator::I2f)),
+    (Opcode::I2d, "i2d", Form::Nothing, Meaning::Numeric(NumericOperator::I2d)),
+    (Opcode::L2i, "l2i", Form::Nothing, Meaning::Numeric(NumericOperator::L2i)),
+    (Opcode::L2f, "l2f", Form::Nothing, Meaning::Numeric(NumericOperator::L2f)),
+    (Opcode::L2d, "l2d", Form::Nothing, Meaning::Numeric(NumericOperator::L2d)),
+    (Opcode::F2i, "f2i", Form::Nothing, Meaning::Numeric(NumericOperator::F2i)),
+    (Opcode::F2l, "f2l", Form::Nothing, Meaning::Numeric(NumericOperator::F2l)),
+    (Opcode::F2d, "f2d", Form::Nothing, Meaning::Numeric(NumericOperator::F2d)),
+    (Opcode::D2i, "d2i", Form::Nothing, Meaning::Numeric(NumericOperator::D2i)),
+    (Opcode::D2l, "d2l", Form::Nothing, Meaning::Numeric(NumericOperator::D2l)),
+    (Opcode::D2f, "d2f", Form::Nothing, Meaning::Numeric(NumericOperator::D2f)),
+    (Opcode::I2b, "i2b", Form::Nothing, Meaning::Numeric(NumericOperator::I2b)),
+    (Opcode::I2c, "i2c", Form::Nothing, Meaning::Numeric(NumericOperator::I2c)),
+    (Opcode::I2s, "i2s", Form::Nothing, Meaning::Numeric(NumericOperator::I2s)),
+    (Opcode::Lcmp, "lcmp", Form::Nothing, Meaning::Numeric(NumericOperator::Lcmp)),
+    (Opcode::Fcmpl, "fcmpl", Form::Nothing, Meaning::Numeric(NumericOperator::Fcmpl)),
+    (Opcode::Fcmpg, "fcmpg", Form::Nothing, Meaning::Numeric(NumericOperator::Fcmpg)),
+    (Opcode::Dcmpl, "dcmpl", Form::Nothing, Meaning::Numeric(NumericOperator::Dcmpl)),
+    (Opcode::Dcmpg, "dcmpg", Form::Nothing, Meaning::Numeric(NumericOperator::Dcmpg)),
+    (Opcode::Ifeq, "ifeq", Form::Branch, Meaning::IfInt),
+    (Opcode::Ifne, "ifne", Form::Branch, Meaning::IfInt),
+    (Opcode::Iflt, "iflt", Form::Branch, Meaning::IfInt),
+    (Opcode::Ifge, "ifge", Form::Branch, Meaning::IfInt),
+    (Opcode::Ifgt, "ifgt", Form::Branch, Meaning::IfInt),
+    (Opcode::Ifle, "ifle", Form::Branch, Meaning::IfInt),
+    (Opcode::IfIcmpeq, "if_icmpeq", Form::Branch, Meaning::IfInts),
+    (Opcode::IfIcmpne, "if_icmpne", Form::Branch, Meaning::IfInts),
+    (Opcode::IfIcmplt, "if_icmplt", Form::Branch, Meaning::IfInts),
+    (Opcode::IfIcmpge, "if_icmpge", Form::Branch, Meaning::IfInts),
+    (Opcode::IfIcmpgt, "if_icmpgt", Form::Branch, Meaning::IfInts),
+    (Opcode::IfIcmple, "if_icmple", Form::Branch, Meaning::IfInts),
+    (Opcode::IfAcmpeq, "if_acmpeq", Form::Branch, Meaning::IfReferences),
+    (Opcode::IfAcmpne, "if_acmpne", Form::Branch, Meaning::IfReferences),
+    (Opcode::Goto, "goto", Form::Branch, Meaning::Goto),
+    (Opcode::Jsr, "jsr", Form::Branch, Meaning::Unsupported),
+    (Opcode::Ret, "ret", Form::Local, Meaning::Unsupported),
+    (Opcode::Tableswitch, "tableswitch", Form::TableSwitch, Meaning::Switch),
+    (Opcode::Lookupswitch, "lookupswitch", Form::LookupSwitch, Meaning::Switch),
+    (Opcode::Ireturn, "ireturn", Form::Nothing, Meaning::Return(Kind::Int)),
+    (Opcode::Lreturn, "lreturn", Form::Nothing, Meaning::Return(Kind::Long)),
+    (Opcode::Freturn, "freturn", Form::Nothing, Meaning::Return(Kind::Float)),
+    (Opcode::Dreturn, "dreturn", Form::Nothing, Meaning::Return(Kind::Double)),
+    (Opcode::Areturn, "areturn", Form::Nothing, Meaning::ReturnReference),
+    (Opcode::Return, "return", Form::Nothing, Meaning::ReturnVoid),
+    (Opcode::Getstatic, "getstatic", Form::Index, Meaning::GetStatic),
+    (Opcode::Putstatic, "putstatic", Form::Index, Meaning::PutStatic),
+    (Opcode::Getfield, "getfield", Form::Index, Meaning::GetField),
+    (Opcode::Putfield, "putfield", Form::Index, Meaning::PutField),
+    (Opcode::Invokevirtual, "invokevirtual", Form::Index, Meaning::InvokeVirtual),
+    (Opcode::Invokespecial, "invokespecial", Form::Index, Meaning::InvokeSpecial),
+    (Opcode::Invokestatic, "invokestatic", Form::Index, Meaning::InvokeStatic),
+    (Opcode::Invokeinterface, "invokeinterface", Form::InvokeInterface, Meaning::InvokeInterface),
+    (Opcode::Invokedynamic, "invokedynamic", Form::InvokeDynamic, Meaning::Unsupported),
+    (Opcode::New, "new", Form::Index, Meaning::New),
+    (Opcode::Newarray, "newarray", Form::NewArray, Meaning::NewArray),
+    (Opcode::Anewarray, "anewarray", Form::Index, Meaning::NewReferenceArray),
+    (Opcode::Arraylength, "arraylength", Form::Nothing, Meaning::ArrayLength),
+    (Opcode::Athrow, "athrow", Form::Nothing, Meaning::Throw),
+    (Opcode::Checkcast, "checkcast", Form::Index, Meaning::CheckCast),
+    (Opcode::Instanceof, "instanceof", Form::Index, Meaning::InstanceOf),
+    (Opcode::Monitorenter, "monitorenter", Form::Nothing, Meaning::Monitor),
+    (Opcode::Monitorexit, "monitorexit", Form::Nothing, Meaning::Monitor),
+    (Opcode::Wide, "wide", Form::Wide, Meaning::Unsupported),
+    (Opcode::Multianewarray, "multianewarray", Form::MultiNewArray, Meaning::NewMultiArray),
+    (Opcode::Ifnull, "ifnull", Form::Branch, Meaning::IfNull),
+    (Opcode::Ifnonnull, "ifnonnull", Form::Branch, Meaning::IfNull),
+    (Opcode::GotoW, "goto_w", Form::WideBranch, Meaning::Goto),
+    (Opcode::JsrW, "jsr_w", Form::WideBranch, Meaning::Unsupported),
+];
+
+/// The rows in the order of the opcodes' numbers.
+fn rows() -> &'static [Row]
+    ensures all { map table_row result.now ≡ map row opcodes }
+    ensures order { map table_opcode result.now ≡ opcodes }
+{
+    &ROWS
+}
+
 impl Opcode {
-    /// The standard's name of this opcode, and what stands behind it.
-    fn row(self) -> (&'static str, Form)
-        ensures name { result.0.now ≡ mnemonic self }
-        ensures form { result.1 ≡ form self }
+    /// The opcode of this number; none from 202 on.
+    pub fn from_number(number: u8) -> Option<Opcode>
+        ensures { result ≡ opcode_of number }
     {
-        match self {
-            Opcode::Nop => ("nop", Form::Nothing), // nop = 0 (0x00)
-            Opcode::AconstNull => ("aconst_null", Form::Nothing), // aconst_null = 1 (0x01)
-            Opcode::IconstM1 => ("iconst_m1", Form::Nothing), // iconst_m1 = 2 (0x02)
-            Opcode::Iconst0 => ("iconst_0", Form::Nothing), // iconst_0 = 3 (0x03)
-            Opcode::Iconst1 => ("iconst_1", Form::Nothing), // iconst_1 = 4 (0x04)
-            Opcode::Iconst2 => ("iconst_2", Form::Nothing), // iconst_2 = 5 (0x05)
-            Opcode::Iconst3 => ("iconst_3", Form::Nothing), // iconst_3 = 6 (0x06)
-            Opcode::Iconst4 => ("iconst_4", Form::Nothing), // iconst_4 = 7 (0x07)
-            Opcode::Iconst5 => ("iconst_5", Form::Nothing), // iconst_5 = 8 (0x08)
-            Opcode::Lconst0 => ("lconst_0", Form::Nothing), // lconst_0 = 9 (0x09)
-            Opcode::Lconst1 => ("lconst_1", Form::Nothing), // lconst_1 = 10 (0x0a)
-            Opcode::Fconst0 => ("fconst_0", Form::Nothing), // fconst_0 = 11 (0x0b)
-            Opcode::Fconst1 => ("fconst_1", Form::Nothing), // fconst_1 = 12 (0x0c)
-            Opcode::Fconst2 => ("fconst_2", Form::Nothing), // fconst_2 = 13 (0x0d)
-            Opcode::Dconst0 => ("dconst_0", Form::Nothing), // dconst_0 = 14 (0x0e)
-            Opcode::Dconst1 => ("dconst_1", Form::Nothing), // dconst_1 = 15 (0x0f)
-            Opcode::Bipush => ("bipush", Form::Byte), // bipush = 16 (0x10)
-            Opcode::Sipush => ("sipush", Form::Short), // sipush = 17 (0x11)
-            Opcode::Ldc => ("ldc", Form::Constant), // ldc = 18 (0x12)
-            Opcode::LdcW => ("ldc_w", Form::Index), // ldc_w = 19 (0x13)
-            Opcode::Ldc2W => ("ldc2_w", Form::Index), // ldc2_w = 20 (0x14)
-            Opcode::Iload => ("iload", Form::Local), // iload = 21 (0x15)
-            Opcode::Lload => ("lload", Form::Local), // lload = 22 (0x16)
-            Opcode::Fload => ("fload", Form::Local), // fload = 23 (0x17)
-            Opcode::Dload => ("dload", Form::Local), // dload = 24 (0x18)
-            Opcode::Aload => ("aload", Form::Local), // aload = 25 (0x19)
-            Opcode::Iload0 => ("iload_0", Form::Nothing), // iload_0 = 26 (0x1a)
-            Opcode::Iload1 => ("iload_1", Form::Nothing), // iload_1 = 27 (0x1b)
-            Opcode::Iload2 => ("iload_2", Form::Nothing), // iload_2 = 28 (0x1c)
-            Opcode::Iload3 => ("iload_3", Form::Nothing), // iload_3 = 29 (0x1d)
-            Opcode::Lload0 => ("lload_0", Form::Nothing), // lload_0 = 30 (0x1e)
-            Opcode::Lload1 => ("lload_1", Form::Nothing), // lload_1 = 31 (0x1f)
-            Opcode::Lload2 => ("lload_2", Form::Nothing), // lload_2 = 32 (0x20)
-            Opcode::Lload3 => ("lload_3", Form::Nothing), // lload_3 = 33 (0x21)
-            Opcode::Fload0 => ("fload_0", Form::Nothing), // fload_0 = 34 (0x22)
-            Opcode::Fload1 => ("fload_1", Form::Nothing), // fload_1 = 35 (0x23)
-            Opcode::Fload2 => ("fload_2", Form::Nothing), // fload_2 = 36 (0x24)
-            Opcode::Fload3 => ("fload_3", Form::Nothing), // fload_3 = 37 (0x25)
-            Opcode::Dload0 => ("dload_0", Form::Nothing), // dload_0 = 38 (0x26)
-            Opcode::Dload1 => ("dload_1", Form::Nothing), // dload_1 = 39 (0x27)
-            Opcode::Dload2 => ("dload_2", Form::Nothing), // dload_2 = 40 (0x28)
-            Opcode::Dload3 => ("dload_3", Form::Nothing), // dload_3 = 41 (0x29)
-            Opcode::Aload0 => ("aload_0", Form::Nothing), // aload_0 = 42 (0x2a)
-            Opcode::Aload1 => ("aload_1", Form::Nothing), // aload_1 = 43 (0x2b)
-            Opcode::Aload2 => ("aload_2", Form::Nothing), // aload_2 = 44 (0x2c)
-            Opcode::Aload3 => ("aload_3", Form::Nothing), // aload_3 = 45 (0x2d)
-            Opcode::Iaload => ("iaload", Form::Nothing), // iaload = 46 (0x2e)
-            Opcode::Laload => ("laload", Form::Nothing), // laload = 47 (0x2f)
-            Opcode::Faload => ("faload", Form::Nothing), // faload = 48 (0x30)
-            Opcode::Daload => ("daload", Form::Nothing), // daload = 49 (0x31)
-            Opcode::Aaload => ("aaload", Form::Nothing), // aaload = 50 (0x32)
-            Opcode::Baload => ("baload", Form::Nothing), // baload = 51 (0x33)
-            Opcode::Caload => ("caload", Form::Nothing), // caload = 52 (0x34)
-            Opcode::Saload => ("saload", Form::Nothing), // saload = 53 (0x35)
-            Opcode::Istore => ("istore", Form::Local), // istore = 54 (0x36)
-            Opcode::Lstore => ("lstore", Form::Local), // lstore = 55 (0x37)
-            Opcode::Fstore => ("fstore", Form::Local), // fstore = 56 (0x38)
-            Opcode::Dstore => ("dstore", Form::Local), // dstore = 57 (0x39)
-            Opcode::Astore => ("astore", Form::Local), // astore = 58 (0x3a)
-            Opcode::Istore0 => ("istore_0", Form::Nothing), // istore_0 = 59 (0x3b)
-            Opcode::Istore1 => ("istore_1", Form::Nothing), // istore_1 = 60 (0x3c)
-            Opcode::Istore2 => ("istore_2", Form::Nothing), // istore_2 = 61 (0x3d)
-            Opcode::Istore3 => ("istore_3", Form::Nothing), // istore_3 = 62 (0x3e)
-            Opcode::Lstore0 => ("lstore_0", Form::Nothing), // lstore_0 = 63 (0x3f)
-            Opcode::Lstore1 => ("lstore_1", Form::Nothing), // lstore_1 = 64 (0x40)
-            Opcode::Lstore2 => ("lstore_2", Form::Nothing), // lstore_2 = 65 (0x41)
-            Opcode::Lstore3 => ("lstore_3", Form::Nothing), // lstore_3 = 66 (0x42)
-            Opcode::Fstore0 => ("fstore_0", Form::Nothing), // fstore_0 = 67 (0x43)
-            Opcode::Fstore1 => ("fstore_1", Form::Nothing), // fstore_1 = 68 (0x44)
-            Opcode::Fstore2 => ("fstore_2", Form::Nothing), // fstore_2 = 69 (0x45)
-            Opcode::Fstore3 => ("fstore_3", Form::Nothing), // fstore_3 = 70 (0x46)
-            Opcode::Dstore0 => ("dstore_0", Form::Nothing), // dstore_0 = 71 (0x47)
-            Opcode::Dstore1 => ("dstore_1", Form::Nothing), // dstore_1 = 72 (0x48)
-            Opcode::Dstore2 => ("dstore_2", Form::Nothing), // dstore_2 = 73 (0x49)
-            Opcode::Dstore3 => ("dstore_3", Form::Nothing), // dstore_3 = 74 (0x4a)
-            Opcode::Astore0 => ("astore_0", Form::Nothing), // astore_0 = 75 (0x4b)
-            Opcode::Astore1 => ("astore_1", Form::Nothing), // astore_1 = 76 (0x4c)
-            Opcode::Astore2 => ("astore_2", Form::Nothing), // astore_2 = 77 (0x4d)
-            Opcode::Astore3 => ("astore_3", Form::Nothing), // astore_3 = 78 (0x4e)
-            Opcode::Iastore => ("iastore", Form::Nothing), // iastore = 79 (0x4f)
-            Opcode::Lastore => ("lastore", Form::Nothing), // lastore = 80 (0x50)
-            Opcode::Fastore => ("fastore", Form::Nothing), // fastore = 81 (0x51)
-            Opcode::Dastore => ("dastore", Form::Nothing), // dastore = 82 (0x52)
-            Opcode::Aastore => ("aastore", Form::Nothing), // aastore = 83 (0x53)
-            Opcode::Bastore => ("bastore", Form::Nothing), // bastore = 84 (0x54)
-            Opcode::Castore => ("castore", Form::Nothing), // castore = 85 (0x55)
-            Opcode::Sastore => ("sastore", Form::Nothing), // sastore = 86 (0x56)
-            Opcode::Pop => ("pop", Form::Nothing), // pop = 87 (0x57)
-            Opcode::Pop2 => ("pop2", Form::Nothing), // pop2 = 88 (0x58)
-            Opcode::Dup => ("dup", Form::Nothing), // dup = 89 (0x59)
-            Opcode::DupX1 => ("dup_x1", Form::Nothing), // dup_x1 = 90 (0x5a)
-            Opcode::DupX2 => ("dup_x2", Form::Nothing), // dup_x2 = 91 (0x5b)
-            Opcode::Dup2 => ("dup2", Form::Nothing), // dup2 = 92 (0x5c)
-            Opcode::Dup2X1 => ("dup2_x1", Form::Nothing), // dup2_x1 = 93 (0x5d)
-            Opcode::Dup2X2 => ("dup2_x2", Form::Nothing), // dup2_x2 = 94 (0x5e)
-            Opcode::Swap => ("swap", Form::Nothing), // swap = 95 (0x5f)
-            Opcode::Iadd => ("iadd", Form::Nothing), // iadd = 96 (0x60)
-            Opcode::Ladd => ("ladd", Form::Nothing), // ladd = 97 (0x61)
-            Opcode::Fadd => ("fadd", Form::Nothing), // fadd = 98 (0x62)
-            Opcode::Dadd => ("dadd", Form::Nothing), // dadd = 99 (0x63)
-            Opcode::Isub => ("isub", Form::Nothing), // isub = 100 (0x64)
-            Opcode::Lsub => ("lsub", Form::Nothing), // lsub = 101 (0x65)
-            Opcode::Fsub => ("fsub", Form::Nothing), // fsub = 102 (0x66)
-            Opcode::Dsub => ("dsub", Form::Nothing), // dsub = 103 (0x67)
-            Opcode::Imul => ("imul", Form::Nothing), // imul = 104 (0x68)
-            Opcode::Lmul => ("lmul", Form::Nothing), // lmul = 105 (0x69)
-            Opcode::Fmul => ("fmul", Form::Nothing), // fmul = 106 (0x6a)
-            Opcode::Dmul => ("dmul", Form::Nothing), // dmul = 107 (0x6b)
-            Opcode::Idiv => ("idiv", Form::Nothing), // idiv = 108 (0x6c)
-            Opcode::Ldiv => ("ldiv", Form::Nothing), // ldiv = 109 (0x6d)
-            Opcode::Fdiv => ("fdiv", Form::Nothing), // fdiv = 110 (0x6e)
-            Opcode::Ddiv => ("ddiv", Form::Nothing), // ddiv = 111 (0x6f)
-            Opcode::Irem => ("irem", Form::Nothing), // irem = 112 (0x70)
-            Opcode::Lrem => ("lrem", Form::Nothing), // lrem = 113 (0x71)
-            Opcode::Frem => ("frem", Form::Nothing), // frem = 114 (0x72)
-            Opcode::Drem => ("drem", Form::Nothing), // drem = 115 (0x73)
-            Opcode::Ineg => ("ineg", Form::Nothing), // ineg = 116 (0x74)
-            Opcode::Lneg => ("lneg", Form::Nothing), // lneg = 117 (0x75)
-            Opcode::Fneg => ("fneg", Form::Nothing), // fneg = 118 (0x76)
-            Opcode::Dneg => ("dneg", Form::Nothing), // dneg = 119 (0x77)
-            Opcode::Ishl => ("ishl", Form::Nothing), // ishl = 120 (0x78)
-            Opcode::Lshl => ("lshl", Form::Nothing), // lshl = 121 (0x79)
-            Opcode::Ishr => ("ishr", Form::Nothing), // ishr = 122 (0x7a)
-            Opcode::Lshr => ("lshr", Form::Nothing), // lshr = 123 (0x7b)
-            Opcode::Iushr => ("iushr", Form::Nothing), // iushr = 124 (0x7c)
-            Opcode::Lushr => ("lushr", Form::Nothing), // lushr = 125 (0x7d)
-            Opcode::Iand => ("iand", Form::Nothing), // iand = 126 (0x7e)
-            Opcode::Land => ("land", Form::Nothing), // land = 127 (0x7f)
-            Opcode::Ior => ("ior", Form::Nothing), // ior = 128 (0x80)
-            Opcode::Lor => ("lor", Form::Nothing), // lor = 129 (0x81)
-            Opcode::Ixor => ("ixor", Form::Nothing), // ixor = 130 (0x82)
-            Opcode::Lxor => ("lxor", Form::Nothing), // lxor = 131 (0x83)
-            Opcode::Iinc => ("iinc", Form::Increment), // iinc = 132 (0x84)
-            Opcode::I2l => ("i2l", Form::Nothing), // i2l = 133 (0x85)
-            Opcode::I2f => ("i2f", Form::Nothing), // i2f = 134 (0x86)
-            Opcode::I2d => ("i2d", Form::Nothing), // i2d = 135 (0x87)
-            Opcode::L2i => ("l2i", Form::Nothing), // l2i = 136 (0x88)
-            Opcode::L2f => ("l2f", Form::Nothing), // l2f = 137 (0x89)
-            Opcode::L2d => ("l2d", Form::Nothing), // l2d = 138 (0x8a)
-            Opcode::F2i => ("f2i", Form::Nothing), // f2i = 139 (0x8b)
-            Opcode::F2l => ("f2l", Form::Nothing), // f2l = 140 (0x8c)
-            Opcode::F2d => ("f2d", Form::Nothing), // f2d = 141 (0x8d)
-            Opcode::D2i => ("d2i", Form::Nothing), // d2i = 142 (0x8e)
-            Opcode::D2l => ("d2l", Form::Nothing), // d2l = 143 (0x8f)
-            Opcode::D2f => ("d2f", Form::Nothing), // d2f = 144 (0x90)
-            Opcode::I2b => ("i2b", Form::Nothing), // i2b = 145 (0x91)
-            Opcode::I2c => ("i2c", Form::Nothing), // i2c = 146 (0x92)
-            Opcode::I2s => ("i2s", Form::Nothing), // i2s = 147 (0x93)
-            Opcode::Lcmp => ("lcmp", Form::Nothing), // lcmp = 148 (0x94)
-            Opcode::Fcmpl => ("fcmpl", Form::Nothing), // fcmpl = 149 (0x95)
-            Opcode::Fcmpg => ("fcmpg", Form::Nothing), // fcmpg = 150 (0x96)
-            Opcode::Dcmpl => ("dcmpl", Form::Nothing), // dcmpl = 151 (0x97)
-            Opcode::Dcmpg => ("dcmpg", Form::Nothing), // dcmpg = 152 (0x98)
-            Opcode::Ifeq => ("ifeq", Form::Branch), // ifeq = 153 (0x99)
-            Opcode::Ifne => ("ifne", Form::Branch), // ifne = 154 (0x9a)
-            Opcode::Iflt => ("iflt", Form::Branch), // iflt = 155 (0x9b)
-            Opcode::Ifge => ("ifge", Form::Branch), // ifge = 156 (0x9c)
-            Opcode::Ifgt => ("ifgt", Form::Branch), // ifgt = 157 (0x9d)
-            Opcode::Ifle => ("ifle", Form::Branch), // ifle = 158 (0x9e)
-            Opcode::IfIcmpeq => ("if_icmpeq", Form::Branch), // if_icmpeq = 159 (0x9f)
-            Opcode::IfIcmpne => ("if_icmpne", Form::Branch), // if_icmpne = 160 (0xa0)
-            Opcode::IfIcmplt => ("if_icmplt", Form::Branch), // if_icmplt = 161 (0xa1)
-            Opcode::IfIcmpge => ("if_icmpge", Form::Branch), // if_icmpge = 162 (0xa2)
-            Opcode::IfIcmpgt => ("if_icmpgt", Form::Branch), // if_icmpgt = 163 (0xa3)
-            Opcode::IfIcmple => ("if_icmple", Form::Branch), // if_icmple = 164 (0xa4)
-            Opcode::IfAcmpeq => ("if_acmpeq", Form::Branch), // if_acmpeq = 165 (0xa5)
-            Opcode::IfAcmpne => ("if_acmpne", Form::Branch), // if_acmpne = 166 (0xa6)
-            Opcode::Goto => ("goto", Form::Branch), // goto = 167 (0xa7)
-            Opcode::Jsr => ("jsr", Form::Branch), // jsr = 168 (0xa8)
-            Opcode::Ret => ("ret", Form::Local), // ret = 169 (0xa9)
-            Opcode::Tableswitch => ("tableswitch", Form::TableSwitch), // tableswitch = 170 (0xaa)
-            Opcode::Lookupswitch => ("lookupswitch", Form::LookupSwitch), // lookupswitch = 171 (0xab)
-            Opcode::Ireturn => ("ireturn", Form::Nothing), // ireturn = 172 (0xac)
-            Opcode::Lreturn => ("lreturn", Form::Nothing), // lreturn = 173 (0xad)
-            Opcode::Freturn => ("freturn", Form::Nothing), // freturn = 174 (0xae)
-            Opcode::Dreturn => ("dreturn", Form::Nothing), // dreturn = 175 (0xaf)
-            Opcode::Areturn => ("areturn", Form::Nothing), // areturn = 176 (0xb0)
-            Opcode::Return => ("return", Form::Nothing), // return = 177 (0xb1)
-            Opcode::Getstatic => ("getstatic", Form::Index), // getstatic = 178 (0xb2)
-            Opcode::Putstatic => ("putstatic", Form::Index), // putstatic = 179 (0xb3)
-            Opcode::Getfield => ("getfield", Form::Index), // getfield = 180 (0xb4)
-            Opcode::Putfield => ("putfield", Form::Index), // putfield = 181 (0xb5)
-            Opcode::Invokevirtual => ("invokevirtual", Form::Index), // invokevirtual = 182 (0xb6)
-            Opcode::Invokespecial => ("invokespecial", Form::Index), // invokespecial = 183 (0xb7)
-            Opcode::Invokestatic => ("invokestatic", Form::Index), // invokestatic = 184 (0xb8)
-            Opcode::Invokeinterface => ("invokeinterface", Form::InvokeInterface), // invokeinterface = 185 (0xb9)
-            Opcode::Invokedynamic => ("invokedynamic", Form::InvokeDynamic), // invokedynamic = 186 (0xba)
-            Opcode::New => ("new", Form::Index), // new = 187 (0xbb)
-            Opcode::Newarray => ("newarray", Form::NewArray), // newarray = 188 (0xbc)
-            Opcode::Anewarray => ("anewarray", Form::Index), // anewarray = 189 (0xbd)
-            Opcode::Arraylength => ("arraylength", Form::Nothing), // arraylength = 190 (0xbe)
-            Opcode::Athrow => ("athrow", Form::Nothing), // athrow = 191 (0xbf)
-            Opcode::Checkcast => ("checkcast", Form::Index), // checkcast = 192 (0xc0)
-            Opcode::Instanceof => ("instanceof", Form::Index), // instanceof = 193 (0xc1)
-            Opcode::Monitorenter => ("monitorenter", Form::Nothing), // monitorenter = 194 (0xc2)
-            Opcode::Monitorexit => ("monitorexit", Form::Nothing), // monitorexit = 195 (0xc3)
-            Opcode::Wide => ("wide", Form::Wide), // wide = 196 (0xc4)
-            Opcode::Multianewarray => ("multianewarray", Form::MultiNewArray), // multianewarray = 197 (0xc5)
-            Opcode::Ifnull => ("ifnull", Form::Branch), // ifnull = 198 (0xc6)
-            Opcode::Ifnonnull => ("ifnonnull", Form::Branch), // ifnonnull = 199 (0xc7)
-            Opcode::GotoW => ("goto_w", Form::WideBranch), // goto_w = 200 (0xc8)
-            Opcode::JsrW => ("jsr_w", Form::WideBranch), // jsr_w = 201 (0xc9)
-        }
+        let row = rows().get(number as usize)?;
+        Some(row.0)
     }
 
-    /// What this opcode means, whatever stands behind it.
-    pub fn meaning(self) -> Meaning
-        ensures { result ≡ meaning self }
+    /// The row of this opcode.
+    fn row(self) -> &'static Row
+        ensures { table_row result.now ≡ row self }
     {
-        match self {
-            Opcode::Nop => Meaning::Nothing, // nop = 0 (0x00)
-            Opcode::AconstNull => Meaning::ConstantNull, // aconst_null = 1 (0x01)
-            Opcode::IconstM1 => Meaning::Constant(Kind::Int), // iconst_m1 = 2 (0x02)
-            Opcode::Iconst0 => Meaning::Constant(Kind::Int), // iconst_0 = 3 (0x03)
-            Opcode::Iconst1 => Meaning::Constant(Kind::Int), // iconst_1 = 4 (0x04)
-            Opcode::Iconst2 => Meaning::Constant(Kind::Int), // iconst_2 = 5 (0x05)
-            Opcode::Iconst3 => Meaning::Constant(Kind::Int), // iconst_3 = 6 (0x06)
-            Opcode::Iconst4 => Meaning::Constant(Kind::Int), // iconst_4 = 7 (0x07)
-            Opcode::Iconst5 => Meaning::Constant(Kind::Int), // iconst_5 = 8 (0x08)
-            Opcode::Lconst0 => Meaning::Constant(Kind::Long), // lconst_0 = 9 (0x09)
-            Opcode::Lconst1 => Meaning::Constant(Kind::Long), // lconst_1 = 10 (0x0a)
-            Opcode::Fconst0 => Meaning::Constant(Kind::Float), // fconst_0 = 11 (0x0b)
-            Opcode::Fconst1 => Meaning::Constant(Kind::Float), // fconst_1 = 12 (0x0c)
-            Opcode::Fconst2 => Meaning::Constant(Kind::Float), // fconst_2 = 13 (0x0d)
-            Opcode::Dconst0 => Meaning::Constant(Kind::Double), // dconst_0 = 14 (0x0e)
-            Opcode::Dconst1 => Meaning::Constant(Kind::Double), // dconst_1 = 15 (0x0f)
-            Opcode::Bipush => Meaning::Constant(Kind::Int), // bipush = 16 (0x10)
-            Opcode::Sipush => Meaning::Constant(Kind::Int), // sipush = 17 (0x11)
-            Opcode::Ldc => Meaning::LoadConstant, // ldc = 18 (0x12)
-            Opcode::LdcW => Meaning::LoadConstant, // ldc_w = 19 (0x13)
-            Opcode::Ldc2W => Meaning::LoadWideConstant, // ldc2_w = 20 (0x14)
-            Opcode::Iload => Meaning::Load(Kind::Int), // iload = 21 (0x15)
-            Opcode::Lload => Meaning::Load(Kind::Long), // lload = 22 (0x16)
-            Opcode::Fload => Meaning::Load(Kind::Float), // fload = 23 (0x17)
-            Opcode::Dload => Meaning::Load(Kind::Double), // dload = 24 (0x18)
-            Opcode::Aload => Meaning::LoadReference, // aload = 25 (0x19)
-            Opcode::Iload0 => Meaning::LoadFrom(Kind::Int, 0), // iload_0 = 26 (0x1a)
-            Opcode::Iload1 => Meaning::LoadFrom(Kind::Int, 1), // iload_1 = 27 (0x1b)
-            Opcode::Iload2 => Meaning::LoadFrom(Kind::Int, 2), // iload_2 = 28 (0x1c)
-            Opcode::Iload3 => Meaning::LoadFrom(Kind::Int, 3), // iload_3 = 29 (0x1d)
-            Opcode::Lload0 => Meaning::LoadFrom(Kind::Long, 0), // lload_0 = 30 (0x1e)
-            Opcode::Lload1 => Meaning::LoadFrom(Kind::Long, 1), // lload_1 = 31 (0x1f)
-            Opcode::Lload2 => Meaning::LoadFrom(Kind::Long, 2), // lload_2 = 32 (0x20)
-            Opcode::Lload3 => Meaning::LoadFrom(Kind::Long, 3), // lload_3 = 33 (0x21)
-            Opcode::Fload0 => Meaning::LoadFrom(Kind::Float, 0), // fload_0 = 34 (0x22)
-            Opcode::Fload1 => Meaning::LoadFrom(Kind::Float, 1), // fload_1 = 35 (0x23)
-            Opcode::Fload2 => Meaning::LoadFrom(Kind::Float, 2), // fload_2 = 36 (0x24)
-            Opcode::Fload3 => Meaning::LoadFrom(Kind::Float, 3), // fload_3 = 37 (0x25)
-            Opcode::Dload0 => Meaning::LoadFrom(Kind::Double, 0), // dload_0 = 38 (0x26)
-            Opcode::Dload1 => Meaning::LoadFrom(Kind::Double, 1), // dload_1 = 39 (0x27)
-            Opcode::Dload2 => Meaning::LoadFrom(Kind::Double, 2), // dload_2 = 40 (0x28)
-            Opcode::Dload3 => Meaning::LoadFrom(Kind::Double, 3), // dload_3 = 41 (0x29)
-            Opcode::Aload0 => Meaning::LoadReferenceFrom(0), // aload_0 = 42 (0x2a)
-            Opcode::Aload1 => Meaning::LoadReferenceFrom(1), // aload_1 = 43 (0x2b)
-            Opcode::Aload2 => Meaning::LoadReferenceFrom(2), // aload_2 = 44 (0x2c)
-            Opcode::Aload3 => Meaning::LoadReferenceFrom(3), // aload_3 = 45 (0x2d)
-            Opcode::Iaload => Meaning::LoadElement(Primitive::Int), // iaload = 46 (0x2e)
-            Opcode::Laload => Meaning::LoadElement(Primitive::Long), // laload = 47 (0x2f)
-            Opcode::Faload => Meaning::LoadElement(Primitive::Float), // faload = 48 (0x30)
-            Opcode::Daload => Meaning::LoadElement(Primitive::Double), // daload = 49 (0x31)
-            Opcode::Aaload => Meaning::LoadReferenceElement, // aaload = 50 (0x32)
-            Opcode::Baload => Meaning::LoadElement(Primitive::Byte), // baload = 51 (0x33)
-            Opcode::Caload => Meaning::LoadElement(Primitive::Char), // caload = 52 (0x34)
-            Opcode::Saload => Meaning::LoadElement(Primitive::Short), // saload = 53 (0x35)
-            Opcode::Istore => Meaning::Store(Kind::Int), // istore = 54 (0x36)
-            Opcode::Lstore => Meaning::Store(Kind::Long), // lstore = 55 (0x37)
-            Opcode::Fstore => Meaning::Store(Kind::Float), // fstore = 56 (0x38)
-            Opcode::Dstore => Meaning::Store(Kind::Double), // dstore = 57 (0x39)
-            Opcode::Astore => Meaning::StoreReference, // astore = 58 (0x3a)
-            Opcode::Istore0 => Meaning::StoreTo(Kind::Int, 0), // istore_0 = 59 (0x3b)
-            Opcode::Istore1 => Meaning::StoreTo(Kind::Int, 1), // istore_1 = 60 (0x3c)
-            Opcode::Istore2 => Meaning::StoreTo(Kind::Int, 2), // istore_2 = 61 (0x3d)
-            Opcode::Istore3 => Meaning::StoreTo(Kind::Int, 3), // istore_3 = 62 (0x3e)
-            Opcode::Lstore0 => Meaning::StoreTo(Kind::Long, 0), // lstore_0 = 63 (0x3f)
-            Opcode::Lstore1 => Meaning::StoreTo(Kind::Long, 1), // lstore_1 = 64 (0x40)
-            Opcode::Lstore2 => Meaning::StoreTo(Kind::Long, 2), // lstore_2 = 65 (0x41)
-            Opcode::Lstore3 => Meaning::StoreTo(Kind::Long, 3), // lstore_3 = 66 (0x42)
-            Opcode::Fstore0 => Meaning::StoreTo(Kind::Float, 0), // fstore_0 = 67 (0x43)
-            Opcode::Fstore1 => Meaning::StoreTo(Kind::Float, 1), // fstore_1 = 68 (0x44)
-            Opcode::Fstore2 => Meaning::StoreTo(Kind::Float, 2), // fstore_2 = 69 (0x45)
-            Opcode::Fstore3 => Meaning::StoreTo(Kind::Float, 3), // fstore_3 = 70 (0x46)
-            Opcode::Dstore0 => Meaning::StoreTo(Kind::Double, 0), // dstore_0 = 71 (0x47)
-            Opcode::Dstore1 => Meaning::StoreTo(Kind::Double, 1), // dstore_1 = 72 (0x48)
-            Opcode::Dstore2 => Meaning::StoreTo(Kind::Double, 2), // dstore_2 = 73 (0x49)
-            Opcode::Dstore3 => Meaning::StoreTo(Kind::Double, 3), // dstore_3 = 74 (0x4a)
-            Opcode::Astore0 => Meaning::StoreReferenceTo(0), // astore_0 = 75 (0x4b)
-            Opcode::Astore1 => Meaning::StoreReferenceTo(1), // astore_1 = 76 (0x4c)
-            Opcode::Astore2 => Meaning::StoreReferenceTo(2), // astore_2 = 77 (0x4d)
-            Opcode::Astore3 => Meaning::StoreReferenceTo(3), // astore_3 = 78 (0x4e)
-            Opcode::Iastore => Meaning::StoreElement(Primitive::Int), // iastore = 79 (0x4f)
-            Opcode::Lastore => Meaning::StoreElement(Primitive::Long), // lastore = 80 (0x50)
-            Opcode::Fastore => Meaning::StoreElement(Primitive::Float), // fastore = 81 (0x51)
-            Opcode::Dastore => Meaning::StoreElement(Primitive::Double), // dastore = 82 (0x52)
-            Opcode::Aastore => Meaning::StoreReferenceElement, // aastore = 83 (0x53)
-            Opcode::Bastore => Meaning::StoreElement(Primitive::Byte), // bastore = 84 (0x54)
-            Opcode::Castore => Meaning::StoreElement(Primitive::Char), // castore = 85 (0x55)
-            Opcode::Sastore => Meaning::StoreElement(Primitive::Short), // sastore = 86 (0x56)
-            Opcode::Pop => Meaning::Stack(StackOperator::Pop), // pop = 87 (0x57)
-            Opcode::Pop2 => Meaning::Stack(StackOperator::Pop2), // pop2 = 88 (0x58)
-            Opcode::Dup => Meaning::Stack(StackOperator::Dup), // dup = 89 (0x59)
-            Opcode::DupX1 => Meaning::Stack(StackOperator::DupX1), // dup_x1 = 90 (0x5a)
-            Opcode::DupX2 => Meaning::Stack(StackOperator::DupX2), // dup_x2 = 91 (0x5b)
-            Opcode::Dup2 => Meaning::Stack(StackOperator::Dup2), // dup2 = 92 (0x5c)
-            Opcode::Dup2X1 => Meaning::Stack(StackOperator::Dup2X1), // dup2_x1 = 93 (0x5d)
-            Opcode::Dup2X2 => Meaning::Stack(StackOperator::Dup2X2), // dup2_x2 = 94 (0x5e)
-            Opcode::Swap => Meaning::Stack(StackOperator::Swap), // swap = 95 (0x5f)
-            Opcode::Iadd => Meaning::Numeric(NumericOperator::Iadd), // iadd = 96 (0x60)
-            Opcode::Ladd => Meaning::Numeric(NumericOperator::Ladd), // ladd = 97 (0x61)
-            Opcode::Fadd => Meaning::Numeric(NumericOperator::Fadd), // fadd = 98 (0x62)
-            Opcode::Dadd => Meaning::Numeric(NumericOperator::Dadd), // dadd = 99 (0x63)
-            Opcode::Isub => Meaning::Numeric(NumericOperator::Isub), // isub = 100 (0x64)
-            Opcode::Lsub => Meaning::Numeric(NumericOperator::Lsub), // lsub = 101 (0x65)
-            Opcode::Fsub => Meaning::Numeric(NumericOperator::Fsub), // fsub = 102 (0x66)
-            Opcode::Dsub => Meaning::Numeric(NumericOperator::Dsub), // dsub = 103 (0x67)
-            Opcode::Imul => Meaning::Numeric(NumericOperator::Imul), // imul = 104 (0x68)
-            Opcode::Lmul => Meaning::Numeric(NumericOperator::Lmul), // lmul = 105 (0x69)
-            Opcode::Fmul => Meaning::Numeric(NumericOperator::Fmul), // fmul = 106 (0x6a)
-            Opcode::Dmul => Meaning::Numeric(NumericOperator::Dmul), // dmul = 107 (0x6b)
-            Opcode::Idiv => Meaning::Numeric(NumericOperator::Idiv), // idiv = 108 (0x6c)
-            Opcode::Ldiv => Meaning::Numeric(NumericOperator::Ldiv), // ldiv = 109 (0x6d)
-            Opcode::Fdiv => Meaning::Numeric(NumericOperator::Fdiv), // fdiv = 110 (0x6e)
-            Opcode::Ddiv => Meaning::Numeric(NumericOperator::Ddiv), // ddiv = 111 (0x6f)
-            Opcode::Irem => Meaning::Numeric(NumericOperator::Irem), // irem = 112 (0x70)
-            Opcode::Lrem => Meaning::Numeric(NumericOperator::Lrem), // lrem = 113 (0x71)
-            Opcode::Frem => Meaning::Numeric(NumericOperator::Frem), // frem = 114 (0x72)
-            Opcode::Drem => Meaning::Numeric(NumericOperator::Drem), // drem = 115 (0x73)
-            Opcode::Ineg => Meaning::Numeric(NumericOperator::Ineg), // ineg = 116 (0x74)
-            Opcode::Lneg => Meaning::Numeric(NumericOperator::Lneg), // lneg = 117 (0x75)
-            Opcode::Fneg => Meaning::Numeric(NumericOperator::Fneg), // fneg = 118 (0x76)
-            Opcode::Dneg => Meaning::Numeric(NumericOperator::Dneg), // dneg = 119 (0x77)
-            Opcode::Ishl => Meaning::Numeric(NumericOperator::Ishl), // ishl = 120 (0x78)
-            Opcode::Lshl => Meaning::Numeric(NumericOperator::Lshl), // lshl = 121 (0x79)
-            Opcode::Ishr => Meaning::Numeric(NumericOperator::Ishr), // ishr = 122 (0x7a)
-            Opcode::Lshr => Meaning::Numeric(NumericOperator::Lshr), // lshr = 123 (0x7b)
-            Opcode::Iushr => Meaning::Numeric(NumericOperator::Iushr), // iushr = 124 (0x7c)
-            Opcode::Lushr => Meaning::Numeric(NumericOperator::Lushr), // lushr = 125 (0x7d)
-            Opcode::Iand => Meaning::Numeric(NumericOperator::Iand), // iand = 126 (0x7e)
-            Opcode::Land => Meaning::Numeric(NumericOperator::Land), // land = 127 (0x7f)
-            Opcode::Ior => Meaning::Numeric(NumericOperator::Ior), // ior = 128 (0x80)
-            Opcode::Lor => Meaning::Numeric(NumericOperator::Lor), // lor = 129 (0x81)
-            Opcode::Ixor => Meaning::Numeric(NumericOperator::Ixor), // ixor = 130 (0x82)
-            Opcode::Lxor => Meaning::Numeric(NumericOperator::Lxor), // lxor = 131 (0x83)
-            Opcode::Iinc => Meaning::Increment, // iinc = 132 (0x84)
-            Opcode::I2l => Meaning::Numeric(NumericOperator::I2l), // i2l = 133 (0x85)
-            Opcode::I2f => Meaning::Numeric(NumericOperator::I2f), // i2f = 134 (0x86)
-            Opcode::I2d => Meaning::Numeric(NumericOperator::I2d), // i2d = 135 (0x87)
-            Opcode::L2i => Meaning::Numeric(NumericOperator::L2i), // l2i = 136 (0x88)
-            Opcode::L2f => Meaning::Numeric(NumericOperator::L2f), // l2f = 137 (0x89)
-            Opcode::L2d => Meaning::Numeric(NumericOperator::L2d), // l2d = 138 (0x8a)
-            Opcode::F2i => Meaning::Numeric(NumericOperator::F2i), // f2i = 139 (0x8b)
-            Opcode::F2l => Meaning::Numeric(NumericOperator::F2l), // f2l = 140 (0x8c)
-            Opcode::F2d => Meaning::Numeric(NumericOperator::F2d), // f2d = 141 (0x8d)
-            Opcode::D2i => Meaning::Numeric(NumericOperator::D2i), // d2i = 142 (0x8e)
-            Opcode::D2l => Meaning::Numeric(NumericOperator::D2l), // d2l = 143 (0x8f)
-            Opcode::D2f => Meaning::Numeric(NumericOperator::D2f), // d2f = 144 (0x90)
-            Opcode::I2b => Meaning::Numeric(NumericOperator::I2b), // i2b = 145 (0x91)
-            Opcode::I2c => Meaning::Numeric(NumericOperator::I2c), // i2c = 146 (0x92)
-            Opcode::I2s => Meaning::Numeric(NumericOperator::I2s), // i2s = 147 (0x93)
-            Opcode::Lcmp => Meaning::Numeric(NumericOperator::Lcmp), // lcmp = 148 (0x94)
-            Opcode::Fcmpl => Meaning::Numeric(NumericOperator::Fcmpl), // fcmpl = 149 (0x95)
-            Opcode::Fcmpg => Meaning::Numeric(NumericOperator::Fcmpg), // fcmpg = 150 (0x96)
-            Opcode::Dcmpl => Meaning::Numeric(NumericOperator::Dcmpl), // dcmpl = 151 (0x97)
-            Opcode::Dcmpg => Meaning::Numeric(NumericOperator::Dcmpg), // dcmpg = 152 (0x98)
-            Opcode::Ifeq => Meaning::IfInt, // ifeq = 153 (0x99)
-            Opcode::Ifne => Meaning::IfInt, // ifne = 154 (0x9a)
-            Opcode::Iflt => Meaning::IfInt, // iflt = 155 (0x9b)
-            Opcode::Ifge => Meaning::IfInt, // ifge = 156 (0x9c)
-            Opcode::Ifgt => Meaning::IfInt, // ifgt = 157 (0x9d)
-            Opcode::Ifle => Meaning::IfInt, // ifle = 158 (0x9e)
-            Opcode::IfIcmpeq => Meaning::IfInts, // if_icmpeq = 159 (0x9f)
-            Opcode::IfIcmpne => Meaning::IfInts, // if_icmpne = 160 (0xa0)
-            Opcode::IfIcmplt => Meaning::IfInts, // if_icmplt = 161 (0xa1)
-            Opcode::IfIcmpge => Meaning::IfInts, // if_icmpge = 162 (0xa2)
-            Opcode::IfIcmpgt => Meaning::IfInts, // if_icmpgt = 163 (0xa3)
-            Opcode::IfIcmple => Meaning::IfInts, // if_icmple = 164 (0xa4)
-            Opcode::IfAcmpeq => Meaning::IfReferences, // if_acmpeq = 165 (0xa5)
-            Opcode::IfAcmpne => Meaning::IfReferences, // if_acmpne = 166 (0xa6)
-            Opcode::Goto => Meaning::Goto, // goto = 167 (0xa7)
-            Opcode::Jsr => Meaning::Unsupported, // jsr = 168 (0xa8)
-            Opcode::Ret => Meaning::Unsupported, // ret = 169 (0xa9)
-            Opcode::Tableswitch => Meaning::Switch, // tableswitch = 170 (0xaa)
-            Opcode::Lookupswitch => Meaning::Switch, // lookupswitch = 171 (0xab)
-            Opcode::Ireturn => Meaning::Return(Kind::Int), // ireturn = 172 (0xac)
-            Opcode::Lreturn => Meaning::Return(Kind::Long), // lreturn = 173 (0xad)
-            Opcode::Freturn => Meaning::Return(Kind::Float), // freturn = 174 (0xae)
-            Opcode::Dreturn => Meaning::Return(Kind::Double), // dreturn = 175 (0xaf)
-            Opcode::Areturn => Meaning::ReturnReference, // areturn = 176 (0xb0)
-            Opcode::Return => Meaning::ReturnVoid, // return = 177 (0xb1)
-            Opcode::Getstatic => Meaning::GetStatic, // getstatic = 178 (0xb2)
-            Opcode::Putstatic => Meaning::PutStatic, // putstatic = 179 (0xb3)
-            Opcode::Getfield => Meaning::GetField, // getfield = 180 (0xb4)
-            Opcode::Putfield => Meaning::PutField, // putfield = 181 (0xb5)
-            Opcode::Invokevirtual => Meaning::InvokeVirtual, // invokevirtual = 182 (0xb6)
-            Opcode::Invokespecial => Meaning::InvokeSpecial, // invokespecial = 183 (0xb7)
-            Opcode::Invokestatic => Meaning::InvokeStatic, // invokestatic = 184 (0xb8)
-            Opcode::Invokeinterface => Meaning::InvokeInterface, // invokeinterface = 185 (0xb9)
-            Opcode::Invokedynamic => Meaning::Unsupported, // invokedynamic = 186 (0xba)
-            Opcode::New => Meaning::New, // new = 187 (0xbb)
-            Opcode::Newarray => Meaning::NewArray, // newarray = 188 (0xbc)
-            Opcode::Anewarray => Meaning::NewReferenceArray, // anewarray = 189 (0xbd)
-            Opcode::Arraylength => Meaning::ArrayLength, // arraylength = 190 (0xbe)
-            Opcode::Athrow => Meaning::Throw, // athrow = 191 (0xbf)
-            Opcode::Checkcast => Meaning::CheckCast, // checkcast = 192 (0xc0)
-            Opcode::Instanceof => Meaning::InstanceOf, // instanceof = 193 (0xc1)
-            Opcode::Monitorenter => Meaning::Monitor, // monitorenter = 194 (0xc2)
-            Opcode::Monitorexit => Meaning::Monitor, // monitorexit = 195 (0xc3)
-            Opcode::Wide => Meaning::Unsupported, // wide = 196 (0xc4)
-            Opcode::Multianewarray => Meaning::NewMultiArray, // multianewarray = 197 (0xc5)
-            Opcode::Ifnull => Meaning::IfNull, // ifnull = 198 (0xc6)
-            Opcode::Ifnonnull => Meaning::IfNull, // ifnonnull = 199 (0xc7)
-            Opcode::GotoW => Meaning::Goto, // goto_w = 200 (0xc8)
-            Opcode::JsrW => Meaning::Unsupported, // jsr_w = 201 (0xc9)
-        }
+        &rows()[self.number() as usize]
     }
 
     /// The standard's name of this opcode.
     pub fn mnemonic(self) -> &'static str
         ensures { result.now ≡ mnemonic self }
     {
-        self.row().0
+        self.row().1
     }
 
     /// What stands behind this opcode.
     pub fn form(self) -> Form
         ensures { result ≡ form self }
     {
-        self.row().1
+        self.row().2
+    }
+
+    /// What this opcode means, before its operands are looked at.
+    pub fn meaning(self) -> Meaning
+        ensures { result ≡ meaning self }
+    {
+        self.row().3
     }
 }

@@ -1,0 +1,33 @@
+-- The program's table of opcodes: the row of an opcode stands at its number.
+use Rattle.std.proofs.Common.{◌≡◌, ℕ, ◌<◌, ◌≤◌, List, length, get_or, map, Option, Some, None, Bor, refl, sym, ap, ◌∙◌}
+use Rattle.std.specs.Prelude.{slice_get, slice_index_or, option_map, unwrap_or}
+use Rattle.std.proofs.lemmas.Option.{slice_get-map, slice_get_past, slice_get_read, unwrap_or-slice_get}
+use Rattle.insn.specs.declared.opcode.Opcode.{Opcode}
+use Rattle.insn.specs.Opcodes.{Row, row, number, opcodes, opcode_of}
+use Rattle.insn.specs.Table.{TableRow, table_row, table_opcode}
+use Rattle.insn.proofs.Numbers.{by_number}
+
+some_of : {A B : Type 0} (f : A → B) (x : Option A) (d : A) (y : B) → option_map f x ≡ Some y → f (unwrap_or x d) ≡ y
+some_of f (Some x) d y e = cc
+some_of f None d y e = absurd cc
+
+-- where two lists of rows agree, what one has at a place is what the other has
+pub row_at : (rows : List TableRow) (n : ℕ) (o : Opcode) (d : TableRow) → map table_row rows ≡ map row opcodes → n ≡ number o → table_row (slice_index_or rows n d) ≡ row o
+row_at rows n o d same is =
+    let found : slice_get opcodes n ≡ Some o = ap opcode_of is ∙ by_number o in
+    let mapped : slice_get (map table_row rows) n ≡ Some (row o) = ap (λ (xs : List Row). slice_get xs n) same ∙ slice_get-map row opcodes n ∙ ap (option_map row) found in
+    let there : option_map table_row (slice_get rows n) ≡ Some (row o) = sym (slice_get-map table_row rows n) ∙ mapped in
+    ap table_row (sym (unwrap_or-slice_get rows n d)) ∙ some_of table_row (slice_get rows n) d (row o) there
+
+
+
+
+-- the rows have the opcodes in their order
+opcode_at : (rows : List TableRow) (n : ℕ) → map table_opcode rows ≡ opcodes → option_map table_opcode (slice_get rows n) ≡ opcode_of n
+opcode_at rows n same = sym (slice_get-map table_opcode rows n) ∙ ap (λ (xs : List Opcode). slice_get xs n) same
+
+pub opcode_there : (rows : List TableRow) (n : ℕ) (r : TableRow) → map table_opcode rows ≡ opcodes → n < length rows → r ≡ get_or rows n r → Some (table_opcode r) ≡ opcode_of n
+opcode_there rows n r same lt is = sym (ap (option_map table_opcode) (slice_get_read rows (length rows) n r refl lt is)) ∙ opcode_at rows n same
+
+pub no_opcode : (rows : List TableRow) (n : ℕ) → map table_opcode rows ≡ opcodes → length rows ≤ n → None ≡ opcode_of n
+no_opcode rows n same le = sym (ap (option_map table_opcode) (slice_get_past rows n le)) ∙ opcode_at rows n same
