@@ -1,15 +1,15 @@
 -- Laws of code: what is read is spelled, and code grows by one instruction at a time.
-use Rattle.std.proofs.Common.{◌≡◌, ℕ, ◌+◌, ◌<◌, List, [], ◌∷◌, ◌++◌, length, Result, Ok, Err, refl, sym, ap, subst, ◌∙◌, append_assoc, arith, inl, inr}
+use Rattle.std.proofs.Common.{◌≡◌, ℕ, ◌+◌, ◌<◌, ◌≤◌, List, [], ◌∷◌, ◌++◌, length, Some, Result, Ok, Err, refl, sym, ap, subst, ◌∙◌, append_assoc, arith, inl, inr}
 use Rattle.std.proofs.lemmas.List.{length-append, append-nil, nil_from_length}
 use Rattle.layout.specs.Place.{Place, Took}
 use Rattle.layout.specs.declared.fault.ReadFault.{ReadFault}
 use Rattle.layout.specs.Format.{Spells, FirstFault, reads}
 use Rattle.layout.specs.FormatLaws.{reads_spells, reads_fault, spelled_reads, spelled_no_fault, same_good}
 use Rattle.insn.specs.declared.fault.CodeFault.{CodeFault}
-use Rattle.insn.specs.declared.fault.CodeFault.TheVariants.{CutInstruction}
+use Rattle.insn.specs.declared.fault.CodeFault.TheVariants.{OutOfMemory, CutInstruction}
 use Rattle.insn.specs.Instructions.{Instruction, instruction_at}
 use Rattle.insn.specs.Faults.{judged, beside}
-use Rattle.insn.specs.Code.{SpellsInstruction, FaultyInstruction, SpellsCode, FaultyCode}
+use Rattle.insn.specs.Code.{SpellsInstruction, FaultyInstruction, SpellsCode, FaultyCode, StepsThrough, StartsRise, UnlessMemory}
 
 -- ---- what reading one instruction gives
 
@@ -77,15 +77,15 @@ shorter first i old new s took =
 abbrev pub SoFar : List ℕ → Place → List (ℕ × Instruction) → Type 0
 SoFar bytes p xs = (front : List ℕ) × (bytes ≡ front ++ p.rest) × (p.at ≡ length front) × SpellsCode 0 front xs
 
-pub code_step : (bytes : List ℕ) (xs ys : List (ℕ × Instruction)) (old new : Place) (start : ℕ) (i : Instruction)
-    → SoFar bytes old xs → start ≡ old.at → ys ≡ xs ++ (start, i) ∷ []
-    → ((first : List ℕ) × SpellsInstruction old.at first i × Took first old new) → SoFar bytes new ys
-code_step bytes xs ys old new start i so here is read =
+pub code_step : (bytes : List ℕ) (xs ys : List (ℕ × Instruction)) (old new : Place) (x : ℕ × Instruction)
+    → SoFar bytes old xs → x.0 ≡ old.at → ys ≡ xs ++ x ∷ []
+    → ((first : List ℕ) × SpellsInstruction old.at first x.1 × Took first old new) → SoFar bytes new ys
+code_step bytes xs ys old new x so here is read =
     let front = so.0 in
     let first = read.0 in
     let took = read.2 in
-    let behind : start ≡ 0 + length front = here ∙ so.2 ∙ omega arith in
-    let code = code_on 0 front xs start first i behind so.3 (subst (λ (k : ℕ). SpellsInstruction k first i) (sym here) read.1) in (
+    let behind : x.0 ≡ 0 + length front = here ∙ so.2 ∙ omega arith in
+    let code = code_on 0 front xs x.0 first x.1 behind so.3 (subst (λ (k : ℕ). SpellsInstruction k first x.1) (sym here) read.1) in (
       front ++ first,
       so.1 ∙ ap (λ (t : List ℕ). front ++ t) took.parts ∙ sym (append_assoc front first new.rest),
       omega (arith, took.at, so.2, length-append front first),
@@ -108,6 +108,36 @@ pub code_whole : (bytes : List ℕ) (xs : List (ℕ × Instruction)) (p : Place)
 code_whole bytes xs p so none =
     let end : p.rest ≡ [] = nil_from_length p.rest none in
     subst (λ (t : List ℕ). SpellsCode 0 t xs) (sym (so.1 ∙ ap (λ (t : List ℕ). so.0 ++ t) end ∙ append-nil so.0)) so.3
+
+-- ---- steps through code
+
+pub step_read : {X : Type 0} (view : X → ℕ × Instruction) (old new : Place) (step : Result X CodeFault) (x : X)
+    → StepsThrough view old (Some step) new → step ≡ Ok x → StepsThrough view old (Some (Ok x)) new
+step_read view old new step x s is = subst (λ (r : Result _ CodeFault). StepsThrough view old (Some r) new) is s
+
+-- a step that is refused ends bytes that are no code
+pub step_fault : {X : Type 0} (view : X → ℕ × Instruction) (bytes : List ℕ) (xs : List (ℕ × Instruction)) (old new : Place) (step : Result X CodeFault) (e : CodeFault)
+    → SoFar bytes old xs → StepsThrough view old (Some step) new → step ≡ Err e → FaultyCode bytes e
+step_fault view bytes xs old new (Ok x) e so s is = absurd cc
+step_fault view bytes xs old new (Err f) e so s is = let same : f ≡ e = cc in subst (λ (g : CodeFault). FaultyCode bytes g) same (code_fault bytes xs old f so s.0 s.1)
+
+pub unless_memory : {P : Type 0} (e : CodeFault) → P → UnlessMemory e P
+unless_memory OutOfMemory p = tt
+unless_memory e p = p
+
+-- what was not read yet begins within the bytes
+pub within : (bytes : List ℕ) (xs : List (ℕ × Instruction)) (p : Place) → SoFar bytes p xs → p.at ≤ length bytes
+within bytes xs p so = omega (arith, so.2, ap length so.1, length-append so.0 p.rest)
+
+starts_weaken : (a b : ℕ) (xs : List (ℕ × Instruction)) → a ≤ b → StartsRise b xs → StartsRise a xs
+starts_weaken a b [] le r = tt
+starts_weaken a b (x ∷ xs) le r = (omega (arith, le, r.0), r.1)
+
+pub starts_rise : (at : ℕ) (bytes : List ℕ) (xs : List (ℕ × Instruction)) → SpellsCode at bytes xs → StartsRise at xs
+starts_rise at bytes [] code = tt
+starts_rise at bytes (x ∷ xs) code =
+    let more = has_bytes at code.0 (Ok x.1) code.4 in
+    (omega (arith, code.3), starts_weaken (x.0 + 1) (at + length code.0) xs (omega (arith, more, code.3)) (starts_rise (at + length code.0) code.1 xs code.5))
 
 -- ---- bytes are one code at most, and not also at fault
 
@@ -178,3 +208,51 @@ one_code at bytes (x ∷ xs) (y ∷ ys) c d =
     let others = one_code (at + length c.0) c.1 xs ys c.5
     (subst (λ (t : List ℕ). SpellsCode (at + length c.0) t ys) (sym same.2) (subst (λ (k : ℕ). SpellsCode k d.1 ys) (sym same.1) d.5)) in
     ap (λ (z : ℕ × Instruction). z ∷ xs) first ∙ ap (λ (zs : List (ℕ × Instruction)). y ∷ zs) others
+
+-- ---- one fault
+
+not_read : (at : ℕ) (others : List ℕ) (e f : CodeFault) → FaultyInstruction at others e → FaultyInstruction at others f → e ≡ f
+not_read at others e f (inl h) (inl k) = h.0 ∙ sym k.0
+not_read at others e f (inl h) (inr k) =
+    absurd (spelled_no_fault (instruction_at at) k.0 k.1 at (Err f) h.1 k.3 (subst (λ (t : List ℕ). FirstFault (instruction_at at) at t h.1) k.2 h.2))
+not_read at others e f (inr h) (inl k) =
+    absurd (spelled_no_fault (instruction_at at) h.0 h.1 at (Err e) k.1 h.3 (subst (λ (t : List ℕ). FirstFault (instruction_at at) at t k.1) h.2 k.2))
+not_read at others e f (inr h) (inr k) = let same = (fronts at h.0 k.0 h.1 k.1 (Err e) (Err f) h.3 k.3 (sym h.2 ∙ k.2)).0 in cc
+
+-- behind instructions that stand in front of the same bytes stands the same fault
+one_fault_behind : (xs ys : List (ℕ × Instruction)) (at : ℕ) (front behind others rest bytes : List ℕ) (e f : CodeFault)
+    → bytes ≡ front ++ behind → bytes ≡ others ++ rest → SpellsCode at front xs → SpellsCode at others ys → 0 < length behind → 0 < length rest
+    → FaultyInstruction (at + length front) behind e → FaultyInstruction (at + length others) rest f → e ≡ f
+one_fault_behind [] [] at front behind others rest bytes e f p q c d more less h k =
+    let here : at + length front ≡ at = ap (λ (t : List ℕ). at + length t) c ∙ omega arith in
+    let there : at + length others ≡ at = ap (λ (t : List ℕ). at + length t) d ∙ omega arith in
+    let same : rest ≡ behind = sym (q ∙ ap (λ (t : List ℕ). t ++ rest) d) ∙ p ∙ ap (λ (t : List ℕ). t ++ behind) c in
+    not_read at behind e f (subst (λ (n : ℕ). FaultyInstruction n behind e) here h)
+    (subst (λ (t : List ℕ). FaultyInstruction at t f) same (subst (λ (n : ℕ). FaultyInstruction n rest f) there k))
+one_fault_behind [] (y ∷ ys) at front behind others rest bytes e f p q c d more less h k =
+    let here : at + length front ≡ at = ap (λ (t : List ℕ). at + length t) c ∙ omega arith in
+    let same : behind ≡ d.0 ++ (d.1 ++ rest) =
+        sym (p ∙ ap (λ (t : List ℕ). t ++ behind) c) ∙ q ∙ ap (λ (t : List ℕ). t ++ rest) d.2 ∙ append_assoc d.0 d.1 rest in
+    absurd (not_both at d.0 (d.1 ++ rest) behind y.1 e d.4 same (subst (λ (n : ℕ). FaultyInstruction n behind e) here h))
+one_fault_behind (x ∷ xs) [] at front behind others rest bytes e f p q c d more less h k =
+    let there : at + length others ≡ at = ap (λ (t : List ℕ). at + length t) d ∙ omega arith in
+    let same : rest ≡ c.0 ++ (c.1 ++ behind) =
+        sym (q ∙ ap (λ (t : List ℕ). t ++ rest) d) ∙ p ∙ ap (λ (t : List ℕ). t ++ behind) c.2 ∙ append_assoc c.0 c.1 behind in
+    absurd (not_both at c.0 (c.1 ++ behind) rest x.1 f c.4 same (subst (λ (n : ℕ). FaultyInstruction n rest f) there k))
+one_fault_behind (x ∷ xs) (y ∷ ys) at front behind others rest bytes e f p q c d more less h k =
+    let left : bytes ≡ c.0 ++ (c.1 ++ behind) = p ∙ ap (λ (t : List ℕ). t ++ behind) c.2 ∙ append_assoc c.0 c.1 behind in
+    let right : bytes ≡ d.0 ++ (d.1 ++ rest) = q ∙ ap (λ (t : List ℕ). t ++ rest) d.2 ∙ append_assoc d.0 d.1 rest in
+    let same = fronts at c.0 d.0 (c.1 ++ behind) (d.1 ++ rest) (Ok x.1) (Ok y.1) c.4 d.4 (sym left ∙ right) in
+    let later : at + length front ≡ (at + length c.0) + length c.1 = ap (λ (t : List ℕ). at + length t) c.2 ∙ omega (arith, length-append c.0 c.1) in
+    let further : at + length others ≡ (at + length c.0) + length d.1 =
+        ap (λ (t : List ℕ). at + length t) d.2 ∙ omega (arith, same.1, length-append d.0 d.1) in
+    one_fault_behind xs ys (at + length c.0) c.1 behind d.1 rest (c.1 ++ behind) e f refl same.2 c.5
+    (subst (λ (n : ℕ). SpellsCode n d.1 ys) (sym same.1) d.5) more less
+    (subst (λ (n : ℕ). FaultyInstruction n behind e) later h) (subst (λ (n : ℕ). FaultyInstruction n rest f) further k)
+
+pub one_fault : (bytes : List ℕ) (e f : CodeFault) → FaultyCode bytes e → FaultyCode bytes f → e ≡ f
+one_fault bytes e f a b =
+    let here : length a.front ≡ 0 + length a.front = omega arith in
+    let there : length b.front ≡ 0 + length b.front = omega arith in
+    one_fault_behind a.instructions b.instructions 0 a.front a.others b.front b.others bytes e f a.parts b.parts a.code b.code a.more b.more
+    (subst (λ (k : ℕ). FaultyInstruction k a.others e) here a.fault) (subst (λ (k : ℕ). FaultyInstruction k b.others f) there b.fault)

@@ -33,9 +33,13 @@ operands_view (operands.WideIncrement opcode local by) = is.wide_increment opcod
 abbrev pub view : insns.Insn → Instruction
 view i = record { opcode = i.opcode; operands = operands_view i.operands }
 
+-- an instruction with the offset where it begins
+abbrev pub placed : ℕ × insns.Insn → ℕ × Instruction
+placed x = (x.0, view x.1)
+
 -- instructions with the offsets where they begin
 abbrev pub views : List (ℕ × insns.Insn) → List (ℕ × Instruction)
-views xs = map (λ x. (x.0, view x.1)) xs
+views xs = map placed xs
 
 -- where a switch goes, by its bytes
 abbrev pub targets_view : Targets → List ℤ

@@ -1,27 +1,33 @@
 //! Reading all of a method's code.
-ghost use Rattle.std.specs.Prelude.{◌≤◌, ℕ, List, length, IfOk, IfErr};
-ghost use Rattle.insn.specs.Code.{SpellsCode, FaultyCode, UnlessMemory};
+ghost use Rattle.std.specs.Prelude.{◌≡◌, ◌≤◌, ℕ, List, length, IfOk, IfErr};
+ghost use Rattle.layout.specs.declared.limits.TheConstants.{MAX_CODE_BYTES};
+ghost use Rattle.insn.specs.declared.fault.CodeFault.TheVariants.{OutOfMemory};
+ghost use Rattle.insn.specs.Code.{SpellsCode, StartsRise, FaultyCode, UnlessMemory};
+ghost use Rattle.insn.specs.Instructions.{Instruction};
 ghost use Rattle.insn.specs.Views.{views};
 
+use crate::code_array::Instructions;
 use crate::fault::CodeFault;
 use crate::instruction::Insn;
-use crate::reading::read_insn;
-use layout::Cursor;
 use std::alloc::Global;
 
-/// The instructions of this code with the offsets where they begin; or the fault of the first that
-/// is none, 31 to 35; or 1.
+/// The instructions of this code, which has at most 65,535 bytes (JVMS 4.7.3), with the offsets in
+/// bytes where they begin; or the fault of the first that is none, 31 to 35; or 1.
 pub fn decode_code<'a>(alloc: Global, code: &'a [u8]) -> Result<Vec<(u16, Insn<'a>)>, CodeFault>
-    requires { length code.now ≤ 65535 }
+    requires { length code.now ≤ MAX_CODE_BYTES }
+    // What is answered is spelled by the code.
     ensures found { IfOk result (λ v. SpellsCode 0 code.now (views v.items)) }
+    // The offsets rise, so that one is found by halving.
+    ensures starts { IfOk result (λ v. StartsRise 0 (views v.items)) }
+    // What the code spells is answered, unless memory runs out.
+    ensures only { (xs : List (ℕ × Instruction)) → SpellsCode 0 code.now xs → IfErr result (λ e. e ≡ OutOfMemory) }
+    // Which fault it is.
     ensures fault { IfErr result (λ e. UnlessMemory e (FaultyCode code.now e)) }
 {
-    let mut cursor = Cursor::new(code);
-    let mut out = Vec::new(alloc);
-    while !cursor.rest().is_empty() {
-        let at = cursor.at() as u16;
-        let insn = read_insn(&mut cursor)?;
-        out.push((at, insn))?;
+    let mut list = Vec::new(alloc);
+    for step in Instructions::new(code) {
+        let (at, insn) = step?;
+        list.push((at as u16, insn))?;
     }
-    Ok(out)
+    Ok(list)
 }

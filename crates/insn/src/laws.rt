@@ -7,12 +7,13 @@ ghost use Rattle.insn.specs.Code.{SpellsCode, FaultyCode};
 ghost use Rattle.insn.specs.Opcodes.{number, opcode_of};
 
 /// Bytes are the code of one list of instructions at most, and then no instruction in them is at
-/// fault.
+/// fault; other bytes have one fault at most.
 pub fn code_is_one_list()
     ensures one { (bytes : List ℕ) (xs ys : List (ℕ × Instruction))
         → SpellsCode 0 bytes xs → SpellsCode 0 bytes ys → xs ≡ ys }
     ensures either { (bytes : List ℕ) (xs : List (ℕ × Instruction)) (e : CodeFault)
         → SpellsCode 0 bytes xs → FaultyCode bytes e → ⊥ }
+    ensures fault { (bytes : List ℕ) (e f : CodeFault) → FaultyCode bytes e → FaultyCode bytes f → e ≡ f }
 {}
 
 /// Opcodes and their numbers are two ways through one table.

@@ -4,6 +4,7 @@
 //! (`specs/Instructions.antt`, JVMS 6.5) and of code (`specs/Code.antt`). The call to know is
 //! [`decode_code`]; [`read_insn`] reads one instruction and takes no memory.
 //!
+//! - `code_array`: a method's code, one instruction after the other
 //! - `decoding`: all of a method's code
 //! - `fault`: why bytes are no code
 //! - `instruction`: an opcode and what stands behind it
@@ -15,6 +16,7 @@
 //! - `table`: the instruction set, a row for each opcode
 #![tactic(auto)]
 
+mod code_array;
 mod decoding;
 mod fault;
 mod instruction;
@@ -25,6 +27,7 @@ mod operation;
 mod reading;
 mod table;
 
+pub use code_array::Instructions;
 pub use decoding::decode_code;
 pub use fault::CodeFault;
 pub use instruction::{Insn, Operands, is_start, mnemonic};

@@ -1,0 +1,67 @@
+//! The bytes of a method's code as instructions, one after the other. No call takes memory.
+ghost use Rattle.std.specs.Prelude.{◌≡◌};
+
+use crate::fault::CodeFault;
+use crate::instruction::Insn;
+use crate::reading::read_insn;
+use layout::Cursor;
+use std::marker::Model;
+
+/// The instructions of a method's code (JVMS 4.7.3, `code`), each with the offset in bytes where it
+/// begins, read from the bytes as they are asked for.
+///
+/// It ends behind the last instruction, or behind the first that is at fault, which is answered as
+/// 31 to 35. It takes no memory, whatever the code's length, and each instruction borrows from the
+/// code.
+///
+/// [`decode_code`](crate::decode_code) is these instructions in a list.
+#[derive(Drop)]
+pub struct Instructions<'a> {
+    cursor: Cursor<'a>,
+}
+
+impl<'a> Model for Instructions<'a> {
+    ghost use Rattle.layout.specs.Place.{Place};
+
+    ghost Value = { Place };
+
+    ghost view = { λ s. s.cursor };
+}
+
+impl<'a> Instructions<'a> {
+    /// The instructions of this code, from its first byte on.
+    pub fn new(code: &'a [u8]) -> Self
+        ensures { result ≡ record { at = 0; rest = code.now } }
+    {
+        Instructions {
+            cursor: Cursor::new(code),
+        }
+    }
+}
+
+impl<'a> Iterator for Instructions<'a> {
+    ghost use Rattle.std.specs.Prelude.{length};
+    ghost use Rattle.std.specs.Iterator.{at_most};
+    ghost use Rattle.insn.specs.Code.{StepsThrough};
+    ghost use Rattle.insn.specs.Views.{placed};
+
+    type Item = Result<(usize, Insn<'a>), CodeFault>;
+
+    ghost next_gives = { StepsThrough placed };
+
+    ghost remaining = { λ s. at_most (length s.rest) };
+
+    fn next(&mut self) -> Option<Result<(usize, Insn<'a>), CodeFault>> {
+        if self.cursor.rest().is_empty() {
+            return None;
+        }
+        let at = self.cursor.at();
+        match read_insn(&mut self.cursor) {
+            Ok(insn) => Some(Ok((at, insn))),
+            Err(fault) => {
+                self.cursor = Cursor::new(&[]);
+                Some(Err(fault))
+            }
+        }
+    }
+}
