@@ -1,6 +1,6 @@
 //! Instructions: an opcode and what stands behind it.
 ghost use Rattle.std.specs.Prelude.{◌≡◌, true};
-ghost use Rattle.insn.specs.Code.{is_start, modified};
+ghost use Rattle.insn.specs.Code.{is_start, modified, StartsRise};
 ghost use Rattle.insn.specs.Opcodes.{mnemonic};
 ghost use Rattle.insn.specs.Views.{view, views};
 
@@ -118,33 +118,14 @@ pub fn mnemonic(insn: &Insn<'_>) -> &'static str
     modified(insn).mnemonic()
 }
 
-/// Whether an instruction of the list begins at this offset. Takes no memory. Where the list is in
-/// the order of the offsets, as [`decode_code`](crate::decode_code) gives it, a start is found by
-/// halving.
+/// Whether an instruction of the list begins at this offset. Takes no memory.
+///
+/// The list is halved, so its offsets have to rise, as those of
+/// [`decode_code`](crate::decode_code)'s list do. In any other list an instruction may be missed,
+/// and none is found that is not there.
 pub fn is_start(list: &[(u16, Insn<'_>)], at: u16) -> bool
-    ensures { result ≡ is_start (views list.now) at }
+    ensures found { result ≡ true → is_start (views list.now) at ≡ true }
+    ensures exactly { StartsRise 0 (views list.now) → result ≡ is_start (views list.now) at }
 {
-    halved(list, at) || listed(list, at)
-}
-
-/// Whether halving the list leads to the offset.
-fn halved(list: &[(u16, Insn<'_>)], at: u16) -> bool
-    ensures { result ≡ true → is_start (views list.now) at ≡ true }
-{
-    match list.binary_search_by_key(&at, |(start, _)| *start) {
-        Ok(place) => list[place].0 == at,
-        Err(_) => false,
-    }
-}
-
-/// Whether the offset stands anywhere in the list.
-fn listed(list: &[(u16, Insn<'_>)], at: u16) -> bool
-    ensures { result ≡ is_start (views list.now) at }
-{
-    for (start, _) in list {
-        if *start == at {
-            return true;
-        }
-    }
-    false
+    list.binary_search_by_key(&at, |(start, _)| *start).is_ok()
 }
