@@ -1,24 +1,28 @@
--- The keys of pairs, one after the other.
-use Rattle.std.proofs.Common.{◌≡◌, ℕ, ℤ, ◌<◌, ◌≤◌, ◌-◌, Bool, true, ◌&&◌, Option, Some, List, [], ◌∷◌, length, take, drop, get_or, refl, sym, ap, ◌∙◌, arith}
-use Rattle.std.proofs.lemmas.List.{take_all, length-drop}
+-- The pairs of a switch, one after the other.
+use Rattle.std.proofs.Common.{◌≡◌, ℕ, ℤ, ◌+◌, ◌<◌, ◌≤◌, ◌-◌, Bool, true, ◌&&◌, Option, Some, List, [], ◌∷◌, length, map, take, drop, get_or, refl, sym, ap, ◌∙◌, arith}
+use Rattle.std.proofs.lemmas.List.{take_rest}
 use Rattle.std.specs.Int.{cast_signed, w32}
 use Rattle.byteorder.specs.Endian.{big_number}
-use Rattle.insn.specs.Instructions.{keys, follows, rising_after}
+use Rattle.insn.specs.Instructions.{pairs, keys, follows, rising_after}
 
-pub keys_on : (bytes : List ℕ) → 8 ≤ length bytes
-    → keys bytes ≡ cast_signed w32 (big_number 4 (get_or bytes 0 0 ∷ get_or bytes 1 0 ∷ get_or bytes 2 0 ∷ get_or bytes 3 0 ∷ [])) ∷ keys (drop 8 bytes)
-keys_on (a ∷ b ∷ c ∷ d ∷ e ∷ f ∷ g ∷ h ∷ pairs) long = refl
-keys_on _ long = absurd (omega (arith, long))
+-- the number of four bytes from a place on
+abbrev pub number_at : List ℕ → ℕ → ℤ
+number_at bytes i = cast_signed w32 (big_number 4 (get_or bytes i 0 ∷ get_or bytes (i + 1) 0 ∷ get_or bytes (i + 2) 0 ∷ get_or bytes (i + 3) 0 ∷ []))
 
-pub keys_end : (bytes : List ℕ) → length bytes < 8 → keys bytes ≡ []
-keys_end (a ∷ b ∷ c ∷ d ∷ e ∷ f ∷ g ∷ h ∷ pairs) short = absurd (omega (arith, short))
-keys_end _ short = refl
+front : (bytes : List ℕ) → 8 ≤ length bytes → pairs bytes ≡ (number_at bytes 0, number_at bytes 4) ∷ pairs (drop 8 bytes)
+front (a ∷ b ∷ c ∷ d ∷ e ∷ f ∷ g ∷ h ∷ others) long = refl
+front _ long = absurd (omega (arith, long))
 
-pub step : (last : Option ℤ) (bytes : List ℕ) (key : ℤ) (total : Bool) → 8 ≤ length bytes
-    → key ≡ cast_signed w32 (big_number 4 (get_or bytes 0 0 ∷ get_or bytes 1 0 ∷ get_or bytes 2 0 ∷ get_or bytes 3 0 ∷ []))
-    → follows last key ≡ true → rising_after last (keys bytes) ≡ total
-    → rising_after (Some key) (keys (take (length bytes - 8) (drop 8 bytes))) ≡ total
-step last bytes key total long is over e =
-    let whole : take (length bytes - 8) (drop 8 bytes) ≡ drop 8 bytes = take_all (length bytes - 8) (drop 8 bytes) (omega (arith, length-drop 8 bytes)) in
-    let opened : rising_after last (key ∷ keys (drop 8 bytes)) ≡ total = sym (ap (rising_after last) (keys_on bytes long ∙ ap (λ k. k ∷ keys (drop 8 bytes)) (sym is))) ∙ e in
-    rw whole (sym (ap (λ (b : Bool). b && rising_after (Some key) (keys (drop 8 bytes))) over) ∙ opened)
+pub pairs_on : (bytes : List ℕ) (key offset : ℤ) → 8 ≤ length bytes → key ≡ number_at bytes 0 → offset ≡ number_at bytes 4
+    → pairs bytes ≡ (key, offset) ∷ pairs (take (length bytes - 8) (drop 8 bytes))
+pairs_on bytes key offset long k o = rw (k, o, take_rest bytes 8) (front bytes long)
+
+pub pairs_end : (bytes : List ℕ) → length bytes < 8 → pairs bytes ≡ []
+pairs_end (a ∷ b ∷ c ∷ d ∷ e ∷ f ∷ g ∷ h ∷ others) short = absurd (omega (arith, short))
+pairs_end _ short = refl
+
+pub step : (last : Option ℤ) (ps qs : List (ℤ × ℤ)) (key offset : ℤ) (total : Bool) → ps ≡ (key, offset) ∷ qs → follows last key ≡ true
+    → rising_after last (map (λ x. x.0) ps) ≡ total → rising_after (Some key) (map (λ x. x.0) qs) ≡ total
+step last ps qs key offset total is over e =
+    let opened : rising_after last (key ∷ map (λ x. x.0) qs) ≡ total = sym (ap (λ (xs : List (ℤ × ℤ)). rising_after last (map (λ x. x.0) xs)) is) ∙ e in
+    sym (ap (λ (b : Bool). b && rising_after (Some key) (map (λ x. x.0) qs)) over) ∙ opened

@@ -7,8 +7,10 @@ use Rattle.insn.specs.declared.operation.Kind.{Kind}
 use Rattle.insn.specs.declared.operation.Kind.TheVariants.{Int, Long, Float, Double}
 use Rattle.insn.specs.declared.operation.NumericOperator.{NumericOperator}
 use Rattle.insn.specs.declared.operation.NumericOperator.TheVariants.{Iadd, Ladd, Fadd, Dadd, Isub, Lsub, Fsub, Dsub, Imul, Lmul, Fmul, Dmul, Idiv, Ldiv, Fdiv, Ddiv, Irem, Lrem, Frem, Drem, Ineg, Lneg, Fneg, Dneg, Ishl, Lshl, Ishr, Lshr, Iushr, Lushr, Iand, Land, Ior, Lor, Ixor, Lxor, I2l, I2f, I2d, L2i, L2f, L2d, F2i, F2l, F2d, D2i, D2l, D2f, I2b, I2c, I2s, Lcmp, Fcmpl, Fcmpg, Dcmpl, Dcmpg}
-use Rattle.insn.specs.declared.operation.StackOperator.{StackOperator}
-use Rattle.insn.specs.declared.operation.StackOperator.TheVariants.{Pop, Pop2, Dup, DupX1, DupX2, Dup2, Dup2X1, Dup2X2, Swap}
+use Rattle.insn.specs.declared.stack.StackPlace.{StackPlace}
+use Rattle.insn.specs.declared.stack.StackPlace.TheVariants.{Narrow, Wide}
+use Rattle.insn.specs.declared.stack.StackOperator.{StackOperator}
+use Rattle.insn.specs.declared.stack.StackOperator.TheVariants.{Pop, Pop2, Dup, DupX1, DupX2, Dup2, Dup2X1, Dup2X2, Swap}
 
 -- a number of the kind takes two places: two locals, two units of the stack's depth (JVMS 2.6.1, 2.6.2)
 abbrev pub is_wide : Kind → Bool
@@ -90,11 +92,8 @@ numeric_row Dcmpg = two Double Double Int
 
 -- ---- instructions for the stack
 
--- a place of a form: an item of one unit, or one of two (JVMS 2.11.1, computational types of category 1 and 2)
-pub data StackPlace : Type 0 where
-  narrow wide : StackPlace
-
--- the places taken, the top first, and the places that stand then, each by its number among those taken
+-- the places taken, the top first, and the places that stand then, each by its number among those taken (JVMS 2.11.1,
+-- computational types of category 1 and 2)
 pub record StackForm : Type 0 where
   pub takes : List StackPlace
   pub leaves : List ℕ
@@ -104,20 +103,20 @@ stack_form takes leaves = record { takes = takes; leaves = leaves }
 
 -- the forms of an instruction, at most one of which fits what is on the stack
 abbrev pub stack_forms : StackOperator → List StackForm
-stack_forms Pop = stack_form (narrow ∷ []) [] ∷ []
-stack_forms Pop2 = stack_form (narrow ∷ narrow ∷ []) [] ∷ stack_form (wide ∷ []) [] ∷ []
-stack_forms Dup = stack_form (narrow ∷ []) (0 ∷ 0 ∷ []) ∷ []
-stack_forms DupX1 = stack_form (narrow ∷ narrow ∷ []) (0 ∷ 1 ∷ 0 ∷ []) ∷ []
-stack_forms DupX2 = stack_form (narrow ∷ narrow ∷ narrow ∷ []) (0 ∷ 1 ∷ 2 ∷ 0 ∷ []) ∷ stack_form (narrow ∷ wide ∷ []) (0 ∷ 1 ∷ 0 ∷ []) ∷ []
-stack_forms Dup2 = stack_form (narrow ∷ narrow ∷ []) (0 ∷ 1 ∷ 0 ∷ 1 ∷ []) ∷ stack_form (wide ∷ []) (0 ∷ 0 ∷ []) ∷ []
-stack_forms Dup2X1 = stack_form (narrow ∷ narrow ∷ narrow ∷ []) (0 ∷ 1 ∷ 2 ∷ 0 ∷ 1 ∷ []) ∷ stack_form (wide ∷ narrow ∷ []) (0 ∷ 1 ∷ 0 ∷ []) ∷ []
+stack_forms Pop = stack_form (Narrow ∷ []) [] ∷ []
+stack_forms Pop2 = stack_form (Narrow ∷ Narrow ∷ []) [] ∷ stack_form (Wide ∷ []) [] ∷ []
+stack_forms Dup = stack_form (Narrow ∷ []) (0 ∷ 0 ∷ []) ∷ []
+stack_forms DupX1 = stack_form (Narrow ∷ Narrow ∷ []) (0 ∷ 1 ∷ 0 ∷ []) ∷ []
+stack_forms DupX2 = stack_form (Narrow ∷ Narrow ∷ Narrow ∷ []) (0 ∷ 1 ∷ 2 ∷ 0 ∷ []) ∷ stack_form (Narrow ∷ Wide ∷ []) (0 ∷ 1 ∷ 0 ∷ []) ∷ []
+stack_forms Dup2 = stack_form (Narrow ∷ Narrow ∷ []) (0 ∷ 1 ∷ 0 ∷ 1 ∷ []) ∷ stack_form (Wide ∷ []) (0 ∷ 0 ∷ []) ∷ []
+stack_forms Dup2X1 = stack_form (Narrow ∷ Narrow ∷ Narrow ∷ []) (0 ∷ 1 ∷ 2 ∷ 0 ∷ 1 ∷ []) ∷ stack_form (Wide ∷ Narrow ∷ []) (0 ∷ 1 ∷ 0 ∷ []) ∷ []
 stack_forms Dup2X2 =
-    stack_form (narrow ∷ narrow ∷ narrow ∷ narrow ∷ []) (0 ∷ 1 ∷ 2 ∷ 3 ∷ 0 ∷ 1 ∷ [])
-    ∷ stack_form (wide ∷ narrow ∷ narrow ∷ []) (0 ∷ 1 ∷ 2 ∷ 0 ∷ [])
-    ∷ stack_form (narrow ∷ narrow ∷ wide ∷ []) (0 ∷ 1 ∷ 2 ∷ 0 ∷ 1 ∷ [])
-    ∷ stack_form (wide ∷ wide ∷ []) (0 ∷ 1 ∷ 0 ∷ [])
+    stack_form (Narrow ∷ Narrow ∷ Narrow ∷ Narrow ∷ []) (0 ∷ 1 ∷ 2 ∷ 3 ∷ 0 ∷ 1 ∷ [])
+    ∷ stack_form (Wide ∷ Narrow ∷ Narrow ∷ []) (0 ∷ 1 ∷ 2 ∷ 0 ∷ [])
+    ∷ stack_form (Narrow ∷ Narrow ∷ Wide ∷ []) (0 ∷ 1 ∷ 2 ∷ 0 ∷ 1 ∷ [])
+    ∷ stack_form (Wide ∷ Wide ∷ []) (0 ∷ 1 ∷ 0 ∷ [])
     ∷ []
-stack_forms Swap = stack_form (narrow ∷ narrow ∷ []) (1 ∷ 0 ∷ []) ∷ []
+stack_forms Swap = stack_form (Narrow ∷ Narrow ∷ []) (1 ∷ 0 ∷ []) ∷ []
 
 -- ---- arrays
 

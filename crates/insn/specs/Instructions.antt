@@ -1,7 +1,7 @@
 -- Instructions, and which bytes spell them (JVMS 6.5). An instruction is an opcode and what stands behind it. The bytes of
 -- one are a format of parts in their order; where a part shows that no instruction stands there, the format ends with the
 -- fault in place of an instruction. All depends on the offset of the instruction, since a switch is padded by it.
-use Rattle.std.specs.Prelude.{ℕ, ℤ, pos, ◌+◌, ◌-◌, ◌*◌, ◌%◌, ◌-ℤ◌, Bool, true, ◌&&◌, List, [], ◌∷◌, Option, Some, None, Result, Ok, Err, nat_eq, int_lt, if◌then◌else◌}
+use Rattle.std.specs.Prelude.{ℕ, ℤ, pos, ◌+◌, ◌-◌, ◌*◌, ◌%◌, ◌-ℤ◌, Bool, true, ◌&&◌, List, [], ◌∷◌, map, Option, Some, None, Result, Ok, Err, nat_eq, int_lt, if◌then◌else◌}
 use Rattle.std.specs.Int.{cast_signed, w8, w16, w32}
 use Rattle.std.specs.Int.RustNames.{unsigned_abs}
 use Rattle.byteorder.specs.Endian.{big_number}
@@ -58,10 +58,14 @@ padding_at at = 3 - at % 4
 abbrev pub table_length : ℤ → ℤ → ℕ
 table_length low high = unsigned_abs (high -ℤ low) + 1
 
--- the keys of pairs of a key and an offset, each of four bytes
+-- pairs of a key and an offset, of four bytes each
+abbrev pub pairs : List ℕ → List (ℤ × ℤ)
+pairs (a ∷ b ∷ c ∷ d ∷ e ∷ f ∷ g ∷ h ∷ others) =
+    (cast_signed w32 (big_number 4 (a ∷ b ∷ c ∷ d ∷ [])), cast_signed w32 (big_number 4 (e ∷ f ∷ g ∷ h ∷ []))) ∷ pairs others
+pairs _ = []
+
 abbrev pub keys : List ℕ → List ℤ
-keys (a ∷ b ∷ c ∷ d ∷ e ∷ f ∷ g ∷ h ∷ pairs) = cast_signed w32 (big_number 4 (a ∷ b ∷ c ∷ d ∷ [])) ∷ keys pairs
-keys _ = []
+keys bytes = map (λ x. x.0) (pairs bytes)
 
 -- the key is over the last one
 abbrev pub follows : Option ℤ → ℤ → Bool

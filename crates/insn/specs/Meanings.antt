@@ -1,17 +1,17 @@
 -- The meaning of an instruction, without its form (JVMS 6.5). Of numbers an act has the kind and not the value. Branches
 -- and switches have offsets from the instruction's own start.
-use Rattle.std.specs.Prelude.{ℕ, ℤ, pos, Option, Some, None, List, [], ◌∷◌, nat_eq, if◌then◌else◌}
+use Rattle.std.specs.Prelude.{ℕ, ℤ, pos, Option, Some, None, List, [], ◌∷◌, nat_eq, map, if◌then◌else◌}
 use Rattle.std.specs.Int.{cast_signed, w32}
 use Rattle.byteorder.specs.Endian.{big_number}
 use Rattle.names.specs.declared.base.Primitive.{Primitive}
 use Rattle.names.specs.declared.base.Primitive.TheVariants as primitives
 use Rattle.insn.specs.declared.operation.Kind.{Kind}
 use Rattle.insn.specs.declared.operation.NumericOperator.{NumericOperator}
-use Rattle.insn.specs.declared.operation.StackOperator.{StackOperator}
+use Rattle.insn.specs.declared.stack.StackOperator.{StackOperator}
 use Rattle.insn.specs.declared.operation.Meaning.{Meaning}
 use Rattle.insn.specs.declared.operation.Meaning.TheVariants as means
 use Rattle.insn.specs.Code.{modified}
-use Rattle.insn.specs.Instructions.{Instruction, Operands, constant, index, local, increment, branch, wide_branch, invoke_interface, invoke_dynamic, new_array, multi_new_array, table_switch, lookup_switch, wide_local, wide_increment}
+use Rattle.insn.specs.Instructions.{Instruction, Operands, pairs, constant, index, local, increment, branch, wide_branch, invoke_interface, invoke_dynamic, new_array, multi_new_array, table_switch, lookup_switch, wide_local, wide_increment}
 use Rattle.insn.specs.Opcodes.{meaning}
 
 pub data Act : Type 0 where
@@ -78,10 +78,9 @@ abbrev pub offsets : List ℕ → List ℤ
 offsets (a ∷ b ∷ c ∷ d ∷ bytes) = cast_signed w32 (big_number 4 (a ∷ b ∷ c ∷ d ∷ [])) ∷ offsets bytes
 offsets _ = []
 
--- the offsets of pairs of a key and an offset
+-- the offsets of pairs
 abbrev pub pair_offsets : List ℕ → List ℤ
-pair_offsets (a ∷ b ∷ c ∷ d ∷ e ∷ f ∷ g ∷ h ∷ pairs) = cast_signed w32 (big_number 4 (e ∷ f ∷ g ∷ h ∷ [])) ∷ pair_offsets pairs
-pair_offsets _ = []
+pair_offsets bytes = map (λ x. x.1) (pairs bytes)
 
 abbrev pub offsets_of : Operands → List ℤ
 offsets_of (table_switch padding default low high bytes) = offsets bytes

@@ -5,7 +5,7 @@ use Rattle.insn.specs.declared.operation.Kind.TheVariants as kinds
 use Rattle.insn.specs.declared.operation.Meaning.{Meaning}
 use Rattle.insn.specs.declared.operation.Meaning.TheVariants as means
 use Rattle.insn.specs.declared.operation.NumericOperator.TheVariants as numerics
-use Rattle.insn.specs.declared.operation.StackOperator.TheVariants as stacks
+use Rattle.insn.specs.declared.stack.StackOperator.TheVariants as stacks
 use Rattle.insn.specs.declared.table.Form.{Form}
 use Rattle.insn.specs.declared.table.Form.TheVariants as forms
 use Rattle.insn.specs.declared.opcode.Opcode.{Opcode}

@@ -2,8 +2,12 @@
 use Rattle.std.specs.Prelude.{ℕ, ℤ, List, map}
 use Rattle.insn.specs.declared.operation.Act.{Act}
 use Rattle.insn.specs.declared.operation.Act.TheVariants as acts
-use Rattle.insn.specs.declared.operation.Targets.{Targets}
-use Rattle.insn.specs.declared.operation.Targets.TheVariants as targets
+use Rattle.insn.specs.declared.switch.Targets.{Targets}
+use Rattle.insn.specs.declared.switch.Targets.TheVariants as targets
+use Rattle.insn.specs.declared.switch.Offsets.{Offsets}
+use Rattle.insn.specs.declared.switch.Pairs.{Pairs}
+use Rattle.insn.specs.declared.stack.StackForm as forms
+use Rattle.insn.specs.Acts.{StackForm}
 use Rattle.insn.specs.Meanings as means
 use Rattle.insn.specs.declared.instruction.Operands.{Operands}
 use Rattle.insn.specs.declared.instruction.Operands.TheVariants as operands
@@ -45,6 +49,16 @@ views xs = map placed xs
 abbrev pub targets_view : Targets → List ℤ
 targets_view (targets.Offsets bytes) = means.offsets bytes.now
 targets_view (targets.Pairs bytes) = means.pair_offsets bytes.now
+
+-- what is left of a switch's offsets, and of its pairs
+abbrev pub offsets_left : Offsets → List ℤ
+offsets_left s = targets_view s.targets
+
+abbrev pub pairs_left : Pairs → List (ℤ × ℤ)
+pairs_left s = is.pairs s.bytes.now
+
+abbrev pub stack_form_view : forms.StackForm → StackForm
+stack_form_view f = record { takes = f.takes.now; leaves = f.leaves.now }
 
 abbrev pub act_view : Act → means.Act
 act_view acts.Nothing = means.Nothing

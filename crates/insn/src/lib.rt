@@ -13,6 +13,8 @@
 //! - `opcode`: opcodes and their numbers
 //! - `operation`: operators, and what instructions may mean
 //! - `reading`: one instruction
+//! - `stack`: the instructions that move what is on the stack
+//! - `switch`: where a switch goes
 //! - `table`: the instruction set, a row for each opcode
 #![tactic(auto)]
 
@@ -25,6 +27,8 @@ mod meaning;
 mod opcode;
 mod operation;
 mod reading;
+mod stack;
+mod switch;
 mod table;
 
 pub use code_array::Instructions;
@@ -34,8 +38,10 @@ pub use instruction::{Insn, Operands, is_start, mnemonic};
 pub use laws::{code_is_one_list, opcodes_have_numbers};
 pub use meaning::act;
 pub use opcode::Opcode;
-pub use operation::{Act, Kind, Meaning, NumericOperator, StackOperator, Targets};
+pub use operation::{Act, Kind, Meaning, NumericOperator};
 pub use reading::read_insn;
+pub use stack::{StackForm, StackOperator, StackPlace};
+pub use switch::{Offsets, Pairs, Targets};
 pub use table::Form;
 
 #[cfg(test)]

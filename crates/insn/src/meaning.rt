@@ -5,7 +5,8 @@ ghost use Rattle.insn.specs.Meanings.{act, act_of, local_of, index_of, byte_of, 
 ghost use Rattle.insn.specs.Views.{view, operands_view, act_view, targets_view};
 
 use crate::instruction::{Insn, Operands, modified};
-use crate::operation::{Act, Meaning, Targets};
+use crate::operation::{Act, Meaning};
+use crate::switch::Targets;
 use names::Primitive;
 
 /// The meaning of an instruction, without its form: `iload_0`, `iload 0` and `wide iload 0` have one

@@ -2,6 +2,8 @@
 ghost use Rattle.std.specs.Prelude.{◌≡◌};
 ghost use Rattle.insn.specs.Acts.{numeric_row};
 
+use crate::stack::StackOperator;
+use crate::switch::Targets;
 use names::Primitive;
 
 /// The kinds of numbers that instructions compute with (JVMS 2.11.1).
@@ -195,39 +197,6 @@ impl NumericOperator {
             NumericOperator::Dcmpg => (&[Kind::Double, Kind::Double], Kind::Int), // dcmpg = 152 (0x98)
         }
     }
-}
-
-/// The instructions that move what is on the stack, whatever it is (JVMS 2.11.6), by their
-/// mnemonics.
-#[derive(Clone, Copy, Debug, PartialEq, Eq)]
-pub enum StackOperator {
-    /// `pop`
-    Pop,
-    /// `pop2`
-    Pop2,
-    /// `dup`
-    Dup,
-    /// `dup_x1`
-    DupX1,
-    /// `dup_x2`
-    DupX2,
-    /// `dup2`
-    Dup2,
-    /// `dup2_x1`
-    Dup2X1,
-    /// `dup2_x2`
-    Dup2X2,
-    /// `swap`
-    Swap,
-}
-
-/// What the targets of a switch are read from.
-#[derive(Clone, Copy, Debug)]
-pub enum Targets<'a> {
-    /// `tableswitch`: four bytes for each offset.
-    Offsets(&'a [u8]),
-    /// `lookupswitch`: four bytes for each key, and four for its offset.
-    Pairs(&'a [u8]),
 }
 
 /// The meaning of an instruction, without its form: `iload_0`, `iload 0` and `wide iload 0` are one

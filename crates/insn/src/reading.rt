@@ -8,8 +8,8 @@ ghost use Rattle.insn.specs.Views.{operands_view, view};
 use crate::fault::CodeFault;
 use crate::instruction::{Insn, Operands};
 use crate::opcode::Opcode;
+use crate::switch::Pairs;
 use crate::table::Form;
-use byteorder::{BigEndian, ByteOrder};
 use layout::{Cursor, ReadFault};
 
 /// A part of the instruction at `at`, which is cut where the part is not whole.
@@ -209,14 +209,11 @@ fn rising(pairs: &[u8]) -> bool
     ensures { result ≡ rising (keys pairs.now) }
 {
     let mut last = None;
-    let mut rest = pairs;
-    while let [a, b, c, d, _, _, _, _, others @ ..] = rest {
-        let key = BigEndian::read_i32(&[*a, *b, *c, *d]);
+    for (key, _) in Pairs::new(pairs) {
         if !follows(last, key) {
             return false;
         }
         last = Some(key);
-        rest = others;
     }
     true
 }

@@ -4,7 +4,8 @@ ghost use Rattle.insn.specs.Opcodes.{row, mnemonic, form, meaning, opcodes, opco
 ghost use Rattle.insn.specs.Table.{table_row, table_opcode};
 
 use crate::opcode::Opcode;
-use crate::operation::{Kind, Meaning, NumericOperator, StackOperator};
+use crate::operation::{Kind, Meaning, NumericOperator};
+use crate::stack::StackOperator;
 use names::Primitive;
 
 /// What stands behind an opcode (JVMS 6.5, "Format"). A number is signed (`s`) or unsigned (`u`),

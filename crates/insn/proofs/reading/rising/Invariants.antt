@@ -1,9 +1,7 @@
-use Rattle.std.proofs.Common.{◌≡◌, length}
+use Rattle.std.proofs.Common.{◌≡◌, map}
 use Rattle.insn.specs.Instructions.{keys, rising, rising_after}
+use Rattle.insn.specs.Views.{pairs_left}
 use Rattle.insn.proofs.reading.rising.Given as goal
 
-abbrev pub invariant-loop-rest : goal.invariant-loop-rest
-invariant-loop-rest l = rising_after l.last (keys l.rest) ≡ rising (keys l.fn.pairs)
-
-abbrev pub decreases-loop-rest : goal.decreases-loop-rest
-decreases-loop-rest l = length l.rest
+abbrev pub invariant-loop-key : goal.invariant-loop-key
+invariant-loop-key l = rising_after l.last (map (λ x. x.0) (pairs_left l.key-iterator)) ≡ rising (keys l.fn.pairs)
