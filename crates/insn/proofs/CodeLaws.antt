@@ -232,12 +232,12 @@ one_fault_behind [] [] at front behind others rest bytes e f p q c d more less h
 one_fault_behind [] (y ∷ ys) at front behind others rest bytes e f p q c d more less h k =
     let here : at + length front ≡ at = ap (λ (t : List ℕ). at + length t) c ∙ omega arith in
     let same : behind ≡ d.0 ++ (d.1 ++ rest) =
-        sym (p ∙ ap (λ (t : List ℕ). t ++ behind) c) ∙ q ∙ ap (λ (t : List ℕ). t ++ rest) d.2 ∙ append_assoc d.0 d.1 rest in
+    sym (p ∙ ap (λ (t : List ℕ). t ++ behind) c) ∙ q ∙ ap (λ (t : List ℕ). t ++ rest) d.2 ∙ append_assoc d.0 d.1 rest in
     absurd (not_both at d.0 (d.1 ++ rest) behind y.1 e d.4 same (subst (λ (n : ℕ). FaultyInstruction n behind e) here h))
 one_fault_behind (x ∷ xs) [] at front behind others rest bytes e f p q c d more less h k =
     let there : at + length others ≡ at = ap (λ (t : List ℕ). at + length t) d ∙ omega arith in
     let same : rest ≡ c.0 ++ (c.1 ++ behind) =
-        sym (q ∙ ap (λ (t : List ℕ). t ++ rest) d) ∙ p ∙ ap (λ (t : List ℕ). t ++ behind) c.2 ∙ append_assoc c.0 c.1 behind in
+    sym (q ∙ ap (λ (t : List ℕ). t ++ rest) d) ∙ p ∙ ap (λ (t : List ℕ). t ++ behind) c.2 ∙ append_assoc c.0 c.1 behind in
     absurd (not_both at c.0 (c.1 ++ behind) rest x.1 f c.4 same (subst (λ (n : ℕ). FaultyInstruction n rest f) there k))
 one_fault_behind (x ∷ xs) (y ∷ ys) at front behind others rest bytes e f p q c d more less h k =
     let left : bytes ≡ c.0 ++ (c.1 ++ behind) = p ∙ ap (λ (t : List ℕ). t ++ behind) c.2 ∙ append_assoc c.0 c.1 behind in
@@ -245,7 +245,7 @@ one_fault_behind (x ∷ xs) (y ∷ ys) at front behind others rest bytes e f p q
     let same = fronts at c.0 d.0 (c.1 ++ behind) (d.1 ++ rest) (Ok x.1) (Ok y.1) c.4 d.4 (sym left ∙ right) in
     let later : at + length front ≡ (at + length c.0) + length c.1 = ap (λ (t : List ℕ). at + length t) c.2 ∙ omega (arith, length-append c.0 c.1) in
     let further : at + length others ≡ (at + length c.0) + length d.1 =
-        ap (λ (t : List ℕ). at + length t) d.2 ∙ omega (arith, same.1, length-append d.0 d.1) in
+    ap (λ (t : List ℕ). at + length t) d.2 ∙ omega (arith, same.1, length-append d.0 d.1) in
     one_fault_behind xs ys (at + length c.0) c.1 behind d.1 rest (c.1 ++ behind) e f refl same.2 c.5
     (subst (λ (n : ℕ). SpellsCode n d.1 ys) (sym same.1) d.5) more less
     (subst (λ (n : ℕ). FaultyInstruction n behind e) later h) (subst (λ (n : ℕ). FaultyInstruction n rest f) further k)

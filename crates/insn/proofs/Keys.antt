@@ -1,9 +1,9 @@
 -- The pairs of a switch, one after the other.
-use Rattle.std.proofs.Common.{◌≡◌, ℕ, ℤ, ◌+◌, ◌<◌, ◌≤◌, ◌-◌, Bool, true, ◌&&◌, Option, Some, List, [], ◌∷◌, length, map, take, drop, get_or, refl, sym, ap, ◌∙◌, arith}
+use Rattle.std.proofs.Common.{◌≡◌, ℕ, ℤ, ◌+◌, ◌≤◌, ◌-◌, List, [], ◌∷◌, length, take, drop, get_or, refl, arith}
 use Rattle.std.proofs.lemmas.List.{take_rest}
 use Rattle.std.specs.Int.{cast_signed, w32}
 use Rattle.byteorder.specs.Endian.{big_number}
-use Rattle.insn.specs.Instructions.{pairs, keys, follows, rising_after}
+use Rattle.insn.specs.Instructions.{pairs}
 
 -- the number of four bytes from a place on
 abbrev pub number_at : List ℕ → ℕ → ℤ
@@ -16,13 +16,3 @@ front _ long = absurd (omega (arith, long))
 pub pairs_on : (bytes : List ℕ) (key offset : ℤ) → 8 ≤ length bytes → key ≡ number_at bytes 0 → offset ≡ number_at bytes 4
     → pairs bytes ≡ (key, offset) ∷ pairs (take (length bytes - 8) (drop 8 bytes))
 pairs_on bytes key offset long k o = rw (k, o, take_rest bytes 8) (front bytes long)
-
-pub pairs_end : (bytes : List ℕ) → length bytes < 8 → pairs bytes ≡ []
-pairs_end (a ∷ b ∷ c ∷ d ∷ e ∷ f ∷ g ∷ h ∷ others) short = absurd (omega (arith, short))
-pairs_end _ short = refl
-
-pub step : (last : Option ℤ) (ps qs : List (ℤ × ℤ)) (key offset : ℤ) (total : Bool) → ps ≡ (key, offset) ∷ qs → follows last key ≡ true
-    → rising_after last (map (λ x. x.0) ps) ≡ total → rising_after (Some key) (map (λ x. x.0) qs) ≡ total
-step last ps qs key offset total is over e =
-    let opened : rising_after last (key ∷ map (λ x. x.0) qs) ≡ total = sym (ap (λ (xs : List (ℤ × ℤ)). rising_after last (map (λ x. x.0) xs)) is) ∙ e in
-    sym (ap (λ (b : Bool). b && rising_after (Some key) (map (λ x. x.0) qs)) over) ∙ opened

@@ -1,5 +1,5 @@
 -- The program's table of opcodes: the row of an opcode stands at its number.
-use Rattle.std.proofs.Common.{◌≡◌, ℕ, ◌<◌, ◌≤◌, List, length, get_or, map, Option, Some, None, Bor, refl, sym, ap, ◌∙◌}
+use Rattle.std.proofs.Common.{◌≡◌, ℕ, ◌<◌, ◌≤◌, List, length, get_or, map, Option, Some, None, refl, sym, ap, ◌∙◌}
 use Rattle.std.specs.Prelude.{slice_get, slice_index_or, option_map, unwrap_or}
 use Rattle.std.proofs.lemmas.Option.{slice_get-map, slice_get_past, slice_get_read, unwrap_or-slice_get}
 use Rattle.insn.specs.declared.opcode.Opcode.{Opcode}
@@ -18,9 +18,6 @@ row_at rows n o d same is =
     let mapped : slice_get (map table_row rows) n ≡ Some (row o) = ap (λ (xs : List Row). slice_get xs n) same ∙ slice_get-map row opcodes n ∙ ap (option_map row) found in
     let there : option_map table_row (slice_get rows n) ≡ Some (row o) = sym (slice_get-map table_row rows n) ∙ mapped in
     ap table_row (sym (unwrap_or-slice_get rows n d)) ∙ some_of table_row (slice_get rows n) d (row o) there
-
-
-
 
 -- the rows have the opcodes in their order
 opcode_at : (rows : List TableRow) (n : ℕ) → map table_opcode rows ≡ opcodes → option_map table_opcode (slice_get rows n) ≡ opcode_of n

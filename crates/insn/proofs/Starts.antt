@@ -6,7 +6,6 @@ use Rattle.std.specs.Ordering.{nat_cmp, ordering_index}
 use Rattle.std.proofs.lemmas.Cmp.{ranked}
 use Rattle.std.proofs.lemmas.List.Sorted.{IsNonDecreasingBy-from_default}
 use Rattle.std.proofs.lemmas.Bool.Decides.{nat_tests}
-use Rattle.std.proofs.lemmas.Grind.{common_steps}
 use Rattle.insn.specs.declared.instruction.Insn.{Insn}
 use Rattle.insn.specs.declared.instruction.Operands.TheVariants.{Nothing}
 use Rattle.insn.specs.declared.opcode.Opcode.TheVariants.{Nop}
@@ -57,7 +56,10 @@ module _ (xs : List (ℕ × Insn)) (at : ℕ) where
   pub searched : (r : Result ℕ ℕ) → IsSearchInRange r (length xs) → IsBinarySearchResult (λ (x : ℕ × Insn). nat_cmp x.0 at) xs r
       → (is_ok r ≡ true → is_start (views xs) at ≡ true) × (StartsRise 0 (views xs) → is_ok r ≡ is_start (views xs) at)
   searched (Ok k) within equal = let found = start_at xs k at none within (ranked _ at _ (sym (equal none))) in (λ _. found, λ _. sym found)
-  searched (Err k) within parted = (λ e. absurd cc, λ r. sym (no_start xs at none (λ j lt same.
-      let below : j < k → ⊥ = λ h. absurd (omega (arith, same, ranked _ at _ (sym ((parted (rises r)).0 j none (omega arith) h)))) in
-      let above : k ≤ j → ⊥ = λ h. absurd (omega (arith, same, ranked _ at _ (sym ((parted (rises r)).1 j none h lt)))) in
-      grind (arith, below, above))))
+  searched (Err k) within parted = (
+    λ e. absurd cc,
+    λ r. sym (no_start xs at none (λ j lt same.
+        let below : j < k → ⊥ = λ h. absurd (omega (arith, same, ranked _ at _ (sym ((parted (rises r)).0 j none (omega arith) h)))) in
+        let above : k ≤ j → ⊥ = λ h. absurd (omega (arith, same, ranked _ at _ (sym ((parted (rises r)).1 j none h lt)))) in
+        grind (arith, below, above))),
+  )

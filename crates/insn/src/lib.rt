@@ -38,7 +38,7 @@ pub use instruction::{Insn, Operands, is_start, mnemonic};
 pub use laws::{code_is_one_list, opcodes_have_numbers};
 pub use meaning::act;
 pub use opcode::Opcode;
-pub use operation::{Act, Kind, Meaning, NumericOperator};
+pub use operation::{Act, Kind, Meaning, NumericOperator, takes_array};
 pub use reading::read_insn;
 pub use stack::{StackForm, StackOperator, StackPlace};
 pub use switch::{Offsets, Pairs, Targets};

@@ -1,6 +1,6 @@
 //! The meaning of an instruction, without its form.
 ghost use Rattle.std.specs.Prelude.{◌≡◌};
-ghost use Rattle.insn.specs.Acts.{numeric_row};
+ghost use Rattle.insn.specs.Acts.{is_wide, takes_array, numeric_row};
 
 use crate::stack::StackOperator;
 use crate::switch::Targets;
@@ -13,6 +13,33 @@ pub enum Kind {
     Long,
     Float,
     Double,
+}
+
+impl Kind {
+    /// Whether a number of the kind takes two places: two locals, two units of the stack's depth
+    /// (JVMS 2.6.1, 2.6.2).
+    pub fn is_wide(self) -> bool
+        ensures { result ≡ is_wide self }
+    {
+        matches!(self, Kind::Long | Kind::Double)
+    }
+}
+
+/// Whether an element instruction for the first type takes arrays of the second (JVMS 6.5): those
+/// for bytes take arrays of booleans too.
+pub fn takes_array(instruction: Primitive, element: Primitive) -> bool
+    ensures { result ≡ takes_array instruction element }
+{
+    match instruction {
+        Primitive::Byte => matches!(element, Primitive::Byte | Primitive::Boolean),
+        Primitive::Char => matches!(element, Primitive::Char),
+        Primitive::Short => matches!(element, Primitive::Short),
+        Primitive::Int => matches!(element, Primitive::Int),
+        Primitive::Long => matches!(element, Primitive::Long),
+        Primitive::Float => matches!(element, Primitive::Float),
+        Primitive::Double => matches!(element, Primitive::Double),
+        Primitive::Boolean => false,
+    }
 }
 
 /// The instructions that compute numbers from numbers (JVMS 2.11.3, 2.11.4), by their mnemonics.

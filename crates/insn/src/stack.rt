@@ -52,12 +52,10 @@ impl StackOperator {
     {
         use StackPlace::{Narrow, Wide};
         match self {
-            StackOperator::Pop => &[
-                StackForm {
-                    takes: &[Narrow],
-                    leaves: &[],
-                },
-            ],
+            StackOperator::Pop => &[StackForm {
+                takes: &[Narrow],
+                leaves: &[],
+            }],
             StackOperator::Pop2 => &[
                 StackForm {
                     takes: &[Narrow, Narrow],
@@ -68,18 +66,14 @@ impl StackOperator {
                     leaves: &[],
                 },
             ],
-            StackOperator::Dup => &[
-                StackForm {
-                    takes: &[Narrow],
-                    leaves: &[0, 0],
-                },
-            ],
-            StackOperator::DupX1 => &[
-                StackForm {
-                    takes: &[Narrow, Narrow],
-                    leaves: &[0, 1, 0],
-                },
-            ],
+            StackOperator::Dup => &[StackForm {
+                takes: &[Narrow],
+                leaves: &[0, 0],
+            }],
+            StackOperator::DupX1 => &[StackForm {
+                takes: &[Narrow, Narrow],
+                leaves: &[0, 1, 0],
+            }],
             StackOperator::DupX2 => &[
                 StackForm {
                     takes: &[Narrow, Narrow, Narrow],
@@ -128,12 +122,10 @@ impl StackOperator {
                     leaves: &[0, 1, 0],
                 },
             ],
-            StackOperator::Swap => &[
-                StackForm {
-                    takes: &[Narrow, Narrow],
-                    leaves: &[1, 0],
-                },
-            ],
+            StackOperator::Swap => &[StackForm {
+                takes: &[Narrow, Narrow],
+                leaves: &[1, 0],
+            }],
         }
     }
 }

@@ -1,4 +1,4 @@
-use Rattle.std.proofs.Common.{◌≡◌, ◌++◌, ◌∷◌, [], ℕ, ◌<◌, ◌≤◌, length, refl, sym, subst, ◌∙◌, arith}
+use Rattle.std.proofs.Common.{◌≡◌, ◌++◌, ◌∷◌, [], ℕ, refl, sym, subst, ◌∙◌, arith}
 use Rattle.std.proofs.lemmas.List.{map_push}
 use Rattle.std.proofs.lemmas.Result.{err_from_is_err_and}
 use Rattle.layout.specs.Place.{Place}
@@ -16,13 +16,13 @@ loop-step-init c =
 pub returns-in_err-at-clause-only : goal.returns-in_err-at-clause-only
 returns-in_err-at-clause-only c =
     let fault = step_fault placed c.args.code.now (views c.loop-step.list.items) c.loop-step.step-iterator c.next.new.self c.in-Some.step c.in_err-at.field-0.0
-        c.loop-step.invariant c.in-Some.ensures.steps c.in_err-at.was in
+    c.loop-step.invariant c.in-Some.ensures.steps c.in_err-at.was in
     λ xs code. absurd (code_or_fault c.args.code.now xs c.in_err-at.field-0.0 code fault)
 
 pub returns-in_err-at-clause-fault : goal.returns-in_err-at-clause-fault
 returns-in_err-at-clause-fault c =
     let fault = step_fault placed c.args.code.now (views c.loop-step.list.items) c.loop-step.step-iterator c.next.new.self c.in-Some.step c.in_err-at.field-0.0
-        c.loop-step.invariant c.in-Some.ensures.steps c.in_err-at.was in
+    c.loop-step.invariant c.in-Some.ensures.steps c.in_err-at.was in
     let p = err_from_is_err_and c.from_residual.result c.from_residual.ensures.1 in
     rw (p.1, p.2) (unless_memory c.in_err-at.field-0.0 fault)
 

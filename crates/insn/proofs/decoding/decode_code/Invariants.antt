@@ -1,4 +1,3 @@
-use Rattle.std.proofs.Common.{◌≡◌, ◌<◌}
 use Rattle.insn.specs.Views.{views}
 use Rattle.insn.proofs.CodeLaws.{SoFar}
 use Rattle.insn.proofs.decoding.decode_code.Given as goal

@@ -3,14 +3,9 @@ use Rattle.std.proofs.lemmas.List.Sorted.{answers_always}
 use Rattle.insn.proofs.Starts.{searched}
 use Rattle.insn.proofs.instruction.is_start.Goals as goal
 
-pub returns-clause-found : goal.returns-clause-found
-returns-clause-found c =
+pub returns : goal.returns
+returns c =
     let facts = c.binary_search_by_key.ensures in
     let by_start = facts.position (λ x. x.0) (answers_always _ _ _ (λ f a r g called. search rules)) in
-    rw c.is_ok.ensures.value (searched c.args.list.now c.args.at c.binary_search_by_key.result facts.bound by_start).0
-
-pub returns-clause-exactly : goal.returns-clause-exactly
-returns-clause-exactly c =
-    let facts = c.binary_search_by_key.ensures in
-    let by_start = facts.position (λ x. x.0) (answers_always _ _ _ (λ f a r g called. search rules)) in
-    rw c.is_ok.ensures.value (searched c.args.list.now c.args.at c.binary_search_by_key.result facts.bound by_start).1
+    let answers = searched c.args.list.now c.args.at c.binary_search_by_key.result facts.bound by_start in
+    record { found = rw c.is_ok.ensures.value answers.0; exactly = rw c.is_ok.ensures.value answers.1 }

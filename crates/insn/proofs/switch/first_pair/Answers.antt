@@ -1,4 +1,4 @@
-use Rattle.std.proofs.Common.{rules, arith, SFits, w32, ◌∙◌}
+use Rattle.std.proofs.Common.{rules, SFits, w32, ◌∙◌}
 use Rattle.std.proofs.lemmas.Int.{to_z-of_z}
 use Rattle.insn.proofs.Keys.{pairs_on}
 use Rattle.insn.proofs.switch.first_pair.Goals as goal

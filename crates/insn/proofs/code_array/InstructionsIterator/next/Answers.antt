@@ -1,4 +1,4 @@
-use Rattle.std.proofs.Common.{ℕ, ◌<◌, length, subst}
+use Rattle.std.proofs.Common.{◌<◌, length, subst}
 use Rattle.layout.specs.Place.{Place}
 use Rattle.insn.specs.Views.{view}
 use Rattle.insn.proofs.CodeLaws.{shorter}

@@ -1,4 +1,4 @@
-use Rattle.std.proofs.Common.{sym, ◌∙◌}
+use Rattle.std.proofs.Common.{◌∙◌}
 use Rattle.insn.proofs.Rows.{opcode_there, no_opcode}
 use Rattle.insn.proofs.opcode.Opcode.from_number.Goals as goal
 
