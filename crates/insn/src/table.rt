@@ -50,1081 +50,218 @@ pub enum Form {
 /// means.
 type Row = (Opcode, &'static str, Form, Meaning);
 
+/// The rows of a table that is written one row a line.
+macro_rules! rows {
+    ($($opcode:ident $mnemonic:literal $form:ident $meaning:expr;)*) => {
+        [$((Opcode::$opcode, $mnemonic, Form::$form, $meaning)),*]
+    };
+}
+
 /// The rows in the order of the opcodes' numbers.
-static ROWS: [Row; 202] = [
-    (Opcode::Nop, "nop", Form::Nothing, Meaning::Nothing),
-    (
-        Opcode::AconstNull,
-        "aconst_null",
-        Form::Nothing,
-        Meaning::ConstantNull,
-    ),
-    (
-        Opcode::IconstM1,
-        "iconst_m1",
-        Form::Nothing,
-        Meaning::Constant(Kind::Int),
-    ),
-    (
-        Opcode::Iconst0,
-        "iconst_0",
-        Form::Nothing,
-        Meaning::Constant(Kind::Int),
-    ),
-    (
-        Opcode::Iconst1,
-        "iconst_1",
-        Form::Nothing,
-        Meaning::Constant(Kind::Int),
-    ),
-    (
-        Opcode::Iconst2,
-        "iconst_2",
-        Form::Nothing,
-        Meaning::Constant(Kind::Int),
-    ),
-    (
-        Opcode::Iconst3,
-        "iconst_3",
-        Form::Nothing,
-        Meaning::Constant(Kind::Int),
-    ),
-    (
-        Opcode::Iconst4,
-        "iconst_4",
-        Form::Nothing,
-        Meaning::Constant(Kind::Int),
-    ),
-    (
-        Opcode::Iconst5,
-        "iconst_5",
-        Form::Nothing,
-        Meaning::Constant(Kind::Int),
-    ),
-    (
-        Opcode::Lconst0,
-        "lconst_0",
-        Form::Nothing,
-        Meaning::Constant(Kind::Long),
-    ),
-    (
-        Opcode::Lconst1,
-        "lconst_1",
-        Form::Nothing,
-        Meaning::Constant(Kind::Long),
-    ),
-    (
-        Opcode::Fconst0,
-        "fconst_0",
-        Form::Nothing,
-        Meaning::Constant(Kind::Float),
-    ),
-    (
-        Opcode::Fconst1,
-        "fconst_1",
-        Form::Nothing,
-        Meaning::Constant(Kind::Float),
-    ),
-    (
-        Opcode::Fconst2,
-        "fconst_2",
-        Form::Nothing,
-        Meaning::Constant(Kind::Float),
-    ),
-    (
-        Opcode::Dconst0,
-        "dconst_0",
-        Form::Nothing,
-        Meaning::Constant(Kind::Double),
-    ),
-    (
-        Opcode::Dconst1,
-        "dconst_1",
-        Form::Nothing,
-        Meaning::Constant(Kind::Double),
-    ),
-    (
-        Opcode::Bipush,
-        "bipush",
-        Form::Byte,
-        Meaning::Constant(Kind::Int),
-    ),
-    (
-        Opcode::Sipush,
-        "sipush",
-        Form::Short,
-        Meaning::Constant(Kind::Int),
-    ),
-    (Opcode::Ldc, "ldc", Form::Constant, Meaning::LoadConstant),
-    (Opcode::LdcW, "ldc_w", Form::Index, Meaning::LoadConstant),
-    (
-        Opcode::Ldc2W,
-        "ldc2_w",
-        Form::Index,
-        Meaning::LoadWideConstant,
-    ),
-    (
-        Opcode::Iload,
-        "iload",
-        Form::Local,
-        Meaning::Load(Kind::Int),
-    ),
-    (
-        Opcode::Lload,
-        "lload",
-        Form::Local,
-        Meaning::Load(Kind::Long),
-    ),
-    (
-        Opcode::Fload,
-        "fload",
-        Form::Local,
-        Meaning::Load(Kind::Float),
-    ),
-    (
-        Opcode::Dload,
-        "dload",
-        Form::Local,
-        Meaning::Load(Kind::Double),
-    ),
-    (Opcode::Aload, "aload", Form::Local, Meaning::LoadReference),
-    (
-        Opcode::Iload0,
-        "iload_0",
-        Form::Nothing,
-        Meaning::LoadFrom(Kind::Int, 0),
-    ),
-    (
-        Opcode::Iload1,
-        "iload_1",
-        Form::Nothing,
-        Meaning::LoadFrom(Kind::Int, 1),
-    ),
-    (
-        Opcode::Iload2,
-        "iload_2",
-        Form::Nothing,
-        Meaning::LoadFrom(Kind::Int, 2),
-    ),
-    (
-        Opcode::Iload3,
-        "iload_3",
-        Form::Nothing,
-        Meaning::LoadFrom(Kind::Int, 3),
-    ),
-    (
-        Opcode::Lload0,
-        "lload_0",
-        Form::Nothing,
-        Meaning::LoadFrom(Kind::Long, 0),
-    ),
-    (
-        Opcode::Lload1,
-        "lload_1",
-        Form::Nothing,
-        Meaning::LoadFrom(Kind::Long, 1),
-    ),
-    (
-        Opcode::Lload2,
-        "lload_2",
-        Form::Nothing,
-        Meaning::LoadFrom(Kind::Long, 2),
-    ),
-    (
-        Opcode::Lload3,
-        "lload_3",
-        Form::Nothing,
-        Meaning::LoadFrom(Kind::Long, 3),
-    ),
-    (
-        Opcode::Fload0,
-        "fload_0",
-        Form::Nothing,
-        Meaning::LoadFrom(Kind::Float, 0),
-    ),
-    (
-        Opcode::Fload1,
-        "fload_1",
-        Form::Nothing,
-        Meaning::LoadFrom(Kind::Float, 1),
-    ),
-    (
-        Opcode::Fload2,
-        "fload_2",
-        Form::Nothing,
-        Meaning::LoadFrom(Kind::Float, 2),
-    ),
-    (
-        Opcode::Fload3,
-        "fload_3",
-        Form::Nothing,
-        Meaning::LoadFrom(Kind::Float, 3),
-    ),
-    (
-        Opcode::Dload0,
-        "dload_0",
-        Form::Nothing,
-        Meaning::LoadFrom(Kind::Double, 0),
-    ),
-    (
-        Opcode::Dload1,
-        "dload_1",
-        Form::Nothing,
-        Meaning::LoadFrom(Kind::Double, 1),
-    ),
-    (
-        Opcode::Dload2,
-        "dload_2",
-        Form::Nothing,
-        Meaning::LoadFrom(Kind::Double, 2),
-    ),
-    (
-        Opcode::Dload3,
-        "dload_3",
-        Form::Nothing,
-        Meaning::LoadFrom(Kind::Double, 3),
-    ),
-    (
-        Opcode::Aload0,
-        "aload_0",
-        Form::Nothing,
-        Meaning::LoadReferenceFrom(0),
-    ),
-    (
-        Opcode::Aload1,
-        "aload_1",
-        Form::Nothing,
-        Meaning::LoadReferenceFrom(1),
-    ),
-    (
-        Opcode::Aload2,
-        "aload_2",
-        Form::Nothing,
-        Meaning::LoadReferenceFrom(2),
-    ),
-    (
-        Opcode::Aload3,
-        "aload_3",
-        Form::Nothing,
-        Meaning::LoadReferenceFrom(3),
-    ),
-    (
-        Opcode::Iaload,
-        "iaload",
-        Form::Nothing,
-        Meaning::LoadElement(Primitive::Int),
-    ),
-    (
-        Opcode::Laload,
-        "laload",
-        Form::Nothing,
-        Meaning::LoadElement(Primitive::Long),
-    ),
-    (
-        Opcode::Faload,
-        "faload",
-        Form::Nothing,
-        Meaning::LoadElement(Primitive::Float),
-    ),
-    (
-        Opcode::Daload,
-        "daload",
-        Form::Nothing,
-        Meaning::LoadElement(Primitive::Double),
-    ),
-    (
-        Opcode::Aaload,
-        "aaload",
-        Form::Nothing,
-        Meaning::LoadReferenceElement,
-    ),
-    (
-        Opcode::Baload,
-        "baload",
-        Form::Nothing,
-        Meaning::LoadElement(Primitive::Byte),
-    ),
-    (
-        Opcode::Caload,
-        "caload",
-        Form::Nothing,
-        Meaning::LoadElement(Primitive::Char),
-    ),
-    (
-        Opcode::Saload,
-        "saload",
-        Form::Nothing,
-        Meaning::LoadElement(Primitive::Short),
-    ),
-    (
-        Opcode::Istore,
-        "istore",
-        Form::Local,
-        Meaning::Store(Kind::Int),
-    ),
-    (
-        Opcode::Lstore,
-        "lstore",
-        Form::Local,
-        Meaning::Store(Kind::Long),
-    ),
-    (
-        Opcode::Fstore,
-        "fstore",
-        Form::Local,
-        Meaning::Store(Kind::Float),
-    ),
-    (
-        Opcode::Dstore,
-        "dstore",
-        Form::Local,
-        Meaning::Store(Kind::Double),
-    ),
-    (
-        Opcode::Astore,
-        "astore",
-        Form::Local,
-        Meaning::StoreReference,
-    ),
-    (
-        Opcode::Istore0,
-        "istore_0",
-        Form::Nothing,
-        Meaning::StoreTo(Kind::Int, 0),
-    ),
-    (
-        Opcode::Istore1,
-        "istore_1",
-        Form::Nothing,
-        Meaning::StoreTo(Kind::Int, 1),
-    ),
-    (
-        Opcode::Istore2,
-        "istore_2",
-        Form::Nothing,
-        Meaning::StoreTo(Kind::Int, 2),
-    ),
-    (
-        Opcode::Istore3,
-        "istore_3",
-        Form::Nothing,
-        Meaning::StoreTo(Kind::Int, 3),
-    ),
-    (
-        Opcode::Lstore0,
-        "lstore_0",
-        Form::Nothing,
-        Meaning::StoreTo(Kind::Long, 0),
-    ),
-    (
-        Opcode::Lstore1,
-        "lstore_1",
-        Form::Nothing,
-        Meaning::StoreTo(Kind::Long, 1),
-    ),
-    (
-        Opcode::Lstore2,
-        "lstore_2",
-        Form::Nothing,
-        Meaning::StoreTo(Kind::Long, 2),
-    ),
-    (
-        Opcode::Lstore3,
-        "lstore_3",
-        Form::Nothing,
-        Meaning::StoreTo(Kind::Long, 3),
-    ),
-    (
-        Opcode::Fstore0,
-        "fstore_0",
-        Form::Nothing,
-        Meaning::StoreTo(Kind::Float, 0),
-    ),
-    (
-        Opcode::Fstore1,
-        "fstore_1",
-        Form::Nothing,
-        Meaning::StoreTo(Kind::Float, 1),
-    ),
-    (
-        Opcode::Fstore2,
-        "fstore_2",
-        Form::Nothing,
-        Meaning::StoreTo(Kind::Float, 2),
-    ),
-    (
-        Opcode::Fstore3,
-        "fstore_3",
-        Form::Nothing,
-        Meaning::StoreTo(Kind::Float, 3),
-    ),
-    (
-        Opcode::Dstore0,
-        "dstore_0",
-        Form::Nothing,
-        Meaning::StoreTo(Kind::Double, 0),
-    ),
-    (
-        Opcode::Dstore1,
-        "dstore_1",
-        Form::Nothing,
-        Meaning::StoreTo(Kind::Double, 1),
-    ),
-    (
-        Opcode::Dstore2,
-        "dstore_2",
-        Form::Nothing,
-        Meaning::StoreTo(Kind::Double, 2),
-    ),
-    (
-        Opcode::Dstore3,
-        "dstore_3",
-        Form::Nothing,
-        Meaning::StoreTo(Kind::Double, 3),
-    ),
-    (
-        Opcode::Astore0,
-        "astore_0",
-        Form::Nothing,
-        Meaning::StoreReferenceTo(0),
-    ),
-    (
-        Opcode::Astore1,
-        "astore_1",
-        Form::Nothing,
-        Meaning::StoreReferenceTo(1),
-    ),
-    (
-        Opcode::Astore2,
-        "astore_2",
-        Form::Nothing,
-        Meaning::StoreReferenceTo(2),
-    ),
-    (
-        Opcode::Astore3,
-        "astore_3",
-        Form::Nothing,
-        Meaning::StoreReferenceTo(3),
-    ),
-    (
-        Opcode::Iastore,
-        "iastore",
-        Form::Nothing,
-        Meaning::StoreElement(Primitive::Int),
-    ),
-    (
-        Opcode::Lastore,
-        "lastore",
-        Form::Nothing,
-        Meaning::StoreElement(Primitive::Long),
-    ),
-    (
-        Opcode::Fastore,
-        "fastore",
-        Form::Nothing,
-        Meaning::StoreElement(Primitive::Float),
-    ),
-    (
-        Opcode::Dastore,
-        "dastore",
-        Form::Nothing,
-        Meaning::StoreElement(Primitive::Double),
-    ),
-    (
-        Opcode::Aastore,
-        "aastore",
-        Form::Nothing,
-        Meaning::StoreReferenceElement,
-    ),
-    (
-        Opcode::Bastore,
-        "bastore",
-        Form::Nothing,
-        Meaning::StoreElement(Primitive::Byte),
-    ),
-    (
-        Opcode::Castore,
-        "castore",
-        Form::Nothing,
-        Meaning::StoreElement(Primitive::Char),
-    ),
-    (
-        Opcode::Sastore,
-        "sastore",
-        Form::Nothing,
-        Meaning::StoreElement(Primitive::Short),
-    ),
-    (
-        Opcode::Pop,
-        "pop",
-        Form::Nothing,
-        Meaning::Stack(StackOperator::Pop),
-    ),
-    (
-        Opcode::Pop2,
-        "pop2",
-        Form::Nothing,
-        Meaning::Stack(StackOperator::Pop2),
-    ),
-    (
-        Opcode::Dup,
-        "dup",
-        Form::Nothing,
-        Meaning::Stack(StackOperator::Dup),
-    ),
-    (
-        Opcode::DupX1,
-        "dup_x1",
-        Form::Nothing,
-        Meaning::Stack(StackOperator::DupX1),
-    ),
-    (
-        Opcode::DupX2,
-        "dup_x2",
-        Form::Nothing,
-        Meaning::Stack(StackOperator::DupX2),
-    ),
-    (
-        Opcode::Dup2,
-        "dup2",
-        Form::Nothing,
-        Meaning::Stack(StackOperator::Dup2),
-    ),
-    (
-        Opcode::Dup2X1,
-        "dup2_x1",
-        Form::Nothing,
-        Meaning::Stack(StackOperator::Dup2X1),
-    ),
-    (
-        Opcode::Dup2X2,
-        "dup2_x2",
-        Form::Nothing,
-        Meaning::Stack(StackOperator::Dup2X2),
-    ),
-    (
-        Opcode::Swap,
-        "swap",
-        Form::Nothing,
-        Meaning::Stack(StackOperator::Swap),
-    ),
-    (
-        Opcode::Iadd,
-        "iadd",
-        Form::Nothing,
-        Meaning::Numeric(NumericOperator::Iadd),
-    ),
-    (
-        Opcode::Ladd,
-        "ladd",
-        Form::Nothing,
-        Meaning::Numeric(NumericOperator::Ladd),
-    ),
-    (
-        Opcode::Fadd,
-        "fadd",
-        Form::Nothing,
-        Meaning::Numeric(NumericOperator::Fadd),
-    ),
-    (
-        Opcode::Dadd,
-        "dadd",
-        Form::Nothing,
-        Meaning::Numeric(NumericOperator::Dadd),
-    ),
-    (
-        Opcode::Isub,
-        "isub",
-        Form::Nothing,
-        Meaning::Numeric(NumericOperator::Isub),
-    ),
-    (
-        Opcode::Lsub,
-        "lsub",
-        Form::Nothing,
-        Meaning::Numeric(NumericOperator::Lsub),
-    ),
-    (
-        Opcode::Fsub,
-        "fsub",
-        Form::Nothing,
-        Meaning::Numeric(NumericOperator::Fsub),
-    ),
-    (
-        Opcode::Dsub,
-        "dsub",
-        Form::Nothing,
-        Meaning::Numeric(NumericOperator::Dsub),
-    ),
-    (
-        Opcode::Imul,
-        "imul",
-        Form::Nothing,
-        Meaning::Numeric(NumericOperator::Imul),
-    ),
-    (
-        Opcode::Lmul,
-        "lmul",
-        Form::Nothing,
-        Meaning::Numeric(NumericOperator::Lmul),
-    ),
-    (
-        Opcode::Fmul,
-        "fmul",
-        Form::Nothing,
-        Meaning::Numeric(NumericOperator::Fmul),
-    ),
-    (
-        Opcode::Dmul,
-        "dmul",
-        Form::Nothing,
-        Meaning::Numeric(NumericOperator::Dmul),
-    ),
-    (
-        Opcode::Idiv,
-        "idiv",
-        Form::Nothing,
-        Meaning::Numeric(NumericOperator::Idiv),
-    ),
-    (
-        Opcode::Ldiv,
-        "ldiv",
-        Form::Nothing,
-        Meaning::Numeric(NumericOperator::Ldiv),
-    ),
-    (
-        Opcode::Fdiv,
-        "fdiv",
-        Form::Nothing,
-        Meaning::Numeric(NumericOperator::Fdiv),
-    ),
-    (
-        Opcode::Ddiv,
-        "ddiv",
-        Form::Nothing,
-        Meaning::Numeric(NumericOperator::Ddiv),
-    ),
-    (
-        Opcode::Irem,
-        "irem",
-        Form::Nothing,
-        Meaning::Numeric(NumericOperator::Irem),
-    ),
-    (
-        Opcode::Lrem,
-        "lrem",
-        Form::Nothing,
-        Meaning::Numeric(NumericOperator::Lrem),
-    ),
-    (
-        Opcode::Frem,
-        "frem",
-        Form::Nothing,
-        Meaning::Numeric(NumericOperator::Frem),
-    ),
-    (
-        Opcode::Drem,
-        "drem",
-        Form::Nothing,
-        Meaning::Numeric(NumericOperator::Drem),
-    ),
-    (
-        Opcode::Ineg,
-        "ineg",
-        Form::Nothing,
-        Meaning::Numeric(NumericOperator::Ineg),
-    ),
-    (
-        Opcode::Lneg,
-        "lneg",
-        Form::Nothing,
-        Meaning::Numeric(NumericOperator::Lneg),
-    ),
-    (
-        Opcode::Fneg,
-        "fneg",
-        Form::Nothing,
-        Meaning::Numeric(NumericOperator::Fneg),
-    ),
-    (
-        Opcode::Dneg,
-        "dneg",
-        Form::Nothing,
-        Meaning::Numeric(NumericOperator::Dneg),
-    ),
-    (
-        Opcode::Ishl,
-        "ishl",
-        Form::Nothing,
-        Meaning::Numeric(NumericOperator::Ishl),
-    ),
-    (
-        Opcode::Lshl,
-        "lshl",
-        Form::Nothing,
-        Meaning::Numeric(NumericOperator::Lshl),
-    ),
-    (
-        Opcode::Ishr,
-        "ishr",
-        Form::Nothing,
-        Meaning::Numeric(NumericOperator::Ishr),
-    ),
-    (
-        Opcode::Lshr,
-        "lshr",
-        Form::Nothing,
-        Meaning::Numeric(NumericOperator::Lshr),
-    ),
-    (
-        Opcode::Iushr,
-        "iushr",
-        Form::Nothing,
-        Meaning::Numeric(NumericOperator::Iushr),
-    ),
-    (
-        Opcode::Lushr,
-        "lushr",
-        Form::Nothing,
-        Meaning::Numeric(NumericOperator::Lushr),
-    ),
-    (
-        Opcode::Iand,
-        "iand",
-        Form::Nothing,
-        Meaning::Numeric(NumericOperator::Iand),
-    ),
-    (
-        Opcode::Land,
-        "land",
-        Form::Nothing,
-        Meaning::Numeric(NumericOperator::Land),
-    ),
-    (
-        Opcode::Ior,
-        "ior",
-        Form::Nothing,
-        Meaning::Numeric(NumericOperator::Ior),
-    ),
-    (
-        Opcode::Lor,
-        "lor",
-        Form::Nothing,
-        Meaning::Numeric(NumericOperator::Lor),
-    ),
-    (
-        Opcode::Ixor,
-        "ixor",
-        Form::Nothing,
-        Meaning::Numeric(NumericOperator::Ixor),
-    ),
-    (
-        Opcode::Lxor,
-        "lxor",
-        Form::Nothing,
-        Meaning::Numeric(NumericOperator::Lxor),
-    ),
-    (Opcode::Iinc, "iinc", Form::Increment, Meaning::Increment),
-    (
-        Opcode::I2l,
-        "i2l",
-        Form::Nothing,
-        Meaning::Numeric(NumericOperator::I2l),
-    ),
-    (
-        Opcode::I2f,
-        "i2f",
-        Form::Nothing,
-        Meaning::Numeric(NumericOperator::I2f),
-    ),
-    (
-        Opcode::I2d,
-        "i2d",
-        Form::Nothing,
-        Meaning::Numeric(NumericOperator::I2d),
-    ),
-    (
-        Opcode::L2i,
-        "l2i",
-        Form::Nothing,
-        Meaning::Numeric(NumericOperator::L2i),
-    ),
-    (
-        Opcode::L2f,
-        "l2f",
-        Form::Nothing,
-        Meaning::Numeric(NumericOperator::L2f),
-    ),
-    (
-        Opcode::L2d,
-        "l2d",
-        Form::Nothing,
-        Meaning::Numeric(NumericOperator::L2d),
-    ),
-    (
-        Opcode::F2i,
-        "f2i",
-        Form::Nothing,
-        Meaning::Numeric(NumericOperator::F2i),
-    ),
-    (
-        Opcode::F2l,
-        "f2l",
-        Form::Nothing,
-        Meaning::Numeric(NumericOperator::F2l),
-    ),
-    (
-        Opcode::F2d,
-        "f2d",
-        Form::Nothing,
-        Meaning::Numeric(NumericOperator::F2d),
-    ),
-    (
-        Opcode::D2i,
-        "d2i",
-        Form::Nothing,
-        Meaning::Numeric(NumericOperator::D2i),
-    ),
-    (
-        Opcode::D2l,
-        "d2l",
-        Form::Nothing,
-        Meaning::Numeric(NumericOperator::D2l),
-    ),
-    (
-        Opcode::D2f,
-        "d2f",
-        Form::Nothing,
-        Meaning::Numeric(NumericOperator::D2f),
-    ),
-    (
-        Opcode::I2b,
-        "i2b",
-        Form::Nothing,
-        Meaning::Numeric(NumericOperator::I2b),
-    ),
-    (
-        Opcode::I2c,
-        "i2c",
-        Form::Nothing,
-        Meaning::Numeric(NumericOperator::I2c),
-    ),
-    (
-        Opcode::I2s,
-        "i2s",
-        Form::Nothing,
-        Meaning::Numeric(NumericOperator::I2s),
-    ),
-    (
-        Opcode::Lcmp,
-        "lcmp",
-        Form::Nothing,
-        Meaning::Numeric(NumericOperator::Lcmp),
-    ),
-    (
-        Opcode::Fcmpl,
-        "fcmpl",
-        Form::Nothing,
-        Meaning::Numeric(NumericOperator::Fcmpl),
-    ),
-    (
-        Opcode::Fcmpg,
-        "fcmpg",
-        Form::Nothing,
-        Meaning::Numeric(NumericOperator::Fcmpg),
-    ),
-    (
-        Opcode::Dcmpl,
-        "dcmpl",
-        Form::Nothing,
-        Meaning::Numeric(NumericOperator::Dcmpl),
-    ),
-    (
-        Opcode::Dcmpg,
-        "dcmpg",
-        Form::Nothing,
-        Meaning::Numeric(NumericOperator::Dcmpg),
-    ),
-    (Opcode::Ifeq, "ifeq", Form::Branch, Meaning::IfInt),
-    (Opcode::Ifne, "ifne", Form::Branch, Meaning::IfInt),
-    (Opcode::Iflt, "iflt", Form::Branch, Meaning::IfInt),
-    (Opcode::Ifge, "ifge", Form::Branch, Meaning::IfInt),
-    (Opcode::Ifgt, "ifgt", Form::Branch, Meaning::IfInt),
-    (Opcode::Ifle, "ifle", Form::Branch, Meaning::IfInt),
-    (Opcode::IfIcmpeq, "if_icmpeq", Form::Branch, Meaning::IfInts),
-    (Opcode::IfIcmpne, "if_icmpne", Form::Branch, Meaning::IfInts),
-    (Opcode::IfIcmplt, "if_icmplt", Form::Branch, Meaning::IfInts),
-    (Opcode::IfIcmpge, "if_icmpge", Form::Branch, Meaning::IfInts),
-    (Opcode::IfIcmpgt, "if_icmpgt", Form::Branch, Meaning::IfInts),
-    (Opcode::IfIcmple, "if_icmple", Form::Branch, Meaning::IfInts),
-    (
-        Opcode::IfAcmpeq,
-        "if_acmpeq",
-        Form::Branch,
-        Meaning::IfReferences,
-    ),
-    (
-        Opcode::IfAcmpne,
-        "if_acmpne",
-        Form::Branch,
-        Meaning::IfReferences,
-    ),
-    (Opcode::Goto, "goto", Form::Branch, Meaning::Goto),
-    (Opcode::Jsr, "jsr", Form::Branch, Meaning::Unsupported),
-    (Opcode::Ret, "ret", Form::Local, Meaning::Unsupported),
-    (
-        Opcode::Tableswitch,
-        "tableswitch",
-        Form::TableSwitch,
-        Meaning::Switch,
-    ),
-    (
-        Opcode::Lookupswitch,
-        "lookupswitch",
-        Form::LookupSwitch,
-        Meaning::Switch,
-    ),
-    (
-        Opcode::Ireturn,
-        "ireturn",
-        Form::Nothing,
-        Meaning::Return(Kind::Int),
-    ),
-    (
-        Opcode::Lreturn,
-        "lreturn",
-        Form::Nothing,
-        Meaning::Return(Kind::Long),
-    ),
-    (
-        Opcode::Freturn,
-        "freturn",
-        Form::Nothing,
-        Meaning::Return(Kind::Float),
-    ),
-    (
-        Opcode::Dreturn,
-        "dreturn",
-        Form::Nothing,
-        Meaning::Return(Kind::Double),
-    ),
-    (
-        Opcode::Areturn,
-        "areturn",
-        Form::Nothing,
-        Meaning::ReturnReference,
-    ),
-    (Opcode::Return, "return", Form::Nothing, Meaning::ReturnVoid),
-    (
-        Opcode::Getstatic,
-        "getstatic",
-        Form::Index,
-        Meaning::GetStatic,
-    ),
-    (
-        Opcode::Putstatic,
-        "putstatic",
-        Form::Index,
-        Meaning::PutStatic,
-    ),
-    (Opcode::Getfield, "getfield", Form::Index, Meaning::GetField),
-    (Opcode::Putfield, "putfield", Form::Index, Meaning::PutField),
-    (
-        Opcode::Invokevirtual,
-        "invokevirtual",
-        Form::Index,
-        Meaning::InvokeVirtual,
-    ),
-    (
-        Opcode::Invokespecial,
-        "invokespecial",
-        Form::Index,
-        Meaning::InvokeSpecial,
-    ),
-    (
-        Opcode::Invokestatic,
-        "invokestatic",
-        Form::Index,
-        Meaning::InvokeStatic,
-    ),
-    (
-        Opcode::Invokeinterface,
-        "invokeinterface",
-        Form::InvokeInterface,
-        Meaning::InvokeInterface,
-    ),
-    (
-        Opcode::Invokedynamic,
-        "invokedynamic",
-        Form::InvokeDynamic,
-        Meaning::Unsupported,
-    ),
-    (Opcode::New, "new", Form::Index, Meaning::New),
-    (
-        Opcode::Newarray,
-        "newarray",
-        Form::NewArray,
-        Meaning::NewArray,
-    ),
-    (
-        Opcode::Anewarray,
-        "anewarray",
-        Form::Index,
-        Meaning::NewReferenceArray,
-    ),
-    (
-        Opcode::Arraylength,
-        "arraylength",
-        Form::Nothing,
-        Meaning::ArrayLength,
-    ),
-    (Opcode::Athrow, "athrow", Form::Nothing, Meaning::Throw),
-    (
-        Opcode::Checkcast,
-        "checkcast",
-        Form::Index,
-        Meaning::CheckCast,
-    ),
-    (
-        Opcode::Instanceof,
-        "instanceof",
-        Form::Index,
-        Meaning::InstanceOf,
-    ),
-    (
-        Opcode::Monitorenter,
-        "monitorenter",
-        Form::Nothing,
-        Meaning::Monitor,
-    ),
-    (
-        Opcode::Monitorexit,
-        "monitorexit",
-        Form::Nothing,
-        Meaning::Monitor,
-    ),
-    (Opcode::Wide, "wide", Form::Wide, Meaning::Unsupported),
-    (
-        Opcode::Multianewarray,
-        "multianewarray",
-        Form::MultiNewArray,
-        Meaning::NewMultiArray,
-    ),
-    (Opcode::Ifnull, "ifnull", Form::Branch, Meaning::IfNull),
-    (
-        Opcode::Ifnonnull,
-        "ifnonnull",
-        Form::Branch,
-        Meaning::IfNull,
-    ),
-    (Opcode::GotoW, "goto_w", Form::WideBranch, Meaning::Goto),
-    (
-        Opcode::JsrW,
-        "jsr_w",
-        Form::WideBranch,
-        Meaning::Unsupported,
-    ),
-];
+static ROWS: [Row; 202] = rows! {
+    Nop             "nop"             Nothing         Meaning::Nothing;
+    AconstNull      "aconst_null"     Nothing         Meaning::ConstantNull;
+    IconstM1        "iconst_m1"       Nothing         Meaning::Constant(Kind::Int);
+    Iconst0         "iconst_0"        Nothing         Meaning::Constant(Kind::Int);
+    Iconst1         "iconst_1"        Nothing         Meaning::Constant(Kind::Int);
+    Iconst2         "iconst_2"        Nothing         Meaning::Constant(Kind::Int);
+    Iconst3         "iconst_3"        Nothing         Meaning::Constant(Kind::Int);
+    Iconst4         "iconst_4"        Nothing         Meaning::Constant(Kind::Int);
+    Iconst5         "iconst_5"        Nothing         Meaning::Constant(Kind::Int);
+    Lconst0         "lconst_0"        Nothing         Meaning::Constant(Kind::Long);
+    Lconst1         "lconst_1"        Nothing         Meaning::Constant(Kind::Long);
+    Fconst0         "fconst_0"        Nothing         Meaning::Constant(Kind::Float);
+    Fconst1         "fconst_1"        Nothing         Meaning::Constant(Kind::Float);
+    Fconst2         "fconst_2"        Nothing         Meaning::Constant(Kind::Float);
+    Dconst0         "dconst_0"        Nothing         Meaning::Constant(Kind::Double);
+    Dconst1         "dconst_1"        Nothing         Meaning::Constant(Kind::Double);
+    Bipush          "bipush"          Byte            Meaning::Constant(Kind::Int);
+    Sipush          "sipush"          Short           Meaning::Constant(Kind::Int);
+    Ldc             "ldc"             Constant        Meaning::LoadConstant;
+    LdcW            "ldc_w"           Index           Meaning::LoadConstant;
+    Ldc2W           "ldc2_w"          Index           Meaning::LoadWideConstant;
+    Iload           "iload"           Local           Meaning::Load(Kind::Int);
+    Lload           "lload"           Local           Meaning::Load(Kind::Long);
+    Fload           "fload"           Local           Meaning::Load(Kind::Float);
+    Dload           "dload"           Local           Meaning::Load(Kind::Double);
+    Aload           "aload"           Local           Meaning::LoadReference;
+    Iload0          "iload_0"         Nothing         Meaning::LoadFrom(Kind::Int, 0);
+    Iload1          "iload_1"         Nothing         Meaning::LoadFrom(Kind::Int, 1);
+    Iload2          "iload_2"         Nothing         Meaning::LoadFrom(Kind::Int, 2);
+    Iload3          "iload_3"         Nothing         Meaning::LoadFrom(Kind::Int, 3);
+    Lload0          "lload_0"         Nothing         Meaning::LoadFrom(Kind::Long, 0);
+    Lload1          "lload_1"         Nothing         Meaning::LoadFrom(Kind::Long, 1);
+    Lload2          "lload_2"         Nothing         Meaning::LoadFrom(Kind::Long, 2);
+    Lload3          "lload_3"         Nothing         Meaning::LoadFrom(Kind::Long, 3);
+    Fload0          "fload_0"         Nothing         Meaning::LoadFrom(Kind::Float, 0);
+    Fload1          "fload_1"         Nothing         Meaning::LoadFrom(Kind::Float, 1);
+    Fload2          "fload_2"         Nothing         Meaning::LoadFrom(Kind::Float, 2);
+    Fload3          "fload_3"         Nothing         Meaning::LoadFrom(Kind::Float, 3);
+    Dload0          "dload_0"         Nothing         Meaning::LoadFrom(Kind::Double, 0);
+    Dload1          "dload_1"         Nothing         Meaning::LoadFrom(Kind::Double, 1);
+    Dload2          "dload_2"         Nothing         Meaning::LoadFrom(Kind::Double, 2);
+    Dload3          "dload_3"         Nothing         Meaning::LoadFrom(Kind::Double, 3);
+    Aload0          "aload_0"         Nothing         Meaning::LoadReferenceFrom(0);
+    Aload1          "aload_1"         Nothing         Meaning::LoadReferenceFrom(1);
+    Aload2          "aload_2"         Nothing         Meaning::LoadReferenceFrom(2);
+    Aload3          "aload_3"         Nothing         Meaning::LoadReferenceFrom(3);
+    Iaload          "iaload"          Nothing         Meaning::LoadElement(Primitive::Int);
+    Laload          "laload"          Nothing         Meaning::LoadElement(Primitive::Long);
+    Faload          "faload"          Nothing         Meaning::LoadElement(Primitive::Float);
+    Daload          "daload"          Nothing         Meaning::LoadElement(Primitive::Double);
+    Aaload          "aaload"          Nothing         Meaning::LoadReferenceElement;
+    Baload          "baload"          Nothing         Meaning::LoadElement(Primitive::Byte);
+    Caload          "caload"          Nothing         Meaning::LoadElement(Primitive::Char);
+    Saload          "saload"          Nothing         Meaning::LoadElement(Primitive::Short);
+    Istore          "istore"          Local           Meaning::Store(Kind::Int);
+    Lstore          "lstore"          Local           Meaning::Store(Kind::Long);
+    Fstore          "fstore"          Local           Meaning::Store(Kind::Float);
+    Dstore          "dstore"          Local           Meaning::Store(Kind::Double);
+    Astore          "astore"          Local           Meaning::StoreReference;
+    Istore0         "istore_0"        Nothing         Meaning::StoreTo(Kind::Int, 0);
+    Istore1         "istore_1"        Nothing         Meaning::StoreTo(Kind::Int, 1);
+    Istore2         "istore_2"        Nothing         Meaning::StoreTo(Kind::Int, 2);
+    Istore3         "istore_3"        Nothing         Meaning::StoreTo(Kind::Int, 3);
+    Lstore0         "lstore_0"        Nothing         Meaning::StoreTo(Kind::Long, 0);
+    Lstore1         "lstore_1"        Nothing         Meaning::StoreTo(Kind::Long, 1);
+    Lstore2         "lstore_2"        Nothing         Meaning::StoreTo(Kind::Long, 2);
+    Lstore3         "lstore_3"        Nothing         Meaning::StoreTo(Kind::Long, 3);
+    Fstore0         "fstore_0"        Nothing         Meaning::StoreTo(Kind::Float, 0);
+    Fstore1         "fstore_1"        Nothing         Meaning::StoreTo(Kind::Float, 1);
+    Fstore2         "fstore_2"        Nothing         Meaning::StoreTo(Kind::Float, 2);
+    Fstore3         "fstore_3"        Nothing         Meaning::StoreTo(Kind::Float, 3);
+    Dstore0         "dstore_0"        Nothing         Meaning::StoreTo(Kind::Double, 0);
+    Dstore1         "dstore_1"        Nothing         Meaning::StoreTo(Kind::Double, 1);
+    Dstore2         "dstore_2"        Nothing         Meaning::StoreTo(Kind::Double, 2);
+    Dstore3         "dstore_3"        Nothing         Meaning::StoreTo(Kind::Double, 3);
+    Astore0         "astore_0"        Nothing         Meaning::StoreReferenceTo(0);
+    Astore1         "astore_1"        Nothing         Meaning::StoreReferenceTo(1);
+    Astore2         "astore_2"        Nothing         Meaning::StoreReferenceTo(2);
+    Astore3         "astore_3"        Nothing         Meaning::StoreReferenceTo(3);
+    Iastore         "iastore"         Nothing         Meaning::StoreElement(Primitive::Int);
+    Lastore         "lastore"         Nothing         Meaning::StoreElement(Primitive::Long);
+    Fastore         "fastore"         Nothing         Meaning::StoreElement(Primitive::Float);
+    Dastore         "dastore"         Nothing         Meaning::StoreElement(Primitive::Double);
+    Aastore         "aastore"         Nothing         Meaning::StoreReferenceElement;
+    Bastore         "bastore"         Nothing         Meaning::StoreElement(Primitive::Byte);
+    Castore         "castore"         Nothing         Meaning::StoreElement(Primitive::Char);
+    Sastore         "sastore"         Nothing         Meaning::StoreElement(Primitive::Short);
+    Pop             "pop"             Nothing         Meaning::Stack(StackOperator::Pop);
+    Pop2            "pop2"            Nothing         Meaning::Stack(StackOperator::Pop2);
+    Dup             "dup"             Nothing         Meaning::Stack(StackOperator::Dup);
+    DupX1           "dup_x1"          Nothing         Meaning::Stack(StackOperator::DupX1);
+    DupX2           "dup_x2"          Nothing         Meaning::Stack(StackOperator::DupX2);
+    Dup2            "dup2"            Nothing         Meaning::Stack(StackOperator::Dup2);
+    Dup2X1          "dup2_x1"         Nothing         Meaning::Stack(StackOperator::Dup2X1);
+    Dup2X2          "dup2_x2"         Nothing         Meaning::Stack(StackOperator::Dup2X2);
+    Swap            "swap"            Nothing         Meaning::Stack(StackOperator::Swap);
+    Iadd            "iadd"            Nothing         Meaning::Numeric(NumericOperator::Iadd);
+    Ladd            "ladd"            Nothing         Meaning::Numeric(NumericOperator::Ladd);
+    Fadd            "fadd"            Nothing         Meaning::Numeric(NumericOperator::Fadd);
+    Dadd            "dadd"            Nothing         Meaning::Numeric(NumericOperator::Dadd);
+    Isub            "isub"            Nothing         Meaning::Numeric(NumericOperator::Isub);
+    Lsub            "lsub"            Nothing         Meaning::Numeric(NumericOperator::Lsub);
+    Fsub            "fsub"            Nothing         Meaning::Numeric(NumericOperator::Fsub);
+    Dsub            "dsub"            Nothing         Meaning::Numeric(NumericOperator::Dsub);
+    Imul            "imul"            Nothing         Meaning::Numeric(NumericOperator::Imul);
+    Lmul            "lmul"            Nothing         Meaning::Numeric(NumericOperator::Lmul);
+    Fmul            "fmul"            Nothing         Meaning::Numeric(NumericOperator::Fmul);
+    Dmul            "dmul"            Nothing         Meaning::Numeric(NumericOperator::Dmul);
+    Idiv            "idiv"            Nothing         Meaning::Numeric(NumericOperator::Idiv);
+    Ldiv            "ldiv"            Nothing         Meaning::Numeric(NumericOperator::Ldiv);
+    Fdiv            "fdiv"            Nothing         Meaning::Numeric(NumericOperator::Fdiv);
+    Ddiv            "ddiv"            Nothing         Meaning::Numeric(NumericOperator::Ddiv);
+    Irem            "irem"            Nothing         Meaning::Numeric(NumericOperator::Irem);
+    Lrem            "lrem"            Nothing         Meaning::Numeric(NumericOperator::Lrem);
+    Frem            "frem"            Nothing         Meaning::Numeric(NumericOperator::Frem);
+    Drem            "drem"            Nothing         Meaning::Numeric(NumericOperator::Drem);
+    Ineg            "ineg"            Nothing         Meaning::Numeric(NumericOperator::Ineg);
+    Lneg            "lneg"            Nothing         Meaning::Numeric(NumericOperator::Lneg);
+    Fneg            "fneg"            Nothing         Meaning::Numeric(NumericOperator::Fneg);
+    Dneg            "dneg"            Nothing         Meaning::Numeric(NumericOperator::Dneg);
+    Ishl            "ishl"            Nothing         Meaning::Numeric(NumericOperator::Ishl);
+    Lshl            "lshl"            Nothing         Meaning::Numeric(NumericOperator::Lshl);
+    Ishr            "ishr"            Nothing         Meaning::Numeric(NumericOperator::Ishr);
+    Lshr            "lshr"            Nothing         Meaning::Numeric(NumericOperator::Lshr);
+    Iushr           "iushr"           Nothing         Meaning::Numeric(NumericOperator::Iushr);
+    Lushr           "lushr"           Nothing         Meaning::Numeric(NumericOperator::Lushr);
+    Iand            "iand"            Nothing         Meaning::Numeric(NumericOperator::Iand);
+    Land            "land"            Nothing         Meaning::Numeric(NumericOperator::Land);
+    Ior             "ior"             Nothing         Meaning::Numeric(NumericOperator::Ior);
+    Lor             "lor"             Nothing         Meaning::Numeric(NumericOperator::Lor);
+    Ixor            "ixor"            Nothing         Meaning::Numeric(NumericOperator::Ixor);
+    Lxor            "lxor"            Nothing         Meaning::Numeric(NumericOperator::Lxor);
+    Iinc            "iinc"            Increment       Meaning::Increment;
+    I2l             "i2l"             Nothing         Meaning::Numeric(NumericOperator::I2l);
+    I2f             "i2f"             Nothing         Meaning::Numeric(NumericOperator::I2f);
+    I2d             "i2d"             Nothing         Meaning::Numeric(NumericOperator::I2d);
+    L2i             "l2i"             Nothing         Meaning::Numeric(NumericOperator::L2i);
+    L2f             "l2f"             Nothing         Meaning::Numeric(NumericOperator::L2f);
+    L2d             "l2d"             Nothing         Meaning::Numeric(NumericOperator::L2d);
+    F2i             "f2i"             Nothing         Meaning::Numeric(NumericOperator::F2i);
+    F2l             "f2l"             Nothing         Meaning::Numeric(NumericOperator::F2l);
+    F2d             "f2d"             Nothing         Meaning::Numeric(NumericOperator::F2d);
+    D2i             "d2i"             Nothing         Meaning::Numeric(NumericOperator::D2i);
+    D2l             "d2l"             Nothing         Meaning::Numeric(NumericOperator::D2l);
+    D2f             "d2f"             Nothing         Meaning::Numeric(NumericOperator::D2f);
+    I2b             "i2b"             Nothing         Meaning::Numeric(NumericOperator::I2b);
+    I2c             "i2c"             Nothing         Meaning::Numeric(NumericOperator::I2c);
+    I2s             "i2s"             Nothing         Meaning::Numeric(NumericOperator::I2s);
+    Lcmp            "lcmp"            Nothing         Meaning::Numeric(NumericOperator::Lcmp);
+    Fcmpl           "fcmpl"           Nothing         Meaning::Numeric(NumericOperator::Fcmpl);
+    Fcmpg           "fcmpg"           Nothing         Meaning::Numeric(NumericOperator::Fcmpg);
+    Dcmpl           "dcmpl"           Nothing         Meaning::Numeric(NumericOperator::Dcmpl);
+    Dcmpg           "dcmpg"           Nothing         Meaning::Numeric(NumericOperator::Dcmpg);
+    Ifeq            "ifeq"            Branch          Meaning::IfInt;
+    Ifne            "ifne"            Branch          Meaning::IfInt;
+    Iflt            "iflt"            Branch          Meaning::IfInt;
+    Ifge            "ifge"            Branch          Meaning::IfInt;
+    Ifgt            "ifgt"            Branch          Meaning::IfInt;
+    Ifle            "ifle"            Branch          Meaning::IfInt;
+    IfIcmpeq        "if_icmpeq"       Branch          Meaning::IfInts;
+    IfIcmpne        "if_icmpne"       Branch          Meaning::IfInts;
+    IfIcmplt        "if_icmplt"       Branch          Meaning::IfInts;
+    IfIcmpge        "if_icmpge"       Branch          Meaning::IfInts;
+    IfIcmpgt        "if_icmpgt"       Branch          Meaning::IfInts;
+    IfIcmple        "if_icmple"       Branch          Meaning::IfInts;
+    IfAcmpeq        "if_acmpeq"       Branch          Meaning::IfReferences;
+    IfAcmpne        "if_acmpne"       Branch          Meaning::IfReferences;
+    Goto            "goto"            Branch          Meaning::Goto;
+    Jsr             "jsr"             Branch          Meaning::Unsupported;
+    Ret             "ret"             Local           Meaning::Unsupported;
+    Tableswitch     "tableswitch"     TableSwitch     Meaning::Switch;
+    Lookupswitch    "lookupswitch"    LookupSwitch    Meaning::Switch;
+    Ireturn         "ireturn"         Nothing         Meaning::Return(Kind::Int);
+    Lreturn         "lreturn"         Nothing         Meaning::Return(Kind::Long);
+    Freturn         "freturn"         Nothing         Meaning::Return(Kind::Float);
+    Dreturn         "dreturn"         Nothing         Meaning::Return(Kind::Double);
+    Areturn         "areturn"         Nothing         Meaning::ReturnReference;
+    Return          "return"          Nothing         Meaning::ReturnVoid;
+    Getstatic       "getstatic"       Index           Meaning::GetStatic;
+    Putstatic       "putstatic"       Index           Meaning::PutStatic;
+    Getfield        "getfield"        Index           Meaning::GetField;
+    Putfield        "putfield"        Index           Meaning::PutField;
+    Invokevirtual   "invokevirtual"   Index           Meaning::InvokeVirtual;
+    Invokespecial   "invokespecial"   Index           Meaning::InvokeSpecial;
+    Invokestatic    "invokestatic"    Index           Meaning::InvokeStatic;
+    Invokeinterface "invokeinterface" InvokeInterface Meaning::InvokeInterface;
+    Invokedynamic   "invokedynamic"   InvokeDynamic   Meaning::Unsupported;
+    New             "new"             Index           Meaning::New;
+    Newarray        "newarray"        NewArray        Meaning::NewArray;
+    Anewarray       "anewarray"       Index           Meaning::NewReferenceArray;
+    Arraylength     "arraylength"     Nothing         Meaning::ArrayLength;
+    Athrow          "athrow"          Nothing         Meaning::Throw;
+    Checkcast       "checkcast"       Index           Meaning::CheckCast;
+    Instanceof      "instanceof"      Index           Meaning::InstanceOf;
+    Monitorenter    "monitorenter"    Nothing         Meaning::Monitor;
+    Monitorexit     "monitorexit"     Nothing         Meaning::Monitor;
+    Wide            "wide"            Wide            Meaning::Unsupported;
+    Multianewarray  "multianewarray"  MultiNewArray   Meaning::NewMultiArray;
+    Ifnull          "ifnull"          Branch          Meaning::IfNull;
+    Ifnonnull       "ifnonnull"       Branch          Meaning::IfNull;
+    GotoW           "goto_w"          WideBranch      Meaning::Goto;
+    JsrW            "jsr_w"           WideBranch      Meaning::Unsupported;
+};
 
 /// The rows in the order of the opcodes' numbers.
 fn rows() -> &'static [Row]
