@@ -1,7 +1,10 @@
 pub mod Acts
 pub mod Code
+pub mod Encoding
 pub mod Faults
 pub mod Instructions
 pub mod Meanings
 pub mod Opcodes
+pub mod Sizes
+pub mod Spellings
 pub mod Views

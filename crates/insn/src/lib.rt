@@ -5,6 +5,7 @@
 //! [`decode_code`]; [`read_insn`] reads one instruction and takes no memory.
 //!
 //! - `decoding`: all of a method's code
+//! - `encoding`: code from its instructions
 //! - `fault`: why bytes are no code
 //! - `instruction`: an opcode and what stands behind it
 //! - `laws`: laws of code, without code
@@ -13,9 +14,11 @@
 //! - `operation`: operators, and what instructions may mean
 //! - `reading`: one instruction
 //! - `table`: the instruction set, a row for each opcode
+//! - `writing`: one instruction, written
 #![tactic(auto)]
 
 mod decoding;
+mod encoding;
 mod fault;
 mod instruction;
 mod laws;
@@ -24,8 +27,10 @@ mod opcode;
 mod operation;
 mod reading;
 mod table;
+mod writing;
 
 pub use decoding::decode_code;
+pub use encoding::encode_code;
 pub use fault::CodeFault;
 pub use instruction::{Insn, Operands, is_start, mnemonic};
 pub use laws::{code_is_one_list, opcodes_have_numbers};
