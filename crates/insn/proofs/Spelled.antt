@@ -19,20 +19,20 @@ use Rattle.insn.specs.Instructions.{Operands, Outcome, nothing, byte, short, con
 use Rattle.insn.specs.Spellings.{form_of, takes_local, takes_increment, fills, pairs_up, agrees, AreInRange, switch_head, operands_bytes}
 use Rattle.insn.proofs.Numbers.{has_number}
 
-abbrev outcome : Operands → Outcome
+abbrev pub outcome : Operands → Outcome
 outcome x = Ok x
 
 -- ---- a number in front
 
-record Number {V : Type 0} (n : ℕ) (next : ℕ → Format V) (bytes : List ℕ) (v : V) : Type 0 where
-  value : ℕ
-  others : List ℕ
-  fits : value < 256 ^ n
-  parts : bytes ≡ big_bytes n value ++ others
-  are_bytes : AreBytes others
-  behind : Spells (next value) others v
+pub record Number {V : Type 0} (n : ℕ) (next : ℕ → Format V) (bytes : List ℕ) (v : V) : Type 0 where
+  pub value : ℕ
+  pub others : List ℕ
+  pub fits : value < 256 ^ n
+  pub parts : bytes ≡ big_bytes n value ++ others
+  pub are_bytes : AreBytes others
+  pub behind : Spells (next value) others v
 
-number_parts : {V : Type 0} (n : ℕ) → NumberLaw n → (next : ℕ → Format V) (bytes : List ℕ) (v : V) → AreBytes bytes → Spells (andthen (number n) next) bytes v → Number n next bytes v
+pub number_parts : {V : Type 0} (n : ℕ) → NumberLaw n → (next : ℕ → Format V) (bytes : List ℕ) (v : V) → AreBytes bytes → Spells (andthen (number n) next) bytes v → Number n next bytes v
 number_parts n law next bytes v fit s =
     let i = andthen_parts (number n) next bytes v s in
     let bs = AreBytes-parts i.0 i.1 (subst AreBytes i.3 fit) in
@@ -45,15 +45,15 @@ number_parts n law next bytes v fit s =
       behind = i.5;
     }
 
-number_first : {V : Type 0} (n : ℕ) → NumberLaw n → (next : ℕ → Format V) (value : ℕ) (others : List ℕ) (v : V) → value < 256 ^ n → Spells (next value) others v
+pub number_first : {V : Type 0} (n : ℕ) → NumberLaw n → (next : ℕ → Format V) (value : ℕ) (others : List ℕ) (v : V) → value < 256 ^ n → Spells (next value) others v
     → Spells (andthen (number n) next) (big_bytes n value ++ others) v
 number_first n law next value others v lt s = andthen_spelled (number n) next (big_bytes n value) others value v (number_spelled n law value lt) s
 
-last : (y x : Operands) (bytes : List ℕ) → Spells (done (outcome y)) bytes (outcome x) → (bytes ≡ []) × (y ≡ x)
+pub last : (y x : Operands) (bytes : List ℕ) → Spells (done (outcome y)) bytes (outcome x) → (bytes ≡ []) × (y ≡ x)
 last y x bytes s = let h : outcome y ≡ outcome x = s.1 in (s.0, cc)
 
 -- nothing but what the last number has
-number_last : (n : ℕ) → NumberLaw n → (make : ℕ → Operands) (value : ℕ) (x : Operands) → value < 256 ^ n → make value ≡ x
+pub number_last : (n : ℕ) → NumberLaw n → (make : ℕ → Operands) (value : ℕ) (x : Operands) → value < 256 ^ n → make value ≡ x
     → Spells (andthen (number n) (λ k. done (outcome (make k)))) (big_bytes n value) (outcome x)
 number_last n law make value x lt is =
     subst (λ (t : List ℕ). Spells (andthen (number n) (λ k. done (outcome (make k)))) t (outcome x)) (append-nil (big_bytes n value))
@@ -66,7 +66,7 @@ pub record Known (at : ℕ) (f : Form) (bytes : List ℕ) (x : Operands) : Type 
   pub agree : agrees at x ≡ true
   pub bytes_are : bytes ≡ operands_bytes x
 
-number_known : (at : ℕ) (f : Form) (n : ℕ) → NumberLaw n → (make : ℕ → Operands) (bytes : List ℕ) (x : Operands)
+pub number_known : (at : ℕ) (f : Form) (n : ℕ) → NumberLaw n → (make : ℕ → Operands) (bytes : List ℕ) (x : Operands)
     → ((k : ℕ) → f ≡ form_of (make k)) → ((k : ℕ) → agrees at (make k) ≡ true) → ((k : ℕ) → k < 256 ^ n → big_bytes n k ≡ operands_bytes (make k))
     → AreBytes bytes → Spells (andthen (number n) (λ k. done (outcome (make k)))) bytes (outcome x) → Known at f bytes x
 number_known at f n law make bytes x has fine are fit s =
@@ -79,10 +79,10 @@ number_known at f n law make bytes x has fine are fit s =
     })
 
 -- a number that was read as a signed one
-signed : (n : ℕ) (w : Width) (k : ℕ) → cast_unsigned w (cast_signed w k) ≡ k → big_bytes n k ≡ big_bytes n (cast_unsigned w (cast_signed w k))
+pub signed : (n : ℕ) (w : Width) (k : ℕ) → cast_unsigned w (cast_signed w k) ≡ k → big_bytes n k ≡ big_bytes n (cast_unsigned w (cast_signed w k))
 signed n w k is = ap (big_bytes n) (sym is)
 
-increment_known : (at : ℕ) (bytes : List ℕ) (x : Operands) → AreBytes bytes
+pub increment_known : (at : ℕ) (bytes : List ℕ) (x : Operands) → AreBytes bytes
     → Spells (andthen (number 1) (λ n. andthen (number 1) (λ by. done (outcome (increment n (cast_signed w8 by)))))) bytes (outcome x) → Known at forms.Increment bytes x
 unfolding operands_bytes
 increment_known at bytes x fit s =
@@ -94,7 +94,7 @@ increment_known at bytes x fit s =
     subst (λ (y : Operands). Known at forms.Increment bytes y) l.1
     (record { has_form = refl; agree = refl; bytes_are = p.parts ∙ ap (λ (t : List ℕ). big_bytes 1 p.value ++ t) others })
 
-multi_new_array_known : (at : ℕ) (bytes : List ℕ) (x : Operands) → AreBytes bytes
+pub multi_new_array_known : (at : ℕ) (bytes : List ℕ) (x : Operands) → AreBytes bytes
     → Spells (andthen (number 2) (λ i. andthen (number 1) (λ dimensions. done (outcome (multi_new_array i dimensions))))) bytes (outcome x) → Known at forms.MultiNewArray bytes x
 unfolding operands_bytes
 multi_new_array_known at bytes x fit s =
@@ -107,15 +107,15 @@ multi_new_array_known at bytes x fit s =
 
 -- ---- bytes that are 0
 
-zero_alone : (zero : ℕ) (y x : Operands) (e : CodeFault) (bytes : List ℕ) (b : Bool) → eqb zero 0 ≡ b → Spells (cond b (done (outcome y)) (done (Err e))) bytes (outcome x)
-    → (zero ≡ 0) × (bytes ≡ []) × (y ≡ x)
-zero_alone zero y x e bytes true is s = let l = last y x bytes s in (eqb-true _ _ is, l.0, l.1)
-zero_alone zero y x e bytes false is s = let wrong : Err e ≡ outcome x = s.1 in absurd cc
+zero_alone : (n : ℕ) (y x : Operands) (e : CodeFault) (bytes : List ℕ) (b : Bool) → eqb n 0 ≡ b → Spells (cond b (done (outcome y)) (done (Err e))) bytes (outcome x)
+    → (n ≡ 0) × (bytes ≡ []) × (y ≡ x)
+zero_alone n y x e bytes true is s = let l = last y x bytes s in (eqb-true _ _ is, l.0, l.1)
+zero_alone n y x e bytes false is s = let wrong : Err e ≡ outcome x = s.1 in absurd cc
 
-invoke_interface_known : (at : ℕ) (bytes : List ℕ) (x : Operands) → AreBytes bytes → Spells (invoke_interface_at at) bytes (outcome x) → Known at forms.InvokeInterface bytes x
+pub invoke_interface_known : (at : ℕ) (bytes : List ℕ) (x : Operands) → AreBytes bytes → Spells (invoke_interface_at at) bytes (outcome x) → Known at forms.InvokeInterface bytes x
 unfolding invoke_interface_at operands_bytes
 invoke_interface_known at bytes x fit s =
-    let behind_two : ℕ → ℕ → ℕ → Format Outcome = λ i count zero. cond (eqb zero 0) (done (outcome (invoke_interface i count))) (done (Err (NonZeroByte at))) in
+    let behind_two : ℕ → ℕ → ℕ → Format Outcome = λ i count n. cond (eqb n 0) (done (outcome (invoke_interface i count))) (done (Err (NonZeroByte at))) in
     let p = number_parts 2 number_2 (λ i. andthen (number 1) (λ count. andthen (number 1) (behind_two i count))) bytes (outcome x) fit s in
     let q = number_parts 1 number_1 (λ count. andthen (number 1) (behind_two p.value count)) p.others (outcome x) p.are_bytes p.behind in
     let r = number_parts 1 number_1 (behind_two p.value q.value) q.others (outcome x) q.are_bytes q.behind in
@@ -125,10 +125,10 @@ invoke_interface_known at bytes x fit s =
     subst (λ (y : Operands). Known at forms.InvokeInterface bytes y) z.2
     (record { has_form = refl; agree = refl; bytes_are = p.parts ∙ ap (λ (t : List ℕ). big_bytes 2 p.value ++ t) second })
 
-invoke_dynamic_known : (at : ℕ) (bytes : List ℕ) (x : Operands) → AreBytes bytes → Spells (invoke_dynamic_at at) bytes (outcome x) → Known at forms.InvokeDynamic bytes x
+pub invoke_dynamic_known : (at : ℕ) (bytes : List ℕ) (x : Operands) → AreBytes bytes → Spells (invoke_dynamic_at at) bytes (outcome x) → Known at forms.InvokeDynamic bytes x
 unfolding invoke_dynamic_at operands_bytes
 invoke_dynamic_known at bytes x fit s =
-    let behind_one : ℕ → ℕ → Format Outcome = λ i zero. cond (eqb zero 0) (done (outcome (invoke_dynamic i))) (done (Err (NonZeroByte at))) in
+    let behind_one : ℕ → ℕ → Format Outcome = λ i n. cond (eqb n 0) (done (outcome (invoke_dynamic i))) (done (Err (NonZeroByte at))) in
     let p = number_parts 2 number_2 (λ i. andthen (number 2) (behind_one i)) bytes (outcome x) fit s in
     let q = number_parts 2 number_2 (behind_one p.value) p.others (outcome x) p.are_bytes p.behind in
     let z = zero_alone q.value (invoke_dynamic p.value) x (NonZeroByte at) q.others (eqb q.value 0) refl q.behind in
@@ -165,7 +165,7 @@ wide_opcode_known : (at k : ℕ) (o : Option Opcode) (rest : List ℕ) (x : Oper
 wide_opcode_known at k None rest x named fit s = absurd (let wrong = s.1 in cc)
 wide_opcode_known at k (Some o) rest x named fit s = widened_known at k o (form o) rest x named refl fit s
 
-wide_known : (at : ℕ) (bytes : List ℕ) (x : Operands) → AreBytes bytes → Spells (wide_at at) bytes (outcome x) → Known at forms.Wide bytes x
+pub wide_known : (at : ℕ) (bytes : List ℕ) (x : Operands) → AreBytes bytes → Spells (wide_at at) bytes (outcome x) → Known at forms.Wide bytes x
 unfolding wide_at
 wide_known at bytes x fit s =
     let p = number_parts 1 number_1 (λ n. widened_opcode at (opcode_of n)) bytes (outcome x) fit s in

@@ -3,6 +3,7 @@ pub mod Code
 pub mod Encoding
 pub mod Faults
 pub mod Instructions
+pub mod Laws
 pub mod Meanings
 pub mod Opcodes
 pub mod Sizes

@@ -33,7 +33,9 @@ pub use decoding::decode_code;
 pub use encoding::encode_code;
 pub use fault::CodeFault;
 pub use instruction::{Insn, Operands, is_start, mnemonic};
-pub use laws::{code_is_one_list, opcodes_have_numbers};
+pub use laws::{
+    code_is_one_list, list_is_one_code, opcodes_have_numbers, read_is_written, written_is_read,
+};
 pub use meaning::act;
 pub use opcode::Opcode;
 pub use operation::{Act, Kind, Meaning, NumericOperator, StackOperator, Targets};
