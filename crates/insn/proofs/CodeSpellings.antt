@@ -1,5 +1,5 @@
 -- Instructions one behind the other, as they are written.
-use Rattle.std.proofs.Common.{◌≡◌, ℕ, ◌+◌, ◌<◌, ◌≤◌, Bool, true, false, List, [], ◌∷◌, ◌++◌, length, Result, Ok, Err, refl, sym, ap, subst, ◌∙◌, append_assoc, arith, ltb, map, drop, get_or, ◌⊎◌, inl, inr}
+use Rattle.std.proofs.Common.{◌≡◌, ℕ, ◌+◌, ◌<◌, ◌≤◌, true, false, List, [], ◌∷◌, ◌++◌, length, Result, Ok, Err, refl, sym, ap, subst, ◌∙◌, append_assoc, arith, ltb, map, drop, get_or, ◌⊎◌, inl, inr}
 use Rattle.std.specs.Prelude.{IfOk}
 use Rattle.std.proofs.lemmas.Bool.{ltb-true, ltb-false}
 use Rattle.std.proofs.lemmas.List.{length-append, append-nil, drop_more}
@@ -46,8 +46,8 @@ list_known bytes is fit s = (code_known 0 bytes s.list fit s.code).0 ∙ ap code
 pub one_spelling : (is : List Instruction) (a b : List ℕ) → AreBytes a → AreBytes b → SpellsList a is → SpellsList b is → a ≡ b
 one_spelling is a b fit gif s t = list_known a is fit s ∙ sym (list_known b is gif t)
 
-pub list_measured : (is : List Instruction) (bytes : List ℕ) → AreBytes bytes → SpellsList bytes is → length bytes ≡ code_size is
-list_measured is bytes fit s = ap length (list_known bytes is fit s) ∙ code_measured is
+pub list_measured : (bytes : List ℕ) (is : List Instruction) → AreBytes bytes → SpellsList bytes is → length bytes ≡ code_size is
+list_measured bytes is fit s = ap length (list_known bytes is fit s) ∙ code_measured is
 
 pub code_placed : (bytes : List ℕ) (xs : List (ℕ × Instruction)) → AreBytes bytes → SpellsCode 0 bytes xs → xs ≡ placed 0 (instructions xs)
 code_placed bytes xs fit s = (code_known 0 bytes xs fit s).1
@@ -126,7 +126,7 @@ small_enough all small large = let le = ltb-false _ _ small in absurd (omega (ar
 
 pub large_is_no_code : (all : List Instruction) (bytes : List ℕ) → ltb MAX_CODE_BYTES (code_size all) ≡ true → AreBytes bytes → IsCode bytes all → ⊥
 large_is_no_code all bytes large fit code =
-    let long = list_measured all bytes fit code.spelled in
+    let long = list_measured bytes all fit code.spelled in
     let lt = ltb-true _ _ large in
     absurd (omega (arith, code.within, long, lt))
 
@@ -176,6 +176,6 @@ read_is_written bytes xs (Ok b) fit le read gif code =
     inl (ap Ok (one_spelling (instructions xs) b bytes gif fit code.spelled (record { list = xs; same = refl; code = read })))
 read_is_written bytes xs (Err OutOfMemory) fit le read gif h = inr refl
 read_is_written bytes xs (Err DoesNotFit) fit le read gif h =
-    let long = list_measured (instructions xs) bytes fit (record { list = xs; same = refl; code = read }) in
+    let long = list_measured bytes (instructions xs) fit (record { list = xs; same = refl; code = read }) in
     absurd (omega (arith, long, le, h))
 read_is_written bytes xs (Err HasNoSpelling) fit le read gif h = absurd (h.1 bytes fit (record { list = xs; same = refl; code = read }))

@@ -1,5 +1,5 @@
 -- What stands behind an opcode, and an instruction: exactly one list of bytes spells what agrees, and none what does not.
-use Rattle.std.proofs.Common.{◌≡◌, ℕ, ℤ, ◌+◌, ◌^◌, ◌<◌, Bool, true, false, cond, Option, Some, None, List, [], ◌∷◌, ◌++◌, length, Result, Ok, Err, refl, sym, ap, subst, ◌∙◌, append_assoc, arith, eqb, SFits, to_z, of_z, w8, w16, w32, ◌/◌}
+use Rattle.std.proofs.Common.{◌≡◌, ℕ, ℤ, ◌^◌, ◌<◌, true, cond, Option, Some, None, List, [], ◌++◌, length, Result, Ok, Err, refl, sym, ap, subst, ◌∙◌, append_assoc, arith, eqb, SFits, of_z, w8, w16, w32, ◌/◌}
 use Rattle.std.specs.Int.{cast_signed, cast_unsigned}
 use Rattle.std.proofs.lemmas.Int.{to_z-of_z, of_z-to_z}
 use Rattle.std.proofs.lemmas.List.{append-nil, length-append}
@@ -9,7 +9,6 @@ use Rattle.byteorder.specs.Endian.{big_bytes}
 use Rattle.layout.specs.Format.{AreBytes, Format, done, Spells, andthen, number}
 use Rattle.layout.specs.FormatLaws.{AreBytes-parts, number_1, number_2, number_4, andthen_spelled, andthen_parts}
 use Rattle.layout.specs.declared.fault.WriteFault.{WriteFault}
-use Rattle.insn.specs.declared.fault.CodeFault.{CodeFault}
 use Rattle.insn.specs.declared.fault.CodeFault.TheVariants.{NonZeroByte}
 use Rattle.insn.specs.declared.table.Form.{Form}
 use Rattle.insn.specs.declared.table.Form.TheVariants as forms

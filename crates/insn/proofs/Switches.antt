@@ -1,5 +1,5 @@
 -- Which bytes spell a switch.
-use Rattle.std.proofs.Common.{◌≡◌, ℕ, ℤ, pos, ◌+◌, ◌*◌, ◌/◌, ◌%◌, ◌^◌, ◌<◌, ◌≤◌, Bool, true, false, cond, ◌&&◌, List, [], ◌∷◌, ◌++◌, length, Ok, Err, refl, sym, ap, subst, ◌∙◌, append_assoc, arith, ltb, eqb, SFits, to_z, of_z, w32}
+use Rattle.std.proofs.Common.{◌≡◌, ℕ, ℤ, pos, ◌*◌, ◌/◌, ◌%◌, ◌^◌, ◌<◌, Bool, true, false, cond, ◌&&◌, List, [], ◌++◌, length, Err, refl, sym, ap, subst, ◌∙◌, append_assoc, arith, ltb, eqb, SFits, to_z, of_z, w32}
 use Rattle.std.specs.Prelude.{not, int_lt, unsigned_abs}
 use Rattle.std.specs.Int.{cast_signed, cast_unsigned}
 use Rattle.std.proofs.lemmas.Bool.{eqb-true, eq-eqb, le-ltb, lt-ltb, ltb-true}
@@ -164,9 +164,13 @@ table_switch_written at padding d lo hi offsets fine range =
     let cast_three : ℕ → ℕ → ℕ → Format Outcome = λ a b c. table_behind at padding (cast_signed w32 a) (cast_signed w32 b) (cast_signed w32 c) in
     let three = number_first 4 number_4 (cast_three (of_z w32 d) (of_z w32 lo)) (of_z w32 hi) offsets (outcome x) (word hi range.2) read in
     let two = number_first 4 number_4 (λ b. andthen (number 4) (cast_three (of_z w32 d) b)) (of_z w32 lo) (big_bytes 4 (of_z w32 hi) ++ offsets) (outcome x) (word lo range.1) three in
-    let one = number_first 4 number_4 (λ a. andthen (number 4) (λ b. andthen (number 4) (cast_three a b))) (of_z w32 d) (big_bytes 4 (of_z w32 lo) ++ (big_bytes 4 (of_z w32 hi) ++ offsets)) (outcome x) (word d range.0) two in
-    (padding, big_bytes 4 (of_z w32 d) ++ (big_bytes 4 (of_z w32 lo) ++ (big_bytes 4 (of_z w32 hi) ++ offsets)), eqb-true _ _ h.0,
-    sym (regroup padding (big_bytes 4 (of_z w32 d)) (big_bytes 4 (of_z w32 lo)) (big_bytes 4 (of_z w32 hi) ++ offsets)), one)
+    let one = number_first 4 number_4 (λ a. andthen (number 4) (λ b. andthen (number 4) (cast_three a b))) (of_z w32 d) (big_bytes 4 (of_z w32 lo) ++ (big_bytes 4 (of_z w32 hi) ++ offsets)) (outcome x) (word d range.0) two in (
+      padding,
+      big_bytes 4 (of_z w32 d) ++ (big_bytes 4 (of_z w32 lo) ++ (big_bytes 4 (of_z w32 hi) ++ offsets)),
+      eqb-true _ _ h.0,
+      sym (regroup padding (big_bytes 4 (of_z w32 d)) (big_bytes 4 (of_z w32 lo)) (big_bytes 4 (of_z w32 hi) ++ offsets)),
+      one,
+    )
   where
     rest : (b : Bool) → not b ≡ true → length offsets ≡ 4 * table_length lo hi
         → Spells (cond b (done (Err (BadSwitch at))) (part (4 * table_length lo hi) (λ offsets. done (outcome (table_switch padding d lo hi offsets))))) offsets (outcome (table_switch padding d lo hi offsets))

@@ -1,16 +1,60 @@
 //! From instructions to a method's code.
-ghost use Rattle.std.specs.Prelude.{◌≡◌, ℕ, List, map, nat_lt, IfErr};
+ghost use Rattle.std.specs.Prelude.{◌≡◌, ◌+◌, ◌-◌, ◌≤◌, ℕ, List, map, length, nat_lt, IfErr, SomeIff};
 ghost use Rattle.layout.specs.Format.{AreBytes};
 ghost use Rattle.layout.specs.declared.fault.WriteFault.TheVariants.{OutOfMemory};
 ghost use Rattle.layout.specs.declared.limits.TheConstants.{MAX_CODE_BYTES};
 ghost use Rattle.insn.specs.Encoding.{IsCode, Encodes};
-ghost use Rattle.insn.specs.Sizes.{code_size};
-ghost use Rattle.insn.specs.Views.{view};
+ghost use Rattle.insn.specs.Sizes.{operands_size, size, code_size};
+ghost use Rattle.insn.specs.Views.{operands_view, view};
 
-use crate::instruction::Insn;
-use crate::writing::{behind_insn, put_insn};
+use crate::instruction::{Insn, Operands};
+use crate::writing::put_insn;
 use layout::{MAX_CODE_BYTES, WriteFault};
 use std::alloc::Global;
+
+/// How many bytes of the room are left behind a switch: none where it does not hold them.
+fn behind_switch(room: usize, numbers: usize, padding: &[u8], table: &[u8]) -> Option<usize>
+    requires { numbers ≤ 12 }
+    ensures { SomeIff result (numbers + (length padding.now + length table.now) ≤ room) (room - (numbers + (length padding.now + length table.now))) }
+{
+    room.checked_sub(numbers)?
+        .checked_sub(padding.len())?
+        .checked_sub(table.len())
+}
+
+/// How many bytes of the room are left behind the operands: none where it does not hold them.
+fn behind_operands(room: usize, operands: Operands<'_>) -> Option<usize>
+    ensures { SomeIff result (operands_size (operands_view operands.entry) ≤ room) (room - operands_size (operands_view operands.entry)) }
+{
+    match operands {
+        Operands::Nothing => Some(room),
+        Operands::Byte(_) | Operands::Constant(_) | Operands::Local(_) | Operands::NewArray(_) => {
+            room.checked_sub(1)
+        }
+        Operands::Short(_)
+        | Operands::Index(_)
+        | Operands::Increment { .. }
+        | Operands::Branch(_) => room.checked_sub(2),
+        Operands::MultiNewArray { .. } | Operands::WideLocal { .. } => room.checked_sub(3),
+        Operands::WideBranch(_)
+        | Operands::InvokeInterface { .. }
+        | Operands::InvokeDynamic { .. } => room.checked_sub(4),
+        Operands::WideIncrement { .. } => room.checked_sub(5),
+        Operands::TableSwitch {
+            padding,
+            offsets,
+            ..
+        } => behind_switch(room, 12, padding, offsets),
+        Operands::LookupSwitch { padding, pairs, .. } => behind_switch(room, 8, padding, pairs),
+    }
+}
+
+/// How many bytes of the room are left behind the instruction: none where it does not hold it.
+fn behind_insn(room: usize, insn: &Insn<'_>) -> Option<usize>
+    ensures { SomeIff result (size (view insn.now) ≤ room) (room - size (view insn.now)) }
+{
+    behind_operands(room.checked_sub(1)?, insn.operands)
+}
 
 /// Whether the instructions have more bytes than a method's code may have.
 fn is_too_large(list: &[Insn<'_>]) -> bool

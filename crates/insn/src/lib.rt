@@ -43,4 +43,6 @@ pub use reading::read_insn;
 pub use table::Form;
 
 #[cfg(test)]
+mod encoding_tests;
+#[cfg(test)]
 mod tests;

@@ -1,11 +1,10 @@
 //! Writing one instruction.
-ghost use Rattle.std.specs.Prelude.{◌≡◌, ◌+◌, ◌*◌, ◌/◌, ◌≤◌, ◌<◌, ◌^◌, ◌++◌, ℕ, Bool, true, false, length, nat_eq, ◌-◌, SomeIff, vec_len};
+ghost use Rattle.std.specs.Prelude.{◌≡◌, ◌+◌, ◌*◌, ◌/◌, ◌≤◌, ◌<◌, ◌^◌, ◌++◌, ℕ, Bool, true, false, length, nat_eq};
 ghost use Rattle.std.specs.Int.{cast_unsigned, w8, w16, w32};
 ghost use Rattle.byteorder.specs.Endian.{big_bytes};
 ghost use Rattle.insn.specs.Encoding.{Appends, HasNone, AppendsInstruction};
 ghost use Rattle.insn.specs.Instructions.{padding_at, table_length};
 ghost use Rattle.insn.specs.Opcodes.{form, number};
-ghost use Rattle.insn.specs.Sizes.{operands_size, size};
 ghost use Rattle.insn.specs.Spellings.{form_of, agrees, fills, pairs_up, AreInRange, takes_local, takes_increment, switch_head, operands_bytes, IsFine};
 ghost use Rattle.insn.specs.Views.{operands_view, view};
 
@@ -238,8 +237,8 @@ fn put_lookup_switch(
 
 /// Appends what stands behind an opcode.
 #[tactic(auto, unfolding(crate::specs::Spellings::operands_bytes))]
-fn put_operands(out: &mut Vec<u8>, at: usize, operands: Operands<'_>) -> Result<(), WriteFault>
-    requires { agrees at (operands_view operands) ≡ true }
+fn put_operands(out: &mut Vec<u8>, operands: Operands<'_>) -> Result<(), WriteFault>
+    requires { (at : ℕ) × (agrees at (operands_view operands) ≡ true) }
     ensures bytes { Appends (operands_bytes (operands_view operands.entry)) out.old.items out.new.items result }
     ensures range { AreInRange (operands_view operands.entry) }
 {
@@ -256,7 +255,9 @@ fn put_operands(out: &mut Vec<u8>, at: usize, operands: Operands<'_>) -> Result<
         Operands::InvokeInterface { index, count } => put_invoke_interface(out, index, count),
         Operands::InvokeDynamic { index } => put_two(out, index, 0),
         Operands::NewArray(element) => put_u1(out, element),
-        Operands::MultiNewArray { index, dimensions } => put_multi_new_array(out, index, dimensions),
+        Operands::MultiNewArray { index, dimensions } => put_multi_new_array(
+            out, index, dimensions,
+        ),
         Operands::TableSwitch {
             padding,
             default,
@@ -272,48 +273,6 @@ fn put_operands(out: &mut Vec<u8>, at: usize, operands: Operands<'_>) -> Result<
         Operands::WideLocal { opcode, local } => put_wide_local(out, opcode, local),
         Operands::WideIncrement { opcode, local, by } => put_wide_increment(out, opcode, local, by),
     }
-}
-
-/// How many bytes of the room are left behind a switch: none where it does not hold them.
-fn behind_switch(room: usize, numbers: usize, padding: &[u8], table: &[u8]) -> Option<usize>
-    requires { numbers ≤ 12 }
-    ensures { SomeIff result (numbers + (length padding.now + length table.now) ≤ room) (room - (numbers + (length padding.now + length table.now))) }
-{
-    room.checked_sub(numbers)?
-        .checked_sub(padding.len())?
-        .checked_sub(table.len())
-}
-
-/// How many bytes of the room are left behind the operands: none where it does not hold them.
-fn behind_operands(room: usize, operands: Operands<'_>) -> Option<usize>
-    ensures { SomeIff result (operands_size (operands_view operands.entry) ≤ room) (room - operands_size (operands_view operands.entry)) }
-{
-    match operands {
-        Operands::Nothing => Some(room),
-        Operands::Byte(_) | Operands::Constant(_) | Operands::Local(_) | Operands::NewArray(_) => {
-            room.checked_sub(1)
-        }
-        Operands::Short(_)
-        | Operands::Index(_)
-        | Operands::Increment { .. }
-        | Operands::Branch(_) => room.checked_sub(2),
-        Operands::MultiNewArray { .. } | Operands::WideLocal { .. } => room.checked_sub(3),
-        Operands::WideBranch(_)
-        | Operands::InvokeInterface { .. }
-        | Operands::InvokeDynamic { .. } => room.checked_sub(4),
-        Operands::WideIncrement { .. } => room.checked_sub(5),
-        Operands::TableSwitch {
-            padding, offsets, ..
-        } => behind_switch(room, 12, padding, offsets),
-        Operands::LookupSwitch { padding, pairs, .. } => behind_switch(room, 8, padding, pairs),
-    }
-}
-
-/// How many bytes of the room are left behind the instruction: none where it does not hold it.
-pub(crate) fn behind_insn(room: usize, insn: &Insn<'_>) -> Option<usize>
-    ensures { SomeIff result (size (view insn.now) ≤ room) (room - size (view insn.now)) }
-{
-    behind_operands(room.checked_sub(1)?, insn.operands)
 }
 
 /// Whether the operands are those of the opcode's form.
@@ -342,5 +301,5 @@ pub(crate) fn put_insn(out: &mut Vec<u8>, insn: &Insn<'_>) -> Result<(), WriteFa
         return Err(WriteFault::HasNoSpelling);
     }
     put_u1(out, insn.opcode.number())?;
-    put_operands(out, at, insn.operands)
+    put_operands(out, insn.operands)
 }

@@ -8,4 +8,4 @@ pub returns-clause-starts : goal.returns-clause-starts
 returns-clause-starts c = code_placed
 
 pub returns-clause-size : goal.returns-clause-size
-returns-clause-size c = λ bytes is fit s. list_measured is bytes fit s
+returns-clause-size c = list_measured

@@ -1,9 +1,14 @@
-use Rattle.std.proofs.Common.{rules, ◌≡◌, ◌++◌, ap, ◌∙◌, length, refl}
+use Rattle.std.proofs.Common.{rules, ◌++◌, ap, ◌∙◌, length}
 use Rattle.byteorder.specs.Endian.{big_bytes}
 use Rattle.insn.specs.Spellings.{IsFine}
 use Rattle.insn.specs.Views.{view}
 use Rattle.insn.proofs.OperandLaws.{appended}
 use Rattle.insn.proofs.writing.put_insn.Goals as goal
+
+pub put_operands-requires : goal.put_operands-requires
+put_operands-requires c =
+    let fine : IsFine (length c.args.out.now.items) (view c.args.insn.now) = search rules in
+    (length c.args.out.now.items, fine.agree)
 
 pub returns : goal.returns
 returns c =
