@@ -5,3 +5,5 @@ pub mod Instructions
 pub mod Meanings
 pub mod Opcodes
 pub mod Views
+pub mod Offsets
+pub mod Stacks
