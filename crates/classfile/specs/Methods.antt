@@ -1,5 +1,5 @@
 -- A method with code as its instructions see it (JVMS 4.6, 4.7.3): what its class file says, constants looked up.
-use Rattle.std.specs.Prelude.{ℕ, Bool, false, not, ◌&&◌, ◌||◌, nat_eq, nat_le, nat_lt, bit_and, bytes_eq, List, [], ◌∷◌, Option, Some, None, if◌then◌else◌, slice_get, codes}
+use Rattle.std.specs.Prelude.{ℕ, Bool, false, not, ◌&&◌, ◌||◌, nat_eq, nat_le, nat_lt, bit_and, bytes_eq, List, [], ◌∷◌, Option, Some, None, if◌then◌else◌, slice_get, length, codes}
 use Rattle.std.specs.Option.{option_and_then}
 use Rattle.layout.specs.PieceLaws.{fields as by_field, raw}
 use Rattle.names.specs.Descriptors.{FieldDescriptor, MethodDescriptor}
@@ -21,6 +21,8 @@ pub record ExceptionEntry : Type 0 where
 -- The method; `A` is what is known of an instruction, each of which stands with its offset.
 pub record Method (A : Type 0) : Type 0 where
   pub code : List (ℕ × A)
+  -- in bytes
+  pub code_length : ℕ
   pub max_stack : ℕ
   pub max_locals : ℕ
   pub exceptions : List ExceptionEntry
@@ -122,6 +124,7 @@ exception_entries pool (h ∷ hs) = entry_with h (caught_type pool h.catch_type)
 abbrev pub method_with : {A : Type 0} → Class → Member → List (ℕ × A) → CodeBody → Option (List ℕ) → Option (List ℕ) → Option MethodDescriptor → Option (List ExceptionEntry) → Option (Method A)
 method_with c member code body (Some class) (Some name) (Some type) (Some exceptions) = Some (record {
   code = code;
+  code_length = length body.code;
   max_stack = body.max_stack;
   max_locals = body.max_locals;
   exceptions = exceptions;

@@ -6,7 +6,7 @@ use Rattle.pool.specs.Members.{class_at}
 use Rattle.names.specs.ReferenceTypes.{ReferenceType}
 use Rattle.pool.specs.declared.fault.PoolFault.{PoolFault}
 use Rattle.insn.specs.Meanings.{Act, New}
-use Rattle.insn.specs.Offsets.{begun_at, is_begun}
+use Rattle.insn.specs.Offsets.{at_offset, has_offset}
 use Rattle.frames.specs.VerificationType as types
 use Rattle.frames.specs.VerificationType.{VerificationType, uninit_this, uninit}
 use Rattle.frames.specs.FrameFact.{FrameFact}
@@ -112,7 +112,7 @@ is_new _ = false
 
 -- the offset of an uninitialized object is that of no `new`
 abbrev pub is_made_nowhere : List (ℕ × Act) → TypeInfo → Bool
-is_made_nowhere code (uninitialized offset) = not (is_new (begun_at code offset))
+is_made_nowhere code (uninitialized offset) = not (is_new (at_offset code offset))
 is_made_nowhere code _ = false
 
 abbrev pub chops_more : MapEntry → List VerificationType → Bool
@@ -129,7 +129,7 @@ module _ (pool : List Entry) (code : List (ℕ × Act)) (max_locals max_stack : 
       ∷ (reason 49, nat_lt max_locals (length (in_locals locals)))
       ∷ (reason 50, nat_lt max_stack (units_of stack))
       ∷ (reason 51, chops_more e before)
-      ∷ (reason 52, not (is_begun code at))
+      ∷ (reason 52, not (has_offset code at))
       ∷ (reason 53, any_info (is_made_nowhere code) (infos_of e))
       ∷ []
 

@@ -1,5 +1,5 @@
 -- Instructions by the offsets where they begin (JVMS 4.9.1): what begins where, and what comes next.
-use Rattle.std.specs.Prelude.{◌≡◌, ℕ, ℤ, pos, ◌+ℤ◌, List, [], ◌∷◌, map, nat_eq, if◌then◌else◌, Option, Some, None, is_some, Bool, ◌⊎◌}
+use Rattle.std.specs.Prelude.{◌≡◌, ℕ, ℤ, pos, ◌+ℤ◌, Bool, is_some, if◌then◌else◌, nat_eq, List, [], ◌∷◌, map, Option, Some, None, ◌⊎◌}
 use Rattle.insn.specs.Instructions.{Instruction}
 use Rattle.insn.specs.Meanings.{Act, act}
 
@@ -7,18 +7,18 @@ use Rattle.insn.specs.Meanings.{Act, act}
 abbrev pub acts : List (ℕ × Instruction) → List (ℕ × Act)
 acts code = map (λ x. (x.0, act x.1)) code
 
--- what begins at an offset
-abbrev pub begun_at : {A : Type 0} → List (ℕ × A) → ℕ → Option A
-begun_at [] at = None
-begun_at (x ∷ xs) at = if nat_eq x.0 at then Some x.1 else begun_at xs at
+-- what stands at an offset
+abbrev pub at_offset : {A : Type 0} → List (ℕ × A) → ℕ → Option A
+at_offset [] at = None
+at_offset (x ∷ xs) at = if nat_eq x.0 at then Some x.1 else at_offset xs at
 
 -- an instruction begins there
 pub record IsStart {A : Type 0} (code : List (ℕ × A)) (at : ℕ) : Type 0 where
   pub what : A
-  pub here : begun_at code at ≡ Some what
+  pub here : at_offset code at ≡ Some what
 
-abbrev pub is_begun : {A : Type 0} → List (ℕ × A) → ℕ → Bool
-is_begun code at = is_some (begun_at code at)
+abbrev pub has_offset : {A : Type 0} → List (ℕ × A) → ℕ → Bool
+has_offset code at = is_some (at_offset code at)
 
 abbrev pub first_offset : {A : Type 0} → List (ℕ × A) → Option ℕ
 first_offset [] = None

@@ -6,7 +6,7 @@ use Rattle.classfile.specs.Methods.{Method, ExceptionEntry, covers}
 use Rattle.insn.specs.declared.operation.Kind.TheVariants as kinds
 use Rattle.insn.specs.Acts.{StackPlace, StackForm}
 use Rattle.insn.specs.Stacks.{beneath, rearranged}
-use Rattle.insn.specs.Offsets.{begun_at, IsStart, next_offset, IsAmong}
+use Rattle.insn.specs.Offsets.{at_offset, IsStart, next_offset, IsAmong}
 use Rattle.insn.specs.Meanings.{Act}
 use Rattle.machine.specs.Values.{Value, number, reference, Slot, holds, is_wide_value, units, depth_of, ArePaired, place_of}
 use Rattle.machine.specs.Heap.{made, this, object, Heap, IsBelow, FitsReference, IsReference, FitsArray, FitsArrayFor, IsReady, IsThis, HasNoThis}
@@ -147,7 +147,7 @@ pub record LeavesReady (m : Method Act) (s : State) (act : Act) : Type 0 where
 
 pub record IsNoFault (world : World) (m : Method Act) (s : State) : Type 0 where
   pub act : Act
-  pub here : begun_at m.code s.at ≡ Some act
+  pub here : at_offset m.code s.at ≡ Some act
   pub operands : HasOperands world m s act
   pub stack : IsWithinStack m s act
   pub control : StaysOnStarts m s act

@@ -7,7 +7,7 @@ use Rattle.hierarchy.specs.World.{World}
 use Rattle.classfile.specs.Methods.{Method, ExceptionEntry, covers}
 use Rattle.insn.specs.Acts.{StackForm}
 use Rattle.insn.specs.Stacks.{beneath, rearranged}
-use Rattle.insn.specs.Offsets.{begun_at, next_offset, IsAmong}
+use Rattle.insn.specs.Offsets.{at_offset, next_offset, IsAmong}
 use Rattle.insn.specs.Meanings.{Act}
 use Rattle.machine.specs.Values.{Value, number, null, reference, holds, stored}
 use Rattle.machine.specs.Heap.{Status, ready, made, object, Heap, with_object, IsAddress, IsRunTimeType, IsBelow, FitsReference, FitsField, IsFresh, with_fresh}
@@ -99,7 +99,7 @@ GoesTo m from t at = IsAmong (pos at) (targets from t) ⊎ ((falls t ≡ true) �
 
 pub record Steps (world : World) (m : Method Act) (s : State) (branch : Option ℕ) (answer : Option Value) (fresh : List (ℕ × ReferenceType)) (t : State) : Type 0 where
   pub act : Act
-  pub here : begun_at m.code s.at ≡ Some act
+  pub here : at_offset m.code s.at ≡ Some act
   pub unused : IsFresh s.heap fresh
   pub to : ℕ
   pub branches : IsBranch (targets s.at (task m act)) branch to
@@ -114,7 +114,7 @@ IsLast _ = ⊥
 
 pub record Ends (m : Method Act) (s : State) (branch : Option ℕ) (answer : Option Value) (fresh : List (ℕ × ReferenceType)) : Type 0 where
   pub act : Act
-  pub here : begun_at m.code s.at ≡ Some act
+  pub here : at_offset m.code s.at ≡ Some act
   pub unused : IsFresh s.heap fresh
   pub no_branch : branch ≡ None
   pub no_answer : answer ≡ None

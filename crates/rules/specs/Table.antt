@@ -11,7 +11,7 @@ use Rattle.insn.specs.declared.operation.Kind.{Kind}
 use Rattle.insn.specs.declared.operation.Kind.TheVariants as kinds
 use Rattle.insn.specs.Acts.{is_wide, numeric_row, stack_forms}
 use Rattle.insn.specs.Stacks.{computed_as}
-use Rattle.insn.specs.Offsets.{begun_at}
+use Rattle.insn.specs.Offsets.{at_offset}
 use Rattle.insn.specs.Meanings as acts
 use Rattle.insn.specs.Meanings.{Act}
 use Rattle.frames.specs.VerificationType.{int, null, class}
@@ -110,4 +110,4 @@ made_by m None = None
 made_by m (Some act) = class_made (plan m act)
 
 abbrev pub class_made_at : Method Act → ℕ → Option (List ℕ)
-class_made_at m at = made_by m (begun_at m.code at)
+class_made_at m at = made_by m (at_offset m.code at)
