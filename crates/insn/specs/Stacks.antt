@@ -1,5 +1,5 @@
 -- Operand stacks as lists with the top first, of values or of types (JVMS 2.6.2, 2.11.1).
-use Rattle.std.specs.Prelude.{ℕ, ◌+◌, List, [], ◌∷◌, ◌++◌, slice_get, Option, Some, None}
+use Rattle.std.specs.Prelude.{ℕ, ◌+◌, Bool, true, false, List, [], ◌∷◌, ◌++◌, slice_get, Option, Some, None}
 use Rattle.names.specs.declared.base.Primitive.{Primitive}
 use Rattle.names.specs.declared.base.Primitive.TheVariants as primitives
 use Rattle.insn.specs.declared.operation.Kind.{Kind}
@@ -12,6 +12,13 @@ computed_as primitives.Float = Float
 computed_as primitives.Long = Long
 computed_as primitives.Double = Double
 computed_as _ = Int
+
+abbrev pub same_kind : Kind → Kind → Bool
+same_kind Int Int = true
+same_kind Long Long = true
+same_kind Float Float = true
+same_kind Double Double = true
+same_kind _ _ = false
 
 -- what is left beneath as many items as these
 abbrev pub beneath : {A B : Type 0} → List A → List B → List B

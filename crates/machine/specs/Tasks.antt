@@ -3,7 +3,7 @@ use Rattle.std.specs.Prelude.{ℕ, zero, suc, ℤ, ◌+◌, Bool, true, false, n
 use Rattle.names.specs.declared.base.Primitive.{Primitive}
 use Rattle.names.specs.declared.base.Primitive.TheVariants as primitives
 use Rattle.names.specs.Descriptors.{FieldDescriptor, primitive, class, array, MethodDescriptor, method_width}
-use Rattle.names.specs.ReferenceTypes.{ReferenceType, class_type, array_type, dimensions_of}
+use Rattle.names.specs.ReferenceTypes.{ReferenceType, class_type, array_type, dimensions_of, is_class_type}
 use Rattle.names.specs.StandardNames.{init_name, throwable_name, string_name, class_name, method_type_name, method_handle_name}
 use Rattle.pool.specs.Entries as entries
 use Rattle.pool.specs.Entries.{Entry}
@@ -15,7 +15,7 @@ use Rattle.insn.specs.declared.operation.Kind.TheVariants as kinds
 use Rattle.insn.specs.declared.operation.NumericOperator.{NumericOperator}
 use Rattle.insn.specs.declared.operation.StackOperator.{StackOperator}
 use Rattle.insn.specs.Acts.{numeric_row, StackForm, stack_forms}
-use Rattle.insn.specs.Stacks.{computed_as}
+use Rattle.insn.specs.Stacks.{computed_as, same_kind}
 use Rattle.insn.specs.Offsets.{led_to}
 use Rattle.insn.specs.Meanings as acts
 use Rattle.insn.specs.Meanings.{Act}
@@ -164,10 +164,6 @@ call_on receiver c =
 abbrev pub static_call : MethodConstant → Task
 static_call c = operates (arguments_on c.type.params []) None (reply_of c.type.result) [] true
 
-abbrev pub is_class_type : ReferenceType → Bool
-is_class_type (class_type name) = true
-is_class_type (array_type component) = false
-
 abbrev pub invoke_static : ℕ → Option MethodConstant → Task
 invoke_static major (Some c) = where_allowed (is_class_type c.class && (not (is_init_name c) && may_name major c.interface)) (static_call c)
 invoke_static major None = stuck
@@ -229,13 +225,6 @@ instance_of (Some t) = operates (of_type (class_type object_name) ∷ []) None (
 instance_of None = stuck
 
 -- ---- returns
-
-abbrev pub same_kind : Kind → Kind → Bool
-same_kind kinds.Int kinds.Int = true
-same_kind kinds.Long kinds.Long = true
-same_kind kinds.Float kinds.Float = true
-same_kind kinds.Double kinds.Double = true
-same_kind _ _ = false
 
 abbrev pub return_number : Option FieldDescriptor → Kind → Task
 return_number (Some (primitive p)) kind = where_allowed (same_kind (computed_as p) kind) (leaves (of_kind kind ∷ []))

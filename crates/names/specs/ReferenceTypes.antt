@@ -1,5 +1,5 @@
 -- Reference types (JVMS 2.4): a class or an interface by the bytes of its name, or an array by the type of its components.
-use Rattle.std.specs.Prelude.{ℕ, ◌+◌, Bool, false, if◌then◌else◌, nat_eq, List, [], ◌∷◌, Option, Some, None, Result, Ok, Err}
+use Rattle.std.specs.Prelude.{ℕ, ◌+◌, Bool, true, false, if◌then◌else◌, nat_eq, List, [], ◌∷◌, Option, Some, None, Result, Ok, Err}
 use Rattle.names.specs.declared.fault.NameFault.{NameFault}
 use Rattle.names.specs.Names.{bracket}
 use Rattle.names.specs.Descriptors.{FieldDescriptor, primitive, class, array, dimensions}
@@ -18,6 +18,10 @@ descriptor_of (array_type component) = array component
 abbrev pub dimensions_of : ReferenceType → ℕ
 dimensions_of (class_type name) = 0
 dimensions_of (array_type component) = dimensions component + 1
+
+abbrev pub is_class_type : ReferenceType → Bool
+is_class_type (class_type name) = true
+is_class_type (array_type component) = false
 
 -- ---- the text of a Class constant (4.4.1): the name of a class, or the descriptor of an array
 

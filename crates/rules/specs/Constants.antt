@@ -2,7 +2,7 @@
 use Rattle.std.specs.Prelude.{ℕ, Bool, true, false, not, ◌&&◌, ◌||◌, nat_lt, nat_eq, bytes_eq, if◌then◌else◌, List, [], ◌∷◌, Option, Some, None}
 use Rattle.names.specs.declared.base.Primitive.{Primitive}
 use Rattle.names.specs.Descriptors.{FieldDescriptor, primitive, class as class_descriptor, array as array_descriptor, method_width}
-use Rattle.names.specs.ReferenceTypes.{ReferenceType, class_type, array_type, dimensions_of}
+use Rattle.names.specs.ReferenceTypes.{ReferenceType, class_type, array_type, dimensions_of, is_class_type}
 use Rattle.names.specs.StandardNames.{init_name, string_name, class_name, method_type_name, method_handle_name}
 use Rattle.pool.specs.Entries as entries
 use Rattle.pool.specs.Entries.{Entry}
@@ -59,10 +59,6 @@ put_field m None = refuses 66
 
 abbrev pub is_init_name : MethodConstant → Bool
 is_init_name c = bytes_eq c.name init_name
-
-abbrev pub is_class_type : ReferenceType → Bool
-is_class_type (class_type name) = true
-is_class_type (array_type component) = false
 
 -- invokestatic and invokespecial name methods of interfaces from version 52 on
 abbrev pub may_name : ℕ → Bool → Bool

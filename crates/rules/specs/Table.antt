@@ -10,7 +10,7 @@ use Rattle.hierarchy.specs.World.{object_name}
 use Rattle.insn.specs.declared.operation.Kind.{Kind}
 use Rattle.insn.specs.declared.operation.Kind.TheVariants as kinds
 use Rattle.insn.specs.Acts.{is_wide, numeric_row, stack_forms}
-use Rattle.insn.specs.Stacks.{computed_as}
+use Rattle.insn.specs.Stacks.{computed_as, same_kind}
 use Rattle.insn.specs.Offsets.{at_offset}
 use Rattle.insn.specs.Meanings as acts
 use Rattle.insn.specs.Meanings.{Act}
@@ -20,13 +20,6 @@ use Rattle.rules.specs.Plans.{Want, number, assignable_to, any_reference, any_ar
 use Rattle.rules.specs.Constants.{load_constant, load_wide_constant, get_static, put_static, get_field, put_field, invoke_static, invoke_virtual, invoke_interface, invoke_special, new_object, new_array, new_reference_array, new_multi_array, check_cast, instance_of}
 
 -- ---- returns: an instruction of another kind than the method's result is refused 76
-
-abbrev pub same_kind : Kind → Kind → Bool
-same_kind kinds.Int kinds.Int = true
-same_kind kinds.Long kinds.Long = true
-same_kind kinds.Float kinds.Float = true
-same_kind kinds.Double kinds.Double = true
-same_kind _ _ = false
 
 -- it takes an operand, and nothing comes behind it
 abbrev pub leaves_with : Want → Plan

@@ -6,12 +6,10 @@ ghost use Rattle.verify.specs.Safety.{TypeSafeIsSafe, OperandsAreRight, StackSta
 /// leaves the starts of instructions; no object is used before its constructor returned; and no constructor returns
 /// before its own object is ready.
 pub fn type_safe_is_safe()
-    ensures {
-        safe { TypeSafeIsSafe }
-        operands { OperandsAreRight }
-        stack { StackStaysWithin }
-        control { ControlStaysOnStarts }
-        objects { ObjectsAreReady }
-        own_object { OwnObjectIsReady }
-    }
+    ensures safe { TypeSafeIsSafe }
+    ensures operands { OperandsAreRight }
+    ensures stack { StackStaysWithin }
+    ensures control { ControlStaysOnStarts }
+    ensures objects { ObjectsAreReady }
+    ensures own_object { OwnObjectIsReady }
 {}

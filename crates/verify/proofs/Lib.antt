@@ -1,0 +1,4 @@
+pub mod Worlds
+pub mod Fits
+pub mod Apart
+pub mod Agree
