@@ -5,3 +5,5 @@ pub mod Agree
 pub mod Plain
 pub mod Locals
 pub mod Forms
+pub mod News
+pub mod References
