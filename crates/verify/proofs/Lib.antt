@@ -7,3 +7,5 @@ pub mod Locals
 pub mod Forms
 pub mod News
 pub mod References
+pub mod Steps
+pub mod Start
