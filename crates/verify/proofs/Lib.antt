@@ -9,3 +9,5 @@ pub mod News
 pub mod References
 pub mod Steps
 pub mod Start
+pub mod Declared
+pub mod Run
