@@ -11,14 +11,15 @@ use Rattle.hierarchy.specs.Extends.{Extends}
 use Rattle.hierarchy.proofs.Worlds.{itself}
 use Rattle.insn.specs.Meanings.{Act}
 use Rattle.insn.specs.Offsets.{at_offset, next_offset, IsStart, IsAmong, led_to}
-use Rattle.insn.specs.Stacks.{beneath, rearranged}
+use Rattle.names.specs.Descriptors.{FieldDescriptor, primitive, class as class_descriptor, array as array_descriptor}
+use Rattle.insn.specs.Stacks.{computed_as, beneath, rearranged}
 use Rattle.machine.specs.Values.{Value, number, null, reference, holds, stored}
-use Rattle.machine.specs.Heap.{Status, ready, made, this, Object, object, Heap, with_object, IsFresh, with_fresh}
+use Rattle.machine.specs.Heap.{Status, ready, made, this, Object, object, Heap, with_object, IsBelow, FitsField, IsFresh, with_fresh}
 use Rattle.machine.specs.Tasks as tasks
 use Rattle.machine.specs.Tasks.{Need, Reply, Task, task, targets, needs_of}
 use Rattle.machine.specs.Demands.{State, AllMeet, IsMade, IsOwn, MeetsRest, IsNoFault}
 use Rattle.machine.specs.Steps.{goes_on, ended, go, raise, Replies, moved, moved_with, IsNull, IsLive, Does, IsBranch, GoesTo, IsLast, Happens}
-use Rattle.machine.specs.Breadth.{with_new, MayGoOn, IsReplied, IsElement, IsUnused, IsAnswer, HasStep, HasChoices, StepBreadth, StartBreadth, with_class, interface_entry, class_entry, HasWorlds, WorldBreadth}
+use Rattle.machine.specs.Breadth.{with_new, MayGoOn, IsReplied, IsElement, IsUnused, IsAnswer, MakesNone, HasStep, HasChoices, StepBreadth, StartBreadth, with_class, interface_entry, class_entry, HasWorlds, WorldBreadth}
 use Rattle.machine.proofs.Flows.{Flows, flows}
 
 -- ---- fresh objects leave the others
@@ -75,6 +76,55 @@ module _ (w : World) (m : Method Act) (s : State) (fresh : List (ℕ × Referenc
   does (tasks.throws n) answer to am mr go_on an = elim go_on [ ]
   does tasks.ends answer to am mr go_on an = elim go_on [ ]
   does tasks.stuck answer to am mr go_on an = elim go_on [ ]
+
+  -- ---- something to answer
+
+  field_value : (t : FieldDescriptor) → (v : Value) × FitsField w (with_fresh s.heap fresh) t v
+  field_value (primitive p) = (number (computed_as p), refl)
+  field_value (class_descriptor n) = (null, tt)
+  field_value (array_descriptor c) = (null, tt)
+
+  reply : (r : Reply) → (answer : Option Value) × IsReplied w (with_fresh s.heap fresh) r answer
+  reply tasks.no_reply = (None, refl)
+  reply (tasks.gives_number k) = (None, refl)
+  reply tasks.gives_null = (None, refl)
+  reply (tasks.gives_answer t) = let v = field_value t in (Some v.0, (v.0, refl, v.1))
+
+  element_at : (vs : List Value) → vs ≡ s.stack → AllMeet w s.heap (needs_of tasks.takes_element) vs → IsLive (Some 1) vs → (answer : Option Value) × IsElement w (with_new s fresh) answer
+  element_at [] e am live = elim am [ ]
+  element_at (i ∷ []) e am live = elim am.1 [ ]
+  element_at (i ∷ (number k ∷ vs)) e am live = elim am.1.0 [ ]
+  element_at (i ∷ (null ∷ vs)) e am live = absurd (live tt)
+  element_at (i ∷ (reference a ∷ vs)) e am live = by am.1.0.0 am.1.0.1 am.1.0.2
+    where
+      by : (x : ReferenceType) → s.heap a ≡ Some (object x ready) → IsBelow w x tasks.objects → (answer : Option Value) × IsElement w (with_new s fresh) answer
+      by (class_type n) at b = elim b [ ]
+      by (array_type c) at b = let v = field_value c in (Some v.0, record {
+        address = a;
+        component = c;
+        value = v.0;
+        array = ap (λ z. slice_get z 1) (sym e);
+        type = keeps fresh s.heap a (object (array_type c) ready) f at;
+        fits = v.1;
+        is = refl;
+      })
+
+  answered : (t : Task) → AllMeet w s.heap (needs_of t) s.stack → MayGoOn w t (with_new s fresh) → MakesNone t → (answer : Option Value) × IsAnswer w t (with_new s fresh) answer
+  answered (tasks.operates ns l r os b) am go_on none = reply r
+  answered (tasks.calls_special c ns l r) am go_on none = reply r
+  answered (tasks.reads n i) am go_on none = (None, refl)
+  answered (tasks.writes n i k) am go_on none = (None, refl)
+  answered (tasks.increments i) am go_on none = (None, refl)
+  answered (tasks.moves fs) am go_on none = (None, refl)
+  answered tasks.takes_element am go_on none = element_at s.stack refl am go_on
+  answered (tasks.passes r) am go_on none = (None, refl)
+  answered (tasks.creates c) am go_on none = elim none [ ]
+  answered (tasks.makes_array ns r) am go_on none = elim none [ ]
+  answered (tasks.initializes c ns) am go_on none = (None, refl)
+  answered (tasks.leaves ns) am go_on none = elim go_on [ ]
+  answered (tasks.throws x) am go_on none = elim go_on [ ]
+  answered tasks.ends am go_on none = elim go_on [ ]
+  answered tasks.stuck am go_on none = elim go_on [ ]
 
   branch_to : (ts : List ℤ) (to : ℕ) → (branch : Option ℕ) × IsBranch ts branch to
   branch_to [] to = (None, refl)
@@ -137,6 +187,7 @@ module _ (w : World) (m : Method Act) (s : State) (fresh : List (ℕ × Referenc
     choices = record {
       steps = step;
       somewhere = somewhere;
+      answered = λ go_on none. answered (task m act) (subst (λ a. AllMeet w s.heap (needs_of (task m a)) s.stack) same_act n.operands.operands) go_on none;
       returns = λ l. (n, record { act = act; here = here; unused = f; no_branch = refl; no_answer = refl; last = l });
       raises = λ a x at b. ((n, record { unused = f; type = x; here = at; throwable = b }),
         λ k e which covered catches. (moved_with s e.handler (reference a ∷ []) (with_fresh s.heap fresh),

@@ -66,6 +66,12 @@ IsAnswer world (creates class) s answer = IsUnused s answer
 IsAnswer world (makes_array needs type) s answer = IsUnused s answer
 IsAnswer world _ s answer = answer ≡ None
 
+-- no new object is made by the instruction itself
+abbrev pub MakesNone : Task → Type 0
+MakesNone (creates class) = ⊥
+MakesNone (makes_array needs type) = ⊥
+MakesNone _ = Unit {0}
+
 -- a step to this offset, by this answer and with these new objects
 pub record HasStep (world : World) (m : Method Act) (s : State) (act : Act) (fresh : List (ℕ × ReferenceType)) (answer : Option Value) (to : ℕ) : Type 0 where
   pub branch : Option ℕ
@@ -86,6 +92,8 @@ pub record HasChoices (world : World) (m : Method Act) (s : State) (act : Act) (
               → (to : ℕ) → GoesTo m s.at (task m act) to → HasStep world m s act fresh answer to
   -- and there is somewhere to go
   pub somewhere : MayGoOn world (task m act) (with_new s fresh) → (to : ℕ) × GoesTo m s.at (task m act) to
+  -- and something to answer; an object that the instruction makes needs an address that is unused
+  pub answered : MayGoOn world (task m act) (with_new s fresh) → MakesNone (task m act) → (answer : Option Value) × IsAnswer world (task m act) (with_new s fresh) answer
   pub returns : IsLast (task m act) → Happens world m s (go None None fresh) ended
   -- every Throwable that is ready is raised, uncaught and to every entry that catches it
   pub raises : (address : ℕ) (type : ReferenceType) → with_fresh s.heap fresh address ≡ Some (object type ready) → IsBelow world type (class_type throwable_name)

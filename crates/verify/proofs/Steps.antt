@@ -1,6 +1,6 @@
 -- Every family: what is needed is there, and what is done keeps the state fitting.
 use Rattle.std.proofs.Common.{◌≡◌, ℕ, ℤ, ◌≤◌, Bool, true, false, ◌&&◌, List, [], ◌∷◌, ◌++◌, Option, Some, None, if◌then◌else◌, ◌⊎◌, inl, inr, sym, ap, subst₂, refl, ◌∙◌, subst}
-use Rattle.names.specs.ReferenceTypes.{ReferenceType, class_type}
+use Rattle.names.specs.ReferenceTypes.{ReferenceType, class_type, array_type}
 use Rattle.classfile.specs.Methods.{Method}
 use Rattle.hierarchy.specs.World.{World}
 use Rattle.hierarchy.specs.Class.{ClassFact}
@@ -101,7 +101,7 @@ rest_met hh e _ _ s f a so x c = elim a [ ]
 
 reference_units : (r : ReferenceType) → units_of (to_reference r ∷ []) ≡ 1
 reference_units (class_type n) = refl
-reference_units _ = refl
+reference_units (array_type c) = refl
 
 pub room_met : (hh : List ClassFact) (e : View) (pl : Plan) (tk : Task) (s : State) (f : FrameFact) → Agrees pl tk → Sound hh e → Fits e s f → NoneHolds (conditions hh e.method s.at pl f) → HasRoom e.method tk s
 room_met hh e (rules.pops ws gs os b) (tasks.operates ns l r us d) s f a so x c = pops_room e ws gs ns e.method.max_stack (tasks.reply_units r) s f a.needs (reply_width gs r a.reply) x (room hh e.method s.at (rules.pops ws gs os b) f c)
