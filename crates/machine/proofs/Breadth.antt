@@ -1,25 +1,25 @@
 -- The machine's choices, beginnings and worlds.
-use Rattle.std.proofs.Common.{◌≡◌, ◌≢◌, ℕ, ℤ, pos, ◌+ℤ◌, ◌≤◌, Bool, true, false, List, [], ◌∷◌, ◌++◌, map, slice_get, Option, Some, None, if◌then◌else◌, nat_eq, ◌⊎◌, inl, inr, sym, ap, refl, ◌∙◌, subst, ne_eqb, option_map}
+use Rattle.std.proofs.Common.{◌≡◌, ◌≢◌, ℕ, ℤ, pos, ◌+ℤ◌, Bool, true, false, List, [], ◌∷◌, slice_get, Option, Some, None, if◌then◌else◌, ◌⊎◌, inl, inr, sym, ap, refl, ◌∙◌, subst, ne_eqb, option_map}
 use Rattle.std.specs.Str.{bytes_eq}
 use Rattle.std.proofs.lemmas.Slice.Eq.{bytes_eq-Decides}
 use Rattle.names.specs.ReferenceTypes.{ReferenceType, class_type, array_type}
 use Rattle.classfile.specs.Methods.{Method}
 use Rattle.hierarchy.specs.World.{Entry, World, object_name, cloneable_name, serializable_name}
-use Rattle.hierarchy.specs.Class.{ClassFact, class_of, entry_of, world_of, IsAbsent}
+use Rattle.hierarchy.specs.Class.{ClassFact, entry_of, world_of, IsAbsent}
 use Rattle.hierarchy.specs.Rules.{IsHierarchy}
 use Rattle.hierarchy.specs.Extends.{Extends}
 use Rattle.hierarchy.proofs.Worlds.{itself}
 use Rattle.insn.specs.Meanings.{Act}
-use Rattle.insn.specs.Offsets.{at_offset, next_offset, IsStart, IsAmong, led_to}
+use Rattle.insn.specs.Offsets.{at_offset, IsAmong, led_to}
 use Rattle.names.specs.Descriptors.{FieldDescriptor, primitive, class as class_descriptor, array as array_descriptor}
-use Rattle.insn.specs.Stacks.{computed_as, beneath, rearranged}
-use Rattle.machine.specs.Values.{Value, number, null, reference, holds, stored}
+use Rattle.insn.specs.Stacks.{computed_as}
+use Rattle.machine.specs.Values.{Value, number, null, reference}
 use Rattle.machine.specs.Heap.{Status, ready, made, this, Object, object, Heap, with_object, IsBelow, FitsField, IsFresh, with_fresh}
 use Rattle.machine.specs.Tasks as tasks
 use Rattle.machine.specs.Tasks.{Need, Reply, Task, task, targets, needs_of}
 use Rattle.machine.specs.Demands.{State, AllMeet, IsMade, IsOwn, MeetsRest, IsNoFault}
-use Rattle.machine.specs.Steps.{goes_on, ended, go, raise, Replies, moved, moved_with, IsNull, IsLive, Does, IsBranch, GoesTo, IsLast, Happens}
-use Rattle.machine.specs.Breadth.{with_new, MayGoOn, IsReplied, IsElement, IsUnused, IsAnswer, MakesNone, HasStep, HasChoices, StepBreadth, StartBreadth, with_class, interface_entry, class_entry, HasWorlds, WorldBreadth}
+use Rattle.machine.specs.Steps.{Replies, moved_with, IsLive, Does, IsBranch, GoesTo}
+use Rattle.machine.specs.Breadth.{with_new, MayGoOn, IsReplied, IsElement, IsAnswer, MakesNone, HasStep, HasChoices, StepBreadth, StartBreadth, with_class, interface_entry, class_entry, WorldBreadth}
 use Rattle.machine.proofs.Flows.{Flows, flows}
 
 -- ---- fresh objects leave the others
@@ -99,15 +99,18 @@ module _ (w : World) (m : Method Act) (s : State) (fresh : List (ℕ × Referenc
     where
       by : (x : ReferenceType) → s.heap a ≡ Some (object x ready) → IsBelow w x tasks.objects → (answer : Option Value) × IsElement w (with_new s fresh) answer
       by (class_type n) at b = elim b [ ]
-      by (array_type c) at b = let v = field_value c in (Some v.0, record {
-        address = a;
-        component = c;
-        value = v.0;
-        array = ap (λ z. slice_get z 1) (sym e);
-        type = keeps fresh s.heap a (object (array_type c) ready) f at;
-        fits = v.1;
-        is = refl;
-      })
+      by (array_type c) at b = let v = field_value c in (
+        Some v.0,
+        record {
+          address = a;
+          component = c;
+          value = v.0;
+          array = ap (λ z. slice_get z 1) (sym e);
+          type = keeps fresh s.heap a (object (array_type c) ready) f at;
+          fits = v.1;
+          is = refl;
+        },
+      )
 
   answered : (t : Task) → AllMeet w s.heap (needs_of t) s.stack → MayGoOn w t (with_new s fresh) → MakesNone t → (answer : Option Value) × IsAnswer w t (with_new s fresh) answer
   answered (tasks.operates ns l r os b) am go_on none = reply r
@@ -189,9 +192,13 @@ module _ (w : World) (m : Method Act) (s : State) (fresh : List (ℕ × Referenc
       somewhere = somewhere;
       answered = λ go_on none. answered (task m act) (subst (λ a. AllMeet w s.heap (needs_of (task m a)) s.stack) same_act n.operands.operands) go_on none;
       returns = λ l. (n, record { act = act; here = here; unused = f; no_branch = refl; no_answer = refl; last = l });
-      raises = λ a x at b. ((n, record { unused = f; type = x; here = at; throwable = b }),
-        λ k e which covered catches. (moved_with s e.handler (reference a ∷ []) (with_fresh s.heap fresh),
-          (n, record { raised = record { unused = f; type = x; here = at; throwable = b }; by_entry = e; which = which; covered = covered; catches = catches; result = refl })));
+      raises = λ a x at b. (
+        (n, record { unused = f; type = x; here = at; throwable = b }),
+        λ k e which covered catches. (
+          moved_with s e.handler (reference a ∷ []) (with_fresh s.heap fresh),
+          (n, record { raised = record { unused = f; type = x; here = at; throwable = b }; by_entry = e; which = which; covered = covered; catches = catches; result = refl }),
+        ),
+      );
     }
 
 pub step_breadth : StepBreadth

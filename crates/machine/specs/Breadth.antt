@@ -11,9 +11,9 @@ use Rattle.hierarchy.specs.Rules.{IsHierarchy}
 use Rattle.hierarchy.specs.Extends.{Extends}
 use Rattle.insn.specs.Meanings.{Act}
 use Rattle.insn.specs.Offsets.{at_offset}
-use Rattle.machine.specs.Values.{Value, number, null, reference, in_slots, all_slots}
+use Rattle.machine.specs.Values.{Value, reference, in_slots, all_slots}
 use Rattle.machine.specs.Heap.{ready, made, this, object, Heap, IsAddress, IsHeap, IsBelow, FitsReference, FitsField, AllFit, IsFresh, with_fresh}
-use Rattle.machine.specs.Tasks.{Reply, no_reply, gives_number, gives_null, gives_answer, Task, operates, takes_element, passes, creates, makes_array, calls_special, leaves, throws, ends, stuck, task, targets}
+use Rattle.machine.specs.Tasks.{Reply, gives_answer, Task, operates, takes_element, passes, creates, makes_array, calls_special, leaves, throws, ends, stuck, task, targets}
 use Rattle.machine.specs.Demands.{State, IsNoFault}
 use Rattle.machine.specs.Steps.{go, raise, goes_on, ended, IsLive, IsBranch, GoesTo, IsLast, Happens}
 use Rattle.machine.specs.Runs.{Receives, IsInitial}
@@ -89,7 +89,7 @@ HasCatches world m s address type fresh =
 pub record HasChoices (world : World) (m : Method Act) (s : State) (act : Act) (fresh : List (ℕ × ReferenceType)) : Type 0 where
   -- to every target, and on to the next start, with every answer
   pub steps : MayGoOn world (task m act) (with_new s fresh) → (answer : Option Value) → IsAnswer world (task m act) (with_new s fresh) answer
-              → (to : ℕ) → GoesTo m s.at (task m act) to → HasStep world m s act fresh answer to
+      → (to : ℕ) → GoesTo m s.at (task m act) to → HasStep world m s act fresh answer to
   -- and there is somewhere to go
   pub somewhere : MayGoOn world (task m act) (with_new s fresh) → (to : ℕ) × GoesTo m s.at (task m act) to
   -- and something to answer; an object that the instruction makes needs an address that is unused
@@ -97,7 +97,7 @@ pub record HasChoices (world : World) (m : Method Act) (s : State) (act : Act) (
   pub returns : IsLast (task m act) → Happens world m s (go None None fresh) ended
   -- every Throwable that is ready is raised, uncaught and to every entry that catches it
   pub raises : (address : ℕ) (type : ReferenceType) → with_fresh s.heap fresh address ≡ Some (object type ready) → IsBelow world type (class_type throwable_name)
-               → Happens world m s (raise address fresh None) ended × HasCatches world m s address type fresh
+      → Happens world m s (raise address fresh None) ended × HasCatches world m s address type fresh
 
 abbrev pub StepBreadth : Type 0
 StepBreadth =
@@ -133,7 +133,7 @@ pub record HasWorlds (classes : List ClassFact) : Type 0 where
   pub itself : Extends (world_of classes) classes
   pub interfaces : (name : List ℕ) → IsAbsent classes name → Extends (with_class (world_of classes) name interface_entry) classes
   pub more_classes : (name : List ℕ) → IsAbsent classes name → name ≢ cloneable_name → name ≢ serializable_name → (superclass : Option (List ℕ))
-                     → Extends (with_class (world_of classes) name (class_entry superclass)) classes
+      → Extends (with_class (world_of classes) name (class_entry superclass)) classes
 
 abbrev pub WorldBreadth : Type 0
 WorldBreadth = (classes : List ClassFact) → IsHierarchy classes → HasWorlds classes

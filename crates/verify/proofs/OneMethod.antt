@@ -1,8 +1,7 @@
 -- A class file has one method of a number at most.
-use Rattle.std.proofs.Common.{◌≡◌, ℕ, List, Option, Some, sym, ap, refl, ◌∙◌, subst}
-use Rattle.classfile.specs.Values.{CodeBody, Member, Class}
+use Rattle.std.proofs.Common.{◌≡◌, ℕ, Some, sym, ap, ◌∙◌, subst}
+use Rattle.classfile.specs.Values.{Class}
 use Rattle.classfile.specs.Methods.{Method, code_of, method_of}
-use Rattle.insn.specs.Instructions.{Instruction}
 use Rattle.insn.specs.Code.{SpellsCode}
 use Rattle.insn.specs.Meanings.{Act}
 use Rattle.insn.specs.Offsets.{acts}

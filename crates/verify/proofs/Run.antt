@@ -1,21 +1,19 @@
 -- Every state of a run fits the frame of its instruction, so none is a fault.
 use Rattle.std.proofs.Common.{◌≡◌, ℕ, zero, suc, ℤ, pos, ◌≤◌, Bool, true, false, nat_eq, List, [], ◌∷◌, slice_get, Option, Some, None, inl, inr, if◌then◌else◌, sym, ap, refl, ◌∙◌, subst, arith, eq-eqb}
 use Rattle.names.specs.ReferenceTypes.{ReferenceType}
-use Rattle.classfile.specs.Methods.{Method, ExceptionEntry, covers}
+use Rattle.classfile.specs.Methods.{Method}
 use Rattle.hierarchy.specs.World.{World}
 use Rattle.hierarchy.specs.Class.{ClassFact}
 use Rattle.hierarchy.specs.Rules.{IsHierarchy}
 use Rattle.hierarchy.specs.Extends.{Extends}
 use Rattle.insn.specs.Meanings.{Act}
 use Rattle.insn.specs.Offsets.{at_offset, first_offset, next_offset, IsStart, led_to, IsAmong}
-use Rattle.frames.specs.VerificationType.{VerificationType}
 use Rattle.frames.specs.FrameFact.{FrameFact}
-use Rattle.frames.specs.Slots.{to_reference, units_of}
-use Rattle.rules.specs.Plans as rules
+use Rattle.frames.specs.Slots.{units_of}
 use Rattle.rules.specs.Table.{plan, made_by}
 use Rattle.rules.specs.After.{after}
-use Rattle.machine.specs.Values.{Value, reference, depth_of}
-use Rattle.machine.specs.Heap.{Heap, with_fresh}
+use Rattle.machine.specs.Values.{Value, reference}
+use Rattle.machine.specs.Heap.{with_fresh}
 use Rattle.machine.specs.Tasks as tasks
 use Rattle.machine.specs.Tasks.{task}
 use Rattle.machine.specs.Demands.{State, LeadsToStart, IsNoFault}
