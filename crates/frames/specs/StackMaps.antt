@@ -1,7 +1,8 @@
 -- The body of a StackMapTable (JVMS 4.7.4): its entries, and which bytes spell them.
-use Rattle.std.specs.Prelude.{ℕ, ◌-◌, List, nat_eq, nat_le, if◌then◌else◌}
-use Rattle.layout.specs.declared.fault.ReadFault.TheVariants.{BadFrameType, BadTypeTag}
-use Rattle.layout.specs.Format.{Format, done, refuse, andthen, number, times}
+use Rattle.std.specs.Prelude.{◌≡◌, ℕ, ◌-◌, ◌<◌, List, ◌++◌, length, nat_eq, nat_le, if◌then◌else◌, ◌⊎◌}
+use Rattle.layout.specs.declared.fault.ReadFault.{ReadFault}
+use Rattle.layout.specs.declared.fault.ReadFault.TheVariants.{AttributeLength, BadFrameType, BadTypeTag}
+use Rattle.layout.specs.Format.{Format, Spells, FirstFault, done, refuse, andthen, number, times}
 
 -- a type as an entry gives it
 pub data TypeInfo : Type 0 where
@@ -56,3 +57,23 @@ map_entry = andthen (number 1) entry_behind
 
 unfoldable pub stack_map : Format (List MapEntry)
 stack_map = andthen (number 2) (λ count. times count map_entry)
+
+-- ---- whole bodies
+
+-- the body is the spelling of these entries, and nothing stands behind them
+abbrev pub IsMap : List ℕ → List MapEntry → Type 0
+IsMap body entries = Spells stack_map body entries
+
+-- entries stand in front of the body, and more behind them
+pub record HasMore (body : List ℕ) (at : ℕ) : Type 0 where
+  pub front : List ℕ
+  pub others : List ℕ
+  pub entries : List MapEntry
+  pub spelled : IsMap front entries
+  pub parts : body ≡ front ++ others
+  pub place : length front ≡ at
+  pub some : 0 < length others
+
+-- The first fault: a part that is not whole or breaks its rule, or the first byte left over (12).
+abbrev pub MapFault : List ℕ → ReadFault → Type 0
+MapFault body e = FirstFault stack_map 0 body e ⊎ ((at : ℕ) × (e ≡ AttributeLength at) × HasMore body at)

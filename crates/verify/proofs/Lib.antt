@@ -12,3 +12,4 @@ pub mod Start
 pub mod Declared
 pub mod Run
 pub mod OneMethod
+mod Examples

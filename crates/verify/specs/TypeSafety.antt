@@ -1,6 +1,5 @@
 -- When a method is type-safe (JVMS 4.10.1.6): there is a frame for each instruction, and each instruction is type-safe in its frame.
 use Rattle.std.specs.Prelude.{◌≡◌, ℕ, ℤ, pos, ◌≤◌, ◌<◌, true, false, List, [], ◌∷◌, length, Option, Some, None, Ok, ◌⊎◌}
-use Rattle.layout.specs.Format.{Spells}
 use Rattle.names.specs.StandardNames.{throwable_name}
 use Rattle.classfile.specs.Methods.{Method, ExceptionEntry, covers}
 use Rattle.hierarchy.specs.Class.{ClassFact}
@@ -13,7 +12,7 @@ use Rattle.frames.specs.Slots.{to_reference, in_locals}
 use Rattle.frames.specs.Assignable.{type_answer}
 use Rattle.frames.specs.FrameAssignable.{frame_answer}
 use Rattle.frames.specs.Conditions.{NoneHolds}
-use Rattle.frames.specs.StackMaps.{MapEntry, stack_map}
+use Rattle.frames.specs.StackMaps.{MapEntry, IsMap}
 use Rattle.frames.specs.DeclaredFrames.{declared_frames}
 use Rattle.rules.specs.Plans.{Plan, falls, targets}
 use Rattle.rules.specs.Table.{plan}
@@ -30,7 +29,7 @@ Frames = List (ℕ × FrameFact)
 -- the entries of a StackMapTable, and none without one
 abbrev pub HasEntries : Option (List ℕ) → List MapEntry → Type 0
 HasEntries None entries = entries ≡ []
-HasEntries (Some body) entries = Spells stack_map body entries
+HasEntries (Some body) entries = IsMap body entries
 
 -- the method's stack map declares these frames
 pub record Declares (m : Method Act) (frames : Frames) : Type 0 where
