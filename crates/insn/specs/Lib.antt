@@ -10,3 +10,5 @@ pub mod Sizes
 pub mod Spellings
 pub mod Table
 pub mod Views
+pub mod Offsets
+pub mod Stacks
