@@ -9,7 +9,7 @@ use Rattle.classfile.specs.Methods.{Method}
 use Rattle.hierarchy.specs.Class.{ClassFact}
 use Rattle.insn.specs.declared.operation.Kind.TheVariants as kinds
 use Rattle.insn.specs.declared.operation.NumericOperator.TheVariants as numerics
-use Rattle.insn.specs.declared.operation.StackOperator.TheVariants as stacks
+use Rattle.insn.specs.declared.stack.StackOperator.TheVariants as stacks
 use Rattle.insn.specs.Meanings as acts
 use Rattle.insn.specs.Meanings.{Act}
 use Rattle.frames.specs.VerificationType.{VerificationType, top, int, float, long, double, null, class, array, uninit_this, uninit}
