@@ -3,5 +3,6 @@ pub mod ClassMeasure
 pub mod Classes
 pub mod Encodings
 pub mod Measures
+pub mod NamingLaws
 pub mod Steps
 pub mod Whole

@@ -1,8 +1,17 @@
+pub mod AttributeForm
 pub mod ClassFile
+pub mod ClassForm
+pub mod Conditions
+pub mod ConstantForm
 pub mod Encoding
+pub mod Flags
+pub mod Indices
 pub mod Laws
 pub mod Locations
+pub mod MemberForm
+pub mod Naming
 pub mod Pieces
 pub mod Sizes
 pub mod Values
 pub mod Views
+pub mod WellFormed

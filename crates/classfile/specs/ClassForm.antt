@@ -1,0 +1,56 @@
+-- What may be wrong with a class itself (JVMS 4.1): its names, its flags, its superclass and its own attributes.
+use Rattle.std.specs.Prelude.{ℕ, Bool, not, ◌&&◌, ◌||◌, List, [], ◌∷◌, nat_eq, codes}
+use Rattle.std.specs.List.{list_any}
+use Rattle.std.specs.Str.{bytes_eq}
+use Rattle.classfile.specs.declared.form_fault.FormRule.TheVariants.{BadIndex, WrongKind, BadName, BadFlags, BadSuper}
+use Rattle.classfile.specs.declared.indices.ConstantKind.TheVariants as kinds
+use Rattle.classfile.specs.Values.{Class}
+use Rattle.classfile.specs.Conditions.{Condition}
+use Rattle.classfile.specs.Indices.{is_bad, is_bad_unless_zero, is_other, on_class_name}
+use Rattle.classfile.specs.ConstantForm.{is_array_class}
+use Rattle.classfile.specs.Flags.{has, INTERFACE, are_bad_class_flags}
+use Rattle.classfile.specs.AttributeForm.{attributes_have_bad, attributes_have_other}
+
+-- the name of the class above all others
+abbrev pub is_object : List ℕ → Bool
+is_object name = bytes_eq name (codes "java/lang/Object")
+
+unfoldable pub class_has_bad : Class → Bool
+class_has_bad c =
+    is_bad c.constant_pool c.this_class || is_bad_unless_zero c.constant_pool c.super_class
+    || list_any (is_bad c.constant_pool) c.interfaces || attributes_have_bad c.constant_pool c.attributes
+
+unfoldable pub class_has_other : Class → Bool
+class_has_other c =
+    is_other c.constant_pool kinds.Class c.this_class || is_other c.constant_pool kinds.Class c.super_class
+    || list_any (is_other c.constant_pool kinds.Class) c.interfaces || attributes_have_other c.constant_pool c.attributes
+
+-- neither the class nor its superclass nor one of its interfaces is an array
+unfoldable pub class_has_array : Class → Bool
+class_has_array c =
+    is_array_class c.constant_pool c.this_class || is_array_class c.constant_pool c.super_class
+    || list_any (is_array_class c.constant_pool) c.interfaces
+
+-- Object alone has no superclass
+unfoldable pub lacks_super : Class → Bool
+lacks_super c = nat_eq c.super_class 0 && on_class_name c.constant_pool c.this_class (λ n. not (is_object n))
+
+unfoldable pub is_object_below : Class → Bool
+is_object_below c = not (nat_eq c.super_class 0) && on_class_name c.constant_pool c.this_class is_object
+
+-- an interface's superclass is Object
+unfoldable pub is_interface_elsewhere : Class → Bool
+is_interface_elsewhere c =
+    has c.access_flags INTERFACE && (nat_eq c.super_class 0 || on_class_name c.constant_pool c.super_class (λ n. not (is_object n)))
+
+unfoldable pub has_bad_super : Class → Bool
+has_bad_super c = lacks_super c || is_object_below c || is_interface_elsewhere c
+
+abbrev pub class_conditions : Class → List Condition
+class_conditions c =
+    (BadIndex, class_has_bad c)
+    ∷ (WrongKind, class_has_other c)
+    ∷ (BadName, class_has_array c)
+    ∷ (BadFlags, are_bad_class_flags c.access_flags)
+    ∷ (BadSuper, has_bad_super c)
+    ∷ []
