@@ -24,8 +24,12 @@ is_array_class pool index = on_class_name pool index is_array_name
 unfoldable pub is_no_unqualified_name : List Entry → ℕ → Bool
 is_no_unqualified_name pool index = on_text pool index (λ t. not (is_unqualified_name t))
 
+-- the descriptor of neither a field nor a method
+abbrev pub describes_nothing : List ℕ → Bool
+describes_nothing text = not (is_field_descriptor text) && not (is_method_descriptor false text)
+
 unfoldable pub is_no_descriptor : List Entry → ℕ → Bool
-is_no_descriptor pool index = on_text pool index (λ t. not (is_field_descriptor t || is_method_descriptor false t))
+is_no_descriptor pool index = on_text pool index describes_nothing
 
 unfoldable pub is_no_field_descriptor : List Entry → ℕ → Bool
 is_no_field_descriptor pool index = on_text pool index (λ t. not (is_field_descriptor t))

@@ -20,6 +20,7 @@
 mod attribute;
 mod class_file;
 mod code;
+mod constant_form;
 mod decoding;
 mod encoding;
 mod form_fault;

@@ -82,11 +82,7 @@ pub fn is_method_descriptor(
 }
 
 /// Whether the text is the descriptor of a method without a result.
-pub fn is_void_descriptor(
-    alloc: Global,
-    text: Text<'_>,
-    receiver: bool,
-) -> Result<bool, AllocError>
+pub fn is_void_descriptor(alloc: Global, text: Text<'_>, receiver: bool) -> Result<bool, AllocError>
     ensures { IfOk result (λ b. b ≡ is_void_descriptor receiver text.entry.bytes.now) }
 {
     match method_type(alloc, text, receiver) {
