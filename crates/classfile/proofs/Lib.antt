@@ -5,4 +5,5 @@ pub mod Encodings
 pub mod Measures
 pub mod NamingLaws
 pub mod Steps
+pub mod Tables
 pub mod Whole

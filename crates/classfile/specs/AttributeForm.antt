@@ -24,14 +24,23 @@ has_two attributes = nat_lt 1 (count_by is_by_field attributes)
 -- ---- a Code attribute
 
 -- what is caught is a class; 0 stands for everything
+unfoldable pub handlers_have_bad : List Entry → List Handler → Bool
+handlers_have_bad pool handlers = list_any (λ h. is_bad_unless_zero pool h.catch_type) handlers
+
+unfoldable pub handlers_have_other : List Entry → List Handler → Bool
+handlers_have_other pool handlers = list_any (λ h. is_other pool kinds.Class h.catch_type) handlers
+
+unfoldable pub nested_have_bad : List Entry → List Nested → Bool
+nested_have_bad pool attributes = list_any (λ a. is_bad pool (name_of a)) attributes
+
+unfoldable pub nested_have_other : List Entry → List Nested → Bool
+nested_have_other pool attributes = list_any (λ a. is_other pool kinds.Utf8 (name_of a)) attributes
+
 unfoldable pub code_has_bad : List Entry → CodeBody → Bool
-code_has_bad pool code =
-    list_any (λ h. is_bad_unless_zero pool h.catch_type) code.exception_table || list_any (λ a. is_bad pool (name_of a)) code.attributes
+code_has_bad pool code = handlers_have_bad pool code.exception_table || nested_have_bad pool code.attributes
 
 unfoldable pub code_has_other : List Entry → CodeBody → Bool
-code_has_other pool code =
-    list_any (λ h. is_other pool kinds.Class h.catch_type) code.exception_table
-    || list_any (λ a. is_other pool kinds.Utf8 (name_of a)) code.attributes
+code_has_other pool code = handlers_have_other pool code.exception_table || nested_have_other pool code.attributes
 
 -- code_length is 1 to 65,535
 abbrev pub has_bad_length : CodeBody → Bool
@@ -59,5 +68,11 @@ unfoldable pub have_bad_length : List Attribute → Bool
 have_bad_length attributes = list_any (on_body has_bad_length) attributes
 
 -- at most one Code attribute, and in each at most one StackMapTable
+unfoldable pub code_stands_twice : List Attribute → Bool
+code_stands_twice attributes = has_two attributes
+
+unfoldable pub stack_map_stands_twice : List Attribute → Bool
+stack_map_stands_twice attributes = list_any (on_body has_two_stack_maps) attributes
+
 unfoldable pub have_twice : List Attribute → Bool
-have_twice attributes = has_two attributes || list_any (on_body has_two_stack_maps) attributes
+have_twice attributes = code_stands_twice attributes || stack_map_stands_twice attributes

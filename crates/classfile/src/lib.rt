@@ -18,11 +18,13 @@
 #![tactic(auto)]
 
 mod attribute;
+mod attribute_form;
 mod class_file;
 mod code;
 mod constant_form;
 mod decoding;
 mod encoding;
+mod flags;
 mod form_fault;
 mod indices;
 mod laws;
