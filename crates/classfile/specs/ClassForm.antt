@@ -2,6 +2,7 @@
 use Rattle.std.specs.Prelude.{ℕ, Bool, not, ◌&&◌, ◌||◌, List, [], ◌∷◌, nat_eq, codes}
 use Rattle.std.specs.List.{list_any}
 use Rattle.std.specs.Str.{bytes_eq}
+use Rattle.pool.specs.Entries.{Entry}
 use Rattle.classfile.specs.declared.form_fault.FormRule.TheVariants.{BadIndex, WrongKind, BadName, BadFlags, BadSuper}
 use Rattle.classfile.specs.declared.indices.ConstantKind.TheVariants as kinds
 use Rattle.classfile.specs.Values.{Class}
@@ -15,33 +16,53 @@ use Rattle.classfile.specs.AttributeForm.{attributes_have_bad, attributes_have_o
 abbrev pub is_object : List ℕ → Bool
 is_object name = bytes_eq name (codes "java/lang/Object")
 
+unfoldable pub leads_to_object : List Entry → ℕ → Bool
+leads_to_object pool index = on_class_name pool index is_object
+
+unfoldable pub leads_elsewhere : List Entry → ℕ → Bool
+leads_elsewhere pool index = on_class_name pool index (λ n. not (is_object n))
+
+-- ---- indices
+
+unfoldable pub interfaces_have_bad : List Entry → List ℕ → Bool
+interfaces_have_bad pool interfaces = list_any (is_bad pool) interfaces
+
+unfoldable pub interfaces_have_other : List Entry → List ℕ → Bool
+interfaces_have_other pool interfaces = list_any (is_other pool kinds.Class) interfaces
+
+unfoldable pub interfaces_have_array : List Entry → List ℕ → Bool
+interfaces_have_array pool interfaces = list_any (is_array_class pool) interfaces
+
+-- 0 stands for no superclass
 unfoldable pub class_has_bad : Class → Bool
 class_has_bad c =
     is_bad c.constant_pool c.this_class || is_bad_unless_zero c.constant_pool c.super_class
-    || list_any (is_bad c.constant_pool) c.interfaces || attributes_have_bad c.constant_pool c.attributes
+    || interfaces_have_bad c.constant_pool c.interfaces || attributes_have_bad c.constant_pool c.attributes
 
 unfoldable pub class_has_other : Class → Bool
 class_has_other c =
     is_other c.constant_pool kinds.Class c.this_class || is_other c.constant_pool kinds.Class c.super_class
-    || list_any (is_other c.constant_pool kinds.Class) c.interfaces || attributes_have_other c.constant_pool c.attributes
+    || interfaces_have_other c.constant_pool c.interfaces || attributes_have_other c.constant_pool c.attributes
 
--- neither the class nor its superclass nor one of its interfaces is an array
+-- the class, its superclass or one of its interfaces is an array
 unfoldable pub class_has_array : Class → Bool
 class_has_array c =
     is_array_class c.constant_pool c.this_class || is_array_class c.constant_pool c.super_class
-    || list_any (is_array_class c.constant_pool) c.interfaces
+    || interfaces_have_array c.constant_pool c.interfaces
 
--- Object alone has no superclass
-unfoldable pub lacks_super : Class → Bool
-lacks_super c = nat_eq c.super_class 0 && on_class_name c.constant_pool c.this_class (λ n. not (is_object n))
+-- ---- the superclass
 
-unfoldable pub is_object_below : Class → Bool
-is_object_below c = not (nat_eq c.super_class 0) && on_class_name c.constant_pool c.this_class is_object
+-- Object alone has none
+abbrev pub lacks_super : Class → Bool
+lacks_super c = nat_eq c.super_class 0 && leads_elsewhere c.constant_pool c.this_class
 
--- an interface's superclass is Object
-unfoldable pub is_interface_elsewhere : Class → Bool
+abbrev pub is_object_below : Class → Bool
+is_object_below c = not (nat_eq c.super_class 0) && leads_to_object c.constant_pool c.this_class
+
+-- that of an interface is Object
+abbrev pub is_interface_elsewhere : Class → Bool
 is_interface_elsewhere c =
-    has c.access_flags INTERFACE && (nat_eq c.super_class 0 || on_class_name c.constant_pool c.super_class (λ n. not (is_object n)))
+    has c.access_flags INTERFACE && (nat_eq c.super_class 0 || leads_elsewhere c.constant_pool c.super_class)
 
 unfoldable pub has_bad_super : Class → Bool
 has_bad_super c = lacks_super c || is_object_below c || is_interface_elsewhere c

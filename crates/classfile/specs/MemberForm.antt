@@ -80,6 +80,15 @@ has_body pool m = is_class_initializer pool m || not (has m.access_flags NATIVE 
 unfoldable pub has_code : List Attribute → Bool
 has_code attributes = list_any is_by_field attributes
 
+-- what may be wrong with its attributes
+abbrev pub body_conditions : List Entry → Member → List Condition
+body_conditions pool m =
+    (CodeMissing, has_body pool m && not (has_code m.attributes))
+    ∷ (CodeNotAllowed, not (has_body pool m) && has_code m.attributes)
+    ∷ (BadCodeLength, have_bad_length m.attributes)
+    ∷ (AttributeTwice, have_twice m.attributes)
+    ∷ []
+
 abbrev pub method_conditions : List Entry → Bool → Bool → Member → List Condition
 method_conditions pool interface repeated m =
     (BadIndex, member_has_bad pool m)
@@ -88,8 +97,4 @@ method_conditions pool interface repeated m =
     ∷ (BadDescriptor, is_badly_described pool m)
     ∷ (BadFlags, is_badly_flagged pool m)
     ∷ (Twice, repeated)
-    ∷ (CodeMissing, has_body pool m && not (has_code m.attributes))
-    ∷ (CodeNotAllowed, not (has_body pool m) && has_code m.attributes)
-    ∷ (BadCodeLength, have_bad_length m.attributes)
-    ∷ (AttributeTwice, have_twice m.attributes)
-    ∷ []
+    ∷ body_conditions pool m

@@ -20,6 +20,7 @@
 mod attribute;
 mod attribute_form;
 mod class_file;
+mod class_form;
 mod code;
 mod constant_form;
 mod decoding;
@@ -30,6 +31,7 @@ mod indices;
 mod laws;
 mod location;
 mod member;
+mod member_form;
 mod naming;
 mod nested;
 mod table;
