@@ -11,6 +11,7 @@ pub mod Locations
 pub mod MemberForm
 pub mod Naming
 pub mod Pieces
+pub mod Seen
 pub mod Sizes
 pub mod Values
 pub mod Views

@@ -34,6 +34,7 @@ mod member;
 mod member_form;
 mod naming;
 mod nested;
+mod signatures;
 mod table;
 
 pub use attribute::Attribute;
