@@ -4,6 +4,7 @@ pub mod Classes
 pub mod Encodings
 pub mod Measures
 pub mod NamingLaws
+pub mod Places
 pub mod SeenLaws
 pub mod Steps
 pub mod Tables

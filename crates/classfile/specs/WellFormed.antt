@@ -1,6 +1,6 @@
 -- Well-formed class files (JVMS 4.1 to 4.7): no rule is broken at any place. Otherwise the first place where one is broken
 -- is told, with the least number that is broken there.
-use Rattle.std.specs.Prelude.{◌≡◌, ℕ, zero, suc, ◌<◌, List, [], take, slice_get, Option, Some, None, ⊤}
+use Rattle.std.specs.Prelude.{◌≡◌, ℕ, zero, suc, ◌<◌, List, [], take, slice_get, Option, Some, None, ⊤, Result, Ok, Err}
 use Rattle.std.specs.Option.{option_map_or}
 use Rattle.classfile.specs.declared.form_fault.FormRule.{FormRule}
 use Rattle.classfile.specs.declared.form_fault.FormFault.{FormFault}
@@ -64,3 +64,16 @@ form_fault_number (Broken rule place) = rule_number rule
 abbrev pub form_fault_place : FormFault → Option Place
 form_fault_place OutOfMemory = None
 form_fault_place (Broken rule place) = Some place
+
+-- ---- steps
+
+-- of the places of one kind, by their numbers, none has a fault; or the first that has one is told; or memory ran out
+abbrev pub Passes : Class → (ℕ → Place) → Result (Unit {0}) FormFault → Type 0
+Passes c place (Ok done) = (n : ℕ) → fault_at c (place n) ≡ None
+Passes c place (Err OutOfMemory) = Unit {0}
+Passes c place (Err (Broken rule p)) = (n : ℕ) × (p ≡ place n) × (fault_at c (place n) ≡ Some rule) × ((k : ℕ) → k < n → fault_at c (place k) ≡ None)
+
+-- what is said where the check did not run out of memory
+abbrev pub TellsFirst : Class → FormFault → Type 0
+TellsFirst c OutOfMemory = Unit {0}
+TellsFirst c (Broken rule place) = IsFirstFault c rule place
