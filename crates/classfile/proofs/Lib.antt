@@ -2,6 +2,8 @@ pub mod Bodies
 pub mod ClassMeasure
 pub mod Classes
 pub mod Encodings
+pub mod FirstFaults
+pub mod LeastRules
 pub mod Measures
 pub mod NamingLaws
 pub mod Places

@@ -1,5 +1,5 @@
 -- What may be wrong at a place of a class file, as a list of conditions with their numbers, and which of them is told.
-use Rattle.std.specs.Prelude.{◌≡◌, ◌↔◌, ℕ, ◌≤◌, ◌<◌, ◌⊎◌, Bool, true, false, if◌then◌else◌, List, [], ◌∷◌, Option, Some, None, ⊤}
+use Rattle.std.specs.Prelude.{◌≡◌, ℕ, ◌≤◌, ◌⊎◌, Bool, true, ◌&&◌, nat_lt, if◌then◌else◌, List, [], ◌∷◌, Option, Some, None}
 use Rattle.classfile.specs.declared.form_fault.FormRule.{FormRule}
 use Rattle.classfile.specs.declared.form_fault.FormRule.TheVariants.{BadIndex, WrongKind, BadName, BadDescriptor, BadFlags, Twice, CodeMissing, CodeNotAllowed, BadSuper, BadCodeLength, AttributeTwice}
 
@@ -42,6 +42,6 @@ pub record HasNoBroken (conditions : List Condition) : Type 0 where
   pub none : (rule : FormRule) → IsBroken conditions rule → ⊥
 
 -- each number is larger than those before it, all of which are below this one
-abbrev pub RisesFrom : ℕ → List Condition → Type 0
-RisesFrom n [] = ⊤
-RisesFrom n (c ∷ others) = (n < rule_number c.0) × RisesFrom (rule_number c.0) others
+abbrev pub rises_from : ℕ → List Condition → Bool
+rises_from n [] = true
+rises_from n (c ∷ others) = nat_lt n (rule_number c.0) && rises_from (rule_number c.0) others

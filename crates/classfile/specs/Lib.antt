@@ -5,6 +5,7 @@ pub mod Conditions
 pub mod ConstantForm
 pub mod Encoding
 pub mod Flags
+pub mod FormLaws
 pub mod Indices
 pub mod Laws
 pub mod Locations

@@ -1,7 +1,7 @@
 //! Whether a class file is well formed (JVMS 4.1 to 4.7).
-ghost use Rattle.std.specs.Prelude.{◌≡◌, IfOk, IfErr};
+ghost use Rattle.std.specs.Prelude.{◌≡◌, IfOk, IfErr, MatchResult};
 ghost use Rattle.classfile.specs.Views.{class_view};
-ghost use Rattle.classfile.specs.WellFormed.{fault_at, WellFormed, IsFirstFault, Passes, TellsFirst};
+ghost use Rattle.classfile.specs.WellFormed.{WellFormed, Passes, TellsFirst};
 ghost use Rattle.classfile.specs.declared.form_fault.FormFault.TheVariants.{OutOfMemory};
 ghost use Rattle.classfile.specs.declared.form_fault.Place.TheVariants as places;
 
@@ -45,6 +45,18 @@ fn pool_form(alloc: Global, class: &ClassFile<'_>) -> Result<(), FormFault>
     Ok(())
 }
 
+fn class_form(class: &ClassFile<'_>) -> Result<(), FormFault>
+    ensures { Passes (class_view class.now) (λ n. places.Class) result }
+{
+    match class_rule(class) {
+        Some(rule) => Err(FormFault::Broken {
+            rule,
+            place: Place::Class,
+        }),
+        None => Ok(()),
+    }
+}
+
 fn fields_form(alloc: Global, class: &ClassFile<'_>) -> Result<(), FormFault>
     ensures { Passes (class_view class.now) (λ n. places.Field n) result }
 {
@@ -78,4 +90,35 @@ fn methods_form(alloc: Global, class: &ClassFile<'_>) -> Result<(), FormFault>
         }
     }
     Ok(())
+}
+
+/// All places in their order.
+fn places_form(alloc: Global, class: &ClassFile<'_>) -> Result<(), FormFault>
+    ensures { MatchResult result (λ _. WellFormed (class_view class.now)) (TellsFirst (class_view class.now)) }
+{
+    pool_form(alloc, class)?;
+    class_form(class)?;
+    fields_form(alloc, class)?;
+    methods_form(alloc, class)
+}
+
+/// Whether the class file is well formed: the entries of its pool (JVMS 4.4), the class itself (4.1), its fields (4.5),
+/// its methods (4.6) and their Code (4.7.3).
+///
+/// Otherwise the first place at which a rule is broken, in this order, with the least number that is broken there:
+/// 20 to 30, as [`FormRule`](crate::FormRule) has them; or 1 where memory runs out. Time grows with the class as n log n.
+pub fn form_check<'c, 'a>(
+    alloc: Global,
+    class: &'c ClassFile<'a>,
+) -> Result<Formed<'c, 'a>, FormFault>
+    // What is answered is this class, and well formed.
+    ensures same { IfOk result (λ f. f.class.now ≡ class.now) }
+    ensures formed { IfOk result (λ f. WellFormed (class_view f.class.now)) }
+    // A class that is well formed is answered, unless memory runs out.
+    ensures only { WellFormed (class_view class.now) → IfErr result (λ e. e ≡ OutOfMemory) }
+    // Which fault it is.
+    ensures fault { IfErr result (TellsFirst (class_view class.now)) }
+{
+    places_form(alloc, class)?;
+    Ok(Formed { class })
 }
