@@ -24,7 +24,8 @@ pub struct Formed<'c, 'a> {
 impl<'c, 'a> Formed<'c, 'a> {
     /// The class file.
     pub fn class(self) -> &'c ClassFile<'a>
-        ensures { result.now ≡ self.entry.class.now }
+        ensures same { result.now ≡ self.entry.class.now }
+        ensures formed { WellFormed (class_view result.now) }
     {
         self.class
     }
@@ -111,9 +112,9 @@ pub fn form_check<'c, 'a>(
     alloc: Global,
     class: &'c ClassFile<'a>,
 ) -> Result<Formed<'c, 'a>, FormFault>
-    // What is answered is this class, and well formed.
+    // What is answered is this class, which is well formed.
     ensures same { IfOk result (λ f. f.class.now ≡ class.now) }
-    ensures formed { IfOk result (λ f. WellFormed (class_view f.class.now)) }
+    ensures formed { IfOk result (λ _. WellFormed (class_view class.now)) }
     // A class that is well formed is answered, unless memory runs out.
     ensures only { WellFormed (class_view class.now) → IfErr result (λ e. e ≡ OutOfMemory) }
     // Which fault it is.

@@ -53,4 +53,6 @@ pub use member::Member;
 pub use nested::NestedAttribute;
 
 #[cfg(test)]
+mod form_tests;
+#[cfg(test)]
 mod tests;
