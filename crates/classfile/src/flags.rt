@@ -57,7 +57,7 @@ fn are_bad_other_class_flags(flags: u16) -> bool
 
 /// Whether flags of a class stand together that may not (JVMS 4.1).
 #[tactic(auto, unfolding(crate::specs::Flags::are_bad_class_flags))]
-pub fn are_bad_class_flags(flags: u16) -> bool
+pub(crate) fn are_bad_class_flags(flags: u16) -> bool
     ensures { result ≡ are_bad_class_flags flags }
 {
     if has(flags, MODULE) {
@@ -81,7 +81,7 @@ fn has_two_accesses(flags: u16) -> bool
 
 /// Whether flags of a field stand together that may not (JVMS 4.5).
 #[tactic(auto, unfolding(crate::specs::Flags::are_bad_field_flags))]
-pub fn are_bad_field_flags(flags: u16) -> bool
+pub(crate) fn are_bad_field_flags(flags: u16) -> bool
     ensures { result ≡ are_bad_field_flags flags }
 {
     has_two_accesses(flags) || (has(flags, FINAL) && has(flags, VOLATILE))
@@ -114,7 +114,7 @@ fn is_no_initializer(flags: u16) -> bool
 /// Whether flags of a method stand together that may not (JVMS 4.6): `init` and `clinit` say that it is an instance
 /// or a class initialization method.
 #[tactic(auto, unfolding(crate::specs::Flags::are_bad_method_flags))]
-pub fn are_bad_method_flags(init: bool, clinit: bool, flags: u16) -> bool
+pub(crate) fn are_bad_method_flags(init: bool, clinit: bool, flags: u16) -> bool
     ensures { result ≡ are_bad_method_flags init clinit flags }
 {
     if clinit {

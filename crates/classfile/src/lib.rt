@@ -25,7 +25,7 @@ mod code;
 mod constant_form;
 mod decoding;
 mod encoding;
-mod flags;
+pub mod flags;
 mod form;
 mod form_fault;
 mod form_laws;
