@@ -3,6 +3,7 @@ pub mod ClassMeasure
 pub mod Classes
 pub mod Encodings
 pub mod FirstFaults
+pub mod FormedNames
 pub mod LeastRules
 pub mod Measures
 pub mod NamingLaws

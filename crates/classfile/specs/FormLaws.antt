@@ -1,11 +1,12 @@
 -- What follows of the definition of well-formed classes alone: which rule is told of a place, that there is one first
--- fault at most, and that the tests of names and descriptors are their forms.
-use Rattle.std.specs.Prelude.{◌≡◌, ◌↔◌, ◌≤◌, ℕ, Bool, List, Option, Some, None, IsTrue}
+-- fault at most, that the tests of names and descriptors are their forms, and that what a class names is there.
+use Rattle.std.specs.Prelude.{◌≡◌, ◌≢◌, ◌↔◌, ◌≤◌, ℕ, Bool, List, slice_get, Some, None, Ok, IsTrue}
 use Rattle.names.specs.Names.{IsUnqualifiedName, IsMethodName, IsClassName}
 use Rattle.names.specs.Descriptors.{FieldDescriptor, MethodDescriptor, SpellsField, SpellsMethod, dimensions, method_width, AreWithinDimensions}
+use Rattle.pool.specs.Lookups.{class_name_at, Named, named}
 use Rattle.classfile.specs.declared.form_fault.FormRule.{FormRule}
 use Rattle.classfile.specs.declared.form_fault.Place.{Place}
-use Rattle.classfile.specs.Values.{Class}
+use Rattle.classfile.specs.Values.{Class, Member}
 use Rattle.classfile.specs.Conditions.{IsLeastBroken, HasNoBroken}
 use Rattle.classfile.specs.Naming.{is_unqualified_name, is_method_name, is_class_name, is_field_descriptor, is_method_descriptor, is_void_descriptor}
 use Rattle.classfile.specs.WellFormed.{conditions_at, fault_at, WellFormed, IsFirstFault}
@@ -52,3 +53,13 @@ pub record DescriptorsAreSpellings : Type 0 where
   pub field : (bytes : List ℕ) → IsTrue (is_field_descriptor bytes) ↔ SpellsSomeField bytes
   pub method : (receiver : Bool) (bytes : List ℕ) → IsTrue (is_method_descriptor receiver bytes) ↔ SpellsSomeMethod receiver bytes
   pub void : (receiver : Bool) (bytes : List ℕ) → IsTrue (is_void_descriptor receiver bytes) ↔ SpellsSomeVoidMethod receiver bytes
+
+-- the name of the class, that of its superclass where it has one, and the names and descriptors of its members are there
+pub record HasNames (c : Class) : Type 0 where
+  pub this : (name : List ℕ) × (class_name_at c.constant_pool c.this_class ≡ Ok name)
+  pub above : c.super_class ≢ 0 → (name : List ℕ) × (class_name_at c.constant_pool c.super_class ≡ Ok name)
+  pub field : (n : ℕ) (m : Member) → slice_get c.fields n ≡ Some m → (x : Named) × (named c.constant_pool m.name m.descriptor ≡ Ok x)
+  pub method : (n : ℕ) (m : Member) → slice_get c.methods n ≡ Some m → (x : Named) × (named c.constant_pool m.name m.descriptor ≡ Ok x)
+
+abbrev pub FormedHasNames : Type 0
+FormedHasNames = (c : Class) → WellFormed c → HasNames c

@@ -1,5 +1,5 @@
 //! What follows of the definition of well-formed classes alone, whatever the code does.
-ghost use Rattle.classfile.specs.FormLaws.{LeastIsTold, NoneIsTold, OneFirstFault, NoFaultInFormed, NamesAreForms, DescriptorsAreSpellings};
+ghost use Rattle.classfile.specs.FormLaws.{LeastIsTold, NoneIsTold, OneFirstFault, NoFaultInFormed, FormedHasNames, NamesAreForms, DescriptorsAreSpellings};
 
 use names::{field_answers, method_answers};
 
@@ -27,3 +27,8 @@ pub fn tests_are_forms()
     field_answers();
     method_answers();
 }
+
+/// A class that is well formed has the texts that it names itself, its superclass and its members by.
+pub fn formed_has_names()
+    ensures { FormedHasNames }
+{}
