@@ -2,7 +2,7 @@
 use Rattle.std.specs.Prelude.{ℕ, Bool, false, not, ◌&&◌, ◌||◌, nat_eq, nat_le, nat_lt, bit_and, bytes_eq, List, [], ◌∷◌, Option, Some, None, if◌then◌else◌, slice_get, length, codes}
 use Rattle.std.specs.Option.{option_and_then}
 use Rattle.layout.specs.PieceLaws.{fields as by_field, raw}
-use Rattle.names.specs.Descriptors.{FieldDescriptor, MethodDescriptor}
+use Rattle.names.specs.Descriptors.{MethodDescriptor}
 use Rattle.names.specs.ReferenceTypes.{ReferenceType, class_type}
 use Rattle.names.specs.StandardNames.{init_name, throwable_name}
 use Rattle.names.specs.Reading.{method_answer}
@@ -147,10 +147,10 @@ member_type pool member = option_and_then (λ text. found (method_answer (not (h
 abbrev pub method_from : {A : Type 0} → Class → List (ℕ × A) → Member → Option (Method A)
 method_from c code member =
     option_and_then (λ body. method_with c member code body
-      (class_named (class_at c.constant_pool c.this_class))
-      (found (text_at c.constant_pool member.name))
-      (member_type c.constant_pool member)
-      (exception_entries c.constant_pool body.exception_table))
+    (class_named (class_at c.constant_pool c.this_class))
+    (found (text_at c.constant_pool member.name))
+    (member_type c.constant_pool member)
+    (exception_entries c.constant_pool body.exception_table))
     (code_of member.attributes)
 
 -- The method of this number, if it has code, and of the constants that it names each is of its kind and form. `code` is what
