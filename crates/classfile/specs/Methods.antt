@@ -121,7 +121,8 @@ exception_entries pool [] = Some []
 exception_entries pool (h ∷ hs) = entry_with h (caught_type pool h.catch_type) (exception_entries pool hs)
 
 -- The parts of a method that hang on constants: the names of its class and of itself, its types, and its exception table.
-abbrev pub method_with : {A : Type 0} → Class → Member → List (ℕ × A) → CodeBody → Option (List ℕ) → Option (List ℕ) → Option MethodDescriptor → Option (List ExceptionEntry) → Option (Method A)
+abbrev pub method_with :
+    {A : Type 0} → Class → Member → List (ℕ × A) → CodeBody → Option (List ℕ) → Option (List ℕ) → Option MethodDescriptor → Option (List ExceptionEntry) → Option (Method A)
 method_with c member code body (Some class) (Some name) (Some type) (Some exceptions) = Some (record {
   code = code;
   code_length = length body.code;
@@ -142,7 +143,8 @@ method_with c member code body _ _ _ _ = None
 
 -- a descriptor is measured with a receiver unless the method is static
 abbrev pub member_type : List Entry → Member → Option MethodDescriptor
-member_type pool member = option_and_then (λ text. found (method_answer (not (has_static_flag member.access_flags)) text)) (found (text_at pool member.descriptor))
+member_type pool member =
+    option_and_then (λ text. found (method_answer (not (has_static_flag member.access_flags)) text)) (found (text_at pool member.descriptor))
 
 abbrev pub method_from : {A : Type 0} → Class → List (ℕ × A) → Member → Option (Method A)
 method_from c code member =
