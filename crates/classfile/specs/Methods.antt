@@ -2,7 +2,7 @@
 use Rattle.std.specs.Prelude.{ℕ, Bool, false, not, ◌&&◌, ◌||◌, nat_eq, nat_le, nat_lt, bit_and, bytes_eq, List, [], ◌∷◌, Option, Some, None, if◌then◌else◌, slice_get, length, codes}
 use Rattle.std.specs.Option.{option_and_then}
 use Rattle.layout.specs.PieceLaws.{fields as by_field, raw}
-use Rattle.names.specs.Descriptors.{FieldDescriptor, MethodDescriptor}
+use Rattle.names.specs.Descriptors.{MethodDescriptor}
 use Rattle.names.specs.ReferenceTypes.{ReferenceType, class_type}
 use Rattle.names.specs.StandardNames.{init_name, throwable_name}
 use Rattle.names.specs.Reading.{method_answer}
@@ -121,7 +121,8 @@ exception_entries pool [] = Some []
 exception_entries pool (h ∷ hs) = entry_with h (caught_type pool h.catch_type) (exception_entries pool hs)
 
 -- The parts of a method that hang on constants: the names of its class and of itself, its types, and its exception table.
-abbrev pub method_with : {A : Type 0} → Class → Member → List (ℕ × A) → CodeBody → Option (List ℕ) → Option (List ℕ) → Option MethodDescriptor → Option (List ExceptionEntry) → Option (Method A)
+abbrev pub method_with :
+    {A : Type 0} → Class → Member → List (ℕ × A) → CodeBody → Option (List ℕ) → Option (List ℕ) → Option MethodDescriptor → Option (List ExceptionEntry) → Option (Method A)
 method_with c member code body (Some class) (Some name) (Some type) (Some exceptions) = Some (record {
   code = code;
   code_length = length body.code;
@@ -142,15 +143,16 @@ method_with c member code body _ _ _ _ = None
 
 -- a descriptor is measured with a receiver unless the method is static
 abbrev pub member_type : List Entry → Member → Option MethodDescriptor
-member_type pool member = option_and_then (λ text. found (method_answer (not (has_static_flag member.access_flags)) text)) (found (text_at pool member.descriptor))
+member_type pool member =
+    option_and_then (λ text. found (method_answer (not (has_static_flag member.access_flags)) text)) (found (text_at pool member.descriptor))
 
 abbrev pub method_from : {A : Type 0} → Class → List (ℕ × A) → Member → Option (Method A)
 method_from c code member =
     option_and_then (λ body. method_with c member code body
-      (class_named (class_at c.constant_pool c.this_class))
-      (found (text_at c.constant_pool member.name))
-      (member_type c.constant_pool member)
-      (exception_entries c.constant_pool body.exception_table))
+    (class_named (class_at c.constant_pool c.this_class))
+    (found (text_at c.constant_pool member.name))
+    (member_type c.constant_pool member)
+    (exception_entries c.constant_pool body.exception_table))
     (code_of member.attributes)
 
 -- The method of this number, if it has code, and of the constants that it names each is of its kind and form. `code` is what

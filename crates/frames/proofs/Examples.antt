@@ -1,5 +1,5 @@
 -- Worked examples of stack maps, for the eye: each is checked, and nothing stands on them.
-use Rattle.std.proofs.Common.{◌≡◌, ℕ, Bool, false, List, [], ◌∷◌, Option, Some, None, Result, Ok, Err, codes, refl}
+use Rattle.std.proofs.Common.{◌≡◌, ℕ, false, List, [], ◌∷◌, Result, Ok, Err, codes, refl}
 use Rattle.layout.specs.Place.{Place}
 use Rattle.layout.specs.Format.{reads, times}
 use Rattle.layout.specs.declared.fault.ReadFault.{ReadFault}

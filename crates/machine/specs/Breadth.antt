@@ -73,7 +73,8 @@ MakesNone (makes_array needs type) = ⊥
 MakesNone _ = Unit {0}
 
 -- a step to this offset, by this answer and with these new objects
-pub record HasStep (world : World) (m : Method Act) (s : State) (act : Act) (fresh : List (ℕ × ReferenceType)) (answer : Option Value) (to : ℕ) : Type 0 where
+pub record HasStep (world : World) (m : Method Act) (s : State) (act : Act)
+    (fresh : List (ℕ × ReferenceType)) (answer : Option Value) (to : ℕ) : Type 0 where
   pub branch : Option ℕ
   pub given : IsBranch (targets s.at (task m act)) branch to
   pub state : State
@@ -93,10 +94,12 @@ pub record HasChoices (world : World) (m : Method Act) (s : State) (act : Act) (
   -- and there is somewhere to go
   pub somewhere : MayGoOn world (task m act) (with_new s fresh) → (to : ℕ) × GoesTo m s.at (task m act) to
   -- and something to answer; an object that the instruction makes needs an address that is unused
-  pub answered : MayGoOn world (task m act) (with_new s fresh) → MakesNone (task m act) → (answer : Option Value) × IsAnswer world (task m act) (with_new s fresh) answer
+  pub answered : MayGoOn world (task m act) (with_new s fresh) → MakesNone (task m act)
+      → (answer : Option Value) × IsAnswer world (task m act) (with_new s fresh) answer
   pub returns : IsLast (task m act) → Happens world m s (go None None fresh) ended
   -- every Throwable that is ready is raised, uncaught and to every entry that catches it
-  pub raises : (address : ℕ) (type : ReferenceType) → with_fresh s.heap fresh address ≡ Some (object type ready) → IsBelow world type (class_type throwable_name)
+  pub raises : (address : ℕ) (type : ReferenceType) → with_fresh s.heap fresh address ≡ Some (object type ready)
+      → IsBelow world type (class_type throwable_name)
       → Happens world m s (raise address fresh None) ended × HasCatches world m s address type fresh
 
 abbrev pub StepBreadth : Type 0

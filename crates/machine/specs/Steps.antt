@@ -97,7 +97,8 @@ IsBranch (target ∷ others) branch at = branch ≡ Some at
 abbrev pub GoesTo : Method Act → ℕ → Task → ℕ → Type 0
 GoesTo m from t at = IsAmong (pos at) (targets from t) ⊎ ((falls t ≡ true) × (next_offset m.code from ≡ Some at))
 
-pub record Steps (world : World) (m : Method Act) (s : State) (branch : Option ℕ) (answer : Option Value) (fresh : List (ℕ × ReferenceType)) (t : State) : Type 0 where
+pub record Steps (world : World) (m : Method Act) (s : State)
+    (branch : Option ℕ) (answer : Option Value) (fresh : List (ℕ × ReferenceType)) (t : State) : Type 0 where
   pub act : Act
   pub here : at_offset m.code s.at ≡ Some act
   pub unused : IsFresh s.heap fresh
@@ -130,7 +131,8 @@ pub record IsRaised (world : World) (s : State) (address : ℕ) (fresh : List (�
   pub throwable : IsBelow world type (class_type throwable_name)
 
 -- it is caught by an entry that covers the instruction, and stands alone on the stack
-pub record IsCaught (world : World) (m : Method Act) (s : State) (address : ℕ) (fresh : List (ℕ × ReferenceType)) (entry : ℕ) (t : State) : Type 0 where
+pub record IsCaught (world : World) (m : Method Act) (s : State)
+    (address : ℕ) (fresh : List (ℕ × ReferenceType)) (entry : ℕ) (t : State) : Type 0 where
   pub raised : IsRaised world s address fresh
   pub by_entry : ExceptionEntry
   pub which : slice_get m.exceptions entry ≡ Some by_entry

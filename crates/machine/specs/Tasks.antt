@@ -170,13 +170,18 @@ abbrev pub invoke_virtual : Option MethodConstant → Task
 invoke_virtual (Some c) = where_allowed (not c.interface && (not (is_init_name c) && has_room_for_receiver c)) (call_on c.class c)
 invoke_virtual None = stuck
 
+-- the count is the width of the arguments and the receiver
+abbrev pub may_invoke_interface : ℕ → MethodConstant → Bool
+may_invoke_interface count c =
+    is_class_type c.class && (c.interface && (not (is_init_name c) && (has_room_for_receiver c && nat_eq count (method_width c.type true))))
+
 abbrev pub invoke_interface : ℕ → Option MethodConstant → Task
-invoke_interface count (Some c) =
-    where_allowed (is_class_type c.class && (c.interface && (not (is_init_name c) && (has_room_for_receiver c && nat_eq count (method_width c.type true))))) (call_on c.class c)
+invoke_interface count (Some c) = where_allowed (may_invoke_interface count c) (call_on c.class c)
 invoke_interface count None = stuck
 
 abbrev pub constructor_call : MethodConstant → ReferenceType → Task
-constructor_call c (class_type name) = where_allowed (not c.interface && has_room_for_receiver c) (initializes name (arguments_on c.type.params []))
+constructor_call c (class_type name) =
+    where_allowed (not c.interface && has_room_for_receiver c) (initializes name (arguments_on c.type.params []))
 constructor_call c (array_type component) = stuck
 
 abbrev pub special_call : ℕ → List ℕ → MethodConstant → Task
@@ -253,7 +258,8 @@ task m (acts.LoadReference n) = reads some_reference n
 task m (acts.Store kind n) = writes (of_kind kind) n (kind_units kind)
 task m (acts.StoreReference n) = writes some_reference n 1
 task m (acts.Increment n) = increments n
-task m (acts.Numeric operator) = operates (needs_of_kinds (numeric_row operator).taken) None (gives_number (numeric_row operator).given) [] true
+task m (acts.Numeric operator) =
+    operates (needs_of_kinds (numeric_row operator).taken) None (gives_number (numeric_row operator).given) [] true
 task m (acts.Stack operator) = moves (stack_forms operator)
 task m (acts.IfInt offset) = branches (of_kind kinds.Int ∷ []) offset
 task m (acts.IfInts offset) = branches (of_kind kinds.Int ∷ of_kind kinds.Int ∷ []) offset

@@ -1,8 +1,8 @@
 -- Reference types (JVMS 2.4): a class or an interface by the bytes of its name, or an array by the type of its components.
-use Rattle.std.specs.Prelude.{ℕ, ◌+◌, Bool, true, false, if◌then◌else◌, nat_eq, List, [], ◌∷◌, Option, Some, None, Result, Ok, Err}
+use Rattle.std.specs.Prelude.{ℕ, ◌+◌, Bool, true, false, if◌then◌else◌, nat_eq, List, [], ◌∷◌, Option, Some, None, Result, Ok}
 use Rattle.names.specs.declared.fault.NameFault.{NameFault}
 use Rattle.names.specs.Names.{bracket}
-use Rattle.names.specs.Descriptors.{FieldDescriptor, primitive, class, array, dimensions}
+use Rattle.names.specs.Descriptors.{FieldDescriptor, class, array, dimensions}
 use Rattle.names.specs.Reading.{field_answer}
 
 pub data ReferenceType : Type 0 where

@@ -1,7 +1,6 @@
 -- Worked examples of rules, for the eye: each is checked, and nothing stands on them.
-use Rattle.std.proofs.Common.{◌≡◌, ℕ, ℤ, pos, Bool, true, false, List, [], ◌∷◌, Option, Some, None, codes, refl}
-use Rattle.names.specs.Descriptors.{FieldDescriptor, primitive, class as class_descriptor, array as array_descriptor}
-use Rattle.names.specs.declared.base.Primitive.TheVariants as primitives
+use Rattle.std.proofs.Common.{◌≡◌, ℕ, Bool, true, false, List, [], ◌∷◌, Option, Some, None, codes, refl}
+use Rattle.names.specs.Descriptors.{FieldDescriptor}
 use Rattle.pool.specs.Entries as entries
 use Rattle.pool.specs.Lookups.{entry_at, text_at, class_name_at, named, name_and_type_at, member, field_ref_at, method as method_constant, method_ref_at}
 use Rattle.names.specs.Reading.{read_class, read_base, read_field, read_params, read_result, read_method, field_answer, method_answer}
@@ -12,7 +11,7 @@ use Rattle.insn.specs.declared.operation.NumericOperator.TheVariants as numerics
 use Rattle.insn.specs.declared.stack.StackOperator.TheVariants as stacks
 use Rattle.insn.specs.Meanings as acts
 use Rattle.insn.specs.Meanings.{Act}
-use Rattle.frames.specs.VerificationType.{VerificationType, top, int, float, long, double, null, class, array, uninit_this, uninit}
+use Rattle.frames.specs.VerificationType.{VerificationType, top, int, long, null, class, uninit_this, uninit}
 use Rattle.frames.specs.FrameFact.{FrameFact}
 use Rattle.frames.specs.Conditions.{Reason, reason, class_missing, least}
 use Rattle.rules.specs.Table.{plan}

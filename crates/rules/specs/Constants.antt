@@ -84,13 +84,17 @@ invoke_virtual (Some c) = where_allowed (not c.interface && (not (is_init_name c
 invoke_virtual None = refuses 66
 
 -- the count is the width of the arguments and the receiver
+abbrev pub may_invoke_interface : ℕ → MethodConstant → Bool
+may_invoke_interface count c =
+    is_class_type c.class && (c.interface && (not (is_init_name c) && (has_room_for_receiver c && nat_eq count (method_width c.type true))))
+
 abbrev pub invoke_interface : ℕ → Option MethodConstant → Plan
-invoke_interface count (Some c) =
-    where_allowed (is_class_type c.class && (c.interface && (not (is_init_name c) && (has_room_for_receiver c && nat_eq count (method_width c.type true))))) (call_on c.class c)
+invoke_interface count (Some c) = where_allowed (may_invoke_interface count c) (call_on c.class c)
 invoke_interface count None = refuses 66
 
 abbrev pub constructor_call : MethodConstant → ReferenceType → Plan
-constructor_call c (class_type name) = where_allowed (not c.interface && has_room_for_receiver c) (constructs name (arguments_on c.type.params []))
+constructor_call c (class_type name) =
+    where_allowed (not c.interface && has_room_for_receiver c) (constructs name (arguments_on c.type.params []))
 constructor_call c (array_type component) = refuses 66
 
 abbrev pub special_call : ℕ → List ℕ → MethodConstant → Plan

@@ -85,7 +85,10 @@ local_answer classes m want n width f = if is_outside m n width then yes else ac
 
 abbrev pub local_conditions : List ClassFact → Method Act → Want → ℕ → ℕ → FrameFact → Conditions
 local_conditions classes m want n width f =
-    (reason 63, is_no (local_answer classes m want n width f)) ∷ (reason 64, is_outside m n width) ∷ missing_if (local_answer classes m want n width f) ∷ []
+    (reason 63, is_no (local_answer classes m want n width f))
+    ∷ (reason 64, is_outside m n width)
+    ∷ missing_if (local_answer classes m want n width f)
+    ∷ []
 
 -- ---- forms
 
@@ -128,12 +131,16 @@ family classes m at (pops wants gives offsets on) f = operand_conditions classes
 family classes m at (loads want n width) f = local_conditions classes m want n width f
 family classes m at (stores want n width) f = (reason 64, is_outside m n width) ∷ operand_conditions classes (want ∷ []) f.stack
 family classes m at (counts n) f = local_conditions classes m (number kinds.Int) n 1 f
-family classes m at (rearranges forms) f = (reason 61, nat_lt (units_of f.stack) (units_taken forms)) ∷ (reason 62, is_none (form_for forms f.stack)) ∷ []
+family classes m at (rearranges forms) f =
+    (reason 61, nat_lt (units_of f.stack) (units_taken forms)) ∷ (reason 62, is_none (form_for forms f.stack)) ∷ []
 family classes m at loads_element f = operand_conditions classes (number kinds.Int ∷ object_array ∷ []) f.stack
 family classes m at (makes name) f = (reason 62, is_on_stack at f.stack) ∷ []
 family classes m at (constructs name wants) f =
-    (reason 61, is_short (any_reference ∷ wants) f.stack) ∷ (reason 62, not (may_construct m name (top_of (beneath wants f.stack)))) ∷ operand_conditions classes wants f.stack
-family classes m at (calls_special type wants gives) f = special_conditions classes (type_answer classes (class m.class) (to_reference type)) wants f.stack
+    (reason 61, is_short (any_reference ∷ wants) f.stack)
+    ∷ (reason 62, not (may_construct m name (top_of (beneath wants f.stack))))
+    ∷ operand_conditions classes wants f.stack
+family classes m at (calls_special type wants gives) f =
+    special_conditions classes (type_answer classes (class m.class) (to_reference type)) wants f.stack
 family classes m at returns f = (reason 74, m.is_init && f.flag) ∷ []
 family classes m at (refuses n) f = (reason n, true) ∷ []
 

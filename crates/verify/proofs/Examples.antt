@@ -1,5 +1,5 @@
 -- A method that is type-safe, for the eye: `static void f() { return; }`. Nothing stands on it.
-use Rattle.std.proofs.Common.{◌≡◌, ℕ, ℤ, Bool, true, false, nat_eq, List, [], ◌∷◌, Option, Some, None, codes, if◌then◌else◌, inl, sym, refl, subst, arith}
+use Rattle.std.proofs.Common.{◌≡◌, ℕ, Bool, true, false, nat_eq, [], ◌∷◌, Some, None, codes, if◌then◌else◌, inl, refl, subst, arith}
 use Rattle.classfile.specs.Methods.{Method}
 use Rattle.insn.specs.Meanings.{Act, ReturnVoid}
 use Rattle.insn.specs.Offsets.{at_offset, next_offset}

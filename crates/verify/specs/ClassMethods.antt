@@ -29,4 +29,5 @@ abbrev pub IsSafeIn : List ClassFact → Class → ℕ → Type 0
 IsSafeIn classes c number = (m : Method Act) → IsMethod c number m → IsSafe classes m
 
 abbrev pub TypeSafeMethodsAreSafe : Type 0
-TypeSafeMethodsAreSafe = (classes : List ClassFact) → IsHierarchy classes → (c : Class) (number : ℕ) → IsTypeSafeIn classes c number → IsSafeIn classes c number
+TypeSafeMethodsAreSafe =
+    (classes : List ClassFact) → IsHierarchy classes → (c : Class) (number : ℕ) → IsTypeSafeIn classes c number → IsSafeIn classes c number
