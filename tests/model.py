@@ -14,13 +14,17 @@ class Refused(Exception):
 
 
 class Reader:
-    """Bytes that are read from left to right; `end` is where the innermost body ends, `name_at` where its attribute begins."""
+    """Bytes that are read from left to right; `end` is where the innermost body ends, `name_at` where its attribute begins.
+
+    `short` gathers where numbers of two bytes stand: counts, flags and indices.
+    """
 
     def __init__(self, data):
         self.data = data
         self.at = 0
         self.end = len(data)
         self.name_at = None
+        self.short = []
 
     def part(self, size):
         if self.at + size > self.end:
@@ -29,6 +33,8 @@ class Reader:
         return self.data[self.at - size : self.at]
 
     def number(self, size):
+        if size == 2:
+            self.short.append(self.at)
         return int.from_bytes(self.part(size), "big")
 
 
@@ -158,6 +164,13 @@ def class_file(reader):
     if reader.at != reader.end:
         raise Refused(f"13 at {reader.at}")
     return file
+
+
+def short_numbers(data):
+    """Where a class file has numbers of two bytes."""
+    reader = Reader(data)
+    class_file(reader)
+    return reader.short
 
 
 def check(data):
