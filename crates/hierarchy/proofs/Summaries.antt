@@ -16,7 +16,6 @@ found r x is = is ∙ ap Ok (sym (ap (λ (s : Result (List ℕ) _). result_unwra
 value : {E : Type 0} (r : Result (List ℕ) E) (x : List ℕ) → r ≡ Ok x → x ≡ result_unwrap_or r []
 value r x is = sym (ap (λ (s : Result (List ℕ) _). result_unwrap_or s []) is)
 
-
 abbrev joined : Result (List ℕ) PoolFault → Result (List ℕ) PoolFault → Result Named PoolFault
 joined r s = and_then r (λ n. and_then s (λ d. Ok (record { name = n; descriptor = d })))
 
@@ -40,11 +39,12 @@ has_texts law c formed =
     record {
       name = found (class_name_at pool c.this_class) names.this.0 names.this.1;
       superclass = λ some.
-          let above = names.above some in
-          (above.0,
-          ap (λ (b : Bool). cond b None (Some (class_name_of pool c.super_class))) (ne_eqb c.super_class 0 some)
-          ∙ ap Some (sym (value (class_name_at pool c.super_class) above.0 above.1)),
-          above.1);
+          let above = names.above some in (
+            above.0,
+            ap (λ (b : Bool). cond b None (Some (class_name_of pool c.super_class))) (ne_eqb c.super_class 0 some)
+                ∙ ap Some (sym (value (class_name_at pool c.super_class) above.0 above.1)),
+            above.1,
+          );
       no_superclass = λ none. ap (λ (b : Bool). cond b None (Some (class_name_of pool c.super_class))) (eq-eqb c.super_class 0 none);
       field = λ n m here. let x = names.field n m here in record { texts = both pool m.name m.descriptor x.0 x.1 };
       method = λ n m here. let x = names.method n m here in record { texts = both pool m.name m.descriptor x.0 x.1 };

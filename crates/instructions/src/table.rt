@@ -8,7 +8,12 @@ use std::io;
 pub fn print(rt: &HostRuntime) -> io::Result<()> {
     for number in 0..=201u8 {
         if let Some(opcode) = Opcode::from_number(number) {
-            println!(rt; "{number} {} {:?} {:?}", opcode.mnemonic(), opcode.form(), opcode.meaning())?;
+            println!(rt;
+                "{number} {} {:?} {:?}",
+                opcode.mnemonic(),
+                opcode.form(),
+                opcode.meaning()
+            )?;
             print_stack(rt, opcode.meaning())?;
         }
     }
