@@ -1,8 +1,10 @@
-//! The instructions of the Java Virtual Machine: read one by one, or a method's whole code.
+//! The instructions of the Java Virtual Machine: a method's code read and written, one instruction or
+//! all of them, and what each means.
 //!
 //! Proved against the table of opcodes (`specs/Opcodes.antt`), the bytes of each instruction
-//! (`specs/Instructions.antt`, JVMS 6.5) and of code (`specs/Code.antt`). The call to know is
-//! [`decode_code`]; [`read_insn`] reads one instruction and takes no memory.
+//! (`specs/Instructions.antt`, JVMS 6.5) and of code (`specs/Code.antt`). The calls to know are
+//! [`decode_code`] and [`encode_code`]; [`Instructions`] reads one after the other and takes no memory,
+//! and [`act`] tells what an instruction means without its form.
 //!
 //! - `code_array`: a method's code, one instruction after the other
 //! - `decoding`: all of a method's code
