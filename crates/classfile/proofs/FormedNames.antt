@@ -1,12 +1,11 @@
 -- In a well-formed class the texts that it names its parts by are there.
-use Rattle.std.proofs.Common.{◌≡◌, ◌≢◌, ℕ, ◌+◌, ◌-◌, Bool, true, false, not, cond, ◌||◌, ◌&&◌, nat_eq, List, [], ◌∷◌, Option, Some, None, Result, Ok, Err, refl, sym, ap, ◌∙◌, subst, arith}
-use Rattle.std.proofs.lemmas.Bool.{true≢false, false≢true, ne_eqb}
+use Rattle.std.proofs.Common.{◌≡◌, ◌≢◌, ℕ, ◌+◌, Bool, true, false, not, cond, ◌||◌, ◌&&◌, List, [], ◌∷◌, Some, None, Result, Ok, Err, refl, sym, ap, ◌∙◌}
+use Rattle.std.proofs.lemmas.Bool.{true≢false, ne_eqb}
 use Rattle.std.proofs.lemmas.Option.{none-some}
-use Rattle.std.specs.Prelude.{slice_get}
 use Rattle.std.specs.Result.{is_err}
 use Rattle.pool.specs.declared.fault.PoolFault.{PoolFault}
-use Rattle.pool.specs.Entries.{Entry, Utf8, Integer, Float, Long, Double, Class, String, Fieldref, Methodref, InterfaceMethodref, NameAndType, MethodHandle, MethodType, Dynamic, InvokeDynamic, Unusable}
-use Rattle.pool.specs.Lookups.{and_then, entry_at, text_in, text_at, class_name_in, class_name_at, Named, named, StandsAt}
+use Rattle.pool.specs.Entries.{Entry, Utf8, Class}
+use Rattle.pool.specs.Lookups.{and_then, entry_at, text_in, text_at, class_name_in, class_name_at, Named, named}
 use Rattle.pool.proofs.LookupLaws.{entry_stands}
 use Rattle.classfile.specs.declared.form_fault.FormRule.TheVariants.{BadIndex, WrongKind, BadName}
 use Rattle.classfile.specs.declared.form_fault.Place.TheVariants as places
@@ -18,8 +17,8 @@ use Rattle.classfile.specs.ConstantForm.{is_no_class_name, constant_conditions, 
 use Rattle.classfile.specs.ClassForm as forms
 use Rattle.classfile.specs.ClassForm.{class_has_bad, class_has_other}
 use Rattle.classfile.specs.MemberForm.{member_has_bad, member_has_other}
-use Rattle.classfile.specs.WellFormed.{fault_at, WellFormed, conditions_of_field, conditions_of_method}
-use Rattle.classfile.specs.FormLaws.{HasNames, FormedHasNames}
+use Rattle.classfile.specs.WellFormed.{WellFormed, conditions_of_field, conditions_of_method}
+use Rattle.classfile.specs.FormLaws.{FormedHasNames}
 use Rattle.classfile.proofs.Places.{entry_is, class_is, field_is, method_is}
 
 -- ---- conditions of which none holds

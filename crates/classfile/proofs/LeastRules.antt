@@ -1,5 +1,5 @@
 -- In a list of conditions whose numbers rise the first that is broken has the least number.
-use Rattle.std.proofs.Common.{◌≡◌, ◌<◌, ◌≤◌, ℕ, zero, suc, Bool, true, false, nat_lt, ◌&&◌, cond, List, [], ◌∷◌, Option, Some, None, refl, sym, ap, ◌∙◌, arith, ◌⊎◌, inl, inr}
+use Rattle.std.proofs.Common.{◌≡◌, ◌<◌, ◌≤◌, ℕ, zero, suc, Bool, true, false, nat_lt, cond, List, [], ◌∷◌, Option, Some, None, refl, sym, ap, ◌∙◌, arith, inl, inr}
 use Rattle.std.proofs.lemmas.Bool.{and_parts, false≢true}
 use Rattle.std.proofs.lemmas.Bool.Decides.{nat_tests}
 use Rattle.std.proofs.lemmas.Option.{none-some}
@@ -10,7 +10,7 @@ use Rattle.classfile.specs.declared.form_fault.Place.{Place}
 use Rattle.classfile.specs.declared.form_fault.Place.TheVariants as places
 use Rattle.pool.specs.Entries.{Entry, Utf8, Integer, Float, Long, Double, Class, String, Fieldref, Methodref, InterfaceMethodref, NameAndType, MethodHandle, MethodType, Dynamic, InvokeDynamic, Unusable}
 use Rattle.classfile.specs.Values as values
-use Rattle.classfile.specs.Conditions.{Condition, rule_number, broken_rule, IsBroken, IsLeastBroken, HasNoBroken, rises_from}
+use Rattle.classfile.specs.Conditions.{Condition, rule_number, broken_rule, IsBroken, IsLeastBroken, rises_from}
 use Rattle.classfile.specs.ConstantForm.{constant_conditions}
 use Rattle.classfile.specs.WellFormed.{entry_conditions, conditions_of_field, conditions_of_method, conditions_at, fault_at}
 use Rattle.classfile.specs.FormLaws.{LeastIsTold, NoneIsTold}

@@ -1,12 +1,12 @@
 -- Whether a text is a name or a descriptor of its form (JVMS 4.2, 4.3), in words that compute; a law of this crate says
 -- that they are the forms of names and the grammar of descriptors within their limits.
-use Rattle.std.specs.Prelude.{ℕ, Bool, true, false, not, ◌&&◌, ◌||◌, List, [], ◌∷◌, nat_eq, codes, if◌then◌else◌, Ok, Err, Result}
+use Rattle.std.specs.Prelude.{ℕ, Bool, true, false, not, ◌&&◌, List, [], ◌∷◌, nat_eq, codes, if◌then◌else◌, Ok, Err, Result}
 use Rattle.std.specs.List.{list_all}
 use Rattle.std.specs.Option.{is_none}
 use Rattle.std.specs.Result.{is_ok}
 use Rattle.std.specs.Str.{bytes_eq}
 use Rattle.names.specs.declared.fault.NameFault.{NameFault}
-use Rattle.names.specs.Names.{bracket, less_than, is_name_unit, is_angle}
+use Rattle.names.specs.Names.{bracket, is_name_unit, is_angle}
 use Rattle.names.specs.Descriptors.{MethodDescriptor}
 use Rattle.names.specs.Reading.{ends_class_name, field_answer, method_answer}
 

@@ -1,5 +1,5 @@
 -- The names and descriptors of members that were met: of which it holds that they were.
-use Rattle.std.specs.Prelude.{◌≡◌, ◌||◌, ℕ, Bool, List, [], ◌∷◌, ◌++◌}
+use Rattle.std.specs.Prelude.{◌≡◌, ◌||◌, Bool, List, [], ◌∷◌, ◌++◌}
 use Rattle.std.specs.List.{list_any}
 use Rattle.pool.specs.Entries.{Entry}
 use Rattle.pool.specs.Lookups.{Named}

@@ -99,6 +99,25 @@ fn code_without_bytes(rt: HostRuntime) -> Result<(), Fail> {
     Ok(())
 }
 
+#[test]
+fn two_codes(rt: HostRuntime) -> Result<(), Fail> {
+    let mut bytes = K[..75].to_vec(rt.alloc())?;
+    bytes.push(2)?;
+    bytes.extend_from_slice(&K[76..95])?;
+    bytes.extend_from_slice(&K[76..])?;
+    let class = decode(rt.alloc(), &bytes)?;
+    assert!(rt;
+        matches!(
+            form_check(rt.alloc(), &class),
+            Err(FormFault::Broken {
+                rule: FormRule::AttributeTwice,
+                place: Place::Method(0)
+            })
+        )
+    );
+    Ok(())
+}
+
 /// A native method of the name and the descriptor with these indices.
 fn native(alloc: Global, name: u16, descriptor: u16) -> Member<'static> {
     Member {

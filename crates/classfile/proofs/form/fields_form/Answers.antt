@@ -1,10 +1,9 @@
-use Rattle.std.proofs.Common.{◌≡◌, ◌∙◌, ◌≤◌, refl, sym, ap, subst, Some, None, length, take, map, arith, slice_index_or}
+use Rattle.std.proofs.Common.{◌≡◌, ◌∙◌, ◌≤◌, refl, sym, ap, subst, Some, length, take, map, arith}
 use Rattle.std.specs.Prelude.{slice_get}
 use Rattle.std.proofs.lemmas.List.{length-map}
 use Rattle.classfile.specs.declared.form_fault.Place.TheVariants as places
 use Rattle.classfile.specs.Seen.{AreSeen}
 use Rattle.classfile.specs.Views.{class_view, member_view}
-use Rattle.classfile.specs.WellFormed.{fault_at}
 use Rattle.classfile.proofs.Places.{field_told, field_past, viewed_at, take_one_more, none_more, none_at_all}
 use Rattle.classfile.proofs.form.fields_form.Goals as goal
 

@@ -1,11 +1,9 @@
-use Rattle.std.proofs.Common.{◌≡◌, ◌∙◌, ◌+◌, ◌≤◌, refl, sym, ap, Some, None, length, arith}
+use Rattle.std.proofs.Common.{◌≡◌, ◌∙◌, ◌+◌, ◌≤◌, refl, sym, ap, Some, length, arith}
 use Rattle.std.proofs.lemmas.List.{length-map}
 use Rattle.std.specs.Prelude.{slice_get}
-use Rattle.pool.specs.Entries.{Entry}
-use Rattle.pool.specs.Views.{view, views}
+use Rattle.pool.specs.Views.{view}
 use Rattle.classfile.specs.declared.form_fault.Place.TheVariants as places
 use Rattle.classfile.specs.Views.{class_view}
-use Rattle.classfile.specs.WellFormed.{fault_at}
 use Rattle.classfile.proofs.Places.{entry_is, entry_past, viewed_at, none_more, none_at_all, earlier_entries, all_entries}
 use Rattle.classfile.proofs.form.pool_form.Goals as goal
 

@@ -1,4 +1,4 @@
-use Rattle.std.proofs.Common.{◌≡◌, Option, Some, None, Bool, true, refl, ap}
+use Rattle.std.proofs.Common.{◌≡◌, Option, Some, None, true, refl, ap}
 use Rattle.std.proofs.Math.Bool.{Bool-set}
 use Rattle.std.proofs.Math.Logic.{∥∥₁_elim}
 use Rattle.std.proofs.lemmas.Bool.{false≢true}
@@ -7,7 +7,7 @@ use Rattle.classfile.specs.declared.form_fault.FormRule.{FormRule}
 use Rattle.classfile.specs.declared.form_fault.Place.{Place}
 use Rattle.classfile.specs.Values.{Class}
 use Rattle.classfile.specs.Views.{class_view}
-use Rattle.classfile.specs.WellFormed.{fault_at, WellFormed}
+use Rattle.classfile.specs.WellFormed.{fault_at}
 use Rattle.classfile.proofs.form.Formed.class.Goals as goal
 
 none_so : (o : Option FormRule) → is_none o ≡ true → o ≡ None

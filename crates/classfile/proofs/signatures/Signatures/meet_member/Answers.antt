@@ -1,4 +1,4 @@
-use Rattle.std.proofs.Common.{◌≡◌, ◌∙◌, ◌||◌, Bool, Result, Ok, Err, ap}
+use Rattle.std.proofs.Common.{◌∙◌, ◌||◌, Bool, Result, Ok, Err, ap}
 use Rattle.std.specs.Result.{IfOk}
 use Rattle.pool.specs.Views.{name_and_type_view}
 use Rattle.classfile.specs.Views.{member_view}

@@ -1,4 +1,4 @@
-use Rattle.std.proofs.Common.{◌≡◌, ap}
+use Rattle.std.proofs.Common.{ap}
 use Rattle.std.specs.List.{list_any}
 use Rattle.classfile.specs.MemberForm.{are_same, is_among}
 use Rattle.classfile.proofs.signatures.Signatures.new.Goals as goal
