@@ -2,6 +2,7 @@ pub mod ClassFile
 pub mod Encoding
 pub mod Laws
 pub mod Locations
+pub mod Methods
 pub mod Pieces
 pub mod Sizes
 pub mod Values

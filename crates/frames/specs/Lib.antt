@@ -3,3 +3,7 @@ pub mod FrameFact
 pub mod Assignable
 pub mod FrameAssignable
 pub mod Meaning
+pub mod Conditions
+pub mod Slots
+pub mod StackMaps
+pub mod DeclaredFrames

@@ -6,3 +6,5 @@ pub mod Meanings
 pub mod Opcodes
 pub mod Table
 pub mod Views
+pub mod Offsets
+pub mod Stacks

@@ -4,6 +4,8 @@ pub mod Faults
 pub mod Names
 pub mod ReadTypes
 pub mod Reading
+pub mod ReferenceTypes
+pub mod StandardNames
 pub mod Texts
 pub mod Types
 pub mod Units

@@ -4,3 +4,4 @@ pub mod EntryLaws
 pub mod Views
 pub mod Refusals
 pub mod Lookups
+pub mod Members

@@ -1,0 +1,159 @@
+-- A method with code as its instructions see it (JVMS 4.6, 4.7.3): what its class file says, constants looked up.
+use Rattle.std.specs.Prelude.{ℕ, Bool, false, not, ◌&&◌, ◌||◌, nat_eq, nat_le, nat_lt, bit_and, bytes_eq, List, [], ◌∷◌, Option, Some, None, if◌then◌else◌, slice_get, length, codes}
+use Rattle.std.specs.Option.{option_and_then}
+use Rattle.layout.specs.PieceLaws.{fields as by_field, raw}
+use Rattle.names.specs.Descriptors.{FieldDescriptor, MethodDescriptor}
+use Rattle.names.specs.ReferenceTypes.{ReferenceType, class_type}
+use Rattle.names.specs.StandardNames.{init_name, throwable_name}
+use Rattle.names.specs.Reading.{method_answer}
+use Rattle.pool.specs.Entries.{Entry}
+use Rattle.pool.specs.Lookups.{Named, text_at}
+use Rattle.pool.specs.Members.{found, class_at, FieldConstant}
+use Rattle.classfile.specs.Values.{Handler, Nested, CodeBody, Attribute, Member, Class}
+
+-- an entry of the exception table (4.7.3): what is caught from one offset on up to another, and where it is handled
+pub record ExceptionEntry : Type 0 where
+  pub from : ℕ
+  pub to : ℕ
+  pub handler : ℕ
+  pub caught : ReferenceType
+
+-- The method; `A` is what is known of an instruction, each of which stands with its offset.
+pub record Method (A : Type 0) : Type 0 where
+  pub code : List (ℕ × A)
+  -- in bytes
+  pub code_length : ℕ
+  pub max_stack : ℕ
+  pub max_locals : ℕ
+  pub exceptions : List ExceptionEntry
+  -- the body of the StackMapTable (4.7.4)
+  pub stack_map : Option (List ℕ)
+  pub constant_pool : List Entry
+  pub major_version : ℕ
+  pub class : List ℕ
+  pub superclass : Option (List ℕ)
+  -- the fields that the class declares
+  pub fields : List Named
+  pub is_static : Bool
+  pub is_init : Bool
+  pub type : MethodDescriptor
+
+-- ---- words about a method
+
+-- what the receiver of a method is when it begins
+pub data Receiver : Type 0 where
+  -- of a static method
+  no_receiver : Receiver
+  -- an object that is initialized
+  ready_receiver : Receiver
+  -- the own object, yet to be initialized: of an instance initialization method outside Object (2.9.1)
+  own_receiver : Receiver
+
+abbrev pub receiver_of : {A : Type 0} → Method A → Receiver
+receiver_of m =
+    if m.is_static then no_receiver
+    else if m.is_init && not (bytes_eq m.class (codes "java/lang/Object")) then own_receiver
+    else ready_receiver
+
+abbrev pub is_named : List ℕ → List ℕ → Named → Bool
+is_named name descriptor n = bytes_eq n.name name && bytes_eq n.descriptor descriptor
+
+abbrev pub is_declared : List Named → List ℕ → List ℕ → Bool
+is_declared [] name descriptor = false
+is_declared (n ∷ ns) name descriptor = is_named name descriptor n || is_declared ns name descriptor
+
+-- the class declares the field that the constant names
+abbrev pub is_own_field : {A : Type 0} → Method A → FieldConstant → Bool
+is_own_field m f = bytes_eq m.class f.class && is_declared m.fields f.name f.descriptor
+
+-- there is a name, and it is this one
+abbrev pub is_name : Option (List ℕ) → List ℕ → Bool
+is_name None name = false
+is_name (Some other) name = bytes_eq other name
+
+-- the entry covers the instruction at an offset: its start is included, its end is not
+abbrev pub covers : ExceptionEntry → ℕ → Bool
+covers e at = nat_le e.from at && nat_lt at e.to
+
+-- ---- what a class file says
+
+-- ACC_STATIC (Table 4.6-A)
+abbrev pub has_static_flag : ℕ → Bool
+has_static_flag flags = not (nat_eq (bit_and flags 8) 0)
+
+abbrev pub code_of : List Attribute → Option CodeBody
+code_of [] = None
+code_of (by_field name code ∷ attributes) = Some code
+code_of (raw name body ∷ attributes) = code_of attributes
+
+abbrev pub stack_map_of : List Nested → Option (List ℕ)
+stack_map_of [] = None
+stack_map_of (by_field name body ∷ attributes) = Some body
+stack_map_of (raw name body ∷ attributes) = stack_map_of attributes
+
+-- a class, and no array
+abbrev pub class_named : Option ReferenceType → Option (List ℕ)
+class_named (Some (class_type name)) = Some name
+class_named _ = None
+
+-- the direct superclass, which Object alone has not (4.1)
+abbrev pub superclass_of : List Entry → ℕ → Option (List ℕ)
+superclass_of pool index = if nat_eq index 0 then None else class_named (class_at pool index)
+
+abbrev pub texts : Option (List ℕ) → Option (List ℕ) → List Named → List Named
+texts (Some name) (Some descriptor) others = record { name = name; descriptor = descriptor } ∷ others
+texts _ _ others = others
+
+abbrev pub declared_fields : List Entry → List Member → List Named
+declared_fields pool [] = []
+declared_fields pool (f ∷ fs) = texts (found (text_at pool f.name)) (found (text_at pool f.descriptor)) (declared_fields pool fs)
+
+-- catch type 0 is for all that is thrown
+abbrev pub caught_type : List Entry → ℕ → Option ReferenceType
+caught_type pool index = if nat_eq index 0 then Some (class_type throwable_name) else class_at pool index
+
+abbrev pub entry_with : Handler → Option ReferenceType → Option (List ExceptionEntry) → Option (List ExceptionEntry)
+entry_with h (Some caught) (Some others) = Some (record { from = h.start_pc; to = h.end_pc; handler = h.handler_pc; caught = caught } ∷ others)
+entry_with h _ _ = None
+
+abbrev pub exception_entries : List Entry → List Handler → Option (List ExceptionEntry)
+exception_entries pool [] = Some []
+exception_entries pool (h ∷ hs) = entry_with h (caught_type pool h.catch_type) (exception_entries pool hs)
+
+-- The parts of a method that hang on constants: the names of its class and of itself, its types, and its exception table.
+abbrev pub method_with : {A : Type 0} → Class → Member → List (ℕ × A) → CodeBody → Option (List ℕ) → Option (List ℕ) → Option MethodDescriptor → Option (List ExceptionEntry) → Option (Method A)
+method_with c member code body (Some class) (Some name) (Some type) (Some exceptions) = Some (record {
+  code = code;
+  code_length = length body.code;
+  max_stack = body.max_stack;
+  max_locals = body.max_locals;
+  exceptions = exceptions;
+  stack_map = stack_map_of body.attributes;
+  constant_pool = c.constant_pool;
+  major_version = c.major_version;
+  class = class;
+  superclass = superclass_of c.constant_pool c.super_class;
+  fields = declared_fields c.constant_pool c.fields;
+  is_static = has_static_flag member.access_flags;
+  is_init = bytes_eq name init_name;
+  type = type;
+})
+method_with c member code body _ _ _ _ = None
+
+-- a descriptor is measured with a receiver unless the method is static
+abbrev pub member_type : List Entry → Member → Option MethodDescriptor
+member_type pool member = option_and_then (λ text. found (method_answer (not (has_static_flag member.access_flags)) text)) (found (text_at pool member.descriptor))
+
+abbrev pub method_from : {A : Type 0} → Class → List (ℕ × A) → Member → Option (Method A)
+method_from c code member =
+    option_and_then (λ body. method_with c member code body
+      (class_named (class_at c.constant_pool c.this_class))
+      (found (text_at c.constant_pool member.name))
+      (member_type c.constant_pool member)
+      (exception_entries c.constant_pool body.exception_table))
+    (code_of member.attributes)
+
+-- The method of this number, if it has code, and of the constants that it names each is of its kind and form. `code` is what
+-- its code says.
+abbrev pub method_of : {A : Type 0} → Class → ℕ → List (ℕ × A) → Option (Method A)
+method_of c number code = option_and_then (method_from c code) (slice_get c.methods number)

@@ -1,0 +1,9 @@
+//! An abstract machine of the JVM for one method (JVMS 2.6, 2.10, 2.11, 6.5): tagged values, objects by their addresses, and no frames. Here are its definitions, in specs.
+//!
+//! - `specs/Values.antt`: values, local variables and stacks.
+//! - `specs/Heap.antt`: objects, and which values fit which types.
+//! - `specs/Tasks.antt`: what each instruction takes, gives and does.
+//! - `specs/Demands.antt`: when a state is no fault.
+//! - `specs/Steps.antt`: what comes of an instruction and a choice.
+//! - `specs/Runs.antt`: initial states and runs.
+#![tactic(auto)]

@@ -1,0 +1,157 @@
+-- The frame after an instruction (JVMS 4.10.1.9), where its rule does not refuse it.
+use Rattle.std.specs.Prelude.{ℕ, zero, suc, Bool, true, false, ◌&&◌, ◌==◌, if◌then◌else◌, List, [], ◌∷◌, ◌++◌, map, slice_get, Option, Some, None}
+use Rattle.names.specs.Descriptors.{FieldDescriptor, primitive, class as class_descriptor, array as array_descriptor}
+use Rattle.classfile.specs.Methods.{Method}
+use Rattle.insn.specs.Acts.{StackPlace, narrow, wide, StackForm}
+use Rattle.insn.specs.Stacks.{beneath, rearranged}
+use Rattle.insn.specs.Meanings.{Act}
+use Rattle.frames.specs.VerificationType.{VerificationType, top, int, float, long, double, null, class, array, uninit_this, uninit}
+use Rattle.frames.specs.FrameFact.{FrameFact}
+use Rattle.frames.specs.Slots.{is_wide}
+use Rattle.rules.specs.Plans.{Want, Plan, pops, loads, stores, counts, rearranges, loads_element, makes, constructs, calls_special, returns, refuses}
+
+-- ---- the stack
+
+abbrev pub with_stack : FrameFact → List VerificationType → FrameFact
+with_stack f stack = record { locals = f.locals; stack = stack; flag = f.flag }
+
+abbrev pub popped : List Want → List VerificationType → FrameFact → FrameFact
+popped wants gives f = with_stack f (gives ++ beneath wants f.stack)
+
+-- an item that is not there counts as top, of which nothing is known
+abbrev pub top_of : List VerificationType → VerificationType
+top_of [] = top
+top_of (t ∷ ts) = t
+
+abbrev pub rest_of : List VerificationType → List VerificationType
+rest_of [] = []
+rest_of (t ∷ ts) = ts
+
+abbrev pub or_top : Option VerificationType → VerificationType
+or_top None = top
+or_top (Some t) = t
+
+-- ---- local variables
+
+abbrev pub local_of : ℕ → FrameFact → VerificationType
+local_of n f = or_top (slice_get f.locals n)
+
+abbrev pub loaded : ℕ → FrameFact → FrameFact
+loaded n f = with_stack f (local_of n f ∷ f.stack)
+
+abbrev pub top_first : List VerificationType → List VerificationType
+top_first [] = []
+top_first (t ∷ ts) = top ∷ ts
+
+-- a long or double makes the next local top; where the one before held a long or double, that becomes top
+abbrev pub stored_type : VerificationType → ℕ → List VerificationType → List VerificationType
+stored_type t n [] = []
+stored_type t zero (x ∷ xs) = t ∷ (if is_wide t then top_first xs else xs)
+stored_type t (suc zero) (x ∷ xs) = (if is_wide x then top else x) ∷ stored_type t zero xs
+stored_type t (suc (suc n)) (x ∷ xs) = x ∷ stored_type t (suc n) xs
+
+abbrev pub stored : ℕ → FrameFact → FrameFact
+stored n f = record { locals = stored_type (top_of f.stack) n f.locals; stack = rest_of f.stack; flag = f.flag }
+
+-- ---- forms of the stack's instructions: a narrow item is of one unit and not top, a wide one of two
+
+abbrev pub is_narrow : VerificationType → Bool
+is_narrow top = false
+is_narrow int = true
+is_narrow float = true
+is_narrow long = false
+is_narrow double = false
+is_narrow null = true
+is_narrow (class name) = true
+is_narrow (array component) = true
+is_narrow uninit_this = true
+is_narrow (uninit offset) = true
+
+abbrev pub fits_place : StackPlace → VerificationType → Bool
+fits_place narrow t = is_narrow t
+fits_place wide t = is_wide t
+
+abbrev pub fits_places : List StackPlace → List VerificationType → Bool
+fits_places [] ts = true
+fits_places (p ∷ ps) [] = false
+fits_places (p ∷ ps) (t ∷ ts) = fits_place p t && fits_places ps ts
+
+-- the form that the stack fits
+abbrev pub form_for : List StackForm → List VerificationType → Option StackForm
+form_for [] ts = None
+form_for (f ∷ fs) ts = if fits_places f.takes ts then Some f else form_for fs ts
+
+abbrev pub rearranged_by : Option StackForm → List VerificationType → List VerificationType
+rearranged_by None ts = ts
+rearranged_by (Some f) ts = rearranged f ts
+
+-- ---- elements of arrays of references
+
+abbrev pub component_type : FieldDescriptor → VerificationType
+component_type (primitive p) = top
+component_type (class_descriptor name) = class name
+component_type (array_descriptor component) = array component
+
+abbrev pub element_of : VerificationType → VerificationType
+element_of (array component) = component_type component
+element_of null = null
+element_of _ = top
+
+-- ---- objects that are not initialized
+
+-- is it the object that the `new` at this offset has made
+abbrev pub is_made_at : ℕ → VerificationType → Bool
+is_made_at at top = false
+is_made_at at int = false
+is_made_at at float = false
+is_made_at at long = false
+is_made_at at double = false
+is_made_at at null = false
+is_made_at at (class name) = false
+is_made_at at (array component) = false
+is_made_at at uninit_this = false
+is_made_at at (uninit offset) = at == offset
+
+-- what a `new` at this offset leaves of what an earlier pass over it has made
+abbrev pub forgotten : ℕ → VerificationType → VerificationType
+forgotten at t = if is_made_at at t then top else t
+
+-- is it the object that a constructor was called on
+abbrev pub is_initialized : VerificationType → VerificationType → Bool
+is_initialized uninit_this uninit_this = true
+is_initialized (uninit at) t = is_made_at at t
+is_initialized _ _ = false
+
+-- an object of which a constructor has returned is of its class from then on
+abbrev pub initialized : VerificationType → List ℕ → VerificationType → VerificationType
+initialized receiver name t = if is_initialized receiver t then class name else t
+
+-- the own object becomes one of the current class, any other one of the class that was made
+abbrev pub class_after : Method Act → List ℕ → VerificationType → List ℕ
+class_after m name uninit_this = m.class
+class_after m name _ = name
+
+abbrev pub flag_after : VerificationType → Bool → Bool
+flag_after uninit_this flag = false
+flag_after _ flag = flag
+
+abbrev pub constructed : Method Act → List ℕ → List Want → FrameFact → FrameFact
+constructed m name wants f =
+    let receiver = top_of (beneath wants f.stack) in
+    let change = initialized receiver (class_after m name receiver) in
+    record { locals = map change f.locals; stack = map change (rest_of (beneath wants f.stack)); flag = flag_after receiver f.flag }
+
+-- ---- the frame after
+
+abbrev pub after : Method Act → ℕ → Plan → FrameFact → FrameFact
+after m at (pops wants gives offsets on) f = popped wants gives f
+after m at (loads want n width) f = loaded n f
+after m at (stores want n width) f = stored n f
+after m at (counts n) f = f
+after m at (rearranges forms) f = with_stack f (rearranged_by (form_for forms f.stack) f.stack)
+after m at loads_element f = with_stack f (element_of (top_of (rest_of f.stack)) ∷ rest_of (rest_of f.stack))
+after m at (makes name) f = record { locals = map (forgotten at) f.locals; stack = uninit at ∷ f.stack; flag = f.flag }
+after m at (constructs name wants) f = constructed m name wants f
+after m at (calls_special type wants gives) f = popped wants gives f
+after m at returns f = f
+after m at (refuses n) f = f

@@ -1,0 +1,5 @@
+pub mod Plans
+pub mod Constants
+pub mod Table
+pub mod After
+pub mod Rules

@@ -1,0 +1,106 @@
+-- The plan of each instruction (JVMS 4.10.1.9).
+use Rattle.std.specs.Prelude.{ℕ, Bool, true, false, if◌then◌else◌, List, [], ◌∷◌, Option, Some, None}
+use Rattle.names.specs.declared.base.Primitive.{Primitive}
+use Rattle.names.specs.Descriptors.{FieldDescriptor, primitive, class as class_descriptor, array as array_descriptor}
+use Rattle.names.specs.ReferenceTypes.{class_type, array_type}
+use Rattle.names.specs.StandardNames.{throwable_name}
+use Rattle.pool.specs.Members.{constant_at, class_at, field_at, method_at}
+use Rattle.classfile.specs.Methods.{Method}
+use Rattle.hierarchy.specs.World.{object_name}
+use Rattle.insn.specs.declared.operation.Kind.{Kind}
+use Rattle.insn.specs.declared.operation.Kind.TheVariants as kinds
+use Rattle.insn.specs.Acts.{is_wide, numeric_row, stack_forms}
+use Rattle.insn.specs.Stacks.{computed_as, same_kind}
+use Rattle.insn.specs.Offsets.{at_offset}
+use Rattle.insn.specs.Meanings as acts
+use Rattle.insn.specs.Meanings.{Act}
+use Rattle.frames.specs.VerificationType.{int, null, class}
+use Rattle.frames.specs.Slots.{number_type}
+use Rattle.rules.specs.Plans.{Want, number, assignable_to, any_reference, any_array, any_array_for, Plan, pops, loads, stores, counts, rearranges, loads_element, makes, returns, refuses, takes, gives, class_want, numbers}
+use Rattle.rules.specs.Constants.{load_constant, load_wide_constant, get_static, put_static, get_field, put_field, invoke_static, invoke_virtual, invoke_interface, invoke_special, new_object, new_array, new_reference_array, new_multi_array, check_cast, instance_of}
+
+-- ---- returns: an instruction of another kind than the method's result is refused 76
+
+-- it takes an operand, and nothing comes behind it
+abbrev pub leaves_with : Want → Plan
+leaves_with want = pops (want ∷ []) [] [] false
+
+abbrev pub return_number : Option FieldDescriptor → Kind → Plan
+return_number (Some (primitive p)) kind = if same_kind (computed_as p) kind then leaves_with (number kind) else refuses 76
+return_number _ kind = refuses 76
+
+abbrev pub return_reference : Option FieldDescriptor → Plan
+return_reference (Some (class_descriptor name)) = leaves_with (assignable_to (class_type name))
+return_reference (Some (array_descriptor component)) = leaves_with (assignable_to (array_type component))
+return_reference _ = refuses 76
+
+abbrev pub return_nothing : Option FieldDescriptor → Plan
+return_nothing None = returns
+return_nothing (Some t) = refuses 76
+
+-- ---- all instructions
+
+abbrev pub kind_width : Kind → ℕ
+kind_width kind = if is_wide kind then 2 else 1
+
+-- any array of references
+abbrev pub object_array : Want
+object_array = assignable_to (array_type (class_descriptor object_name))
+
+abbrev pub plan : Method Act → Act → Plan
+plan m acts.Nothing = takes []
+plan m (acts.Constant kind) = gives (number_type kind)
+plan m acts.ConstantNull = gives null
+plan m (acts.LoadConstant i) = load_constant (constant_at m.constant_pool i)
+plan m (acts.LoadWideConstant i) = load_wide_constant (constant_at m.constant_pool i)
+plan m (acts.Load kind n) = loads (number kind) n (kind_width kind)
+plan m (acts.LoadReference n) = loads any_reference n 1
+plan m (acts.Store kind n) = stores (number kind) n (kind_width kind)
+plan m (acts.StoreReference n) = stores any_reference n 1
+plan m (acts.Increment n) = counts n
+plan m (acts.Numeric operator) = pops (numbers (numeric_row operator).taken) (number_type (numeric_row operator).given ∷ []) [] true
+plan m (acts.Stack operator) = rearranges (stack_forms operator)
+plan m (acts.IfInt offset) = pops (number kinds.Int ∷ []) [] (offset ∷ []) true
+plan m (acts.IfInts offset) = pops (number kinds.Int ∷ number kinds.Int ∷ []) [] (offset ∷ []) true
+plan m (acts.IfReferences offset) = pops (any_reference ∷ any_reference ∷ []) [] (offset ∷ []) true
+plan m (acts.IfNull offset) = pops (any_reference ∷ []) [] (offset ∷ []) true
+plan m (acts.Goto offset) = pops [] [] (offset ∷ []) false
+plan m (acts.Switch default offsets) = pops (number kinds.Int ∷ []) [] (default ∷ offsets) false
+plan m (acts.Return kind) = return_number m.type.result kind
+plan m acts.ReturnReference = return_reference m.type.result
+plan m acts.ReturnVoid = return_nothing m.type.result
+plan m (acts.GetStatic i) = get_static (field_at m.constant_pool i)
+plan m (acts.PutStatic i) = put_static (field_at m.constant_pool i)
+plan m (acts.GetField i) = get_field (field_at m.constant_pool i)
+plan m (acts.PutField i) = put_field m (field_at m.constant_pool i)
+plan m (acts.InvokeVirtual i) = invoke_virtual (method_at m.constant_pool i)
+plan m (acts.InvokeSpecial i) = invoke_special m.major_version m.class (method_at m.constant_pool i)
+plan m (acts.InvokeStatic i) = invoke_static m.major_version (method_at m.constant_pool i)
+plan m (acts.InvokeInterface i count) = invoke_interface count (method_at m.constant_pool i)
+plan m (acts.New i) = new_object (class_at m.constant_pool i)
+plan m (acts.LoadElement p) = pops (number kinds.Int ∷ any_array_for p ∷ []) (number_type (computed_as p) ∷ []) [] true
+plan m (acts.StoreElement p) = takes (number (computed_as p) ∷ number kinds.Int ∷ any_array_for p ∷ [])
+plan m acts.LoadReferenceElement = loads_element
+plan m acts.StoreReferenceElement = takes (class_want object_name ∷ number kinds.Int ∷ object_array ∷ [])
+plan m acts.ArrayLength = pops (any_array ∷ []) (int ∷ []) [] true
+plan m (acts.NewArray element) = new_array element
+plan m (acts.NewReferenceArray i) = new_reference_array (class_at m.constant_pool i)
+plan m (acts.NewMultiArray i n) = new_multi_array n (class_at m.constant_pool i)
+plan m (acts.CheckCast i) = check_cast (class_at m.constant_pool i)
+plan m (acts.InstanceOf i) = instance_of (class_at m.constant_pool i)
+plan m acts.Throw = leaves_with (class_want throwable_name)
+plan m acts.Monitor = takes (any_reference ∷ [])
+plan m acts.Unsupported = refuses 60
+
+-- ---- the class of the object that a `new` makes
+
+abbrev pub class_made : Plan → Option (List ℕ)
+class_made (makes name) = Some name
+class_made _ = None
+
+abbrev pub made_by : Method Act → Option Act → Option (List ℕ)
+made_by m None = None
+made_by m (Some act) = class_made (plan m act)
+
+abbrev pub class_made_at : Method Act → ℕ → Option (List ℕ)
+class_made_at m at = made_by m (at_offset m.code at)

@@ -1,0 +1,288 @@
+-- The rules and the machine take each instruction for the same: they name the same operands, results and offsets.
+use Rattle.std.proofs.Common.{◌≡◌, ℕ, zero, suc, ℤ, Bool, true, false, not, ◌&&◌, nat_lt, List, [], ◌∷◌, Option, Some, None, if◌then◌else◌, ap, refl}
+use Rattle.names.specs.declared.base.Primitive.{Primitive}
+use Rattle.names.specs.Descriptors.{FieldDescriptor, primitive, class as class_descriptor, array as array_descriptor, MethodDescriptor}
+use Rattle.names.specs.ReferenceTypes.{ReferenceType, class_type, array_type}
+use Rattle.pool.specs.Entries as entries
+use Rattle.pool.specs.Entries.{Entry}
+use Rattle.pool.specs.Members.{constant_at, class_at, FieldConstant, field_at, MethodConstant, method_at}
+use Rattle.classfile.specs.Methods.{Method, is_own_field}
+use Rattle.insn.specs.declared.operation.Kind.{Kind}
+use Rattle.insn.specs.declared.operation.Kind.TheVariants as kinds
+use Rattle.insn.specs.Acts.{numeric_row}
+use Rattle.insn.specs.Stacks.{computed_as, same_kind}
+use Rattle.insn.specs.Meanings as acts
+use Rattle.insn.specs.Meanings.{Act}
+use Rattle.frames.specs.VerificationType.{VerificationType, null}
+use Rattle.frames.specs.Slots.{number_type, to_reference, descriptor_type}
+use Rattle.rules.specs.Plans as rules
+use Rattle.rules.specs.Plans.{Want, Plan}
+use Rattle.rules.specs.Constants as constants
+use Rattle.rules.specs.Table as table
+use Rattle.machine.specs.Values.{kind_units}
+use Rattle.machine.specs.Tasks as tasks
+use Rattle.machine.specs.Tasks.{Need, Reply, Task}
+use Rattle.verify.proofs.Apart.{AllApart, table_apart}
+
+-- what a rule asks of an operand, and what the machine needs of it
+abbrev pub WantNeed : Want → Need → Type 0
+WantNeed (rules.number k) (tasks.of_kind l) = k ≡ l
+WantNeed (rules.assignable_to r) (tasks.of_type t) = r ≡ t
+WantNeed rules.any_reference tasks.some_reference = Unit {0}
+WantNeed rules.any_array tasks.some_array = Unit {0}
+WantNeed (rules.any_array_for p) (tasks.some_array_for q) = p ≡ q
+WantNeed (rules.own_or_assignable_to c) (tasks.own_or_of d) = c ≡ d
+WantNeed _ _ = ⊥
+
+abbrev pub WantsNeeds : List Want → List Need → Type 0
+WantsNeeds [] [] = Unit {0}
+WantsNeeds (w ∷ ws) (n ∷ ns) = WantNeed w n × WantsNeeds ws ns
+WantsNeeds _ _ = ⊥
+
+abbrev pub GivesReply : List VerificationType → Reply → Type 0
+GivesReply [] tasks.no_reply = Unit {0}
+GivesReply (t ∷ []) (tasks.gives_number k) = t ≡ number_type k
+GivesReply (t ∷ []) tasks.gives_null = t ≡ null
+GivesReply (t ∷ []) (tasks.gives_answer d) = t ≡ descriptor_type d
+GivesReply _ _ = ⊥
+
+-- the width of what meets a need
+abbrev pub need_units : Need → ℕ
+need_units (tasks.of_kind k) = kind_units k
+need_units (tasks.of_type r) = 1
+need_units tasks.some_reference = 1
+need_units tasks.some_array = 1
+need_units (tasks.some_array_for p) = 1
+need_units (tasks.own_or_of c) = 1
+
+pub record OperatesAs (ws : List Want) (gs : List VerificationType) (os : List ℤ) (b : Bool) (ns : List Need) (r : Reply) (us : List ℤ) (c : Bool) : Type 0 where
+  pub needs : WantsNeeds ws ns
+  pub reply : GivesReply gs r
+  pub offsets : os ≡ us
+  pub falls : b ≡ c
+
+pub record GivesAs (ws : List Want) (gs : List VerificationType) (os : List ℤ) (b : Bool) (ns : List Need) (r : ReferenceType) : Type 0 where
+  pub needs : WantsNeeds ws ns
+  pub reply : gs ≡ to_reference r ∷ []
+  pub offsets : os ≡ []
+  pub falls : b ≡ true
+
+pub record LeavesAs (ws : List Want) (os : List ℤ) (b : Bool) (ns : List Need) : Type 0 where
+  pub needs : WantsNeeds ws ns
+  pub offsets : os ≡ []
+  pub falls : b ≡ false
+
+abbrev pub Agrees : Plan → Task → Type 0
+Agrees (rules.pops ws gs os b) (tasks.operates ns l r us c) = OperatesAs ws gs os b ns r us c
+Agrees (rules.pops ws gs os b) (tasks.makes_array ns t) = GivesAs ws gs os b ns t
+Agrees (rules.pops ws gs os b) (tasks.passes t) = GivesAs ws gs os b (tasks.needs_of (tasks.passes t)) t
+Agrees (rules.pops ws gs os b) (tasks.leaves ns) = LeavesAs ws os b ns
+Agrees (rules.pops ws gs os b) (tasks.throws x) = LeavesAs ws os b (x ∷ [])
+Agrees (rules.loads w n k) (tasks.reads x l) = WantNeed w x × (n ≡ l)
+Agrees (rules.stores w n k) (tasks.writes x l j) = WantNeed w x × (n ≡ l) × (k ≡ j) × (need_units x ≡ j)
+Agrees (rules.counts n) (tasks.increments l) = n ≡ l
+Agrees (rules.rearranges fs) (tasks.moves gs) = (fs ≡ gs) × AllApart fs
+Agrees rules.loads_element tasks.takes_element = Unit {0}
+Agrees (rules.makes c) (tasks.creates d) = c ≡ d
+Agrees (rules.constructs c ws) (tasks.initializes d ns) = (c ≡ d) × WantsNeeds ws ns
+Agrees (rules.calls_special o ws gs) (tasks.calls_special q ns l r) = (o ≡ q) × WantsNeeds ws ns × GivesReply gs r
+Agrees rules.returns tasks.ends = Unit {0}
+Agrees (rules.refuses r) t = Unit {0}
+Agrees _ _ = ⊥
+
+want_need : (t : FieldDescriptor) → WantNeed (rules.want_of t) (tasks.need_of t)
+want_need (primitive p) = refl
+want_need (class_descriptor c) = refl
+want_need (array_descriptor c) = refl
+
+arguments : (ts : List FieldDescriptor) (ws : List Want) (ns : List Need) → WantsNeeds ws ns → WantsNeeds (rules.arguments_on ts ws) (tasks.arguments_on ts ns)
+arguments [] ws ns a = a
+arguments (t ∷ ts) ws ns a = arguments ts (rules.want_of t ∷ ws) (tasks.need_of t ∷ ns) (want_need t, a)
+
+results : (r : Option FieldDescriptor) → GivesReply (rules.result_types r) (tasks.reply_of r)
+results None = tt
+results (Some t) = refl
+
+numbers : (ks : List Kind) → WantsNeeds (rules.numbers ks) (tasks.needs_of_kinds ks)
+numbers [] = tt
+numbers (k ∷ ks) = (refl, numbers ks)
+
+sizes_agree : (n : ℕ) → WantsNeeds (rules.sizes n) (tasks.sizes n)
+sizes_agree zero = tt
+sizes_agree (suc n) = (refl, sizes_agree n)
+
+-- a plan and a task where the same test holds
+allowed : (b : Bool) (p : Plan) (t : Task) → Agrees p t → Agrees (rules.where_allowed b p) (tasks.where_allowed b t)
+allowed true p t a = a
+allowed false p t a = tt
+
+-- ---- constants
+
+load_constant_agree : (c : Option Entry) → Agrees (constants.load_constant c) (tasks.load_constant c)
+load_constant_agree (Some (entries.Integer bits)) = record { needs = tt; reply = refl; offsets = refl; falls = refl }
+load_constant_agree (Some (entries.Float bits)) = record { needs = tt; reply = refl; offsets = refl; falls = refl }
+load_constant_agree (Some (entries.String text)) = record { needs = tt; reply = refl; offsets = refl; falls = refl }
+load_constant_agree (Some (entries.Class name)) = record { needs = tt; reply = refl; offsets = refl; falls = refl }
+load_constant_agree (Some (entries.MethodType d)) = record { needs = tt; reply = refl; offsets = refl; falls = refl }
+load_constant_agree (Some (entries.MethodHandle k t)) = record { needs = tt; reply = refl; offsets = refl; falls = refl }
+load_constant_agree _ = tt
+
+load_wide_constant_agree : (c : Option Entry) → Agrees (constants.load_wide_constant c) (tasks.load_wide_constant c)
+load_wide_constant_agree (Some (entries.Long high low)) = record { needs = tt; reply = refl; offsets = refl; falls = refl }
+load_wide_constant_agree (Some (entries.Double high low)) = record { needs = tt; reply = refl; offsets = refl; falls = refl }
+load_wide_constant_agree _ = tt
+
+get_static_agree : (c : Option FieldConstant) → Agrees (constants.get_static c) (tasks.get_static c)
+get_static_agree (Some f) = record { needs = tt; reply = refl; offsets = refl; falls = refl }
+get_static_agree None = tt
+
+put_static_agree : (c : Option FieldConstant) → Agrees (constants.put_static c) (tasks.put_static c)
+put_static_agree (Some f) = record { needs = (want_need f.type, tt); reply = tt; offsets = refl; falls = refl }
+put_static_agree None = tt
+
+get_field_agree : (c : Option FieldConstant) → Agrees (constants.get_field c) (tasks.get_field c)
+get_field_agree (Some f) = record { needs = (refl, tt); reply = refl; offsets = refl; falls = refl }
+get_field_agree None = tt
+
+target_agree : (m : Method Act) (f : FieldConstant) → WantNeed (constants.target_of m f) (tasks.target_of m f)
+target_agree m f = go (m.is_init && is_own_field m f)
+  where
+    go : (b : Bool) → WantNeed (if b then rules.own_or_assignable_to f.class else rules.class_want f.class) (if b then tasks.own_or_of f.class else tasks.of_type (class_type f.class))
+    go true = refl
+    go false = refl
+
+put_field_agree : (m : Method Act) (c : Option FieldConstant) → Agrees (constants.put_field m c) (tasks.put_field m c)
+put_field_agree m (Some f) = record { needs = (want_need f.type, (target_agree m f, tt)); reply = tt; offsets = refl; falls = refl }
+put_field_agree m None = tt
+
+static_agree : (n : ℕ) (c : Option MethodConstant) → Agrees (constants.invoke_static n c) (tasks.invoke_static n c)
+static_agree n (Some c) = allowed _ (constants.static_call c) (tasks.static_call c) (record { needs = arguments c.type.params [] [] tt; reply = results c.type.result; offsets = refl; falls = refl })
+static_agree n None = tt
+
+call_agree : (r : ReferenceType) (c : MethodConstant) → Agrees (constants.call_on r c) (tasks.call_on r c)
+call_agree r c = record { needs = arguments c.type.params (rules.assignable_to r ∷ []) (tasks.of_type r ∷ []) (refl, tt); reply = results c.type.result; offsets = refl; falls = refl }
+
+virtual_agree : (c : Option MethodConstant) → Agrees (constants.invoke_virtual c) (tasks.invoke_virtual c)
+virtual_agree (Some c) = allowed _ (constants.call_on c.class c) (tasks.call_on c.class c) (call_agree c.class c)
+virtual_agree None = tt
+
+interface_agree : (n : ℕ) (c : Option MethodConstant) → Agrees (constants.invoke_interface n c) (tasks.invoke_interface n c)
+interface_agree n (Some c) = allowed _ (constants.call_on c.class c) (tasks.call_on c.class c) (call_agree c.class c)
+interface_agree n None = tt
+
+constructor_agree : (c : MethodConstant) (r : ReferenceType) → Agrees (constants.constructor_call c r) (tasks.constructor_call c r)
+constructor_agree c (class_type name) = allowed _ (rules.constructs name (rules.arguments_on c.type.params [])) (tasks.initializes name (tasks.arguments_on c.type.params [])) (refl, arguments c.type.params [] [] tt)
+constructor_agree c (array_type component) = tt
+
+special_call_agree : (n : ℕ) (me : List ℕ) (c : MethodConstant) → Agrees (constants.special_call n me c) (tasks.special_call n me c)
+special_call_agree n me c =
+    allowed _ (rules.calls_special c.class (rules.arguments_on c.type.params (rules.class_want me ∷ [])) (rules.result_types c.type.result)) _
+      (refl, arguments c.type.params (rules.class_want me ∷ []) (tasks.of_type (class_type me) ∷ []) (refl, tt), results c.type.result)
+
+special_agree : (n : ℕ) (me : List ℕ) (c : Option MethodConstant) → Agrees (constants.invoke_special n me c) (tasks.invoke_special n me c)
+special_agree n me (Some c) = go (constants.is_init_name c)
+  where
+    go : (b : Bool) → Agrees (if b then constants.constructor_call c c.class else constants.special_call n me c) (if b then tasks.constructor_call c c.class else tasks.special_call n me c)
+    go true = constructor_agree c c.class
+    go false = special_call_agree n me c
+special_agree n me None = tt
+
+new_agree : (c : Option ReferenceType) → Agrees (constants.new_object c) (tasks.new_object c)
+new_agree (Some (class_type name)) = refl
+new_agree _ = tt
+
+new_array_agree : (p : Option Primitive) → Agrees (constants.new_array p) (tasks.new_array p)
+new_array_agree (Some p) = record { needs = (refl, tt); reply = refl; offsets = refl; falls = refl }
+new_array_agree None = tt
+
+array_types : (t : ReferenceType) → constants.array_of_type t ≡ to_reference (tasks.array_of_type t)
+array_types (class_type name) = refl
+array_types (array_type component) = refl
+
+new_reference_array_agree : (c : Option ReferenceType) → Agrees (constants.new_reference_array c) (tasks.new_reference_array c)
+new_reference_array_agree (Some t) = allowed _ (rules.pops (rules.number kinds.Int ∷ []) (constants.array_of_type t ∷ []) [] true) (tasks.makes_array (tasks.of_kind kinds.Int ∷ []) (tasks.array_of_type t)) (record { needs = (refl, tt); reply = ap (λ z. z ∷ []) (array_types t); offsets = refl; falls = refl })
+new_reference_array_agree None = tt
+
+new_multi_array_agree : (n : ℕ) (c : Option ReferenceType) → Agrees (constants.new_multi_array n c) (tasks.new_multi_array n c)
+new_multi_array_agree n (Some t) = allowed _ (rules.pops (rules.sizes n) (to_reference t ∷ []) [] true) (tasks.makes_array (tasks.sizes n) t) (record { needs = sizes_agree n; reply = refl; offsets = refl; falls = refl })
+new_multi_array_agree n None = tt
+
+cast_agree : (c : Option ReferenceType) → Agrees (constants.check_cast c) (tasks.check_cast c)
+cast_agree (Some t) = record { needs = (refl, tt); reply = refl; offsets = refl; falls = refl }
+cast_agree None = tt
+
+instance_agree : (c : Option ReferenceType) → Agrees (constants.instance_of c) (tasks.instance_of c)
+instance_agree (Some t) = record { needs = (refl, tt); reply = refl; offsets = refl; falls = refl }
+instance_agree None = tt
+
+-- ---- returns
+
+return_number_agree : (t : Option FieldDescriptor) (k : Kind) → Agrees (table.return_number t k) (tasks.return_number t k)
+return_number_agree (Some (primitive p)) k = go (same_kind (computed_as p) k)
+  where
+    go : (b : Bool) → Agrees (if b then table.leaves_with (rules.number k) else rules.refuses 76) (if b then tasks.leaves (tasks.of_kind k ∷ []) else tasks.stuck)
+    go true = record { needs = (refl, tt); offsets = refl; falls = refl }
+    go false = tt
+return_number_agree _ k = tt
+
+return_reference_agree : (t : Option FieldDescriptor) → Agrees (table.return_reference t) (tasks.return_reference t)
+return_reference_agree (Some (class_descriptor c)) = record { needs = (refl, tt); offsets = refl; falls = refl }
+return_reference_agree (Some (array_descriptor c)) = record { needs = (refl, tt); offsets = refl; falls = refl }
+return_reference_agree _ = tt
+
+return_nothing_agree : (t : Option FieldDescriptor) → Agrees (table.return_nothing t) (tasks.return_nothing t)
+return_nothing_agree None = tt
+return_nothing_agree (Some t) = tt
+
+widths : (k : Kind) → table.kind_width k ≡ kind_units k
+widths kinds.Int = refl
+widths kinds.Float = refl
+widths kinds.Long = refl
+widths kinds.Double = refl
+
+-- ---- all instructions
+
+pub agree : (m : Method Act) (a : Act) → Agrees (table.plan m a) (tasks.task m a)
+agree m acts.Nothing = record { needs = tt; reply = tt; offsets = refl; falls = refl }
+agree m (acts.Constant k) = record { needs = tt; reply = refl; offsets = refl; falls = refl }
+agree m acts.ConstantNull = record { needs = tt; reply = refl; offsets = refl; falls = refl }
+agree m (acts.LoadConstant i) = load_constant_agree (constant_at m.constant_pool i)
+agree m (acts.LoadWideConstant i) = load_wide_constant_agree (constant_at m.constant_pool i)
+agree m (acts.Load k n) = (refl, refl)
+agree m (acts.LoadReference n) = (tt, refl)
+agree m (acts.Store k n) = (refl, refl, widths k, refl)
+agree m (acts.StoreReference n) = (tt, refl, refl, refl)
+agree m (acts.Increment n) = refl
+agree m (acts.Numeric op) = record { needs = numbers (numeric_row op).taken; reply = refl; offsets = refl; falls = refl }
+agree m (acts.Stack op) = (refl, table_apart op)
+agree m (acts.IfInt t) = record { needs = (refl, tt); reply = tt; offsets = refl; falls = refl }
+agree m (acts.IfInts t) = record { needs = (refl, (refl, tt)); reply = tt; offsets = refl; falls = refl }
+agree m (acts.IfReferences t) = record { needs = (tt, (tt, tt)); reply = tt; offsets = refl; falls = refl }
+agree m (acts.IfNull t) = record { needs = (tt, tt); reply = tt; offsets = refl; falls = refl }
+agree m (acts.Goto t) = record { needs = tt; reply = tt; offsets = refl; falls = refl }
+agree m (acts.Switch d ts) = record { needs = (refl, tt); reply = tt; offsets = refl; falls = refl }
+agree m (acts.Return k) = return_number_agree m.type.result k
+agree m acts.ReturnReference = return_reference_agree m.type.result
+agree m acts.ReturnVoid = return_nothing_agree m.type.result
+agree m (acts.GetStatic i) = get_static_agree (field_at m.constant_pool i)
+agree m (acts.PutStatic i) = put_static_agree (field_at m.constant_pool i)
+agree m (acts.GetField i) = get_field_agree (field_at m.constant_pool i)
+agree m (acts.PutField i) = put_field_agree m (field_at m.constant_pool i)
+agree m (acts.InvokeVirtual i) = virtual_agree (method_at m.constant_pool i)
+agree m (acts.InvokeSpecial i) = special_agree m.major_version m.class (method_at m.constant_pool i)
+agree m (acts.InvokeStatic i) = static_agree m.major_version (method_at m.constant_pool i)
+agree m (acts.InvokeInterface i n) = interface_agree n (method_at m.constant_pool i)
+agree m (acts.New i) = new_agree (class_at m.constant_pool i)
+agree m (acts.LoadElement p) = record { needs = (refl, (refl, tt)); reply = refl; offsets = refl; falls = refl }
+agree m (acts.StoreElement p) = record { needs = (refl, (refl, (refl, tt))); reply = tt; offsets = refl; falls = refl }
+agree m acts.LoadReferenceElement = tt
+agree m acts.StoreReferenceElement = record { needs = (refl, (refl, (refl, tt))); reply = tt; offsets = refl; falls = refl }
+agree m acts.ArrayLength = record { needs = (tt, tt); reply = refl; offsets = refl; falls = refl }
+agree m (acts.NewArray p) = new_array_agree p
+agree m (acts.NewReferenceArray i) = new_reference_array_agree (class_at m.constant_pool i)
+agree m (acts.NewMultiArray i n) = new_multi_array_agree n (class_at m.constant_pool i)
+agree m (acts.CheckCast i) = cast_agree (class_at m.constant_pool i)
+agree m (acts.InstanceOf i) = instance_agree (class_at m.constant_pool i)
+agree m acts.Throw = record { needs = (refl, tt); offsets = refl; falls = refl }
+agree m acts.Monitor = record { needs = (tt, tt); reply = tt; offsets = refl; falls = refl }
+agree m acts.Unsupported = tt

@@ -1,0 +1,3 @@
+pub mod InitialFrames
+pub mod TypeSafety
+pub mod Safety
