@@ -4,7 +4,9 @@ use Rattle.names.specs.declared.base.Primitive.{Primitive}
 use Rattle.names.specs.declared.base.Primitive.TheVariants as primitives
 use Rattle.insn.specs.declared.operation.Kind.{Kind}
 use Rattle.insn.specs.declared.operation.Kind.TheVariants.{Int, Long, Float, Double}
-use Rattle.insn.specs.Acts.{StackPlace, narrow, wide, StackForm}
+use Rattle.insn.specs.declared.stack.StackPlace.{StackPlace}
+use Rattle.insn.specs.declared.stack.StackPlace.TheVariants.{Narrow, Wide}
+use Rattle.insn.specs.Acts.{StackForm}
 
 -- the kind of number as which a primitive type is computed with (Table 2.11.1-B)
 abbrev pub computed_as : Primitive → Kind
@@ -41,8 +43,8 @@ rearranged form items = chosen items form.leaves ++ beneath form.takes items
 
 -- how many units the places take
 abbrev pub place_units : StackPlace → ℕ
-place_units narrow = 1
-place_units wide = 2
+place_units Narrow = 1
+place_units Wide = 2
 
 abbrev pub units_of_places : List StackPlace → ℕ
 units_of_places [] = 0

@@ -2,7 +2,9 @@
 use Rattle.std.specs.Prelude.{ℕ, zero, suc, ◌+◌, ◌-◌, Bool, true, false, if◌then◌else◌, List, [], ◌∷◌, ◌++◌, length, replicate}
 use Rattle.names.specs.Descriptors.{FieldDescriptor, primitive, class, array}
 use Rattle.insn.specs.declared.operation.Kind.{Kind}
-use Rattle.insn.specs.Acts.{is_wide, StackPlace, narrow, wide}
+use Rattle.insn.specs.declared.stack.StackPlace.{StackPlace}
+use Rattle.insn.specs.declared.stack.StackPlace.TheVariants.{Narrow, Wide}
+use Rattle.insn.specs.Acts.{is_wide}
 use Rattle.insn.specs.Stacks.{computed_as}
 
 pub data Value : Type 0 where
@@ -90,4 +92,4 @@ stored v (suc (suc n)) (s ∷ ss) = s ∷ stored v (suc n) ss
 -- ---- forms of the stack's instructions (2.11.1)
 
 abbrev pub place_of : Value → StackPlace
-place_of v = if is_wide_value v then wide else narrow
+place_of v = if is_wide_value v then Wide else Narrow

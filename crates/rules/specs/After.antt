@@ -2,7 +2,9 @@
 use Rattle.std.specs.Prelude.{ℕ, zero, suc, Bool, true, false, ◌&&◌, ◌==◌, if◌then◌else◌, List, [], ◌∷◌, ◌++◌, map, slice_get, Option, Some, None}
 use Rattle.names.specs.Descriptors.{FieldDescriptor, primitive, class as class_descriptor, array as array_descriptor}
 use Rattle.classfile.specs.Methods.{Method}
-use Rattle.insn.specs.Acts.{StackPlace, narrow, wide, StackForm}
+use Rattle.insn.specs.declared.stack.StackPlace.{StackPlace}
+use Rattle.insn.specs.declared.stack.StackPlace.TheVariants.{Narrow, Wide}
+use Rattle.insn.specs.Acts.{StackForm}
 use Rattle.insn.specs.Stacks.{beneath, rearranged}
 use Rattle.insn.specs.Meanings.{Act}
 use Rattle.frames.specs.VerificationType.{VerificationType, top, int, float, long, double, null, class, array, uninit_this, uninit}
@@ -68,8 +70,8 @@ is_narrow uninit_this = true
 is_narrow (uninit offset) = true
 
 abbrev pub fits_place : StackPlace → VerificationType → Bool
-fits_place narrow t = is_narrow t
-fits_place wide t = is_wide t
+fits_place Narrow t = is_narrow t
+fits_place Wide t = is_wide t
 
 abbrev pub fits_places : List StackPlace → List VerificationType → Bool
 fits_places [] ts = true

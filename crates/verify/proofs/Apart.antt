@@ -3,16 +3,18 @@ use Rattle.std.proofs.Common.{◌≡◌, Bool, true, false, ◌||◌, List, [], 
 use Rattle.std.proofs.lemmas.Bool.{or_cases}
 use Rattle.insn.specs.declared.operation.StackOperator.{StackOperator}
 use Rattle.insn.specs.declared.operation.StackOperator.TheVariants.{Pop, Pop2, Dup, DupX1, DupX2, Dup2, Dup2X1, Dup2X2, Swap}
-use Rattle.insn.specs.Acts.{StackPlace, narrow, wide, StackForm, stack_forms}
+use Rattle.insn.specs.declared.stack.StackPlace.{StackPlace}
+use Rattle.insn.specs.declared.stack.StackPlace.TheVariants.{Narrow, Wide}
+use Rattle.insn.specs.Acts.{StackForm, stack_forms}
 use Rattle.insn.specs.Offsets.{IsAmong}
 use Rattle.machine.specs.Values.{Value}
 use Rattle.machine.specs.Demands.{AreForm}
 
 abbrev pub differ : StackPlace → StackPlace → Bool
-differ narrow narrow = false
-differ narrow wide = true
-differ wide narrow = true
-differ wide wide = false
+differ Narrow Narrow = false
+differ Narrow Wide = true
+differ Wide Narrow = true
+differ Wide Wide = false
 
 abbrev pub apart : List StackPlace → List StackPlace → Bool
 apart [] qs = false
@@ -20,10 +22,10 @@ apart (p ∷ ps) [] = false
 apart (p ∷ ps) (q ∷ qs) = differ p q || apart ps qs
 
 differ_ne : (p q : StackPlace) → differ p q ≡ true → p ≡ q → ⊥
-differ_ne narrow wide e f = cc
-differ_ne wide narrow e f = cc
-differ_ne narrow narrow e f = cc
-differ_ne wide wide e f = cc
+differ_ne Narrow Wide e f = cc
+differ_ne Wide Narrow e f = cc
+differ_ne Narrow Narrow e f = cc
+differ_ne Wide Wide e f = cc
 
 apart_not : (ps qs : List StackPlace) (vs : List Value) → apart ps qs ≡ true → AreForm ps vs → AreForm qs vs → ⊥
 apart_not [] qs vs e f g = cc

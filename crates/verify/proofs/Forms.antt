@@ -2,7 +2,9 @@
 use Rattle.std.proofs.Common.{◌≡◌, ℕ, zero, suc, ◌≤◌, Bool, true, false, List, [], ◌∷◌, slice_get, Option, Some, None, inl, inr, if◌then◌else◌, sym, ap, refl, ◌∙◌, subst, arith}
 use Rattle.std.proofs.lemmas.Bool.{and_parts}
 use Rattle.hierarchy.specs.Class.{ClassFact}
-use Rattle.insn.specs.Acts.{StackPlace, narrow, wide, StackForm}
+use Rattle.insn.specs.declared.stack.StackPlace.{StackPlace}
+use Rattle.insn.specs.declared.stack.StackPlace.TheVariants.{Narrow, Wide}
+use Rattle.insn.specs.Acts.{StackForm}
 use Rattle.insn.specs.Stacks.{beneath, with_item, chosen, rearranged}
 use Rattle.insn.specs.Offsets.{IsAmong}
 use Rattle.frames.specs.VerificationType.{VerificationType, top, int, float, long, double, null as null_type, class, array, uninit_this, uninit}
@@ -36,12 +38,12 @@ narrow_type long f = cc
 narrow_type double f = cc
 
 place_fits : (p : StackPlace) (v : Value) (t : VerificationType) → is_wide_value v ≡ is_wide t → fits_place p t ≡ true → p ≡ place_of v
-place_fits narrow v t w f = rw (w ∙ narrow_type t f) refl
-place_fits wide v t w f = rw (w ∙ f) refl
+place_fits Narrow v t w f = rw (w ∙ narrow_type t f) refl
+place_fits Wide v t w f = rw (w ∙ f) refl
 
 not_top : (p : StackPlace) (t : VerificationType) → fits_place p t ≡ true → t ≡ top → ⊥
-not_top narrow t f e = let g : fits_place narrow top ≡ true = subst (λ z. fits_place narrow z ≡ true) e f in cc
-not_top wide t f e = let g : fits_place wide top ≡ true = subst (λ z. fits_place wide z ≡ true) e f in cc
+not_top Narrow t f e = let g : fits_place Narrow top ≡ true = subst (λ z. fits_place Narrow z ≡ true) e f in cc
+not_top Wide t f e = let g : fits_place Wide top ≡ true = subst (λ z. fits_place Wide z ≡ true) e f in cc
 
 form_fits : (e : View) (h : Heap) (ps : List StackPlace) (vs : List Value) (ts : List VerificationType) → fits_places ps ts ≡ true → Items e h vs ts → AreForm ps vs
 form_fits e h [] vs ts y f = tt
