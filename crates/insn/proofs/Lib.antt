@@ -1,6 +1,10 @@
 pub mod CodeLaws
+pub mod CodeSpellings
 pub mod Keys
 pub mod Numbers
+pub mod OperandLaws
 pub mod Rows
+pub mod Spelled
 pub mod Starts
 pub mod Steps
+pub mod Switches

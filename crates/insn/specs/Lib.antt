@@ -1,9 +1,13 @@
 pub mod Acts
 pub mod Code
+pub mod Encoding
 pub mod Faults
 pub mod Instructions
+pub mod Laws
 pub mod Meanings
 pub mod Opcodes
+pub mod Sizes
+pub mod Spellings
 pub mod Table
 pub mod Views
 pub mod Offsets

@@ -38,12 +38,12 @@ abbrev pub view : insns.Insn → Instruction
 view i = record { opcode = i.opcode; operands = operands_view i.operands }
 
 -- an instruction with the offset where it begins
-abbrev pub placed : ℕ × insns.Insn → ℕ × Instruction
-placed x = (x.0, view x.1)
+abbrev pub located : ℕ × insns.Insn → ℕ × Instruction
+located x = (x.0, view x.1)
 
 -- instructions with the offsets where they begin
 abbrev pub views : List (ℕ × insns.Insn) → List (ℕ × Instruction)
-views xs = map placed xs
+views xs = map located xs
 
 -- where a switch goes, by its bytes
 abbrev pub targets_view : Targets → List ℤ

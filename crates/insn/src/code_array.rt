@@ -43,11 +43,11 @@ impl<'a> Iterator for Instructions<'a> {
     ghost use Rattle.std.specs.Prelude.{length};
     ghost use Rattle.std.specs.Iterator.{at_most};
     ghost use Rattle.insn.specs.Code.{StepsThrough};
-    ghost use Rattle.insn.specs.Views.{placed};
+    ghost use Rattle.insn.specs.Views.{located};
 
     type Item = Result<(usize, Insn<'a>), CodeFault>;
 
-    ghost next_gives = { StepsThrough placed };
+    ghost next_gives = { StepsThrough located };
 
     ghost remaining = { λ s. at_most (length s.rest) };
 

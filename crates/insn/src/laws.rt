@@ -4,6 +4,7 @@ ghost use Rattle.insn.specs.declared.fault.CodeFault.{CodeFault};
 ghost use Rattle.insn.specs.declared.opcode.Opcode.{Opcode};
 ghost use Rattle.insn.specs.Instructions.{Instruction};
 ghost use Rattle.insn.specs.Code.{SpellsCode, FaultyCode};
+ghost use Rattle.insn.specs.Laws.{OneSpelling, StartsAreSums, SizesAdd, WrittenIsRead, ReadIsWritten};
 ghost use Rattle.insn.specs.Opcodes.{number, opcode_of};
 
 /// Bytes are the code of one list of instructions at most, and then no instruction in them is at
@@ -20,4 +21,22 @@ pub fn code_is_one_list()
 pub fn opcodes_have_numbers()
     ensures number { (o : Opcode) → opcode_of (number o) ≡ Some o }
     ensures opcode { (n : ℕ) (o : Opcode) → opcode_of n ≡ Some o → number o ≡ n }
+{}
+
+/// Instructions are the code of one list of bytes at most; each begins where those before it end,
+/// and code has as many bytes as its instructions.
+pub fn list_is_one_code()
+    ensures spelling { OneSpelling }
+    ensures starts { StartsAreSums }
+    ensures size { SizesAdd }
+{}
+
+/// The code that was written is read as the instructions that it was written from.
+pub fn written_is_read()
+    ensures { WrittenIsRead }
+{}
+
+/// The instructions that were read are written as the code that they were read from.
+pub fn read_is_written()
+    ensures { ReadIsWritten }
 {}

@@ -6,6 +6,7 @@
 //!
 //! - `code_array`: a method's code, one instruction after the other
 //! - `decoding`: all of a method's code
+//! - `encoding`: code from its instructions
 //! - `fault`: why bytes are no code
 //! - `instruction`: an opcode and what stands behind it
 //! - `laws`: laws of code, without code
@@ -16,10 +17,12 @@
 //! - `stack`: the instructions that move what is on the stack
 //! - `switch`: where a switch goes
 //! - `table`: the instruction set, a row for each opcode
+//! - `writing`: one instruction, written
 #![tactic(auto)]
 
 mod code_array;
 mod decoding;
+mod encoding;
 mod fault;
 mod instruction;
 mod laws;
@@ -30,12 +33,16 @@ mod reading;
 mod stack;
 mod switch;
 mod table;
+mod writing;
 
 pub use code_array::Instructions;
 pub use decoding::decode_code;
+pub use encoding::encode_code;
 pub use fault::CodeFault;
 pub use instruction::{Insn, Operands, is_start, mnemonic};
-pub use laws::{code_is_one_list, opcodes_have_numbers};
+pub use laws::{
+    code_is_one_list, list_is_one_code, opcodes_have_numbers, read_is_written, written_is_read,
+};
 pub use meaning::act;
 pub use opcode::Opcode;
 pub use operation::{Act, Kind, Meaning, NumericOperator, takes_array};
@@ -44,5 +51,7 @@ pub use stack::{StackForm, StackOperator, StackPlace};
 pub use switch::{Offsets, Pairs, Targets};
 pub use table::Form;
 
+#[cfg(test)]
+mod encoding_tests;
 #[cfg(test)]
 mod tests;

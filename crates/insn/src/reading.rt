@@ -205,7 +205,7 @@ fn pairs<'a>(
 }
 
 /// Whether the keys of the pairs rise.
-fn rising(pairs: &[u8]) -> bool
+pub(crate) fn rising(pairs: &[u8]) -> bool
     ensures { result ≡ rising (keys pairs.now) }
 {
     let mut last = None;

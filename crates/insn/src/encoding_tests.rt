@@ -1,0 +1,195 @@
+use super::*;
+use layout::WriteFault;
+use std::test::*;
+
+#[test]
+fn a_switch_is_written_with_its_padding(rt: HostRuntime) -> Result<(), Fail> {
+    let code = [
+        0x03u8, 0xAA, 1, 2, 0, 0, 0, 0x13, 0, 0, 0, 0, 0, 0, 0, 0, 0, 0, 0, 0x13, 0xB1,
+    ];
+    let list = [
+        Insn {
+            opcode: Opcode::Iconst0,
+            operands: Operands::Nothing,
+        },
+        Insn {
+            opcode: Opcode::Tableswitch,
+            operands: Operands::TableSwitch {
+                padding: &[1, 2],
+                default: 19,
+                low: 0,
+                high: 0,
+                offsets: &[0, 0, 0, 19],
+            },
+        },
+        Insn {
+            opcode: Opcode::Return,
+            operands: Operands::Nothing,
+        },
+    ];
+    let bytes = encode_code(rt.alloc(), &list)?;
+    assert_eq!(rt; bytes.as_slice(), code.as_slice());
+    Ok(())
+}
+
+#[test]
+fn what_is_read_is_written(rt: HostRuntime) -> Result<(), Fail> {
+    let code = [
+        0x10u8, 0x80, 0x11, 0xFF, 0x7F, 0x12, 9, 0x13, 1, 2, 0x15, 3, 0x84, 1, 0xFF, 0xA7, 0xFF,
+        0xF0, 0xC8, 0xFF, 0xFF, 0xFF, 0xFE, 0xB9, 0, 1, 2, 0, 0xBA, 0, 1, 0, 0, 0xBC, 10, 0xC5, 0,
+        1, 2, 0xAB, 0, 0, 0, 12, 0, 0, 0, 1, 0x80, 0, 0, 0, 0, 0, 0, 4, 0xC4, 0x15, 1, 0, 0xC4,
+        0x84, 0, 2, 0xFF, 0xFE,
+    ];
+    let read = decode_code(rt.alloc(), &code)?;
+    let mut list = Vec::new(rt.alloc());
+    for (_, insn) in &read {
+        list.push(*insn)?;
+    }
+    let bytes = encode_code(rt.alloc(), &list)?;
+    assert_eq!(rt; bytes.as_slice(), code.as_slice());
+    Ok(())
+}
+
+#[test]
+fn what_no_bytes_spell(rt: HostRuntime) {
+    let wrong = [
+        (Opcode::Nop, Operands::Byte(1)),
+        (Opcode::Iload, Operands::Nothing),
+        (Opcode::Iload, Operands::Constant(1)),
+        (
+            Opcode::Iload,
+            Operands::WideLocal {
+                opcode: Opcode::Iload,
+                local: 1,
+            },
+        ),
+        (
+            Opcode::Wide,
+            Operands::WideLocal {
+                opcode: Opcode::Nop,
+                local: 1,
+            },
+        ),
+        (
+            Opcode::Wide,
+            Operands::WideIncrement {
+                opcode: Opcode::Iload,
+                local: 1,
+                by: 1,
+            },
+        ),
+        (
+            Opcode::Tableswitch,
+            Operands::TableSwitch {
+                padding: &[],
+                default: 0,
+                low: 0,
+                high: 0,
+                offsets: &[0, 0, 0, 0],
+            },
+        ),
+        (
+            Opcode::Tableswitch,
+            Operands::TableSwitch {
+                padding: &[0, 0, 0],
+                default: 0,
+                low: 1,
+                high: 0,
+                offsets: &[],
+            },
+        ),
+        (
+            Opcode::Tableswitch,
+            Operands::TableSwitch {
+                padding: &[0, 0, 0],
+                default: 0,
+                low: i32::MIN,
+                high: i32::MAX,
+                offsets: &[0, 0, 0, 0],
+            },
+        ),
+        (
+            Opcode::Lookupswitch,
+            Operands::LookupSwitch {
+                padding: &[0, 0, 0, 0],
+                default: 0,
+                pairs: &[],
+            },
+        ),
+        (
+            Opcode::Lookupswitch,
+            Operands::LookupSwitch {
+                padding: &[0, 0, 0],
+                default: 0,
+                pairs: &[0, 0, 0, 0, 0, 0, 0],
+            },
+        ),
+        (
+            Opcode::Lookupswitch,
+            Operands::LookupSwitch {
+                padding: &[0, 0, 0],
+                default: 0,
+                pairs: &[0, 0, 0, 1, 0, 0, 0, 0, 0, 0, 0, 1, 0, 0, 0, 0],
+            },
+        ),
+    ];
+    for (opcode, operands) in wrong {
+        let answer = encode_code(rt.alloc(), &[Insn { opcode, operands }]);
+        assert!(rt; matches!(answer, Err(WriteFault::HasNoSpelling)));
+    }
+}
+
+#[test]
+fn padding_by_the_offset(rt: HostRuntime) -> Result<(), Fail> {
+    let nop = Insn {
+        opcode: Opcode::Nop,
+        operands: Operands::Nothing,
+    };
+    let switch = Insn {
+        opcode: Opcode::Lookupswitch,
+        operands: Operands::LookupSwitch {
+            padding: &[0, 0, 0],
+            default: 12,
+            pairs: &[],
+        },
+    };
+    let bytes = encode_code(rt.alloc(), &[switch])?;
+    assert_eq!(rt; bytes.len(), 12);
+    let bytes = encode_code(rt.alloc(), &[nop, nop, nop, nop, switch])?;
+    assert_eq!(rt; bytes.len(), 16);
+    let answer = encode_code(rt.alloc(), &[nop, switch]);
+    assert!(rt; matches!(answer, Err(WriteFault::HasNoSpelling)));
+    Ok(())
+}
+
+#[test]
+fn no_more_than_a_method_may_have(rt: HostRuntime) -> Result<(), Fail> {
+    let mut list = Vec::new(rt.alloc());
+    for _ in 0..65535 {
+        list.push(Insn {
+            opcode: Opcode::Nop,
+            operands: Operands::Nothing,
+        })?;
+    }
+    let bytes = encode_code(rt.alloc(), &list)?;
+    assert_eq!(rt; bytes.len(), 65535);
+    list.push(Insn {
+        opcode: Opcode::Iload,
+        operands: Operands::Nothing,
+    })?;
+    let answer = encode_code(rt.alloc(), &list);
+    assert!(rt; matches!(answer, Err(WriteFault::DoesNotFit)));
+    Ok(())
+}
+
+#[test]
+fn want_of_memory_in_writing(rt: HostRuntime) {
+    let list = [Insn {
+        opcode: Opcode::Sipush,
+        operands: Operands::Short(-2),
+    }];
+    match encode_code(rt.alloc(), &list) {
+        Ok(bytes) => assert_eq!(rt; bytes.as_slice(), [0x11u8, 0xFF, 0xFE].as_slice()),
+        Err(e) => assert!(rt; matches!(e, WriteFault::OutOfMemory)),
+    }
+}
