@@ -183,7 +183,7 @@ field_width (primitive p) = number_width (computed_as p)
 field_width (class_descriptor n) = refl
 field_width (array_descriptor c) = refl
 
-reply_width : (gs : List VerificationType) (r : Reply) → GivesReply gs r → units_of gs ≡ reply_units r
+pub reply_width : (gs : List VerificationType) (r : Reply) → GivesReply gs r → units_of gs ≡ reply_units r
 reply_width [] tasks.no_reply a = refl
 reply_width (t ∷ []) (tasks.gives_number k) a = let p : width_of t ≡ kind_units k = ap width_of a ∙ number_width k in omega arith
 reply_width (t ∷ []) tasks.gives_null a = let p : width_of t ≡ 1 = ap width_of a in omega arith
