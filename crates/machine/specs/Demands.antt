@@ -4,7 +4,8 @@ use Rattle.names.specs.ReferenceTypes.{ReferenceType, class_type}
 use Rattle.hierarchy.specs.World.{World}
 use Rattle.classfile.specs.Methods.{Method, ExceptionEntry, covers}
 use Rattle.insn.specs.declared.operation.Kind.TheVariants as kinds
-use Rattle.insn.specs.Acts.{StackPlace, StackForm}
+use Rattle.insn.specs.declared.stack.StackPlace.{StackPlace}
+use Rattle.insn.specs.Acts.{StackForm}
 use Rattle.insn.specs.Stacks.{beneath, rearranged}
 use Rattle.insn.specs.Offsets.{at_offset, IsStart, next_offset, IsAmong}
 use Rattle.insn.specs.Meanings.{Act}

@@ -13,7 +13,7 @@ use Rattle.hierarchy.specs.World.{object_name}
 use Rattle.insn.specs.declared.operation.Kind.{Kind}
 use Rattle.insn.specs.declared.operation.Kind.TheVariants as kinds
 use Rattle.insn.specs.declared.operation.NumericOperator.{NumericOperator}
-use Rattle.insn.specs.declared.operation.StackOperator.{StackOperator}
+use Rattle.insn.specs.declared.stack.StackOperator.{StackOperator}
 use Rattle.insn.specs.Acts.{numeric_row, StackForm, stack_forms}
 use Rattle.insn.specs.Stacks.{computed_as, same_kind}
 use Rattle.insn.specs.Offsets.{led_to}

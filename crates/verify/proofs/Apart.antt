@@ -1,8 +1,8 @@
 -- No stack fits two forms of one instruction.
 use Rattle.std.proofs.Common.{◌≡◌, Bool, true, false, ◌||◌, List, [], ◌∷◌, ◌⊎◌, inl, inr, sym, refl, ◌∙◌, subst}
 use Rattle.std.proofs.lemmas.Bool.{or_cases}
-use Rattle.insn.specs.declared.operation.StackOperator.{StackOperator}
-use Rattle.insn.specs.declared.operation.StackOperator.TheVariants.{Pop, Pop2, Dup, DupX1, DupX2, Dup2, Dup2X1, Dup2X2, Swap}
+use Rattle.insn.specs.declared.stack.StackOperator.{StackOperator}
+use Rattle.insn.specs.declared.stack.StackOperator.TheVariants.{Pop, Pop2, Dup, DupX1, DupX2, Dup2, Dup2X1, Dup2X2, Swap}
 use Rattle.insn.specs.declared.stack.StackPlace.{StackPlace}
 use Rattle.insn.specs.declared.stack.StackPlace.TheVariants.{Narrow, Wide}
 use Rattle.insn.specs.Acts.{StackForm, stack_forms}
