@@ -54,4 +54,6 @@ pub use table::Form;
 #[cfg(test)]
 mod encoding_tests;
 #[cfg(test)]
+mod forms_tests;
+#[cfg(test)]
 mod tests;

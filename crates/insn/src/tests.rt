@@ -100,25 +100,6 @@ fn a_table_of_four_billion_entries_costs_nothing(rt: HostRuntime) {
 }
 
 #[test]
-fn each_opcode_by_its_number(rt: HostRuntime) -> Result<(), Fail> {
-    for number in 0..=255u8 {
-        let bytes = [
-            number, 0, 0, 0, 0, 0, 0, 0, 0, 0, 0, 0, 0, 0, 0, 0, 0, 0, 0, 0,
-        ];
-        let answer = read_insn(&mut layout::Cursor::new(&bytes));
-        match Opcode::from_number(number) {
-            Some(Opcode::Wide) => assert!(rt; matches!(answer, Err(CodeFault::BadWide { at: 0 }))),
-            Some(opcode) => {
-                assert_eq!(rt; opcode.number(), number);
-                assert!(rt; matches!(answer, Ok(insn) if insn.opcode == opcode));
-            }
-            None => assert!(rt; matches!(answer, Err(CodeFault::BadOpcode { at: 0 }))),
-        }
-    }
-    Ok(())
-}
-
-#[test]
 fn wide_forms(rt: HostRuntime) -> Result<(), Fail> {
     let list = decode_code(
         rt.alloc(),
