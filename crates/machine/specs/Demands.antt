@@ -1,5 +1,5 @@
 -- What a state owes to the instruction at its offset (JVMS 2.6, 4.9.2, 6.5). A state at which a demand is not met is a fault.
-use Rattle.std.specs.Prelude.{◌≡◌, ℕ, ℤ, pos, ◌+◌, ◌≤◌, true, List, [], ◌∷◌, length, slice_get, Option, Some, ◌⊎◌}
+use Rattle.std.specs.Prelude.{◌≡◌, ℕ, ℤ, pos, ◌+◌, ◌≤◌, true, List, [], ◌∷◌, length, slice_get, Some, ◌⊎◌}
 use Rattle.names.specs.ReferenceTypes.{ReferenceType, class_type}
 use Rattle.hierarchy.specs.World.{World}
 use Rattle.classfile.specs.Methods.{Method, ExceptionEntry, covers}
@@ -11,7 +11,7 @@ use Rattle.insn.specs.Offsets.{at_offset, IsStart, next_offset, IsAmong}
 use Rattle.insn.specs.Meanings.{Act}
 use Rattle.machine.specs.Values.{Value, number, reference, Slot, holds, is_wide_value, units, depth_of, ArePaired, place_of}
 use Rattle.machine.specs.Heap.{made, this, object, Heap, IsBelow, FitsReference, IsReference, FitsArray, FitsArrayFor, IsReady, IsThis, HasNoThis}
-use Rattle.machine.specs.Tasks.{Need, of_kind, of_type, some_reference, some_array, some_array_for, own_or_of, Task, operates, reads, writes, increments, moves, takes_element, passes, creates, makes_array, initializes, calls_special, leaves, throws, ends, stuck, needs_of, reply_units, task, falls, targets}
+use Rattle.machine.specs.Tasks.{Need, of_kind, of_type, some_reference, some_array, some_array_for, own_or_of, Task, operates, reads, writes, increments, moves, creates, makes_array, initializes, calls_special, ends, stuck, needs_of, reply_units, task, falls, targets}
 
 -- Before an instruction: its offset, the operand stack with its top first, the local variables, and the objects.
 pub record State : Type 0 where

@@ -4,3 +4,4 @@ pub mod Tasks
 pub mod Demands
 pub mod Steps
 pub mod Runs
+pub mod Breadth

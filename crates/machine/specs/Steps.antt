@@ -10,8 +10,8 @@ use Rattle.insn.specs.Stacks.{beneath, rearranged}
 use Rattle.insn.specs.Offsets.{at_offset, next_offset, IsAmong}
 use Rattle.insn.specs.Meanings.{Act}
 use Rattle.machine.specs.Values.{Value, number, null, reference, holds, stored}
-use Rattle.machine.specs.Heap.{Status, ready, made, object, Heap, with_object, IsAddress, IsRunTimeType, IsBelow, FitsReference, FitsField, IsFresh, with_fresh}
-use Rattle.machine.specs.Tasks.{Need, Reply, no_reply, gives_number, gives_null, gives_answer, Task, operates, reads, writes, increments, moves, takes_element, passes, creates, makes_array, initializes, calls_special, leaves, throws, ends, stuck, task, falls, targets}
+use Rattle.machine.specs.Heap.{Status, ready, made, object, Heap, with_object, IsAddress, IsBelow, FitsReference, FitsField, IsFresh, with_fresh}
+use Rattle.machine.specs.Tasks.{Need, Reply, no_reply, gives_number, gives_null, gives_answer, Task, operates, reads, writes, increments, moves, takes_element, passes, creates, makes_array, initializes, calls_special, leaves, ends, task, falls, targets}
 use Rattle.machine.specs.Demands.{State, AreForm, IsNoFault}
 
 -- What is left open by an instruction is chosen. Objects that come into being meanwhile are made first, each at an address.

@@ -1,8 +1,8 @@
 -- What an instruction takes, gives and does in the machine (JVMS 2.11, 6.5), family by family.
-use Rattle.std.specs.Prelude.{ℕ, zero, suc, ℤ, ◌+◌, Bool, true, false, not, ◌&&◌, ◌||◌, nat_lt, nat_eq, bytes_eq, if◌then◌else◌, List, [], ◌∷◌, length, Option, Some, None, sum_by}
+use Rattle.std.specs.Prelude.{ℕ, zero, suc, ℤ, Bool, true, false, not, ◌&&◌, ◌||◌, nat_lt, nat_eq, bytes_eq, if◌then◌else◌, List, [], ◌∷◌, length, Option, Some, None}
 use Rattle.names.specs.declared.base.Primitive.{Primitive}
 use Rattle.names.specs.declared.base.Primitive.TheVariants as primitives
-use Rattle.names.specs.Descriptors.{FieldDescriptor, primitive, class, array, MethodDescriptor, method_width}
+use Rattle.names.specs.Descriptors.{FieldDescriptor, primitive, class, array, method_width}
 use Rattle.names.specs.ReferenceTypes.{ReferenceType, class_type, array_type, dimensions_of, is_class_type}
 use Rattle.names.specs.StandardNames.{init_name, throwable_name, string_name, class_name, method_type_name, method_handle_name}
 use Rattle.pool.specs.Entries as entries
@@ -12,8 +12,11 @@ use Rattle.classfile.specs.Methods.{Method, is_own_field}
 use Rattle.hierarchy.specs.World.{object_name}
 use Rattle.insn.specs.declared.operation.Kind.{Kind}
 use Rattle.insn.specs.declared.operation.Kind.TheVariants as kinds
+<<<<<<< HEAD
 use Rattle.insn.specs.declared.operation.NumericOperator.{NumericOperator}
 use Rattle.insn.specs.declared.stack.StackOperator.{StackOperator}
+=======
+>>>>>>> 486a021405b73cbac3f2f72af38be7674c2c5dca
 use Rattle.insn.specs.Acts.{numeric_row, StackForm, stack_forms}
 use Rattle.insn.specs.Stacks.{computed_as, same_kind}
 use Rattle.insn.specs.Offsets.{led_to}
@@ -184,7 +187,7 @@ constructor_call c (array_type component) = stuck
 abbrev pub special_call : ℕ → List ℕ → MethodConstant → Task
 special_call major me c =
     where_allowed (is_class_type c.class && (has_room_for_receiver c && may_name major c.interface))
-      (calls_special c.class (arguments_on c.type.params (of_type (class_type me) ∷ [])) (Some (length c.type.params)) (reply_of c.type.result))
+    (calls_special c.class (arguments_on c.type.params (of_type (class_type me) ∷ [])) (Some (length c.type.params)) (reply_of c.type.result))
 
 abbrev pub invoke_special : ℕ → List ℕ → Option MethodConstant → Task
 invoke_special major me (Some c) = if is_init_name c then constructor_call c c.class else special_call major me c

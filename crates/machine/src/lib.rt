@@ -7,3 +7,7 @@
 //! - `specs/Steps.antt`: what comes of an instruction and a choice.
 //! - `specs/Runs.antt`: initial states and runs.
 #![tactic(auto)]
+
+pub mod laws;
+#[cfg(test)]
+mod tests;

@@ -1,7 +1,7 @@
 -- Plans of instructions that name constants (JVMS 4.10.1.9). A constant that an instruction may not name is refused 66.
 use Rattle.std.specs.Prelude.{ℕ, Bool, true, false, not, ◌&&◌, ◌||◌, nat_lt, nat_eq, bytes_eq, if◌then◌else◌, List, [], ◌∷◌, Option, Some, None}
 use Rattle.names.specs.declared.base.Primitive.{Primitive}
-use Rattle.names.specs.Descriptors.{FieldDescriptor, primitive, class as class_descriptor, array as array_descriptor, method_width}
+use Rattle.names.specs.Descriptors.{primitive, class as class_descriptor, array as array_descriptor, method_width}
 use Rattle.names.specs.ReferenceTypes.{ReferenceType, class_type, array_type, dimensions_of, is_class_type}
 use Rattle.names.specs.StandardNames.{init_name, string_name, class_name, method_type_name, method_handle_name}
 use Rattle.pool.specs.Entries as entries
@@ -96,7 +96,7 @@ constructor_call c (array_type component) = refuses 66
 abbrev pub special_call : ℕ → List ℕ → MethodConstant → Plan
 special_call major me c =
     where_allowed (is_class_type c.class && (has_room_for_receiver c && may_name major c.interface))
-      (calls_special c.class (arguments_on c.type.params (class_want me ∷ [])) (result_types c.type.result))
+    (calls_special c.class (arguments_on c.type.params (class_want me ∷ [])) (result_types c.type.result))
 
 abbrev pub invoke_special : ℕ → List ℕ → Option MethodConstant → Plan
 invoke_special major me (Some c) = if is_init_name c then constructor_call c c.class else special_call major me c

@@ -8,8 +8,8 @@ use Rattle.insn.specs.declared.operation.Kind.TheVariants as kinds
 use Rattle.insn.specs.Acts.{StackForm}
 use Rattle.insn.specs.Stacks.{computed_as}
 use Rattle.insn.specs.Offsets.{led_to}
-use Rattle.frames.specs.VerificationType.{VerificationType, class}
-use Rattle.frames.specs.Slots.{number_type, descriptor_type}
+use Rattle.frames.specs.VerificationType.{VerificationType}
+use Rattle.frames.specs.Slots.{descriptor_type}
 
 -- what is asked of the type of an operand or local variable
 pub data Want : Type 0 where

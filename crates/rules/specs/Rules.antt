@@ -1,10 +1,10 @@
 -- The rule of an instruction (JVMS 4.10.1.9): the conditions that refuse it, each with its reason.
 use Rattle.std.specs.Prelude.{ℕ, ◌+◌, Bool, true, false, not, ◌&&◌, ◌||◌, nat_lt, bytes_eq, if◌then◌else◌, List, [], ◌∷◌, Option, Some, None}
 use Rattle.names.specs.declared.base.Primitive.{Primitive}
-use Rattle.names.specs.Descriptors.{FieldDescriptor, primitive}
+use Rattle.names.specs.Descriptors.{primitive}
 use Rattle.classfile.specs.Methods.{Method, is_name}
 use Rattle.hierarchy.specs.Class.{ClassFact}
-use Rattle.hierarchy.specs.Answer.{Outcome, yes, no, missing, yes_if}
+use Rattle.hierarchy.specs.Answer.{Outcome, yes, yes_if}
 use Rattle.insn.specs.declared.operation.Kind.TheVariants as kinds
 use Rattle.insn.specs.Acts.{takes_array, StackForm}
 use Rattle.insn.specs.Stacks.{beneath, units_taken}

@@ -1,6 +1,5 @@
 -- The plan of each instruction (JVMS 4.10.1.9).
-use Rattle.std.specs.Prelude.{ℕ, Bool, true, false, if◌then◌else◌, List, [], ◌∷◌, Option, Some, None}
-use Rattle.names.specs.declared.base.Primitive.{Primitive}
+use Rattle.std.specs.Prelude.{ℕ, true, false, if◌then◌else◌, List, [], ◌∷◌, Option, Some, None}
 use Rattle.names.specs.Descriptors.{FieldDescriptor, primitive, class as class_descriptor, array as array_descriptor}
 use Rattle.names.specs.ReferenceTypes.{class_type, array_type}
 use Rattle.names.specs.StandardNames.{throwable_name}
@@ -14,7 +13,7 @@ use Rattle.insn.specs.Stacks.{computed_as, same_kind}
 use Rattle.insn.specs.Offsets.{at_offset}
 use Rattle.insn.specs.Meanings as acts
 use Rattle.insn.specs.Meanings.{Act}
-use Rattle.frames.specs.VerificationType.{int, null, class}
+use Rattle.frames.specs.VerificationType.{int, null}
 use Rattle.frames.specs.Slots.{number_type}
 use Rattle.rules.specs.Plans.{Want, number, assignable_to, any_reference, any_array, any_array_for, Plan, pops, loads, stores, counts, rearranges, loads_element, makes, returns, refuses, takes, gives, class_want, numbers}
 use Rattle.rules.specs.Constants.{load_constant, load_wide_constant, get_static, put_static, get_field, put_field, invoke_static, invoke_virtual, invoke_interface, invoke_special, new_object, new_array, new_reference_array, new_multi_array, check_cast, instance_of}

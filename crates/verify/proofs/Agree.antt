@@ -1,7 +1,7 @@
 -- The rules and the machine take each instruction for the same: they name the same operands, results and offsets.
-use Rattle.std.proofs.Common.{◌≡◌, ℕ, zero, suc, ℤ, Bool, true, false, not, ◌&&◌, nat_lt, List, [], ◌∷◌, Option, Some, None, if◌then◌else◌, ap, refl}
+use Rattle.std.proofs.Common.{◌≡◌, ℕ, zero, suc, ℤ, Bool, true, false, ◌&&◌, List, [], ◌∷◌, Option, Some, None, if◌then◌else◌, ap, refl}
 use Rattle.names.specs.declared.base.Primitive.{Primitive}
-use Rattle.names.specs.Descriptors.{FieldDescriptor, primitive, class as class_descriptor, array as array_descriptor, MethodDescriptor}
+use Rattle.names.specs.Descriptors.{FieldDescriptor, primitive, class as class_descriptor, array as array_descriptor}
 use Rattle.names.specs.ReferenceTypes.{ReferenceType, class_type, array_type}
 use Rattle.pool.specs.Entries as entries
 use Rattle.pool.specs.Entries.{Entry}
@@ -177,7 +177,7 @@ constructor_agree c (array_type component) = tt
 special_call_agree : (n : ℕ) (me : List ℕ) (c : MethodConstant) → Agrees (constants.special_call n me c) (tasks.special_call n me c)
 special_call_agree n me c =
     allowed _ (rules.calls_special c.class (rules.arguments_on c.type.params (rules.class_want me ∷ [])) (rules.result_types c.type.result)) _
-      (refl, arguments c.type.params (rules.class_want me ∷ []) (tasks.of_type (class_type me) ∷ []) (refl, tt), results c.type.result)
+    (refl, arguments c.type.params (rules.class_want me ∷ []) (tasks.of_type (class_type me) ∷ []) (refl, tt), results c.type.result)
 
 special_agree : (n : ℕ) (me : List ℕ) (c : Option MethodConstant) → Agrees (constants.invoke_special n me c) (tasks.invoke_special n me c)
 special_agree n me (Some c) = go (constants.is_init_name c)

@@ -1,14 +1,14 @@
 -- What is known of declared frames: each is at the start of an instruction, and its stack is no wider than max_stack.
-use Rattle.std.proofs.Common.{◌≡◌, ℕ, ◌≤◌, Bool, true, false, not, is_some, nat_eq, nat_lt, List, [], ◌∷◌, Option, Some, None, Result, Ok, Err, if◌then◌else◌, sym, ap, refl, ◌∙◌, subst, ltb-false, eqb-true}
+use Rattle.std.proofs.Common.{◌≡◌, ℕ, ◌≤◌, Bool, true, false, not, is_some, nat_eq, List, [], ◌∷◌, Option, Some, None, Result, Ok, Err, if◌then◌else◌, sym, refl, subst, ltb-false, eqb-true}
 use Rattle.pool.specs.Entries.{Entry}
 use Rattle.insn.specs.Meanings.{Act}
-use Rattle.insn.specs.Offsets.{at_offset, has_offset, IsStart}
+use Rattle.insn.specs.Offsets.{at_offset, IsStart}
 use Rattle.frames.specs.VerificationType.{VerificationType}
 use Rattle.frames.specs.FrameFact.{FrameFact}
 use Rattle.frames.specs.Slots.{units_of}
 use Rattle.frames.specs.Conditions.{Reason, Conditions, NoneHolds, lesser, least}
 use Rattle.frames.specs.StackMaps.{MapEntry}
-use Rattle.frames.specs.DeclaredFrames.{offset_of, locals_of, stack_of, entry_conditions, frame_with, frame_before, declared_from, declared_frames}
+use Rattle.frames.specs.DeclaredFrames.{offset_of, locals_of, stack_of, entry_conditions, frame_with, frame_before, declared_from}
 
 -- there is no reason exactly where no condition holds
 pub none_least : (cs : Conditions) → least cs ≡ None → NoneHolds cs

@@ -1,6 +1,5 @@
 -- When values, local variables and states fit types and frames, under a map of the objects that are not initialized; what assignability keeps.
-use Rattle.std.proofs.Common.{◌≡◌, ℕ, ◌+◌, Bool, true, false, ◌==◌, List, [], ◌∷◌, ◌++◌, map, length, Some, ◌⊎◌, sym, ap, refl, ◌∙◌, subst, arith, eqb-true}
-use Rattle.names.specs.Descriptors.{FieldDescriptor}
+use Rattle.std.proofs.Common.{◌≡◌, ℕ, Bool, true, false, ◌==◌, List, [], ◌∷◌, ◌++◌, map, length, Some, ◌⊎◌, sym, ap, refl, ◌∙◌, subst, arith, eqb-true}
 use Rattle.names.specs.ReferenceTypes.{ReferenceType, class_type, array_type, descriptor_of}
 use Rattle.classfile.specs.Methods.{Method}
 use Rattle.hierarchy.specs.World.{World, IsSubclassIn}

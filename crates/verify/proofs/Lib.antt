@@ -11,3 +11,4 @@ pub mod Steps
 pub mod Start
 pub mod Declared
 pub mod Run
+pub mod OneMethod

@@ -1,13 +1,10 @@
 -- Loads and stores.
-use Rattle.std.proofs.Common.{◌≡◌, ℕ, zero, suc, ◌+◌, ◌≤◌, Bool, true, false, nat_lt, List, [], ◌∷◌, length, slice_get, Option, Some, if◌then◌else◌, ◌⊎◌, inl, inr, sym, ap, refl, ◌∙◌, subst, arith, ltb-false}
+use Rattle.std.proofs.Common.{◌≡◌, ℕ, zero, suc, ◌+◌, ◌≤◌, Bool, true, false, List, [], ◌∷◌, length, slice_get, Option, Some, if◌then◌else◌, ◌⊎◌, inl, inr, sym, ap, refl, ◌∙◌, subst, arith, ltb-false}
 use Rattle.names.specs.ReferenceTypes.{ReferenceType, class_type, array_type}
-use Rattle.classfile.specs.Methods.{Method}
 use Rattle.hierarchy.specs.World.{World}
 use Rattle.hierarchy.specs.Class.{ClassFact}
 use Rattle.hierarchy.specs.Answer.{Outcome, yes}
-use Rattle.insn.specs.declared.operation.Kind.{Kind}
 use Rattle.insn.specs.declared.operation.Kind.TheVariants as kinds
-use Rattle.insn.specs.Meanings.{Act}
 use Rattle.frames.specs.VerificationType.{VerificationType, top, int, float, long, double, null as null_type, class, array, uninit_this, uninit}
 use Rattle.frames.specs.FrameFact.{FrameFact}
 use Rattle.frames.specs.Slots.{is_wide}
@@ -15,8 +12,8 @@ use Rattle.frames.specs.Conditions.{NoneHolds, is_no, missing_if}
 use Rattle.rules.specs.Plans as rules
 use Rattle.rules.specs.Plans.{Want}
 use Rattle.rules.specs.After.{or_top, local_of, loaded, top_first, stored_type, stored as stored_frame, top_of, rest_of}
-use Rattle.rules.specs.Rules.{accepts, is_short, operands, is_outside, local_answer, local_conditions, conditions}
-use Rattle.machine.specs.Values.{Value, number, null, reference, Slot, empty, second, holds, is_wide_value, units, kind_units, is_wide_slot, ArePairedBehind, ArePaired, behind_lost, second_first, stored}
+use Rattle.rules.specs.Rules.{accepts, is_short, operands, is_outside, local_conditions, conditions}
+use Rattle.machine.specs.Values.{Value, number, null, reference, Slot, empty, second, holds, is_wide_value, units, is_wide_slot, ArePairedBehind, ArePaired, behind_lost, second_first, stored}
 use Rattle.machine.specs.Heap.{Heap, FitsReference, IsThis}
 use Rattle.machine.specs.Tasks as tasks
 use Rattle.machine.specs.Tasks.{Need}

@@ -1,13 +1,12 @@
 -- new, constructors, and the growing heap.
-use Rattle.std.proofs.Common.{◌≡◌, ℕ, ◌+◌, ◌≤◌, Bool, true, false, not, ◌||◌, ◌==◌, List, [], ◌∷◌, map, Option, Some, None, ◌⊎◌, inl, inr, if◌then◌else◌, sym, ap, refl, ◌∙◌, subst, arith, eqb-true, eq-eqb, ne_eqb}
+use Rattle.std.proofs.Common.{◌≡◌, ℕ, Bool, true, false, not, ◌||◌, ◌==◌, List, [], ◌∷◌, map, Option, Some, None, ◌⊎◌, inl, inr, if◌then◌else◌, sym, ap, refl, ◌∙◌, subst, arith, eqb-true, eq-eqb, ne_eqb}
 use Rattle.std.proofs.lemmas.Bool.{or_cases, eqb-false}
 use Rattle.std.specs.Str.{bytes_eq}
 use Rattle.names.specs.ReferenceTypes.{ReferenceType, class_type, array_type, descriptor_of}
-use Rattle.classfile.specs.Methods.{Method, is_name}
+use Rattle.classfile.specs.Methods.{is_name}
 use Rattle.hierarchy.specs.World.{World, IsSubclassIn, same}
 use Rattle.hierarchy.specs.Class.{ClassFact}
 use Rattle.insn.specs.Stacks.{beneath}
-use Rattle.insn.specs.Meanings.{Act}
 use Rattle.frames.specs.VerificationType.{VerificationType, top, int, float, long, double, null as null_type, class, array, uninit_this, uninit}
 use Rattle.frames.specs.FrameFact.{FrameFact}
 use Rattle.frames.specs.Slots.{to_reference, is_wide}
@@ -15,16 +14,16 @@ use Rattle.frames.specs.Conditions.{NoneHolds}
 use Rattle.rules.specs.Plans as rules
 use Rattle.rules.specs.Plans.{Want}
 use Rattle.rules.specs.Table.{class_made_at}
-use Rattle.rules.specs.After.{popped, top_of, rest_of, is_made_at, forgotten, is_initialized, initialized, class_after, flag_after, after}
-use Rattle.rules.specs.Rules.{is_short, is_on_stack, may_construct, operand_conditions, conditions}
-use Rattle.machine.specs.Values.{Value, number, null, reference, depth_of}
+use Rattle.rules.specs.After.{popped, top_of, rest_of, is_made_at, forgotten, initialized, class_after, flag_after, after}
+use Rattle.rules.specs.Rules.{is_short, is_on_stack, may_construct, conditions}
+use Rattle.machine.specs.Values.{Value, number, null, reference}
 use Rattle.machine.specs.Heap.{Status, ready, made, this, Object, object, Heap, with_object, FitsReference, IsFresh, with_fresh}
 use Rattle.machine.specs.Tasks as tasks
 use Rattle.machine.specs.Tasks.{Need}
 use Rattle.machine.specs.Demands.{State, IsMade, IsOwn, HasReceiver, HasRoom}
 use Rattle.machine.specs.Steps.{moved_with, Does}
 use Rattle.verify.proofs.Worlds.{name_same, below_itself}
-use Rattle.verify.proofs.Fits.{View, Sound, Fit, Item, Items, Slots, OnlyOwn, Fits, Keeps, With, Gains, keep, depth_width, items_map, slots_map, fit_grows}
+use Rattle.verify.proofs.Fits.{View, Fit, Item, Items, Slots, OnlyOwn, Fits, Keeps, With, Gains, keep, depth_width, items_map, slots_map, fit_grows}
 use Rattle.verify.proofs.Agree.{WantsNeeds}
 use Rattle.verify.proofs.Plain.{items_beneath_same, items_beneath, beneath_same, reference_item, room}
 

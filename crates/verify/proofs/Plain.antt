@@ -1,8 +1,8 @@
 -- Instructions that take operands and give results: what a rule's conditions say of the values, and what is pushed.
-use Rattle.std.proofs.Common.{◌≡◌, ℕ, ◌+◌, ◌≤◌, Bool, true, false, not, ◌&&◌, ◌||◌, nat_lt, List, [], ◌∷◌, ◌++◌, map, Option, Some, None, if◌then◌else◌, ◌⊎◌, inl, inr, sym, ap, refl, ◌∙◌, subst, arith, ltb-false}
+use Rattle.std.proofs.Common.{◌≡◌, ℕ, ◌+◌, ◌≤◌, Bool, true, false, not, ◌&&◌, ◌||◌, nat_lt, List, [], ◌∷◌, ◌++◌, map, Option, ◌⊎◌, inl, inr, sym, ap, refl, ◌∙◌, subst, arith, ltb-false}
 use Rattle.names.specs.declared.base.Primitive.{Primitive}
 use Rattle.names.specs.Descriptors.{FieldDescriptor, primitive, class as class_descriptor, array as array_descriptor}
-use Rattle.names.specs.ReferenceTypes.{ReferenceType, class_type, array_type, descriptor_of}
+use Rattle.names.specs.ReferenceTypes.{ReferenceType, class_type, array_type}
 use Rattle.classfile.specs.Methods.{Method}
 use Rattle.hierarchy.specs.World.{World}
 use Rattle.hierarchy.specs.Class.{ClassFact}
@@ -14,19 +14,19 @@ use Rattle.insn.specs.Meanings.{Act}
 use Rattle.frames.specs.VerificationType.{VerificationType, top, int, float, long, double, null as null_type, class, array, uninit_this, uninit}
 use Rattle.frames.specs.FrameFact.{FrameFact}
 use Rattle.frames.specs.FrameAssignable.{width_of}
-use Rattle.frames.specs.Slots.{number_type, to_reference, descriptor_type, is_wide, units_of}
-use Rattle.frames.specs.Conditions.{Reason, Conditions, NoneHolds, is_no, missing_if}
+use Rattle.frames.specs.Slots.{number_type, to_reference, descriptor_type, units_of}
+use Rattle.frames.specs.Conditions.{Conditions, NoneHolds, is_no, missing_if}
 use Rattle.rules.specs.Plans as rules
 use Rattle.rules.specs.Plans.{Want, Plan}
 use Rattle.rules.specs.After.{popped, after}
 use Rattle.rules.specs.Rules.{is_reference, is_array, is_array_for, own_or_answer, accepts, is_short, operands, operand_conditions, family, is_missing_class, gives_frame, conditions}
-use Rattle.machine.specs.Values.{Value, number, null, reference, is_wide_value, units, depth_of, kind_units, field_units}
-use Rattle.machine.specs.Heap.{ready, object, Heap, IsBelow, IsBelowType, FitsReference, FitsField, AllFit, IsReference, IsArray, FitsArray, IsArrayFor, FitsArrayFor, IsThis}
+use Rattle.machine.specs.Values.{Value, number, null, reference, is_wide_value, depth_of, kind_units, field_units}
+use Rattle.machine.specs.Heap.{Heap, IsBelow, FitsReference, FitsField, AllFit, IsReference, IsArray, FitsArray, IsArrayFor, FitsArrayFor, IsThis}
 use Rattle.machine.specs.Tasks as tasks
 use Rattle.machine.specs.Tasks.{Need, Reply, reply_units}
 use Rattle.machine.specs.Demands.{State, Meets, AllMeet}
 use Rattle.machine.specs.Steps.{Replies, moved}
-use Rattle.verify.proofs.Fits.{View, Sound, Fit, Item, Items, Fits, Keeps, keep, both_yes, yes_true, fit_number, number_fit, fit_reference, reference_fit, type_units, assign_fit, depth_width, items_append}
+use Rattle.verify.proofs.Fits.{View, Sound, Fit, Item, Items, Fits, Keeps, keep, both_yes, yes_true, fit_number, fit_reference, assign_fit, depth_width, items_append}
 use Rattle.verify.proofs.Agree.{WantNeed, WantsNeeds, GivesReply}
 
 -- ---- values that are accepted meet what is needed

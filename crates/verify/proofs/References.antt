@@ -1,5 +1,5 @@
 -- Elements of arrays, and casts.
-use Rattle.std.proofs.Common.{◌≡◌, ℕ, List, [], ◌∷◌, Option, Some, None, sym, ap, refl, ◌∙◌, subst}
+use Rattle.std.proofs.Common.{◌≡◌, ℕ, List, [], ◌∷◌, Option, Some, None, sym, ap, ◌∙◌, subst}
 use Rattle.names.specs.Descriptors.{FieldDescriptor, primitive, class as class_descriptor, array as array_descriptor}
 use Rattle.names.specs.ReferenceTypes.{ReferenceType, class_type, array_type, descriptor_of}
 use Rattle.hierarchy.specs.World.{World}
@@ -7,7 +7,7 @@ use Rattle.hierarchy.specs.Class.{ClassFact}
 use Rattle.hierarchy.specs.Answer.{yes}
 use Rattle.insn.specs.declared.operation.Kind.TheVariants as kinds
 use Rattle.insn.specs.Stacks.{beneath}
-use Rattle.frames.specs.VerificationType.{VerificationType, top, int, float, long, double, null as null_type, class, array, uninit_this, uninit}
+use Rattle.frames.specs.VerificationType.{VerificationType, null as null_type, class, array}
 use Rattle.frames.specs.FrameFact.{FrameFact}
 use Rattle.frames.specs.Slots.{to_reference}
 use Rattle.frames.specs.Conditions.{NoneHolds}
@@ -16,7 +16,7 @@ use Rattle.rules.specs.Plans.{Want}
 use Rattle.rules.specs.Table.{object_array}
 use Rattle.rules.specs.After.{popped, top_of, rest_of, element_of, after}
 use Rattle.rules.specs.Rules.{accepts, operands, conditions}
-use Rattle.machine.specs.Values.{Value, number, null, reference}
+use Rattle.machine.specs.Values.{Value, reference}
 use Rattle.machine.specs.Heap.{ready, Object, object, Heap, IsBelowType, FitsReference, FitsField}
 use Rattle.machine.specs.Tasks as tasks
 use Rattle.machine.specs.Demands.{State}

@@ -1,21 +1,19 @@
 -- Every state of a run fits the frame of its instruction, so none is a fault.
 use Rattle.std.proofs.Common.{◌≡◌, ℕ, zero, suc, ℤ, pos, ◌≤◌, Bool, true, false, nat_eq, List, [], ◌∷◌, slice_get, Option, Some, None, inl, inr, if◌then◌else◌, sym, ap, refl, ◌∙◌, subst, arith, eq-eqb}
 use Rattle.names.specs.ReferenceTypes.{ReferenceType}
-use Rattle.classfile.specs.Methods.{Method, ExceptionEntry, covers}
+use Rattle.classfile.specs.Methods.{Method}
 use Rattle.hierarchy.specs.World.{World}
 use Rattle.hierarchy.specs.Class.{ClassFact}
 use Rattle.hierarchy.specs.Rules.{IsHierarchy}
 use Rattle.hierarchy.specs.Extends.{Extends}
 use Rattle.insn.specs.Meanings.{Act}
 use Rattle.insn.specs.Offsets.{at_offset, first_offset, next_offset, IsStart, led_to, IsAmong}
-use Rattle.frames.specs.VerificationType.{VerificationType}
 use Rattle.frames.specs.FrameFact.{FrameFact}
-use Rattle.frames.specs.Slots.{to_reference, units_of}
-use Rattle.rules.specs.Plans as rules
+use Rattle.frames.specs.Slots.{units_of}
 use Rattle.rules.specs.Table.{plan, made_by}
 use Rattle.rules.specs.After.{after}
-use Rattle.machine.specs.Values.{Value, reference, depth_of}
-use Rattle.machine.specs.Heap.{Heap, with_fresh}
+use Rattle.machine.specs.Values.{Value, reference}
+use Rattle.machine.specs.Heap.{with_fresh}
 use Rattle.machine.specs.Tasks as tasks
 use Rattle.machine.specs.Tasks.{task}
 use Rattle.machine.specs.Demands.{State, LeadsToStart, IsNoFault}
@@ -100,7 +98,7 @@ module _ (h : List ClassFact) (m : Method Act) (safe : IsTypeSafe h m) (w : Worl
 
   -- ---- one instruction
 
-  goes : (own : ℕ) (s t : State) (a : Act) (q : ℕ) → at_offset m.code s.at ≡ Some a → GoesTo m s.at (task m a) q → t.at ≡ q → (site home : ℕ → ℕ) → Fits (With (first_view w m own) site home) t (after m s.at (plan m a) (safe.table s.at)) → Inv w m own safe.table t
+  pub goes : (own : ℕ) (s t : State) (a : Act) (q : ℕ) → at_offset m.code s.at ≡ Some a → GoesTo m s.at (task m a) q → t.at ≡ q → (site home : ℕ → ℕ) → Fits (With (first_view w m own) site home) t (after m s.at (plan m a) (safe.table s.at)) → Inv w m own safe.table t
   goes own s t a q at (inl i) to site home fits =
       let fine = safe.each s.at a at in
       let ways = ways_agree h m s.at (safe.table s.at) (plan m a) (task m a) fine.rule (agree m a) in
@@ -115,7 +113,7 @@ module _ (h : List ClassFact) (m : Method Act) (safe : IsTypeSafe h m) (w : Worl
       let e : k.0 ≡ q = cc in
       comes own site home t q _ to fits (next_is_start m.code s.at q n) (room h m s.at (plan m a) (safe.table s.at) fine.rule) (subst (λ z. Comes h safe.frames safe.table (after m s.at (plan m a) (safe.table s.at)) z) e k.2)
 
-  step : (own : ℕ) (s t : State) (br : Option ℕ) (v : Option Value) (fresh : List (ℕ × ReferenceType)) → Inv w m own safe.table s → Steps w m s br v fresh t → Inv w m own safe.table t
+  pub step : (own : ℕ) (s t : State) (br : Option ℕ) (v : Option Value) (fresh : List (ℕ × ReferenceType)) → Inv w m own safe.table s → Steps w m s br v fresh t → Inv w m own safe.table t
   step own s t br v fresh i d =
       let e = With (first_view w m own) i.site i.home in
       let fine = safe.each s.at d.act d.here in
@@ -126,7 +124,7 @@ module _ (h : List ClassFact) (m : Method Act) (safe : IsTypeSafe h m) (w : Worl
 
   -- ---- an exception that is caught
 
-  caught : (own : ℕ) (s t : State) (a : ℕ) (fresh : List (ℕ × ReferenceType)) (n : ℕ) → Inv w m own safe.table s → IsCaught w m s a fresh n t → Inv w m own safe.table t
+  pub caught : (own : ℕ) (s t : State) (a : ℕ) (fresh : List (ℕ × ReferenceType)) (n : ℕ) → Inv w m own safe.table s → IsCaught w m s a fresh n t → Inv w m own safe.table t
   caught own s t a fresh n i r =
       let e = With (first_view w m own) i.site i.home in
       let fine = safe.each s.at i.start.what i.start.here in
@@ -139,7 +137,7 @@ module _ (h : List ClassFact) (m : Method Act) (safe : IsTypeSafe h m) (w : Worl
 
   -- ---- a state that fits is no fault
 
-  met : (own : ℕ) (s : State) → Inv w m own safe.table s → IsNoFault w m s
+  pub met : (own : ℕ) (s : State) → Inv w m own safe.table s → IsNoFault w m s
   met own s i =
       let e = With (first_view w m own) i.site i.home in
       let a = i.start.what in
@@ -175,22 +173,22 @@ module _ (h : List ClassFact) (m : Method Act) (safe : IsTypeSafe h m) (w : Worl
 
   -- ---- runs
 
-  begins : (s : State) (i : IsInitial w m s) → Inv w m i.own safe.table s
+  pub begins : (s : State) (i : IsInitial w m s) → Inv w m i.own safe.table s
   begins s i = comes i.own (λ n. 0) (λ n. 0) s 0 (initial_frame m) i.at (start_fits w m s i) safe.begins nothing safe.first
     where
       nothing : 0 ≤ m.max_stack
       nothing = omega arith
 
-  follows : (own : ℕ) (s t : State) (c : Choice) → Inv w m own safe.table s → Happens w m s c (goes_on t) → Inv w m own safe.table t
+  pub follows : (own : ℕ) (s t : State) (c : Choice) → Inv w m own safe.table s → Happens w m s c (goes_on t) → Inv w m own safe.table t
   follows own s t (go br v fresh) i k = step own s t br v fresh i k.1
   follows own s t (raise a fresh None) i k = elim k [ ]
   follows own s t (raise a fresh (Some n)) i k = caught own s t a fresh n i k.1
 
-  invariant : (s : State) (ss : List State) → IsRun w m (s ∷ ss) → (own : ℕ) × Inv w m own safe.table s
+  pub invariant : (s : State) (ss : List State) → IsRun w m (s ∷ ss) → (own : ℕ) × Inv w m own safe.table s
   invariant s [] r = (r.own, begins s r)
   invariant t (s ∷ ss) r = let i = invariant s ss r.1 in (i.0, follows i.0 s t r.0.0 i.1 r.0.1)
 
-  all_met : (run : List State) → IsRun w m run → (s : State) → IsAmong s run → IsNoFault w m s
+  pub all_met : (run : List State) → IsRun w m run → (s : State) → IsAmong s run → IsNoFault w m s
   all_met [] r s a = elim r [ ]
   all_met (t ∷ []) r s (inl e) = let i = invariant t [] r in subst (IsNoFault w m) (sym e) (met i.0 t i.1)
   all_met (t ∷ []) r s (inr e) = elim e [ ]

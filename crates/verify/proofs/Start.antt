@@ -1,5 +1,5 @@
 -- The state in which a method may begin fits the frame with which it begins.
-use Rattle.std.proofs.Common.{◌≡◌, ℕ, zero, suc, ◌+◌, ◌-◌, ◌≤◌, Bool, true, false, List, [], ◌∷◌, ◌++◌, map, length, replicate, Option, Some, None, if◌then◌else◌, sym, ap, refl, ◌∙◌, subst, arith}
+use Rattle.std.proofs.Common.{◌≡◌, ℕ, zero, suc, ◌-◌, ◌≤◌, Bool, true, false, List, [], ◌∷◌, ◌++◌, map, length, replicate, Option, Some, None, if◌then◌else◌, sym, ap, refl, ◌∙◌, subst, arith}
 use Rattle.std.proofs.lemmas.List.{length-replicate, length-append}
 use Rattle.names.specs.ReferenceTypes.{ReferenceType, class_type}
 use Rattle.classfile.specs.Methods.{Method, Receiver, no_receiver, ready_receiver, own_receiver, receiver_of}
@@ -7,12 +7,12 @@ use Rattle.hierarchy.specs.World.{World, IsSubclassIn}
 use Rattle.insn.specs.Meanings.{Act}
 use Rattle.frames.specs.VerificationType.{VerificationType, top, class, uninit_this}
 use Rattle.frames.specs.Slots.{descriptor_type, is_wide, in_locals, all_locals}
-use Rattle.machine.specs.Values.{Value, reference, Slot, empty, second, holds, is_wide_value, ArePairedBehind, ArePaired, in_slots, all_slots}
+use Rattle.machine.specs.Values.{Value, Slot, empty, second, holds, is_wide_value, ArePairedBehind, ArePaired, in_slots, all_slots}
 use Rattle.machine.specs.Heap.{this, Object, object, Heap}
 use Rattle.machine.specs.Demands.{State}
 use Rattle.machine.specs.Runs.{Receives, IsInitial}
 use Rattle.verify.specs.InitialFrames.{receiver_types, initial_types, is_uninitialized, initial_frame}
-use Rattle.verify.proofs.Fits.{View, Item, Items, Slots, Fits, val_fit, items_append}
+use Rattle.verify.proofs.Fits.{View, Items, Slots, Fits, val_fit, items_append}
 use Rattle.verify.proofs.Plain.{field_items}
 
 abbrev pub first_view : World → Method Act → ℕ → View
@@ -51,7 +51,7 @@ all_slots_fit e h n vs ts f =
     let g = slots_of_items e h vs ts f in
     let l = slots_length e h (in_slots vs) (in_locals ts) g in
     subst (λ k. Slots e h (all_slots n vs) (in_locals ts ++ replicate (n - k) top)) l
-      (slots_append e h (in_slots vs) (replicate (n - length (in_slots vs)) empty) (in_locals ts) (replicate (n - length (in_slots vs)) top) g (empty_slots e h (n - length (in_slots vs))))
+    (slots_append e h (in_slots vs) (replicate (n - length (in_slots vs)) empty) (in_locals ts) (replicate (n - length (in_slots vs)) top) g (empty_slots e h (n - length (in_slots vs))))
 
 empties_paired : (n : ℕ) → ArePaired (replicate n empty)
 empties_paired zero = tt

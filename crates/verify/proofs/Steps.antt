@@ -1,13 +1,11 @@
 -- Every family: what is needed is there, and what is done keeps the state fitting.
-use Rattle.std.proofs.Common.{◌≡◌, ℕ, ℤ, ◌≤◌, Bool, true, false, ◌&&◌, List, [], ◌∷◌, ◌++◌, Option, Some, None, if◌then◌else◌, ◌⊎◌, inl, inr, sym, ap, subst₂, refl, ◌∙◌, subst}
-use Rattle.names.specs.ReferenceTypes.{ReferenceType, class_type}
+use Rattle.std.proofs.Common.{◌≡◌, ℕ, true, false, ◌&&◌, List, [], ◌∷◌, Option, ◌⊎◌, inl, inr, sym, ap, subst₂, refl, ◌∙◌, subst}
+use Rattle.names.specs.ReferenceTypes.{ReferenceType, class_type, array_type}
 use Rattle.classfile.specs.Methods.{Method}
 use Rattle.hierarchy.specs.World.{World}
 use Rattle.hierarchy.specs.Class.{ClassFact}
 use Rattle.hierarchy.specs.Answer.{Outcome, yes, no, missing}
 use Rattle.insn.specs.declared.operation.Kind.TheVariants as kinds
-use Rattle.insn.specs.Stacks.{beneath}
-use Rattle.insn.specs.Offsets.{IsAmong, led_to}
 use Rattle.insn.specs.Meanings.{Act}
 use Rattle.frames.specs.VerificationType.{VerificationType, class}
 use Rattle.frames.specs.FrameFact.{FrameFact}
@@ -20,7 +18,7 @@ use Rattle.rules.specs.Plans.{Want, Plan}
 use Rattle.rules.specs.Table.{class_made, class_made_at, object_array}
 use Rattle.rules.specs.After.{after}
 use Rattle.rules.specs.Rules.{operands, operand_conditions, special_conditions, conditions}
-use Rattle.machine.specs.Values.{Value, number, null, reference, depth_of}
+use Rattle.machine.specs.Values.{Value, number, null, reference}
 use Rattle.machine.specs.Heap.{Heap, IsBelow, FitsReference, FitsArray, FitsArrayFor, IsReady, IsThis, HasNoThis}
 use Rattle.machine.specs.Tasks as tasks
 use Rattle.machine.specs.Tasks.{Need, Task, needs_of}
@@ -28,7 +26,7 @@ use Rattle.machine.specs.Demands.{State, Meets, AllMeet, HasLocal, HasForm, HasR
 use Rattle.machine.specs.Steps.{Does}
 use Rattle.verify.proofs.Worlds.{answer_below}
 use Rattle.verify.proofs.Fits.{View, Sound, Fits, Keeps}
-use Rattle.verify.proofs.Agree.{WantsNeeds, Agrees}
+use Rattle.verify.proofs.Agree.{Agrees}
 use Rattle.verify.proofs.Plain.{room, pops_met, pops_room, pops_does, reply_width}
 use Rattle.verify.proofs.Locals.{load_rest, load_room, load_does, count_rest, count_does, store_rest, store_does}
 use Rattle.verify.proofs.Forms.{form_rest, form_room, form_does}
@@ -101,7 +99,7 @@ rest_met hh e _ _ s f a so x c = elim a [ ]
 
 reference_units : (r : ReferenceType) → units_of (to_reference r ∷ []) ≡ 1
 reference_units (class_type n) = refl
-reference_units _ = refl
+reference_units (array_type c) = refl
 
 pub room_met : (hh : List ClassFact) (e : View) (pl : Plan) (tk : Task) (s : State) (f : FrameFact) → Agrees pl tk → Sound hh e → Fits e s f → NoneHolds (conditions hh e.method s.at pl f) → HasRoom e.method tk s
 room_met hh e (rules.pops ws gs os b) (tasks.operates ns l r us d) s f a so x c = pops_room e ws gs ns e.method.max_stack (tasks.reply_units r) s f a.needs (reply_width gs r a.reply) x (room hh e.method s.at (rules.pops ws gs os b) f c)

@@ -1,18 +1,15 @@
 -- What is below what in a world is transitive, and what the hierarchy answers yes is so in each world that extends it.
-use Rattle.std.proofs.Common.{◌≡◌, ℕ, Bool, true, false, ◌||◌, List, Option, Some, None, MatchOption, option_map, ◌⊎◌, inl, inr, if◌then◌else◌, sym, ap, refl, ◌∙◌, subst}
+use Rattle.std.proofs.Common.{◌≡◌, ℕ, true, false, List, Option, Some, None, MatchOption, option_map, ◌⊎◌, inl, inr, sym, ap, refl, ◌∙◌, subst}
 use Rattle.std.specs.Str.{bytes_eq}
-use Rattle.std.specs.Option.{option_and_then}
 use Rattle.std.proofs.lemmas.Slice.Eq.{bytes_eq-Decides}
-use Rattle.std.proofs.lemmas.Bool.{or_cases}
-use Rattle.names.specs.declared.base.Primitive.{Primitive}
 use Rattle.names.specs.Descriptors.{FieldDescriptor, primitive, class as class_descriptor, array as array_descriptor}
-use Rattle.names.specs.ReferenceTypes.{ReferenceType, class_type, array_type, descriptor_of}
+use Rattle.names.specs.ReferenceTypes.{ReferenceType, class_type, array_type}
 use Rattle.hierarchy.specs.World.{Entry, World, superclass_in, IsSubclassIn, same, above, object_name, cloneable_name, serializable_name}
-use Rattle.hierarchy.specs.Class.{ClassFact, class_of, entry_of, world_of, interface_of, IsPresent, IsSubclass}
+use Rattle.hierarchy.specs.Class.{ClassFact, class_of, entry_of, world_of}
 use Rattle.hierarchy.specs.Rules.{IsHierarchy}
 use Rattle.hierarchy.specs.Extends.{Extends}
 use Rattle.hierarchy.proofs.Worlds.{kept}
-use Rattle.frames.specs.VerificationType.{VerificationType, class, array}
+use Rattle.frames.specs.VerificationType.{VerificationType}
 use Rattle.frames.specs.Assignable.{type_answer}
 use Rattle.frames.specs.Slots.{to_reference}
 use Rattle.frames.specs.Meaning.{ClassAnswer, IsAboveArrays, AreComponents, primitive_component, class_component, array_under_class, array_component, IsAssignable, to_itself, to_top, null_to_class, null_to_array, class_to_class, array_to_class, array_to_array}

@@ -1,3 +1,4 @@
 pub mod InitialFrames
 pub mod TypeSafety
 pub mod Safety
+pub mod ClassMethods

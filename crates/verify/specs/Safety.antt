@@ -1,5 +1,5 @@
 -- Safety of a method: no run of it meets a fault, in no world that extends the known classes. The theorem is that type-safe methods are safe.
-use Rattle.std.specs.Prelude.{◌≡◌, ℕ, List, Some}
+use Rattle.std.specs.Prelude.{◌≡◌, List, Some}
 use Rattle.classfile.specs.Methods.{Method}
 use Rattle.hierarchy.specs.World.{World}
 use Rattle.hierarchy.specs.Class.{ClassFact}

@@ -6,3 +6,6 @@
 mod theorem;
 
 pub use theorem::type_safe_is_safe;
+
+#[cfg(test)]
+mod tests;

@@ -1,8 +1,12 @@
 use Rattle.verify.proofs.Run.{type_safe_is_safe}
+use Rattle.verify.proofs.OneMethod.{methods_are_safe}
 use Rattle.verify.proofs.theorem.type_safe_is_safe.Goals as goal
 
 pub returns-clause-safe : goal.returns-clause-safe
 returns-clause-safe c = type_safe_is_safe
+
+pub returns-clause-of_classes : goal.returns-clause-of_classes
+returns-clause-of_classes c = methods_are_safe
 
 pub returns-clause-operands : goal.returns-clause-operands
 returns-clause-operands c h hh m safe w x run r s a = let n = type_safe_is_safe h hh m safe w x run r s a in (n.act, n.here, n.operands)

@@ -1,0 +1,276 @@
+-- The machine's choices, beginnings and worlds.
+use Rattle.std.proofs.Common.{◌≡◌, ◌≢◌, ℕ, ℤ, pos, ◌+ℤ◌, Bool, true, false, List, [], ◌∷◌, slice_get, Option, Some, None, if◌then◌else◌, ◌⊎◌, inl, inr, sym, ap, refl, ◌∙◌, subst, ne_eqb, option_map}
+use Rattle.std.specs.Str.{bytes_eq}
+use Rattle.std.proofs.lemmas.Slice.Eq.{bytes_eq-Decides}
+use Rattle.names.specs.ReferenceTypes.{ReferenceType, class_type, array_type}
+use Rattle.classfile.specs.Methods.{Method}
+use Rattle.hierarchy.specs.World.{Entry, World, object_name, cloneable_name, serializable_name}
+use Rattle.hierarchy.specs.Class.{ClassFact, entry_of, world_of, IsAbsent}
+use Rattle.hierarchy.specs.Rules.{IsHierarchy}
+use Rattle.hierarchy.specs.Extends.{Extends}
+use Rattle.hierarchy.proofs.Worlds.{itself}
+use Rattle.insn.specs.Meanings.{Act}
+use Rattle.insn.specs.Offsets.{at_offset, IsAmong, led_to}
+use Rattle.names.specs.Descriptors.{FieldDescriptor, primitive, class as class_descriptor, array as array_descriptor}
+use Rattle.insn.specs.Stacks.{computed_as}
+use Rattle.machine.specs.Values.{Value, number, null, reference}
+use Rattle.machine.specs.Heap.{Status, ready, made, this, Object, object, Heap, with_object, IsBelow, FitsField, IsFresh, with_fresh}
+use Rattle.machine.specs.Tasks as tasks
+use Rattle.machine.specs.Tasks.{Need, Reply, Task, task, targets, needs_of}
+use Rattle.machine.specs.Demands.{State, AllMeet, IsMade, IsOwn, MeetsRest, IsNoFault}
+use Rattle.machine.specs.Steps.{Replies, moved_with, IsLive, Does, IsBranch, GoesTo}
+use Rattle.machine.specs.Breadth.{with_new, MayGoOn, IsReplied, IsElement, IsAnswer, MakesNone, HasStep, HasChoices, StepBreadth, StartBreadth, with_class, interface_entry, class_entry, WorldBreadth}
+use Rattle.machine.proofs.Flows.{Flows, flows}
+
+-- ---- fresh objects leave the others
+
+keeps_one : (h : Heap) (a b : ℕ) (o x : Object) → h a ≡ None → h b ≡ Some x → with_object h a o b ≡ Some x
+keeps_one h a b o x n e = rw (ne_eqb a b apart) e
+  where
+    apart : a ≡ b → ⊥
+    apart q = let k : None ≡ Some x = sym n ∙ subst (λ z. h z ≡ Some x) (sym q) e in cc
+
+keeps : (xs : List (ℕ × ReferenceType)) (h : Heap) (b : ℕ) (x : Object) → IsFresh h xs → h b ≡ Some x → with_fresh h xs b ≡ Some x
+keeps [] h b x f e = e
+keeps (y ∷ ys) h b x f e = keeps ys (with_object h y.0 (object y.1 ready)) b x f.3 (keeps_one h y.0 b (object y.1 ready) x f.0 e)
+
+-- ---- what an instruction does
+
+replies : (w : World) (h : Heap) (r : Reply) (answer : Option Value) → IsReplied w h r answer → (vs : List Value) × Replies w h r answer vs
+replies w h tasks.no_reply answer e = ([], (e, refl))
+replies w h (tasks.gives_number k) answer e = (number k ∷ [], (e, refl))
+replies w h tasks.gives_null answer e = (null ∷ [], (e, refl))
+replies w h (tasks.gives_answer t) answer e = (e.0 ∷ [], (e.0, e.1, e.2, refl))
+
+first_one : (w : World) (h : Heap) (n : Need) (vs : List Value) → AllMeet w h (n ∷ []) vs → (v : Value) × (rest : List Value) × (vs ≡ v ∷ rest)
+first_one w h n (v ∷ vs) f = (v, vs, refl)
+first_one w h n [] f = elim f [ ]
+
+second_one : (vs : List Value) (a : ℕ) → slice_get vs 1 ≡ Some (reference a) → (i : Value) × (rest : List Value) × (vs ≡ i ∷ reference a ∷ rest)
+second_one [] a e = cc
+second_one (i ∷ []) a e = cc
+second_one (i ∷ (v ∷ vs)) a e = let q : v ≡ reference a = cc in (i, vs, ap (λ z. i ∷ z ∷ vs) q)
+
+made_there : (m : Method Act) (h : Heap) (c : List ℕ) (a : ℕ) → IsMade h c a ⊎ IsOwn m h c a → (x : ReferenceType) × (st : Status) × (h a ≡ Some (object x st))
+made_there m h c a (inl i) = (class_type c, made, i.here)
+made_there m h c a (inr i) = (i.type, this, i.here)
+
+module _ (w : World) (m : Method Act) (s : State) (fresh : List (ℕ × ReferenceType)) (f : IsFresh s.heap fresh) where
+  does : (t : Task) (answer : Option Value) (to : ℕ) → AllMeet w s.heap (needs_of t) s.stack → MeetsRest w m t s → MayGoOn w t (with_new s fresh) → IsAnswer w t (with_new s fresh) answer → (u : State) × Does w t (with_new s fresh) answer to u
+  does (tasks.operates ns l r os b) answer to am mr go_on an = let k = replies w (with_fresh s.heap fresh) r answer an in (_, (go_on, (k.0, k.1, refl)))
+  does (tasks.calls_special c ns l r) answer to am mr go_on an = let k = replies w (with_fresh s.heap fresh) r answer an in (_, (go_on, (k.0, k.1, refl)))
+  does (tasks.reads n i) answer to am mr go_on an = (_, (mr.value, mr.here, an, refl))
+  does (tasks.writes n i k) answer to am mr go_on an = let q = first_one w s.heap n s.stack am in (_, (q.0, q.1, q.2, an, refl))
+  does (tasks.increments i) answer to am mr go_on an = (_, (an, refl))
+  does (tasks.moves fs) answer to am mr go_on an = (_, (mr.form, mr.among, mr.fits, an, refl))
+  does tasks.takes_element answer to am mr go_on an =
+      let q = second_one s.stack an.address an.array in
+      (_, (q.0, an.address, an.component, q.1, an.value, q.2, an.type, an.fits, an.is, refl))
+  does (tasks.passes r) answer to am mr go_on an = (_, (go_on.0, go_on.1, go_on.2, go_on.3, an, refl))
+  does (tasks.creates c) answer to am mr go_on an = (_, (an.address, an.is, an.unused, an.in_range, refl))
+  does (tasks.makes_array ns r) answer to am mr go_on an = (_, (an.address, an.is, an.unused, an.in_range, refl))
+  does (tasks.initializes c ns) answer to am mr go_on an =
+      let i = made_there m s.heap c mr.address mr.uninitialized in
+      (_, (mr.address, mr.rest, i.0, i.1, mr.here, keeps fresh s.heap mr.address (object i.0 i.1) f i.2, an, refl))
+  does (tasks.leaves ns) answer to am mr go_on an = elim go_on [ ]
+  does (tasks.throws n) answer to am mr go_on an = elim go_on [ ]
+  does tasks.ends answer to am mr go_on an = elim go_on [ ]
+  does tasks.stuck answer to am mr go_on an = elim go_on [ ]
+
+  -- ---- something to answer
+
+  field_value : (t : FieldDescriptor) → (v : Value) × FitsField w (with_fresh s.heap fresh) t v
+  field_value (primitive p) = (number (computed_as p), refl)
+  field_value (class_descriptor n) = (null, tt)
+  field_value (array_descriptor c) = (null, tt)
+
+  reply : (r : Reply) → (answer : Option Value) × IsReplied w (with_fresh s.heap fresh) r answer
+  reply tasks.no_reply = (None, refl)
+  reply (tasks.gives_number k) = (None, refl)
+  reply tasks.gives_null = (None, refl)
+  reply (tasks.gives_answer t) = let v = field_value t in (Some v.0, (v.0, refl, v.1))
+
+  element_at : (vs : List Value) → vs ≡ s.stack → AllMeet w s.heap (needs_of tasks.takes_element) vs → IsLive (Some 1) vs → (answer : Option Value) × IsElement w (with_new s fresh) answer
+  element_at [] e am live = elim am [ ]
+  element_at (i ∷ []) e am live = elim am.1 [ ]
+  element_at (i ∷ (number k ∷ vs)) e am live = elim am.1.0 [ ]
+  element_at (i ∷ (null ∷ vs)) e am live = absurd (live tt)
+  element_at (i ∷ (reference a ∷ vs)) e am live = by am.1.0.0 am.1.0.1 am.1.0.2
+    where
+      by : (x : ReferenceType) → s.heap a ≡ Some (object x ready) → IsBelow w x tasks.objects → (answer : Option Value) × IsElement w (with_new s fresh) answer
+      by (class_type n) at b = elim b [ ]
+      by (array_type c) at b = let v = field_value c in (
+        Some v.0,
+        record {
+          address = a;
+          component = c;
+          value = v.0;
+          array = ap (λ z. slice_get z 1) (sym e);
+          type = keeps fresh s.heap a (object (array_type c) ready) f at;
+          fits = v.1;
+          is = refl;
+        },
+      )
+
+  answered : (t : Task) → AllMeet w s.heap (needs_of t) s.stack → MayGoOn w t (with_new s fresh) → MakesNone t → (answer : Option Value) × IsAnswer w t (with_new s fresh) answer
+  answered (tasks.operates ns l r os b) am go_on none = reply r
+  answered (tasks.calls_special c ns l r) am go_on none = reply r
+  answered (tasks.reads n i) am go_on none = (None, refl)
+  answered (tasks.writes n i k) am go_on none = (None, refl)
+  answered (tasks.increments i) am go_on none = (None, refl)
+  answered (tasks.moves fs) am go_on none = (None, refl)
+  answered tasks.takes_element am go_on none = element_at s.stack refl am go_on
+  answered (tasks.passes r) am go_on none = (None, refl)
+  answered (tasks.creates c) am go_on none = elim none [ ]
+  answered (tasks.makes_array ns r) am go_on none = elim none [ ]
+  answered (tasks.initializes c ns) am go_on none = (None, refl)
+  answered (tasks.leaves ns) am go_on none = elim go_on [ ]
+  answered (tasks.throws x) am go_on none = elim go_on [ ]
+  answered tasks.ends am go_on none = elim go_on [ ]
+  answered tasks.stuck am go_on none = elim go_on [ ]
+
+  branch_to : (ts : List ℤ) (to : ℕ) → (branch : Option ℕ) × IsBranch ts branch to
+  branch_to [] to = (None, refl)
+  branch_to (t ∷ ts) to = (Some to, refl)
+
+  module _ (n : IsNoFault w m s) (act : Act) (here : at_offset m.code s.at ≡ Some act) where
+    same_act : n.act ≡ act
+    same_act = let q : Some n.act ≡ Some act = sym n.here ∙ here in cc
+
+    step : MayGoOn w (task m act) (with_new s fresh) → (answer : Option Value) → IsAnswer w (task m act) (with_new s fresh) answer → (to : ℕ) → GoesTo m s.at (task m act) to → HasStep w m s act fresh answer to
+    step go_on answer an to goes =
+        let am = subst (λ a. AllMeet w s.heap (needs_of (task m a)) s.stack) same_act n.operands.operands in
+        let mr = subst (λ a. MeetsRest w m (task m a) s) same_act n.operands.others in
+        let d = does (task m act) answer to am mr go_on an in
+        let b = branch_to (targets s.at (task m act)) to in
+        record {
+          branch = b.0;
+          given = b.1;
+          state = d.0;
+          happens = (n, record { act = act; here = here; unused = f; to = to; branches = b.1; goes = goes; does = d.1 });
+        }
+
+    -- ---- somewhere to go
+
+    on : tasks.falls (task m act) ≡ true → (to : ℕ) × GoesTo m s.at (task m act) to
+    on e = let k = n.control.next (subst (λ a. tasks.falls (task m a) ≡ true) (sym same_act) e) in (k.0, inr (e, k.1))
+
+    along : (z : ℤ) (zs : List ℤ) → tasks.offsets_of (task m act) ≡ z ∷ zs → (to : ℕ) × GoesTo m s.at (task m act) to
+    along z zs e =
+        let t : ℤ = pos s.at +ℤ z in
+        let i : IsAmong t (targets s.at (task m act)) = subst (λ os. IsAmong t (led_to s.at os)) (sym e) (inl refl) in
+        let k = n.control.branches t (subst (λ a. IsAmong t (targets s.at (task m a))) (sym same_act) i) in
+        (k.0, inl (subst (λ u. IsAmong u (targets s.at (task m act))) k.1 i))
+
+    ways : (t : Task) → Flows t → MayGoOn w t (with_new s fresh) → (tasks.falls t ≡ true) ⊎ ((z : ℤ) × (zs : List ℤ) × (tasks.offsets_of t ≡ z ∷ zs))
+    ways (tasks.operates ns l r os b) f go_on = f
+    ways (tasks.calls_special c ns l r) f go_on = inl refl
+    ways (tasks.reads n i) f go_on = inl refl
+    ways (tasks.writes n i k) f go_on = inl refl
+    ways (tasks.increments i) f go_on = inl refl
+    ways (tasks.moves fs) f go_on = inl refl
+    ways tasks.takes_element f go_on = inl refl
+    ways (tasks.passes r) f go_on = inl refl
+    ways (tasks.creates c) f go_on = inl refl
+    ways (tasks.makes_array ns r) f go_on = inl refl
+    ways (tasks.initializes c ns) f go_on = inl refl
+    ways (tasks.leaves ns) f go_on = elim go_on [ ]
+    ways (tasks.throws x) f go_on = elim go_on [ ]
+    ways tasks.ends f go_on = elim go_on [ ]
+    ways tasks.stuck f go_on = elim go_on [ ]
+
+    somewhere : MayGoOn w (task m act) (with_new s fresh) → (to : ℕ) × GoesTo m s.at (task m act) to
+    somewhere go_on = by (ways (task m act) (flows m act) go_on)
+      where
+        by : (tasks.falls (task m act) ≡ true) ⊎ ((z : ℤ) × (zs : List ℤ) × (tasks.offsets_of (task m act) ≡ z ∷ zs)) → (to : ℕ) × GoesTo m s.at (task m act) to
+        by (inl e) = on e
+        by (inr e) = along e.0 e.1 e.2
+
+    choices : HasChoices w m s act fresh
+    choices = record {
+      steps = step;
+      somewhere = somewhere;
+      answered = λ go_on none. answered (task m act) (subst (λ a. AllMeet w s.heap (needs_of (task m a)) s.stack) same_act n.operands.operands) go_on none;
+      returns = λ l. (n, record { act = act; here = here; unused = f; no_branch = refl; no_answer = refl; last = l });
+      raises = λ a x at b. (
+        (n, record { unused = f; type = x; here = at; throwable = b }),
+        λ k e which covered catches. (
+          moved_with s e.handler (reference a ∷ []) (with_fresh s.heap fresh),
+          (n, record { raised = record { unused = f; type = x; here = at; throwable = b }; by_entry = e; which = which; covered = covered; catches = catches; result = refl }),
+        ),
+      );
+    }
+
+pub step_breadth : StepBreadth
+step_breadth w m s n act here fresh f = choices w m s fresh f n act here
+
+-- ---- beginnings
+
+pub start_breadth : StartBreadth
+start_breadth w m heap own receiver args received fit enough objects none only = record {
+  at = refl;
+  stack = refl;
+  own = own;
+  receiver = receiver;
+  arguments = args;
+  receives = received;
+  fit = fit;
+  enough = enough;
+  locals = refl;
+  objects = objects;
+  none_made = none;
+  only_own = only;
+}
+
+-- ---- worlds
+
+some_same : (a b : Entry) → Some a ≡ Some b → a ≡ b
+some_same a b e = cc
+
+true_false : true ≡ false → ⊥
+true_false e = cc
+
+module _ (classes : List ClassFact) (h : IsHierarchy classes) (name : List ℕ) (absent : IsAbsent classes name) where
+  old : Extends (world_of classes) classes
+  old = itself classes h
+
+  not_there : (e : Entry) → world_of classes name ≡ Some e → ⊥
+  not_there e k = let q : world_of classes name ≡ None = ap (option_map entry_of) absent in let r : None ≡ Some e = sym q ∙ k in cc
+
+  keeps_classes : (new : Entry) (n : List ℕ) (e : Entry) → world_of classes n ≡ Some e → with_class (world_of classes) name new n ≡ Some e
+  keeps_classes new n e k = by (bytes_eq n name) refl
+    where
+      by : (b : Bool) → bytes_eq n name ≡ b → (if b then Some new else world_of classes n) ≡ Some e
+      by true q = absurd (not_there e (subst (λ z. world_of classes z ≡ Some e) ((bytes_eq-Decides n name).0 q) k))
+      by false q = k
+
+  -- what holds of the new class and of the others holds of all
+  each : (new : Entry) (n : List ℕ) (P : Entry → Type 0) → (n ≡ name → P new) → ((e : Entry) → world_of classes n ≡ Some e → P e) → (e : Entry) → with_class (world_of classes) name new n ≡ Some e → P e
+  each new n P p q e k = by (bytes_eq n name) refl k
+    where
+      by : (b : Bool) → bytes_eq n name ≡ b → (if b then Some new else world_of classes n) ≡ Some e → P e
+      by true i j = subst P (some_same new e j) (p ((bytes_eq-Decides n name).0 i))
+      by false i j = q e j
+
+  with_interface : Extends (with_class (world_of classes) name interface_entry) classes
+  with_interface = record {
+    keeps = keeps_classes interface_entry;
+    interface_super = λ n e k i. each interface_entry n (λ x. x.interface ≡ true → x.superclass ≡ Some object_name) (λ q j. refl) (λ x l j. old.interface_super n x l j) e k i;
+    cloneable = λ e k. each interface_entry cloneable_name (λ x. x.interface ≡ true) (λ q. refl) old.cloneable e k;
+    serializable = λ e k. each interface_entry serializable_name (λ x. x.interface ≡ true) (λ q. refl) old.serializable e k;
+  }
+
+  with_more : name ≢ cloneable_name → name ≢ serializable_name → (superclass : Option (List ℕ)) → Extends (with_class (world_of classes) name (class_entry superclass)) classes
+  with_more c d superclass = record {
+    keeps = keeps_classes (class_entry superclass);
+    interface_super = λ n e k i. each (class_entry superclass) n (λ x. x.interface ≡ true → x.superclass ≡ Some object_name) (λ q j. absurd (true_false (sym j))) (λ x l j. old.interface_super n x l j) e k i;
+    cloneable = λ e k. each (class_entry superclass) cloneable_name (λ x. x.interface ≡ true) (λ q. absurd (c (sym q))) old.cloneable e k;
+    serializable = λ e k. each (class_entry superclass) serializable_name (λ x. x.interface ≡ true) (λ q. absurd (d (sym q))) old.serializable e k;
+  }
+
+pub world_breadth : WorldBreadth
+world_breadth classes h = record {
+  itself = itself classes h;
+  interfaces = λ name absent. with_interface classes h name absent;
+  more_classes = λ name absent c d superclass. with_more classes h name absent c d superclass;
+}

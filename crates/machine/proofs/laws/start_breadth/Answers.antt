@@ -1,0 +1,5 @@
+use Rattle.machine.proofs.Breadth.{start_breadth}
+use Rattle.machine.proofs.laws.start_breadth.Goals as goal
+
+pub returns : goal.returns
+returns c = start_breadth

@@ -1,0 +1,25 @@
+-- A class file has one method of a number at most.
+use Rattle.std.proofs.Common.{◌≡◌, ℕ, Some, sym, ap, ◌∙◌, subst}
+use Rattle.classfile.specs.Values.{Class}
+use Rattle.classfile.specs.Methods.{Method, code_of, method_of}
+use Rattle.insn.specs.Code.{SpellsCode}
+use Rattle.insn.specs.Meanings.{Act}
+use Rattle.insn.specs.Offsets.{acts}
+use Rattle.insn.proofs.CodeLaws.{one_code}
+use Rattle.verify.specs.Safety.{IsSafe}
+use Rattle.verify.specs.ClassMethods.{IsMethod, TypeSafeMethodsAreSafe}
+use Rattle.verify.proofs.Run.{type_safe_is_safe}
+
+some_same : {A : Type 0} (a b : A) → Some a ≡ Some b → a ≡ b
+some_same a b e = cc
+
+pub one_method : (c : Class) (number : ℕ) (a b : Method Act) → IsMethod c number a → IsMethod c number b → a ≡ b
+one_method c number a b x y =
+    let member : x.member ≡ y.member = some_same x.member y.member (sym x.numbered ∙ y.numbered) in
+    let body : x.body ≡ y.body = some_same x.body y.body (sym x.has_code ∙ ap (λ z. code_of z.attributes) member ∙ y.has_code) in
+    let code : SpellsCode 0 x.body.code y.instructions = subst (λ z. SpellsCode 0 z.code y.instructions) (sym body) y.spelled in
+    let same : x.instructions ≡ y.instructions = one_code 0 x.body.code x.instructions y.instructions x.spelled code in
+    some_same a b (sym x.method ∙ ap (λ z. method_of c number (acts z)) same ∙ y.method)
+
+pub methods_are_safe : TypeSafeMethodsAreSafe
+methods_are_safe classes h c number t m i = subst (IsSafe classes) (one_method c number t.0 m t.1 i) (type_safe_is_safe classes h t.0 t.2)
