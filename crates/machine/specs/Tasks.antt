@@ -12,11 +12,6 @@ use Rattle.classfile.specs.Methods.{Method, is_own_field}
 use Rattle.hierarchy.specs.World.{object_name}
 use Rattle.insn.specs.declared.operation.Kind.{Kind}
 use Rattle.insn.specs.declared.operation.Kind.TheVariants as kinds
-<<<<<<< HEAD
-use Rattle.insn.specs.declared.operation.NumericOperator.{NumericOperator}
-use Rattle.insn.specs.declared.stack.StackOperator.{StackOperator}
-=======
->>>>>>> 486a021405b73cbac3f2f72af38be7674c2c5dca
 use Rattle.insn.specs.Acts.{numeric_row, StackForm, stack_forms}
 use Rattle.insn.specs.Stacks.{computed_as, same_kind}
 use Rattle.insn.specs.Offsets.{led_to}
