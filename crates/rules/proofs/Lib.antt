@@ -1,0 +1,4 @@
+pub mod Taking
+pub mod Settling
+pub mod Storing
+pub mod Moving
