@@ -1,8 +1,10 @@
 """The layout of class files once more, read from the standard and not from the program: what `classck check` should print.
 
 It follows The Java Virtual Machine Specification, Java SE 17, 4.1, 4.4 to 4.7: the parts in the order of the file, up to
-the first that is not whole (2, or 12 in the body of a Code attribute) or that breaks its rule.
+the first that is not whole (2, or 12 in the body of a Code attribute) or that breaks its rule. What is a class file by its
+layout is judged by form.py.
 """
+from form import first_fault
 
 LIMIT = 16_777_216
 
@@ -12,13 +14,17 @@ class Refused(Exception):
 
 
 class Reader:
-    """Bytes that are read from left to right; `end` is where the innermost body ends, `name_at` where its attribute begins."""
+    """Bytes that are read from left to right; `end` is where the innermost body ends, `name_at` where its attribute begins.
+
+    `short` gathers where numbers of two bytes stand: counts, flags and indices.
+    """
 
     def __init__(self, data):
         self.data = data
         self.at = 0
         self.end = len(data)
         self.name_at = None
+        self.short = []
 
     def part(self, size):
         if self.at + size > self.end:
@@ -27,6 +33,8 @@ class Reader:
         return self.data[self.at - size : self.at]
 
     def number(self, size):
+        if size == 2:
+            self.short.append(self.at)
         return int.from_bytes(self.part(size), "big")
 
 
@@ -57,7 +65,7 @@ BODIES = {3: [4], 4: [4], 5: [4, 4], 6: [4, 4], 7: [2], 8: [2], 9: [2, 2], 10: [
 
 
 def constant(reader, is_last):
-    """A constant: its text where it is one, and whether it takes two indices."""
+    """A constant: its tag, its indices and its text, where it has them."""
     at = reader.at
     tag = reader.number(1)
     if tag == 1:
@@ -67,81 +75,102 @@ def constant(reader, is_last):
         bad = bad_unit(text)
         if bad is not None:
             raise Refused(f"3 at {start + bad}")
-        return text, False
+        return tag, [], bytes(text)
     if tag == 15:
         at = reader.at
         kind = reader.number(1)
         if not 1 <= kind <= 9:
             raise Refused(f"7 at {at} tag {kind}")
-        reader.number(2)
-        return None, False
+        return tag, [reader.number(2)], None
     if tag not in BODIES or (tag in (5, 6) and is_last):
         raise Refused(f"7 at {at} tag {tag}")
-    for size in BODIES[tag]:
-        reader.number(size)
-    return None, tag in (5, 6)
+    return tag, [reader.number(size) for size in BODIES[tag]], None
 
 
 def pool(reader):
-    """The texts of the constant pool, by their indices."""
+    """The constants by their indices."""
     at = reader.at
     count = reader.number(2)
     if count == 0:
         raise Refused(f"16 at {at}")
-    texts, index = {}, 1
+    constants, index = {}, 1
     while index < count:
-        text, is_wide = constant(reader, index == count - 1)
-        if text is not None:
-            texts[index] = text
-        index += 2 if is_wide else 1
-    return texts
+        constants[index] = constant(reader, index == count - 1)
+        index += 2 if constants[index][0] in (5, 6) else 1
+    return constants
 
 
-def code(reader, texts):
-    """The body of a Code attribute (4.7.3)."""
+def code(reader, constants):
+    """The body of a Code attribute (4.7.3): the length of its code, the classes that it catches, and its attributes."""
     reader.number(2)
     reader.number(2)
-    reader.part(reader.number(4))
+    length = reader.number(4)
+    reader.part(length)
+    catches = []
     for _ in range(reader.number(2)):
-        for _ in range(4):
-            reader.number(2)
-    attributes(reader, texts, is_method=False)
+        catches.append([reader.number(2) for _ in range(4)][3])
+    nested = attributes(reader, constants, is_method=False)
+    return length, catches, [(name, is_named(constants, name, b"StackMapTable")) for name, _ in nested]
 
 
-def attributes(reader, texts, is_method):
+def is_named(constants, index, text):
+    return index in constants and constants[index][2] == text
+
+
+def attributes(reader, constants, is_method):
+    """Attributes: the index of the name of each, and what a Code attribute holds, where it is one."""
+    found = []
     for _ in range(reader.number(2)):
         name_at = reader.at
         name = reader.number(2)
         size = reader.number(4)
         start = reader.at
         reader.part(size)
-        if is_method and texts.get(name) == b"Code":
+        body = None
+        if is_method and is_named(constants, name, b"Code"):
             outer, reader.at, reader.end, reader.name_at = (reader.end, reader.name_at), start, start + size, name_at
-            code(reader, texts)
+            body = code(reader, constants)
             if reader.at != reader.end:
                 raise Refused(f"12 at {name_at}")
             reader.end, reader.name_at = outer
+        found.append((name, body))
+    return found
+
+
+def members(reader, constants, is_method):
+    """Fields or methods."""
+    found = []
+    for _ in range(reader.number(2)):
+        flags, name, descriptor = (reader.number(2) for _ in range(3))
+        found.append({"flags": flags, "name": name, "descriptor": descriptor, "attributes": attributes(reader, constants, is_method)})
+    return found
 
 
 def class_file(reader):
+    """A class file by its parts."""
     if reader.number(4) != 0xCAFEBABE:
         raise Refused("10")
     minor, major = reader.number(2), reader.number(2)
     if not 51 <= major <= 60 or (major > 55 and minor):
         raise Refused(f"11 {major}.{minor}")
-    texts = pool(reader)
-    for _ in range(3):
-        reader.number(2)
-    for _ in range(reader.number(2)):
-        reader.number(2)
-    for is_method in (False, True):
-        for _ in range(reader.number(2)):
-            for _ in range(3):
-                reader.number(2)
-            attributes(reader, texts, is_method)
-    attributes(reader, texts, is_method=False)
+    constants = pool(reader)
+    flags, this, above = (reader.number(2) for _ in range(3))
+    interfaces = [reader.number(2) for _ in range(reader.number(2))]
+    fields = members(reader, constants, is_method=False)
+    methods = members(reader, constants, is_method=True)
+    file = {"major": major, "constants": constants, "flags": flags, "this": this, "super": above}
+    file |= {"interfaces": interfaces, "fields": fields, "methods": methods}
+    file["attributes"] = attributes(reader, constants, is_method=False)
     if reader.at != reader.end:
         raise Refused(f"13 at {reader.at}")
+    return file
+
+
+def short_numbers(data):
+    """Where a class file has numbers of two bytes."""
+    reader = Reader(data)
+    class_file(reader)
+    return reader.short
 
 
 def check(data):
@@ -149,7 +178,9 @@ def check(data):
     try:
         if len(data) > LIMIT:
             raise Refused("14 at 0")
-        class_file(Reader(data))
+        fault = first_fault(class_file(Reader(data)))
+        if fault is not None:
+            raise Refused(fault)
     except Refused as fault:
         return f"refused {fault}", 1
     return "ok", 0

@@ -5,12 +5,17 @@ use Rattle.std.specs.Io.KnownBytes.{Appends, Keeps}
 use Rattle.layout.specs.declared.fault.StreamFault.{StreamFault}
 use Rattle.layout.specs.declared.fault.ReadFault.{ReadFault}
 use Rattle.layout.specs.declared.fault.ReadFault.TheVariants as reading
+use Rattle.classfile.specs.declared.form_fault.FormFault.{FormFault}
+use Rattle.classfile.specs.declared.form_fault.FormFault.TheVariants as forms
+use Rattle.classfile.specs.declared.form_fault.FormRule.{FormRule}
+use Rattle.classfile.specs.declared.form_fault.Place.{Place}
 use Rattle.classfile.specs.Values.{Class}
 use Rattle.classfile.specs.ClassFile.{IsClass, ClassFault}
-use Rattle.classck.specs.Texts.{refusal}
+use Rattle.classfile.specs.WellFormed.{WellFormed, IsFirstFault}
+use Rattle.classck.specs.Texts.{refusal, form_refusal}
 use Rattle.classck.specs.Writing.{AppendsFront}
 use Rattle.classck.specs.declared.checking.Said.{Said}
-use Rattle.classck.specs.declared.checking.Said.TheVariants.{Fine, Unread, Refused}
+use Rattle.classck.specs.declared.checking.Said.TheVariants.{Fine, Unread, Refused, Malformed}
 use Rattle.classck.specs.declared.fault.AnswerFault.{AnswerFault}
 use Rattle.classck.specs.declared.fault.AnswerFault.TheVariants.{OutOfMemory, WriteFailed}
 use Rattle.classck.specs.declared.line.Command.{Command}
@@ -29,11 +34,17 @@ abbrev pub read_status : ReadFault → ℕ
 read_status (reading.ReadFailed at) = 2
 read_status e = 1
 
--- What `check` says of a file: that it is a class, or its first fault.
+-- What `check` says of a class file: that it is well formed, or the first rule that it breaks.
+abbrev pub FormSays : Class → List ℕ → ℕ → Type 0
+FormSays c text status =
+    (WellFormed c × (text ≡ codes "ok\n") × (status ≡ 0))
+    ⊎ ((rule : FormRule) × (place : Place) × IsFirstFault c rule place × (text ≡ form_refusal rule place) × (status ≡ 1))
+
+-- What `check` says of a file: what it says of the class that it is, or its first fault.
 abbrev pub CheckSays : Read → List ℕ → ℕ → Type 0
 CheckSays (Err e) text status = (text ≡ refusal e) × (status ≡ read_status e)
 CheckSays (Ok bytes) text status =
-    ((c : Class) × IsClass bytes c × (text ≡ codes "ok\n") × (status ≡ 0))
+    ((c : Class) × IsClass bytes c × FormSays c text status)
     ⊎ ((e : ReadFault) × ClassFault bytes e × (text ≡ refusal e) × (status ≡ 1))
 
 -- What is said of these files. No line names none, so of no file nothing is said.
@@ -63,14 +74,21 @@ abbrev pub said_text : Said → List ℕ
 said_text Fine = codes "ok\n"
 said_text (Unread fault) = refusal fault
 said_text (Refused fault) = refusal fault
+said_text (Malformed rule place) = form_refusal rule place
 
 abbrev pub said_status : Said → ℕ
 said_status Fine = 0
 said_status (Unread fault) = read_status fault
 said_status (Refused fault) = 1
+said_status (Malformed rule place) = 1
 
--- what is said where a file was decoded so; of want of memory nothing
-abbrev pub Judges : {X : Type 0} → Result X ReadFault → Result Said AnswerFault → Type 0
-Judges (Ok class) result = result ≡ Ok Fine
-Judges (Err reading.OutOfMemory) result = result ≡ Err OutOfMemory
-Judges (Err e) result = result ≡ Ok (Refused e)
+-- what is said where a file is no class for this reason; of want of memory nothing
+abbrev pub Refuses : ReadFault → Result Said AnswerFault → Type 0
+Refuses reading.OutOfMemory result = result ≡ Err OutOfMemory
+Refuses e result = result ≡ Ok (Refused e)
+
+-- what is said where a class was checked so; of want of memory nothing
+abbrev pub Judges : {X : Type 0} → Result X FormFault → Result Said AnswerFault → Type 0
+Judges (Ok formed) result = result ≡ Ok Fine
+Judges (Err forms.OutOfMemory) result = result ≡ Err OutOfMemory
+Judges (Err (forms.Broken rule place)) result = result ≡ Ok (Malformed rule place)

@@ -2,6 +2,10 @@
 use Rattle.std.specs.Prelude.{ℕ, List, ◌++◌, codes, decimal}
 use Rattle.layout.specs.declared.fault.ReadFault.{ReadFault}
 use Rattle.layout.specs.declared.fault.ReadFault.TheVariants.{OutOfMemory, EndsEarly, BadText, BadTag, BadMagic, BadVersion, AttributeLength, BytesAfter, TooLong, ReadFailed, BadPoolCount, BadFrameType, BadTypeTag}
+use Rattle.classfile.specs.declared.form_fault.FormRule.{FormRule}
+use Rattle.classfile.specs.declared.form_fault.Place.{Place}
+use Rattle.classfile.specs.declared.form_fault.Place.TheVariants.{Pool, Class, Field, Method}
+use Rattle.classfile.specs.Conditions.{rule_number}
 use Rattle.classck.specs.declared.fault.MainFault.{MainFault}
 use Rattle.classck.specs.declared.fault.MainFault.TheVariants.{NoRandom, CannotOpen, Memory, NotWritten}
 
@@ -26,6 +30,17 @@ fault_text (BadTypeTag at) = codes "48" ++ at_text at
 -- a line that says why a file is refused
 abbrev pub refusal : ReadFault → List ℕ
 refusal e = codes "refused " ++ (fault_text e ++ codes "\n")
+
+-- where a rule is broken
+abbrev pub place_text : Place → List ℕ
+place_text (Pool index) = codes " pool " ++ decimal index
+place_text Class = codes " class"
+place_text (Field n) = codes " field " ++ decimal n
+place_text (Method n) = codes " method " ++ decimal n
+
+-- a line that says why a class is not well formed
+abbrev pub form_refusal : FormRule → Place → List ℕ
+form_refusal rule place = codes "refused " ++ (decimal (rule_number rule) ++ (place_text place ++ codes "\n"))
 
 -- why the program ends without an answer
 abbrev pub complaint_text : MainFault → List ℕ

@@ -4,6 +4,7 @@ ghost use Rattle.classck.specs.Writing.{Writes};
 ghost use Rattle.classck.specs.Texts.{at_text};
 
 use crate::text::{Number, Text, Then, Word, WriteFailed};
+use classfile::Place;
 use layout::ReadFault;
 use std::io::Write;
 
@@ -51,6 +52,21 @@ impl Text for ReadFault {
             ReadFault::BadPoolCount { at } => put_at(out, "16", at),
             ReadFault::BadFrameType { at } => put_at(out, "47", at),
             ReadFault::BadTypeTag { at } => put_at(out, "48", at),
+        }
+    }
+}
+
+impl Text for Place {
+    ghost use Rattle.classck.specs.Texts.{place_text};
+
+    ghost text = { place_text };
+
+    fn put<W: Write>(&self, out: &mut W) -> Result<(), WriteFailed> {
+        match *self {
+            Place::Pool(index) => Then(Word(" pool "), Number(index as u64)).put(out),
+            Place::Class => Word(" class").put(out),
+            Place::Field(n) => Then(Word(" field "), Number(n as u64)).put(out),
+            Place::Method(n) => Then(Word(" method "), Number(n as u64)).put(out),
         }
     }
 }

@@ -1,12 +1,15 @@
 //! What follows of the definition of answers alone.
 ghost use Rattle.classck.specs.Laws.{OneAnswer};
 
-use classfile::{no_fault_in_class, one_fault};
+use classfile::{no_fault_in_class, no_fault_in_formed, one_class, one_fault, one_first_fault};
 
 /// To a request about files that were read so there is one text and one status.
 pub fn one_answer()
     ensures { OneAnswer }
 {
+    one_class();
     no_fault_in_class();
     one_fault();
+    no_fault_in_formed();
+    one_first_fault();
 }

@@ -10,6 +10,7 @@ use layout::{ReadFault, StreamFault};
 use std::alloc::{AllocError, Global};
 use std::hash::RandomState;
 use std::io::{self, Write};
+use std::process::Abort;
 use std::test::*;
 
 const K: [u8; 97] = [
@@ -154,6 +155,44 @@ fn a_refused_file(rt: HostRuntime) -> Result<(), Fail> {
     let status = answer(rt.alloc(), &asked, &reads, hasher, &mut out).expect(&rt, "an answer");
     assert_eq!(rt; status, 1);
     assert!(rt; out.as_slice() == b"refused 2 at 95\n".as_slice());
+    Ok(())
+}
+
+/// What `check` prints of a file of these bytes, and its status.
+fn checked(
+    rt: &impl Abort,
+    alloc: Global,
+    hasher: RandomState,
+    bytes: &[u8],
+) -> Result<(u8, Vec<u8>), AllocError> {
+    let mut out: Vec<u8> = Vec::new(alloc);
+    let asked = one_file(alloc)?;
+    let reads = one_read(alloc, bytes)?;
+    let status = answer(alloc, &asked, &reads, hasher, &mut out).expect(rt, "an answer");
+    Ok((status, out))
+}
+
+/// Where the class is no class or its flags do not fit, and where its code is empty.
+#[test]
+fn malformed_classes(rt: HostRuntime) -> Result<(), Fail> {
+    for (place, byte, line) in [
+        (59, 2, "refused 21 class\n"),
+        (56, 2, "refused 24 class\n"),
+        (12, 9, "refused 20 pool 1\n"),
+    ] {
+        let mut bytes = K.to_vec(rt.alloc())?;
+        assert!(rt; place < bytes.len());
+        bytes[place] = byte;
+        let (status, out) = checked(&rt, rt.alloc(), RandomState::new(&rt)?, &bytes)?;
+        assert!(rt; status == 1 && out.as_slice() == line.as_bytes());
+    }
+    let mut bytes = K[..81].to_vec(rt.alloc())?;
+    bytes.push(0x0C)?;
+    bytes.extend_from_slice(&K[82..89])?;
+    bytes.push(0)?;
+    bytes.extend_from_slice(&K[91..])?;
+    let (status, out) = checked(&rt, rt.alloc(), RandomState::new(&rt)?, &bytes)?;
+    assert!(rt; status == 1 && out.as_slice() == b"refused 29 method 0\n".as_slice());
     Ok(())
 }
 

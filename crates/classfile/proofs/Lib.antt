@@ -2,6 +2,13 @@ pub mod Bodies
 pub mod ClassMeasure
 pub mod Classes
 pub mod Encodings
+pub mod FirstFaults
+pub mod FormedNames
+pub mod LeastRules
 pub mod Measures
+pub mod NamingLaws
+pub mod Places
+pub mod SeenLaws
 pub mod Steps
+pub mod Tables
 pub mod Whole

@@ -4,6 +4,9 @@
 //! [`decode`] answers a class exactly where the bytes spell one, and otherwise the first fault in the
 //! file's order; [`encode`] answers the one spelling, exactly where there is one.
 //!
+//! [`form_check`] answers a [`Formed`] exactly where a class is well formed (`specs/WellFormed.antt`), and otherwise the
+//! first place at which a rule is broken, with the least number.
+//!
 //! | File | What it holds |
 //! |---|---|
 //! | `class_file` | [`ClassFile`], its version and what stands behind its pool |
@@ -15,17 +18,34 @@
 //! | `table` | a count and so many items, for all tables of a class file |
 //! | `decoding`, `encoding` | the two calls |
 //! | `laws` | that they undo one another |
+//! | `form` | [`form_check`], [`Formed`], and the places one after the other |
+//! | `form_fault` | [`FormRule`], [`Place`] and [`FormFault`] |
+//! | `constant_form`, `class_form`, `member_form`, `attribute_form` | which rule is broken at a place |
+//! | `indices`, `naming`, `flags` | what an index leads to, forms of names and descriptors, access flags |
+//! | `signatures` | the names and descriptors that were met |
+//! | `form_laws` | what the rules mean, and that there is one first fault |
 #![tactic(auto)]
 
 mod attribute;
+mod attribute_form;
 mod class_file;
+mod class_form;
 mod code;
+mod constant_form;
 mod decoding;
 mod encoding;
+pub mod flags;
+mod form;
+mod form_fault;
+mod form_laws;
+mod indices;
 mod laws;
 mod location;
 mod member;
+mod member_form;
+mod naming;
 mod nested;
+mod signatures;
 mod table;
 
 pub use attribute::Attribute;
@@ -33,10 +53,17 @@ pub use class_file::ClassFile;
 pub use code::{CodeAttr, ExceptionHandler};
 pub use decoding::decode;
 pub use encoding::encode;
+pub use form::{Formed, form_check};
+pub use form_fault::{FormFault, FormRule, Place};
+pub use form_laws::{
+    formed_has_names, least_rule_is_told, no_fault_in_formed, one_first_fault, tests_are_forms,
+};
 pub use laws::{class_or_fault, no_fault_in_class, one_class, one_fault, one_spelling};
 pub use location::Location;
 pub use member::Member;
 pub use nested::NestedAttribute;
 
+#[cfg(test)]
+mod form_tests;
 #[cfg(test)]
 mod tests;

@@ -5,7 +5,7 @@ use std::process::Abort;
 use std::test::*;
 
 /// A class with one static method `f` that returns.
-const K: [u8; 97] = [
+pub const K: [u8; 97] = [
     0xCA, 0xFE, 0xBA, 0xBE, 0, 0, 0, 0x34, 0, 8, 7, 0, 2, 1, 0, 1, 0x4B, 7, 0, 4, 1, 0, 0x10, 0x6A,
     0x61, 0x76, 0x61, 0x2F, 0x6C, 0x61, 0x6E, 0x67, 0x2F, 0x4F, 0x62, 0x6A, 0x65, 0x63, 0x74, 1, 0,
     1, 0x66, 1, 0, 3, 0x28, 0x29, 0x56, 1, 0, 4, 0x43, 0x6F, 0x64, 0x65, 0, 0x21, 0, 1, 0, 3, 0, 0,
@@ -16,7 +16,7 @@ const K: [u8; 97] = [
 /// The text `StackMapTable` as a constant.
 const STACK_MAP_TABLE: &[u8] = b"\x01\x00\x0DStackMapTable";
 
-fn changed(rt: &impl Abort, alloc: Global, place: usize, byte: u8) -> Result<Vec<u8>, Fail> {
+pub fn changed(rt: &impl Abort, alloc: Global, place: usize, byte: u8) -> Result<Vec<u8>, Fail> {
     let mut bytes = K.to_vec(alloc)?;
     assert!(rt; place < bytes.len());
     bytes[place] = byte;

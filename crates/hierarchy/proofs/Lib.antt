@@ -5,3 +5,4 @@ pub mod Table
 pub mod Worlds
 pub mod Subclass
 pub mod Ancestors
+pub mod Summaries

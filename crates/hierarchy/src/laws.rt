@@ -1,7 +1,10 @@
-//! Laws of faults, of chains of superclasses and of worlds.
+//! Laws of faults, of chains of superclasses, of worlds and of summaries.
 ghost use Rattle.hierarchy.specs.Answer.{HasOneSubclassAnswer};
+ghost use Rattle.hierarchy.specs.ClassSummary.{SummaryHasTexts};
 ghost use Rattle.hierarchy.specs.Faults.{FaultsBreakRules};
 ghost use Rattle.hierarchy.specs.Extends.{KeepsSubclasses, ExtendsItself, ChainsAreSteps};
+
+use classfile::formed_has_names;
 
 /// What is a subclass in a list of classes is one in each world that extends the list.
 pub fn keeps_subclasses()
@@ -27,3 +30,10 @@ pub fn has_one_subclass_answer()
 pub fn faults_break_rules()
     ensures { FaultsBreakRules }
 {}
+
+/// The texts of the summary of a class that is well formed are those that its constants lead to.
+pub fn summary_has_texts()
+    ensures { SummaryHasTexts }
+{
+    formed_has_names();
+}

@@ -1,6 +1,7 @@
 //! The classes that a class is verified against, their superclasses, and what is asked of them. Proved against the finite chains of superclasses in specs/World.antt (JVMS 4.10.1.2). The call to know is [`Chains::new`], which makes a list of summaries answer as [`Classes`].
 //!
 //! - `summary`: what is known of a class, and the names that the standard fixes.
+//! - `class_summary`: the summary of a class file.
 //! - `answer`: yes, no, or a class that would be needed and is absent.
 //! - `classes`: the questions, whatever keeps the classes.
 //! - `fault`: why a list of classes is refused.
@@ -14,6 +15,7 @@
 
 mod answer;
 mod chains;
+mod class_summary;
 mod classes;
 mod cycles;
 mod fault;
@@ -25,6 +27,7 @@ mod summary;
 
 pub use answer::Answer;
 pub use chains::Chains;
+pub use class_summary::summary_of;
 pub use classes::Classes;
 pub use fault::HierarchyFault;
 pub use summary::{CLONEABLE, Kind, MemberSummary, OBJECT, SERIALIZABLE, Summary};

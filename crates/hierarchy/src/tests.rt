@@ -1,4 +1,5 @@
 use super::*;
+use classfile::{decode, form_check};
 use std::alloc::Global;
 use std::hash::{BuildHasherDefault, FoldHasher};
 use std::process::Abort;
@@ -22,6 +23,15 @@ fn class<'a>(
 fn hasher() -> BuildHasherDefault<FoldHasher> {
     BuildHasherDefault::new()
 }
+
+/// A class with one static method `f` that returns.
+const K: [u8; 97] = [
+    0xCA, 0xFE, 0xBA, 0xBE, 0, 0, 0, 0x34, 0, 8, 7, 0, 2, 1, 0, 1, 0x4B, 7, 0, 4, 1, 0, 0x10, 0x6A,
+    0x61, 0x76, 0x61, 0x2F, 0x6C, 0x61, 0x6E, 0x67, 0x2F, 0x4F, 0x62, 0x6A, 0x65, 0x63, 0x74, 1, 0,
+    1, 0x66, 1, 0, 3, 0x28, 0x29, 0x56, 1, 0, 4, 0x43, 0x6F, 0x64, 0x65, 0, 0x21, 0, 1, 0, 3, 0, 0,
+    0, 0, 0, 1, 0, 9, 0, 5, 0, 6, 0, 1, 0, 7, 0, 0, 0, 0x0D, 0, 0, 0, 0, 0, 0, 0, 1, 0xB1, 0, 0, 0,
+    0, 0, 0,
+];
 
 // Why a list is refused, or none.
 fn refusal<'a>(alloc: Global, classes: &[Summary<'a>]) -> Option<HierarchyFault<'a>> {
@@ -133,5 +143,51 @@ fn want_of_memory(rt: HostRuntime) {
     match refusal(alloc, &list) {
         None => {}
         Some(fault) => assert_eq!(rt; fault, HierarchyFault::OutOfMemory),
+    }
+}
+
+/// The summary of the class; none where memory runs out.
+fn summary_of_k(rt: &impl Abort, alloc: Global) -> Option<Summary<'static>> {
+    let Ok(class) = decode(alloc, &K) else {
+        return None;
+    };
+    match form_check(alloc, &class) {
+        Ok(formed) => summary_of(alloc, &formed).ok(),
+        Err(fault) => {
+            assert!(rt; fault.number() == 1);
+            None
+        }
+    }
+}
+
+fn is_summary_of_k(summary: &Summary<'_>) -> bool {
+    let [member] = summary.members.as_slice() else {
+        return false;
+    };
+    let f = MemberSummary {
+        name: b"f",
+        descriptor: b"()V",
+        kind: Kind::Method,
+        is_static: true,
+        is_protected: false,
+    };
+    summary.name == b"K".as_slice()
+        && summary.superclass == Some(OBJECT)
+        && !summary.interface
+        && !summary.is_final
+        && *member == f
+}
+
+#[test]
+fn a_summary(rt: HostRuntime) {
+    let summary = summary_of_k(&rt, rt.alloc()).expect(&rt, "a summary");
+    assert!(rt; is_summary_of_k(&summary));
+}
+
+/// Where memory runs out there is no summary, and otherwise the whole one.
+#[test]
+fn memory_runs_out_for_a_summary(rt: HostRuntime) {
+    if let Some(summary) = summary_of_k(&rt, rt.alloc()) {
+        assert!(rt; is_summary_of_k(&summary));
     }
 }

@@ -1,6 +1,9 @@
 use Rattle.classfile.specs.Views.{class_view}
-use Rattle.classck.proofs.Judgements.{told}
+use Rattle.classck.proofs.Judgements.{class_told, refused}
 use Rattle.classck.proofs.checking.judged.Goals as goal
 
-pub returns : goal.returns
-returns c = told class_view c.args.bytes.now c.decode.result c.decode.ensures.found c.decode.ensures.fault c.verdict.result c.verdict.ensures
+pub returns-in-Ok : goal.returns-in-Ok
+returns-in-Ok c = class_told c.args.bytes.now (class_view c.in-Ok.class) c.in-Ok.ensures.found c.formed.result c.formed.ensures
+
+pub returns-in-Err : goal.returns-in-Err
+returns-in-Err c = refused c.args.bytes.now c.in-Err.fault c.in-Err.ensures.fault c.refused.result c.refused.ensures

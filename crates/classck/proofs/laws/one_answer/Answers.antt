@@ -2,4 +2,11 @@ use Rattle.classck.proofs.OneAnswer.{same_answer}
 use Rattle.classck.proofs.laws.one_answer.Goals as goal
 
 pub returns : goal.returns
-returns c = same_answer c.no_fault_in_class.ensures c.one_fault.ensures
+returns c =
+    same_answer record {
+      one_class = c.one_class.ensures;
+      not_both = c.no_fault_in_class.ensures;
+      one_fault = c.one_fault.ensures;
+      not_formed = c.no_fault_in_formed.ensures;
+      one_first = c.one_first_fault.ensures;
+    }

@@ -1,0 +1,20 @@
+use Rattle.std.proofs.Common.{rules, tests, ◌≡◌, ◌∙◌, Bool}
+use Rattle.std.specs.List.{list_any}
+use Rattle.std.proofs.lemmas.Iterator.{YieldsList-from_slice}
+use Rattle.std.proofs.lemmas.Iterator.Search.{any_from_yields_List}
+use Rattle.classfile.specs.AttributeForm.{handlers_have_other}
+use Rattle.classfile.specs.Indices.{is_other}
+use Rattle.classfile.specs.declared.indices.ConstantKind.TheVariants as kinds
+use Rattle.classfile.specs.Values.{Handler}
+use Rattle.classfile.specs.Views.{handler_view}
+use Rattle.classfile.proofs.Tables.{any_viewed}
+use Rattle.classfile.proofs.attribute_form.handlers_have_other.Goals as goal
+
+pub returns : goal.returns
+unfolding handlers_have_other
+returns c =
+    let xs = c.args.handlers.now in
+    let test : Handler → Bool = λ h. is_other c.args.pool.now kinds.Class h.catch_type in
+    let e : c.any.result ≡ list_any (λ a. test (handler_view a)) xs =
+    any_from_yields_List (λ a. test (handler_view a)) _ _ c.any.result c.any.ensures.ran (YieldsList-from_slice xs cc) (λ x b q k. search (rules, tests)) in
+    e ∙ any_viewed test handler_view xs

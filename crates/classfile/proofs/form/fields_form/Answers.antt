@@ -1,0 +1,38 @@
+use Rattle.std.proofs.Common.{◌≡◌, ◌∙◌, ◌≤◌, refl, sym, ap, subst, Some, None, length, take, map, arith, slice_index_or}
+use Rattle.std.specs.Prelude.{slice_get}
+use Rattle.std.proofs.lemmas.List.{length-map}
+use Rattle.classfile.specs.declared.form_fault.Place.TheVariants as places
+use Rattle.classfile.specs.Seen.{AreSeen}
+use Rattle.classfile.specs.Views.{class_view, member_view}
+use Rattle.classfile.specs.WellFormed.{fault_at}
+use Rattle.classfile.proofs.Places.{field_told, field_past, viewed_at, take_one_more, none_more, none_at_all}
+use Rattle.classfile.proofs.form.fields_form.Goals as goal
+
+pub returns-in-Some : goal.returns-in-Some
+returns-in-Some c =
+    let k = class_view c.args.class.now in
+    let n = c.loop-n.n in
+    let m = member_view c.field-item.result in
+    let met = c.in_ok-repeated.ensures in
+    let here : slice_get k.fields n ≡ Some m =
+    ap (λ l. slice_get (map member_view l) n) (sym c.deref-field-items.ensures.value) ∙ viewed_at member_view c.deref-field-items.result.now n c.field-item.result c.loop-n-test.true c.field-item.is in
+    (n, refl, field_told k n m c.in_ok-repeated.repeated here (met.repeats (take n k.fields) c.loop-n.invariant.met) ∙ sym c.in-Some.ensures, c.loop-n.invariant.none)
+
+pub loop-n-preserved : goal.loop-n-preserved
+loop-n-preserved c =
+    let k = class_view c.args.class.now in
+    let n = c.loop-n.n in
+    let m = member_view c.field-item.result in
+    let met = c.in_ok-repeated.ensures in
+    let here : slice_get k.fields n ≡ Some m =
+    ap (λ l. slice_get (map member_view l) n) (sym c.deref-field-items.ensures.value) ∙ viewed_at member_view c.deref-field-items.result.now n c.field-item.result c.loop-n-test.true c.field-item.is in
+    record {
+      met = subst (λ l. AreSeen k.constant_pool l c.meet_member.new.self) (sym (take_one_more k.fields n m here)) (met.seen (take n k.fields) c.loop-n.invariant.met);
+      none = none_more k (λ i. places.Field i) n c.loop-n.invariant.none (field_told k n m c.in_ok-repeated.repeated here (met.repeats (take n k.fields) c.loop-n.invariant.met) ∙ sym c.in_default.ensures);
+    }
+
+pub returns : goal.returns
+returns c =
+    let k = class_view c.args.class.now in
+    let all : length k.fields ≤ c.loop-n.n = omega (arith, ap length c.deref-field-items.ensures.value, length-map c.args.class.now.fields.items member_view) in
+    none_at_all k (λ n. places.Field n) k.fields (field_past k) c.loop-n.n all c.loop-n.invariant.none

@@ -1,0 +1,35 @@
+use Rattle.std.proofs.Common.{◌≡◌, ◌∙◌, ◌+◌, ◌≤◌, refl, sym, ap, Some, None, length, arith}
+use Rattle.std.proofs.lemmas.List.{length-map}
+use Rattle.std.specs.Prelude.{slice_get}
+use Rattle.pool.specs.Entries.{Entry}
+use Rattle.pool.specs.Views.{view, views}
+use Rattle.classfile.specs.declared.form_fault.Place.TheVariants as places
+use Rattle.classfile.specs.Views.{class_view}
+use Rattle.classfile.specs.WellFormed.{fault_at}
+use Rattle.classfile.proofs.Places.{entry_is, entry_past, viewed_at, none_more, none_at_all, earlier_entries, all_entries}
+use Rattle.classfile.proofs.form.pool_form.Goals as goal
+
+pub returns-in-Some : goal.returns-in-Some
+returns-in-Some c =
+    let k = class_view c.args.class.now in
+    let at = c.loop-place.place in
+    let constants = c.constants-constant-items in
+    let here : slice_get k.constant_pool at ≡ Some (view c.constant-item.result) =
+    ap (λ l. slice_get l at) (sym constants.ensures) ∙ viewed_at view constants.result.now at c.constant-item.result c.loop-place-test.true c.constant-item.is in
+    (at + 1, refl, entry_is k at (view c.constant-item.result) here ∙ sym c.in_ok-rule.ensures ∙ c.in-Some.is, earlier_entries k at c.loop-place.invariant)
+
+pub loop-place-preserved : goal.loop-place-preserved
+loop-place-preserved c =
+    let k = class_view c.args.class.now in
+    let at = c.loop-place.place in
+    let constants = c.constants-constant-items in
+    let here : slice_get k.constant_pool at ≡ Some (view c.constant-item.result) =
+    ap (λ l. slice_get l at) (sym constants.ensures) ∙ viewed_at view constants.result.now at c.constant-item.result c.loop-place-test.true c.constant-item.is in
+    none_more k (λ n. places.Pool (n + 1)) at c.loop-place.invariant (entry_is k at (view c.constant-item.result) here ∙ sym c.in_ok-rule.ensures ∙ c.in_default.is)
+
+pub returns : goal.returns
+returns c =
+    let k = class_view c.args.class.now in
+    let constants = c.constants-constant-items in
+    let all : length k.constant_pool ≤ c.loop-place.place = omega (arith, ap length constants.ensures, length-map constants.result.now view) in
+    all_entries k (none_at_all k (λ n. places.Pool (n + 1)) k.constant_pool (entry_past k) c.loop-place.place all c.loop-place.invariant)

@@ -1,0 +1,197 @@
+//! What may be wrong with attributes: their names, and what Code attributes hold (JVMS 4.7, 4.7.3).
+ghost use Rattle.std.specs.Prelude.{◌≡◌, map};
+ghost use Rattle.layout.specs.PieceLaws.{name_of};
+ghost use Rattle.classfile.specs.AttributeForm.{is_by_field, on_body, handlers_have_bad, handlers_have_other, nested_have_bad, nested_have_other, code_has_bad, code_has_other, has_bad_length, has_two_stack_maps, attribute_has_bad, attribute_has_other, attributes_have_bad, attributes_have_other, have_bad_length, code_stands_twice, stack_map_stands_twice, have_twice};
+ghost use Rattle.classfile.specs.MemberForm.{has_code};
+ghost use Rattle.classfile.specs.Views.{attribute_view, handler_view, nested_view, code_view};
+
+use crate::attribute::Attribute;
+use crate::code::{CodeAttr, ExceptionHandler};
+use crate::indices::{ConstantKind, is_bad, is_bad_unless_zero, is_other};
+use crate::nested::NestedAttribute;
+use pool::Pool;
+
+/// The index of the attribute's name.
+fn name_of(attribute: &Attribute<'_>) -> u16
+    ensures { result ≡ name_of (attribute_view attribute.now) }
+{
+    match attribute {
+        Attribute::Code { name, .. } | Attribute::Raw { name, .. } => *name,
+    }
+}
+
+/// The index of the nested attribute's name.
+fn nested_name_of(attribute: &NestedAttribute<'_>) -> u16
+    ensures { result ≡ name_of (nested_view attribute.now) }
+{
+    match attribute {
+        NestedAttribute::StackMapTable { name, .. } | NestedAttribute::Raw { name, .. } => *name,
+    }
+}
+
+fn is_stack_map(attribute: &NestedAttribute<'_>) -> bool
+    ensures { result ≡ is_by_field (nested_view attribute.now) }
+{
+    matches!(attribute, NestedAttribute::StackMapTable { .. })
+}
+
+fn is_code(attribute: &Attribute<'_>) -> bool
+    ensures { result ≡ is_by_field (attribute_view attribute.now) }
+{
+    matches!(attribute, Attribute::Code { .. })
+}
+
+#[tactic(auto, unfolding(crate::specs::AttributeForm::handlers_have_bad))]
+fn handlers_have_bad(pool: &Pool<'_>, handlers: &[ExceptionHandler]) -> bool
+    ensures { result ≡ handlers_have_bad pool.now (map handler_view handlers.now) }
+{
+    handlers
+        .iter()
+        .any(|h| is_bad_unless_zero(pool, h.catch_type))
+}
+
+#[tactic(auto, unfolding(crate::specs::AttributeForm::handlers_have_other))]
+fn handlers_have_other(pool: &Pool<'_>, handlers: &[ExceptionHandler]) -> bool
+    ensures { result ≡ handlers_have_other pool.now (map handler_view handlers.now) }
+{
+    handlers
+        .iter()
+        .any(|h| is_other(pool, ConstantKind::Class, h.catch_type))
+}
+
+#[tactic(auto, unfolding(crate::specs::AttributeForm::nested_have_bad))]
+fn nested_have_bad(pool: &Pool<'_>, attributes: &[NestedAttribute<'_>]) -> bool
+    ensures { result ≡ nested_have_bad pool.now (map nested_view attributes.now) }
+{
+    attributes.iter().any(|a| is_bad(pool, nested_name_of(a)))
+}
+
+#[tactic(auto, unfolding(crate::specs::AttributeForm::nested_have_other))]
+fn nested_have_other(pool: &Pool<'_>, attributes: &[NestedAttribute<'_>]) -> bool
+    ensures { result ≡ nested_have_other pool.now (map nested_view attributes.now) }
+{
+    attributes
+        .iter()
+        .any(|a| is_other(pool, ConstantKind::Utf8, nested_name_of(a)))
+}
+
+#[tactic(auto, unfolding(crate::specs::AttributeForm::code_has_bad))]
+fn code_has_bad(pool: &Pool<'_>, code: &CodeAttr<'_>) -> bool
+    ensures { result ≡ code_has_bad pool.now (code_view code.now) }
+{
+    handlers_have_bad(pool, &code.exception_table) || nested_have_bad(pool, &code.attributes)
+}
+
+#[tactic(auto, unfolding(crate::specs::AttributeForm::code_has_other))]
+fn code_has_other(pool: &Pool<'_>, code: &CodeAttr<'_>) -> bool
+    ensures { result ≡ code_has_other pool.now (code_view code.now) }
+{
+    handlers_have_other(pool, &code.exception_table) || nested_have_other(pool, &code.attributes)
+}
+
+fn has_bad_length(code: &CodeAttr<'_>) -> bool
+    ensures { result ≡ has_bad_length (code_view code.now) }
+{
+    code.code.is_empty() || code.code.len() > 65_535
+}
+
+#[tactic(auto, unfolding(crate::specs::AttributeForm::has_two_stack_maps))]
+fn has_two_stack_maps(code: &CodeAttr<'_>) -> bool
+    ensures { result ≡ has_two_stack_maps (code_view code.now) }
+{
+    code.attributes.iter().filter(|a| is_stack_map(a)).count() > 1
+}
+
+#[tactic(auto, unfolding(crate::specs::AttributeForm::attribute_has_bad))]
+fn attribute_has_bad(pool: &Pool<'_>, attribute: &Attribute<'_>) -> bool
+    ensures { result ≡ attribute_has_bad pool.now (attribute_view attribute.now) }
+{
+    match attribute {
+        Attribute::Code { name, code } => is_bad(pool, *name) || code_has_bad(pool, code),
+        Attribute::Raw { name, .. } => is_bad(pool, *name),
+    }
+}
+
+#[tactic(auto, unfolding(crate::specs::AttributeForm::attribute_has_other))]
+fn attribute_has_other(pool: &Pool<'_>, attribute: &Attribute<'_>) -> bool
+    ensures { result ≡ attribute_has_other pool.now (attribute_view attribute.now) }
+{
+    match attribute {
+        Attribute::Code { name, code } => {
+            is_other(pool, ConstantKind::Utf8, *name) || code_has_other(pool, code)
+        }
+        Attribute::Raw { name, .. } => is_other(pool, ConstantKind::Utf8, *name),
+    }
+}
+
+fn code_is_badly_long(attribute: &Attribute<'_>) -> bool
+    ensures { result ≡ on_body has_bad_length (attribute_view attribute.now) }
+{
+    match attribute {
+        Attribute::Code { code, .. } => has_bad_length(code),
+        Attribute::Raw { .. } => false,
+    }
+}
+
+fn code_has_two_stack_maps(attribute: &Attribute<'_>) -> bool
+    ensures { result ≡ on_body has_two_stack_maps (attribute_view attribute.now) }
+{
+    match attribute {
+        Attribute::Code { code, .. } => has_two_stack_maps(code),
+        Attribute::Raw { .. } => false,
+    }
+}
+
+/// Whether an index in the attributes may not be looked up.
+#[tactic(auto, unfolding(crate::specs::AttributeForm::attributes_have_bad))]
+pub fn attributes_have_bad(pool: &Pool<'_>, attributes: &[Attribute<'_>]) -> bool
+    ensures { result ≡ attributes_have_bad pool.now (map attribute_view attributes.now) }
+{
+    attributes.iter().any(|a| attribute_has_bad(pool, a))
+}
+
+/// Whether an index in the attributes leads to another kind.
+#[tactic(auto, unfolding(crate::specs::AttributeForm::attributes_have_other))]
+pub fn attributes_have_other(pool: &Pool<'_>, attributes: &[Attribute<'_>]) -> bool
+    ensures { result ≡ attributes_have_other pool.now (map attribute_view attributes.now) }
+{
+    attributes.iter().any(|a| attribute_has_other(pool, a))
+}
+
+/// Whether a Code attribute is among them.
+#[tactic(auto, unfolding(crate::specs::MemberForm::has_code))]
+pub fn has_code(attributes: &[Attribute<'_>]) -> bool
+    ensures { result ≡ has_code (map attribute_view attributes.now) }
+{
+    attributes.iter().any(|a| is_code(a))
+}
+
+/// Whether the code of one of them has not 1 to 65,535 bytes.
+#[tactic(auto, unfolding(crate::specs::AttributeForm::have_bad_length))]
+pub fn have_bad_length(attributes: &[Attribute<'_>]) -> bool
+    ensures { result ≡ have_bad_length (map attribute_view attributes.now) }
+{
+    attributes.iter().any(|a| code_is_badly_long(a))
+}
+
+#[tactic(auto, unfolding(crate::specs::AttributeForm::code_stands_twice))]
+fn code_stands_twice(attributes: &[Attribute<'_>]) -> bool
+    ensures { result ≡ code_stands_twice (map attribute_view attributes.now) }
+{
+    attributes.iter().filter(|a| is_code(a)).count() > 1
+}
+
+#[tactic(auto, unfolding(crate::specs::AttributeForm::stack_map_stands_twice))]
+fn stack_map_stands_twice(attributes: &[Attribute<'_>]) -> bool
+    ensures { result ≡ stack_map_stands_twice (map attribute_view attributes.now) }
+{
+    attributes.iter().any(|a| code_has_two_stack_maps(a))
+}
+
+/// Whether two Code attributes are among them, or in one of these two StackMapTables.
+#[tactic(auto, unfolding(crate::specs::AttributeForm::have_twice))]
+pub fn have_twice(attributes: &[Attribute<'_>]) -> bool
+    ensures { result ≡ have_twice (map attribute_view attributes.now) }
+{
+    code_stands_twice(attributes) || stack_map_stands_twice(attributes)
+}

@@ -1,0 +1,34 @@
+//! What follows of the definition of well-formed classes alone, whatever the code does.
+ghost use Rattle.classfile.specs.FormLaws.{LeastIsTold, NoneIsTold, OneFirstFault, NoFaultInFormed, FormedHasNames, NamesAreForms, DescriptorsAreSpellings};
+
+use names::{field_answers, method_answers};
+
+/// Of a place that rule is told which has the least number of those that are broken there.
+pub fn least_rule_is_told()
+    ensures some { LeastIsTold }
+    ensures none { NoneIsTold }
+{}
+
+/// A class has at most one first fault.
+pub fn one_first_fault()
+    ensures { OneFirstFault }
+{}
+
+/// A class that is well formed has none.
+pub fn no_fault_in_formed()
+    ensures { NoFaultInFormed }
+{}
+
+/// The tests of names and descriptors are the forms of names and the grammar of descriptors within their limits.
+pub fn tests_are_forms()
+    ensures names { NamesAreForms }
+    ensures descriptors { DescriptorsAreSpellings }
+{
+    field_answers();
+    method_answers();
+}
+
+/// A class that is well formed has the texts that it names itself, its superclass and its members by.
+pub fn formed_has_names()
+    ensures { FormedHasNames }
+{}

@@ -1,0 +1,205 @@
+//! Which rule a field or a method breaks (JVMS 4.5, 4.6).
+ghost use Rattle.std.specs.Prelude.{◌≡◌, IfOk};
+ghost use Rattle.classfile.specs.Conditions.{broken_rule};
+ghost use Rattle.classfile.specs.MemberForm.{member_has_bad, member_has_other, field_conditions, may_name_method, is_bad_method_name, may_describe_method, is_badly_described, is_instance_initializer, is_class_initializer, is_badly_flagged, has_body, body_conditions, method_conditions};
+ghost use Rattle.classfile.specs.Views.{member_view};
+ghost use Rattle.pool.specs.Lookups.{Answers, named};
+ghost use Rattle.pool.specs.Views.{name_and_type_view};
+
+use crate::attribute_form::{
+    attributes_have_bad, attributes_have_other, has_code, have_bad_length, have_twice,
+};
+use crate::constant_form::{
+    is_no_field_descriptor, is_no_unqualified_name, texts_have_bad, texts_have_other,
+};
+use crate::flags::{ABSTRACT, NATIVE, STATIC, are_bad_field_flags, are_bad_method_flags, has};
+use crate::form_fault::FormRule;
+use crate::member::Member;
+use crate::naming::{fits_method, is_clinit, is_init, is_method_name};
+use names::Text;
+use pool::{NameAndType, Pool, PoolFault};
+use std::alloc::{AllocError, Global};
+
+#[tactic(auto, unfolding(crate::specs::MemberForm::member_has_bad))]
+fn member_has_bad(pool: &Pool<'_>, member: &Member<'_>) -> bool
+    ensures { result ≡ member_has_bad pool.now (member_view member.now) }
+{
+    texts_have_bad(pool, member.name, member.descriptor)
+        || attributes_have_bad(pool, &member.attributes)
+}
+
+#[tactic(auto, unfolding(crate::specs::MemberForm::member_has_other))]
+fn member_has_other(pool: &Pool<'_>, member: &Member<'_>) -> bool
+    ensures { result ≡ member_has_other pool.now (member_view member.now) }
+{
+    texts_have_other(pool, member.name, member.descriptor)
+        || attributes_have_other(pool, &member.attributes)
+}
+
+/// The rule that a field breaks; `repeated` where an earlier one has its name and descriptor.
+pub fn field_rule(pool: &Pool<'_>, repeated: bool, field: &Member<'_>) -> Option<FormRule>
+    ensures { result ≡ broken_rule (field_conditions pool.now repeated (member_view field.now)) }
+{
+    if member_has_bad(pool, field) {
+        Some(FormRule::BadIndex)
+    } else if member_has_other(pool, field) {
+        Some(FormRule::WrongKind)
+    } else if is_no_unqualified_name(pool, field.name) {
+        Some(FormRule::BadName)
+    } else if is_no_field_descriptor(pool, field.descriptor) {
+        Some(FormRule::BadDescriptor)
+    } else if are_bad_field_flags(field.access_flags) {
+        Some(FormRule::BadFlags)
+    } else if repeated {
+        Some(FormRule::Twice)
+    } else {
+        None
+    }
+}
+
+fn may_name_method(interface: bool, name: Text<'_>) -> bool
+    ensures { result ≡ may_name_method interface name.entry.bytes.now }
+{
+    if is_init(name) {
+        !interface
+    } else {
+        is_clinit(name) || is_method_name(name)
+    }
+}
+
+#[tactic(auto, unfolding(crate::specs::MemberForm::is_bad_method_name))]
+fn is_bad_method_name(pool: &Pool<'_>, interface: bool, index: u16) -> bool
+    ensures { result ≡ is_bad_method_name pool.now interface index }
+{
+    match pool.text(index) {
+        Ok(name) => !may_name_method(interface, name),
+        Err(_) => false,
+    }
+}
+
+fn may_describe_method(
+    alloc: Global,
+    receiver: bool,
+    named: NameAndType<'_>,
+) -> Result<bool, AllocError>
+    ensures { IfOk result (λ b. b ≡ may_describe_method receiver (name_and_type_view named.entry)) }
+{
+    if is_clinit(named.name) {
+        Ok(named.descriptor.bytes() == b"()V".as_slice())
+    } else {
+        fits_method(alloc, receiver, named.name, named.descriptor)
+    }
+}
+
+/// The texts of the member's name and descriptor; or 8 or 9 with the index at fault, that of the name first.
+#[tactic(auto, unfolding(pool::specs::Lookups::named))]
+pub fn texts<'a>(pool: &Pool<'a>, member: &Member<'_>) -> Result<NameAndType<'a>, PoolFault>
+    ensures { Answers name_and_type_view (named pool.now member.now.name member.now.descriptor) result }
+{
+    let name = pool.text(member.name)?;
+    let descriptor = pool.text(member.descriptor)?;
+    Ok(NameAndType { name, descriptor })
+}
+
+#[tactic(auto, unfolding(crate::specs::MemberForm::is_badly_described))]
+fn is_badly_described(
+    alloc: Global,
+    pool: &Pool<'_>,
+    method: &Member<'_>,
+) -> Result<bool, AllocError>
+    ensures { IfOk result (λ b. b ≡ is_badly_described pool.now (member_view method.now)) }
+{
+    match texts(pool, method) {
+        Ok(named) => {
+            let receiver = !has(method.access_flags, STATIC);
+            Ok(!may_describe_method(alloc, receiver, named)?)
+        }
+        Err(_) => Ok(false),
+    }
+}
+
+#[tactic(auto, unfolding(crate::specs::MemberForm::is_instance_initializer))]
+fn is_instance_initializer(pool: &Pool<'_>, method: &Member<'_>) -> bool
+    ensures { result ≡ is_instance_initializer pool.now (member_view method.now) }
+{
+    match pool.text(method.name) {
+        Ok(name) => is_init(name),
+        Err(_) => false,
+    }
+}
+
+#[tactic(auto, unfolding(crate::specs::MemberForm::is_class_initializer))]
+fn is_class_initializer(pool: &Pool<'_>, method: &Member<'_>) -> bool
+    ensures { result ≡ is_class_initializer pool.now (member_view method.now) }
+{
+    match pool.text(method.name) {
+        Ok(name) => is_clinit(name),
+        Err(_) => false,
+    }
+}
+
+#[tactic(auto, unfolding(crate::specs::MemberForm::is_badly_flagged))]
+fn is_badly_flagged(pool: &Pool<'_>, method: &Member<'_>) -> bool
+    ensures { result ≡ is_badly_flagged pool.now (member_view method.now) }
+{
+    let init = is_instance_initializer(pool, method);
+    let clinit = is_class_initializer(pool, method);
+    are_bad_method_flags(init, clinit, method.access_flags)
+}
+
+/// Whether the method has a body, so that its Code has to stand there.
+#[tactic(auto, unfolding(crate::specs::MemberForm::has_body))]
+fn has_body(pool: &Pool<'_>, method: &Member<'_>) -> bool
+    ensures { result ≡ has_body pool.now (member_view method.now) }
+{
+    let flags = method.access_flags;
+    is_class_initializer(pool, method) || !(has(flags, NATIVE) || has(flags, ABSTRACT))
+}
+
+/// The rule that a method breaks in a class or in an interface; `repeated` where an earlier one has its name and
+/// descriptor.
+pub fn method_rule(
+    alloc: Global,
+    pool: &Pool<'_>,
+    interface: bool,
+    repeated: bool,
+    method: &Member<'_>,
+) -> Result<Option<FormRule>, AllocError>
+    ensures { IfOk result (λ r. r ≡ broken_rule (method_conditions pool.now interface repeated (member_view method.now))) }
+{
+    let rule = if member_has_bad(pool, method) {
+        Some(FormRule::BadIndex)
+    } else if member_has_other(pool, method) {
+        Some(FormRule::WrongKind)
+    } else if is_bad_method_name(pool, interface, method.name) {
+        Some(FormRule::BadName)
+    } else if is_badly_described(alloc, pool, method)? {
+        Some(FormRule::BadDescriptor)
+    } else if is_badly_flagged(pool, method) {
+        Some(FormRule::BadFlags)
+    } else if repeated {
+        Some(FormRule::Twice)
+    } else {
+        body_rule(pool, method)
+    };
+    Ok(rule)
+}
+
+/// The rule that a method breaks by its attributes.
+fn body_rule(pool: &Pool<'_>, method: &Member<'_>) -> Option<FormRule>
+    ensures { result ≡ broken_rule (body_conditions pool.now (member_view method.now)) }
+{
+    let has_body = has_body(pool, method);
+    let has_code = has_code(&method.attributes);
+    if has_body && !has_code {
+        Some(FormRule::CodeMissing)
+    } else if !has_body && has_code {
+        Some(FormRule::CodeNotAllowed)
+    } else if have_bad_length(&method.attributes) {
+        Some(FormRule::BadCodeLength)
+    } else if have_twice(&method.attributes) {
+        Some(FormRule::AttributeTwice)
+    } else {
+        None
+    }
+}
