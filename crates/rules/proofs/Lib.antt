@@ -2,3 +2,4 @@ pub mod Taking
 pub mod Settling
 pub mod Storing
 pub mod Moving
+pub mod Going

@@ -8,3 +8,4 @@ pub mod Reasons
 pub mod Bodies
 pub mod Views
 pub mod Outcomes
+pub mod Applied

@@ -1,5 +1,5 @@
 -- The instructions whose rules the verifier has. All others are refused 60, and so for good are jsr, ret and invokedynamic.
-use Rattle.std.specs.Prelude.{Bool, true, false, if◌then◌else◌}
+use Rattle.std.specs.Prelude.{ℤ, Bool, true, false, if◌then◌else◌, List, [], ◌∷◌}
 use Rattle.classfile.specs.Methods.{Method}
 use Rattle.insn.specs.Meanings as acts
 use Rattle.insn.specs.Meanings.{Act}
@@ -33,3 +33,13 @@ goes_on acts.ReturnVoid = false
 goes_on acts.Throw = false
 goes_on acts.Unsupported = false
 goes_on _ = true
+
+-- where an instruction branches to, by offsets from its own start, the default of a switch first
+abbrev pub branch_offsets : Act → List ℤ
+branch_offsets (acts.IfInt offset) = offset ∷ []
+branch_offsets (acts.IfInts offset) = offset ∷ []
+branch_offsets (acts.IfReferences offset) = offset ∷ []
+branch_offsets (acts.IfNull offset) = offset ∷ []
+branch_offsets (acts.Goto offset) = offset ∷ []
+branch_offsets (acts.Switch default offsets) = default ∷ offsets
+branch_offsets _ = []

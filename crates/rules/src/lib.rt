@@ -10,6 +10,8 @@
 //! - `constants`: instructions that load constants.
 //! - `want`: what is asked of an operand.
 //! - `running`: the rule of an instruction, on a frame in place.
+//! - `branching`, `ways`: where an instruction goes.
+//! - `applying`: the rule of an instruction, on a copy of the frame.
 //!
 //! Definitions:
 //!
@@ -21,7 +23,9 @@
 //! - `specs/Supported.antt`: the instructions whose rules are there yet.
 #![tactic(auto)]
 
+mod applying;
 mod body;
+mod branching;
 mod constants;
 mod families;
 mod kinds;
@@ -31,7 +35,11 @@ mod running;
 mod stacks;
 mod stores;
 mod want;
+mod ways;
 
+pub use applying::{After, Refusal, apply};
 pub use body::Body;
+pub use branching::Branches;
 pub use reason::Reason;
 pub use running::run;
+pub use ways::{branches, falls};
