@@ -31,5 +31,5 @@ pub record Leaves (m : Method Act) (at : ℕ) (p : Plan) (f : FrameFact) (a : Af
 -- After exactly where no condition holds; otherwise the least reason, or want of memory.
 pub record Applied (classes : List ClassFact) (m : Method Act) (at : ℕ) (p : Plan) (f : FrameFact) (r : Result After Refusal) : Type 0 where
   pub outcome : MatchResult r
-    (λ a. (least (conditions classes m at p f) ≡ None) × Leaves m at p f a)
-    (λ e. (e.own ≡ constructs_own p f) × ((e.reason ≡ OutOfMemory) ⊎ (least (conditions classes m at p f) ≡ Some (reason_view e.reason))))
+      (λ a. (least (conditions classes m at p f) ≡ None) × Leaves m at p f a)
+      (λ e. (e.own ≡ constructs_own p f) × ((e.reason ≡ OutOfMemory) ⊎ (least (conditions classes m at p f) ≡ Some (reason_view e.reason))))

@@ -43,3 +43,6 @@ pub use branching::Branches;
 pub use reason::Reason;
 pub use running::run;
 pub use ways::{branches, falls};
+
+#[cfg(test)]
+mod tests;
