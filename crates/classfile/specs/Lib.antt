@@ -9,8 +9,8 @@ pub mod FormLaws
 pub mod Indices
 pub mod Laws
 pub mod Locations
-pub mod Methods
 pub mod MemberForm
+pub mod Methods
 pub mod Naming
 pub mod Pieces
 pub mod Seen

@@ -10,8 +10,8 @@ use crate::frame::Frame;
 use crate::vtype::VType;
 use hierarchy::{Answer, Classes};
 
-// How many units of the stack an item takes.
-fn width(t: &VType) -> u8
+/// How many units of the stack an item takes: two for a long and a double, otherwise one (JVMS 2.6.2). Takes no memory.
+pub fn width(t: &VType) -> u8
     ensures { result ≡ width_of (type_of t.now) }
 {
     match *t {
@@ -35,8 +35,8 @@ fn slot_assignable<'n, C: Classes>(
     assignable(from, to, classes)
 }
 
-// Two answers as one: no before missing, and the first that is missing.
-fn both<'n>(one: Answer<'n>, other: Answer<'n>) -> Answer<'n>
+/// Two answers as one: no before missing, and the first that is missing.
+pub fn both<'n>(one: Answer<'n>, other: Answer<'n>) -> Answer<'n>
     ensures { outcome_of result ≡ both (outcome_of one.entry) (outcome_of other.entry) }
 {
     match one {

@@ -14,7 +14,7 @@ pub mod laws;
 mod vtype;
 
 pub use compare::assignable;
-pub use compare_frames::frame_assignable;
+pub use compare_frames::{both, frame_assignable, width};
 pub use frame::Frame;
 pub use vtype::VType;
 

@@ -1,1 +1,6 @@
 mod Examples
+pub mod Going
+pub mod Moving
+pub mod Settling
+pub mod Storing
+pub mod Taking

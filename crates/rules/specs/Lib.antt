@@ -3,3 +3,9 @@ pub mod Constants
 pub mod Table
 pub mod After
 pub mod Rules
+pub mod Supported
+pub mod Reasons
+pub mod Bodies
+pub mod Views
+pub mod Outcomes
+pub mod Applied

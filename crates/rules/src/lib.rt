@@ -1,8 +1,48 @@
-//! The rules by which an instruction is verified (JVMS 4.10.1.9), for every instruction. Here are their definitions, in specs.
+//! The rules by which an instruction is verified (JVMS 4.10.1.9), family by family. Proved against the conditions in specs/Rules.antt and the frame after in specs/After.antt. The calls to know are [`apply`], and [`run`], which changes the frame in place.
+//!
+//! - `reason`: why an instruction is refused.
+//! - `body`: the method whose instructions are judged.
+//! - `kinds`: kinds of numbers as types.
+//! - `operands`: what is asked of operands, and how deep the stack is.
+//! - `families`: operands to results, loads, increments and returns.
+//! - `stores`: stores to local variables.
+//! - `stacks`: instructions that move what is on the stack.
+//! - `constants`: instructions that load constants.
+//! - `want`: what is asked of an operand.
+//! - `running`: the rule of an instruction, on a frame in place.
+//! - `branching`, `ways`: where an instruction goes.
+//! - `applying`: the rule of an instruction, on a copy of the frame.
+//!
+//! Definitions:
 //!
 //! - `specs/Plans.antt`: what rules ask and do, family by family.
 //! - `specs/Constants.antt`: rules of instructions that name constants.
 //! - `specs/Table.antt`: the rule of each instruction.
 //! - `specs/After.antt`: the frame after.
 //! - `specs/Rules.antt`: the conditions that refuse an instruction, with their numbers.
+//! - `specs/Supported.antt`: the instructions whose rules are there yet.
 #![tactic(auto)]
+
+mod applying;
+mod body;
+mod branching;
+mod constants;
+mod families;
+mod kinds;
+mod operands;
+mod reason;
+mod running;
+mod stacks;
+mod stores;
+mod want;
+mod ways;
+
+pub use applying::{After, Refusal, apply};
+pub use body::Body;
+pub use branching::Branches;
+pub use reason::Reason;
+pub use running::run;
+pub use ways::{branches, falls};
+
+#[cfg(test)]
+mod tests;

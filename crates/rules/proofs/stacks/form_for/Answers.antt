@@ -1,0 +1,13 @@
+use Rattle.std.proofs.Common.{sym, ◌∙◌}
+use Rattle.rules.specs.Views.{stack_of}
+use Rattle.rules.proofs.Moving.{form_next, form_here, form_end}
+use Rattle.rules.proofs.stacks.form_for.Goals as goal
+
+pub loop-form-preserved : goal.loop-form-preserved
+loop-form-preserved c = c.loop-form.invariant ∙ form_next c.args.forms.now c.loop-form.form-index _ (stack_of c.args.stack.now) c.loop-form-test.true (sym c.fits_places.ensures ∙ c.if-fits_places.false)
+
+pub returns-then-fits_places : goal.returns-then-fits_places
+returns-then-fits_places c = sym (c.loop-form.invariant ∙ form_here c.args.forms.now c.loop-form.form-index _ (stack_of c.args.stack.now) c.loop-form-test.true (sym c.fits_places.ensures ∙ c.if-fits_places.true))
+
+pub returns : goal.returns
+returns c = sym (c.loop-form.invariant ∙ form_end c.args.forms.now c.loop-form.form-index (stack_of c.args.stack.now) c.loop-form-test.false)

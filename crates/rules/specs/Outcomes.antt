@@ -1,0 +1,48 @@
+-- What the calls of this crate answer.
+use Rattle.std.specs.Prelude.{◌≡◌, ◌⊎◌, ℕ, List, [], ◌∷◌, ◌++◌, false, Option, Some, None, Result, MatchResult}
+use Rattle.classfile.specs.Methods.{Method}
+use Rattle.hierarchy.specs.Class.{ClassFact}
+use Rattle.hierarchy.specs.Answer.{Outcome}
+use Rattle.names.specs.Descriptors.{FieldDescriptor, primitive}
+use Rattle.insn.specs.declared.operation.Kind.{Kind}
+use Rattle.insn.specs.Meanings.{Act}
+use Rattle.insn.specs.Stacks.{beneath, chosen, computed_as}
+use Rattle.frames.specs.declared.vtype.VType.{VType}
+use Rattle.frames.specs.VerificationType.{VerificationType}
+use Rattle.frames.specs.FrameFact.{FrameFact}
+use Rattle.frames.specs.Conditions.{Conditions, reason, least, missing_if}
+use Rattle.rules.specs.declared.reason.Reason.{Reason}
+use Rattle.rules.specs.declared.reason.Reason.TheVariants.{OutOfMemory}
+use Rattle.rules.specs.Plans.{Want}
+use Rattle.rules.specs.After.{with_stack}
+use Rattle.rules.specs.Rules.{is_short, operands, is_too_wide}
+use Rattle.rules.specs.Reasons.{reason_view}
+use Rattle.rules.specs.Views.{stack_of}
+
+-- Done exactly where no condition holds, and then the frame is the one that is wanted; otherwise the least reason, or want of memory.
+pub record Done (cs : Conditions) (wanted now : FrameFact) (r : Result Unit Reason) : Type 0 where
+  pub outcome : MatchResult r (λ _. (least cs ≡ None) × (now ≡ wanted)) (λ e. (e ≡ OutOfMemory) ⊎ (least cs ≡ Some (reason_view e)))
+
+-- operands were there, with this answer, and this is left
+pub record Took (classes : List ClassFact) (wants : List Want) (stack : List VerificationType) (answer : Outcome) (left : List VerificationType) : Type 0 where
+  pub enough : is_short wants stack ≡ false
+  pub answer_is : operands classes wants stack ≡ answer
+  pub left_is : left ≡ beneath wants stack
+
+abbrev pub pushed : List VerificationType → FrameFact → FrameFact
+pushed types f = with_stack f (types ++ f.stack)
+
+-- what is left to judge of a frame: its depth, and a class that is missing
+abbrev pub settled : Method Act → Outcome → FrameFact → Conditions
+settled m answer f = (reason 65, is_too_wide m f) ∷ missing_if answer ∷ []
+
+-- the kind of number that a result of the type is
+abbrev pub result_kind : Option FieldDescriptor → Option Kind
+result_kind (Some (primitive p)) = Some (computed_as p)
+result_kind _ = None
+
+-- the items of these numbers now stand on what was there, the first one on top
+pub record Pushes (numbers : List ℕ) (old new : List VType) : Type 0 where
+  pub added : List VType
+  pub all : new ≡ old ++ added
+  pub are_chosen : stack_of added ≡ chosen (stack_of old) numbers

@@ -1,0 +1,30 @@
+-- What the program's values stand for.
+use Rattle.std.specs.Prelude.{ℕ, zero, suc, if◌then◌else◌, List, [], ◌∷◌, map, reverse, Option, Some, None}
+use Rattle.frames.specs.declared.vtype.VType.{VType}
+use Rattle.frames.specs.VerificationType.{VerificationType, type_of, top}
+use Rattle.frames.specs.Slots.{is_wide}
+use Rattle.rules.specs.declared.want.Want.{Want as RawWant}
+use Rattle.rules.specs.declared.want.Want.TheVariants.{Number}
+use Rattle.rules.specs.Plans.{Want, number}
+
+-- a stack with its top last, as the program keeps it, with its top first
+abbrev pub stack_of : List VType → List VerificationType
+stack_of types = reverse (map type_of types)
+
+abbrev pub locals_of : List VType → List VerificationType
+locals_of types = map type_of types
+
+-- what is pushed
+abbrev pub pushed_types : Option VType → List VerificationType
+pushed_types None = []
+pushed_types (Some t) = type_of t ∷ []
+
+abbrev pub want_view : RawWant → Want
+want_view (Number kind) = number kind
+
+-- locals in which a long or double just before a place is top, since its second half is gone
+abbrev pub with_half_free : ℕ → List VerificationType → List VerificationType
+with_half_free n [] = []
+with_half_free zero (x ∷ xs) = x ∷ xs
+with_half_free (suc zero) (x ∷ xs) = (if is_wide x then top else x) ∷ xs
+with_half_free (suc (suc n)) (x ∷ xs) = x ∷ with_half_free (suc n) xs

@@ -1,0 +1,86 @@
+//! The rule of an instruction, on a copy of the frame.
+ghost use Rattle.std.specs.Prelude.{◌≡◌, length, IfOk};
+ghost use Rattle.insn.specs.Meanings.{act};
+ghost use Rattle.insn.specs.Views.{view};
+ghost use Rattle.frames.specs.FrameFact.{frame_of};
+ghost use Rattle.rules.specs.Supported.{judged_by};
+ghost use Rattle.rules.specs.Bodies.{method_view};
+ghost use Rattle.rules.specs.Applied.{Applied};
+
+use crate::body::Body;
+use crate::branching::Branches;
+use crate::reason::Reason;
+use crate::running::run;
+use crate::ways::{branches, falls};
+use frames::Frame;
+use hierarchy::Classes;
+use insn::{Insn, act};
+use std::alloc::{AllocError, Global};
+
+/// What an instruction leaves that is not refused.
+#[derive(Debug, Drop)]
+pub struct After<'a> {
+    /// The frame after it.
+    pub frame: Frame<'a>,
+    /// Where it branches to.
+    pub branches: Branches<'a>,
+    /// Whether it goes on to the next instruction.
+    pub falls: bool,
+    /// Whether it is an instance initialization method's call on the own object.
+    pub own: bool,
+}
+
+/// Why an instruction is refused.
+#[derive(Clone, Copy, Debug)]
+pub struct Refusal<'a> {
+    /// The least reason.
+    pub reason: Reason<'a>,
+    /// Whether it is an instance initialization method's call on the own object.
+    pub own: bool,
+}
+
+fn copy_of<'a>(alloc: Global, frame: &Frame<'a>) -> Result<Frame<'a>, AllocError>
+    ensures { IfOk result (λ f. (f.locals.items ≡ frame.now.locals.items) × (f.stack.items ≡ frame.now.stack.items) × (f.flag ≡ frame.now.flag)) }
+{
+    let mut locals = Vec::new(alloc);
+    locals.extend_from_slice(&frame.locals)?;
+    let mut stack = Vec::new(alloc);
+    stack.extend_from_slice(&frame.stack)?;
+    Ok(Frame {
+        locals,
+        stack,
+        flag: frame.flag,
+    })
+}
+
+/// Judges the instruction at an offset by its rule (JVMS 4.10.1.9). The frame before it has max_locals locals.
+///
+/// Refused is, by the least number that holds, what the rule refuses (60 to 66, 74, 76, 77); or 1 where memory ran out.
+pub fn apply<'a, C: Classes>(
+    alloc: Global,
+    body: &Body<'_, '_, 'a>,
+    classes: &C,
+    at: u16,
+    insn: &Insn<'a>,
+    frame: &Frame<'a>,
+) -> Result<After<'a>, Refusal<'a>>
+    requires { length frame.now.locals.items ≡ body.now.code.now.max_locals }
+    ensures { let m = method_view body.now in
+        Applied (C.content classes.now) m at (judged_by m (act (view insn.now))) (frame_of frame.now) result }
+{
+    let Ok(mut after) = copy_of(alloc, frame) else {
+        return Err(Refusal {
+            reason: Reason::OutOfMemory,
+            own: false,
+        });
+    };
+    match run(body, at, act(insn), &mut after, classes) {
+        Err(reason) => Err(Refusal { reason, own: false }),
+        Ok(()) => Ok(After {
+            frame: after,
+            branches: branches(insn),
+            falls: falls(insn),
+            own: false,
+        }),
+    }
+}

@@ -1,0 +1,177 @@
+//! Families of rules: operands to a result, loads, increments and returns.
+ghost use Rattle.std.specs.Prelude.{◌≡◌, ◌≤◌, List, [], true, length, option_map};
+ghost use Rattle.names.specs.Types.{type_of};
+ghost use Rattle.hierarchy.specs.Class.{ClassFact};
+ghost use Rattle.hierarchy.specs.Answer.{outcome_of};
+ghost use Rattle.frames.specs.FrameFact.{frame_of};
+ghost use Rattle.rules.specs.Plans.{numbers, pops, loads, counts, returns};
+ghost use Rattle.rules.specs.Table.{return_number, return_nothing};
+ghost use Rattle.rules.specs.After.{after};
+ghost use Rattle.rules.specs.Rules.{conditions};
+ghost use Rattle.rules.specs.Bodies.{method_view};
+ghost use Rattle.rules.specs.Views.{want_view, pushed_types};
+ghost use Rattle.rules.specs.Outcomes.{Done, pushed, settled, result_kind};
+
+use crate::body::Body;
+use crate::kinds::computed_as;
+use crate::operands::{accepts, is_wider, take_numbers};
+use crate::reason::Reason;
+use crate::want::Want;
+use frames::{Frame, VType};
+use hierarchy::{Answer, Classes};
+use insn::Kind;
+use names::{Base, FieldType};
+
+/// Pushes what an instruction gives, and judges what is left: 65, or 77 by the answer for its operands, which is not no.
+pub fn settle<'a>(
+    body: &Body<'_, '_, 'a>,
+    answer: Answer<'a>,
+    gives: Option<VType<'a>>,
+    frame: &mut Frame<'a>,
+) -> Result<(), Reason<'a>>
+    ensures { let f = pushed (pushed_types gives.entry) (frame_of frame.old) in
+        Done (settled (method_view body.now) (outcome_of answer.entry) f) f (frame_of frame.new) result }
+{
+    if let Some(t) = gives {
+        frame.stack.push(t)?;
+    }
+    if is_wider(&frame.stack, body.code.max_stack) {
+        return Err(Reason::StackOver);
+    }
+    match answer {
+        Answer::Missing(name) => Err(Reason::ClassMissing(name)),
+        _ => Ok(()),
+    }
+}
+
+/// Numbers of these kinds, the top first, to a result.
+pub fn pops<'a, C: Classes>(
+    body: &Body<'_, '_, 'a>,
+    kinds: &[Kind],
+    gives: Option<VType<'a>>,
+    frame: &mut Frame<'a>,
+    classes: &C,
+) -> Result<(), Reason<'a>>
+    ensures { let m = method_view body.now in let f = frame_of frame.old in
+        let p = pops (numbers kinds.now) (pushed_types gives.entry) [] true in
+        Done (conditions (C.content classes.now) m 0 p f) (after m 0 p f) (frame_of frame.new) result }
+{
+    match take_numbers(kinds, &mut frame.stack, classes) {
+        None => Err(Reason::MissingOperand),
+        Some(answer) => match answer {
+            Answer::No => Err(Reason::WrongOperand),
+            _ => settle(body, answer, gives, frame),
+        },
+    }
+}
+
+/// A local variable onto the stack.
+pub fn loads<'a, C: Classes>(
+    body: &Body<'_, '_, 'a>,
+    want: Want,
+    local: u16,
+    width: usize,
+    frame: &mut Frame<'a>,
+    classes: &C,
+) -> Result<(), Reason<'a>>
+    requires locals { length frame.old.locals.items ≡ body.now.code.now.max_locals }
+    requires some { 1 ≤ width }
+    requires few { width ≤ 2 }
+    ensures { let m = method_view body.now in let f = frame_of frame.old in
+        let p = loads (want_view want) local width in
+        Done (conditions (C.content classes.now) m 0 p f) (after m 0 p f) (frame_of frame.new) result }
+{
+    let place = usize::from(local);
+    if usize::from(body.code.max_locals) < place + width {
+        return Err(Reason::LocalOutOfRange);
+    }
+    let t = frame.locals[place];
+    let answer = accepts(want, &t, classes);
+    match answer {
+        Answer::No => Err(Reason::WrongLocal),
+        _ => settle(body, answer, Some(t), frame),
+    }
+}
+
+/// An int in a local variable that is changed.
+pub fn counts<'a, C: Classes>(
+    body: &Body<'_, '_, 'a>,
+    local: u16,
+    frame: &mut Frame<'a>,
+    classes: &C,
+) -> Result<(), Reason<'a>>
+    requires { length frame.old.locals.items ≡ body.now.code.now.max_locals }
+    ensures { let m = method_view body.now in let f = frame_of frame.old in let p = counts local in
+        Done (conditions (C.content classes.now) m 0 p f) (after m 0 p f) (frame_of frame.new) result }
+{
+    let place = usize::from(local);
+    if usize::from(body.code.max_locals) < place + 1 {
+        return Err(Reason::LocalOutOfRange);
+    }
+    let t = frame.locals[place];
+    let answer = accepts(Want::Number(Kind::Int), &t, classes);
+    match answer {
+        Answer::No => Err(Reason::WrongLocal),
+        _ => settle(body, answer, None, frame),
+    }
+}
+
+/// A return without a value, from a method without a result.
+pub fn returns<'a>(body: &Body<'_, '_, 'a>, frame: &mut Frame<'a>) -> Result<(), Reason<'a>>
+    ensures { (classes : List ClassFact) → let m = method_view body.now in let f = frame_of frame.old in
+        Done (conditions classes m 0 returns f) (after m 0 returns f) (frame_of frame.new) result }
+{
+    if body.is_init && frame.flag {
+        return Err(Reason::OwnObjectNotReady);
+    }
+    settle(body, Answer::Yes, None, frame)
+}
+
+/// A return without a value.
+pub fn return_nothing<'a>(body: &Body<'_, '_, 'a>, frame: &mut Frame<'a>) -> Result<(), Reason<'a>>
+    ensures { (classes : List ClassFact) → let m = method_view body.now in let f = frame_of frame.old in
+        let p = return_nothing m.type.result in
+        Done (conditions classes m 0 p f) (after m 0 p f) (frame_of frame.new) result }
+{
+    match body.types.result {
+        None => returns(body, frame),
+        Some(_) => Err(Reason::WrongReturn),
+    }
+}
+
+/// A return of a number.
+pub fn return_number<'a, C: Classes>(
+    body: &Body<'_, '_, 'a>,
+    kind: Kind,
+    frame: &mut Frame<'a>,
+    classes: &C,
+) -> Result<(), Reason<'a>>
+    ensures { let m = method_view body.now in let f = frame_of frame.old in
+        let p = return_number m.type.result kind in
+        Done (conditions (C.content classes.now) m 0 p f) (after m 0 p f) (frame_of frame.new) result }
+{
+    match number_of_result(body.types.result) {
+        None => Err(Reason::WrongReturn),
+        Some(given) => if given == kind {
+            pops(body, &[kind], None, frame, classes)
+        } else {
+            Err(Reason::WrongReturn)
+        },
+    }
+}
+
+/// The kind of number that a method gives, if its result is a number.
+fn number_of_result(result_type: Option<FieldType<'_>>) -> Option<Kind>
+    ensures { result ≡ result_kind (option_map type_of result_type.entry) }
+{
+    match result_type {
+        None => None,
+        Some(t) => match t.dims {
+            0 => match t.base {
+                Base::Primitive(primitive) => Some(computed_as(primitive)),
+                Base::Class(_) => None,
+            },
+            _ => None,
+        },
+    }
+}

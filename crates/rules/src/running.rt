@@ -1,0 +1,101 @@
+//! The rule of an instruction, on a frame in place.
+ghost use Rattle.std.specs.Prelude.{◌≡◌, length};
+ghost use Rattle.insn.specs.Views.{act_view};
+ghost use Rattle.frames.specs.FrameFact.{frame_of};
+ghost use Rattle.rules.specs.Supported.{judged_by};
+ghost use Rattle.rules.specs.After.{after};
+ghost use Rattle.rules.specs.Rules.{conditions};
+ghost use Rattle.rules.specs.Bodies.{method_view};
+ghost use Rattle.rules.specs.Outcomes.{Done};
+
+use crate::body::Body;
+use crate::constants::load_wide_constant;
+use crate::families::{counts, loads, pops, return_nothing, return_number};
+use crate::kinds::{kind_width, number_type};
+use crate::reason::Reason;
+use crate::stacks::rearranges;
+use crate::stores::stores;
+use crate::want::Want;
+use frames::Frame;
+use hierarchy::Classes;
+use insn::Act;
+
+/// Runs the instruction at an offset on a frame, in place, by its rule (JVMS 4.10.1.9). The frame has max_locals locals.
+///
+/// Refused is, by the least number that holds, what the rule refuses (60 to 66, 74, 76, 77); or 1 where memory ran out.
+/// Nothing is said of the frame then.
+pub fn run<'a, C: Classes>(
+    body: &Body<'_, '_, 'a>,
+    at: u16,
+    act: Act<'a>,
+    frame: &mut Frame<'a>,
+    classes: &C,
+) -> Result<(), Reason<'a>>
+    requires { length frame.old.locals.items ≡ body.now.code.now.max_locals }
+    ensures { let m = method_view body.now in let f = frame_of frame.old in
+        let p = judged_by m (act_view act.entry) in
+        Done (conditions (C.content classes.now) m at p f) (after m at p f) (frame_of frame.new) result }
+{
+    match act {
+        Act::Nothing => pops(body, &[], None, frame, classes),
+        Act::Constant(kind) => pops(body, &[], Some(number_type(kind)), frame, classes),
+        Act::LoadWideConstant { index } => load_wide_constant(body, index, frame, classes),
+        Act::Load { kind, local } => loads(
+            body,
+            Want::Number(kind),
+            local,
+            kind_width(kind),
+            frame,
+            classes,
+        ),
+        Act::Store { kind, local } => stores(
+            body,
+            Want::Number(kind),
+            local,
+            kind_width(kind),
+            frame,
+            classes,
+        ),
+        Act::Increment { local } => counts(body, local, frame, classes),
+        Act::Numeric(operator) => {
+            let (taken, given) = operator.row();
+            pops(body, taken, Some(number_type(given)), frame, classes)
+        }
+        Act::Stack(operator) => rearranges(body, operator, frame),
+        Act::Return(kind) => return_number(body, kind, frame, classes),
+        Act::ReturnVoid => return_nothing(body, frame),
+        Act::ConstantNull
+        | Act::LoadConstant { .. }
+        | Act::LoadReference { .. }
+        | Act::StoreReference { .. }
+        | Act::IfInt { .. }
+        | Act::IfInts { .. }
+        | Act::IfReferences { .. }
+        | Act::IfNull { .. }
+        | Act::Goto { .. }
+        | Act::Switch { .. }
+        | Act::ReturnReference
+        | Act::GetStatic { .. }
+        | Act::PutStatic { .. }
+        | Act::GetField { .. }
+        | Act::PutField { .. }
+        | Act::InvokeVirtual { .. }
+        | Act::InvokeSpecial { .. }
+        | Act::InvokeStatic { .. }
+        | Act::InvokeInterface { .. }
+        | Act::New { .. }
+        | Act::LoadElement(_)
+        | Act::StoreElement(_)
+        | Act::LoadReferenceElement
+        | Act::StoreReferenceElement
+        | Act::ArrayLength
+        | Act::NewArray(_)
+        | Act::NewReferenceArray { .. }
+        | Act::NewMultiArray { .. }
+        | Act::CheckCast { .. }
+        | Act::InstanceOf { .. }
+        | Act::Throw
+        | Act::Monitor
+        | Act::Unsupported => Err(Reason::NotSupported),
+    }
+}

@@ -1,0 +1,256 @@
+use super::*;
+use classfile::{ClassFile, CodeAttr};
+use frames::{Frame, VType};
+use hierarchy::{Chains, OBJECT, Summary};
+use insn::decode_code;
+use names::{Base, FieldType, MethodType, Primitive};
+use pool::{Constant, Pool};
+use std::alloc::{AllocError, Global};
+use std::hash::{BuildHasherDefault, FoldHasher};
+use std::process::Abort;
+use std::test::Fail;
+
+fn class<'a>(alloc: Global) -> Result<ClassFile<'a>, AllocError> {
+    let mut constants = Vec::new(alloc);
+    constants.push(Constant::Long { high: 0, low: 1 })?;
+    constants.push(Constant::Unusable)?;
+    constants.push(Constant::Integer { bits: 5 })?;
+    constants.push(Constant::Dynamic {
+        bootstrap: 0,
+        name_and_type: 1,
+    })?;
+    Ok(ClassFile {
+        minor_version: 0,
+        major_version: 55,
+        constant_pool: Pool::new(constants),
+        access_flags: 0,
+        this_class: 0,
+        super_class: 0,
+        interfaces: Vec::new(alloc),
+        fields: Vec::new(alloc),
+        methods: Vec::new(alloc),
+        attributes: Vec::new(alloc),
+    })
+}
+
+fn frame<'a>(
+    alloc: Global,
+    locals: &[VType<'a>],
+    stack: &[VType<'a>],
+    flag: bool,
+) -> Result<Frame<'a>, AllocError> {
+    Ok(Frame {
+        locals: locals.iter().copied().collect(alloc)?,
+        stack: stack.iter().copied().collect(alloc)?,
+        flag,
+    })
+}
+
+// What is known before an instruction of an `<init>` with two locals and this many units of stack.
+#[derive(Clone, Copy, Debug)]
+struct Given<'a> {
+    locals: [VType<'a>; 2],
+    stack: &'a [VType<'a>],
+    flag: bool,
+    max_stack: u16,
+    result: Option<FieldType<'a>>,
+}
+
+fn before<'a>(stack: &'a [VType<'a>]) -> Given<'a> {
+    Given {
+        locals: [VType::Top, VType::Top],
+        stack,
+        flag: false,
+        max_stack: 4,
+        result: None,
+    }
+}
+
+fn judge<'a>(
+    rt: &impl Abort,
+    alloc: Global,
+    bytes: &'a [u8],
+    given: &Given<'a>,
+) -> Result<Result<After<'a>, Refusal<'a>>, AllocError> {
+    let class = class(alloc)?;
+    let code = CodeAttr {
+        max_stack: given.max_stack,
+        max_locals: 2,
+        code: bytes,
+        exception_table: Vec::new(alloc),
+        attributes: Vec::new(alloc),
+    };
+    let types = MethodType {
+        params: Vec::new(alloc),
+        result: given.result,
+    };
+    let list = decode_code(alloc, bytes).expect(rt, "code");
+    let object = [Summary {
+        name: OBJECT,
+        superclass: None,
+        interface: false,
+        is_final: false,
+        members: Vec::new(alloc),
+    }];
+    let hasher: BuildHasherDefault<FoldHasher> = BuildHasherDefault::new();
+    let classes = Chains::new(alloc, &object, hasher).expect(rt, "a hierarchy");
+    let body = Body {
+        class: &class,
+        code: &code,
+        list: &list,
+        is_static: false,
+        is_init: true,
+        types: &types,
+    };
+    let first = list[0].1;
+    let frame = frame(alloc, &given.locals, given.stack, given.flag)?;
+    Ok(apply(alloc, &body, &classes, 0, &first, &frame))
+}
+
+fn refused(rt: &impl Abort, alloc: Global, bytes: &[u8], given: &Given) -> Result<u8, AllocError> {
+    match judge(rt, alloc, bytes, given)? {
+        Ok(_) => Ok(0),
+        Err(refusal) => Ok(refusal.reason.number()),
+    }
+}
+
+fn check_stack(
+    rt: &impl Abort,
+    alloc: Global,
+    bytes: &[u8],
+    stack: &[VType],
+    want: &[VType],
+) -> Result<(), AllocError> {
+    let after = judge(rt, alloc, bytes, &before(stack))?.expect(rt, "a rule");
+    assert_eq!(rt; after.frame.stack.as_slice(), want);
+    assert!(rt; after.falls && !after.own && matches!(after.branches, Branches::Nowhere));
+    Ok(())
+}
+
+#[test]
+fn stacks(rt: HostRuntime) -> Result<(), Fail> {
+    let alloc = rt.alloc();
+    check_stack(&rt, alloc, &[0x00], &[], &[])?;
+    check_stack(&rt, alloc, &[0x09], &[], &[VType::Long])?;
+    check_stack(&rt, alloc, &[0x14, 0, 1], &[], &[VType::Long])?;
+    check_stack(
+        &rt,
+        alloc,
+        &[0x60],
+        &[VType::Int, VType::Int],
+        &[VType::Int],
+    )?;
+    check_stack(
+        &rt,
+        alloc,
+        &[0x79],
+        &[VType::Long, VType::Int],
+        &[VType::Long],
+    )?;
+    check_stack(&rt, alloc, &[0x58], &[VType::Long], &[])?;
+    check_stack(
+        &rt,
+        alloc,
+        &[0x5A],
+        &[VType::Int, VType::Float],
+        &[VType::Float, VType::Int, VType::Float],
+    )?;
+    check_stack(
+        &rt,
+        alloc,
+        &[0x5F],
+        &[VType::Int, VType::Null],
+        &[VType::Null, VType::Int],
+    )?;
+    Ok(())
+}
+
+#[test]
+fn locals(rt: HostRuntime) -> Result<(), Fail> {
+    let alloc = rt.alloc();
+    let mut given = before(&[VType::Int]);
+    given.locals = [VType::Long, VType::Top];
+    let stored = judge(&rt, alloc, &[0x3C], &given)?.expect(&rt, "istore_1");
+    assert_eq!(rt;
+        stored.frame.locals.as_slice(),
+        [VType::Top, VType::Int].as_slice()
+    );
+    given.locals = [VType::Int, VType::Top];
+    let loaded = judge(&rt, alloc, &[0x1A], &given)?.expect(&rt, "iload_0");
+    assert_eq!(rt;
+        loaded.frame.stack.as_slice(),
+        [VType::Int, VType::Int].as_slice()
+    );
+    let counted = judge(&rt, alloc, &[0x84, 0, 1], &given)?.expect(&rt, "iinc");
+    assert_eq!(rt;
+        counted.frame.locals.as_slice(),
+        [VType::Int, VType::Top].as_slice()
+    );
+    Ok(())
+}
+
+#[test]
+fn returns(rt: HostRuntime) -> Result<(), Fail> {
+    let alloc = rt.alloc();
+    let mut given = before(&[VType::Int]);
+    let left = judge(&rt, alloc, &[0xB1], &given)?.expect(&rt, "return");
+    assert!(rt; !left.falls);
+    given.result = Some(FieldType {
+        dims: 0,
+        base: Base::Primitive(Primitive::Boolean),
+    });
+    assert_eq!(rt; refused(&rt, alloc, &[0xAC], &given)?, 0);
+    assert_eq!(rt; refused(&rt, alloc, &[0xAD], &given)?, 76);
+    assert_eq!(rt; refused(&rt, alloc, &[0xB1], &given)?, 76);
+    Ok(())
+}
+
+#[test]
+fn reasons(rt: HostRuntime) -> Result<(), Fail> {
+    let alloc = rt.alloc();
+    let mut given = before(&[VType::Int]);
+    given.locals = [VType::Float, VType::Top];
+    let rows: [(&[u8], u8); 11] = [
+        (&[0xA8, 0, 3], 60),
+        (&[0x14, 0, 4], 60),
+        (&[0x60], 61),
+        (&[0x58], 61),
+        (&[0x85], 0),
+        (&[0x88], 62),
+        (&[0x1A], 63),
+        (&[0x1C], 64),
+        (&[0x36, 1], 0),
+        (&[0x14, 0, 3], 66),
+        (&[0x37, 1], 62),
+    ];
+    for (bytes, number) in rows {
+        assert_eq!(rt; refused(&rt, alloc, bytes, &given)?, number);
+    }
+    given.max_stack = 1;
+    assert_eq!(rt; refused(&rt, alloc, &[0x03], &given)?, 65);
+    given.flag = true;
+    assert_eq!(rt; refused(&rt, alloc, &[0xB1], &given)?, 74);
+    let wide = before(&[VType::Long]);
+    assert_eq!(rt; refused(&rt, alloc, &[0x57], &wide)?, 62);
+    assert_eq!(rt; refused(&rt, alloc, &[0x40], &wide)?, 64);
+    Ok(())
+}
+
+#[test]
+fn ways(rt: HostRuntime) -> Result<(), Fail> {
+    let list = decode_code(rt.alloc(), &[0xA7, 0, 3, 0x00])?;
+    assert!(rt; !falls(&list[0].1) && falls(&list[1].1));
+    assert!(rt; matches!(branches(&list[0].1), Branches::One(3)));
+    assert!(rt; matches!(branches(&list[1].1), Branches::Nowhere));
+    Ok(())
+}
+
+#[test]
+fn want_of_memory(rt: HostRuntime) {
+    let given = before(&[]);
+    match judge(&rt, rt.alloc(), &[0x03], &given) {
+        Ok(Ok(after)) => assert_eq!(rt; after.frame.stack.len(), 1),
+        Ok(Err(refusal)) => assert_eq!(rt; refusal.reason.number(), 1),
+        Err(_) => (),
+    }
+}

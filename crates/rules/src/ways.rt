@@ -1,0 +1,76 @@
+//! Where an instruction goes.
+ghost use Rattle.std.specs.Prelude.{◌≡◌};
+ghost use Rattle.insn.specs.Meanings.{act};
+ghost use Rattle.insn.specs.Views.{view, act_view};
+ghost use Rattle.rules.specs.Supported.{goes_on, branch_offsets};
+ghost use Rattle.rules.specs.Applied.{branches_view};
+
+use crate::branching::Branches;
+use insn::{Act, Insn, act};
+
+/// Whether an instruction goes on to the next one, where it is not refused (JVMS 4.10.1.6). Takes no memory.
+pub fn falls(insn: &Insn<'_>) -> bool
+    ensures { result ≡ goes_on (act (view insn.now)) }
+{
+    !matches!(
+        act(insn),
+        Act::Goto { .. }
+            | Act::Switch { .. }
+            | Act::Return(_)
+            | Act::ReturnReference
+            | Act::ReturnVoid
+            | Act::Throw
+            | Act::Unsupported
+    )
+}
+
+/// Where an instruction branches to. Takes no memory.
+pub fn branches<'a>(insn: &Insn<'a>) -> Branches<'a>
+    ensures { branches_view result ≡ branch_offsets (act (view insn.now)) }
+{
+    match act(insn) {
+        Act::IfInt { offset }
+        | Act::IfInts { offset }
+        | Act::IfReferences { offset }
+        | Act::IfNull { offset }
+        | Act::Goto { offset } => Branches::One(offset),
+        Act::Switch { default, targets } => Branches::Switch { default, targets },
+        Act::Nothing
+        | Act::Constant(_)
+        | Act::ConstantNull
+        | Act::LoadConstant { .. }
+        | Act::LoadWideConstant { .. }
+        | Act::Load { .. }
+        | Act::LoadReference { .. }
+        | Act::Store { .. }
+        | Act::StoreReference { .. }
+        | Act::Increment { .. }
+        | Act::Numeric(_)
+        | Act::Stack(_)
+        | Act::Return(_)
+        | Act::ReturnReference
+        | Act::ReturnVoid
+        | Act::GetStatic { .. }
+        | Act::PutStatic { .. }
+        | Act::GetField { .. }
+        | Act::PutField { .. }
+        | Act::InvokeVirtual { .. }
+        | Act::InvokeSpecial { .. }
+        | Act::InvokeStatic { .. }
+        | Act::InvokeInterface { .. }
+        | Act::New { .. }
+        | Act::LoadElement(_)
+        | Act::StoreElement(_)
+        | Act::LoadReferenceElement
+        | Act::StoreReferenceElement
+        | Act::ArrayLength
+        | Act::NewArray(_)
+        | Act::NewReferenceArray { .. }
+        | Act::NewMultiArray { .. }
+        | Act::CheckCast { .. }
+        | Act::InstanceOf { .. }
+        | Act::Throw
+        | Act::Monitor
+        | Act::Unsupported => Branches::Nowhere,
+    }
+}
