@@ -120,7 +120,7 @@ not_less a b le = grind (arith, nat_tests)
 pub is_less : (a b : ℕ) → a < b → nat_lt a b ≡ true
 is_less a b lt = grind (arith, nat_tests)
 
--- a frame that is reached by reading a local: `gives` is what is pushed
+-- a load
 module _ (cs : List ClassFact) (m : Method Act) (w : Want) (n k : ℕ) (f : FrameFact) where
   pub load_out : is_outside m n k ≡ true → least (conditions cs m 0 (loads w n k) f) ≡ Some (reason 64)
   load_out o = local_out (is_outside m n k) (accepts cs w (local_of n f)) (is_too_wide m (after m 0 (loads w n k) f)) o

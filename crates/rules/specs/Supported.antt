@@ -1,4 +1,4 @@
--- The instructions whose rules the verifier has. All others are refused 60, and so for good are jsr, ret and invokedynamic.
+-- The instructions whose rules the verifier has, and where each goes. All others are refused 60, and so for good are jsr, ret and invokedynamic.
 use Rattle.std.specs.Prelude.{ℤ, Bool, true, false, if◌then◌else◌, List, [], ◌∷◌}
 use Rattle.classfile.specs.Methods.{Method}
 use Rattle.insn.specs.Meanings as acts
