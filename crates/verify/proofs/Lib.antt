@@ -17,4 +17,5 @@ pub mod Passing
 pub mod Following
 pub mod Premises
 pub mod Verdicts
+pub mod Refusing
 mod Examples

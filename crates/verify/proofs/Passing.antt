@@ -86,17 +86,22 @@ module _ (classes : List ClassFact) (m : Method Act) (frames : Frames) where
   comes_same s t q g e (inl i) = inl (e ∙ i)
   comes_same s t q g e (inr i) = inr i
 
+  -- what comes to the first of these instructions is right
+  abbrev pub IsEntered : List (ℕ × Act) → Bool → FrameFact → Type 0
+  IsEntered cs b g = (q : ℕ) → first_offset cs ≡ Some q → (entry classes b g (at_offset frames q) ≡ None) × (came cs g ≡ entered g (at_offset frames q))
+
+  -- a table for the instructions behind one is widened to that one
   module _ (c : ℕ × Act) (cs : List (ℕ × Act)) (f : FrameFact) (apart : at_offset cs c.0 ≡ None) (own : (k : FrameFact) → at_offset frames c.0 ≡ Some k → f ≡ k)
       (fine : least (at_conditions classes m frames c.0 (plan m c.1) (first_offset cs) f) ≡ None)
-      (on : arrives classes frames cs (falls (plan m c.1)) (after m c.0 (plan m c.1) f) (passes classes m frames cs) ≡ verified)
-      (r : HasTable cs (came cs (after m c.0 (plan m c.1) f))) where
-    abbrev wider : ℕ → FrameFact
-    wider p = if nat_eq c.0 p then f else r.table p
+      (on : IsEntered cs (falls (plan m c.1)) (after m c.0 (plan m c.1) f))
+      (rest : ℕ → FrameFact) (rest_head : (q : ℕ) → first_offset cs ≡ Some q → rest q ≡ came cs (after m c.0 (plan m c.1) f)) where
+    abbrev pub wider : ℕ → FrameFact
+    wider p = if nat_eq c.0 p then f else rest p
 
-    here : wider c.0 ≡ f
+    pub here : wider c.0 ≡ f
     here = rw (eq-eqb c.0 c.0 refl) refl
 
-    same : (p : ℕ) → ((act : Act) × (at_offset cs p ≡ Some act)) → wider p ≡ r.table p
+    pub same : (p : ℕ) → ((act : Act) × (at_offset cs p ≡ Some act)) → wider p ≡ rest p
     same p s = rw (ne_eqb c.0 p (λ q. clash s.0 (sym apart ∙ ap (at_offset cs) q ∙ s.1))) refl
       where
         clash : (act : Act) → None ≡ Some act → ⊥
@@ -105,16 +110,16 @@ module _ (classes : List ClassFact) (m : Method Act) (frames : Frames) where
     parts : IsFine classes m frames c.0 (plan m c.1) f × (falls (plan m c.1) ≡ true → (q : ℕ) × (first_offset cs ≡ Some q))
     parts = fine_of classes m frames c.0 (plan m c.1) (first_offset cs) f (none_least (at_conditions classes m frames c.0 (plan m c.1) (first_offset cs) f) fine)
 
-    fine_head : IsFineIn wider (c ∷ cs) c.0 c.1
+    pub fine_head : IsFineIn wider (c ∷ cs) c.0 c.1
     fine_head = record {
       fine = subst (λ z. IsFine classes m frames c.0 (plan m c.1) z) (sym here) parts.0;
       next = λ t.
           let x = parts.1 t in
-          let y = enters_of cs (falls (plan m c.1)) (after m c.0 (plan m c.1) f) x.0 on x.1 in (
+          let y = on x.0 x.1 in (
             x.0,
             rw (eq-eqb c.0 c.0 refl) x.1,
             subst (λ z. Comes classes frames wider (after m c.0 (plan m c.1) z) x.0) (sym here)
-                (comes_in wider x.0 (after m c.0 (plan m c.1) f) (at_offset frames x.0) refl (subst (λ b. entry classes b (after m c.0 (plan m c.1) f) (at_offset frames x.0) ≡ None) t y.0) (same x.0 (at_first cs x.0 x.1) ∙ r.head x.0 x.1 ∙ y.1)),
+                (comes_in wider x.0 (after m c.0 (plan m c.1) f) (at_offset frames x.0) refl (subst (λ b. entry classes b (after m c.0 (plan m c.1) f) (at_offset frames x.0) ≡ None) t y.0) (same x.0 (at_first cs x.0 x.1) ∙ rest_head x.0 x.1 ∙ y.1)),
           );
       alone = λ t to e. behind t to (subst (λ b. (if b then first_offset cs else next_offset cs c.0) ≡ Some to) (eq-eqb c.0 c.0 refl) e);
       own = λ k e. here ∙ own k e;
@@ -122,39 +127,43 @@ module _ (classes : List ClassFact) (m : Method Act) (frames : Frames) where
       where
         behind : falls (plan m c.1) ≡ false → (to : ℕ) → first_offset cs ≡ Some to → (g : FrameFact) × (at_offset frames to ≡ Some g)
         behind t to e =
-            let y = enters_of cs (falls (plan m c.1)) (after m c.0 (plan m c.1) f) to on e in
+            let y = on to e in
             declared_alone (after m c.0 (plan m c.1) f) (at_offset frames to) (subst (λ b. entry classes b (after m c.0 (plan m c.1) f) (at_offset frames to) ≡ None) t y.0)
 
-    fine_tail : (p : ℕ) (act : Act) → nat_eq c.0 p ≡ false → at_offset cs p ≡ Some act → IsFineIn wider (c ∷ cs) p act
-    fine_tail p act i k =
-        let rec = r.each p act k in
-        let s : wider p ≡ r.table p = same p (act, k) in
+    pub fine_tail : (p : ℕ) (act : Act) → nat_eq c.0 p ≡ false → at_offset cs p ≡ Some act → IsFineIn rest cs p act → IsFineIn wider (c ∷ cs) p act
+    fine_tail p act i k rec =
+        let s : wider p ≡ rest p = same p (act, k) in
         record {
           fine = subst (λ z. IsFine classes m frames p (plan m act) z) (sym s) rec.fine;
           next = λ t.
               let x = rec.next t in (
                 x.0,
                 rw i x.1,
-                subst (λ z. Comes classes frames wider (after m p (plan m act) z) x.0) (sym s) (comes_same wider r.table x.0 (after m p (plan m act) (r.table p)) (same x.0 (at_next cs p x.0 x.1)) x.2),
+                subst (λ z. Comes classes frames wider (after m p (plan m act) z) x.0) (sym s) (comes_same wider rest x.0 (after m p (plan m act) (rest p)) (same x.0 (at_next cs p x.0 x.1)) x.2),
               );
           alone = λ t to e. rec.alone t to (subst (λ b. (if b then first_offset cs else next_offset cs p) ≡ Some to) i e);
           own = λ g e. s ∙ rec.own g e;
         }
 
-    more : HasTable (c ∷ cs) f
-    more = record {
-      table = wider;
-      head = λ p e. let q : c.0 ≡ p = cc in rw (eq-eqb c.0 p q) refl;
-      each = λ p act e. by p act (nat_eq c.0 p) refl e;
-    }
+    pub fine_each : (p : ℕ) (act : Act) → (at_offset cs p ≡ Some act → IsFineIn rest cs p act) → at_offset (c ∷ cs) p ≡ Some act → IsFineIn wider (c ∷ cs) p act
+    fine_each p act rec e = by (nat_eq c.0 p) refl e
       where
-        by : (p : ℕ) (act : Act) (b : Bool) → nat_eq c.0 p ≡ b → (if b then Some c.1 else at_offset cs p) ≡ Some act → IsFineIn wider (c ∷ cs) p act
-        by p act true i k = let w : c.1 ≡ act = cc in subst (λ z. IsFineIn wider (c ∷ cs) z act) (eqb-true c.0 p i) (subst (λ z. IsFineIn wider (c ∷ cs) c.0 z) w fine_head)
-        by p act false i k = fine_tail p act i k
+        by : (b : Bool) → nat_eq c.0 p ≡ b → (if b then Some c.1 else at_offset cs p) ≡ Some act → IsFineIn wider (c ∷ cs) p act
+        by true i k = let w : c.1 ≡ act = cc in subst (λ z. IsFineIn wider (c ∷ cs) z act) (eqb-true c.0 p i) (subst (λ z. IsFineIn wider (c ∷ cs) c.0 z) w fine_head)
+        by false i k = fine_tail p act i k (rec k)
+
+    pub wider_head : (p : ℕ) → first_offset (c ∷ cs) ≡ Some p → wider p ≡ f
+    wider_head p e = let q : c.0 ≡ p = cc in rw (eq-eqb c.0 p q) refl
 
   pub has_table : (cs : List (ℕ × Act)) (f : FrameFact) → AreApart cs → ((p : ℕ) (k : FrameFact) → first_offset cs ≡ Some p → at_offset frames p ≡ Some k → f ≡ k) → passes classes m frames cs f ≡ verified → HasTable cs f
   has_table [] f apart own e = record { table = λ p. f; head = λ p i. refl; each = λ p act i. cc }
   has_table (c ∷ cs) f apart own e =
       let x = not_refused (least (at_conditions classes m frames c.0 (plan m c.1) (first_offset cs) f)) c.0 (arrives classes frames cs (falls (plan m c.1)) (after m c.0 (plan m c.1) f) (passes classes m frames cs)) e in
-      more c cs f apart.0 (λ k i. own c.0 k refl i) x.0 x.1
-      (has_table cs (came cs (after m c.0 (plan m c.1) f)) apart.1 (λ p k i j. own_of cs (after m c.0 (plan m c.1) f) p k i j) (tail_of cs (falls (plan m c.1)) (after m c.0 (plan m c.1) f) x.1))
+      let g = after m c.0 (plan m c.1) f in
+      let on : IsEntered cs (falls (plan m c.1)) g = λ q i. enters_of cs (falls (plan m c.1)) g q x.1 i in
+      let r = has_table cs (came cs g) apart.1 (λ p k i j. own_of cs g p k i j) (tail_of cs (falls (plan m c.1)) g x.1) in
+      record {
+        table = wider c cs f apart.0 (λ k i. own c.0 k refl i) x.0 on r.table r.head;
+        head = wider_head c cs f apart.0 (λ k i. own c.0 k refl i) x.0 on r.table r.head;
+        each = λ p act i. fine_each c cs f apart.0 (λ k i. own c.0 k refl i) x.0 on r.table r.head p act (r.each p act) i;
+      }

@@ -28,7 +28,7 @@ use Rattle.verify.proofs.Passing.{AreApart}
 
 -- ---- offsets that rise
 
-not_at : (from : ℕ) (cs : List (ℕ × Act)) (p : ℕ) → OffsetsRise from cs → p < from → at_offset cs p ≡ None
+pub not_at : (from : ℕ) (cs : List (ℕ × Act)) (p : ℕ) → OffsetsRise from cs → p < from → at_offset cs p ≡ None
 not_at from [] p r l = refl
 not_at from (c ∷ cs) p r l =
     let apart : nat_eq c.0 p ≡ false = ne_eqb c.0 p (λ q. omega (arith, q, r.0, l)) in
@@ -140,7 +140,7 @@ module _ (classes : List ClassFact) (m : Method Act) (frames : Frames) where
   there_end to (inl s) = either_true (has_offset m.code to) (nat_eq to m.code_length) (inl (ap is_some s.here))
   there_end to (inr e) = either_true (has_offset m.code to) (nat_eq to m.code_length) (inr (eq-eqb to m.code_length e))
 
-  sound_of : (e : ExceptionEntry) → NoneHolds (table_conditions classes m frames e) → IsSoundEntry classes m frames e
+  pub sound_of : (e : ExceptionEntry) → NoneHolds (table_conditions classes m frames e) → IsSoundEntry classes m frames e
   sound_of e n = record {
     some = ltb-true e.from e.to (holds (nat_lt e.from e.to) n.0);
     from_start = start_there m.code e.from n.1.0;

@@ -4,3 +4,4 @@ pub mod Safety
 pub mod ClassMethods
 pub mod Verdict
 pub mod VerdictLaws
+pub mod Refusals

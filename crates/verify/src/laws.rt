@@ -1,4 +1,5 @@
 //! What the verdict on a method means.
+ghost use Rattle.verify.specs.Refusals.{RefusedWhere};
 ghost use Rattle.verify.specs.VerdictLaws.{TypeSafeIsVerified, VerifiedIsTypeSafe};
 
 /// A method whose verdict is verified is type-safe.
@@ -9,4 +10,11 @@ pub fn verified_is_type_safe()
 /// The verdict on a method that is type-safe is verified, so a refusal denies that it is type-safe.
 pub fn type_safe_is_verified()
     ensures { TypeSafeIsVerified }
+{}
+
+/// What a refusal says. Receiver and parameters do not fit; or an entry of the exception table is refused, and those in
+/// front of it are sound; or the initial frame does not fit the one declared at 0; or the method is type-safe up to an
+/// instruction, and either the reason is the least that holds there, or it is against the frame at the next start alone.
+pub fn refused_where()
+    ensures { RefusedWhere }
 {}

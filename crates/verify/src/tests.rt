@@ -1,5 +1,5 @@
 //! The theorem and the laws may be called; they do nothing.
-use crate::{type_safe_is_safe, type_safe_is_verified, verified_is_type_safe};
+use crate::{refused_where, type_safe_is_safe, type_safe_is_verified, verified_is_type_safe};
 
 #[test]
 fn theorem_is_called() {
@@ -10,4 +10,5 @@ fn theorem_is_called() {
 fn laws_are_called() {
     verified_is_type_safe();
     type_safe_is_verified();
+    refused_where();
 }
