@@ -12,4 +12,10 @@ pub mod Start
 pub mod Declared
 pub mod Run
 pub mod OneMethod
+pub mod Reasons
+pub mod Passing
+pub mod Following
+pub mod Premises
+pub mod Verdicts
+pub mod Refusing
 mod Examples

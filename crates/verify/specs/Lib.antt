@@ -2,3 +2,6 @@ pub mod InitialFrames
 pub mod TypeSafety
 pub mod Safety
 pub mod ClassMethods
+pub mod Verdict
+pub mod VerdictLaws
+pub mod Refusals

@@ -1,0 +1,5 @@
+use Rattle.verify.proofs.Refusing.{refused_where}
+use Rattle.verify.proofs.laws.refused_where.Goals as goal
+
+pub returns : goal.returns
+returns c = refused_where

@@ -1,0 +1,5 @@
+use Rattle.verify.proofs.Verdicts.{type_safe_is_verified}
+use Rattle.verify.proofs.laws.type_safe_is_verified.Goals as goal
+
+pub returns : goal.returns
+returns c = type_safe_is_verified

@@ -1,0 +1,171 @@
+-- What is answered of a method (JVMS 4.10.1.6): it is verified, or refused at an offset for a reason.
+-- One pass goes over the code and carries one frame.
+use Rattle.std.specs.Prelude.{ℕ, ℤ, pos, negsuc, Bool, true, false, not, ◌&&◌, ◌||◌, is_none, nat_lt, nat_eq, List, [], ◌∷◌, ◌++◌, length, Option, Some, None, Result, Ok, Err, if◌then◌else◌}
+use Rattle.names.specs.StandardNames.{throwable_name}
+use Rattle.layout.specs.Place.{Place}
+use Rattle.layout.specs.Format.{reads}
+use Rattle.layout.specs.declared.fault.ReadFault.{ReadFault}
+use Rattle.layout.specs.declared.fault.ReadFault.TheVariants.{AttributeLength}
+use Rattle.classfile.specs.Methods.{Method, ExceptionEntry, covers}
+use Rattle.hierarchy.specs.Class.{ClassFact}
+use Rattle.hierarchy.specs.Answer.{Outcome}
+use Rattle.insn.specs.Meanings.{Act}
+use Rattle.insn.specs.Offsets.{at_offset, has_offset, first_offset}
+use Rattle.frames.specs.VerificationType.{class}
+use Rattle.frames.specs.FrameFact.{FrameFact}
+use Rattle.frames.specs.Slots.{to_reference, in_locals}
+use Rattle.frames.specs.Assignable.{type_answer}
+use Rattle.frames.specs.FrameAssignable.{frame_answer}
+use Rattle.frames.specs.Conditions.{Reason, reason, Conditions, least, is_no, missing_if}
+use Rattle.frames.specs.StackMaps.{MapEntry, stack_map}
+use Rattle.frames.specs.DeclaredFrames.{declared_frames}
+use Rattle.rules.specs.Plans.{Plan, falls, targets}
+use Rattle.rules.specs.Table.{plan}
+use Rattle.rules.specs.After.{after}
+use Rattle.rules.specs.Rules.{constructs_own, conditions}
+use Rattle.verify.specs.InitialFrames.{initial_types, initial_frame}
+use Rattle.verify.specs.TypeSafety.{Frames, caught_frame}
+
+-- why a stack map is refused (4.7.4)
+pub data MapRefusal : Type 0 where
+  -- its bytes are no entries
+  unreadable : (fault : ReadFault) → MapRefusal
+  -- an entry declares no frame
+  undeclared : (why : Reason) → MapRefusal
+
+pub data Verdict : Type 0 where
+  verified : Verdict
+  refused : (at : ℕ) (why : Reason) → Verdict
+  -- 78 at 0
+  map_refused : (why : MapRefusal) → Verdict
+
+-- refused where there is a reason, and otherwise as the rest says
+abbrev pub refused_or : Option Reason → ℕ → Verdict → Verdict
+refused_or None at rest = rest
+refused_or (Some why) at rest = refused at why
+
+abbrev pub answer_conditions : ℕ → Outcome → Conditions
+answer_conditions number answer = (reason number, is_no answer) ∷ missing_if answer ∷ []
+
+-- ---- the frames that are declared (4.7.4, 4.10.1.3)
+
+-- all bytes of a body are its entries
+abbrev pub all_entries : Result (List MapEntry × Place) ReadFault → Result (List MapEntry) ReadFault
+all_entries (Ok x) = if nat_eq (length x.1.rest) 0 then Ok x.0 else Err (AttributeLength x.1.at)
+all_entries (Err fault) = Err fault
+
+abbrev pub entries_read : Option (List ℕ) → Result (List MapEntry) ReadFault
+entries_read None = Ok []
+entries_read (Some body) = all_entries (reads stack_map 0 body)
+
+abbrev pub or_undeclared : Result Frames Reason → Result Frames MapRefusal
+or_undeclared (Ok frames) = Ok frames
+or_undeclared (Err why) = Err (undeclared why)
+
+abbrev pub frames_of : Method Act → Result (List MapEntry) ReadFault → Result Frames MapRefusal
+frames_of m (Ok entries) = or_undeclared (declared_frames m.constant_pool m.code m.max_locals m.max_stack (initial_types m) entries)
+frames_of m (Err fault) = Err (unreadable fault)
+
+abbrev pub frames_declared : Method Act → Result Frames MapRefusal
+frames_declared m = frames_of m (entries_read m.stack_map)
+
+-- ---- the exception table, entry by entry (4.7.3, 4.10.1.6)
+
+-- an end is a start, or the code's length
+abbrev pub is_end : Method Act → ℕ → Bool
+is_end m to = has_offset m.code to || nat_eq to m.code_length
+
+abbrev pub table_conditions : List ClassFact → Method Act → Frames → ExceptionEntry → Conditions
+table_conditions classes m frames e =
+    (reason 72, not (nat_lt e.from e.to))
+    ∷ (reason 72, not (has_offset m.code e.from))
+    ∷ (reason 72, not (is_end m e.to))
+    ∷ (reason 72, not (has_offset m.code e.handler))
+    ∷ (reason 72, not (has_offset frames e.handler))
+    ∷ answer_conditions 72 (type_answer classes (to_reference e.caught) (class throwable_name))
+
+-- the first entry that is refused says why
+abbrev pub table_judged : List ClassFact → Method Act → Frames → List ExceptionEntry → Verdict → Verdict
+table_judged classes m frames [] rest = rest
+table_judged classes m frames (e ∷ es) rest = refused_or (least (table_conditions classes m frames e)) 0 (table_judged classes m frames es rest)
+
+-- ---- what is asked of an instruction in the frame before it, the frame at the next start aside (4.10.1.6)
+
+-- no frame is declared at a negative offset
+abbrev pub declared_at : Frames → ℤ → Option FrameFact
+declared_at frames (pos at) = at_offset frames at
+declared_at frames (negsuc n) = None
+
+-- the frame after comes to a target
+abbrev pub one_target : List ClassFact → Option FrameFact → FrameFact → Conditions
+one_target classes None f = (reason 67, true) ∷ []
+one_target classes (Some declared) f = answer_conditions 68 (frame_answer classes f declared)
+
+abbrev pub target_conditions : List ClassFact → Frames → FrameFact → List ℤ → Conditions
+target_conditions classes frames f [] = []
+target_conditions classes frames f (target ∷ others) =
+    one_target classes (declared_at frames target) f ++ target_conditions classes frames f others
+
+-- the frame before comes to a handler, at which a frame is declared: otherwise the exception table was refused
+abbrev pub one_handler : List ClassFact → Option FrameFact → FrameFact → Conditions
+one_handler classes None f = (reason 73, true) ∷ []
+one_handler classes (Some declared) f = answer_conditions 73 (frame_answer classes f declared)
+
+abbrev pub handler_conditions : List ClassFact → Frames → ℕ → FrameFact → List ExceptionEntry → Conditions
+handler_conditions classes frames at f [] = []
+handler_conditions classes frames at f (e ∷ es) =
+    (if covers e at then one_handler classes (at_offset frames e.handler) (caught_frame e f) else [])
+    ++ handler_conditions classes frames at f es
+
+abbrev pub is_covered : List ExceptionEntry → ℕ → Bool
+is_covered [] at = false
+is_covered (e ∷ es) at = covers e at || is_covered es at
+
+-- by its plan, with the next start if there is one
+abbrev pub at_conditions : List ClassFact → Method Act → Frames → ℕ → Plan → Option ℕ → FrameFact → Conditions
+at_conditions classes m frames at p next f =
+    conditions classes m at p f
+    ++ (target_conditions classes frames (after m at p f) (targets at p)
+    ++ (handler_conditions classes frames at f m.exceptions
+    ++ ((reason 71, falls p && is_none next) ∷ (reason 75, constructs_own p f && is_covered m.exceptions at) ∷ [])))
+
+-- ---- the frame that comes to a start, where the instruction in front falls through, and the one that goes on
+
+abbrev pub entry : List ClassFact → (falls : Bool) → FrameFact → Option FrameFact → Option Reason
+entry classes true f None = None
+entry classes true f (Some declared) = least (answer_conditions 69 (frame_answer classes f declared))
+entry classes false f None = Some (reason 70)
+entry classes false f (Some declared) = None
+
+abbrev pub entered : FrameFact → Option FrameFact → FrameFact
+entered f None = f
+entered f (Some declared) = declared
+
+-- ---- the pass over the code
+
+-- a frame comes to the first of these instructions
+abbrev pub arrives : List ClassFact → Frames → List (ℕ × Act) → Bool → FrameFact → (FrameFact → Verdict) → Verdict
+arrives classes frames [] falls f goes_on = verified
+arrives classes frames (c ∷ cs) falls f goes_on =
+    refused_or (entry classes falls f (at_offset frames c.0)) c.0 (goes_on (entered f (at_offset frames c.0)))
+
+-- from this instruction on, the frame before it being this one
+abbrev pub passes : List ClassFact → Method Act → Frames → List (ℕ × Act) → FrameFact → Verdict
+passes classes m frames [] f = verified
+passes classes m frames (c ∷ cs) f =
+    refused_or (least (at_conditions classes m frames c.0 (plan m c.1) (first_offset cs) f)) c.0
+    (arrives classes frames cs (falls (plan m c.1)) (after m c.0 (plan m c.1) f) (passes classes m frames cs))
+
+abbrev pub code_judged : List ClassFact → Method Act → Frames → Verdict
+code_judged classes m frames = arrives classes frames m.code true (initial_frame m) (passes classes m frames m.code)
+
+-- ---- the method
+
+abbrev pub with_frames : List ClassFact → Method Act → Result Frames MapRefusal → Verdict
+with_frames classes m (Ok frames) = table_judged classes m frames m.exceptions (code_judged classes m frames)
+with_frames classes m (Err why) = map_refused why
+
+abbrev pub verdict : List ClassFact → Method Act → Verdict
+verdict classes m =
+    if nat_lt m.max_locals (length (in_locals (initial_types m))) then refused 0 (reason 64)
+    else with_frames classes m (frames_declared m)

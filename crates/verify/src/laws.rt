@@ -1,0 +1,20 @@
+//! What the verdict on a method means.
+ghost use Rattle.verify.specs.Refusals.{RefusedWhere};
+ghost use Rattle.verify.specs.VerdictLaws.{TypeSafeIsVerified, VerifiedIsTypeSafe};
+
+/// A method whose verdict is verified is type-safe.
+pub fn verified_is_type_safe()
+    ensures { VerifiedIsTypeSafe }
+{}
+
+/// The verdict on a method that is type-safe is verified, so a refusal denies that it is type-safe.
+pub fn type_safe_is_verified()
+    ensures { TypeSafeIsVerified }
+{}
+
+/// What a refusal says. Receiver and parameters do not fit; or an entry of the exception table is refused, and those in
+/// front of it are sound; or the initial frame does not fit the one declared at 0; or the method is type-safe up to an
+/// instruction, and either the reason is the least that holds there, or it is against the frame at the next start alone.
+pub fn refused_where()
+    ensures { RefusedWhere }
+{}
