@@ -1,5 +1,5 @@
 -- Where there is a table of frames, the pass refuses nothing.
-use Rattle.std.proofs.Common.{◌≡◌, ◌⊎◌, ℕ, Bool, true, false, nat_eq, List, [], ◌∷◌, Option, Some, None, refl, sym, ◌∙◌, ap, subst, inl, inr, if◌then◌else◌, eq-eqb, ne_eqb}
+use Rattle.std.proofs.Common.{◌≡◌, ℕ, Bool, true, false, nat_eq, List, [], ◌∷◌, Option, Some, None, refl, sym, ◌∙◌, ap, subst, inl, inr, eq-eqb, ne_eqb}
 use Rattle.classfile.specs.Methods.{Method}
 use Rattle.hierarchy.specs.Class.{ClassFact}
 use Rattle.insn.specs.Meanings.{Act}
@@ -11,7 +11,7 @@ use Rattle.frames.proofs.Frames.{frame_itself}
 use Rattle.rules.specs.Plans.{falls}
 use Rattle.rules.specs.Table.{plan}
 use Rattle.rules.specs.After.{after}
-use Rattle.verify.specs.TypeSafety.{Frames, LeadsTo, Comes}
+use Rattle.verify.specs.TypeSafety.{Frames, Comes}
 use Rattle.verify.specs.Verdict.{verified, refused_or, answer_conditions, at_conditions, entry, entered, arrives, passes}
 use Rattle.verify.proofs.Reasons.{none_told, yes_none, IsFine, of_fine}
 use Rattle.verify.proofs.Passing.{AreApart, at_first, IsFineIn}

@@ -18,4 +18,5 @@ pub mod Following
 pub mod Premises
 pub mod Verdicts
 pub mod Refusing
+pub mod MapFaults
 mod Examples

@@ -1,16 +1,16 @@
 -- A pass that refuses nothing makes a table of frames.
-use Rattle.std.proofs.Common.{◌≡◌, ◌⊎◌, ℕ, Bool, true, false, nat_eq, List, [], ◌∷◌, Option, Some, None, refl, sym, ◌∙◌, ap, subst, inl, inr, if◌then◌else◌, eq-eqb, eqb-true, ne_eqb}
+use Rattle.std.proofs.Common.{◌≡◌, ℕ, Bool, true, false, nat_eq, List, [], ◌∷◌, Option, Some, None, refl, sym, ◌∙◌, ap, subst, inl, inr, if◌then◌else◌, eq-eqb, eqb-true, ne_eqb}
 use Rattle.classfile.specs.Methods.{Method}
 use Rattle.hierarchy.specs.Class.{ClassFact}
 use Rattle.insn.specs.Meanings.{Act}
 use Rattle.insn.specs.Offsets.{at_offset, first_offset, next_offset}
 use Rattle.frames.specs.FrameFact.{FrameFact}
 use Rattle.frames.specs.FrameAssignable.{frame_answer}
-use Rattle.frames.specs.Conditions.{NoneHolds, least}
+use Rattle.frames.specs.Conditions.{least}
 use Rattle.rules.specs.Plans.{falls}
 use Rattle.rules.specs.Table.{plan}
 use Rattle.rules.specs.After.{after}
-use Rattle.verify.specs.TypeSafety.{Frames, LeadsTo, Comes}
+use Rattle.verify.specs.TypeSafety.{Frames, Comes}
 use Rattle.verify.specs.Verdict.{verified, answer_conditions, at_conditions, entry, entered, arrives, passes}
 use Rattle.verify.proofs.Declared.{none_least}
 use Rattle.verify.proofs.Reasons.{not_refused, answer_yes, IsFine, fine_of}

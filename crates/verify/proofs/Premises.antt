@@ -1,5 +1,5 @@
 -- What comes before the pass: the frames that are declared, and the exception table.
-use Rattle.std.proofs.Common.{◌≡◌, ◌⊎◌, ℕ, ◌+◌, ◌<◌, ◌≤◌, Bool, true, false, not, ◌||◌, is_some, nat_eq, nat_lt, List, [], ◌∷◌, ◌++◌, length, Option, Some, None, Result, Ok, Err, refl, sym, ◌∙◌, ap, subst, inl, inr, arith, if◌then◌else◌, eq-eqb, eqb-true, ne_eqb, ltb-true, lt-ltb}
+use Rattle.std.proofs.Common.{◌≡◌, ◌⊎◌, ℕ, ◌+◌, ◌<◌, Bool, true, false, not, ◌||◌, is_some, nat_eq, nat_lt, List, [], ◌∷◌, ◌++◌, length, Option, Some, None, Result, Ok, Err, refl, sym, ◌∙◌, ap, subst, inl, inr, arith, if◌then◌else◌, eq-eqb, eqb-true, ne_eqb, ltb-true, lt-ltb}
 use Rattle.std.proofs.lemmas.List.{append-nil}
 use Rattle.names.specs.StandardNames.{throwable_name}
 use Rattle.layout.specs.Place.{Place}
@@ -12,7 +12,6 @@ use Rattle.hierarchy.specs.Class.{ClassFact}
 use Rattle.insn.specs.Meanings.{Act}
 use Rattle.insn.specs.Offsets.{at_offset, has_offset, first_offset, IsStart, IsAmong}
 use Rattle.frames.specs.VerificationType.{class}
-use Rattle.frames.specs.FrameFact.{FrameFact}
 use Rattle.frames.specs.Slots.{to_reference}
 use Rattle.frames.specs.Assignable.{type_answer}
 use Rattle.frames.specs.Conditions.{Reason, NoneHolds, least}
@@ -54,7 +53,7 @@ first_at_zero (c ∷ cs) r s = by (nat_eq c.0 0) refl s.here
 
 -- ---- the stack map
 
-no_more : (xs : List ℕ) → length xs ≡ 0 → xs ≡ []
+pub no_more : (xs : List ℕ) → length xs ≡ 0 → xs ≡ []
 no_more [] e = refl
 no_more (x ∷ xs) e = cc
 
@@ -67,7 +66,7 @@ same_entries a b e = cc
 abbrev frames_ok : Frames → Result Frames MapRefusal
 frames_ok frames = Ok frames
 
-entries_spelled : (o : Option (List ℕ)) (entries : List MapEntry) → entries_read o ≡ Ok entries → HasEntries o entries
+pub entries_spelled : (o : Option (List ℕ)) (entries : List MapEntry) → entries_read o ≡ Ok entries → HasEntries o entries
 entries_spelled None entries e = sym (same_entries [] entries e)
 entries_spelled (Some body) entries e = by (reads stack_map 0 body) refl e
   where

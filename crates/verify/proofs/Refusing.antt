@@ -1,5 +1,5 @@
 -- Where a pass refuses, the method is type-safe up to there.
-use Rattle.std.proofs.Common.{◌≡◌, ◌⊎◌, ℕ, ◌+◌, ◌<◌, ◌≤◌, Bool, true, false, nat_eq, nat_lt, List, [], ◌∷◌, ◌++◌, length, Option, Some, None, Result, Ok, Err, refl, sym, ◌∙◌, ap, subst, inl, inr, arith, if◌then◌else◌, eq-eqb, eqb-true, ne_eqb, ltb-true, ltb-false}
+use Rattle.std.proofs.Common.{◌≡◌, ◌⊎◌, ℕ, ◌+◌, ◌<◌, ◌≤◌, Bool, true, false, nat_eq, nat_lt, List, [], ◌∷◌, ◌++◌, length, Option, Some, None, Result, Ok, Err, refl, sym, ◌∙◌, ap, subst, inl, inr, arith, if◌then◌else◌, eq-eqb, ne_eqb, ltb-true, ltb-false}
 use Rattle.classfile.specs.Methods.{Method, ExceptionEntry}
 use Rattle.hierarchy.specs.Class.{ClassFact}
 use Rattle.insn.specs.Meanings.{Act}
@@ -11,12 +11,12 @@ use Rattle.rules.specs.Plans.{falls}
 use Rattle.rules.specs.Table.{plan}
 use Rattle.rules.specs.After.{after}
 use Rattle.verify.specs.InitialFrames.{initial_types, initial_frame}
-use Rattle.verify.specs.TypeSafety.{Frames, Declares, Comes, IsTypeSafeAt, IsSoundEntry}
-use Rattle.verify.specs.Verdict.{MapRefusal, Verdict, verified, refused, refused_or, at_conditions, entry, entered, arrives, passes, code_judged, table_conditions, table_judged, with_frames, frames_declared, verdict}
+use Rattle.verify.specs.TypeSafety.{Frames, IsTypeSafeAt, IsSoundEntry}
+use Rattle.verify.specs.Verdict.{MapRefusal, Verdict, refused, refused_or, at_conditions, entry, entered, arrives, passes, code_judged, table_conditions, table_judged, with_frames, frames_declared}
 use Rattle.verify.specs.VerdictLaws.{OffsetsRise}
-use Rattle.verify.specs.Refusals.{IsTypeSafeUpTo, Reaches, BreaksRule, BreaksFrame, BreaksFirst, BreaksTable, HasNoRoom, BreaksCode, BreaksWithFrames, RefusedWhere}
-use Rattle.verify.proofs.Declared.{none_least, good_frames}
-use Rattle.verify.proofs.Passing.{IsFineIn, at_first, came, own_of, wider, same, fine_each, wider_head, here as wider_here, comes_in}
+use Rattle.verify.specs.Refusals.{Reaches, BreaksRule, BreaksFrame, BreaksFirst, BreaksTable, HasNoRoom, BreaksCode, BreaksWithFrames, RefusedWhere}
+use Rattle.verify.proofs.Declared.{none_least}
+use Rattle.verify.proofs.Passing.{IsFineIn, came, own_of, wider, fine_each, wider_head, comes_in}
 use Rattle.verify.proofs.Premises.{not_at, rising_apart, first_at_zero, frames_there, sound_of}
 
 some_reason : (v w : Reason) → Some v ≡ Some w → v ≡ w
@@ -62,6 +62,7 @@ module _ (classes : List ClassFact) (m : Method Act) (frames : Frames) where
     where
       clash : {A : Type 0} (a : Act) → None ≡ Some a → A
       clash a e = cc
+
       behind : first_offset cs ≡ next_offset (c ∷ cs) c.0
       behind = rw (eq-eqb c.0 c.0 refl) refl
 
@@ -69,7 +70,7 @@ module _ (classes : List ClassFact) (m : Method Act) (frames : Frames) where
   module _ (c : ℕ × Act) (cs : List (ℕ × Act)) (f : FrameFact) (at : ℕ) (why : Reason) (apart : at_offset cs c.0 ≡ None) (own : (k : FrameFact) → at_offset frames c.0 ≡ Some k → f ≡ k)
       (fine : least (at_conditions classes m frames c.0 (plan m c.1) (first_offset cs) f) ≡ None)
       (on : (q : ℕ) → first_offset cs ≡ Some q → (entry classes (falls (plan m c.1)) (after m c.0 (plan m c.1) f) (at_offset frames q) ≡ None)
-        × (came classes m frames cs (after m c.0 (plan m c.1) f) ≡ entered (after m c.0 (plan m c.1) f) (at_offset frames q)))
+      × (came classes m frames cs (after m c.0 (plan m c.1) f) ≡ entered (after m c.0 (plan m c.1) f) (at_offset frames q)))
       (r : IsFineUpTo cs (came classes m frames cs (after m c.0 (plan m c.1) f)) at why) where
     other : nat_eq c.0 r.stop ≡ false
     other = ne_eqb c.0 r.stop (λ q. clash r.act (sym apart ∙ ap (at_offset cs) q ∙ r.here))
@@ -105,6 +106,7 @@ module _ (classes : List ClassFact) (m : Method Act) (frames : Frames) where
     where
       g : FrameFact
       g = after m c.0 (plan m c.1) f
+
       by : ((entry classes (falls (plan m c.1)) g (at_offset frames d.0) ≡ Some why) × (d.0 ≡ at))
           ⊎ ((entry classes (falls (plan m c.1)) g (at_offset frames d.0) ≡ None) × (passes classes m frames (d ∷ ds) (entered g (at_offset frames d.0)) ≡ refused at why)) → IsFineUpTo (c ∷ d ∷ ds) f at why
       by (inl x) =
@@ -189,6 +191,7 @@ module _ (classes : List ClassFact) (m : Method Act) (frames : Frames) where
     where
       offset : (a b : ℕ) → Some a ≡ Some b → a ≡ b
       offset a b i = cc
+
       by : ((first_offset m.code ≡ Some at) × (entry classes true (initial_frame m) (at_offset frames at) ≡ Some why))
           ⊎ (((q : ℕ) → first_offset m.code ≡ Some q → (entry classes true (initial_frame m) (at_offset frames q) ≡ None) × (came classes m frames m.code (initial_frame m) ≡ entered (initial_frame m) (at_offset frames q)))
           × (passes classes m frames m.code (came classes m frames m.code (initial_frame m)) ≡ refused at why))
@@ -234,6 +237,7 @@ module _ (classes : List ClassFact) (m : Method Act) (frames : Frames) where
         at_zero = b.at_zero;
       })
       on s (inr y) = inr (sound_with x es s y.0, y.1)
+
       by : ((least (table_conditions classes m frames x) ≡ Some why) × (0 ≡ at)) ⊎ ((least (table_conditions classes m frames x) ≡ None) × (table_judged classes m frames es rest ≡ refused at why))
           → (table_judged classes m frames es rest ≡ refused at why → IsFirstBroken es at why ⊎ (((e : ExceptionEntry) → IsAmong e es → IsSoundEntry classes m frames e) × (rest ≡ refused at why)))
           → IsFirstBroken (x ∷ es) at why ⊎ (((e : ExceptionEntry) → IsAmong e (x ∷ es) → IsSoundEntry classes m frames e) × (rest ≡ refused at why))
@@ -253,9 +257,11 @@ refused_where classes m rise begins at why v = by (nat_lt m.max_locals (length (
   where
     same_refusal : (p q : ℕ) (a b : Reason) → refused p a ≡ refused q b → (p ≡ q) × (a ≡ b)
     same_refusal p q a b e = (cc, cc)
+
     on : (r : Result Frames MapRefusal) → frames_declared m ≡ r → with_frames classes m r ≡ refused at why → BreaksWithFrames classes m at why
     on (Ok frames) r w = (frames, frames_there m frames r, frames_break classes m frames at why rise (first_at_zero m.code rise begins) w)
     on (Err fault) r w = cc
+
     by : (b : Bool) → nat_lt m.max_locals (length (in_locals (initial_types m))) ≡ b → (if b then refused 0 (reason 64) else with_frames classes m (frames_declared m)) ≡ refused at why
         → HasNoRoom m at why ⊎ BreaksWithFrames classes m at why
     by true b w =

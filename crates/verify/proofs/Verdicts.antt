@@ -1,19 +1,17 @@
 -- A method is verified exactly where it is type-safe.
-use Rattle.std.proofs.Common.{◌≡◌, ℕ, ◌≤◌, Bool, true, false, nat_lt, List, [], ◌∷◌, length, Some, None, Result, Ok, Err, refl, sym, ◌∙◌, ap, subst, if◌then◌else◌, ltb-false, le-ltb}
+use Rattle.std.proofs.Common.{◌≡◌, ℕ, ◌≤◌, Bool, true, false, nat_lt, List, length, Some, None, Result, Ok, Err, refl, sym, ◌∙◌, ap, subst, if◌then◌else◌, ltb-false, le-ltb}
 use Rattle.classfile.specs.Methods.{Method}
 use Rattle.hierarchy.specs.Class.{ClassFact}
 use Rattle.insn.specs.Meanings.{Act}
 use Rattle.insn.specs.Offsets.{at_offset, first_offset, IsStart}
-use Rattle.frames.specs.FrameFact.{FrameFact}
 use Rattle.frames.specs.Slots.{in_locals}
 use Rattle.frames.specs.Conditions.{reason}
-use Rattle.rules.specs.Table.{plan}
 use Rattle.verify.specs.InitialFrames.{initial_types, initial_frame}
 use Rattle.verify.specs.TypeSafety.{Frames, Declares, Comes, IsTypeSafe}
-use Rattle.verify.specs.Verdict.{MapRefusal, Verdict, verified, refused, entered, passes, code_judged, table_judged, with_frames, frames_declared, verdict}
+use Rattle.verify.specs.Verdict.{MapRefusal, verified, refused, code_judged, table_judged, with_frames, frames_declared, verdict}
 use Rattle.verify.specs.VerdictLaws.{OffsetsRise, VerifiedIsTypeSafe, TypeSafeIsVerified}
 use Rattle.verify.proofs.Declared.{good_frames}
-use Rattle.verify.proofs.Passing.{at_first, comes_in, came, tail_of, enters_of, own_of, HasTable, has_table, IsFineIn}
+use Rattle.verify.proofs.Passing.{comes_in, came, tail_of, enters_of, own_of, HasTable, has_table, IsFineIn}
 use Rattle.verify.proofs.Following.{comes_none, onward, passes_all}
 use Rattle.verify.proofs.Premises.{rising_apart, first_at_zero, frames_there, there_frames, table_sound, sound_table}
 

@@ -1,5 +1,5 @@
 -- What a refusal says: which step refuses, and how far the method is type-safe (JVMS 4.10.1.6).
-use Rattle.std.specs.Prelude.{◌≡◌, ℕ, ◌<◌, ◌≤◌, true, List, ◌∷◌, ◌++◌, Option, Some, None, length, ◌⊎◌}
+use Rattle.std.specs.Prelude.{◌≡◌, ℕ, ◌<◌, ◌≤◌, true, List, ◌∷◌, ◌++◌, Some, Err, length, ◌⊎◌}
 use Rattle.classfile.specs.Methods.{Method, ExceptionEntry}
 use Rattle.hierarchy.specs.Class.{ClassFact}
 use Rattle.insn.specs.Meanings.{Act}
@@ -7,12 +7,14 @@ use Rattle.insn.specs.Offsets.{at_offset, next_offset, IsStart, IsAmong}
 use Rattle.frames.specs.FrameFact.{FrameFact}
 use Rattle.frames.specs.Slots.{in_locals}
 use Rattle.frames.specs.Conditions.{Reason, reason, NoneHolds, least}
+use Rattle.frames.specs.StackMaps.{MapEntry, MapFault}
+use Rattle.frames.specs.DeclaredFrames.{declared_frames}
 use Rattle.rules.specs.Plans.{falls}
 use Rattle.rules.specs.Table.{plan}
 use Rattle.rules.specs.After.{after}
 use Rattle.verify.specs.InitialFrames.{initial_types, initial_frame}
-use Rattle.verify.specs.TypeSafety.{Frames, Declares, Comes, IsSoundEntry, IsTypeSafeAt}
-use Rattle.verify.specs.Verdict.{refused, table_conditions, at_conditions, entry, verdict}
+use Rattle.verify.specs.TypeSafety.{Frames, HasEntries, Declares, Comes, IsSoundEntry, IsTypeSafeAt}
+use Rattle.verify.specs.Verdict.{MapRefusal, unreadable, undeclared, refused, map_refused, table_conditions, at_conditions, entry, verdict}
 use Rattle.verify.specs.VerdictLaws.{OffsetsRise}
 
 -- the frames at the starts up to an offset, and the conditions of the instructions before it
@@ -40,7 +42,7 @@ pub record BreaksFrame (classes : List ClassFact) (m : Method Act) (frames : Fra
   pub next : next_offset m.code before ≡ Some at
   pub fine : NoneHolds (at_conditions classes m frames before (plan m reached.act) (Some at) (reached.table before))
   pub told :
-    entry classes (falls (plan m reached.act)) (after m before (plan m reached.act) (reached.table before)) (at_offset frames at) ≡ Some why
+      entry classes (falls (plan m reached.act)) (after m before (plan m reached.act) (reached.table before)) (at_offset frames at) ≡ Some why
 
 -- The initial frame is not assignable to the one that is declared at 0.
 pub record BreaksFirst (classes : List ClassFact) (m : Method Act) (frames : Frames) (at : ℕ) (why : Reason) : Type 0 where
@@ -76,3 +78,17 @@ abbrev pub RefusedWhere : Type 0
 RefusedWhere =
     (classes : List ClassFact) (m : Method Act) → OffsetsRise 0 m.code → IsStart m.code 0 → (at : ℕ) (why : Reason) → verdict classes m ≡ refused at why
     → HasNoRoom m at why ⊎ BreaksWithFrames classes m at why
+
+-- ---- the stack map is refused
+
+-- It has a fault, or its entries are there and one is refused.
+abbrev pub IsMapFault : Method Act → MapRefusal → Type 0
+IsMapFault m (unreadable fault) = (body : List ℕ) × (m.stack_map ≡ Some body) × MapFault body fault
+IsMapFault m (undeclared why) =
+    (entries : List MapEntry) × HasEntries m.stack_map entries
+    × (declared_frames m.constant_pool m.code m.max_locals m.max_stack (initial_types m) entries ≡ Err why)
+
+abbrev pub MapRefusedWhere : Type 0
+MapRefusedWhere =
+    (classes : List ClassFact) (m : Method Act) (why : MapRefusal) → verdict classes m ≡ map_refused why
+    → (length (in_locals (initial_types m)) ≤ m.max_locals) × IsMapFault m why

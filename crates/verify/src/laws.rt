@@ -1,5 +1,5 @@
 //! What the verdict on a method means.
-ghost use Rattle.verify.specs.Refusals.{RefusedWhere};
+ghost use Rattle.verify.specs.Refusals.{MapRefusedWhere, RefusedWhere};
 ghost use Rattle.verify.specs.VerdictLaws.{TypeSafeIsVerified, VerifiedIsTypeSafe};
 
 /// A method whose verdict is verified is type-safe.
@@ -17,4 +17,9 @@ pub fn type_safe_is_verified()
 /// instruction, and either the reason is the least that holds there, or it is against the frame at the next start alone.
 pub fn refused_where()
     ensures { RefusedWhere }
+{}
+
+/// Where the stack map is refused, receiver and parameters fit, and the map has this fault.
+pub fn map_refused_where()
+    ensures { MapRefusedWhere }
 {}

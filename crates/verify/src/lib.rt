@@ -7,7 +7,7 @@
 mod laws;
 mod theorem;
 
-pub use laws::{refused_where, type_safe_is_verified, verified_is_type_safe};
+pub use laws::{map_refused_where, refused_where, type_safe_is_verified, verified_is_type_safe};
 pub use theorem::type_safe_is_safe;
 
 #[cfg(test)]

@@ -1,5 +1,8 @@
 //! The theorem and the laws may be called; they do nothing.
-use crate::{refused_where, type_safe_is_safe, type_safe_is_verified, verified_is_type_safe};
+use crate::{
+    map_refused_where, refused_where, type_safe_is_safe, type_safe_is_verified,
+    verified_is_type_safe,
+};
 
 #[test]
 fn theorem_is_called() {
@@ -11,4 +14,5 @@ fn laws_are_called() {
     verified_is_type_safe();
     type_safe_is_verified();
     refused_where();
+    map_refused_where();
 }

@@ -1,0 +1,5 @@
+use Rattle.verify.proofs.MapFaults.{map_refused_where}
+use Rattle.verify.proofs.laws.map_refused_where.Goals as goal
+
+pub returns : goal.returns
+returns c = map_refused_where
