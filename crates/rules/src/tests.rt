@@ -1,3 +1,5 @@
+ghost use Rattle.std.specs.Prelude.{◌≡◌, length, IfOk};
+
 use super::*;
 use classfile::{ClassFile, CodeAttr};
 use frames::{Frame, VType};
@@ -38,7 +40,9 @@ fn frame<'a>(
     locals: &[VType<'a>],
     stack: &[VType<'a>],
     flag: bool,
-) -> Result<Frame<'a>, AllocError> {
+) -> Result<Frame<'a>, AllocError>
+    ensures { IfOk result (λ f. length f.locals.items ≡ length locals.now) }
+{
     Ok(Frame {
         locals: locals.iter().copied().collect(alloc)?,
         stack: stack.iter().copied().collect(alloc)?,
@@ -84,6 +88,7 @@ fn judge<'a>(
         params: Vec::new(alloc),
         result: given.result,
     };
+    let bytes = &bytes[..bytes.len().min(9)];
     let list = decode_code(alloc, bytes).expect(rt, "code");
     let object = [Summary {
         name: OBJECT,
@@ -102,7 +107,7 @@ fn judge<'a>(
         is_init: true,
         types: &types,
     };
-    let first = list[0].1;
+    let (_, first) = *list.first().expect(rt, "an instruction");
     let frame = frame(alloc, &given.locals, given.stack, given.flag)?;
     Ok(apply(alloc, &body, &classes, 0, &first, &frame))
 }
@@ -239,9 +244,11 @@ fn reasons(rt: HostRuntime) -> Result<(), Fail> {
 #[test]
 fn ways(rt: HostRuntime) -> Result<(), Fail> {
     let list = decode_code(rt.alloc(), &[0xA7, 0, 3, 0x00])?;
-    assert!(rt; !falls(&list[0].1) && falls(&list[1].1));
-    assert!(rt; matches!(branches(&list[0].1), Branches::One(3)));
-    assert!(rt; matches!(branches(&list[1].1), Branches::Nowhere));
+    let (_, goto) = list.first().expect(&rt, "a goto");
+    let (_, nop) = list.last().expect(&rt, "a nop");
+    assert!(rt; !falls(goto) && falls(nop));
+    assert!(rt; matches!(branches(goto), Branches::One(3)));
+    assert!(rt; matches!(branches(nop), Branches::Nowhere));
     Ok(())
 }
 
