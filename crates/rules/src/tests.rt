@@ -89,7 +89,9 @@ fn judge<'a>(
         result: given.result,
     };
     let bytes = &bytes[..bytes.len().min(9)];
-    let list = decode_code(alloc, bytes).expect(rt, "code");
+    let Ok(list) = decode_code(alloc, bytes) else {
+        return Err(AllocError);
+    };
     let object = [Summary {
         name: OBJECT,
         superclass: None,
@@ -98,7 +100,9 @@ fn judge<'a>(
         members: Vec::new(alloc),
     }];
     let hasher: BuildHasherDefault<FoldHasher> = BuildHasherDefault::new();
-    let classes = Chains::new(alloc, &object, hasher).expect(rt, "a hierarchy");
+    let Ok(classes) = Chains::new(alloc, &object, hasher) else {
+        return Err(AllocError);
+    };
     let body = Body {
         class: &class,
         code: &code,
