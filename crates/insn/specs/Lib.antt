@@ -12,3 +12,4 @@ pub mod Table
 pub mod Views
 pub mod Offsets
 pub mod Stacks
+pub mod Supported

@@ -14,9 +14,10 @@ use Rattle.frames.specs.FrameFact.{FrameFact}
 use Rattle.frames.specs.Conditions.{least}
 use Rattle.rules.specs.Plans.{Plan, number, refuses, falls, offsets_of}
 use Rattle.rules.specs.Constants.{load_wide_constant}
-use Rattle.rules.specs.Table.{return_number, return_nothing, leaves_with}
+use Rattle.rules.specs.Table.{plan, return_number, return_nothing, leaves_with}
 use Rattle.rules.specs.Rules.{conditions, constructs_own}
-use Rattle.rules.specs.Supported.{judged_by, goes_on, branch_offsets}
+use Rattle.insn.specs.Supported.{as_supported}
+use Rattle.rules.specs.Ways.{goes_on, branch_offsets}
 
 -- the plan goes where the act says
 pub record Goes (a : Act) (p : Plan) : Type 0 where
@@ -60,14 +61,14 @@ module _ (cs : List ClassFact) (m : Method Act) (at : ℕ) (f : FrameFact) where
   nothing_back None e = same acts.ReturnVoid (return_nothing None) refl refl
   nothing_back (Some t) e = cc
 
-  pub goes : (a : Act) → least (conditions cs m at (judged_by m a) f) ≡ None → Goes a (judged_by m a)
-  goes acts.Nothing e = same acts.Nothing (judged_by m acts.Nothing) refl refl
-  goes (acts.Constant kind) e = same (acts.Constant kind) (judged_by m (acts.Constant kind)) refl refl
-  goes (acts.Load kind n) e = same (acts.Load kind n) (judged_by m (acts.Load kind n)) refl refl
-  goes (acts.Store kind n) e = same (acts.Store kind n) (judged_by m (acts.Store kind n)) refl refl
-  goes (acts.Increment n) e = same (acts.Increment n) (judged_by m (acts.Increment n)) refl refl
-  goes (acts.Numeric operator) e = same (acts.Numeric operator) (judged_by m (acts.Numeric operator)) refl refl
-  goes (acts.Stack operator) e = same (acts.Stack operator) (judged_by m (acts.Stack operator)) refl refl
+  pub goes : (a : Act) → least (conditions cs m at (plan m (as_supported a)) f) ≡ None → Goes a (plan m (as_supported a))
+  goes acts.Nothing e = same acts.Nothing (plan m (as_supported acts.Nothing)) refl refl
+  goes (acts.Constant kind) e = same (acts.Constant kind) (plan m (as_supported (acts.Constant kind))) refl refl
+  goes (acts.Load kind n) e = same (acts.Load kind n) (plan m (as_supported (acts.Load kind n))) refl refl
+  goes (acts.Store kind n) e = same (acts.Store kind n) (plan m (as_supported (acts.Store kind n))) refl refl
+  goes (acts.Increment n) e = same (acts.Increment n) (plan m (as_supported (acts.Increment n))) refl refl
+  goes (acts.Numeric operator) e = same (acts.Numeric operator) (plan m (as_supported (acts.Numeric operator))) refl refl
+  goes (acts.Stack operator) e = same (acts.Stack operator) (plan m (as_supported (acts.Stack operator))) refl refl
   goes (acts.LoadWideConstant i) e = wide i (constant_at m.constant_pool i) e
   goes (acts.Return kind) e = back kind m.type.result e
   goes acts.ReturnVoid e = nothing_back m.type.result e
@@ -140,7 +141,7 @@ nothing_own : (f : FrameFact) (t : Option FieldDescriptor) → constructs_own (r
 nothing_own f None = refl
 nothing_own f (Some t) = refl
 
-pub no_own : (m : Method Act) (f : FrameFact) (a : Act) → constructs_own (judged_by m a) f ≡ false
+pub no_own : (m : Method Act) (f : FrameFact) (a : Act) → constructs_own (plan m (as_supported a)) f ≡ false
 no_own m f acts.Nothing = refl
 no_own m f (acts.Constant kind) = refl
 no_own m f (acts.Load kind n) = refl

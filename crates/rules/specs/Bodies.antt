@@ -6,6 +6,7 @@ use Rattle.classfile.specs.Views.{class_view, code_view}
 use Rattle.pool.specs.Members.{class_at}
 use Rattle.insn.specs.Meanings.{Act}
 use Rattle.insn.specs.Offsets.{acts}
+use Rattle.insn.specs.Supported.{supported_acts}
 use Rattle.insn.specs.Views.{views}
 use Rattle.rules.specs.declared.body.Body.{Body}
 
@@ -19,7 +20,7 @@ method_view b =
     let c = class_view b.class.now in
     let code = code_view b.code.now in
     record {
-      code = acts (views b.list.now);
+      code = supported_acts (acts (views b.list.now));
       code_length = length code.code;
       max_stack = code.max_stack;
       max_locals = code.max_locals;

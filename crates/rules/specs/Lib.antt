@@ -3,7 +3,7 @@ pub mod Constants
 pub mod Table
 pub mod After
 pub mod Rules
-pub mod Supported
+pub mod Ways
 pub mod Reasons
 pub mod Bodies
 pub mod Views

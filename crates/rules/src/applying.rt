@@ -3,7 +3,8 @@ ghost use Rattle.std.specs.Prelude.{◌≡◌, length, IfOk};
 ghost use Rattle.insn.specs.Meanings.{act};
 ghost use Rattle.insn.specs.Views.{view};
 ghost use Rattle.frames.specs.FrameFact.{frame_of};
-ghost use Rattle.rules.specs.Supported.{judged_by};
+ghost use Rattle.insn.specs.Supported.{as_supported};
+ghost use Rattle.rules.specs.Table.{plan};
 ghost use Rattle.rules.specs.Bodies.{method_view};
 ghost use Rattle.rules.specs.Applied.{Applied};
 
@@ -66,7 +67,7 @@ pub fn apply<'a, C: Classes>(
 ) -> Result<After<'a>, Refusal<'a>>
     requires { length frame.now.locals.items ≡ body.now.code.now.max_locals }
     ensures { let m = method_view body.now in
-        Applied (C.content classes.now) m at (judged_by m (act (view insn.now))) (frame_of frame.now) result }
+        Applied (C.content classes.now) m at (plan m (as_supported (act (view insn.now)))) (frame_of frame.now) result }
 {
     let Ok(mut after) = copy_of(alloc, frame) else {
         return Err(Refusal {

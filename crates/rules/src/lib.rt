@@ -20,7 +20,7 @@
 //! - `specs/Table.antt`: the rule of each instruction.
 //! - `specs/After.antt`: the frame after.
 //! - `specs/Rules.antt`: the conditions that refuse an instruction, with their numbers.
-//! - `specs/Supported.antt`: the instructions whose rules are there yet.
+//! - `specs/Ways.antt`: where instructions go.
 #![tactic(auto)]
 
 mod applying;

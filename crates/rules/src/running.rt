@@ -2,7 +2,8 @@
 ghost use Rattle.std.specs.Prelude.{◌≡◌, length};
 ghost use Rattle.insn.specs.Views.{act_view};
 ghost use Rattle.frames.specs.FrameFact.{frame_of};
-ghost use Rattle.rules.specs.Supported.{judged_by};
+ghost use Rattle.insn.specs.Supported.{as_supported};
+ghost use Rattle.rules.specs.Table.{plan};
 ghost use Rattle.rules.specs.After.{after};
 ghost use Rattle.rules.specs.Rules.{conditions};
 ghost use Rattle.rules.specs.Bodies.{method_view};
@@ -33,7 +34,7 @@ pub fn run<'a, C: Classes>(
 ) -> Result<(), Reason<'a>>
     requires { length frame.old.locals.items ≡ body.now.code.now.max_locals }
     ensures { let m = method_view body.now in let f = frame_of frame.old in
-        let p = judged_by m (act_view act.entry) in
+        let p = plan m (as_supported (act_view act.entry)) in
         Done (conditions (C.content classes.now) m at p f) (after m at p f) (frame_of frame.new) result }
 {
     match act {

@@ -2,7 +2,7 @@
 ghost use Rattle.std.specs.Prelude.{◌≡◌};
 ghost use Rattle.insn.specs.Meanings.{act};
 ghost use Rattle.insn.specs.Views.{view, act_view};
-ghost use Rattle.rules.specs.Supported.{goes_on, branch_offsets};
+ghost use Rattle.rules.specs.Ways.{goes_on, branch_offsets};
 ghost use Rattle.rules.specs.Applied.{branches_view};
 
 use crate::branching::Branches;

@@ -1,0 +1,25 @@
+-- Where each instruction goes.
+use Rattle.std.specs.Prelude.{ℤ, Bool, true, false, List, [], ◌∷◌}
+use Rattle.insn.specs.Meanings as acts
+use Rattle.insn.specs.Meanings.{Act}
+
+-- an instruction goes on to the next one, where it is not refused
+abbrev pub goes_on : Act → Bool
+goes_on (acts.Goto offset) = false
+goes_on (acts.Switch default offsets) = false
+goes_on (acts.Return kind) = false
+goes_on acts.ReturnReference = false
+goes_on acts.ReturnVoid = false
+goes_on acts.Throw = false
+goes_on acts.Unsupported = false
+goes_on _ = true
+
+-- where an instruction branches to, by offsets from its own start, the default of a switch first
+abbrev pub branch_offsets : Act → List ℤ
+branch_offsets (acts.IfInt offset) = offset ∷ []
+branch_offsets (acts.IfInts offset) = offset ∷ []
+branch_offsets (acts.IfReferences offset) = offset ∷ []
+branch_offsets (acts.IfNull offset) = offset ∷ []
+branch_offsets (acts.Goto offset) = offset ∷ []
+branch_offsets (acts.Switch default offsets) = default ∷ offsets
+branch_offsets _ = []
