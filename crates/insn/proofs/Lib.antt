@@ -3,6 +3,7 @@ pub mod CodeSpellings
 pub mod Keys
 pub mod Numbers
 pub mod OperandLaws
+pub mod Readings
 pub mod Rows
 pub mod Spelled
 pub mod Starts

@@ -6,6 +6,7 @@ ghost use Rattle.insn.specs.Instructions.{Instruction};
 ghost use Rattle.insn.specs.Code.{SpellsCode, FaultyCode};
 ghost use Rattle.insn.specs.Laws.{OneSpelling, StartsAreSums, SizesAdd, WrittenIsRead, ReadIsWritten};
 ghost use Rattle.insn.specs.Opcodes.{number, opcode_of};
+ghost use Rattle.insn.specs.Readings.{ReadingsAreSpellings};
 
 /// Bytes are the code of one list of instructions at most, and then no instruction in them is at
 /// fault; other bytes have one fault at most.
@@ -15,6 +16,11 @@ pub fn code_is_one_list()
     ensures either { (bytes : List ℕ) (xs : List (ℕ × Instruction)) (e : CodeFault)
         → SpellsCode 0 bytes xs → FaultyCode bytes e → ⊥ }
     ensures fault { (bytes : List ℕ) (e f : CodeFault) → FaultyCode bytes e → FaultyCode bytes f → e ≡ f }
+{}
+
+/// The words that compute say of code what its spelling says: its instructions, or its fault.
+pub fn readings_are_spellings()
+    ensures { ReadingsAreSpellings }
 {}
 
 /// Opcodes and their numbers are two ways through one table.

@@ -43,7 +43,8 @@ pub use encoding::encode_code;
 pub use fault::CodeFault;
 pub use instruction::{Insn, Operands, is_start, mnemonic};
 pub use laws::{
-    code_is_one_list, list_is_one_code, opcodes_have_numbers, read_is_written, written_is_read,
+    code_is_one_list, list_is_one_code, opcodes_have_numbers, read_is_written,
+    readings_are_spellings, written_is_read,
 };
 pub use meaning::act;
 pub use opcode::Opcode;

@@ -8,7 +8,7 @@ use Rattle.std.proofs.Math.Logic.{∥∥₁_map, ∥∥₁_elim}
 use Rattle.std.specs.Coded.{le_prop}
 use Rattle.std.proofs.lemmas.Grind.{flat_map-append}
 use Rattle.names.specs.Texts.{IsText, FirstBad, unit, spelling, AreUnits}
-use Rattle.names.specs.Units.{bad_behind, bad_from, bad_text, unit_at, two, three, shortest}
+use Rattle.names.specs.Units.{bad_behind, bad_from, bad_text, unit_at, two, three, shortest, units_behind, units_from, units_of}
 
 abbrev pub IsBytes : List ℕ → Type 0
 IsBytes bytes = (i : ℕ) → get_or bytes i 0 < 256
@@ -417,3 +417,50 @@ not_both k e = cc
 
 pub same_place : (j k : ℕ) → (let o : Option ℕ = Some j in o) ≡ Some k → j ≡ k
 same_place j k e = cc
+
+-- ---- the units of a text as a function
+
+same_behind : (f g : List ℕ → List ℕ) (bytes : List ℕ) → ((u n : ℕ) → unit_at bytes ≡ Some (u, n) → f (drop n bytes) ≡ g (drop n bytes))
+    → units_behind f bytes (unit_at bytes) ≡ units_behind g bytes (unit_at bytes)
+same_behind f g bytes same = by_unit (unit_at bytes) same
+  where
+    by_unit : (o : Option (ℕ × ℕ)) → ((u n : ℕ) → o ≡ Some (u, n) → f (drop n bytes) ≡ g (drop n bytes)) → units_behind f bytes o ≡ units_behind g bytes o
+    by_unit None same = refl
+    by_unit (Some x) same = ap (λ us. x.0 ∷ us) (same x.0 x.1 refl)
+
+-- more units may be asked for than bytes are there
+same_units : (n m : ℕ) (bytes : List ℕ) → length bytes ≤ n → length bytes ≤ m → units_from n bytes ≡ units_from m bytes
+unfolding units_from
+same_units zero zero bytes h k = refl
+same_units zero (suc m) bytes h k = rw (nil_from_length bytes (omega (arith, h))) refl
+same_units (suc n) zero bytes h k = rw (nil_from_length bytes (omega (arith, k))) refl
+same_units (suc n) (suc m) bytes h k =
+    same_behind (units_from n) (units_from m) bytes (λ u t e.
+    let in_front = is_within bytes u t e in
+    let left = length-drop t bytes in
+    same_units n m (drop t bytes) (omega (arith, left, in_front.0, in_front.1, h)) (omega (arith, left, in_front.0, in_front.1, k)))
+
+pub units_on_from : (bytes : List ℕ) (u n : ℕ) → unit_at bytes ≡ Some (u, n) → units_of bytes ≡ u ∷ units_of (drop n bytes)
+unfolding units_of units_from
+units_on_from [] u n e = absurd (none_some (u, n) e)
+units_on_from (b ∷ bs) u n e =
+    let in_front = is_within (b ∷ bs) u n e in
+    let left : length (drop n (b ∷ bs)) + n ≡ length (b ∷ bs) = omega (arith, length-drop n (b ∷ bs), in_front.0) in
+    ap (units_behind (units_from (length bs)) (b ∷ bs)) e
+    ∙ ap (λ us. u ∷ us) (same_units (length bs) (length (drop n (b ∷ bs))) (drop n (b ∷ bs)) (omega (arith, left, in_front.1)) (omega arith))
+
+-- there are fewer behind it
+pub fewer_units : (bytes : List ℕ) (u n : ℕ) → unit_at bytes ≡ Some (u, n) → length (units_of (drop n bytes)) < length (units_of bytes)
+fewer_units bytes u n e = omega (arith, ap length (units_on_from bytes u n e))
+
+pub no_units : (bytes : List ℕ) → unit_at bytes ≡ None → units_of bytes ≡ []
+unfolding units_of units_from
+no_units [] e = refl
+no_units (b ∷ bs) e = ap (units_behind (units_from (length bs)) (b ∷ bs)) e
+
+pub units_again : (us : List ℕ) → AreUnits us → units_of (spelling us) ≡ us
+units_again [] h = no_units [] refl
+units_again (u ∷ us) h =
+    units_on_from (spelling (u ∷ us)) u (length (unit u)) (unit_again u (spelling us) h.0)
+    ∙ ap (λ x. u ∷ units_of x) (drop_at (unit u) (spelling us) (length (unit u)) refl)
+    ∙ ap (λ x. u ∷ x) (units_again us h.1)

@@ -9,3 +9,4 @@ pub mod StandardNames
 pub mod Texts
 pub mod Types
 pub mod Units
+pub mod UnitsLeft

@@ -41,3 +41,19 @@ bad_from (suc n) at (b ∷ bytes) = bad_behind (bad_from n) at (b ∷ bytes) (un
 -- where the first unit without a right spelling lies
 unfoldable pub bad_text : List ℕ → Option ℕ
 bad_text bytes = bad_from (length bytes) 0 bytes
+
+-- ---- the units of a text
+
+-- the unit in front, and those behind it
+abbrev pub units_behind : (List ℕ → List ℕ) → List ℕ → Option (ℕ × ℕ) → List ℕ
+units_behind f bytes None = []
+units_behind f bytes (Some x) = x.0 ∷ f (drop x.1 bytes)
+
+-- so many at most
+unfoldable pub units_from : ℕ → List ℕ → List ℕ
+units_from zero bytes = []
+units_from (suc n) bytes = units_behind (units_from n) bytes (unit_at bytes)
+
+-- those that the bytes begin with, which in a text are all
+unfoldable pub units_of : List ℕ → List ℕ
+units_of bytes = units_from (length bytes) bytes

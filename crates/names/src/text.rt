@@ -1,7 +1,8 @@
 //! Texts: bytes that are well-spelled modified UTF-8 (JVMS 4.4.7).
 
 ghost use Rattle.std.specs.Prelude.{◌≡◌, ◌↔◌, ◌++◌, ℕ, List, [], length, IsTrue, IsOk, IfOk, OnOk, IfErr, IsOkUnless, MatchResult, Err, Some, None};
-ghost use Rattle.names.specs.Units.{unit_at, bad_text};
+ghost use Rattle.names.specs.Units.{unit_at, bad_text, units_of};
+ghost use Rattle.names.specs.UnitsLeft.{units_left};
 ghost use Rattle.names.specs.Texts.{IsText, FirstBad, AreUnits, unit, spelling};
 ghost use Rattle.names.specs.declared.fault.NameFault.TheVariants.{BadText, OutOfMemory};
 
@@ -44,6 +45,36 @@ impl<'a> Text<'a> {
         ensures { IsTrue result ↔ (self.entry.bytes.now ≡ []) }
     {
         self.bytes.is_empty()
+    }
+
+    /// The units that the text spells, one by one. Takes no memory.
+    pub fn iter(self) -> TextUnits<'a>
+        ensures { units_left result ≡ units_of self.entry.bytes.now }
+    {
+        TextUnits { rest: self.bytes }
+    }
+}
+
+/// The units of a text, one by one.
+#[derive(Drop)]
+pub struct TextUnits<'a> {
+    rest: &'a [u8],
+}
+
+impl<'a> Iterator for TextUnits<'a> {
+    ghost use Rattle.std.specs.Iterator.{YieldsFirst, item_count};
+
+    type Item = u16;
+
+    ghost next_gives = { YieldsFirst units_left };
+
+    ghost remaining = { item_count units_left };
+
+    fn next(&mut self) -> Option<u16> {
+        let (unit, n) = unit_at(self.rest)?;
+        let (_, behind) = self.rest.split_at(n);
+        self.rest = behind;
+        Some(unit)
     }
 }
 
@@ -167,4 +198,5 @@ pub fn one_unit_list()
 pub fn text_answers()
     ensures text { (bytes : List ℕ) → (bad_text bytes ≡ None) ↔ IsText bytes }
     ensures bad { (bytes : List ℕ) (at : ℕ) → (bad_text bytes ≡ Some at) ↔ FirstBad bytes at }
+    ensures units { (us : List ℕ) → AreUnits us → units_of (spelling us) ≡ us }
 {}

@@ -1,0 +1,5 @@
+pub mod Writing
+pub mod Faults
+pub mod Names
+pub mod Instructions
+pub mod Classes
