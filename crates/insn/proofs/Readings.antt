@@ -1,13 +1,15 @@
 -- What is read of code is what spells it, or its fault.
-use Rattle.std.proofs.Common.{◌≡◌, ℕ, zero, suc, ◌<◌, ◌≤◌, List, [], ◌∷◌, ◌++◌, length, Result, Ok, Err, refl, sym, ap, subst, append_assoc, arith}
-use Rattle.std.proofs.lemmas.List.{append-nil}
+use Rattle.std.proofs.Common.{◌≡◌, ℕ, zero, suc, ◌+◌, ◌<◌, ◌≤◌, List, [], ◌∷◌, ◌++◌, length, Some, None, Result, Ok, Err, inl, inr, refl, sym, ap, subst, ◌∙◌, append_assoc, arith}
+use Rattle.std.proofs.lemmas.List.{append-nil, length-append}
 use Rattle.layout.specs.Place.{Place}
-use Rattle.layout.specs.Format.{reads}
+use Rattle.layout.specs.Format.{reads, Spells}
+use Rattle.layout.specs.FormatLaws.{spelled_reads, fault_reads}
 use Rattle.insn.specs.declared.fault.CodeFault.{CodeFault}
 use Rattle.insn.specs.Instructions.{Instruction, instruction_at}
-use Rattle.insn.specs.Faults.{judged}
+use Rattle.insn.specs.Faults.{judged, beside}
+use Rattle.insn.specs.Code.{FaultyInstruction, StepsThrough}
 use Rattle.insn.specs.Readings.{Reading, IsReading, behind, reading_behind, reading_from, reading_of}
-use Rattle.insn.proofs.CodeLaws.{SoFar, read_spells, refusal_faulty, code_step, code_fault, code_whole, shorter, one_code, code_or_fault, one_fault}
+use Rattle.insn.proofs.CodeLaws.{SoFar, read_spells, refusal_faulty, code_step, code_fault, code_whole, has_bytes, shorter, one_code, code_or_fault, one_fault}
 
 -- instructions in front of a reading
 abbrev in_front : List (ℕ × Instruction) → Reading → Reading
@@ -56,3 +58,71 @@ one_reading code (Err e) (Err f) p q = ap Err (one_fault code e f p q)
 
 pub only_reading : (code : List ℕ) (r : Reading) → IsReading code r → reading_of code ≡ r
 only_reading code r p = one_reading code (reading_of code) r (is_reading code) p
+
+-- ---- the same step by step, as code is gone through
+
+pub reading_at : Place → Reading
+reading_at p = reading_from (length p.rest) p.at p.rest
+
+same_behind : (at : ℕ) (f g : ℕ → List ℕ → Reading) (r : Result (Instruction × Place) CodeFault)
+    → ((x : Instruction × Place) → r ≡ Ok x → f x.1.at x.1.rest ≡ g x.1.at x.1.rest) → reading_behind f at r ≡ reading_behind g at r
+same_behind at f g (Ok x) same = ap (behind (at, x.0)) (same x refl)
+same_behind at f g (Err e) same = refl
+
+-- more instructions may be asked for than bytes are there
+same_reading : (n m at : ℕ) (bytes : List ℕ) → length bytes ≤ n → length bytes ≤ m → reading_from n at bytes ≡ reading_from m at bytes
+unfolding reading_from
+same_reading n m at [] h k = refl
+same_reading zero m at (b ∷ bytes) h k = absurd (omega (arith, h))
+same_reading (suc n) zero at (b ∷ bytes) h k = absurd (omega (arith, k))
+same_reading (suc n) (suc m) at (b ∷ bytes) h k =
+    let p : Place = record { at = at; rest = b ∷ bytes } in
+    same_behind at (reading_from n) (reading_from m) (judged at (reads (instruction_at at) at (b ∷ bytes))) (λ x is.
+    let read = read_spells at p x.1 x.0 (reads (instruction_at at) at (b ∷ bytes)) refl is in
+    let less = shorter read.0 x.0 p x.1 read.1 read.2 in
+    same_reading n m x.1.at x.1.rest (omega (arith, less, h)) (omega (arith, less, k)))
+
+-- what is read where an instruction stands, or none does
+one_step : (at : ℕ) (bytes : List ℕ) (r : Result (Instruction × Place) CodeFault) → 0 < length bytes → judged at (reads (instruction_at at) at bytes) ≡ r
+    → reading_from (length bytes) at bytes ≡ reading_behind (λ k rest. reading_from (length rest) k rest) at r
+unfolding reading_from
+one_step at [] r more is = absurd (omega (arith, more))
+one_step at (b ∷ bytes) r more is =
+    let p : Place = record { at = at; rest = b ∷ bytes } in
+    same_behind at (reading_from (length bytes)) (λ k rest. reading_from (length rest) k rest) (judged at (reads (instruction_at at) at (b ∷ bytes))) (λ x e.
+    let read = read_spells at p x.1 x.0 (reads (instruction_at at) at (b ∷ bytes)) refl e in
+    let less = shorter read.0 x.0 p x.1 read.1 read.2 in
+    same_reading (length bytes) (length x.1.rest) x.1.at x.1.rest (omega (arith, less)) (omega arith))
+    ∙ ap (reading_behind (λ k rest. reading_from (length rest) k rest) at) is
+
+-- bytes in front that spell a value of the format are read as it
+spelled : (at : ℕ) (first others : List ℕ) (r : Result Instruction CodeFault) → Spells (instruction_at at) first r
+    → judged at (reads (instruction_at at) at (first ++ others)) ≡ beside (record { at = at + length first; rest = others }) r
+spelled at first others r s = ap (judged at) (spelled_reads (instruction_at at) at first others r s)
+
+pub step_reads : {X : Type 0} (view : X → ℕ × Instruction) (old new : Place) (x : X) → StepsThrough view old (Some (Ok x)) new
+    → reading_at old ≡ behind (view x) (reading_at new)
+unfolding reading_at
+step_reads view old new x (here, first, s, took) =
+    let parts = took.parts in
+    let more : 0 < length old.rest = omega (arith, has_bytes old.at first (Ok (view x).1) s, ap length parts, length-append first new.rest) in
+    one_step old.at old.rest (Ok ((view x).1, record { at = old.at + length first; rest = new.rest })) more
+    (ap (λ bytes. judged old.at (reads (instruction_at old.at) old.at bytes)) parts ∙ spelled old.at first new.rest (Ok (view x).1) s)
+    ∙ ap (λ at. behind (at, (view x).1) (reading_from (length new.rest) (old.at + length first) new.rest)) (sym here)
+    ∙ ap (λ at. behind (view x) (reading_from (length new.rest) at new.rest)) (sym took.at)
+
+stopped : (at : ℕ) (bytes : List ℕ) (e : CodeFault) → FaultyInstruction at bytes e → judged at (reads (instruction_at at) at bytes) ≡ Err e
+stopped at bytes e (inl (is, d, fault)) = ap (judged at) (fault_reads (instruction_at at) at bytes d fault) ∙ ap Err (sym is)
+stopped at bytes e (inr (first, others, parts, s)) =
+    ap (λ bs. judged at (reads (instruction_at at) at bs)) parts ∙ spelled at first others (Err e) s
+
+pub stop_reads : {X : Type 0} (view : X → ℕ × Instruction) (old new : Place) (e : CodeFault) → StepsThrough view old (Some (Err e)) new → reading_at old ≡ Err e
+unfolding reading_at
+stop_reads view old new e (more, fault, gone) = one_step old.at old.rest (Err e) more (stopped old.at old.rest e fault)
+
+pub end_reads : {X : Type 0} (view : X → ℕ × Instruction) (old new : Place) → StepsThrough view old None new → reading_at old ≡ Ok []
+unfolding reading_at reading_from
+end_reads view old new (none, same) = ap (λ bytes. reading_from (length bytes) old.at bytes) none ∙ nothing old.at
+  where
+    nothing : (at : ℕ) → reading_from 0 at [] ≡ Ok []
+    nothing at = refl

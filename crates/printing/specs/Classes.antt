@@ -1,0 +1,85 @@
+-- The lines of a class file: its parts in the order of the file, and of each method with code the lines of its code.
+use Rattle.std.specs.Prelude.{ℕ, Bool, false, ◌||◌, nat_eq, if◌then◌else◌, List, [], ◌++◌, codes, decimal, Option, Some, None, Result, Ok, Err}
+use Rattle.std.specs.List.{flat_map, list_any}
+use Rattle.pool.specs.Entries.{Entry}
+use Rattle.classfile.specs.Values.{Handler, CodeBody, Member, Class}
+use Rattle.classfile.specs.Methods.{code_of}
+use Rattle.insn.specs.Readings.{Reading, reading_of}
+use Rattle.printing.specs.Faults.{code_fault_text}
+use Rattle.printing.specs.Names.{hexadecimal, constant_text, class_text}
+use Rattle.printing.specs.Instructions.{instruction_line}
+
+-- ---- code
+
+abbrev pub sizes_line : CodeBody → List ℕ
+sizes_line body = codes "  stack " ++ (decimal body.max_stack ++ (codes " locals " ++ (decimal body.max_locals ++ codes "\n")))
+
+-- all instructions; or why the code is none, and then no instruction
+abbrev pub reading_lines : Reading → List ℕ
+reading_lines (Ok instructions) = flat_map instruction_line instructions
+reading_lines (Err fault) = codes "  code refused " ++ (code_fault_text fault ++ codes "\n")
+
+-- 0 stands for all classes
+abbrev pub caught_text : List Entry → ℕ → List ℕ
+caught_text pool index = if nat_eq index 0 then codes "any" else class_text pool index
+
+abbrev pub catch_line : List Entry → Handler → List ℕ
+catch_line pool h =
+    codes "  catch " ++ (decimal h.start_pc ++ (codes " " ++ (decimal h.end_pc ++ (codes " "
+    ++ (decimal h.handler_pc ++ (codes " " ++ (caught_text pool h.catch_type ++ codes "\n")))))))
+
+abbrev pub code_lines : List Entry → CodeBody → List ℕ
+code_lines pool body = sizes_line body ++ (reading_lines (reading_of body.code) ++ flat_map (catch_line pool) body.exception_table)
+
+abbrev pub is_refused : Reading → Bool
+is_refused (Ok instructions) = false
+is_refused (Err fault) = true
+
+-- ---- members
+
+abbrev pub member_line : List ℕ → List Entry → Member → List ℕ
+member_line kind pool m =
+    kind ++ (hexadecimal m.access_flags ++ (codes " " ++ (constant_text pool m.name ++ (codes " " ++ (constant_text pool m.descriptor ++ codes "\n")))))
+
+abbrev pub field_line : List Entry → Member → List ℕ
+field_line pool m = member_line (codes "field ") pool m
+
+abbrev pub lines_of_code : List Entry → Option CodeBody → List ℕ
+lines_of_code pool None = []
+lines_of_code pool (Some body) = code_lines pool body
+
+abbrev pub method_lines : List Entry → Member → List ℕ
+method_lines pool m = member_line (codes "method ") pool m ++ lines_of_code pool (code_of m.attributes)
+
+abbrev pub is_refused_code : Option CodeBody → Bool
+is_refused_code None = false
+is_refused_code (Some body) = is_refused (reading_of body.code)
+
+-- its code is refused
+abbrev pub is_refused_method : Member → Bool
+is_refused_method m = is_refused_code (code_of m.attributes)
+
+-- ---- a class
+
+abbrev pub class_line : Class → List ℕ
+class_line c =
+    codes "class " ++ (class_text c.constant_pool c.this_class ++ (codes " major " ++ (decimal c.major_version ++ (codes " minor "
+    ++ (decimal c.minor_version ++ (codes " flags " ++ (hexadecimal c.access_flags ++ codes "\n")))))))
+
+abbrev pub super_text : List Entry → ℕ → List ℕ
+super_text pool index = if nat_eq index 0 then codes "none" else class_text pool index
+
+abbrev pub super_line : Class → List ℕ
+super_line c = codes "super " ++ (super_text c.constant_pool c.super_class ++ codes "\n")
+
+abbrev pub interface_line : List Entry → ℕ → List ℕ
+interface_line pool index = codes "interface " ++ (class_text pool index ++ codes "\n")
+
+abbrev pub class_lines : Class → List ℕ
+class_lines c =
+    class_line c ++ (super_line c ++ (flat_map (interface_line c.constant_pool) c.interfaces
+    ++ (flat_map (field_line c.constant_pool) c.fields ++ flat_map (method_lines c.constant_pool) c.methods)))
+
+-- the code of a method is refused
+abbrev pub has_refused : Class → Bool
+has_refused c = list_any is_refused_method c.methods

@@ -1,0 +1,27 @@
+//! What a class file holds, as text for people: written piece by piece, without memory.
+//!
+//! Each thing that has a text is a [`Print`], whose text is a function of it (`specs/`), and
+//! writing it writes exactly that, or a beginning of it where a write fails. The calls to know are
+//! [`Listing`], the lines of a class file, and the pieces in `print`.
+//!
+//! - `print`: the trait [`Print`], words, numbers, one text behind another, and lines of a list.
+//! - `name`: flags in hexadecimal digits, names with escapes, and texts of the constant pool.
+//! - `faults`: why something is refused, and where.
+//! - `instruction`: the line of an instruction.
+//! - `code`: the lines of a method's code.
+//! - `listing`: the lines of a class file.
+#![tactic(auto)]
+
+mod code;
+mod faults;
+mod instruction;
+mod listing;
+mod name;
+mod print;
+
+pub use listing::Listing;
+pub use name::{ClassName, ConstantText, Hexadecimal, Name};
+pub use print::{Number, Print, SignedNumber, Then, Word, WriteFailed};
+
+#[cfg(test)]
+mod tests;
