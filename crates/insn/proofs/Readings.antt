@@ -126,3 +126,8 @@ end_reads view old new (none, same) = ap (λ bytes. reading_from (length bytes) 
   where
     nothing : (at : ℕ) → reading_from 0 at [] ≡ Ok []
     nothing at = refl
+
+-- all of the code
+pub whole_reading : (code : List ℕ) → reading_of code ≡ reading_at (record { at = 0; rest = code })
+unfolding reading_of reading_at
+whole_reading code = refl

@@ -1,9 +1,10 @@
 -- The lines of a class file: its parts in the order of the file, and of each method with code the lines of its code.
-use Rattle.std.specs.Prelude.{ℕ, Bool, false, ◌||◌, nat_eq, if◌then◌else◌, List, [], ◌++◌, codes, decimal, Option, Some, None, Result, Ok, Err}
+use Rattle.std.specs.Prelude.{ℕ, Bool, false, is_some, nat_eq, if◌then◌else◌, List, [], ◌++◌, codes, decimal, Option, Some, None, Result, Ok, Err}
 use Rattle.std.specs.List.{flat_map, list_any}
 use Rattle.pool.specs.Entries.{Entry}
 use Rattle.classfile.specs.Values.{Handler, CodeBody, Member, Class}
 use Rattle.classfile.specs.Methods.{code_of}
+use Rattle.insn.specs.declared.fault.CodeFault.{CodeFault}
 use Rattle.insn.specs.Readings.{Reading, reading_of}
 use Rattle.printing.specs.Faults.{code_fault_text}
 use Rattle.printing.specs.Names.{hexadecimal, constant_text, class_text}
@@ -31,9 +32,10 @@ catch_line pool h =
 abbrev pub code_lines : List Entry → CodeBody → List ℕ
 code_lines pool body = sizes_line body ++ (reading_lines (reading_of body.code) ++ flat_map (catch_line pool) body.exception_table)
 
-abbrev pub is_refused : Reading → Bool
-is_refused (Ok instructions) = false
-is_refused (Err fault) = true
+-- why the code is refused, if it is
+abbrev pub fault_of : Reading → Option CodeFault
+fault_of (Ok instructions) = None
+fault_of (Err fault) = Some fault
 
 -- ---- members
 
@@ -53,7 +55,7 @@ method_lines pool m = member_line (codes "method ") pool m ++ lines_of_code pool
 
 abbrev pub is_refused_code : Option CodeBody → Bool
 is_refused_code None = false
-is_refused_code (Some body) = is_refused (reading_of body.code)
+is_refused_code (Some body) = is_some (fault_of (reading_of body.code))
 
 -- its code is refused
 abbrev pub is_refused_method : Member → Bool

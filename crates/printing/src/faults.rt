@@ -1,10 +1,11 @@
 //! The texts of faults: a number, and where it was met.
 ghost use Rattle.std.specs.Prelude.{◌≡◌, ◌++◌, codes, decimal};
-ghost use Rattle.classck.specs.Writing.{Writes};
-ghost use Rattle.classck.specs.Texts.{at_text};
+ghost use Rattle.printing.specs.Writing.{Writes};
+ghost use Rattle.printing.specs.Faults.{at_text};
 
-use crate::text::{Number, Text, Then, Word, WriteFailed};
+use crate::print::{Number, Print, Then, Word, WriteFailed};
 use classfile::Place;
+use insn::CodeFault;
 use layout::ReadFault;
 use std::io::Write;
 
@@ -15,8 +16,8 @@ fn put_at<W: Write>(out: &mut W, number: &str, at: usize) -> Result<(), WriteFai
     Then(Word(number), Then(Word(" at "), Number(at as u64))).put(out)
 }
 
-impl Text for ReadFault {
-    ghost use Rattle.classck.specs.Texts.{fault_text};
+impl Print for ReadFault {
+    ghost use Rattle.printing.specs.Faults.{fault_text};
 
     ghost text = { fault_text };
 
@@ -56,8 +57,8 @@ impl Text for ReadFault {
     }
 }
 
-impl Text for Place {
-    ghost use Rattle.classck.specs.Texts.{place_text};
+impl Print for Place {
+    ghost use Rattle.printing.specs.Faults.{place_text};
 
     ghost text = { place_text };
 
@@ -67,6 +68,23 @@ impl Text for Place {
             Place::Class => Word(" class").put(out),
             Place::Field(n) => Then(Word(" field "), Number(n as u64)).put(out),
             Place::Method(n) => Then(Word(" method "), Number(n as u64)).put(out),
+        }
+    }
+}
+
+impl Print for CodeFault {
+    ghost use Rattle.printing.specs.Faults.{code_fault_text};
+
+    ghost text = { code_fault_text };
+
+    fn put<W: Write>(&self, out: &mut W) -> Result<(), WriteFailed> {
+        match *self {
+            CodeFault::OutOfMemory => Word("1").put(out),
+            CodeFault::BadOpcode { at } => put_at(out, "31", at),
+            CodeFault::CutInstruction { at } => put_at(out, "32", at),
+            CodeFault::BadSwitch { at } => put_at(out, "33", at),
+            CodeFault::BadWide { at } => put_at(out, "34", at),
+            CodeFault::NonZeroByte { at } => put_at(out, "35", at),
         }
     }
 }

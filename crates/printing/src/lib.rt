@@ -21,7 +21,7 @@ mod print;
 
 pub use listing::Listing;
 pub use name::{ClassName, ConstantText, Hexadecimal, Name};
-pub use print::{Number, Print, SignedNumber, Then, Word, WriteFailed};
+pub use print::{Number, Print, Then, Word, WriteFailed, put_bytes};
 
 #[cfg(test)]
 mod tests;

@@ -1,8 +1,9 @@
 //! Texts that are written piece by piece, with no memory of their own.
-ghost use Rattle.std.specs.Prelude.{◌≡◌, ◌++◌, ℕ, List, decimal};
-ghost use Rattle.classck.specs.Writing.{Writes};
+ghost use Rattle.std.specs.Prelude.{◌≡◌, ◌++◌, ℕ, List};
+ghost use Rattle.std.specs.List.{flat_map};
+ghost use Rattle.printing.specs.Writing.{Writes};
 
-use itoa::Buffer;
+use itoa::{Buffer, Integer};
 use std::io::Write;
 
 /// A write failed or took nothing. What went out until then is a beginning of the text.
@@ -10,7 +11,7 @@ use std::io::Write;
 pub struct WriteFailed;
 
 /// What has a text.
-pub trait Text {
+pub trait Print {
     ghost text: { Self → List ℕ };
 
     /// Writes the text, all of it or up to a write that fails.
@@ -40,7 +41,7 @@ pub fn put_bytes<W: Write>(out: &mut W, bytes: &[u8]) -> Result<(), WriteFailed>
 #[derive(Clone, Copy)]
 pub struct Word<'a>(pub &'a str);
 
-impl<'a> Text for Word<'a> {
+impl<'a> Print for Word<'a> {
     ghost text = { λ t. t.0.now };
 
     fn put<W: Write>(&self, out: &mut W) -> Result<(), WriteFailed> {
@@ -48,12 +49,12 @@ impl<'a> Text for Word<'a> {
     }
 }
 
-/// A number in decimal digits.
+/// A number in decimal digits, behind `-` where it is negative.
 #[derive(Clone, Copy)]
-pub struct Number(pub u64);
+pub struct Number<I>(pub I);
 
-impl Text for Number {
-    ghost text = { λ t. decimal t.0 };
+impl<I: Integer> Print for Number<I> {
+    ghost text = { λ t. I.text t.0 };
 
     fn put<W: Write>(&self, out: &mut W) -> Result<(), WriteFailed> {
         let mut buffer = Buffer::new();
@@ -65,7 +66,7 @@ impl Text for Number {
 #[derive(Clone, Copy)]
 pub struct Then<A, B>(pub A, pub B);
 
-impl<A: Text, B: Text> Text for Then<A, B> {
+impl<A: Print, B: Print> Print for Then<A, B> {
     ghost text = { λ t. A.text t.0 ++ B.text t.1 };
 
     #[tactic(auto, using(crate::proofs::Writings::then_writes, crate::proofs::Writings::front_of_more))]
@@ -75,4 +76,30 @@ impl<A: Text, B: Text> Text for Then<A, B> {
             Err(failed) => Err(failed),
         }
     }
+}
+
+/// What has a line for each item of a kind.
+pub trait Lines<T> {
+    ghost line: { Self → T → List ℕ };
+
+    /// Writes the line of an item, all of it or up to a write that fails.
+    fn put_line<W: Write>(&self, item: &T, out: &mut W) -> Result<(), WriteFailed>
+        ensures { Writes (W.contents out.old) (W.contents out.new) (line self.now item.now) result };
+}
+
+/// Writes the lines of the items, one behind the other.
+pub fn put_lines<T, L: Lines<T>, W: Write>(
+    lines: &L,
+    items: &[T],
+    out: &mut W,
+) -> Result<(), WriteFailed>
+    ensures { Writes (W.contents out.old) (W.contents out.new) (flat_map (L.line lines.now) items.now) result }
+{
+    for item in items {
+        match lines.put_line(item, out) {
+            Ok(()) => {}
+            Err(failed) => return Err(failed),
+        }
+    }
+    Ok(())
 }

@@ -1,6 +1,6 @@
 use Rattle.std.proofs.Common.{rules, ◌≡◌, ◌++◌, ◌∙◌, take, drop, sym, ap, append_assoc, take-append-drop}
 use Rattle.std.proofs.KnownBytes.{Appends-trans}
-use Rattle.classck.proofs.text.put_bytes.Goals as goal
+use Rattle.printing.proofs.print.put_bytes.Goals as goal
 
 pub loop-rest-preserved : goal.loop-rest-preserved
 loop-rest-preserved g c =

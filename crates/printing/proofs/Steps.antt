@@ -1,0 +1,53 @@
+-- Code that is gone through instruction by instruction.
+use Rattle.std.proofs.Common.{◌≡◌, ℕ, List, [], ◌∷◌, ◌∙◌, Option, Some, None, Result, Ok, Err, refl, sym, ap, subst}
+use Rattle.layout.specs.Place.{Place}
+use Rattle.insn.specs.declared.fault.CodeFault.{CodeFault}
+use Rattle.insn.specs.Instructions.{Instruction}
+use Rattle.insn.specs.Code.{StepsThrough}
+use Rattle.insn.specs.Readings.{Reading, behind}
+use Rattle.insn.proofs.Readings.{reading_at, step_reads, stop_reads, end_reads}
+use Rattle.printing.specs.Classes.{fault_of}
+
+fault_of_behind : (x : ℕ × Instruction) (r : Reading) → fault_of (behind x r) ≡ fault_of r
+fault_of_behind x (Ok xs) = refl
+fault_of_behind x (Err e) = refl
+
+pub step_is : {X : Type 0} (view : X → ℕ × Instruction) (old new : Place) (step : Result X CodeFault) (x : X)
+    → StepsThrough view old (Some step) new → step ≡ Ok x → reading_at old ≡ behind (view x) (reading_at new)
+step_is view old new step x s is = step_reads view old new x (subst (λ (r : Result _ CodeFault). StepsThrough view old (Some r) new) is s)
+
+pub fault_behind : {X : Type 0} (view : X → ℕ × Instruction) (old new : Place) (step : Result X CodeFault) (x : X)
+    → StepsThrough view old (Some step) new → step ≡ Ok x → fault_of (reading_at old) ≡ fault_of (reading_at new)
+fault_behind view old new step x s is = ap fault_of (step_is view old new step x s is) ∙ fault_of_behind (view x) (reading_at new)
+
+pub fault_here : {X : Type 0} (view : X → ℕ × Instruction) (old new : Place) (step : Result X CodeFault) (e : CodeFault)
+    → StepsThrough view old (Some step) new → step ≡ Err e → fault_of (reading_at old) ≡ Some e
+fault_here view old new step e s is = ap fault_of (stop_reads view old new e (subst (λ (r : Result _ CodeFault). StepsThrough view old (Some r) new) is s))
+
+pub end_is : {X : Type 0} (view : X → ℕ × Instruction) (old new : Place) → StepsThrough view old None new → reading_at old ≡ Ok []
+end_is view old new s = end_reads view old new s
+
+pub fault_end : {X : Type 0} (view : X → ℕ × Instruction) (old new : Place) → StepsThrough view old None new → fault_of (reading_at old) ≡ None
+fault_end view old new s = ap fault_of (end_reads view old new s)
+
+-- what is left of instructions behind one
+pub left_behind : (x : ℕ × Instruction) (r : Reading) (xs : List (ℕ × Instruction)) → behind x r ≡ Ok xs → (ys : List (ℕ × Instruction)) × (r ≡ Ok ys) × (xs ≡ x ∷ ys)
+left_behind x (Ok ys) xs e = let same : x ∷ ys ≡ xs = cc in (ys, refl, sym same)
+left_behind x (Err f) xs e = absurd cc
+
+-- code with a fault is no list
+pub no_list : (e : CodeFault) (r : Reading) (xs : List (ℕ × Instruction)) → fault_of r ≡ Some e → r ≡ Ok xs → ⊥
+no_list e (Ok ys) xs f g = absurd cc
+no_list e (Err d) xs f g = absurd cc
+
+pub nothing_left : (r : Reading) (xs : List (ℕ × Instruction)) → r ≡ Ok [] → r ≡ Ok xs → xs ≡ []
+nothing_left r xs none is = let same : Ok [] ≡ (let o : Reading = Ok xs in o) = sym none ∙ is in let e : [] ≡ xs = cc in sym e
+
+-- without one it is a list
+pub is_list : (r : Reading) → fault_of r ≡ None → (xs : List (ℕ × Instruction)) × (r ≡ Ok xs)
+is_list (Ok xs) e = (xs, refl)
+is_list (Err f) e = absurd cc
+
+pub is_fault : (r : Reading) (e : CodeFault) → fault_of r ≡ Some e → r ≡ Err e
+is_fault (Ok xs) e f = absurd cc
+is_fault (Err d) e f = let same : d ≡ e = cc in ap Err same

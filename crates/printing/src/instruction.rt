@@ -1,0 +1,264 @@
+//! The line of an instruction (JVMS 6.5).
+ghost use Rattle.std.specs.Prelude.{◌≡◌, ◌++◌, codes};
+ghost use Rattle.std.specs.List.{flat_map};
+ghost use Rattle.printing.specs.Writing.{Writes};
+ghost use Rattle.printing.specs.Instructions.{target_text, pair_text, wide_text, operands_text};
+ghost use Rattle.insn.specs.Views.{operands_view};
+
+use crate::print::{Number, Print, Then, Word, WriteFailed};
+use insn::{Insn, Operands, Pairs, Targets, mnemonic};
+use itoa::Integer;
+use std::io::Write;
+
+/// A number behind a blank.
+#[derive(Clone, Copy)]
+struct Value<I>(I);
+
+impl<I: Integer> Print for Value<I> {
+    ghost text = { λ t. codes " " ++ I.text t.0 };
+
+    fn put<W: Write>(&self, out: &mut W) -> Result<(), WriteFailed> {
+        Then(Word(" "), Number(self.0)).put(out)
+    }
+}
+
+/// An index into the constant pool.
+#[derive(Clone, Copy)]
+struct Index(u16);
+
+impl Print for Index {
+    ghost use Rattle.printing.specs.Instructions.{index_text};
+
+    ghost text = { λ t. index_text t.0 };
+
+    fn put<W: Write>(&self, out: &mut W) -> Result<(), WriteFailed> {
+        Then(Word(" #"), Number(self.0)).put(out)
+    }
+}
+
+/// Where an instruction branches to that begins at `at`.
+#[derive(Clone, Copy)]
+struct Target {
+    at: usize,
+    offset: i32,
+}
+
+impl Target {
+    ghost use Rattle.printing.specs.Instructions.{target};
+
+    fn new(at: usize, offset: i32) -> Self
+        ensures { (result.at ≡ at) × (result.offset ≡ offset) }
+    {
+        Target { at, offset }
+    }
+
+    fn place(self) -> i128
+        ensures { result ≡ target self.at self.offset }
+    {
+        self.at as i128 + i128::from(self.offset)
+    }
+}
+
+impl Print for Target {
+    ghost text = { λ t. target_text t.at t.offset };
+
+    fn put<W: Write>(&self, out: &mut W) -> Result<(), WriteFailed> {
+        Value(self.place()).put(out)
+    }
+}
+
+/// Where an instruction that begins at `at` goes by this offset.
+fn put_target<W: Write>(out: &mut W, at: usize, offset: i32) -> Result<(), WriteFailed>
+    ensures { Writes (W.contents out.old) (W.contents out.new) (target_text at offset) result }
+{
+    Target::new(at, offset).put(out)
+}
+
+/// The targets of a `tableswitch` that begins at `at`.
+#[derive(Clone, Copy)]
+struct Table<'a> {
+    at: usize,
+    offsets: &'a [u8],
+}
+
+impl<'a> Print for Table<'a> {
+    ghost use Rattle.insn.specs.Meanings.{offsets};
+
+    ghost text = { λ t. flat_map (target_text t.at) (offsets t.offsets.now) };
+
+    fn put<W: Write>(&self, out: &mut W) -> Result<(), WriteFailed> {
+        for offset in Targets::Offsets(self.offsets).offsets() {
+            match put_target(out, self.at, offset) {
+                Ok(()) => {}
+                Err(failed) => return Err(failed),
+            }
+        }
+        Ok(())
+    }
+}
+
+/// A key of a `lookupswitch` that begins at `at`, and where it goes for it.
+fn put_case<W: Write>(
+    out: &mut W,
+    at: usize,
+    key: i32,
+    offset: i32,
+) -> Result<(), WriteFailed>
+    ensures { Writes (W.contents out.old) (W.contents out.new) (pair_text at (key, offset)) result }
+{
+    let place = Target::new(at, offset).place();
+    Then(
+        Word(" "),
+        Then(Number(key), Then(Word(":"), Number(place))),
+    )
+    .put(out)
+}
+
+/// The keys of a `lookupswitch` that begins at `at`, each with where it goes.
+#[derive(Clone, Copy)]
+struct Cases<'a> {
+    at: usize,
+    pairs: &'a [u8],
+}
+
+impl<'a> Print for Cases<'a> {
+    ghost use Rattle.insn.specs.Instructions.{pairs};
+
+    ghost text = { λ t. flat_map (pair_text t.at) (pairs t.pairs.now) };
+
+    fn put<W: Write>(&self, out: &mut W) -> Result<(), WriteFailed> {
+        for (key, offset) in Pairs::new(self.pairs) {
+            match put_case(out, self.at, key, offset) {
+                Ok(()) => {}
+                Err(failed) => return Err(failed),
+            }
+        }
+        Ok(())
+    }
+}
+
+/// An instruction with the offset in bytes where it begins.
+#[derive(Clone, Copy)]
+pub struct Located<'a> {
+    pub at: usize,
+    pub insn: Insn<'a>,
+}
+
+impl<'a> Located<'a> {
+    /// `wide` where it modifies the opcode behind it.
+    fn wide(&self) -> Word<'static>
+        ensures { result.0.now ≡ wide_text (operands_view self.now.insn.operands) }
+    {
+        match self.insn.operands {
+            Operands::WideLocal { .. } | Operands::WideIncrement { .. } => Word("wide "),
+            Operands::Nothing
+            | Operands::Byte(_)
+            | Operands::Short(_)
+            | Operands::Constant(_)
+            | Operands::Index(_)
+            | Operands::Local(_)
+            | Operands::Increment { .. }
+            | Operands::Branch(_)
+            | Operands::WideBranch(_)
+            | Operands::InvokeInterface { .. }
+            | Operands::InvokeDynamic { .. }
+            | Operands::NewArray(_)
+            | Operands::MultiNewArray { .. }
+            | Operands::TableSwitch { .. }
+            | Operands::LookupSwitch { .. } => Word(""),
+        }
+    }
+
+    /// Where it goes by this offset.
+    fn target(&self, offset: i32) -> Target
+        ensures { (result.at ≡ self.now.at) × (result.offset ≡ offset) }
+    {
+        Target::new(self.at, offset)
+    }
+
+    /// What stands behind its name.
+    fn put_operands<W: Write>(&self, out: &mut W) -> Result<(), WriteFailed>
+        ensures { Writes (W.contents out.old) (W.contents out.new) (operands_text self.now.at (operands_view self.now.insn.operands)) result }
+    {
+        match self.insn.operands {
+            Operands::Nothing => Word("").put(out),
+            Operands::Byte(value) => Value(value).put(out),
+            Operands::Short(value) => Value(value).put(out),
+            Operands::Constant(index) => Index(u16::from(index)).put(out),
+            Operands::Index(index) | Operands::InvokeDynamic { index } => Index(index).put(out),
+            Operands::Local(local) => Value(local).put(out),
+            Operands::Increment { local, by } => Then(Value(local), Value(by)).put(out),
+            Operands::Branch(offset) => self.target(i32::from(offset)).put(out),
+            Operands::WideBranch(offset) => self.target(offset).put(out),
+            Operands::InvokeInterface { index, count } => {
+                Then(Index(index), Value(count)).put(out)
+            }
+            Operands::NewArray(element) => Value(element).put(out),
+            Operands::MultiNewArray { index, dimensions } => {
+                Then(Index(index), Value(dimensions)).put(out)
+            }
+            Operands::TableSwitch {
+                default,
+                low,
+                high,
+                offsets,
+                ..
+            } => {
+                let table = Table {
+                    at: self.at,
+                    offsets,
+                };
+                Then(
+                    Value(low),
+                    Then(Value(high), Then(self.target(default), table)),
+                )
+                .put(out)
+            }
+            Operands::LookupSwitch { default, pairs, .. } => {
+                let cases = Cases { at: self.at, pairs };
+                Then(self.target(default), cases).put(out)
+            }
+            Operands::WideLocal { local, .. } => Value(local).put(out),
+            Operands::WideIncrement { local, by, .. } => Then(Value(local), Value(by)).put(out),
+        }
+    }
+}
+
+/// What stands behind an instruction's name.
+#[derive(Clone, Copy)]
+struct OperandsOf<'a>(Located<'a>);
+
+impl<'a> Print for OperandsOf<'a> {
+    ghost text = { λ t. operands_text t.0.at (operands_view t.0.insn.operands) };
+
+    fn put<W: Write>(&self, out: &mut W) -> Result<(), WriteFailed> {
+        self.0.put_operands(out)
+    }
+}
+
+impl<'a> Print for Located<'a> {
+    ghost use Rattle.insn.specs.Views.{located};
+    ghost use Rattle.printing.specs.Instructions.{instruction_line};
+
+    ghost text = { λ t. instruction_line (located (t.at, t.insn)) };
+
+    fn put<W: Write>(&self, out: &mut W) -> Result<(), WriteFailed> {
+        Then(
+            Word("  "),
+            Then(
+                Number(self.at),
+                Then(
+                    Word(" "),
+                    Then(
+                        self.wide(),
+                        Then(
+                            Word(mnemonic(&self.insn)),
+                            Then(OperandsOf(*self), Word("\n")),
+                        ),
+                    ),
+                ),
+            ),
+        )
+        .put(out)
+    }
+}
