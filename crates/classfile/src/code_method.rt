@@ -15,6 +15,7 @@ use crate::class_file::ClassFile;
 use crate::code::CodeAttr;
 use crate::flags::{STATIC, has};
 use crate::form::Formed;
+use crate::member::Member;
 use crate::member_form::is_instance_initializer;
 use names::{FieldType, result_type};
 use pool::Pool;
@@ -36,6 +37,17 @@ pub struct CodeMethod<'c, 'a> {
     /// The type of its result, `None` where it has none.
     pub result_type: Option<FieldType<'a>>,
     pub ghost is_method: { IsMethod (class_view class.now) number (code_view code.now) is_static is_init (option_map type_of result_type) } by { is_method_prop (class_view class.now) number (code_view code.now) is_static is_init (option_map type_of result_type) },
+}
+
+impl<'a> Member<'a> {
+    ghost use Rattle.classfile.specs.Views.{member_view};
+
+    /// The first Code attribute, if the member has one. Takes no memory.
+    pub fn code<'m>(&'m self) -> Option<&'m CodeAttr<'a>>
+        ensures { option_map (λ c. code_view c.now) result ≡ code_of (member_view self.now).attributes }
+    {
+        code_of(&self.attributes)
+    }
 }
 
 /// The first Code attribute.

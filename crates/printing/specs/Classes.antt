@@ -24,10 +24,12 @@ reading_lines (Err fault) = codes "  code refused " ++ (code_fault_text fault ++
 abbrev pub caught_text : List Entry → ℕ → List ℕ
 caught_text pool index = if nat_eq index 0 then codes "any" else class_text pool index
 
+-- what is covered, from its start up to its end, and where it is handled
+abbrev pub range_text : Handler → List ℕ
+range_text h = decimal h.start_pc ++ (codes " " ++ (decimal h.end_pc ++ (codes " " ++ decimal h.handler_pc)))
+
 abbrev pub catch_line : List Entry → Handler → List ℕ
-catch_line pool h =
-    codes "  catch " ++ (decimal h.start_pc ++ (codes " " ++ (decimal h.end_pc ++ (codes " "
-    ++ (decimal h.handler_pc ++ (codes " " ++ (caught_text pool h.catch_type ++ codes "\n")))))))
+catch_line pool h = codes "  catch " ++ (range_text h ++ (codes " " ++ (caught_text pool h.catch_type ++ codes "\n")))
 
 abbrev pub code_lines : List Entry → CodeBody → List ℕ
 code_lines pool body = sizes_line body ++ (reading_lines (reading_of body.code) ++ flat_map (catch_line pool) body.exception_table)

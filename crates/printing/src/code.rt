@@ -5,7 +5,7 @@ ghost use Rattle.insn.specs.Instructions.{Instruction};
 ghost use Rattle.insn.specs.Readings.{reading_of};
 ghost use Rattle.classfile.specs.Views.{handler_view, code_view};
 ghost use Rattle.printing.specs.Writing.{Writes};
-ghost use Rattle.printing.specs.Classes.{reading_lines, fault_of, caught_text, catch_line, code_lines};
+ghost use Rattle.printing.specs.Classes.{reading_lines, fault_of, caught_text, range_text, catch_line, code_lines};
 ghost use Rattle.printing.specs.Instructions.{instruction_line};
 
 use crate::instruction::Located;
@@ -78,6 +78,28 @@ impl<'p, 'a> Print for Caught<'p, 'a> {
     }
 }
 
+/// What an item of an exception table covers, and where it is handled.
+#[derive(Clone, Copy)]
+struct Range(ExceptionHandler);
+
+impl Print for Range {
+    ghost text = { λ t. range_text (handler_view t.0) };
+
+    fn put<W: Write>(&self, out: &mut W) -> Result<(), WriteFailed> {
+        Then(
+            Number(self.0.start_pc),
+            Then(
+                Word(" "),
+                Then(
+                    Number(self.0.end_pc),
+                    Then(Word(" "), Number(self.0.handler_pc)),
+                ),
+            ),
+        )
+        .put(out)
+    }
+}
+
 /// An exception table, whose classes are in this pool.
 #[derive(Clone, Copy)]
 struct Handlers<'p, 'a> {
@@ -93,23 +115,14 @@ impl<'p, 'a> Lines<ExceptionHandler> for Handlers<'p, 'a> {
             pool: self.pool,
             index: item.catch_type,
         });
-        let places = Then(
-            Number(item.start_pc),
+        Then(
+            Word("  catch "),
             Then(
-                Word(" "),
-                Then(
-                    Number(item.end_pc),
-                    Then(
-                        Word(" "),
-                        Then(
-                            Number(item.handler_pc),
-                            Then(Word(" "), Then(caught, Word("\n"))),
-                        ),
-                    ),
-                ),
+                Range(*item),
+                Then(Word(" "), Then(caught, Word("\n"))),
             ),
-        );
-        Then(Word("  catch "), places).put(out)
+        )
+        .put(out)
     }
 }
 

@@ -1,30 +1,17 @@
 //! The lines of a class file (JVMS 4.1).
-ghost use Rattle.std.specs.Prelude.{◌≡◌, ◌++◌, map, option_map, codes};
+ghost use Rattle.std.specs.Prelude.{◌≡◌, map};
 ghost use Rattle.std.specs.List.{flat_map};
 ghost use Rattle.classfile.specs.Methods.{code_of};
-ghost use Rattle.classfile.specs.Views.{attribute_view, code_view, member_view, class_view};
+ghost use Rattle.classfile.specs.Views.{member_view, class_view};
 ghost use Rattle.printing.specs.Writing.{Writes};
 ghost use Rattle.printing.specs.Classes.{member_line, field_line, method_lines, lines_of_code, is_refused_method, class_line, super_text, super_line, interface_line, class_lines, has_refused};
 
 use crate::code::{Code, code_fault};
 use crate::name::{ClassName, ConstantText, Hexadecimal};
 use crate::print::{Lines, Number, Print, Then, Word, WriteFailed, put_lines};
-use classfile::{Attribute, ClassFile, CodeAttr, Member};
+use classfile::{ClassFile, Member};
 use pool::Pool;
 use std::io::Write;
-
-/// The Code attribute of a method, if it has one.
-fn code_of<'m, 'a>(method: &'m Member<'a>) -> Option<&'m CodeAttr<'a>>
-    ensures { option_map (λ c. code_view c.now) result ≡ code_of (map attribute_view method.now.attributes.items) }
-{
-    for attribute in &method.attributes {
-        match attribute {
-            Attribute::Code { code, .. } => return Some(code),
-            Attribute::Raw { .. } => {}
-        }
-    }
-    None
-}
 
 /// The line of a field or a method, behind the word for it.
 #[derive(Clone, Copy)]
@@ -107,7 +94,7 @@ impl<'p, 'a> Print for CodeOf<'p, 'a> {
     ghost text = { λ t. lines_of_code t.pool.now (code_of (member_view t.method.now).attributes) };
 
     fn put<W: Write>(&self, out: &mut W) -> Result<(), WriteFailed> {
-        match code_of(self.method) {
+        match self.method.code() {
             None => Word("").put(out),
             Some(body) => Code {
                 pool: self.pool,
@@ -279,7 +266,7 @@ impl<'c, 'a> Listing<'c, 'a> {
 fn is_refused(method: &Member<'_>) -> bool
     ensures { result ≡ is_refused_method (member_view method.now) }
 {
-    match code_of(method) {
+    match method.code() {
         None => false,
         Some(body) => code_fault(body.code).is_some(),
     }

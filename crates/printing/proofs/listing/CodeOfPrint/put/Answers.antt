@@ -1,0 +1,13 @@
+use Rattle.std.proofs.Common.{◌≡◌, ◌∙◌, Some, map, option_map, sym, ap, subst}
+use Rattle.classfile.specs.Methods.{code_of}
+use Rattle.classfile.specs.Views.{attribute_view, code_view}
+use Rattle.printing.specs.Classes.{lines_of_code}
+use Rattle.printing.specs.Writing.{Writes}
+use Rattle.printing.proofs.listing.CodeOfPrint.put.Goals as goal
+
+pub returns-in-Some : goal.returns-in-Some
+returns-in-Some g c =
+    let held = g.W.Write.contents in
+    let there : Some (code_view c.in-Some.body.now) ≡ code_of (map attribute_view c.args.self.now.method.now.attributes.items) =
+    sym (ap (option_map (λ b. code_view b.now)) c.in-Some.is) ∙ c.code.ensures in
+    subst (λ o. Writes (held c.args.out.now) (held c.put-in-Some.new.out) (lines_of_code c.args.self.now.pool.now o) c.put-in-Some.result) there c.put-in-Some.ensures
