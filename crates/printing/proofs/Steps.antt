@@ -1,5 +1,5 @@
 -- Code that is gone through instruction by instruction.
-use Rattle.std.proofs.Common.{◌≡◌, ℕ, List, [], ◌∷◌, ◌∙◌, Option, Some, None, Result, Ok, Err, refl, sym, ap, subst}
+use Rattle.std.proofs.Common.{◌≡◌, ℕ, List, [], ◌∷◌, ◌∙◌, Some, None, Result, Ok, Err, refl, sym, ap, subst}
 use Rattle.layout.specs.Place.{Place}
 use Rattle.insn.specs.declared.fault.CodeFault.{CodeFault}
 use Rattle.insn.specs.Instructions.{Instruction}

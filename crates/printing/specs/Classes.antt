@@ -1,5 +1,5 @@
 -- The lines of a class file: its parts in the order of the file, and of each method with code the lines of its code.
-use Rattle.std.specs.Prelude.{ℕ, Bool, false, is_some, nat_eq, if◌then◌else◌, List, [], ◌++◌, codes, decimal, Option, Some, None, Result, Ok, Err}
+use Rattle.std.specs.Prelude.{ℕ, Bool, false, is_some, nat_eq, if◌then◌else◌, List, [], ◌++◌, codes, decimal, Option, Some, None, Ok, Err}
 use Rattle.std.specs.List.{flat_map, list_any}
 use Rattle.pool.specs.Entries.{Entry}
 use Rattle.classfile.specs.Values.{Handler, CodeBody, Member, Class}

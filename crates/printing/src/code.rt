@@ -54,9 +54,7 @@ impl<'a> Print for Instructed<'a> {
 
     fn put<W: Write>(&self, out: &mut W) -> Result<(), WriteFailed> {
         match code_fault(self.0) {
-            Some(fault) => {
-                Then(Word("  code refused "), Then(fault, Word("\n"))).put(out)
-            }
+            Some(fault) => { Then(Word("  code refused "), Then(fault, Word("\n"))).put(out) }
             None => put_instructions(out, self.0),
         }
     }
@@ -117,10 +115,7 @@ impl<'p, 'a> Lines<ExceptionHandler> for Handlers<'p, 'a> {
         });
         Then(
             Word("  catch "),
-            Then(
-                Range(*item),
-                Then(Word(" "), Then(caught, Word("\n"))),
-            ),
+            Then(Range(*item), Then(Word(" "), Then(caught, Word("\n")))),
         )
         .put(out)
     }

@@ -98,20 +98,11 @@ impl<'a> Print for Table<'a> {
 }
 
 /// A key of a `lookupswitch` that begins at `at`, and where it goes for it.
-fn put_case<W: Write>(
-    out: &mut W,
-    at: usize,
-    key: i32,
-    offset: i32,
-) -> Result<(), WriteFailed>
+fn put_case<W: Write>(out: &mut W, at: usize, key: i32, offset: i32) -> Result<(), WriteFailed>
     ensures { Writes (W.contents out.old) (W.contents out.new) (pair_text at (key, offset)) result }
 {
     let place = Target::new(at, offset).place();
-    Then(
-        Word(" "),
-        Then(Number(key), Then(Word(":"), Number(place))),
-    )
-    .put(out)
+    Then(Word(" "), Then(Number(key), Then(Word(":"), Number(place)))).put(out)
 }
 
 /// The keys of a `lookupswitch` that begins at `at`, each with where it goes.

@@ -150,7 +150,7 @@ impl<'p, 'a> Lines<u16> for Interfaces<'p, 'a> {
 }
 
 impl<'p, 'a> Print for Interfaces<'p, 'a> {
-    ghost text = { λ t. flat_map (interface_line t.pool.now) (t.indices.now) };
+    ghost text = { λ t. flat_map (interface_line t.pool.now) (map (λ n. n) t.indices.now) };
 
     fn put<W: Write>(&self, out: &mut W) -> Result<(), WriteFailed> {
         put_lines(self, self.indices, out)

@@ -1,5 +1,4 @@
-use Rattle.std.proofs.Common.{◌≡◌, ◌∙◌, sym, ap, subst, refl}
-use Rattle.insn.specs.Readings.{reading_of}
+use Rattle.std.proofs.Common.{◌∙◌, sym, ap}
 use Rattle.insn.specs.Views.{located}
 use Rattle.insn.proofs.Readings.{reading_at, whole_reading}
 use Rattle.printing.specs.Classes.{fault_of}

@@ -1,12 +1,11 @@
-use Rattle.std.proofs.Common.{◌≡◌, ℕ, ◌∙◌, Ok, sym, ap}
+use Rattle.std.proofs.Common.{ℕ, ◌∙◌, sym, ap}
 use Rattle.std.specs.List.{flat_map}
-use Rattle.insn.specs.Readings.{reading_of}
 use Rattle.insn.specs.declared.instruction.Insn.{Insn}
 use Rattle.insn.specs.Views.{located}
 use Rattle.insn.proofs.Readings.{reading_at, whole_reading}
 use Rattle.printing.specs.Instructions.{instruction_line}
 use Rattle.printing.proofs.Steps.{step_is, fault_here, end_is, left_behind, no_list, nothing_left}
-use Rattle.printing.proofs.Writings.{SoFar, none_so_far, with_left, one_more, stops_inside, all_written}
+use Rattle.printing.proofs.Writings.{none_so_far, with_left, one_more, stops_inside, all_written}
 use Rattle.printing.proofs.code.put_instructions.Goals as goal
 
 pub loop-step-init : goal.loop-step-init
@@ -22,9 +21,12 @@ loop-step-preserved g c = λ xs is.
     let (left, rest, so) = c.loop-step.invariant xs is in
     let x : ℕ × Insn = (c.in-Ok.at, c.in-Ok.insn) in
     let step = step_is located c.loop-step.step-iterator c.next.new.self c.in-Some.step x c.in-Some.ensures.steps c.in-Ok.is in
-    let (ys, more, split) = left_behind (located x) (reading_at c.next.new.self) left (sym step ∙ rest) in
-    (ys, more, one_more (held c.args.out.now) (held c.loop-step.out) (held c.put.new.out) (flat_map instruction_line xs) (instruction_line (located x)) (flat_map instruction_line ys)
-    (with_left _ _ _ _ _ (ap (flat_map instruction_line) split) so) c.in-Ok-put.ensures)
+    let (ys, more, split) = left_behind (located x) (reading_at c.next.new.self) left (sym step ∙ rest) in (
+      ys,
+      more,
+      one_more (held c.args.out.now) (held c.loop-step.out) (held c.put.new.out) (flat_map instruction_line xs) (instruction_line (located x)) (flat_map instruction_line ys)
+          (with_left _ _ _ _ _ (ap (flat_map instruction_line) split) so) c.in-Ok-put.ensures,
+    )
 
 pub returns-in-Err-put : goal.returns-in-Err-put
 returns-in-Err-put g c = λ xs is.

@@ -1,6 +1,6 @@
 use Rattle.std.proofs.Common.{drop, ◌+◌}
 use Rattle.std.specs.List.{flat_map}
-use Rattle.printing.proofs.Writings.{SoFar, item_left, with_left, one_more, stops_inside}
+use Rattle.printing.proofs.Writings.{item_left, with_left, one_more, stops_inside}
 use Rattle.printing.proofs.print.put_lines.Goals as goal
 
 pub returns-in-Err : goal.returns-in-Err

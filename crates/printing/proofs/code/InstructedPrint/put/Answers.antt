@@ -1,4 +1,4 @@
-use Rattle.std.proofs.Common.{◌≡◌, ◌∙◌, sym, ap, subst}
+use Rattle.std.proofs.Common.{◌∙◌, sym, subst}
 use Rattle.insn.specs.Readings.{reading_of}
 use Rattle.printing.specs.Classes.{reading_lines}
 use Rattle.printing.specs.Writing.{Writes}

@@ -1,0 +1,10 @@
+use Rattle.std.proofs.Common.{sym, subst}
+use Rattle.std.proofs.lemmas.List.Folds.{flat_map-map}
+use Rattle.printing.specs.Classes.{interface_line}
+use Rattle.printing.specs.Writing.{Writes}
+use Rattle.printing.proofs.listing.InterfacesPrint.put.Goals as goal
+
+pub returns : goal.returns
+returns g c =
+    let held = g.W.Write.contents in
+    subst (λ text. Writes (held c.args.out.now) (held c.put_lines.new.out) text c.put_lines.result) (sym (flat_map-map (interface_line c.args.self.now.pool.now) (λ n. n) c.args.self.now.indices.now)) c.put_lines.ensures
