@@ -1,4 +1,3 @@
-pub mod Judgements
 pub mod OneAnswer
 pub mod Rows
-pub mod Writings
+pub mod Tellings

@@ -1,25 +1,24 @@
 -- What is answered to a request: a text and a status.
-use Rattle.std.specs.Prelude.{◌≡◌, ◌⊎◌, ℕ, Bool, true, false, List, [], ◌∷◌, codes, Option, Result, Ok, Err, Vec}
+use Rattle.std.specs.Prelude.{◌≡◌, ◌⊎◌, ℕ, Bool, true, false, List, [], ◌∷◌, codes, if◌then◌else◌, Option, Some, None, Result, Ok, Err, Vec}
 use Rattle.std.specs.List.{list_any}
 use Rattle.std.specs.Io.KnownBytes.{Appends, Keeps}
 use Rattle.layout.specs.declared.fault.StreamFault.{StreamFault}
 use Rattle.layout.specs.declared.fault.ReadFault.{ReadFault}
 use Rattle.layout.specs.declared.fault.ReadFault.TheVariants as reading
-use Rattle.classfile.specs.declared.form_fault.FormFault.{FormFault}
-use Rattle.classfile.specs.declared.form_fault.FormFault.TheVariants as forms
-use Rattle.classfile.specs.declared.form_fault.FormRule.{FormRule}
-use Rattle.classfile.specs.declared.form_fault.Place.{Place}
 use Rattle.classfile.specs.Values.{Class}
 use Rattle.classfile.specs.ClassFile.{IsClass, ClassFault}
 use Rattle.classfile.specs.WellFormed.{WellFormed, IsFirstFault}
-use Rattle.classck.specs.Texts.{refusal, form_refusal}
-use Rattle.classck.specs.Writing.{AppendsFront}
-use Rattle.classck.specs.declared.checking.Said.{Said}
-use Rattle.classck.specs.declared.checking.Said.TheVariants.{Fine, Unread, Refused, Malformed}
+use Rattle.classfile.specs.declared.class_file.ClassFile.{ClassFile}
+use Rattle.classfile.specs.Views.{class_view}
+use Rattle.printing.specs.Classes.{class_lines, has_refused}
+use Rattle.printing.specs.Writing.{AppendsFront}
+use Rattle.classck.specs.Texts.{refusal_line}
+use Rattle.classck.specs.declared.refusal.Refusal.{Refusal}
+use Rattle.classck.specs.declared.refusal.Refusal.TheVariants.{Unread, NoClass, Malformed}
 use Rattle.classck.specs.declared.fault.AnswerFault.{AnswerFault}
 use Rattle.classck.specs.declared.fault.AnswerFault.TheVariants.{OutOfMemory, WriteFailed}
 use Rattle.classck.specs.declared.line.Command.{Command}
-use Rattle.classck.specs.declared.line.Command.TheVariants.{Check}
+use Rattle.classck.specs.declared.line.Command.TheVariants.{Check, Show}
 
 -- a file as it was read: its bytes, or why it could not be
 abbrev pub Read : Type 0
@@ -34,23 +33,42 @@ abbrev pub read_status : ReadFault → ℕ
 read_status (reading.ReadFailed at) = 2
 read_status e = 1
 
--- What `check` says of a class file: that it is well formed, or the first rule that it breaks.
-abbrev pub FormSays : Class → List ℕ → ℕ → Type 0
-FormSays c text status =
-    (WellFormed c × (text ≡ codes "ok\n") × (status ≡ 0))
-    ⊎ ((rule : FormRule) × (place : Place) × IsFirstFault c rule place × (text ≡ form_refusal rule place) × (status ≡ 1))
+-- the file is this class, which is well formed
+abbrev pub IsFormed : Read → Class → Type 0
+IsFormed (Ok bytes) c = IsClass bytes c × WellFormed c
+IsFormed (Err fault) c = ⊥
 
--- What `check` says of a file: what it says of the class that it is, or its first fault.
-abbrev pub CheckSays : Read → List ℕ → ℕ → Type 0
-CheckSays (Err e) text status = (text ≡ refusal e) × (status ≡ read_status e)
-CheckSays (Ok bytes) text status =
-    ((c : Class) × IsClass bytes c × FormSays c text status)
-    ⊎ ((e : ReadFault) × ClassFault bytes e × (text ≡ refusal e) × (status ≡ 1))
+-- The file is none for this reason: it could not be read; it is no class; or the class breaks this rule first.
+abbrev pub IsRefused : Read → Refusal → Type 0
+IsRefused (Err fault) (Unread e) = fault ≡ e
+IsRefused (Ok bytes) (NoClass e) = ClassFault bytes e
+IsRefused (Ok bytes) (Malformed rule place) = (c : Class) × IsClass bytes c × IsFirstFault c rule place
+IsRefused read refusal = ⊥
+
+abbrev pub refusal_status : Refusal → ℕ
+refusal_status (Unread e) = read_status e
+refusal_status (NoClass e) = 1
+refusal_status (Malformed rule place) = 1
+
+-- What is said of a file: what is told of the class that it is, or why it is none.
+abbrev pub FileSays : (Class → List ℕ → ℕ → Type 0) → Read → List ℕ → ℕ → Type 0
+FileSays Tells read text status =
+    ((c : Class) × IsFormed read c × Tells c text status)
+    ⊎ ((r : Refusal) × IsRefused read r × (text ≡ refusal_line r) × (status ≡ refusal_status r))
+
+-- `check` tells of a class that it is well formed
+abbrev pub CheckTells : Class → List ℕ → ℕ → Type 0
+CheckTells c text status = (text ≡ codes "ok\n") × (status ≡ 0)
+
+-- `show` tells what it holds, and by the status whether the code of a method is refused
+abbrev pub ShowTells : Class → List ℕ → ℕ → Type 0
+ShowTells c text status = (text ≡ class_lines c) × (status ≡ (if has_refused c then 1 else 0))
 
 -- What is said of these files. No line names none, so of no file nothing is said.
 abbrev pub Says : Command → List Read → List ℕ → ℕ → Type 0
-Says Check [] text status = (text ≡ []) × (status ≡ 0)
-Says Check (read ∷ others) text status = CheckSays read text status
+Says command [] text status = (text ≡ []) × (status ≡ 0)
+Says Check (read ∷ others) text status = FileSays CheckTells read text status
+Says Show (read ∷ others) text status = FileSays ShowTells read text status
 
 -- What an answer did to the bytes that its writer holds: all of what is to be said was written; or nothing, where memory
 -- ran out; or a beginning of it, where a write failed.
@@ -68,27 +86,21 @@ is_lost read = false
 abbrev pub has_lost : List Read → Bool
 has_lost reads = list_any is_lost reads
 
--- ---- what is decided of `check` before it is written
+-- ---- what is decided before it is written
 
-abbrev pub said_text : Said → List ℕ
-said_text Fine = codes "ok\n"
-said_text (Unread fault) = refusal fault
-said_text (Refused fault) = refusal fault
-said_text (Malformed rule place) = form_refusal rule place
-
-abbrev pub said_status : Said → ℕ
-said_status Fine = 0
-said_status (Unread fault) = read_status fault
-said_status (Refused fault) = 1
-said_status (Malformed rule place) = 1
-
--- what is said where a file is no class for this reason; of want of memory nothing
-abbrev pub Refuses : ReadFault → Result Said AnswerFault → Type 0
+-- why bytes are no class, where this is their fault; of want of memory nothing
+abbrev pub Refuses : ReadFault → Result Refusal AnswerFault → Type 0
 Refuses reading.OutOfMemory result = result ≡ Err OutOfMemory
-Refuses e result = result ≡ Ok (Refused e)
+Refuses e result = result ≡ Ok (NoClass e)
 
--- what is said where a class was checked so; of want of memory nothing
-abbrev pub Judges : {X : Type 0} → Result X FormFault → Result Said AnswerFault → Type 0
-Judges (Ok formed) result = result ≡ Ok Fine
-Judges (Err forms.OutOfMemory) result = result ≡ Err OutOfMemory
-Judges (Err (forms.Broken rule place)) result = result ≡ Ok (Malformed rule place)
+-- whether a class is well formed
+abbrev pub Checks : Class → Result (Option Refusal) AnswerFault → Type 0
+Checks c (Ok None) = WellFormed c
+Checks c (Ok (Some (Malformed rule place))) = IsFirstFault c rule place
+Checks c (Ok (Some refusal)) = ⊥
+Checks c (Err e) = e ≡ OutOfMemory
+
+abbrev pub Decides : Read → Result (Result ClassFile Refusal) AnswerFault → Type 0
+Decides read (Ok (Ok class)) = IsFormed read (class_view class)
+Decides read (Ok (Err refusal)) = IsRefused read refusal
+Decides read (Err e) = e ≡ OutOfMemory

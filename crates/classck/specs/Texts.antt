@@ -1,20 +1,20 @@
 -- The lines that the program writes where something is refused.
 use Rattle.std.specs.Prelude.{ℕ, List, ◌++◌, codes, decimal}
-use Rattle.layout.specs.declared.fault.ReadFault.{ReadFault}
-use Rattle.classfile.specs.declared.form_fault.FormRule.{FormRule}
-use Rattle.classfile.specs.declared.form_fault.Place.{Place}
-use Rattle.printing.specs.Faults.{fault_text, place_text}
 use Rattle.classfile.specs.Conditions.{rule_number}
+use Rattle.printing.specs.Faults.{fault_text, place_text}
+use Rattle.classck.specs.declared.refusal.Refusal.{Refusal}
+use Rattle.classck.specs.declared.refusal.Refusal.TheVariants.{Unread, NoClass, Malformed}
 use Rattle.classck.specs.declared.fault.MainFault.{MainFault}
 use Rattle.classck.specs.declared.fault.MainFault.TheVariants.{NoRandom, CannotOpen, Memory, NotWritten}
 
--- a line that says why a file is refused
-abbrev pub refusal : ReadFault → List ℕ
-refusal e = codes "refused " ++ (fault_text e ++ codes "\n")
+-- why a file is no class that is well formed
+abbrev pub refusal_text : Refusal → List ℕ
+refusal_text (Unread fault) = fault_text fault
+refusal_text (NoClass fault) = fault_text fault
+refusal_text (Malformed rule place) = decimal (rule_number rule) ++ place_text place
 
--- a line that says why a class is not well formed
-abbrev pub form_refusal : FormRule → Place → List ℕ
-form_refusal rule place = codes "refused " ++ (decimal (rule_number rule) ++ (place_text place ++ codes "\n"))
+abbrev pub refusal_line : Refusal → List ℕ
+refusal_line r = codes "refused " ++ (refusal_text r ++ codes "\n")
 
 -- why the program ends without an answer
 abbrev pub complaint_text : MainFault → List ℕ

@@ -6,6 +6,7 @@ ghost use Rattle.classck.specs.declared.fault.AnswerFault.TheVariants.{OutOfMemo
 use crate::checking::check;
 use crate::fault::AnswerFault;
 use crate::line::{Command, Request};
+use crate::showing::show;
 use layout::{ReadFault, StreamFault};
 use std::alloc::Global;
 use std::hash::BuildHasher;
@@ -33,6 +34,7 @@ pub fn answer<W: Write, S: BuildHasher + Drop>(
         [] => Ok(0),
         [read, ..] => match request.command {
             Command::Check => check(alloc, read, out),
+            Command::Show => show(alloc, read, out),
         },
     }
 }

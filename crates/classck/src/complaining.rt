@@ -3,10 +3,10 @@ ghost use Rattle.classck.specs.Texts.{complaint_text};
 ghost use Rattle.classck.specs.Writing.{WritesOrFails};
 
 use crate::fault::{AnswerFault, MainFault};
-use crate::text::{Number, Text, Then, Word, WriteFailed};
+use printing::{Number, Print, Then, Word, WriteFailed};
 use std::io::Write;
 
-impl Text for MainFault {
+impl Print for MainFault {
     ghost text = { complaint_text };
 
     fn put<W: Write>(&self, out: &mut W) -> Result<(), WriteFailed> {

@@ -1,7 +1,7 @@
 //! Why there is no answer.
 ghost use Rattle.std.specs.Prelude.{◌≡◌};
 
-use crate::text::WriteFailed;
+use printing::WriteFailed;
 use thiserror::Error;
 
 /// Why an answer was not written whole.

@@ -7,8 +7,10 @@ use std::alloc::{AllocError, AllocFailed};
 /// The commands of the program.
 #[derive(Clone, Copy, Debug, PartialEq, Eq)]
 pub enum Command {
-    /// `check FILE`: whether the file is a class file.
+    /// `check FILE`: whether the file is a class file that is well formed.
     Check,
+    /// `show FILE`: what the class file holds.
+    Show,
 }
 
 /// What a command line asks for.

@@ -1,8 +1,8 @@
 //! `classck`: verifies Java class files by type checking.
 //!
 //! `main` reads the line (`parsing`), opens and reads the files (`reading`), answers (`answering`, with a module for
-//! each command: `checking`), and prints the answer, or why there is none (`complaining`). Texts are written piece by
-//! piece (`text`, `faults`) against their definitions in `specs/`.
+//! each command: `checking`, `showing`), and prints the answer, or why there is none (`complaining`). What is said is
+//! decided first (`forming`), and then written (`telling`, `refusal`).
 #![tactic(auto)]
 
 mod answering;
@@ -10,14 +10,16 @@ mod checking;
 mod complaining;
 mod ending;
 mod fault;
-mod faults;
+mod forming;
 mod laws;
 mod line;
 mod parsing;
 mod reading;
+mod refusal;
+mod showing;
+mod telling;
 #[cfg(test)]
 mod tests;
-mod text;
 
 use crate::answering::answer;
 use crate::complaining::complaint;

@@ -2,7 +2,7 @@
 ghost use Rattle.std.specs.Prelude.{◌≡◌, IfOk, codes, false, map, string_bytes};
 ghost use Rattle.clap.specs.Words.{app_of, rows_of, found_of, new_app, with_rule};
 ghost use Rattle.clap.specs.declared.builder.command.Command.TheViews.{out-Command};
-ghost use Rattle.classck.specs.Line.{line, file, Asks, files_in};
+ghost use Rattle.classck.specs.Line.{line, file, Asks, command_named, files_in};
 
 use crate::line::{Command, LineFault, Request};
 use clap::{Arg, ArgMatches, Command as Parser};
@@ -32,6 +32,17 @@ fn check<'a>(alloc: Global) -> Result<Parser<'a>, AllocError>
     Ok(command.about("Prints `ok`, or `refused` with the number of the first fault and its place"))
 }
 
+/// `show FILE`
+fn show<'a>(alloc: Global) -> Result<Parser<'a>, AllocError>
+    ensures app { IfOk result (λ c. app_of c ≡ with_rule (new_app (codes "show")) file) }
+    ensures local { IfOk result (λ c. (out-Command c).has_globals ≡ false) }
+{
+    let command = one_file(alloc, "show")?;
+    Ok(command.about(
+        "Prints what a class file holds, and of each method with code its instructions",
+    ))
+}
+
 /// The command lines that the program knows.
 fn parser<'a>(alloc: Global) -> Result<Parser<'a>, AllocError>
     ensures { IfOk result (λ c. app_of c ≡ line) }
@@ -40,7 +51,8 @@ fn parser<'a>(alloc: Global) -> Result<Parser<'a>, AllocError>
         .about("Verifies Java class files by type checking")
         .after_help(STATUSES)
         .subcommand_required(true)
-        .subcommand(check(alloc)?)
+        .subcommand(check(alloc)?)?
+        .subcommand(show(alloc)?)
 }
 
 /// Copies of the words.
@@ -65,6 +77,17 @@ fn files(alloc: Global, found: &ArgMatches<'_>) -> Result<Vec<String>, AllocErro
     }
 }
 
+/// The command of this name.
+fn command_named(name: &str) -> Command
+    ensures { result ≡ command_named name.now }
+{
+    if name == "show" {
+        Command::Show
+    } else {
+        Command::Check
+    }
+}
+
 /// The request that the words make, of which the first is the program's own name.
 pub fn request(alloc: Global, words: &[&str]) -> Result<Request, LineFault>
     ensures { Asks (map (λ w. w.now) words.now) result }
@@ -80,8 +103,8 @@ pub fn request(alloc: Global, words: &[&str]) -> Result<Request, LineFault>
         }
     };
     match matches.subcommand() {
-        Some((_, found)) => Ok(Request {
-            command: Command::Check,
+        Some((name, found)) => Ok(Request {
+            command: command_named(name),
             files: files(alloc, found)?,
         }),
         None => unreachable!(),

@@ -47,7 +47,7 @@ fn put_instructions<W: Write>(out: &mut W, code: &[u8]) -> Result<(), WriteFaile
 
 /// The instructions of code, or why it is refused and then no instruction.
 #[derive(Clone, Copy)]
-struct Instructed<'a>(&'a [u8]);
+pub struct Instructed<'a>(pub &'a [u8]);
 
 impl<'a> Print for Instructed<'a> {
     ghost text = { λ t. reading_lines (reading_of t.0.now) };
