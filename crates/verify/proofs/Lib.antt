@@ -19,4 +19,6 @@ pub mod Premises
 pub mod Verdicts
 pub mod Refusing
 pub mod MapFaults
+pub mod Decoded
+pub mod Replaced
 mod Examples

@@ -1,7 +1,7 @@
 pub mod InitialFrames
 pub mod TypeSafety
 pub mod Safety
-pub mod ClassMethods
 pub mod Verdict
 pub mod VerdictLaws
+pub mod ClassMethods
 pub mod Refusals

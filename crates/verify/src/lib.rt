@@ -7,7 +7,10 @@
 mod laws;
 mod theorem;
 
-pub use laws::{map_refused_where, refused_where, type_safe_is_verified, verified_is_type_safe};
+pub use laws::{
+    map_refused_where, none_is_replaced, refused_where, type_safe_is_verified,
+    verified_is_type_safe,
+};
 pub use theorem::type_safe_is_safe;
 
 #[cfg(test)]
