@@ -21,4 +21,8 @@ pub mod Refusing
 pub mod MapFaults
 pub mod Decoded
 pub mod Replaced
+pub mod Merging
+pub mod Ends
+pub mod Onward
+pub mod Parameters
 mod Examples

@@ -5,3 +5,4 @@ pub mod Verdict
 pub mod VerdictLaws
 pub mod ClassMethods
 pub mod Refusals
+pub mod Steps
