@@ -25,4 +25,5 @@ pub mod Merging
 pub mod Ends
 pub mod Onward
 pub mod Parameters
+pub mod Summaries
 mod Examples

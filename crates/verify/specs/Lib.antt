@@ -6,3 +6,4 @@ pub mod VerdictLaws
 pub mod ClassMethods
 pub mod Refusals
 pub mod Steps
+pub mod Listed

@@ -1,10 +1,13 @@
 -- What the steps of the verifier answer.
 use Rattle.std.specs.Prelude.{◌≡◌, ◌⊎◌, ℕ, Bool, List, Some, None, Option, Result, Ok, Err, MatchResult}
 use Rattle.hierarchy.specs.Class.{ClassFact}
+use Rattle.insn.specs.declared.fault.CodeFault.{CodeFault}
+use Rattle.insn.specs.declared.fault.CodeFault.TheVariants as codes
+use Rattle.insn.specs.Faults.{code_fault_number}
 use Rattle.frames.specs.FrameFact.{FrameFact}
 use Rattle.frames.specs.Conditions.{Conditions, least}
 use Rattle.rules.specs.declared.reason.Reason.{Reason}
-use Rattle.rules.specs.declared.reason.Reason.TheVariants.{OutOfMemory}
+use Rattle.rules.specs.declared.reason.Reason.TheVariants.{OutOfMemory, BadCode}
 use Rattle.rules.specs.Reasons.{reason_view}
 use Rattle.verify.specs.declared.verdict.Verdict.{Verdict}
 use Rattle.verify.specs.declared.verdict.Verdict.TheVariants.{Verified, NoCode, Refused}
@@ -26,6 +29,19 @@ pub record Enters (classes : List ClassFact) (falls : Bool) (f : FrameFact) (dec
   pub outcome : MatchResult r
       (λ _. (entry classes falls f declared ≡ None) × (now ≡ entered f declared))
       (λ e. (e ≡ OutOfMemory) ⊎ (entry classes falls f declared ≡ Some (reason_view e)))
+
+-- where the instruction begins that is at fault
+abbrev pub place_of : CodeFault → ℕ
+place_of codes.OutOfMemory = 0
+place_of (codes.BadOpcode at) = at
+place_of (codes.CutInstruction at) = at
+place_of (codes.BadSwitch at) = at
+place_of (codes.BadWide at) = at
+place_of (codes.NonZeroByte at) = at
+
+-- 79 there, with the fault's number; or want of memory
+pub record RefusesCode (fault : CodeFault) (r : Result Verdict VerifyFault) : Type 0 where
+  pub outcome : MatchResult r (λ v. v ≡ Refused (place_of fault) (BadCode (code_fault_number fault))) (λ e. (fault ≡ codes.OutOfMemory) × (e ≡ faults.OutOfMemory))
 
 -- the verdict on code, or want of memory
 abbrev pub Gives : verdicts.Verdict → Result Verdict VerifyFault → Type 0

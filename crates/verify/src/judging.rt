@@ -1,39 +1,24 @@
 //! One pass over a method's code.
-ghost use Rattle.std.specs.Prelude.{◌≡◌, ◌⊎◌, ℕ, Option, is_none, [], length};
+ghost use Rattle.std.specs.Prelude.{◌≡◌, ℕ, Option, is_none, [], length};
 ghost use Rattle.insn.specs.Meanings.{act};
 ghost use Rattle.insn.specs.Supported.{as_supported};
 ghost use Rattle.insn.specs.Views.{view};
 ghost use Rattle.frames.specs.FrameFact.{frame_of};
-ghost use Rattle.rules.specs.declared.reason.Reason.TheVariants.{OutOfMemory};
-ghost use Rattle.rules.specs.Reasons.{reason_view};
 ghost use Rattle.rules.specs.Table.{plan};
 ghost use Rattle.rules.specs.After.{after};
 ghost use Rattle.rules.specs.Bodies.{method_view};
 ghost use Rattle.rules.specs.Outcomes.{Done};
 ghost use Rattle.verify.specs.InitialFrames.{initial_frame};
-ghost use Rattle.verify.specs.Verdict as verdicts;
-ghost use Rattle.verify.specs.Verdict.{refused, at_conditions, code_judged};
+ghost use Rattle.verify.specs.Verdict.{at_conditions, code_judged};
 ghost use Rattle.verify.specs.Steps.{Gives};
 
 use crate::flow::{check_end, enter, first_reason};
+use crate::refusal::refuse;
 use crate::verdict::{Verdict, VerifyFault};
 use frames::Frame;
 use hierarchy::Classes;
 use insn::{Insn, act};
 use rules::{Body, Reason, falls, run};
-
-/// The verdict that a reason gives.
-pub fn refuse<'a>(at: u16, reason: Reason<'a>) -> Result<Verdict<'a>, VerifyFault>
-    ensures { (v : verdicts.Verdict) → (reason.entry ≡ OutOfMemory) ⊎ (v ≡ refused at (reason_view reason.entry)) → Gives v result }
-{
-    match reason {
-        Reason::OutOfMemory => Err(VerifyFault::OutOfMemory),
-        _ => Ok(Verdict::Refused {
-            at: usize::from(at),
-            reason,
-        }),
-    }
-}
 
 /// Judges an instruction in the frame before it, which becomes the frame after. Of the frame at the next start nothing is asked.
 fn judge<'a, C: Classes>(

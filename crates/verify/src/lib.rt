@@ -5,6 +5,8 @@
 //! - `initial`: the frame with which a method begins.
 //! - `flow`: from one instruction to the next.
 //! - `judging`: one pass over a method's code.
+//! - `listing`: whether a hierarchy has a class as it is.
+//! - `refusal`: verdicts that refuse.
 //! - `laws`: the verdict on a method is verified exactly where it is type-safe, and what a refusal says.
 #![tactic(auto)]
 
@@ -12,6 +14,8 @@ mod flow;
 mod initial;
 mod judging;
 mod laws;
+mod listing;
+mod refusal;
 mod theorem;
 mod verdict;
 
