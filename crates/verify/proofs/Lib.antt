@@ -26,4 +26,5 @@ pub mod Ends
 pub mod Onward
 pub mod Parameters
 pub mod Summaries
+pub mod Judged
 mod Examples

@@ -7,3 +7,4 @@ pub mod ClassMethods
 pub mod Refusals
 pub mod Steps
 pub mod Listed
+pub mod Judged

@@ -7,6 +7,7 @@
 //! - `judging`: one pass over a method's code.
 //! - `listing`: whether a hierarchy has a class as it is.
 //! - `refusal`: verdicts that refuse.
+//! - `method`: the verdict on a method.
 //! - `laws`: the verdict on a method is verified exactly where it is type-safe, and what a refusal says.
 #![tactic(auto)]
 
@@ -15,6 +16,7 @@ mod initial;
 mod judging;
 mod laws;
 mod listing;
+mod method;
 mod refusal;
 mod theorem;
 mod verdict;
