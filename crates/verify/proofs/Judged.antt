@@ -1,6 +1,8 @@
 -- The verdict on a method that is judged.
-use Rattle.std.proofs.Common.{◌≡◌, ℕ, Bool, true, false, not, ◌&&◌, is_none, nat_lt, List, [], ◌∷◌, ◌++◌, map, length, Option, Some, None, Ok, refl, sym, ◌∙◌, ap}
+use Rattle.std.proofs.Common.{◌≡◌, ℕ, Bool, true, false, not, ◌&&◌, is_none, nat_eq, nat_lt, List, [], ◌∷◌, ◌++◌, map, length, Option, Some, None, Ok, refl, sym, ◌∙◌, ap, subst, arith}
 use Rattle.std.specs.Prelude.{MatchOption}
+use Rattle.std.proofs.lemmas.Bool.Decides.{nat_tests}
+use Rattle.std.specs.Option.{is_some}
 use Rattle.names.specs.Descriptors.{FieldDescriptor}
 use Rattle.classfile.specs.Methods.{Method, ExceptionEntry, Receiver, no_receiver, receiver_of}
 use Rattle.hierarchy.specs.Class.{ClassFact}
@@ -38,6 +40,18 @@ module _ {A : Type 0} (m : Method A) (judged : is_judged m ≡ true) where
 
   pub no_exceptions : m.exceptions ≡ []
   no_exceptions = empty_of m.exceptions (right_of (is_none m.stack_map) (is_empty m.exceptions) (right_of (not m.is_init) _ (right_of m.is_static _ judged)))
+
+some_none : {A : Type 0} (o : Option A) → is_some o ≡ false → is_none o ≡ true
+some_none None e = refl
+some_none (Some x) e = cc
+
+-- by its four properties
+pub judged_by : {A : Type 0} (m : Method A) (b : Bool) → m.is_static ≡ true → m.is_init ≡ false → is_some m.stack_map ≡ false → is_empty m.exceptions ≡ b → b ≡ is_judged m
+judged_by m b s i o e = let none : is_none m.stack_map ≡ true = some_none m.stack_map o in rw (s, i, none, e) refl
+
+pub empty_by : {X Y : Type 0} (f : X → Y) (xs : List X) (n : ℕ) → n ≡ length xs → is_empty (map f xs) ≡ nat_eq n 0
+empty_by f [] n e = rw e refl
+empty_by f (x ∷ xs) n e = let q : nat_eq n 0 ≡ false = grind (arith, nat_tests, e) in sym q
 
 module _ (m : Method Act) (judged : is_judged m ≡ true) where
   nobody : receiver_of m ≡ no_receiver
@@ -77,3 +91,7 @@ module _ (m : Method Act) (judged : is_judged m ≡ true) where
 pub when_none : {X : Type 0} (A : Type 0) (B : X → Type 0) (o : Option X) → o ≡ None → MatchOption o A B → A
 when_none A B None e h = h
 when_none A B (Some x) e h = cc
+
+pub when_some : {X : Type 0} (A : Type 0) (B : X → Type 0) (o : Option X) (x : X) → o ≡ Some x → MatchOption o A B → B x
+when_some A B None x e h = cc
+when_some A B (Some y) x e h = let same : y ≡ x = cc in subst B same h

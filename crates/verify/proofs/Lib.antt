@@ -27,4 +27,6 @@ pub mod Onward
 pub mod Parameters
 pub mod Summaries
 pub mod Judged
+pub mod MethodCode
+pub mod Answering
 mod Examples

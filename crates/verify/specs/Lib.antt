@@ -8,3 +8,4 @@ pub mod Refusals
 pub mod Steps
 pub mod Listed
 pub mod Judged
+pub mod Answers

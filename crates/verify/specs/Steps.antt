@@ -1,5 +1,5 @@
 -- What the steps of the verifier answer.
-use Rattle.std.specs.Prelude.{◌≡◌, ◌⊎◌, ℕ, Bool, List, Some, None, Option, Result, Ok, Err, MatchResult}
+use Rattle.std.specs.Prelude.{◌≡◌, ◌≢◌, ◌⊎◌, ℕ, Bool, List, Some, None, Option, Result, Ok, Err, MatchResult}
 use Rattle.hierarchy.specs.Class.{ClassFact}
 use Rattle.insn.specs.declared.fault.CodeFault.{CodeFault}
 use Rattle.insn.specs.declared.fault.CodeFault.TheVariants as codes
@@ -41,7 +41,7 @@ place_of (codes.NonZeroByte at) = at
 
 -- 79 there, with the fault's number; or want of memory
 pub record RefusesCode (fault : CodeFault) (r : Result Verdict VerifyFault) : Type 0 where
-  pub outcome : MatchResult r (λ v. v ≡ Refused (place_of fault) (BadCode (code_fault_number fault))) (λ e. (fault ≡ codes.OutOfMemory) × (e ≡ faults.OutOfMemory))
+  pub outcome : MatchResult r (λ v. (fault ≢ codes.OutOfMemory) × (v ≡ Refused (place_of fault) (BadCode (code_fault_number fault)))) (λ e. (fault ≡ codes.OutOfMemory) × (e ≡ faults.OutOfMemory))
 
 -- the verdict on code, or want of memory
 abbrev pub Gives : verdicts.Verdict → Result Verdict VerifyFault → Type 0

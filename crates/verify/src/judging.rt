@@ -29,7 +29,7 @@ fn judge<'a, C: Classes>(
     frame: &mut Frame<'a>,
     classes: &C,
 ) -> Result<(), Reason<'a>>
-    requires locals { length frame.old.locals.items ≡ body.now.code.now.max_locals }
+    requires locals { length frame.old.locals.items ≡ body.now.method.code.now.max_locals }
     requires no_exceptions { (method_view body.now).exceptions ≡ [] }
     ensures { (next : Option ℕ) → is_none next ≡ last →
         let m = method_view body.now in let f = frame_of frame.old in
@@ -50,7 +50,7 @@ pub fn pass<'a, C: Classes>(
     classes: &C,
 ) -> Result<Verdict<'a>, VerifyFault>
     requires initial { frame_of initial ≡ initial_frame (method_view body.now) }
-    requires locals { length initial.locals.items ≡ body.now.code.now.max_locals }
+    requires locals { length initial.locals.items ≡ body.now.method.code.now.max_locals }
     requires no_exceptions { (method_view body.now).exceptions ≡ [] }
     ensures { Gives (code_judged (C.content classes.now) (method_view body.now) []) result }
 {

@@ -25,6 +25,7 @@ pub use laws::{
     map_refused_where, none_is_replaced, refused_where, type_safe_is_verified,
     verified_is_type_safe,
 };
+pub use method::verify_method;
 pub use theorem::type_safe_is_safe;
 pub use verdict::{Verdict, VerifyFault};
 

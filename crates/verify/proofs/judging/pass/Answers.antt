@@ -44,6 +44,6 @@ loop-i-preserved g c =
     record {
       same = goes_done classes m xs i d c.loop-i-test.true c.loop-i.comes f (code_judged classes m []) c.loop-i.invariant.same (frame_of c.judge.new.frame) c.judge.result c.in_default-judge.field-0 c.falls-comes.result came c.in_default-judge.is
           (c.judge.ensures (first_offset (coded (drop (i + 1) xs))) (last_is xs i c.loop-i-test.true)) c.falls-comes.ensures;
-      locals = keeps_length m (get_or xs i d).0 (plan m (as_supported (act (view (get_or xs i d).1)))) c.loop-i.frame c.judge.new.frame c.args.body.now.code.now.max_locals c.loop-i.invariant.locals
+      locals = keeps_length m (get_or xs i d).0 (plan m (as_supported (act (view (get_or xs i d).1)))) c.loop-i.frame c.judge.new.frame c.args.body.now.method.code.now.max_locals c.loop-i.invariant.locals
           (c.in_default-judge.ensures (first_offset (coded (drop (i + 1) xs))) (last_is xs i c.loop-i-test.true)).outcome.1;
     }

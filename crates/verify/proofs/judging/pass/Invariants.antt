@@ -10,5 +10,5 @@ invariant-loop-i g l = record {
   same :
       code_judged (g.C.Classes.content l.classes) (method_view l.body) []
       ≡ left (g.C.Classes.content l.classes) (method_view l.body) (drop l.i l.list) l.comes (frame_of l.frame);
-  locals : length l.frame.locals.items ≡ l.body.code.now.max_locals;
+  locals : length l.frame.locals.items ≡ l.body.method.code.now.max_locals;
 }
