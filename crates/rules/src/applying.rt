@@ -8,8 +8,8 @@ ghost use Rattle.rules.specs.Table.{plan};
 ghost use Rattle.rules.specs.Bodies.{method_view};
 ghost use Rattle.rules.specs.Applied.{Applied};
 
-use crate::body::Body;
 use crate::branching::Branches;
+use crate::environment::Env;
 use crate::reason::Reason;
 use crate::running::run;
 use crate::ways::{branches, falls};
@@ -59,15 +59,14 @@ fn copy_of<'a>(alloc: Global, frame: &Frame<'a>) -> Result<Frame<'a>, AllocError
 /// Refused is, by the least number that holds, what the rule refuses (60 to 66, 74, 76, 77); or 1 where memory ran out.
 pub fn apply<'a, C: Classes>(
     alloc: Global,
-    body: &Body<'_, '_, 'a>,
-    classes: &C,
+    env: &Env<'_, '_, 'a, C>,
     at: u16,
     insn: &Insn<'a>,
     frame: &Frame<'a>,
 ) -> Result<After<'a>, Refusal<'a>>
-    requires { length frame.now.locals.items ≡ body.now.code.now.max_locals }
-    ensures { let m = method_view body.now in
-        Applied (C.content classes.now) m at (plan m (as_supported (act (view insn.now)))) (frame_of frame.now) result }
+    requires { length frame.now.locals.items ≡ env.now.body.method.code.now.max_locals }
+    ensures { let m = method_view env.now.body in
+        Applied (C.content env.now.classes.now) m at (plan m (as_supported (act (view insn.now)))) (frame_of frame.now) result }
 {
     let Ok(mut after) = copy_of(alloc, frame) else {
         return Err(Refusal {
@@ -75,7 +74,7 @@ pub fn apply<'a, C: Classes>(
             own: false,
         });
     };
-    match run(body, at, act(insn), &mut after, classes) {
+    match run(&env.body, at, act(insn), &mut after, env.classes) {
         Err(reason) => Err(Refusal { reason, own: false }),
         Ok(()) => Ok(After {
             frame: after,

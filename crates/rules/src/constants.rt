@@ -37,7 +37,7 @@ pub fn load_wide_constant<'a, C: Classes>(
         let p = load_wide_constant (constant_at m.constant_pool index) in
         Done (conditions (C.content classes.now) m 0 p f) (after m 0 p f) (frame_of frame.new) result }
 {
-    match constant_at(&body.class.constant_pool, index) {
+    match constant_at(&body.method.class.constant_pool, index) {
         Some(Constant::Long { .. }) => pops(body, &[], Some(VType::Long), frame, classes),
         Some(Constant::Double { .. }) => pops(body, &[], Some(VType::Double), frame, classes),
         Some(Constant::Dynamic { .. }) => Err(Reason::NotSupported),

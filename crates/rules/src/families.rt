@@ -35,7 +35,7 @@ pub fn settle<'a>(
     if let Some(t) = gives {
         frame.stack.push(t)?;
     }
-    if is_wider(&frame.stack, body.code.max_stack) {
+    if is_wider(&frame.stack, body.method.code.max_stack) {
         return Err(Reason::StackOver);
     }
     match answer {
@@ -74,7 +74,7 @@ pub fn loads<'a, C: Classes>(
     frame: &mut Frame<'a>,
     classes: &C,
 ) -> Result<(), Reason<'a>>
-    requires locals { length frame.old.locals.items ≡ body.now.code.now.max_locals }
+    requires locals { length frame.old.locals.items ≡ body.now.method.code.now.max_locals }
     requires some { 1 ≤ width }
     requires few { width ≤ 2 }
     ensures { let m = method_view body.now in let f = frame_of frame.old in
@@ -82,7 +82,7 @@ pub fn loads<'a, C: Classes>(
         Done (conditions (C.content classes.now) m 0 p f) (after m 0 p f) (frame_of frame.new) result }
 {
     let place = usize::from(local);
-    if usize::from(body.code.max_locals) < place + width {
+    if usize::from(body.method.code.max_locals) < place + width {
         return Err(Reason::LocalOutOfRange);
     }
     let t = frame.locals[place];
@@ -100,12 +100,12 @@ pub fn counts<'a, C: Classes>(
     frame: &mut Frame<'a>,
     classes: &C,
 ) -> Result<(), Reason<'a>>
-    requires { length frame.old.locals.items ≡ body.now.code.now.max_locals }
+    requires { length frame.old.locals.items ≡ body.now.method.code.now.max_locals }
     ensures { let m = method_view body.now in let f = frame_of frame.old in let p = counts local in
         Done (conditions (C.content classes.now) m 0 p f) (after m 0 p f) (frame_of frame.new) result }
 {
     let place = usize::from(local);
-    if usize::from(body.code.max_locals) < place + 1 {
+    if usize::from(body.method.code.max_locals) < place + 1 {
         return Err(Reason::LocalOutOfRange);
     }
     let t = frame.locals[place];
@@ -121,7 +121,7 @@ pub fn returns<'a>(body: &Body<'_, '_, 'a>, frame: &mut Frame<'a>) -> Result<(),
     ensures { (classes : List ClassFact) → let m = method_view body.now in let f = frame_of frame.old in
         Done (conditions classes m 0 returns f) (after m 0 returns f) (frame_of frame.new) result }
 {
-    if body.is_init && frame.flag {
+    if body.method.is_init && frame.flag {
         return Err(Reason::OwnObjectNotReady);
     }
     settle(body, Answer::Yes, None, frame)
@@ -133,7 +133,7 @@ pub fn return_nothing<'a>(body: &Body<'_, '_, 'a>, frame: &mut Frame<'a>) -> Res
         let p = return_nothing m.type.result in
         Done (conditions classes m 0 p f) (after m 0 p f) (frame_of frame.new) result }
 {
-    match body.types.result {
+    match body.method.result_type {
         None => returns(body, frame),
         Some(_) => Err(Reason::WrongReturn),
     }
@@ -150,7 +150,7 @@ pub fn return_number<'a, C: Classes>(
         let p = return_number m.type.result kind in
         Done (conditions (C.content classes.now) m 0 p f) (after m 0 p f) (frame_of frame.new) result }
 {
-    match number_of_result(body.types.result) {
+    match number_of_result(body.method.result_type) {
         None => Err(Reason::WrongReturn),
         Some(given) => if given == kind {
             pops(body, &[kind], None, frame, classes)

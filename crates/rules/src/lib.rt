@@ -2,6 +2,7 @@
 //!
 //! - `reason`: why an instruction is refused.
 //! - `body`: the method whose instructions are judged.
+//! - `environment`: what an instruction is judged in.
 //! - `kinds`: kinds of numbers as types.
 //! - `operands`: what is asked of operands, and how deep the stack is.
 //! - `families`: operands to results, loads, increments and returns.
@@ -27,6 +28,7 @@ mod applying;
 mod body;
 mod branching;
 mod constants;
+mod environment;
 mod families;
 mod kinds;
 mod operands;
@@ -40,6 +42,7 @@ mod ways;
 pub use applying::{After, Refusal, apply};
 pub use body::Body;
 pub use branching::Branches;
+pub use environment::{Env, body_is_told};
 pub use reason::Reason;
 pub use running::run;
 pub use ways::{branches, falls};

@@ -32,7 +32,7 @@ pub fn run<'a, C: Classes>(
     frame: &mut Frame<'a>,
     classes: &C,
 ) -> Result<(), Reason<'a>>
-    requires { length frame.old.locals.items ≡ body.now.code.now.max_locals }
+    requires { length frame.old.locals.items ≡ body.now.method.code.now.max_locals }
     ensures { let m = method_view body.now in let f = frame_of frame.old in
         let p = plan m (as_supported (act_view act.entry)) in
         Done (conditions (C.content classes.now) m at p f) (after m at p f) (frame_of frame.new) result }

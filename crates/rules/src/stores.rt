@@ -63,7 +63,7 @@ pub fn stores<'a, C: Classes>(
     frame: &mut Frame<'a>,
     classes: &C,
 ) -> Result<(), Reason<'a>>
-    requires locals { length frame.old.locals.items ≡ body.now.code.now.max_locals }
+    requires locals { length frame.old.locals.items ≡ body.now.method.code.now.max_locals }
     requires some { 1 ≤ width }
     requires few { width ≤ 2 }
     ensures { let m = method_view body.now in let f = frame_of frame.old in
@@ -78,7 +78,7 @@ pub fn stores<'a, C: Classes>(
         Answer::No => Err(Reason::WrongOperand),
         _ => {
             let place = usize::from(local);
-            if usize::from(body.code.max_locals) < place + width {
+            if usize::from(body.method.code.max_locals) < place + width {
                 return Err(Reason::LocalOutOfRange);
             }
             store(t, place, &mut frame.locals);

@@ -1,36 +1,93 @@
 ghost use Rattle.std.specs.Prelude.{◌≡◌, length, IfOk};
 
 use super::*;
-use classfile::{ClassFile, CodeAttr};
+use classfile::{Attribute, ClassFile, CodeAttr, Member, form_check};
 use frames::{Frame, VType};
 use hierarchy::{Chains, OBJECT, Summary};
 use insn::decode_code;
-use names::{Base, FieldType, MethodType, Primitive};
+use names::check_text;
 use pool::{Constant, Pool};
 use std::alloc::{AllocError, Global};
 use std::hash::{BuildHasherDefault, FoldHasher};
 use std::process::Abort;
 use std::test::Fail;
 
-fn class<'a>(alloc: Global) -> Result<ClassFile<'a>, AllocError> {
+fn utf8<'a>(rt: &impl Abort, bytes: &'a [u8]) -> Constant<'a> {
+    Constant::Utf8(check_text(bytes).expect(rt, "a text"))
+}
+
+/// Constants of the kinds that instructions name, and the names of the class and its method.
+fn constants<'a>(rt: &impl Abort, alloc: Global) -> Result<Vec<Constant<'a>>, AllocError> {
     let mut constants = Vec::new(alloc);
     constants.push(Constant::Long { high: 0, low: 1 })?;
     constants.push(Constant::Unusable)?;
     constants.push(Constant::Integer { bits: 5 })?;
     constants.push(Constant::Dynamic {
         bootstrap: 0,
-        name_and_type: 1,
+        name_and_type: 5,
     })?;
+    constants.push(Constant::NameAndType {
+        name: 6,
+        descriptor: 7,
+    })?;
+    constants.push(utf8(rt, b"f"))?;
+    constants.push(utf8(rt, b"J"))?;
+    constants.push(Constant::Class { name: 9 })?;
+    constants.push(utf8(rt, b"K"))?;
+    constants.push(Constant::Class { name: 11 })?;
+    constants.push(utf8(rt, OBJECT))?;
+    constants.push(utf8(rt, b"<init>"))?;
+    constants.push(utf8(rt, b"()V"))?;
+    constants.push(utf8(rt, b"()Z"))?;
+    constants.push(utf8(rt, b"Code"))?;
+    Ok(constants)
+}
+
+/// The method that has this code: `<init>`, or one that gives a boolean.
+fn method<'a>(alloc: Global, code: &'a [u8], given: &Given<'_>) -> Result<Member<'a>, AllocError> {
+    let code = CodeAttr {
+        max_stack: given.max_stack,
+        max_locals: 2,
+        code,
+        exception_table: Vec::new(alloc),
+        attributes: Vec::new(alloc),
+    };
+    let mut attributes = Vec::new(alloc);
+    attributes.push(Attribute::Code {
+        name: 15,
+        code: Box::new(alloc, code)?,
+    })?;
+    let (name, descriptor) = if given.gives_boolean {
+        (6, 14)
+    } else {
+        (12, 13)
+    };
+    Ok(Member {
+        access_flags: 0,
+        name,
+        descriptor,
+        attributes,
+    })
+}
+
+fn class<'a>(
+    rt: &impl Abort,
+    alloc: Global,
+    code: &'a [u8],
+    given: &Given<'_>,
+) -> Result<ClassFile<'a>, AllocError> {
+    let mut methods = Vec::new(alloc);
+    methods.push(method(alloc, code, given)?)?;
     Ok(ClassFile {
         minor_version: 0,
         major_version: 55,
-        constant_pool: Pool::new(constants),
-        access_flags: 0,
-        this_class: 0,
-        super_class: 0,
+        constant_pool: Pool::new(constants(rt, alloc)?),
+        access_flags: 0x21,
+        this_class: 8,
+        super_class: 10,
         interfaces: Vec::new(alloc),
         fields: Vec::new(alloc),
-        methods: Vec::new(alloc),
+        methods,
         attributes: Vec::new(alloc),
     })
 }
@@ -50,14 +107,14 @@ fn frame<'a>(
     })
 }
 
-// What is known before an instruction of an `<init>` with two locals and this many units of stack.
+// What is known before an instruction of a method with two locals and this many units of stack.
 #[derive(Clone, Copy, Debug)]
 struct Given<'a> {
     locals: [VType<'a>; 2],
     stack: &'a [VType<'a>],
     flag: bool,
     max_stack: u16,
-    result: Option<FieldType<'a>>,
+    gives_boolean: bool,
 }
 
 fn before<'a>(stack: &'a [VType<'a>]) -> Given<'a> {
@@ -66,7 +123,7 @@ fn before<'a>(stack: &'a [VType<'a>]) -> Given<'a> {
         stack,
         flag: false,
         max_stack: 4,
-        result: None,
+        gives_boolean: false,
     }
 }
 
@@ -76,17 +133,9 @@ fn judge<'a>(
     bytes: &'a [u8],
     given: &Given<'a>,
 ) -> Result<Result<After<'a>, Refusal<'a>>, AllocError> {
-    let class = class(alloc)?;
-    let code = CodeAttr {
-        max_stack: given.max_stack,
-        max_locals: 2,
-        code: bytes,
-        exception_table: Vec::new(alloc),
-        attributes: Vec::new(alloc),
-    };
-    let types = MethodType {
-        params: Vec::new(alloc),
-        result: given.result,
+    let class = class(rt, alloc, bytes, given)?;
+    let Ok(formed) = form_check(alloc, &class) else {
+        return Err(AllocError);
     };
     let bytes = &bytes[..bytes.len().min(9)];
     let Ok(list) = decode_code(alloc, bytes) else {
@@ -103,17 +152,20 @@ fn judge<'a>(
     let Ok(classes) = Chains::new(alloc, &object, hasher) else {
         return Err(AllocError);
     };
-    let body = Body {
-        class: &class,
-        code: &code,
-        list: &list,
-        is_static: false,
-        is_init: true,
-        types: &types,
+    assert!(rt; !formed.class().methods.is_empty());
+    let Some(method) = formed.method(0) else {
+        panic!(rt; "a method with code");
     };
+    let env = Env::new(&formed, 0, &list, &classes);
+    body_is_told(&env.body);
+    assert_eq!(rt; env.body.method.is_init, method.is_init);
     let (_, first) = *list.first().expect(rt, "an instruction");
     let frame = frame(alloc, &given.locals, given.stack, given.flag)?;
-    Ok(apply(alloc, &body, &classes, 0, &first, &frame))
+    assert_eq!(rt;
+        frame.locals.len(),
+        usize::from(env.body.method.code.max_locals)
+    );
+    Ok(apply(alloc, &env, 0, &first, &frame))
 }
 
 fn refused(rt: &impl Abort, alloc: Global, bytes: &[u8], given: &Given) -> Result<u8, AllocError> {
@@ -204,10 +256,7 @@ fn returns(rt: HostRuntime) -> Result<(), Fail> {
     let mut given = before(&[VType::Int]);
     let left = judge(&rt, alloc, &[0xB1], &given)?.expect(&rt, "return");
     assert!(rt; !left.falls);
-    given.result = Some(FieldType {
-        dims: 0,
-        base: Base::Primitive(Primitive::Boolean),
-    });
+    given.gives_boolean = true;
     assert_eq!(rt; refused(&rt, alloc, &[0xAC], &given)?, 0);
     assert_eq!(rt; refused(&rt, alloc, &[0xAD], &given)?, 76);
     assert_eq!(rt; refused(&rt, alloc, &[0xB1], &given)?, 76);

@@ -19,4 +19,14 @@ pub mod Premises
 pub mod Verdicts
 pub mod Refusing
 pub mod MapFaults
+pub mod Decoded
+pub mod Replaced
+pub mod Merging
+pub mod Ends
+pub mod Onward
+pub mod Parameters
+pub mod Summaries
+pub mod Judged
+pub mod MethodCode
+pub mod Answering
 mod Examples

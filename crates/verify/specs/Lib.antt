@@ -1,7 +1,11 @@
 pub mod InitialFrames
 pub mod TypeSafety
 pub mod Safety
-pub mod ClassMethods
 pub mod Verdict
 pub mod VerdictLaws
+pub mod ClassMethods
 pub mod Refusals
+pub mod Steps
+pub mod Listed
+pub mod Judged
+pub mod Answers

@@ -1,5 +1,6 @@
 //! What the verdict on a method means.
 ghost use Rattle.verify.specs.Refusals.{MapRefusedWhere, RefusedWhere};
+ghost use Rattle.verify.specs.ClassMethods.{NoneIsReplaced};
 ghost use Rattle.verify.specs.VerdictLaws.{TypeSafeIsVerified, VerifiedIsTypeSafe};
 
 /// A method whose verdict is verified is type-safe.
@@ -22,4 +23,9 @@ pub fn refused_where()
 /// Where the stack map is refused, receiver and parameters fit, and the map has this fault.
 pub fn map_refused_where()
     ensures { MapRefusedWhere }
+{}
+
+/// A method that is type-safe has no instruction without a rule.
+pub fn none_is_replaced()
+    ensures { NoneIsReplaced }
 {}

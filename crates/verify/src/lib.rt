@@ -1,14 +1,33 @@
 //! Methods that are type-safe (JVMS 4.10.1), and what is proved of them.
 //!
 //! - `theorem`: type-safe methods are safe.
+//! - `verdict`: what is answered of a method.
+//! - `initial`: the frame with which a method begins.
+//! - `flow`: from one instruction to the next.
+//! - `judging`: one pass over a method's code.
+//! - `listing`: whether a hierarchy has a class as it is.
+//! - `refusal`: verdicts that refuse.
+//! - `method`: the verdict on a method.
 //! - `laws`: the verdict on a method is verified exactly where it is type-safe, and what a refusal says.
 #![tactic(auto)]
 
+mod flow;
+mod initial;
+mod judging;
 mod laws;
+mod listing;
+mod method;
+mod refusal;
 mod theorem;
+mod verdict;
 
-pub use laws::{map_refused_where, refused_where, type_safe_is_verified, verified_is_type_safe};
+pub use laws::{
+    map_refused_where, none_is_replaced, refused_where, type_safe_is_verified,
+    verified_is_type_safe,
+};
+pub use method::verify_method;
 pub use theorem::type_safe_is_safe;
+pub use verdict::{Verdict, VerifyFault};
 
 #[cfg(test)]
 mod tests;

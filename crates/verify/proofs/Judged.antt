@@ -1,0 +1,97 @@
+-- The verdict on a method that is judged.
+use Rattle.std.proofs.Common.{◌≡◌, ℕ, Bool, true, false, not, ◌&&◌, is_none, nat_eq, nat_lt, List, [], ◌∷◌, ◌++◌, map, length, Option, Some, None, Ok, refl, sym, ◌∙◌, ap, subst, arith}
+use Rattle.std.specs.Prelude.{MatchOption}
+use Rattle.std.proofs.lemmas.Bool.Decides.{nat_tests}
+use Rattle.std.specs.Option.{is_some}
+use Rattle.names.specs.Descriptors.{FieldDescriptor}
+use Rattle.classfile.specs.Methods.{Method, ExceptionEntry, Receiver, no_receiver, receiver_of}
+use Rattle.hierarchy.specs.Class.{ClassFact}
+use Rattle.insn.specs.Meanings.{Act}
+use Rattle.frames.specs.VerificationType.{VerificationType}
+use Rattle.frames.specs.FrameFact.{FrameFact}
+use Rattle.frames.specs.Slots.{descriptor_type, in_locals, all_locals}
+use Rattle.frames.specs.Conditions.{reason}
+use Rattle.verify.specs.InitialFrames.{receiver_types, initial_types, is_uninitialized, initial_frame}
+use Rattle.verify.specs.Verdict.{refused, frames_of, entries_read, frames_declared, table_judged, code_judged, with_frames, verdict}
+use Rattle.verify.specs.Judged.{is_empty, is_judged}
+
+left_of : (a b : Bool) → a && b ≡ true → a ≡ true
+left_of true b e = refl
+left_of false b e = cc
+
+right_of : (a b : Bool) → a && b ≡ true → b ≡ true
+right_of true b e = e
+right_of false b e = cc
+
+none_of : {A : Type 0} (o : Option A) → is_none o ≡ true → o ≡ None
+none_of None e = refl
+none_of (Some x) e = cc
+
+empty_of : {A : Type 0} (xs : List A) → is_empty xs ≡ true → xs ≡ []
+empty_of [] e = refl
+empty_of (x ∷ xs) e = cc
+
+module _ {A : Type 0} (m : Method A) (judged : is_judged m ≡ true) where
+  pub is_static : m.is_static ≡ true
+  is_static = left_of m.is_static _ judged
+
+  pub no_stack_map : m.stack_map ≡ None
+  no_stack_map = none_of m.stack_map (left_of (is_none m.stack_map) (is_empty m.exceptions) (right_of (not m.is_init) _ (right_of m.is_static _ judged)))
+
+  pub no_exceptions : m.exceptions ≡ []
+  no_exceptions = empty_of m.exceptions (right_of (is_none m.stack_map) (is_empty m.exceptions) (right_of (not m.is_init) _ (right_of m.is_static _ judged)))
+
+some_none : {A : Type 0} (o : Option A) → is_some o ≡ false → is_none o ≡ true
+some_none None e = refl
+some_none (Some x) e = cc
+
+-- by its four properties
+pub judged_by : {A : Type 0} (m : Method A) (b : Bool) → m.is_static ≡ true → m.is_init ≡ false → is_some m.stack_map ≡ false → is_empty m.exceptions ≡ b → b ≡ is_judged m
+judged_by m b s i o e = let none : is_none m.stack_map ≡ true = some_none m.stack_map o in rw (s, i, none, e) refl
+
+pub empty_by : {X Y : Type 0} (f : X → Y) (xs : List X) (n : ℕ) → n ≡ length xs → is_empty (map f xs) ≡ nat_eq n 0
+empty_by f [] n e = rw e refl
+empty_by f (x ∷ xs) n e = let q : nat_eq n 0 ≡ false = grind (arith, nat_tests, e) in sym q
+
+module _ (m : Method Act) (judged : is_judged m ≡ true) where
+  nobody : receiver_of m ≡ no_receiver
+  nobody = rw (is_static m judged) refl
+
+  pub parameters_alone : initial_types m ≡ map descriptor_type m.type.params
+  parameters_alone = ap (λ (r : Receiver). receiver_types m r ++ map descriptor_type m.type.params) nobody
+
+  pub flag_unset : is_uninitialized (receiver_of m) ≡ false
+  flag_unset = ap is_uninitialized nobody
+
+  module _ (classes : List ClassFact) where
+    declares_none : frames_declared m ≡ Ok []
+    declares_none = ap (λ (o : Option (List ℕ)). frames_of m (entries_read o)) (no_stack_map m judged)
+
+    pub too_narrow : nat_lt m.max_locals (length (in_locals (initial_types m))) ≡ true → verdict classes m ≡ refused 0 (reason 64)
+    too_narrow e = rw e refl
+
+    pub wide_enough : nat_lt m.max_locals (length (in_locals (initial_types m))) ≡ false → verdict classes m ≡ code_judged classes m []
+    wide_enough e =
+        rw e (ap (with_frames classes m) declares_none ∙ ap (λ (es : List ExceptionEntry). table_judged classes m [] es (code_judged classes m [])) (no_exceptions m judged))
+
+  -- what is answered of the locals, by the parameters
+  module _ (params : List FieldDescriptor) (same : m.type.params ≡ params) where
+    types_are : map descriptor_type params ≡ initial_types m
+    types_are = ap (map descriptor_type) (sym same) ∙ sym parameters_alone
+
+    pub room_as : (b : Bool) → nat_lt m.max_locals (length (in_locals (map descriptor_type params))) ≡ b → nat_lt m.max_locals (length (in_locals (initial_types m))) ≡ b
+    room_as b e = ap (λ (ts : List VerificationType). nat_lt m.max_locals (length (in_locals ts))) (sym types_are) ∙ e
+
+    pub initial_as : (f : FrameFact) → f.locals ≡ all_locals m.max_locals (map descriptor_type params) → f.stack ≡ [] → f.flag ≡ false → f ≡ initial_frame m
+    initial_as f l s b =
+        let locals = l ∙ ap (all_locals m.max_locals) types_are in
+        let flag = b ∙ sym flag_unset in
+        λ i. record { locals = locals i; stack = s i; flag = flag i }
+
+pub when_none : {X : Type 0} (A : Type 0) (B : X → Type 0) (o : Option X) → o ≡ None → MatchOption o A B → A
+when_none A B None e h = h
+when_none A B (Some x) e h = cc
+
+pub when_some : {X : Type 0} (A : Type 0) (B : X → Type 0) (o : Option X) (x : X) → o ≡ Some x → MatchOption o A B → B x
+when_some A B None x e h = cc
+when_some A B (Some y) x e h = let same : y ≡ x = cc in subst B same h

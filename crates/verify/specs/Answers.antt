@@ -1,0 +1,92 @@
+-- What is answered of a method of a class (JVMS 4.10.1), by cases that exclude each other.
+use Rattle.std.specs.Prelude.{◌≡◌, ◌⊎◌, ℕ, true, false, List, [], Some, None, Result, Ok, Err, MatchResult, IfOk}
+use Rattle.classfile.specs.Values.{CodeBody, Class}
+use Rattle.classfile.specs.Methods.{Method, method_of}
+use Rattle.classfile.specs.MethodParts.{code_at}
+use Rattle.hierarchy.specs.Class.{ClassFact}
+use Rattle.insn.specs.declared.fault.CodeFault.{CodeFault}
+use Rattle.insn.specs.Faults.{code_fault_number}
+use Rattle.insn.specs.Instructions.{Instruction}
+use Rattle.insn.specs.Code.{SpellsCode, FaultyCode}
+use Rattle.insn.specs.Meanings.{Act}
+use Rattle.insn.specs.Offsets.{acts}
+use Rattle.insn.specs.Supported.{supported_acts}
+use Rattle.rules.specs.declared.reason.Reason.{Reason}
+use Rattle.rules.specs.declared.reason.Reason.TheVariants.{NotSupported, BadCode}
+use Rattle.rules.specs.Reasons.{reason_view}
+use Rattle.verify.specs.declared.verdict.Verdict.{Verdict}
+use Rattle.verify.specs.declared.verdict.Verdict.TheVariants.{Verified, NoCode, Refused}
+use Rattle.verify.specs.declared.verdict.VerifyFault.{VerifyFault}
+use Rattle.verify.specs.declared.verdict.VerifyFault.TheVariants.{OutOfMemory, NotInHierarchy}
+use Rattle.verify.specs.TypeSafety.{IsTypeSafe}
+use Rattle.verify.specs.Verdict as verdicts
+use Rattle.verify.specs.Verdict.{verified, refused, verdict}
+use Rattle.verify.specs.ClassMethods.{IsMethod, IsTypeSafeIn, IsSafeIn}
+use Rattle.verify.specs.Steps.{place_of}
+use Rattle.verify.specs.Judged.{is_judged}
+use Rattle.verify.specs.Listed.{IsListed}
+
+-- Whatever its code says, it is none of the methods that are judged yet: 60 at 0.
+pub record IsLeftOut (c : Class) (number : ℕ) (at : ℕ) (why : Reason) : Type 0 where
+  pub method : Method Act
+  pub says : method_of c number [] ≡ Some method
+  pub left_out : is_judged method ≡ false
+  pub at_zero : at ≡ 0
+  pub told : why ≡ NotSupported
+
+-- Its bytes are no code: 79 where the first instruction at fault begins, with the number of its fault.
+pub record HasBadCode (c : Class) (number : ℕ) (at : ℕ) (why : Reason) : Type 0 where
+  pub method : Method Act
+  pub says : method_of c number [] ≡ Some method
+  pub judged : is_judged method ≡ true
+  pub body : CodeBody
+  pub has_code : code_at c number ≡ Some body
+  pub fault : CodeFault
+  pub faulty : FaultyCode body.code fault
+  pub there : at ≡ place_of fault
+  pub told : why ≡ BadCode (code_fault_number fault)
+
+-- Its bytes are code, and this is the verdict, where instructions without a rule yet count as unsupported.
+pub record HasVerdict (classes : List ClassFact) (c : Class) (number : ℕ) (v : verdicts.Verdict) : Type 0 where
+  pub body : CodeBody
+  pub has_code : code_at c number ≡ Some body
+  pub instructions : List (ℕ × Instruction)
+  pub spelled : SpellsCode 0 body.code instructions
+  pub method : Method Act
+  pub says : method_of c number (supported_acts (acts instructions)) ≡ Some method
+  pub judged : is_judged method ≡ true
+  pub told : verdict classes method ≡ v
+
+abbrev pub IsRefused : List ClassFact → Class → ℕ → ℕ → Reason → Type 0
+IsRefused classes c number at why =
+    IsLeftOut c number at why ⊎ (HasBadCode c number at why ⊎ HasVerdict classes c number (refused at (reason_view why)))
+
+-- a method with a Code attribute
+abbrev pub AnswersCode : List ClassFact → Class → ℕ → Result Verdict VerifyFault → Type 0
+AnswersCode classes c number (Ok Verified) = HasVerdict classes c number verified
+AnswersCode classes c number (Ok NoCode) = ⊥
+AnswersCode classes c number (Ok (Refused at why)) = IsRefused classes c number at why
+AnswersCode classes c number (Err OutOfMemory) = Unit {0}
+AnswersCode classes c number (Err NotInHierarchy) = ⊥
+
+-- Any method. 80 where the hierarchy has not this class as it is; that goes first.
+abbrev pub Answers : List ClassFact → Class → ℕ → Result Verdict VerifyFault → Type 0
+Answers classes c number (Ok Verified) = IsListed classes c × IsTypeSafeIn classes c number
+Answers classes c number (Ok NoCode) = IsListed classes c × (code_at c number ≡ None)
+Answers classes c number (Ok (Refused at why)) = IsListed classes c × IsRefused classes c number at why
+Answers classes c number (Err OutOfMemory) = Unit {0}
+Answers classes c number (Err NotInHierarchy) = IsListed classes c → ⊥
+
+-- All its instructions have a rule.
+abbrev pub HasRules : Method Act → Type 0
+HasRules m = supported_acts m.code ≡ m.code
+
+-- A method that is type-safe is verified, unless memory runs out, if it is one of those that are judged yet.
+abbrev pub VerifiesTypeSafe : List ClassFact → Class → ℕ → Result Verdict VerifyFault → Type 0
+VerifiesTypeSafe classes c number r =
+    IsListed classes c → (m : Method Act) → IsMethod c number m → is_judged m ≡ true → HasRules m → IsTypeSafe classes m
+    → MatchResult r (λ v. v ≡ Verified) (λ e. e ≡ OutOfMemory)
+
+-- A method that is verified is safe, in every world that extends the hierarchy.
+abbrev pub VerifiedIsSafe : List ClassFact → Class → ℕ → Result Verdict VerifyFault → Type 0
+VerifiedIsSafe classes c number r = IfOk r (λ v. v ≡ Verified → IsSafeIn classes c number)

@@ -1,0 +1,52 @@
+-- What the steps of the verifier answer.
+use Rattle.std.specs.Prelude.{◌≡◌, ◌≢◌, ◌⊎◌, ℕ, Bool, List, Some, None, Option, Result, Ok, Err, MatchResult}
+use Rattle.hierarchy.specs.Class.{ClassFact}
+use Rattle.insn.specs.declared.fault.CodeFault.{CodeFault}
+use Rattle.insn.specs.declared.fault.CodeFault.TheVariants as codes
+use Rattle.insn.specs.Faults.{code_fault_number}
+use Rattle.frames.specs.FrameFact.{FrameFact}
+use Rattle.frames.specs.Conditions.{Conditions, least}
+use Rattle.rules.specs.declared.reason.Reason.{Reason}
+use Rattle.rules.specs.declared.reason.Reason.TheVariants.{OutOfMemory, BadCode}
+use Rattle.rules.specs.Reasons.{reason_view}
+use Rattle.verify.specs.declared.verdict.Verdict.{Verdict}
+use Rattle.verify.specs.declared.verdict.Verdict.TheVariants.{Verified, NoCode, Refused}
+use Rattle.verify.specs.declared.verdict.VerifyFault.{VerifyFault}
+use Rattle.verify.specs.declared.verdict.VerifyFault.TheVariants as faults
+use Rattle.verify.specs.Verdict as verdicts
+use Rattle.verify.specs.Verdict.{verified, refused, entry, entered}
+
+abbrev pub verify_fault_number : VerifyFault → ℕ
+verify_fault_number faults.OutOfMemory = 1
+verify_fault_number faults.NotInHierarchy = 80
+
+-- none of the conditions holds; or this is the least reason, or want of memory
+pub record Judges (cs : Conditions) (r : Result Unit Reason) : Type 0 where
+  pub outcome : MatchResult r (λ _. least cs ≡ None) (λ e. (e ≡ OutOfMemory) ⊎ (least cs ≡ Some (reason_view e)))
+
+-- a frame comes to a start, where this one is declared, and this one goes on; or this is the reason against it, or want of memory
+pub record Enters (classes : List ClassFact) (falls : Bool) (f : FrameFact) (declared : Option FrameFact) (now : FrameFact) (r : Result Unit Reason) : Type 0 where
+  pub outcome : MatchResult r
+      (λ _. (entry classes falls f declared ≡ None) × (now ≡ entered f declared))
+      (λ e. (e ≡ OutOfMemory) ⊎ (entry classes falls f declared ≡ Some (reason_view e)))
+
+-- where the instruction begins that is at fault
+abbrev pub place_of : CodeFault → ℕ
+place_of codes.OutOfMemory = 0
+place_of (codes.BadOpcode at) = at
+place_of (codes.CutInstruction at) = at
+place_of (codes.BadSwitch at) = at
+place_of (codes.BadWide at) = at
+place_of (codes.NonZeroByte at) = at
+
+-- 79 there, with the fault's number; or want of memory
+pub record RefusesCode (fault : CodeFault) (r : Result Verdict VerifyFault) : Type 0 where
+  pub outcome : MatchResult r (λ v. (fault ≢ codes.OutOfMemory) × (v ≡ Refused (place_of fault) (BadCode (code_fault_number fault)))) (λ e. (fault ≡ codes.OutOfMemory) × (e ≡ faults.OutOfMemory))
+
+-- the verdict on code, or want of memory
+abbrev pub Gives : verdicts.Verdict → Result Verdict VerifyFault → Type 0
+Gives v (Ok Verified) = v ≡ verified
+Gives v (Ok NoCode) = ⊥
+Gives v (Ok (Refused at reason)) = v ≡ refused at (reason_view reason)
+Gives v (Err faults.OutOfMemory) = Unit {0}
+Gives v (Err faults.NotInHierarchy) = ⊥

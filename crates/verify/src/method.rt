@@ -1,0 +1,147 @@
+//! The verdict on a method.
+ghost use Rattle.std.specs.Prelude.{◌≡◌, ◌<◌, ℕ, true, [], map, length, Some, IfOk, IfErr};
+ghost use Rattle.names.specs.Types.{type_of};
+ghost use Rattle.classfile.specs.MethodParts.{code_at, params_at};
+ghost use Rattle.classfile.specs.CodeMethods.{code_method_view};
+ghost use Rattle.classfile.specs.Views.{class_view, code_view};
+ghost use Rattle.classfile.specs.WellFormed.{WellFormed};
+ghost use Rattle.rules.specs.Bodies.{method_view};
+ghost use Rattle.verify.specs.declared.verdict.VerifyFault.TheVariants.{OutOfMemory};
+ghost use Rattle.verify.specs.Verdict.{verdict};
+ghost use Rattle.verify.specs.Steps.{Gives};
+ghost use Rattle.verify.specs.Judged.{is_judged};
+ghost use Rattle.verify.specs.Answers.{AnswersCode, Answers, VerifiesTypeSafe, VerifiedIsSafe};
+
+use crate::initial::initial_locals;
+use crate::judging::pass;
+use crate::listing::is_listed;
+use crate::refusal::{has_stack_map, refuse, refuse_code};
+use crate::verdict::{Verdict, VerifyFault};
+use classfile::flags::{STATIC, has};
+use classfile::{CodeMethod, Formed};
+use frames::Frame;
+use hierarchy::Classes;
+use insn::decode_code;
+use names::{FieldType, MethodType, method_type};
+use rules::{Body, Reason};
+use std::alloc::Global;
+
+/// Whether the method is one of those that are judged yet.
+fn is_judged(method: &CodeMethod<'_, '_>) -> bool
+    requires formed { WellFormed (class_view method.now.class.now) }
+    requires coded { code_at (class_view method.now.class.now) method.now.number ≡ Some (code_view method.now.code.now) }
+    ensures { result ≡ is_judged {A = ℕ} (code_method_view method.now []) }
+{
+    if !method.is_static {
+        return false;
+    }
+    if method.is_init {
+        return false;
+    }
+    if has_stack_map(method.code) {
+        return false;
+    }
+    method.code.exception_table.is_empty()
+}
+
+/// The types of a method's parameters, and of its result. The only refusal is want of memory.
+fn types_of<'a>(alloc: Global, method: &CodeMethod<'_, 'a>) -> Result<MethodType<'a>, VerifyFault>
+    requires formed { WellFormed (class_view method.now.class.now) }
+    requires coded { code_at (class_view method.now.class.now) method.now.number ≡ Some (code_view method.now.code.now) }
+    ensures found { IfOk result (λ t. params_at (class_view method.now.class.now) method.now.number ≡ map type_of t.params.items) }
+    ensures memory { IfErr result (λ e. e ≡ OutOfMemory) }
+{
+    let class = method.class;
+    let member = &class.methods[method.number];
+    let text = class.constant_pool.text(member.descriptor).unwrap();
+    match method_type(alloc, text, !has(member.access_flags, STATIC)) {
+        Ok(types) => Ok(types),
+        Err(_) => Err(VerifyFault::OutOfMemory),
+    }
+}
+
+/// Judges a method by its parameters and its instructions: 64 where the parameters do not fit, and then by one pass.
+fn judge_body<'a, C: Classes>(
+    alloc: Global,
+    body: &Body<'_, '_, 'a>,
+    parameters: &[FieldType<'a>],
+    classes: &C,
+) -> Result<Verdict<'a>, VerifyFault>
+    requires judged { is_judged (method_view body.now) ≡ true }
+    requires parameters { (method_view body.now).type.params ≡ map type_of parameters.now }
+    ensures { Gives (verdict (C.content classes.now) (method_view body.now)) result }
+{
+    let max_locals = body.method.code.max_locals;
+    let Some(locals) = initial_locals(alloc, parameters, max_locals)? else {
+        return refuse(0, Reason::LocalOutOfRange);
+    };
+    let initial = Frame {
+        locals,
+        stack: Vec::with_capacity(alloc, usize::from(body.method.code.max_stack))?,
+        flag: false,
+    };
+    pass(body, initial, classes)
+}
+
+/// The verdict on a method with code.
+fn verify_code<'a, C: Classes>(
+    alloc: Global,
+    method: CodeMethod<'_, 'a>,
+    classes: &C,
+) -> Result<Verdict<'a>, VerifyFault>
+    requires formed { WellFormed (class_view method.class.now) }
+    requires coded { code_at (class_view method.class.now) method.number ≡ Some (code_view method.code.now) }
+    ensures { AnswersCode (C.content classes.now) (class_view method.entry.class.now) method.entry.number result }
+{
+    if !is_judged(&method) {
+        return Ok(Verdict::Refused {
+            at: 0,
+            reason: Reason::NotSupported,
+        });
+    }
+    let list = match decode_code(alloc, method.code.code) {
+        Ok(list) => list,
+        Err(fault) => return refuse_code(fault),
+    };
+    let types = types_of(alloc, &method)?;
+    let body = Body {
+        method,
+        list: &list,
+    };
+    judge_body(alloc, &body, &types.params, classes)
+}
+
+/// The verdict on the method of this number, which counts from 0, of a class in a hierarchy (JVMS 4.10.1). Refused is,
+/// by the first of these steps that refuses:
+///
+/// - 80, where the hierarchy has no class with exactly this class's summary;
+/// - 60 at 0: the method is not static, is an `<init>`, or has a StackMapTable or an exception table;
+/// - 79 where the first instruction at fault begins, with the number of its fault (31 to 35);
+/// - 64 at 0: the parameters do not fit into max_locals;
+/// - 70 at an instruction to which no frame comes, 71 where the last one goes on, and otherwise what an instruction's rule
+///   refuses (60 to 66, 74, 76, 77): at the first instruction that is refused, the least number that holds there.
+///
+/// Or 1, where memory ran out.
+pub fn verify_method<'a, C: Classes>(
+    alloc: Global,
+    formed: &Formed<'_, 'a>,
+    number: usize,
+    classes: &C,
+) -> Result<Verdict<'a>, VerifyFault>
+    requires { number < length formed.now.class.now.methods.items }
+    // Each answer exactly where it holds, unless memory runs out.
+    ensures exactly { Answers (C.content classes.now) (class_view formed.now.class.now) number result }
+    // Type-safe methods are verified.
+    ensures only { VerifiesTypeSafe (C.content classes.now) (class_view formed.now.class.now) number result }
+    // No run of a method that is verified meets a fault.
+    ensures safe { VerifiedIsSafe (C.content classes.now) (class_view formed.now.class.now) number result }
+{
+    if !is_listed(alloc, formed, classes)? {
+        return Err(VerifyFault::NotInHierarchy);
+    }
+    formed.class();
+    match formed.method(number) {
+        None => Ok(Verdict::NoCode),
+        Some(method) => verify_code(alloc, method, classes),
+    }
+}
