@@ -30,3 +30,4 @@ pub mod Judged
 pub mod MethodCode
 pub mod Answering
 mod Examples
+pub mod Named

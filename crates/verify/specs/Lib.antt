@@ -9,3 +9,4 @@ pub mod Steps
 pub mod Listed
 pub mod Judged
 pub mod Answers
+pub mod Reports

@@ -8,6 +8,7 @@
 //! - `listing`: whether a hierarchy has a class as it is.
 //! - `refusal`: verdicts that refuse.
 //! - `method`: the verdict on a method.
+//! - `report`: the verdicts on the methods of a class.
 //! - `laws`: the verdict on a method is verified exactly where it is type-safe, and what a refusal says.
 #![tactic(auto)]
 
@@ -18,6 +19,7 @@ mod laws;
 mod listing;
 mod method;
 mod refusal;
+mod report;
 mod theorem;
 mod verdict;
 
@@ -26,6 +28,7 @@ pub use laws::{
     verified_is_type_safe,
 };
 pub use method::verify_method;
+pub use report::{ClassRefusal, MethodVerdict, verify_class, verify_methods};
 pub use theorem::type_safe_is_safe;
 pub use verdict::{Verdict, VerifyFault};
 

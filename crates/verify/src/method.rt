@@ -10,6 +10,8 @@ ghost use Rattle.verify.specs.declared.verdict.VerifyFault.TheVariants.{OutOfMem
 ghost use Rattle.verify.specs.Verdict.{verdict};
 ghost use Rattle.verify.specs.Steps.{Gives};
 ghost use Rattle.verify.specs.Judged.{is_judged};
+ghost use Rattle.hierarchy.specs.Rules.{IsHierarchy};
+ghost use Rattle.verify.specs.Listed.{IsListed};
 ghost use Rattle.verify.specs.Answers.{AnswersCode, Answers, VerifiesTypeSafe, VerifiedIsSafe};
 
 use crate::initial::initial_locals;
@@ -111,6 +113,27 @@ fn verify_code<'a, C: Classes>(
     judge_body(alloc, &body, &types.params, classes)
 }
 
+/// The verdict on the method of this number of a class that the hierarchy has as it is.
+pub fn verify_listed<'a, C: Classes>(
+    alloc: Global,
+    formed: &Formed<'_, 'a>,
+    number: usize,
+    classes: &C,
+) -> Result<Verdict<'a>, VerifyFault>
+    requires number { number < length formed.now.class.now.methods.items }
+    requires hierarchy { IsHierarchy (C.content classes.now) }
+    requires listed { IsListed (C.content classes.now) (class_view formed.now.class.now) }
+    ensures exactly { Answers (C.content classes.now) (class_view formed.now.class.now) number result }
+    ensures only { VerifiesTypeSafe (C.content classes.now) (class_view formed.now.class.now) number result }
+    ensures safe { VerifiedIsSafe (C.content classes.now) (class_view formed.now.class.now) number result }
+{
+    formed.class();
+    match formed.method(number) {
+        None => Ok(Verdict::NoCode),
+        Some(method) => verify_code(alloc, method, classes),
+    }
+}
+
 /// The verdict on the method of this number, which counts from 0, of a class in a hierarchy (JVMS 4.10.1). Refused is,
 /// by the first of these steps that refuses:
 ///
@@ -139,9 +162,5 @@ pub fn verify_method<'a, C: Classes>(
     if !is_listed(alloc, formed, classes)? {
         return Err(VerifyFault::NotInHierarchy);
     }
-    formed.class();
-    match formed.method(number) {
-        None => Ok(Verdict::NoCode),
-        Some(method) => verify_code(alloc, method, classes),
-    }
+    verify_listed(alloc, formed, number, classes)
 }

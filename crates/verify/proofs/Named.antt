@@ -1,0 +1,50 @@
+-- Names and descriptors of the methods of a well-formed class.
+use Rattle.std.proofs.Common.{◌≡◌, ℕ, List, Some, Result, Ok, Err, refl, sym, ◌∙◌, ap, subst}
+use Rattle.std.specs.Prelude.{slice_get}
+use Rattle.std.specs.Result.{IsOk}
+use Rattle.names.specs.declared.text.Text.{Text}
+use Rattle.pool.specs.declared.fault.PoolFault.{PoolFault}
+use Rattle.pool.specs.Entries.{Entry}
+use Rattle.pool.specs.Lookups.{and_then, text_at, Named, named, Answers}
+use Rattle.classfile.specs.Values.{Member, Class}
+use Rattle.classfile.specs.WellFormed.{WellFormed}
+use Rattle.classfile.specs.FormLaws.{HasNames}
+use Rattle.classfile.proofs.FormedNames.{formed_names}
+
+-- both texts are there
+pub texts_there : (pool : List Entry) (name descriptor : ℕ) (x : Named) → named pool name descriptor ≡ Ok x
+    → (text_at pool name ≡ Ok x.name) × (text_at pool descriptor ≡ Ok x.descriptor)
+unfolding named
+texts_there pool name descriptor x e = by_name (text_at pool name) refl e
+  where
+    by_descriptor : (a : List ℕ) (r : Result (List ℕ) PoolFault) → text_at pool name ≡ Ok a → text_at pool descriptor ≡ r
+        → and_then r (λ d. Ok (record { name = a; descriptor = d })) ≡ Ok x → (text_at pool name ≡ Ok x.name) × (text_at pool descriptor ≡ Ok x.descriptor)
+    by_descriptor a (Ok b) n d e =
+        let made : Named = record { name = a; descriptor = b } in
+        let same : made ≡ x = cc in
+        (n ∙ ap (λ z. Ok z.name) same, d ∙ ap (λ z. Ok z.descriptor) same)
+    by_descriptor a (Err f) n d e = absurd cc
+
+    by_name : (r : Result (List ℕ) PoolFault) → text_at pool name ≡ r
+        → and_then r (λ n. and_then (text_at pool descriptor) (λ d. Ok (record { name = n; descriptor = d }))) ≡ Ok x
+        → (text_at pool name ≡ Ok x.name) × (text_at pool descriptor ≡ Ok x.descriptor)
+    by_name (Ok a) n e = by_descriptor a (text_at pool descriptor) n refl e
+    by_name (Err f) n e = absurd cc
+
+-- what was looked up is there
+pub is_found : (found : Result (List ℕ) PoolFault) (bytes : List ℕ) (r : Result Text PoolFault) → found ≡ Ok bytes → Answers (λ t. t.bytes.now) found r → IsOk r
+is_found found bytes (Ok t) e a = tt
+is_found found bytes (Err f) e a = absurd (let no : Ok bytes ≡ (let o : Result (List ℕ) PoolFault = Err f in o) = sym e ∙ a in cc)
+
+-- the method's name and descriptor
+pub names_of : (c : Class) (number : ℕ) (m : Member) → WellFormed c → slice_get c.methods number ≡ Some m
+    → (x : Named) × (named c.constant_pool m.name m.descriptor ≡ Ok x)
+names_of c number m formed here = (formed_names c formed).method number m here
+
+-- these are the texts that were found
+pub called : (pool : List Entry) (name descriptor : ℕ) (n d : List ℕ) → text_at pool name ≡ Ok n → text_at pool descriptor ≡ Ok d
+    → named pool name descriptor ≡ Ok (record { name = n; descriptor = d })
+unfolding named
+called pool name descriptor n d p q =
+    ap (λ (r : Result (List ℕ) PoolFault). and_then r (λ a. and_then (text_at pool descriptor) (λ b. Ok (record { name = a; descriptor = b })))) p
+    ∙ ap (λ (r : Result (List ℕ) PoolFault). and_then r (λ b. Ok (record { name = n; descriptor = b }))) q

@@ -1,0 +1,10 @@
+-- Of the methods so far each was answered.
+use Rattle.std.proofs.Common.{◌≡◌, ℕ, length, Some}
+use Rattle.std.specs.Prelude.{slice_get}
+use Rattle.classfile.specs.Views.{class_view}
+use Rattle.verify.specs.declared.report.MethodVerdict.{MethodVerdict}
+use Rattle.verify.specs.Reports.{IsReported}
+use Rattle.verify.proofs.report.verify_methods.Given as goal
+
+abbrev pub invariant-loop-number : goal.invariant-loop-number
+invariant-loop-number g l = ?

@@ -1,0 +1,116 @@
+//! The verdicts on the methods of a class.
+ghost use Rattle.std.specs.Prelude.{◌≡◌, ◌<◌, length, IfOk, IfErr};
+ghost use Rattle.classfile.specs.Views.{class_view};
+ghost use Rattle.classfile.specs.WellFormed.{WellFormed};
+ghost use Rattle.hierarchy.specs.Rules.{IsHierarchy};
+ghost use Rattle.verify.specs.declared.verdict.VerifyFault.TheVariants.{OutOfMemory};
+ghost use Rattle.verify.specs.Listed.{IsListed};
+ghost use Rattle.verify.specs.Reports.{IsReported, Reports, ReportsBytes};
+
+use crate::listing::is_listed;
+use crate::method::verify_listed;
+use crate::verdict::{Verdict, VerifyFault};
+use classfile::{FormFault, FormRule, Formed, Place, decode, form_check};
+use hierarchy::Classes;
+use layout::ReadFault;
+use names::Text;
+use std::alloc::Global;
+
+/// What is answered of a method.
+#[derive(Clone, Copy, Debug)]
+pub struct MethodVerdict<'a> {
+    /// Its name.
+    pub name: Text<'a>,
+    /// Its descriptor.
+    pub descriptor: Text<'a>,
+    /// The verdict on it.
+    pub verdict: Verdict<'a>,
+}
+
+/// Why there are no verdicts on the methods of a class.
+#[derive(Clone, Copy, Debug)]
+pub enum ClassRefusal {
+    /// 1: memory ran out.
+    OutOfMemory,
+    /// The bytes are no class file: 2, 3, 7, 10 to 14 or 16.
+    NoClass(ReadFault),
+    /// The class file is not well formed: 20 to 30.
+    Malformed { rule: FormRule, place: Place },
+    /// 80: the hierarchy has no class with exactly the summary of this one.
+    NotInHierarchy,
+}
+
+/// What is answered of the method of this number.
+fn report_on<'a, C: Classes>(
+    alloc: Global,
+    formed: &Formed<'_, 'a>,
+    number: usize,
+    classes: &C,
+) -> Result<MethodVerdict<'a>, VerifyFault>
+    requires number { number < length formed.now.class.now.methods.items }
+    requires hierarchy { IsHierarchy (C.content classes.now) }
+    requires listed { IsListed (C.content classes.now) (class_view formed.now.class.now) }
+    ensures found { IfOk result (IsReported (C.content classes.now) (class_view formed.now.class.now) number) }
+    ensures memory { IfErr result (λ e. e ≡ OutOfMemory) }
+{
+    let class = formed.class();
+    let member = &class.methods[number];
+    let pool = &class.constant_pool;
+    let name = pool.text(member.name).unwrap();
+    let descriptor = pool.text(member.descriptor).unwrap();
+    match verify_listed(alloc, formed, number, classes) {
+        Ok(verdict) => Ok(MethodVerdict {
+            name,
+            descriptor,
+            verdict,
+        }),
+        Err(fault) => Err(fault),
+    }
+}
+
+/// The verdicts on the methods of a class in a hierarchy, in the order of the file (JVMS 4.10.1), each as
+/// [`verify_method`](crate::verify_method) answers it; or 80, or 1. Whether the hierarchy has the class is looked up once.
+pub fn verify_methods<'a, C: Classes>(
+    alloc: Global,
+    formed: &Formed<'_, 'a>,
+    classes: &C,
+) -> Result<Vec<MethodVerdict<'a>>, VerifyFault>
+    ensures { Reports (C.content classes.now) (class_view formed.now.class.now) result }
+{
+    if !is_listed(alloc, formed, classes)? {
+        return Err(VerifyFault::NotInHierarchy);
+    }
+    let mut report = Vec::new(alloc);
+    for number in 0..formed.class().methods.len() {
+        report.push(report_on(alloc, formed, number, classes)?)?;
+    }
+    Ok(report)
+}
+
+/// The verdicts on the methods of the class that these bytes are, in a hierarchy (JVMS 4.10.1). Refused is, by the first that
+/// holds, what [`decode`] refuses, what [`form_check`] refuses, or 80; or 1, where memory ran out.
+pub fn verify_class<'a, C: Classes>(
+    alloc: Global,
+    bytes: &'a [u8],
+    classes: &C,
+) -> Result<Vec<MethodVerdict<'a>>, ClassRefusal>
+    ensures { ReportsBytes (C.content classes.now) bytes.now result }
+{
+    let class = match decode(alloc, bytes) {
+        Ok(class) => class,
+        Err(ReadFault::OutOfMemory) => return Err(ClassRefusal::OutOfMemory),
+        Err(fault) => return Err(ClassRefusal::NoClass(fault)),
+    };
+    let formed = match form_check(alloc, &class) {
+        Ok(formed) => formed,
+        Err(FormFault::OutOfMemory) => return Err(ClassRefusal::OutOfMemory),
+        Err(FormFault::Broken { rule, place }) => {
+            return Err(ClassRefusal::Malformed { rule, place });
+        }
+    };
+    match verify_methods(alloc, &formed, classes) {
+        Ok(report) => Ok(report),
+        Err(VerifyFault::OutOfMemory) => Err(ClassRefusal::OutOfMemory),
+        Err(VerifyFault::NotInHierarchy) => Err(ClassRefusal::NotInHierarchy),
+    }
+}
