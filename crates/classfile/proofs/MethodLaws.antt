@@ -1,14 +1,15 @@
 -- A method of a well-formed class by its parts, whatever its code says.
-use Rattle.std.proofs.Common.{◌≡◌, ◌<◌, ◌+◌, ℕ, suc, Bool, not, List, [], ◌∷◌, length, drop, drop-cons, add-one, Option, Some, None, Result, refl, sym, ap, ◌∙◌}
+use Rattle.std.proofs.Common.{◌≡◌, ◌<◌, ◌+◌, ℕ, suc, Bool, not, List, [], ◌∷◌, length, drop, drop-cons, add-one, Option, Some, None, Result, Ok, Err, refl, sym, ap, ◌∙◌}
 use Rattle.std.specs.Prelude.{slice_get}
 use Rattle.std.specs.Option.{option_map, option_and_then}
 use Rattle.std.specs.Str.{bytes_eq}
-use Rattle.std.proofs.lemmas.Option.{slice_get_within, get_or_from_slice_get}
+use Rattle.std.proofs.lemmas.Option.{none-some, slice_get_within, get_or_from_slice_get}
 use Rattle.names.specs.declared.fault.NameFault.{NameFault}
 use Rattle.names.specs.Descriptors.{FieldDescriptor, MethodDescriptor}
 use Rattle.names.specs.StandardNames.{init_name}
 use Rattle.names.specs.Reading.{method_answer}
 use Rattle.pool.specs.declared.fault.PoolFault.{PoolFault}
+use Rattle.pool.specs.Entries.{Entry}
 use Rattle.pool.specs.Lookups.{text_at}
 use Rattle.pool.specs.Members.{found, class_at}
 use Rattle.classfile.specs.Values.{CodeBody, Attribute, Member, Class}
@@ -127,6 +128,58 @@ method_there c formed number m body is_static is_init result here coded static i
     ap (λ (r : Result (List ℕ) PoolFault). option_and_then (λ text. found (method_answer receiver text)) (found r)) x.descriptor_is
     ∙ ap (λ (r : Result MethodDescriptor NameFault). found r) x.type_is in
     is_method c number m body is_static is_init result here coded x static (init ∙ ap (on_found is_init_name) x.name_is) (answers receiver x.type type)
+
+-- ---- what a method tells of the member that it is
+
+pub record MemberOf (c : Class) (number : ℕ) (v : Method ℕ) : Type 0 where
+  pub member : Member
+  pub here : slice_get c.methods number ≡ Some member
+  pub type_is : member_type c.constant_pool member ≡ Some v.type
+  pub static_is : v.is_static ≡ has_static_flag member.access_flags
+
+pub member_of : (c : Class) (number : ℕ) (v : Method ℕ) → method_of c number [] ≡ Some v → MemberOf c number v
+member_of c number v e = by_member (slice_get c.methods number) refl e
+  where
+    same : (a : Method ℕ) → (let x : Option (Method ℕ) = Some a in x) ≡ Some v → a ≡ v
+    same a e = cc
+
+    by_parts : (m : Member) → slice_get c.methods number ≡ Some m → (body : CodeBody) (class name : Option (List ℕ)) (type : Option MethodDescriptor) (entries : Option (List ExceptionEntry))
+        → member_type c.constant_pool m ≡ type → method_with c m [] body class name type entries ≡ Some v → MemberOf c number v
+    by_parts m here body (Some class) (Some name) (Some type) (Some entries) is e =
+        let v_is = same _ e in
+        record { member = m; here = here; type_is = is ∙ ap (λ (x : Method ℕ). Some x.type) v_is; static_is = sym (ap (λ (x : Method ℕ). x.is_static) v_is) }
+    by_parts m here body _ _ _ _ is e = absurd (none-some v e)
+
+    by_body : (m : Member) → slice_get c.methods number ≡ Some m → (body : Option CodeBody)
+        → option_and_then (λ body. method_with c m [] body (class_named (class_at c.constant_pool c.this_class)) (found (text_at c.constant_pool m.name)) (member_type c.constant_pool m) (exception_entries c.constant_pool body.exception_table)) body ≡ Some v
+        → MemberOf c number v
+    by_body m here None e = absurd (none-some v e)
+    by_body m here (Some body) e =
+        by_parts m here body (class_named (class_at c.constant_pool c.this_class)) (found (text_at c.constant_pool m.name)) (member_type c.constant_pool m) (exception_entries c.constant_pool body.exception_table) refl e
+
+    by_member : (m : Option Member) → slice_get c.methods number ≡ m → option_and_then (method_from c []) m ≡ Some v → MemberOf c number v
+    by_member None is e = absurd (none-some v e)
+    by_member (Some m) is e = by_body m is (code_of m.attributes) e
+
+-- the text that a type was read from
+pub record ReadFrom (pool : List Entry) (m : Member) (type : MethodDescriptor) : Type 0 where
+  pub text : List ℕ
+  pub text_is : text_at pool m.descriptor ≡ Ok text
+  pub read : method_answer (not (has_static_flag m.access_flags)) text ≡ Ok type
+
+pub read_from : (pool : List Entry) (m : Member) (type : MethodDescriptor) → member_type pool m ≡ Some type → ReadFrom pool m type
+read_from pool m type e = by_text (text_at pool m.descriptor) refl e
+  where
+    same : (a : MethodDescriptor) → (let x : Option MethodDescriptor = Some a in x) ≡ Some type → a ≡ type
+    same a e = cc
+
+    by_answer : (text : List ℕ) → text_at pool m.descriptor ≡ Ok text → (r : Result MethodDescriptor NameFault) → method_answer (not (has_static_flag m.access_flags)) text ≡ r → found r ≡ Some type → ReadFrom pool m type
+    by_answer text is (Ok t) read e = record { text = text; text_is = is; read = read ∙ ap (λ (x : MethodDescriptor). Ok x) (same t e) }
+    by_answer text is (Err fault) read e = absurd (none-some type e)
+
+    by_text : (r : Result (List ℕ) PoolFault) → text_at pool m.descriptor ≡ r → option_and_then (λ text. found (method_answer (not (has_static_flag m.access_flags)) text)) (found r) ≡ Some type → ReadFrom pool m type
+    by_text (Ok text) is e = by_answer text is (method_answer (not (has_static_flag m.access_flags)) text) refl e
+    by_text (Err fault) is e = absurd (none-some type e)
 
 -- ---- the Code attribute among the others
 
