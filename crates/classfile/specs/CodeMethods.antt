@@ -12,7 +12,8 @@ use Rattle.classfile.specs.Views.{class_view, code_view}
 
 -- the method, whose code says this
 abbrev pub code_method_view : {A : Type 0} → CodeMethod → List (ℕ × A) → Method A
-code_method_view m code = method_by_parts (class_view m.class.now) m.number (code_view m.code.now) m.is_static m.is_init (option_map type_of m.result_type) code
+code_method_view m code =
+    method_by_parts (class_view m.class.now) m.number (code_view m.code.now) m.is_static m.is_init (option_map type_of m.result_type) code
 
 -- the types that its descriptor names (4.3.3)
 abbrev pub types_of : CodeMethod → MethodDescriptor

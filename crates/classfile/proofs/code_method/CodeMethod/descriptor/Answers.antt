@@ -28,9 +28,13 @@ returns c =
     let from = read_from pool is.member (types_of m) is.type_is in
     let read = member_view c.index-member.result.now in
     let bytes = c.unwrap.result.bytes.now in
-    let lt : m.number < length methods = omega (arith, slice_get_within (map member_view methods) m.number is.member is.here, length-map methods member_view) in
-    let here : slice_get (map member_view methods) m.number ≡ Some read = viewed_at member_view methods m.number c.index-member.result.now lt c.index-member.ensures in
+    let lt : m.number < length methods =
+    omega (arith, slice_get_within (map member_view methods) m.number is.member is.here, length-map methods member_view) in
+    let here : slice_get (map member_view methods) m.number ≡ Some read =
+    viewed_at member_view methods m.number c.index-member.result.now lt c.index-member.ensures in
     let same : read ≡ is.member = same_member read is.member (sym here ∙ is.here) in
-    let found : text_at pool read.descriptor ≡ Ok bytes = subst (λ r. Answers (λ t. t.bytes.now) (text_at pool read.descriptor) r) c.unwrap.ensures c.text.ensures in
-    let text : bytes ≡ from.text = same_text bytes from.text (sym found ∙ ap (λ (x : Member). text_at pool x.descriptor) same ∙ from.text_is) in
+    let found : text_at pool read.descriptor ≡ Ok bytes =
+    subst (λ r. Answers (λ t. t.bytes.now) (text_at pool read.descriptor) r) c.unwrap.ensures c.text.ensures in
+    let text : bytes ≡ from.text =
+    same_text bytes from.text (sym found ∙ ap (λ (x : Member). text_at pool x.descriptor) same ∙ from.text_is) in
     ap (λ b. method_answer (not b) bytes) is.static_is ∙ ap (method_answer (not (has_static_flag is.member.access_flags))) text ∙ from.read
