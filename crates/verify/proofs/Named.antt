@@ -8,8 +8,7 @@ use Rattle.pool.specs.Entries.{Entry}
 use Rattle.pool.specs.Lookups.{and_then, text_at, Named, named, Answers}
 use Rattle.classfile.specs.Values.{Member, Class}
 use Rattle.classfile.specs.WellFormed.{WellFormed}
-use Rattle.classfile.specs.FormLaws.{HasNames}
-use Rattle.classfile.proofs.FormedNames.{formed_names}
+use Rattle.classfile.proofs.FormedNames.{formed_has_names}
 
 -- both texts are there
 pub texts_there : (pool : List Entry) (name descriptor : ℕ) (x : Named) → named pool name descriptor ≡ Ok x
@@ -31,20 +30,15 @@ texts_there pool name descriptor x e = by_name (text_at pool name) refl e
     by_name (Ok a) n e = by_descriptor a (text_at pool descriptor) n refl e
     by_name (Err f) n e = absurd cc
 
+no_error : (bytes : List ℕ) (f : PoolFault) → (let o : Result (List ℕ) PoolFault = Ok bytes in o) ≡ Err f → ⊥
+no_error bytes f e = cc
+
 -- what was looked up is there
 pub is_found : (found : Result (List ℕ) PoolFault) (bytes : List ℕ) (r : Result Text PoolFault) → found ≡ Ok bytes → Answers (λ t. t.bytes.now) found r → IsOk r
-is_found found bytes (Ok t) e a = tt
-is_found found bytes (Err f) e a = absurd (let no : Ok bytes ≡ (let o : Result (List ℕ) PoolFault = Err f in o) = sym e ∙ a in cc)
+is_found found bytes (Ok t) e a = refl
+is_found found bytes (Err f) e a = absurd (no_error bytes f (sym e ∙ a))
 
 -- the method's name and descriptor
 pub names_of : (c : Class) (number : ℕ) (m : Member) → WellFormed c → slice_get c.methods number ≡ Some m
     → (x : Named) × (named c.constant_pool m.name m.descriptor ≡ Ok x)
-names_of c number m formed here = (formed_names c formed).method number m here
-
--- these are the texts that were found
-pub called : (pool : List Entry) (name descriptor : ℕ) (n d : List ℕ) → text_at pool name ≡ Ok n → text_at pool descriptor ≡ Ok d
-    → named pool name descriptor ≡ Ok (record { name = n; descriptor = d })
-unfolding named
-called pool name descriptor n d p q =
-    ap (λ (r : Result (List ℕ) PoolFault). and_then r (λ a. and_then (text_at pool descriptor) (λ b. Ok (record { name = a; descriptor = b })))) p
-    ∙ ap (λ (r : Result (List ℕ) PoolFault). and_then r (λ b. Ok (record { name = n; descriptor = b }))) q
+names_of c number m formed here = (formed_has_names c formed).method number m here

@@ -1,4 +1,4 @@
--- Of the methods so far each was answered.
+-- Each method so far was answered.
 use Rattle.std.proofs.Common.{◌≡◌, ℕ, length, Some}
 use Rattle.std.specs.Prelude.{slice_get}
 use Rattle.classfile.specs.Views.{class_view}
@@ -7,4 +7,6 @@ use Rattle.verify.specs.Reports.{IsReported}
 use Rattle.verify.proofs.report.verify_methods.Given as goal
 
 abbrev pub invariant-loop-number : goal.invariant-loop-number
-invariant-loop-number g l = ?
+invariant-loop-number g l =
+    (length l.report.items ≡ l.number)
+    × ((n : ℕ) (r : MethodVerdict) → slice_get l.report.items n ≡ Some r → IsReported (g.C.Classes.content l.classes) (class_view l.formed.class.now) n r)
