@@ -1,5 +1,5 @@
 -- Names and descriptors of the methods of a well-formed class.
-use Rattle.std.proofs.Common.{◌≡◌, ℕ, List, Some, Result, Ok, Err, refl, sym, ◌∙◌, ap, subst}
+use Rattle.std.proofs.Common.{◌≡◌, ℕ, zero, suc, List, [], ◌∷◌, ◌++◌, length, Some, None, Result, Ok, Err, refl, sym, ◌∙◌, ap, subst}
 use Rattle.std.specs.Prelude.{slice_get}
 use Rattle.std.specs.Result.{IsOk}
 use Rattle.names.specs.declared.text.Text.{Text}
@@ -42,3 +42,19 @@ is_found found bytes (Err f) e a = absurd (no_error bytes f (sym e ∙ a))
 pub names_of : (c : Class) (number : ℕ) (m : Member) → WellFormed c → slice_get c.methods number ≡ Some m
     → (x : Named) × (named c.constant_pool m.name m.descriptor ≡ Ok x)
 names_of c number m formed here = (formed_has_names c formed).method number m here
+
+-- ---- lists
+
+some_same : {A : Type 0} (a b : A) → Some a ≡ Some b → a ≡ b
+some_same a b e = cc
+
+none_some : {A : Type 0} (a : A) → None ≡ Some a → ⊥
+none_some a e = cc
+
+-- what holds of all items and of one more
+pub one_more_item : {A : Type 0} (xs : List A) (x : A) (P : ℕ → A → Type 0) → ((n : ℕ) (y : A) → slice_get xs n ≡ Some y → P n y) → P (length xs) x
+    → (n : ℕ) (y : A) → slice_get (xs ++ x ∷ []) n ≡ Some y → P n y
+one_more_item [] x P all last zero y e = subst (P 0) (some_same x y e) last
+one_more_item [] x P all last (suc n) y e = absurd (none_some y e)
+one_more_item (z ∷ xs) x P all last zero y e = all zero y e
+one_more_item (z ∷ xs) x P all last (suc n) y e = one_more_item xs x (λ k. P (suc k)) (λ k. all (suc k)) last n y e

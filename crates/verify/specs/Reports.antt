@@ -1,9 +1,6 @@
 -- What is answered of a class: of each method its name, its descriptor and its verdict, in the order of the file (JVMS 4.10.1).
-use Rattle.std.specs.Prelude.{◌≡◌, ◌⊎◌, ℕ, List, length, slice_get, Some, Result, Ok, Err, Vec}
+use Rattle.std.specs.Prelude.{◌≡◌, ℕ, List, length, slice_get, Some, Result, Ok, Err, Vec}
 use Rattle.pool.specs.Lookups.{named}
-use Rattle.layout.specs.declared.fault.ReadFault.{ReadFault}
-use Rattle.classfile.specs.declared.form_fault.FormRule.{FormRule}
-use Rattle.classfile.specs.declared.form_fault.Place.{Place}
 use Rattle.classfile.specs.Values.{Member, Class}
 use Rattle.classfile.specs.ClassFile.{IsClass, ClassFault}
 use Rattle.classfile.specs.WellFormed.{WellFormed, IsFirstFault}
