@@ -52,7 +52,8 @@ no_class_name [] h = absurd (false≢true h)
 no_class_name (b ∷ bytes) h = ap (λ (x : ℕ). ends_class_name true (x ∷ bytes)) (eqb-true b bracket h)
 
 -- what a descriptor names that begins so is an array
-is_array : (b : ℕ) (bytes : List ℕ) (t : FieldDescriptor) → nat_eq b bracket ≡ true → b ∷ bytes ≡ field_spelling t → (component : FieldDescriptor) × (t ≡ array component)
+is_array : (b : ℕ) (bytes : List ℕ) (t : FieldDescriptor) → nat_eq b bracket ≡ true → b ∷ bytes ≡ field_spelling t
+    → (component : FieldDescriptor) × (t ≡ array component)
 is_array b bytes t h e = by_type t (ap (λ (x : ℕ). x ∷ bytes) (sym (eqb-true b bracket h)) ∙ e)
   where
     by_type : (t : FieldDescriptor) → bracket ∷ bytes ≡ field_spelling t → (component : FieldDescriptor) × (t ≡ array component)
@@ -79,7 +80,8 @@ array_there : (text : List ℕ) → begins_array text ≡ true → names_class t
 array_there [] begins form = absurd (false≢true begins)
 array_there (b ∷ bytes) begins form =
     let text = b ∷ bytes in
-    let described = second (is_array_name text) (is_field_descriptor text) (right_of (is_class_name text) _ (no_class_name text begins) form) in
+    let described =
+    second (is_array_name text) (is_field_descriptor text) (right_of (is_class_name text) _ (no_class_name text begins) form) in
     let type = ok_value (field_answer text) described in
     let array_is = is_array b bytes type.0 begins (field_answered text type.0 type.1).0.spelled in (
       array_type array_is.0,
@@ -109,14 +111,16 @@ this_named c formed =
 
 -- ---- exception tables
 
-class_caught : (c : Class) → WellFormed c → (index : ℕ) → is_bad c.constant_pool index ≡ false → is_other c.constant_pool kinds.Class index ≡ false
+class_caught : (c : Class) → WellFormed c → (index : ℕ) → is_bad c.constant_pool index ≡ false
+    → is_other c.constant_pool kinds.Class index ≡ false
     → (t : ReferenceType) × (class_at c.constant_pool index ≡ Some t)
 class_caught c formed index bad other =
     let there = class_there c formed index bad other in
     let type = reference_there there.name there.form in
     (type.0, ap (λ (r : Result (List ℕ) PoolFault). option_and_then reference_type (found r)) there.is ∙ type.1)
 
-caught : (c : Class) → WellFormed c → (index : ℕ) → is_bad_unless_zero c.constant_pool index ≡ false → is_other c.constant_pool kinds.Class index ≡ false
+caught : (c : Class) → WellFormed c → (index : ℕ) → is_bad_unless_zero c.constant_pool index ≡ false
+    → is_other c.constant_pool kinds.Class index ≡ false
     → (t : ReferenceType) × (caught_type c.constant_pool index ≡ Some t)
 caught c formed index bad other =
     elim (cases_Bool (nat_eq index 0)) [
@@ -126,7 +130,8 @@ caught c formed index bad other =
           (class.0, cond-false (nat_eq index 0) _ _ some ∙ class.1)
     ]
 
-entries_there : (c : Class) → WellFormed c → (hs : List Handler) → handlers_have_bad c.constant_pool hs ≡ false → handlers_have_other c.constant_pool hs ≡ false
+entries_there : (c : Class) → WellFormed c → (hs : List Handler) → handlers_have_bad c.constant_pool hs ≡ false
+    → handlers_have_other c.constant_pool hs ≡ false
     → (es : List ExceptionEntry) × (exception_entries c.constant_pool hs ≡ Some es)
 unfolding handlers_have_bad handlers_have_other
 entries_there c formed [] bad other = ([], refl)
@@ -139,7 +144,8 @@ entries_there c formed (h ∷ hs) bad other =
     )
 
 -- what holds of no attribute does not hold of the Code attribute
-code_passes : (first : Attribute → Bool) (test : CodeBody → Bool) (attributes : List Attribute) (body : CodeBody) → code_of attributes ≡ Some body
+code_passes : (first : Attribute → Bool) (test : CodeBody → Bool) (attributes : List Attribute) (body : CodeBody)
+    → code_of attributes ≡ Some body
     → list_any (λ a. first a || on_body test a) attributes ≡ false → test body ≡ false
 code_passes first test [] body is h = absurd cc
 code_passes first test (by_field name code ∷ attributes) body is h =
@@ -147,7 +153,8 @@ code_passes first test (by_field name code ∷ attributes) body is h =
     sym (ap test same) ∙ right_not (first (by_field name code)) (test code) (left_not _ _ h)
 code_passes first test (raw name bytes ∷ attributes) body is h = code_passes first test attributes body is (right_not _ _ h)
 
-handlers_fit : (pool : List Entry) (attributes : List Attribute) (body : CodeBody) → code_of attributes ≡ Some body → attributes_have_bad pool attributes ≡ false → attributes_have_other pool attributes ≡ false
+handlers_fit : (pool : List Entry) (attributes : List Attribute) (body : CodeBody) → code_of attributes ≡ Some body
+    → attributes_have_bad pool attributes ≡ false → attributes_have_other pool attributes ≡ false
     → (handlers_have_bad pool body.exception_table ≡ false) × (handlers_have_other pool body.exception_table ≡ false)
 unfolding attributes_have_bad attribute_has_bad code_has_bad attributes_have_other attribute_has_other code_has_other
 handlers_fit pool attributes body is bad other = (
@@ -162,15 +169,19 @@ unfolding method_answer read_method read_params read_result
 no_params true = refl
 no_params false = refl
 
-described : (receiver : Bool) (x : lookups.Named) → may_describe_method receiver x ≡ true → (t : MethodDescriptor) × (method_answer receiver x.descriptor ≡ Ok t)
+described : (receiver : Bool) (x : lookups.Named) → may_describe_method receiver x ≡ true
+    → (t : MethodDescriptor) × (method_answer receiver x.descriptor ≡ Ok t)
 described receiver x h = by_clinit (is_clinit x.name) h
   where
-    by_init : (b : Bool) → cond b (is_void_descriptor receiver x.descriptor) (is_method_descriptor receiver x.descriptor) ≡ true → (t : MethodDescriptor) × (method_answer receiver x.descriptor ≡ Ok t)
+    by_init : (b : Bool) → cond b (is_void_descriptor receiver x.descriptor) (is_method_descriptor receiver x.descriptor) ≡ true
+        → (t : MethodDescriptor) × (method_answer receiver x.descriptor ≡ Ok t)
     by_init true h = let v = void_value (method_answer receiver x.descriptor) h in (v.0, v.1)
     by_init false h = ok_value (method_answer receiver x.descriptor) h
 
-    by_clinit : (b : Bool) → cond b (bytes_eq x.descriptor (codes "()V")) (fits_method receiver x.name x.descriptor) ≡ true → (t : MethodDescriptor) × (method_answer receiver x.descriptor ≡ Ok t)
-    by_clinit true h = (record { params = []; result = None }, ap (method_answer receiver) ((bytes_eq-Decides x.descriptor (codes "()V")).0 h) ∙ no_params receiver)
+    by_clinit : (b : Bool) → cond b (bytes_eq x.descriptor (codes "()V")) (fits_method receiver x.name x.descriptor) ≡ true
+        → (t : MethodDescriptor) × (method_answer receiver x.descriptor ≡ Ok t)
+    by_clinit true h =
+        (record { params = []; result = None }, ap (method_answer receiver) ((bytes_eq-Decides x.descriptor (codes "()V")).0 h) ∙ no_params receiver)
     by_clinit false h = by_init (is_init x.name) h
 
 -- ---- the method
@@ -188,7 +199,8 @@ pub record NamesMethod (c : Class) (m : Member) (body : CodeBody) : Type 0 where
   pub entries : List ExceptionEntry
   pub entries_are : exception_entries c.constant_pool body.exception_table ≡ Some entries
 
-pub formed_method : (c : Class) → WellFormed c → (n : ℕ) (m : Member) (body : CodeBody) → slice_get c.methods n ≡ Some m → code_of m.attributes ≡ Some body → NamesMethod c m body
+pub formed_method : (c : Class) → WellFormed c → (n : ℕ) (m : Member) (body : CodeBody) → slice_get c.methods n ≡ Some m
+    → code_of m.attributes ≡ Some body → NamesMethod c m body
 unfolding member_has_bad member_has_other is_badly_described has
 formed_method c formed n m body here coded =
     let pool = c.constant_pool in
@@ -199,8 +211,8 @@ formed_method c formed n m body here coded =
     let entries = entries_there c formed body.exception_table fit.0 fit.1 in
     let x : lookups.Named = record { name = texts.name; descriptor = texts.descriptor } in
     let receiver = not (has m.access_flags STATIC) in
-    let may = not_false (may_describe_method receiver x)
-    (sym (ap (on_found (λ x. not (may_describe_method receiver x))) (both_named pool m.name m.descriptor texts.name texts.descriptor texts.name_is texts.descriptor_is)) ∙ none.1.1.1.0) in
+    let named_is = both_named pool m.name m.descriptor texts.name texts.descriptor texts.name_is texts.descriptor_is in
+    let may = not_false (may_describe_method receiver x) (sym (ap (on_found (λ x. not (may_describe_method receiver x))) named_is) ∙ none.1.1.1.0) in
     let type = described receiver x may in
     record {
       class = class.0;

@@ -24,7 +24,8 @@ use Rattle.classfile.proofs.Places.{entry_is, class_is, field_is, method_is}
 
 -- ---- conditions of which none holds
 
-pub first_holds_not : (c : Condition) (others : List Condition) → broken_rule (c ∷ others) ≡ None → (c.1 ≡ false) × (broken_rule others ≡ None)
+pub first_holds_not : (c : Condition) (others : List Condition) → broken_rule (c ∷ others) ≡ None
+    → (c.1 ≡ false) × (broken_rule others ≡ None)
 first_holds_not c others e = by_case c.1 refl e
   where
     by_case : (b : Bool) → c.1 ≡ b → cond b (Some c.0) (broken_rule others) ≡ None → (c.1 ≡ false) × (broken_rule others ≡ None)
@@ -84,7 +85,8 @@ of_class pool index e is h = by_entry e (sym (ap (on_found (λ x. not (is_of kin
     by_entry (Class name) h = (name, refl)
     by_entry e h = absurd (true≢false h)
 
-pub text_found : (pool : List Entry) (index : ℕ) → is_bad pool index ≡ false → is_other pool kinds.Utf8 index ≡ false → (bytes : List ℕ) × (text_at pool index ≡ Ok bytes)
+pub text_found : (pool : List Entry) (index : ℕ) → is_bad pool index ≡ false → is_other pool kinds.Utf8 index ≡ false
+    → (bytes : List ℕ) × (text_at pool index ≡ Ok bytes)
 unfolding text_at
 text_found pool index bad other =
     let found = looked pool index bad in
@@ -97,7 +99,8 @@ pub record Named (pool : List Entry) (index : ℕ) : Type 0 where
   pub is : class_name_at pool index ≡ Ok name
   pub form : names_class name ≡ true
 
-pub class_there : (c : values.Class) → WellFormed c → (index : ℕ) → is_bad c.constant_pool index ≡ false → is_other c.constant_pool kinds.Class index ≡ false → Named c.constant_pool index
+pub class_there : (c : values.Class) → WellFormed c → (index : ℕ) → is_bad c.constant_pool index ≡ false
+    → is_other c.constant_pool kinds.Class index ≡ false → Named c.constant_pool index
 unfolding class_name_at constant_conditions is_no_class_name
 class_there c formed index bad other =
     let pool = c.constant_pool in
@@ -119,7 +122,8 @@ class_found : (c : values.Class) → WellFormed c → (index : ℕ) → is_bad c
 class_found c formed index bad other = let there = class_there c formed index bad other in (there.name, there.is)
 
 -- the two texts together
-pub both_named : (pool : List Entry) (name descriptor : ℕ) (n d : List ℕ) → text_at pool name ≡ Ok n → text_at pool descriptor ≡ Ok d → named pool name descriptor ≡ Ok (record { name = n; descriptor = d })
+pub both_named : (pool : List Entry) (name descriptor : ℕ) (n d : List ℕ) → text_at pool name ≡ Ok n → text_at pool descriptor ≡ Ok d
+    → named pool name descriptor ≡ Ok (record { name = n; descriptor = d })
 unfolding named
 both_named pool name descriptor n d first second =
     ap (λ (r : Result (List ℕ) PoolFault). and_then r (λ n. and_then (text_at pool descriptor) (λ d. Ok (record { name = n; descriptor = d })))) first
@@ -141,7 +145,8 @@ texts_there pool m bad other =
     let descriptor = text_found pool m.descriptor (right_not _ _ texts_bad) (right_not _ _ texts_other) in
     record { name = name.0; name_is = name.1; descriptor = descriptor.0; descriptor_is = descriptor.1 }
 
-named_found : (pool : List Entry) (m : values.Member) → member_has_bad pool m ≡ false → member_has_other pool m ≡ false → (x : lookups.Named) × (named pool m.name m.descriptor ≡ Ok x)
+named_found : (pool : List Entry) (m : values.Member) → member_has_bad pool m ≡ false → member_has_other pool m ≡ false
+    → (x : lookups.Named) × (named pool m.name m.descriptor ≡ Ok x)
 named_found pool m bad other =
     let t = texts_there pool m bad other in
     (record { name = t.name; descriptor = t.descriptor }, both_named pool m.name m.descriptor t.name t.descriptor t.name_is t.descriptor_is)

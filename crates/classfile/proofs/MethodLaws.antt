@@ -1,14 +1,15 @@
 -- A method of a well-formed class by its parts, whatever its code says.
-use Rattle.std.proofs.Common.{◌≡◌, ◌<◌, ◌+◌, ℕ, suc, Bool, not, List, [], ◌∷◌, length, drop, drop-cons, add-one, Option, Some, None, Result, refl, sym, ap, ◌∙◌}
+use Rattle.std.proofs.Common.{◌≡◌, ◌<◌, ◌+◌, ℕ, suc, Bool, not, List, [], ◌∷◌, length, drop, drop-cons, add-one, Option, Some, None, Result, Ok, Err, refl, sym, ap, ◌∙◌}
 use Rattle.std.specs.Prelude.{slice_get}
 use Rattle.std.specs.Option.{option_map, option_and_then}
 use Rattle.std.specs.Str.{bytes_eq}
-use Rattle.std.proofs.lemmas.Option.{slice_get_within, get_or_from_slice_get}
+use Rattle.std.proofs.lemmas.Option.{none-some, slice_get_within, get_or_from_slice_get}
 use Rattle.names.specs.declared.fault.NameFault.{NameFault}
 use Rattle.names.specs.Descriptors.{FieldDescriptor, MethodDescriptor}
 use Rattle.names.specs.StandardNames.{init_name}
 use Rattle.names.specs.Reading.{method_answer}
 use Rattle.pool.specs.declared.fault.PoolFault.{PoolFault}
+use Rattle.pool.specs.Entries.{Entry}
 use Rattle.pool.specs.Lookups.{text_at}
 use Rattle.pool.specs.Members.{found, class_at}
 use Rattle.classfile.specs.Values.{CodeBody, Attribute, Member, Class}
@@ -20,6 +21,23 @@ use Rattle.classfile.specs.Naming.{is_init as is_init_name}
 use Rattle.classfile.specs.MemberForm.{is_instance_initializer}
 use Rattle.classfile.specs.WellFormed.{WellFormed}
 use Rattle.classfile.proofs.FormedMethods.{NamesMethod, formed_method}
+
+-- ---- what a method's parts are looked up from
+
+abbrev this_name : Class → Option (List ℕ)
+this_name c = class_named (class_at c.constant_pool c.this_class)
+
+abbrev name_in : Class → Member → Option (List ℕ)
+name_in c m = found (text_at c.constant_pool m.name)
+
+abbrev entries_in : Class → CodeBody → Option (List ExceptionEntry)
+entries_in c body = exception_entries c.constant_pool body.exception_table
+
+abbrev with_body : {A : Type 0} → Class → Member → List (ℕ × A) → CodeBody → Option (Method A)
+with_body c m code body = method_with c m code body (this_name c) (name_in c m) (member_type c.constant_pool m) (entries_in c body)
+
+abbrev read_as : Member → List ℕ → Option MethodDescriptor
+read_as m text = found (method_answer (not (has_static_flag m.access_flags)) text)
 
 -- ---- what the code says is only handed on
 
@@ -41,29 +59,34 @@ with_code code m = record {
   type = m.type;
 }
 
-handed_with : {A B : Type 0} (c : Class) (m : Member) (body : CodeBody) (class name : Option (List ℕ)) (type : Option MethodDescriptor) (entries : Option (List ExceptionEntry)) (a : List (ℕ × A)) (b : List (ℕ × B))
+handed_with :
+    {A B : Type 0} (c : Class) (m : Member) (body : CodeBody) (class name : Option (List ℕ)) (type : Option MethodDescriptor)
+    (entries : Option (List ExceptionEntry)) (a : List (ℕ × A)) (b : List (ℕ × B))
     → method_with c m b body class name type entries ≡ option_map (with_code b) (method_with c m a body class name type entries)
 handed_with c m body (Some class) (Some name) (Some type) (Some entries) a b = refl
 handed_with c m body _ _ _ _ a b = refl
 
-handed_on : {A B : Type 0} (c : Class) (number : ℕ) (a : List (ℕ × A)) (b : List (ℕ × B)) → method_of c number b ≡ option_map (with_code b) (method_of c number a)
+handed_on : {A B : Type 0} (c : Class) (number : ℕ) (a : List (ℕ × A)) (b : List (ℕ × B))
+    → method_of c number b ≡ option_map (with_code b) (method_of c number a)
 handed_on c number a b = by_member (slice_get c.methods number)
   where
     by_body : (m : Member) (body : Option CodeBody) →
-        option_and_then (λ body. method_with c m b body (class_named (class_at c.constant_pool c.this_class)) (found (text_at c.constant_pool m.name)) (member_type c.constant_pool m) (exception_entries c.constant_pool body.exception_table)) body
-        ≡ option_map (with_code b) (option_and_then (λ body. method_with c m a body (class_named (class_at c.constant_pool c.this_class)) (found (text_at c.constant_pool m.name)) (member_type c.constant_pool m) (exception_entries c.constant_pool body.exception_table)) body)
+        option_and_then (with_body c m b) body
+        ≡ option_map (with_code b) (option_and_then (with_body c m a) body)
     by_body m None = refl
     by_body m (Some body) =
-        handed_with c m body (class_named (class_at c.constant_pool c.this_class)) (found (text_at c.constant_pool m.name)) (member_type c.constant_pool m) (exception_entries c.constant_pool body.exception_table) a b
+        handed_with c m body (this_name c) (name_in c m) (member_type c.constant_pool m) (entries_in c body) a b
 
     by_member : (m : Option Member) → option_and_then (method_from c b) m ≡ option_map (with_code b) (option_and_then (method_from c a) m)
     by_member None = refl
     by_member (Some m) = by_body m (code_of m.attributes)
 
 -- the method of this number has the parts, with any code
-pub method_says : {A : Type 0} (c : Class) (number : ℕ) (body : CodeBody) (is_static is_init : Bool) (result : Option FieldDescriptor) → IsMethod c number body is_static is_init result
+pub method_says : {A : Type 0} (c : Class) (number : ℕ) (body : CodeBody) (is_static is_init : Bool) (result : Option FieldDescriptor)
+    → IsMethod c number body is_static is_init result
     → (code : List (ℕ × A)) → method_of c number code ≡ Some (method_by_parts c number body is_static is_init result code)
-method_says {A} c number body is_static is_init result is code = handed_on {A = ℕ} {B = A} c number [] code ∙ ap (option_map (with_code code)) is
+method_says {A} c number body is_static is_init result is code =
+    handed_on {A = ℕ} {B = A} c number [] code ∙ ap (option_map (with_code code)) is
 
 -- ---- the parts of a method of a well-formed class
 
@@ -85,28 +108,34 @@ assembled c body class entries is_static is_init type = record {
   type = type;
 }
 
-looked_up : (c : Class) (number : ℕ) (m : Member) (body : CodeBody) → slice_get c.methods number ≡ Some m → code_of m.attributes ≡ Some body → (x : NamesMethod c m body)
-    → method_of {A = ℕ} c number [] ≡ Some (assembled c body x.class x.entries (has_static_flag m.access_flags) (bytes_eq x.name init_name) x.type)
+looked_up : (c : Class) (number : ℕ) (m : Member) (body : CodeBody) → slice_get c.methods number ≡ Some m
+    → code_of m.attributes ≡ Some body → (x : NamesMethod c m body)
+    → method_of {A = ℕ} c number []
+    ≡ Some (assembled c body x.class x.entries (has_static_flag m.access_flags) (bytes_eq x.name init_name) x.type)
 looked_up c number m body here coded x =
-    let pool = c.constant_pool in
-    let type : member_type pool m ≡ Some x.type =
-    ap (λ (r : Result (List ℕ) PoolFault). option_and_then (λ text. found (method_answer (not (has_static_flag m.access_flags)) text)) (found r)) x.descriptor_is
+    let type : member_type c.constant_pool m ≡ Some x.type =
+    ap (λ (r : Result (List ℕ) PoolFault). option_and_then (read_as m) (found r)) x.descriptor_is
     ∙ ap (λ (r : Result MethodDescriptor NameFault). found r) x.type_is in
+    let build : Option (List ℕ) → Option (List ℕ) → Option MethodDescriptor → Option (List ExceptionEntry) → Option (Method ℕ) =
+    λ class name type entries. method_with c m [] body class name type entries in
     ap (option_and_then (method_from c [])) here
-    ∙ ap (λ (o : Option CodeBody). option_and_then (λ body. method_with {A = ℕ} c m [] body (class_named (class_at pool c.this_class)) (found (text_at pool m.name)) (member_type pool m) (exception_entries pool body.exception_table)) o) coded
-    ∙ ap (λ (o : Option (List ℕ)). method_with {A = ℕ} c m [] body o (found (text_at pool m.name)) (member_type pool m) (exception_entries pool body.exception_table)) x.class_is
-    ∙ ap (λ (r : Result (List ℕ) PoolFault). method_with {A = ℕ} c m [] body (Some x.class) (found r) (member_type pool m) (exception_entries pool body.exception_table)) x.name_is
-    ∙ ap (λ (o : Option MethodDescriptor). method_with {A = ℕ} c m [] body (Some x.class) (Some x.name) o (exception_entries pool body.exception_table)) type
-    ∙ ap (λ (o : Option (List ExceptionEntry)). method_with {A = ℕ} c m [] body (Some x.class) (Some x.name) (Some x.type) o) x.entries_are
+    ∙ ap (option_and_then (with_body c m [])) coded
+    ∙ ap (λ o. build o (name_in c m) (member_type c.constant_pool m) (entries_in c body)) x.class_is
+    ∙ ap (λ (r : Result (List ℕ) PoolFault). build (Some x.class) (found r) (member_type c.constant_pool m) (entries_in c body)) x.name_is
+    ∙ ap (λ o. build (Some x.class) (Some x.name) o (entries_in c body)) type
+    ∙ ap (build (Some x.class) (Some x.name) (Some x.type)) x.entries_are
 
-params_are : (c : Class) (number : ℕ) (m : Member) (body : CodeBody) → slice_get c.methods number ≡ Some m → (x : NamesMethod c m body) → params_at c number ≡ x.type.params
+params_are : (c : Class) (number : ℕ) (m : Member) (body : CodeBody) → slice_get c.methods number ≡ Some m → (x : NamesMethod c m body)
+    → params_at c number ≡ x.type.params
 params_are c number m body here x =
     ap (λ (o : Option Member). params_in (option_and_then (member_type c.constant_pool) o)) here
-    ∙ ap (λ (r : Result (List ℕ) PoolFault). params_in (option_and_then (λ text. found (method_answer (not (has_static_flag m.access_flags)) text)) (found r))) x.descriptor_is
+    ∙ ap (λ (r : Result (List ℕ) PoolFault). params_in (option_and_then (read_as m) (found r))) x.descriptor_is
     ∙ ap (λ (r : Result MethodDescriptor NameFault). params_in (found r)) x.type_is
 
-is_method : (c : Class) (number : ℕ) (m : Member) (body : CodeBody) (is_static is_init : Bool) (result : Option FieldDescriptor) → slice_get c.methods number ≡ Some m → code_of m.attributes ≡ Some body
-    → (x : NamesMethod c m body) → is_static ≡ has_static_flag m.access_flags → is_init ≡ bytes_eq x.name init_name → result ≡ x.type.result → IsMethod c number body is_static is_init result
+is_method : (c : Class) (number : ℕ) (m : Member) (body : CodeBody) (is_static is_init : Bool) (result : Option FieldDescriptor)
+    → slice_get c.methods number ≡ Some m → code_of m.attributes ≡ Some body
+    → (x : NamesMethod c m body) → is_static ≡ has_static_flag m.access_flags → is_init ≡ bytes_eq x.name init_name
+    → result ≡ x.type.result → IsMethod c number body is_static is_init result
 is_method c number m body is_static is_init result here coded x static init type =
     let class : x.class ≡ or_empty (class_named (class_at c.constant_pool c.this_class)) = ap or_empty (sym x.class_is) in
     let entries : x.entries ≡ or_empty (exception_entries c.constant_pool body.exception_table) = ap or_empty (sym x.entries_are) in
@@ -115,9 +144,13 @@ is_method c number m body is_static is_init result here coded x static init type
     ∙ (λ i. Some (assembled c body (class i) (entries i) (sym static i) (sym init i) (record { params = params i; result = sym type i })))
 
 -- the method of this number, by what was read of it
-pub method_there : (c : Class) → WellFormed c → (number : ℕ) (m : Member) (body : CodeBody) (is_static is_init : Bool) (result : Option FieldDescriptor) → slice_get c.methods number ≡ Some m → code_of m.attributes ≡ Some body
+pub method_there : (c : Class) → WellFormed c
+    → (number : ℕ) (m : Member) (body : CodeBody) (is_static is_init : Bool) (result : Option FieldDescriptor)
+    → slice_get c.methods number ≡ Some m → code_of m.attributes ≡ Some body
     → is_static ≡ has m.access_flags STATIC → is_init ≡ is_instance_initializer c.constant_pool m
-    → ((receiver : Bool) (t : MethodDescriptor) → option_and_then (λ text. found (method_answer receiver text)) (found (text_at c.constant_pool m.descriptor)) ≡ Some t → result ≡ t.result)
+    → ((receiver : Bool) (t : MethodDescriptor)
+    → option_and_then (λ text. found (method_answer receiver text)) (found (text_at c.constant_pool m.descriptor)) ≡ Some t
+    → result ≡ t.result)
     → IsMethod c number body is_static is_init result
 unfolding has is_instance_initializer
 method_there c formed number m body is_static is_init result here coded static init answers =
@@ -126,12 +159,75 @@ method_there c formed number m body is_static is_init result here coded static i
     let type : option_and_then (λ text. found (method_answer receiver text)) (found (text_at c.constant_pool m.descriptor)) ≡ Some x.type =
     ap (λ (r : Result (List ℕ) PoolFault). option_and_then (λ text. found (method_answer receiver text)) (found r)) x.descriptor_is
     ∙ ap (λ (r : Result MethodDescriptor NameFault). found r) x.type_is in
-    is_method c number m body is_static is_init result here coded x static (init ∙ ap (on_found is_init_name) x.name_is) (answers receiver x.type type)
+    let name = init ∙ ap (on_found is_init_name) x.name_is in
+    is_method c number m body is_static is_init result here coded x static name (answers receiver x.type type)
+
+-- ---- what a method tells of the member that it is
+
+pub record MemberOf (c : Class) (number : ℕ) (v : Method ℕ) : Type 0 where
+  pub member : Member
+  pub here : slice_get c.methods number ≡ Some member
+  pub type_is : member_type c.constant_pool member ≡ Some v.type
+  pub static_is : v.is_static ≡ has_static_flag member.access_flags
+
+pub member_of : (c : Class) (number : ℕ) (v : Method ℕ) → method_of c number [] ≡ Some v → MemberOf c number v
+member_of c number v e = by_member (slice_get c.methods number) refl e
+  where
+    same : (a : Method ℕ) → (let x : Option (Method ℕ) = Some a in x) ≡ Some v → a ≡ v
+    same a e = cc
+
+    by_parts : (m : Member) → slice_get c.methods number ≡ Some m
+        → (body : CodeBody) (class name : Option (List ℕ)) (type : Option MethodDescriptor) (entries : Option (List ExceptionEntry))
+        → member_type c.constant_pool m ≡ type → method_with c m [] body class name type entries ≡ Some v → MemberOf c number v
+    by_parts m here body (Some class) (Some name) (Some type) (Some entries) is e =
+        let v_is = same _ e in
+        record {
+          member = m;
+          here = here;
+          type_is = is ∙ ap (λ (x : Method ℕ). Some x.type) v_is;
+          static_is = sym (ap (λ (x : Method ℕ). x.is_static) v_is);
+        }
+    by_parts m here body _ _ _ _ is e = absurd (none-some v e)
+
+    by_body : (m : Member) → slice_get c.methods number ≡ Some m → (body : Option CodeBody)
+        → option_and_then (with_body c m []) body ≡ Some v
+        → MemberOf c number v
+    by_body m here None e = absurd (none-some v e)
+    by_body m here (Some body) e =
+        by_parts m here body (this_name c) (name_in c m) (member_type c.constant_pool m) (entries_in c body) refl e
+
+    by_member : (m : Option Member) → slice_get c.methods number ≡ m → option_and_then (method_from c []) m ≡ Some v → MemberOf c number v
+    by_member None is e = absurd (none-some v e)
+    by_member (Some m) is e = by_body m is (code_of m.attributes) e
+
+-- the text that a type was read from
+pub record ReadFrom (pool : List Entry) (m : Member) (type : MethodDescriptor) : Type 0 where
+  pub text : List ℕ
+  pub text_is : text_at pool m.descriptor ≡ Ok text
+  pub read : method_answer (not (has_static_flag m.access_flags)) text ≡ Ok type
+
+pub read_from : (pool : List Entry) (m : Member) (type : MethodDescriptor) → member_type pool m ≡ Some type → ReadFrom pool m type
+read_from pool m type e = by_text (text_at pool m.descriptor) refl e
+  where
+    same : (a : MethodDescriptor) → (let x : Option MethodDescriptor = Some a in x) ≡ Some type → a ≡ type
+    same a e = cc
+
+    by_answer : (text : List ℕ) → text_at pool m.descriptor ≡ Ok text → (r : Result MethodDescriptor NameFault)
+        → method_answer (not (has_static_flag m.access_flags)) text ≡ r → found r ≡ Some type → ReadFrom pool m type
+    by_answer text is (Ok t) read e = record { text = text; text_is = is; read = read ∙ ap (λ (x : MethodDescriptor). Ok x) (same t e) }
+    by_answer text is (Err fault) read e = absurd (none-some type e)
+
+    by_text : (r : Result (List ℕ) PoolFault) → text_at pool m.descriptor ≡ r
+        → option_and_then (read_as m) (found r) ≡ Some type
+        → ReadFrom pool m type
+    by_text (Ok text) is e = by_answer text is (method_answer (not (has_static_flag m.access_flags)) text) refl e
+    by_text (Err fault) is e = absurd (none-some type e)
 
 -- ---- the Code attribute among the others
 
 -- from one attribute on, which is the next
-pub code_from : (attributes : List Attribute) (i : ℕ) (a : Attribute) → slice_get attributes i ≡ Some a → code_of (drop i attributes) ≡ code_of (a ∷ drop (i + 1) attributes)
+pub code_from : (attributes : List Attribute) (i : ℕ) (a : Attribute) → slice_get attributes i ≡ Some a
+    → code_of (drop i attributes) ≡ code_of (a ∷ drop (i + 1) attributes)
 code_from attributes i a here =
     let lt : i < length attributes = slice_get_within attributes i a here in
     ap code_of (drop-cons attributes i a lt)

@@ -47,11 +47,14 @@ method_by_parts c number body is_static is_init result code = record {
 
 -- These are the parts of the method of this number. What its code says is only handed on, so that one list stands for all.
 abbrev pub IsMethod : Class → ℕ → CodeBody → Bool → Bool → Option FieldDescriptor → Type 0
-IsMethod c number body is_static is_init result = method_of {A = ℕ} c number [] ≡ Some (method_by_parts c number body is_static is_init result [])
+IsMethod c number body is_static is_init result =
+    method_of {A = ℕ} c number [] ≡ Some (method_by_parts c number body is_static is_init result [])
 
 coded_method : Coded (Option (Method ℕ))
 coded_method = hlevel (coded_type, codes)
 
 pub is_method_prop :
-    (c : Class) (number : ℕ) (body : CodeBody) (is_static is_init : Bool) (result : Option FieldDescriptor) → IsProp (IsMethod c number body is_static is_init result)
-is_method_prop c number body is_static is_init result = Coded-set coded_method (method_of c number []) (Some (method_by_parts c number body is_static is_init result []))
+    (c : Class) (number : ℕ) (body : CodeBody) (is_static is_init : Bool) (result : Option FieldDescriptor)
+    → IsProp (IsMethod c number body is_static is_init result)
+is_method_prop c number body is_static is_init result =
+    Coded-set coded_method (method_of c number []) (Some (method_by_parts c number body is_static is_init result []))

@@ -1,5 +1,5 @@
 //! A method with its code, as its instructions see it (JVMS 4.6, 4.7.3).
-ghost use Rattle.std.specs.Prelude.{◌≡◌, ◌<◌, Bool, Some, length, map, option_map, IfSome};
+ghost use Rattle.std.specs.Prelude.{◌≡◌, ◌<◌, Bool, not, Some, Ok, length, map, option_map, IfSome};
 ghost use Rattle.std.specs.Option.{option_and_then};
 ghost use Rattle.names.specs.Descriptors.{MethodDescriptor};
 ghost use Rattle.names.specs.Reading.{method_answer};
@@ -16,7 +16,7 @@ use crate::code::CodeAttr;
 use crate::flags::{STATIC, has};
 use crate::form::Formed;
 use crate::member_form::is_instance_initializer;
-use names::{FieldType, result_type};
+use names::{FieldType, Text, result_type};
 use pool::Pool;
 
 /// A method of a class that has a Code attribute. It is the method of its number: what the class file says of that one is
@@ -36,6 +36,19 @@ pub struct CodeMethod<'c, 'a> {
     /// The type of its result, `None` where it has none.
     pub result_type: Option<FieldType<'a>>,
     pub ghost is_method: { IsMethod (class_view class.now) number (code_view code.now) is_static is_init (option_map type_of result_type) } by { is_method_prop (class_view class.now) number (code_view code.now) is_static is_init (option_map type_of result_type) },
+}
+
+impl<'c, 'a> CodeMethod<'c, 'a> {
+    ghost use Rattle.classfile.specs.CodeMethods.{types_of};
+
+    /// The text of its descriptor (JVMS 4.3.3). Takes no memory.
+    pub fn descriptor(self) -> Text<'a>
+        // It is read as the types of the method, with a receiver unless the method is static.
+        ensures { method_answer (not self.entry.is_static) result.bytes.now ≡ Ok (types_of self.entry) }
+    {
+        let member = &self.class.methods[self.number];
+        self.class.constant_pool.text(member.descriptor).unwrap()
+    }
 }
 
 /// The first Code attribute.

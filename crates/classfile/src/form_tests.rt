@@ -155,6 +155,7 @@ fn methods_with_code(rt: HostRuntime) -> Result<(), Fail> {
     let first = method(formed, 0).expect(&rt, "a method with code");
     assert_eq!(rt; first.code.code.len(), 1);
     assert!(rt; first.is_static && !first.is_init && first.result_type.is_none());
+    assert!(rt; first.descriptor().bytes() == b"()V".as_slice());
     method_is_told::<u8>(first);
     assert!(rt; method(formed, 1).is_none());
     Ok(())

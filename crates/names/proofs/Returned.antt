@@ -32,7 +32,8 @@ pub answer_outside : (bytes stop : List ℕ) → read_method bytes ≡ outside s
 unfolding result_answer
 answer_outside bytes stop e = ap (λ (r : Reading MethodDescriptor). result_in (whole bytes r)) e
 
-pub answer_over : (bytes rest : List ℕ) (m : MethodDescriptor) → read_method bytes ≡ found m rest → (length rest ≡ 0 → ⊥) → result_answer bytes ≡ None
+pub answer_over : (bytes rest : List ℕ) (m : MethodDescriptor) → read_method bytes ≡ found m rest → (length rest ≡ 0 → ⊥)
+    → result_answer bytes ≡ None
 unfolding result_answer
 answer_over bytes rest m e some = ap (λ (r : Reading MethodDescriptor). result_in (whole bytes r)) e ∙ none rest some
   where
@@ -40,13 +41,16 @@ answer_over bytes rest m e some = ap (λ (r : Reading MethodDescriptor). result_
     none [] some = absurd (some refl)
     none (b ∷ rest) some = refl
 
-pub answer_within : (bytes rest : List ℕ) (m : MethodDescriptor) → read_method bytes ≡ found m rest → length rest ≡ 0 → result_answer bytes ≡ within_dimensions m.result
+pub answer_within : (bytes rest : List ℕ) (m : MethodDescriptor) → read_method bytes ≡ found m rest → length rest ≡ 0
+    → result_answer bytes ≡ within_dimensions m.result
 unfolding result_answer
 answer_within bytes rest m e none =
-    ap (λ (r : Reading MethodDescriptor). result_in (whole bytes r)) e ∙ ap (λ (x : List ℕ). result_in (whole bytes (found m x))) (nil_from_length rest none)
+    ap (λ (r : Reading MethodDescriptor). result_in (whole bytes r)) e
+    ∙ ap (λ (x : List ℕ). result_in (whole bytes (found m x))) (nil_from_length rest none)
 
 -- a type that is within its limit or told to be over it
-pub limited_is : (f : FieldRead) (r : Result FieldType NameFault) → IfOk r (λ t. (type_of t ≡ type_read f) × (f.dims ≤ 255)) → IfErr r (λ e. (e ≡ TooManyDimensions) × (255 < f.dims))
+pub limited_is : (f : FieldRead) (r : Result FieldType NameFault) → IfOk r (λ t. (type_of t ≡ type_read f) × (f.dims ≤ 255))
+    → IfErr r (λ e. (e ≡ TooManyDimensions) × (255 < f.dims))
     → option_map type_of (result_ok r) ≡ within_dimensions (Some (type_read f))
 limited_is f (Ok t) fits deep = ap Some fits.0 ∙ sym (cond-false (is_deep (type_read f)) _ _ (shallow_read f fits.1))
 limited_is f (Err e) fits deep = sym (cond-true (is_deep (type_read f)) _ _ (deep_read f deep.1))
@@ -60,10 +64,13 @@ within (Some t) h = cond-false (is_deep t) _ _ (or_parts (is_deep t) false h).0
 pub result_is : (bytes : List ℕ) (m : MethodDescriptor) → SpellsMethod bytes m → AreWithinDimensions m → result_answer bytes ≡ m.result
 unfolding result_answer
 result_is bytes m s w =
-    let shallow = or_parts (list_any is_deep m.params) (list_any is_deep (result_types m.result)) (sym (list_any-append is_deep m.params (result_types m.result)) ∙ not_deep m w) in
+    let shallow =
+    or_parts (list_any is_deep m.params) (list_any is_deep (result_types m.result))
+    (sym (list_any-append is_deep m.params (result_types m.result)) ∙ not_deep m w) in
     ap result_in (spelled_is_whole read_method SpellsMethod method_reader bytes m s) ∙ within m.result shallow.1
 
-pub result_of_answer : (receiver : Bool) (bytes : List ℕ) (m : MethodDescriptor) → method_answer receiver bytes ≡ Ok m → result_answer bytes ≡ m.result
+pub result_of_answer : (receiver : Bool) (bytes : List ℕ) (m : MethodDescriptor) → method_answer receiver bytes ≡ Ok m
+    → result_answer bytes ≡ m.result
 result_of_answer receiver bytes m e = let p = method_answered receiver bytes m e in result_is bytes m p.0 p.1
 
 abbrev Names : List ℕ → FieldDescriptor → Type 0
@@ -85,6 +92,7 @@ names_result bytes t e = by_answer (whole bytes (read_method bytes)) refl e
     by_answer (Err f) was e = absurd cc
     by_answer (Ok m) was e = (m, whole_is_spelled read_method SpellsMethod method_reader bytes m was, same m.result e)
 
-pub only_named : (bytes : List ℕ) (o : Option FieldType) → option_map type_of o ≡ result_answer bytes → IfSome o (λ t. (m : MethodDescriptor) × SpellsMethod bytes m × (m.result ≡ Some (type_of t)))
+pub only_named : (bytes : List ℕ) (o : Option FieldType) → option_map type_of o ≡ result_answer bytes
+    → IfSome o (λ t. (m : MethodDescriptor) × SpellsMethod bytes m × (m.result ≡ Some (type_of t)))
 only_named bytes None e = tt
 only_named bytes (Some t) e = names_result bytes (type_of t) (sym e)

@@ -12,7 +12,8 @@ returns-in-Code c =
     let xs = map attribute_view c.args.attributes.now in
     let at = c.loop-attribute.attribute-index in
     let a : Attribute = attribute_view c.attribute-item.result in
-    let here : slice_get xs at ≡ Some a = viewed_at attribute_view c.args.attributes.now at c.attribute-item.result c.loop-attribute-test.true c.attribute-item.is in
+    let here : slice_get xs at ≡ Some a =
+    viewed_at attribute_view c.args.attributes.now at c.attribute-item.result c.loop-attribute-test.true c.attribute-item.is in
     rw c.deref.ensures
     (sym (c.loop-attribute.invariant ∙ code_from xs at a here ∙ ap (λ x. code_of (attribute_view x ∷ drop (at + 1) xs)) c.in-Code.is))
 
@@ -21,5 +22,6 @@ loop-attribute-preserved c =
     let xs = map attribute_view c.args.attributes.now in
     let at = c.loop-attribute.attribute-index in
     let a : Attribute = attribute_view c.attribute-item.result in
-    let here : slice_get xs at ≡ Some a = viewed_at attribute_view c.args.attributes.now at c.attribute-item.result c.loop-attribute-test.true c.attribute-item.is in
+    let here : slice_get xs at ≡ Some a =
+    viewed_at attribute_view c.args.attributes.now at c.attribute-item.result c.loop-attribute-test.true c.attribute-item.is in
     c.loop-attribute.invariant ∙ code_from xs at a here ∙ ap (λ x. code_of (attribute_view x ∷ drop (at + 1) xs)) c.in_default.is

@@ -7,4 +7,5 @@ use Rattle.classfile.proofs.form_laws.method_is_told.Goals as goal
 pub returns : goal.returns
 returns g c = λ code.
     let m = c.args.method in
-    method_says (class_view m.class.now) m.number (code_view m.code.now) m.is_static m.is_init (option_map type_of m.result_type) m.is_method code
+    let result = option_map type_of m.result_type in
+    method_says (class_view m.class.now) m.number (code_view m.code.now) m.is_static m.is_init result m.is_method code

@@ -10,7 +10,8 @@ types-init c = record { types = []; so_far = at_first c.args.bytes.now }
 pub returns-then-is_first : goal.returns-then-is_first
 returns-then-is_first c =
     let i = c.types.invariant in
-    let is : c.types.rest.now ≡ right_parenthesis ∷ c.split_at.result.1.now = c.is_first.ensures.yes c.if-is_first.true ∙ ap (◌∷◌ right_parenthesis) (sym c.split_at.ensures.back) in
+    let is : c.types.rest.now ≡ right_parenthesis ∷ c.split_at.result.1.now =
+    c.is_first.ensures.yes c.if-is_first.true ∙ ap (◌∷◌ right_parenthesis) (sym c.split_at.ensures.back) in
     record { types = i.types; reads = params_end c.args.bytes.now c.types.rest.now c.split_at.result.1.now i.types i.so_far is }
 
 pub types-smaller : goal.types-smaller

@@ -9,4 +9,5 @@ pub returns-clause-only : goal.returns-clause-only
 returns-clause-only c = rw (← c.bytes.ensures) (only_named c.bytes.result.now c.judge_result.result c.judge_result.ensures)
 
 pub returns-clause-computed : goal.returns-clause-computed
-returns-clause-computed c = rw (← c.bytes.ensures) (λ receiver m e. c.judge_result.ensures ∙ result_of_answer receiver c.bytes.result.now m e)
+returns-clause-computed c =
+    rw (← c.bytes.ensures) (λ receiver m e. c.judge_result.ensures ∙ result_of_answer receiver c.bytes.result.now m e)

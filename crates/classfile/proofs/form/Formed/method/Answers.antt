@@ -16,9 +16,16 @@ invariant_of-result c =
     let m = member_view c.index-member.result.now in
     let body = code_view c.in_ok-code.code.now in
     let lt : c.args.number < length class.methods.items = rw c.class-class.ensures.same c.requires in
-    let here : slice_get k.methods c.args.number ≡ Some m = viewed_at member_view class.methods.items c.args.number c.index-member.result.now lt c.index-member.ensures in
-    let coded : code_of m.attributes ≡ Some body = sym (c.in_ok-code.ensures ∙ ap (λ l. code_of (map attribute_view l)) c.deref.ensures.value) in
-    record { is_method = method_there k c.class-class.ensures.formed c.args.number m body c.has.result c.is_instance_initializer.result _ here coded c.has.ensures c.is_instance_initializer.ensures c.result_at.ensures }
+    let here : slice_get k.methods c.args.number ≡ Some m =
+    viewed_at member_view class.methods.items c.args.number c.index-member.result.now lt c.index-member.ensures in
+    let coded : code_of m.attributes ≡ Some body =
+    sym (c.in_ok-code.ensures ∙ ap (λ l. code_of (map attribute_view l)) c.deref.ensures.value) in
+    let static = c.has in
+    let init = c.is_instance_initializer in
+    let formed = c.class-class.ensures.formed in
+    record {
+      is_method = method_there k formed c.args.number m body static.result init.result _ here coded static.ensures init.ensures c.result_at.ensures;
+    }
 
 pub returns-clause-code : goal.returns-clause-code
 returns-clause-code c =
@@ -27,6 +34,9 @@ returns-clause-code c =
     let m = member_view c.index-member.result.now in
     let body = code_view c.in_ok-code.code.now in
     let lt : c.args.number < length class.methods.items = rw c.class-class.ensures.same c.requires in
-    let here : slice_get k.methods c.args.number ≡ Some m = viewed_at member_view class.methods.items c.args.number c.index-member.result.now lt c.index-member.ensures in
-    let coded : code_of m.attributes ≡ Some body = sym (c.in_ok-code.ensures ∙ ap (λ l. code_of (map attribute_view l)) c.deref.ensures.value) in
-    sym (ap (λ x. code_at (class_view x) c.args.number) (sym c.class-class.ensures.same) ∙ ap (option_and_then (λ m. code_of m.attributes)) here ∙ coded)
+    let here : slice_get k.methods c.args.number ≡ Some m =
+    viewed_at member_view class.methods.items c.args.number c.index-member.result.now lt c.index-member.ensures in
+    let coded : code_of m.attributes ≡ Some body =
+    sym (c.in_ok-code.ensures ∙ ap (λ l. code_of (map attribute_view l)) c.deref.ensures.value) in
+    let at_class = ap (λ x. code_at (class_view x) c.args.number) (sym c.class-class.ensures.same) in
+    sym (at_class ∙ ap (option_and_then (λ m. code_of m.attributes)) here ∙ coded)
