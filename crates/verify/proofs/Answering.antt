@@ -153,15 +153,3 @@ module _ (classes : List ClassFact) (c : Class) (number : ℕ) where
 
   pub only_then : (r : Result Verdict VerifyFault) → Answers classes c number r → VerifiesTypeSafe classes c number r
   only_then r a = λ listed m i judged rules safe. verifies m i judged rules safe listed r a
-
-  -- ---- all that is promised of the answer
-
-  module _ (hierarchy : IsHierarchy classes) (formed : WellFormed c) (listed : IsListed classes c) (r : Result Verdict VerifyFault) (a : AnswersCode classes c number r) where
-    pub answered : Answers classes c number r
-    answered = answers_code formed listed r a
-
-    pub answered_only : VerifiesTypeSafe classes c number r
-    answered_only = only_then r answered
-
-    pub answered_safe : VerifiedIsSafe classes c number r
-    answered_safe = safe_then hierarchy r answered

@@ -1,24 +1,17 @@
 -- A method of a well-formed class, and its code.
-use Rattle.std.proofs.Common.{◌≡◌, ℕ, ◌<◌, ◌≤◌, Bool, false, not, nat_eq, nat_lt, List, [], ◌∷◌, length, Option, Some, None, Result, Ok, Err, refl, sym, ◌∙◌, ap, arith, slice_get}
+use Rattle.std.proofs.Common.{◌≡◌, ℕ, ◌<◌, ◌≤◌, false, nat_eq, nat_lt, List, [], ◌∷◌, length, Option, Some, None, refl, sym, ◌∙◌, ap, arith, slice_get}
 use Rattle.std.proofs.lemmas.Bool.Decides.{nat_tests}
 use Rattle.std.specs.List.{list_any}
 use Rattle.std.specs.Option.{option_and_then}
-use Rattle.std.proofs.lemmas.Option.{slice_get_within}
-use Rattle.names.specs.declared.fault.NameFault.{NameFault}
-use Rattle.names.specs.Reading.{method_answer}
-use Rattle.pool.specs.declared.fault.PoolFault.{PoolFault}
-use Rattle.pool.specs.Lookups.{text_at}
-use Rattle.pool.specs.Members.{found}
 use Rattle.layout.specs.PieceLaws.{fields as by_field, raw}
 use Rattle.pool.specs.Entries.{Entry}
 use Rattle.names.specs.Descriptors.{MethodDescriptor}
 use Rattle.names.specs.ReferenceTypes.{ReferenceType}
 use Rattle.classfile.specs.declared.form_fault.Place.TheVariants as places
 use Rattle.classfile.specs.Values.{Handler, CodeBody, Attribute, Member, Class}
-use Rattle.classfile.specs.Methods.{Method, ExceptionEntry, code_of, caught_type, entry_with, exception_entries, has_static_flag, member_type, method_with, method_from, method_of}
-use Rattle.classfile.specs.MethodParts.{or_empty, params_in, params_at, code_at}
+use Rattle.classfile.specs.Methods.{Method, ExceptionEntry, code_of, caught_type, entry_with, exception_entries, method_with, method_from, method_of}
+use Rattle.classfile.specs.MethodParts.{or_empty, code_at}
 use Rattle.classfile.specs.AttributeForm.{on_body, has_bad_length, have_bad_length}
-use Rattle.classfile.specs.Flags.{has, STATIC}
 use Rattle.classfile.specs.WellFormed.{WellFormed, conditions_of_method}
 use Rattle.classfile.proofs.Places.{method_is}
 use Rattle.classfile.proofs.FormedNames.{none_holds, left_not, right_not}
@@ -27,10 +20,6 @@ use Rattle.verify.specs.Judged.{is_empty, is_judged}
 
 some_same : {A : Type 0} (a b : A) → Some a ≡ Some b → a ≡ b
 some_same a b e = cc
-
-ok_same : {X E : Type 0} (r : Result X E) (a b : X) → r ≡ Ok a → r ≡ Ok b → a ≡ b
-ok_same (Ok x) a b p q = let e : Ok a ≡ Ok b = sym p ∙ q in cc
-ok_same (Err x) a b p q = cc
 
 -- ---- the Code attribute
 
@@ -102,7 +91,7 @@ module _ {A B : Type 0} (c : Class) (a : List (ℕ × A)) (b : List (ℕ × B)) 
   pub judged_alike : (number : ℕ) → method_of c number a ≡ Some m → method_of c number b ≡ Some n → is_judged m ≡ is_judged n
   judged_alike number p q = members_alike (slice_get c.methods number) p q
 
--- ---- what is read of it
+-- ---- its exception table
 
 module _ (c : Class) (formed : WellFormed c) (number : ℕ) (body : CodeBody) (coded : code_at c number ≡ Some body) where
   code : HasCode c number body
@@ -111,38 +100,5 @@ module _ (c : Class) (formed : WellFormed c) (number : ℕ) (body : CodeBody) (c
   names : NamesMethod c code.member body
   names = formed_method c formed number code.member body code.numbered code.has_code
 
-  -- it stands in the table of methods
-  pub within : number < length c.methods
-  within = slice_get_within c.methods number code.member code.numbered
-
   pub tables_alike : is_empty (or_empty (exception_entries c.constant_pool body.exception_table)) ≡ is_empty body.exception_table
   tables_alike = entries_alike c.constant_pool body.exception_table names.entries names.entries_are
-
-  module _ (member : Member) (here : slice_get c.methods number ≡ Some member) where
-    same_member : code.member ≡ member
-    same_member = some_same code.member member (sym code.numbered ∙ here)
-
-    text_there : text_at c.constant_pool member.descriptor ≡ Ok names.descriptor
-    text_there = ap (λ (m : Member). text_at c.constant_pool m.descriptor) (sym same_member) ∙ names.descriptor_is
-
-    text_as : (text : List ℕ) → text_at c.constant_pool member.descriptor ≡ Ok text → text ≡ names.descriptor
-    text_as text e = ok_same (text_at c.constant_pool member.descriptor) text names.descriptor e text_there
-
-    answer_there : (text : List ℕ) (receiver : Bool) → text_at c.constant_pool member.descriptor ≡ Ok text → receiver ≡ not (has_static_flag member.access_flags) → method_answer receiver text ≡ Ok names.type
-    answer_there text receiver e r =
-        ap (λ (b : Bool). method_answer b text) (r ∙ ap (λ (m : Member). not (has_static_flag m.access_flags)) (sym same_member))
-        ∙ ap (method_answer (not (has_static_flag code.member.access_flags))) (text_as text e)
-        ∙ names.type_is
-
-    -- the parameters, from the text of the descriptor
-    pub params_there : (text : List ℕ) (receiver : Bool) (type : MethodDescriptor) → text_at c.constant_pool member.descriptor ≡ Ok text → receiver ≡ not (has_static_flag member.access_flags) → method_answer receiver text ≡ Ok type
-        → params_at c number ≡ type.params
-    params_there text receiver type e r a =
-        ap (λ (o : Option Member). params_in (option_and_then (member_type c.constant_pool) o)) code.numbered
-        ∙ ap (λ (r : Result (List ℕ) PoolFault). params_in (option_and_then (λ text. found (method_answer (not (has_static_flag code.member.access_flags)) text)) (found r))) names.descriptor_is
-        ∙ ap (λ (r : Result MethodDescriptor NameFault). params_in (found r)) names.type_is
-        ∙ ap (λ (m : MethodDescriptor). m.params) (ok_same (method_answer receiver text) names.type type (answer_there text receiver e r) a)
-
-pub static_flag : (flags : ℕ) → has flags STATIC ≡ has_static_flag flags
-unfolding has
-static_flag flags = refl

@@ -1,43 +1,15 @@
-use Rattle.std.proofs.Common.{subst}
 use Rattle.classfile.specs.Views.{class_view}
-use Rattle.classfile.specs.WellFormed.{WellFormed}
-use Rattle.verify.specs.Listed.{IsListed}
-use Rattle.verify.specs.Answers.{AnswersCode}
-use Rattle.verify.proofs.Answering.{answered, answered_only, answered_safe}
+use Rattle.verify.proofs.Answering.{only_then, safe_then}
 use Rattle.verify.proofs.method.verify_method.Goals as goal
 
-pub returns-in-Some-clause-exactly : goal.returns-in-Some-clause-exactly
-returns-in-Some-clause-exactly g c =
-    let classes = g.C.Classes.content c.args.classes.now in
-    let class = class_view c.args.formed.now.class.now in
-    let formed : WellFormed class = subst (λ k. WellFormed (class_view k)) c.class.ensures.same c.class.ensures.formed in
-    let listed : IsListed classes class = c.in_ok-is_listed.ensures.found.0 c.if-not-branch.false in
-    let code : AnswersCode classes class c.args.number c.verify_code.result =
-    subst (λ n. AnswersCode classes class n c.verify_code.result) c.in-Some.ensures.here.number_is
-    (subst (λ k. AnswersCode classes (class_view k) c.in-Some.method.number c.verify_code.result) c.in-Some.ensures.here.class_is c.verify_code.ensures)
-    in
-    answered classes class c.args.number c.in_ok-is_listed.ensures.formed formed listed c.verify_code.result code
+pub verify_listed-requires-clause-listed : goal.verify_listed-requires-clause-listed
+verify_listed-requires-clause-listed g c = c.in_ok-is_listed.ensures.found.0 c.if-not-branch.false
 
-pub returns-in-Some-clause-only : goal.returns-in-Some-clause-only
-returns-in-Some-clause-only g c =
-    let classes = g.C.Classes.content c.args.classes.now in
-    let class = class_view c.args.formed.now.class.now in
-    let formed : WellFormed class = subst (λ k. WellFormed (class_view k)) c.class.ensures.same c.class.ensures.formed in
-    let listed : IsListed classes class = c.in_ok-is_listed.ensures.found.0 c.if-not-branch.false in
-    let code : AnswersCode classes class c.args.number c.verify_code.result =
-    subst (λ n. AnswersCode classes class n c.verify_code.result) c.in-Some.ensures.here.number_is
-    (subst (λ k. AnswersCode classes (class_view k) c.in-Some.method.number c.verify_code.result) c.in-Some.ensures.here.class_is c.verify_code.ensures)
-    in
-    answered_only classes class c.args.number c.in_ok-is_listed.ensures.formed formed listed c.verify_code.result code
+pub returns-clause-only : goal.returns-clause-only
+returns-clause-only g c =
+    only_then (g.C.Classes.content c.args.classes.now) (class_view c.args.formed.now.class.now) c.args.number c.verify_listed.result c.verify_listed.ensures
 
-pub returns-in-Some-clause-safe : goal.returns-in-Some-clause-safe
-returns-in-Some-clause-safe g c =
-    let classes = g.C.Classes.content c.args.classes.now in
-    let class = class_view c.args.formed.now.class.now in
-    let formed : WellFormed class = subst (λ k. WellFormed (class_view k)) c.class.ensures.same c.class.ensures.formed in
-    let listed : IsListed classes class = c.in_ok-is_listed.ensures.found.0 c.if-not-branch.false in
-    let code : AnswersCode classes class c.args.number c.verify_code.result =
-    subst (λ n. AnswersCode classes class n c.verify_code.result) c.in-Some.ensures.here.number_is
-    (subst (λ k. AnswersCode classes (class_view k) c.in-Some.method.number c.verify_code.result) c.in-Some.ensures.here.class_is c.verify_code.ensures)
-    in
-    answered_safe classes class c.args.number c.in_ok-is_listed.ensures.formed formed listed c.verify_code.result code
+pub returns-clause-safe : goal.returns-clause-safe
+returns-clause-safe g c =
+    safe_then (g.C.Classes.content c.args.classes.now) (class_view c.args.formed.now.class.now) c.args.number c.in_ok-is_listed.ensures.formed c.verify_listed.result
+    c.verify_listed.ensures
