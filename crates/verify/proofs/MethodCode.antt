@@ -31,60 +31,75 @@ pub record HasCode (c : Class) (number : ℕ) (body : CodeBody) : Type 0 where
 pub has_code : (c : Class) (number : ℕ) (body : CodeBody) → code_at c number ≡ Some body → HasCode c number body
 has_code c number body e = by (slice_get c.methods number) refl e
   where
-    by : (o : Option Member) → slice_get c.methods number ≡ o → option_and_then (λ m. code_of m.attributes) o ≡ Some body → HasCode c number body
+    by : (o : Option Member) → slice_get c.methods number ≡ o → option_and_then (λ m. code_of m.attributes) o ≡ Some body
+        → HasCode c number body
     by None is e = cc
     by (Some member) is e = record { member = member; numbered = is; has_code = e }
 
-length_passes : (attributes : List Attribute) (body : CodeBody) → code_of attributes ≡ Some body → list_any (on_body has_bad_length) attributes ≡ false → has_bad_length body ≡ false
+length_passes : (attributes : List Attribute) (body : CodeBody) → code_of attributes ≡ Some body
+    → list_any (on_body has_bad_length) attributes ≡ false → has_bad_length body ≡ false
 length_passes [] body is h = cc
-length_passes (by_field name code ∷ attributes) body is h = let same : code ≡ body = some_same code body is in sym (ap has_bad_length same) ∙ left_not (has_bad_length code) (list_any (on_body has_bad_length) attributes) h
-length_passes (raw name bytes ∷ attributes) body is h = length_passes attributes body is (right_not (on_body has_bad_length (raw name bytes)) (list_any (on_body has_bad_length) attributes) h)
+length_passes (by_field name code ∷ attributes) body is h = let same : code ≡ body = some_same code body is in
+    sym (ap has_bad_length same) ∙ left_not (has_bad_length code) (list_any (on_body has_bad_length) attributes) h
+length_passes (raw name bytes ∷ attributes) body is h =
+    length_passes attributes body is (right_not (on_body has_bad_length (raw name bytes)) (list_any (on_body has_bad_length) attributes) h)
 
 length_good : (c : Class) → WellFormed c → (number : ℕ) (body : CodeBody) → HasCode c number body → has_bad_length body ≡ false
 unfolding have_bad_length
 length_good c formed number body x =
-    let none = none_holds (conditions_of_method c number x.member) (sym (method_is c number x.member x.numbered) ∙ formed.everywhere (places.Method number)) in
+    let none = none_holds (conditions_of_method c number x.member)
+    (sym (method_is c number x.member x.numbered) ∙ formed.everywhere (places.Method number)) in
     length_passes x.member.attributes body x.has_code none.1.1.1.1.1.1.1.1.0
 
 -- code_length is 1 to 65,535 (4.7.3)
 pub some_code : (c : Class) → WellFormed c → (number : ℕ) (body : CodeBody) → code_at c number ≡ Some body → 0 < length body.code
 some_code c formed number body e =
-    let fits = left_not (nat_eq (length body.code) 0) (nat_lt 65535 (length body.code)) (length_good c formed number body (has_code c number body e)) in
+    let fits = left_not (nat_eq (length body.code) 0) (nat_lt 65535 (length body.code))
+    (length_good c formed number body (has_code c number body e)) in
     grind (arith, nat_tests, fits)
 
 pub little_code : (c : Class) → WellFormed c → (number : ℕ) (body : CodeBody) → code_at c number ≡ Some body → length body.code ≤ 65535
 little_code c formed number body e =
-    let fits = right_not (nat_eq (length body.code) 0) (nat_lt 65535 (length body.code)) (length_good c formed number body (has_code c number body e)) in
+    let fits = right_not (nat_eq (length body.code) 0) (nat_lt 65535 (length body.code))
+    (length_good c formed number body (has_code c number body e)) in
     grind (arith, nat_tests, fits)
 
 -- ---- the exception table: there are as many entries as items
 
-entry_there : (h : Handler) (t : Option ReferenceType) (others : Option (List ExceptionEntry)) (es : List ExceptionEntry) → entry_with h t others ≡ Some es → is_empty es ≡ false
+entry_there : (h : Handler) (t : Option ReferenceType) (others : Option (List ExceptionEntry)) (es : List ExceptionEntry)
+    → entry_with h t others ≡ Some es → is_empty es ≡ false
 entry_there h (Some t) (Some others) es e = sym (ap is_empty (some_same _ es e))
 entry_there h (Some t) None es e = cc
 entry_there h None others es e = cc
 
-pub entries_alike : (pool : List Entry) (hs : List Handler) (es : List ExceptionEntry) → exception_entries pool hs ≡ Some es → is_empty (or_empty (exception_entries pool hs)) ≡ is_empty hs
+pub entries_alike : (pool : List Entry) (hs : List Handler) (es : List ExceptionEntry) → exception_entries pool hs ≡ Some es
+    → is_empty (or_empty (exception_entries pool hs)) ≡ is_empty hs
 entries_alike pool [] es e = refl
-entries_alike pool (h ∷ hs) es e = ap (λ o. is_empty (or_empty o)) e ∙ entry_there h (caught_type pool h.catch_type) (exception_entries pool hs) es e
+entries_alike pool (h ∷ hs) es e =
+    ap (λ o. is_empty (or_empty o)) e ∙ entry_there h (caught_type pool h.catch_type) (exception_entries pool hs) es e
 
 -- ---- what is judged does not hang on what the code says
 
 module _ {A B : Type 0} (c : Class) (a : List (ℕ × A)) (b : List (ℕ × B)) (m : Method A) (n : Method B) where
-  with_alike : (member : Member) (body : CodeBody) (class name : Option (List ℕ)) (type : Option MethodDescriptor) (exceptions : Option (List ExceptionEntry))
-      → method_with c member a body class name type exceptions ≡ Some m → method_with c member b body class name type exceptions ≡ Some n → is_judged m ≡ is_judged n
-  with_alike member body (Some class) (Some name) (Some type) (Some exceptions) p q = sym (ap is_judged (some_same _ m p)) ∙ ap is_judged (some_same _ n q)
+  with_alike : (member : Member) (body : CodeBody) (class name : Option (List ℕ)) (type : Option MethodDescriptor)
+      (exceptions : Option (List ExceptionEntry))
+      → method_with c member a body class name type exceptions ≡ Some m → method_with c member b body class name type exceptions ≡ Some n
+      → is_judged m ≡ is_judged n
+  with_alike member body (Some class) (Some name) (Some type) (Some exceptions) p q =
+      sym (ap is_judged (some_same _ m p)) ∙ ap is_judged (some_same _ n q)
   with_alike member body None name type exceptions p q = cc
   with_alike member body (Some class) None type exceptions p q = cc
   with_alike member body (Some class) (Some name) None exceptions p q = cc
   with_alike member body (Some class) (Some name) (Some type) None p q = cc
 
-  bodies_alike : (member : Member) (o : Option CodeBody) (f : CodeBody → Option (Method A)) (g : CodeBody → Option (Method B)) → ((x : CodeBody) → f x ≡ Some m → g x ≡ Some n → is_judged m ≡ is_judged n)
+  bodies_alike : (member : Member) (o : Option CodeBody) (f : CodeBody → Option (Method A)) (g : CodeBody → Option (Method B))
+      → ((x : CodeBody) → f x ≡ Some m → g x ≡ Some n → is_judged m ≡ is_judged n)
       → option_and_then f o ≡ Some m → option_and_then g o ≡ Some n → is_judged m ≡ is_judged n
   bodies_alike member (Some x) f g k p q = k x p q
   bodies_alike member None f g k p q = cc
 
-  members_alike : (o : Option Member) → option_and_then (method_from c a) o ≡ Some m → option_and_then (method_from c b) o ≡ Some n → is_judged m ≡ is_judged n
+  members_alike : (o : Option Member) → option_and_then (method_from c a) o ≡ Some m → option_and_then (method_from c b) o ≡ Some n
+      → is_judged m ≡ is_judged n
   members_alike (Some member) p q = bodies_alike member (code_of member.attributes) _ _ (λ x p q. with_alike member x _ _ _ _ p q) p q
   members_alike None p q = cc
 

@@ -10,4 +10,5 @@ same_types (Ok x) a b p q = let x_is : x ≡ a = cc in let other : x ≡ b = cc 
 same_types (Err e) a b p q = cc
 
 pub returns-in-Ok-clause-found : goal.returns-in-Ok-clause-found
-returns-in-Ok-clause-found c = same_types _ (method_of c.in-Ok.types) (types_of c.args.method.now) c.in-Ok.ensures.computed c.descriptor.ensures
+returns-in-Ok-clause-found c = same_types _ (method_of c.in-Ok.types) (types_of c.args.method.now) c.in-Ok.ensures.computed
+    c.descriptor.ensures
