@@ -44,16 +44,30 @@ some_same a b e = cc
 module _ (classes : List ClassFact) (c : Class) (number : ℕ) where
   -- ---- a method with code
 
-  pub left_out : (method : Method Act) → method_of c number [] ≡ Some method → is_judged method ≡ false → IsRefused classes c number 0 NotSupported
+  pub left_out : (method : Method Act) → method_of c number [] ≡ Some method → is_judged method ≡ false
+      → IsRefused classes c number 0 NotSupported
   left_out method says judged = inl (record { method = method; says = says; left_out = judged; at_zero = refl; told = refl })
 
-  pub bad_code : (method : Method Act) (body : CodeBody) (fault : CodeFault) (r : Result Verdict VerifyFault) → method_of c number [] ≡ Some method → is_judged method ≡ true → code_at c number ≡ Some body
+  pub bad_code : (method : Method Act) (body : CodeBody) (fault : CodeFault) (r : Result Verdict VerifyFault)
+      → method_of c number [] ≡ Some method → is_judged method ≡ true → code_at c number ≡ Some body
       → UnlessMemory fault (FaultyCode body.code fault) → RefusesCode fault r → AnswersCode classes c number r
   bad_code method body fault (Ok v) says judged has faulty x =
       subst (λ z. AnswersCode classes c number (Ok z)) (sym x.outcome.1)
-      (inr (inl (record { method = method; says = says; judged = judged; body = body; has_code = has; fault = fault; faulty = told fault x.outcome.0 faulty; there = refl; told = refl })))
+      (inr (inl (record {
+        method = method;
+        says = says;
+        judged = judged;
+        body = body;
+        has_code = has;
+        fault = fault;
+        faulty =
+            told fault x.outcome.0 faulty;
+        there = refl;
+        told = refl;
+      })))
     where
-      told : (fault : CodeFault) → (fault ≡ codes.OutOfMemory → ⊥) → UnlessMemory fault (FaultyCode body.code fault) → FaultyCode body.code fault
+      told : (fault : CodeFault) → (fault ≡ codes.OutOfMemory → ⊥) → UnlessMemory fault (FaultyCode body.code fault)
+          → FaultyCode body.code fault
       told codes.OutOfMemory f h = absurd (f refl)
       told (codes.BadOpcode at) f h = h
       told (codes.CutInstruction at) f h = h
@@ -62,28 +76,57 @@ module _ (classes : List ClassFact) (c : Class) (number : ℕ) where
       told (codes.NonZeroByte at) f h = h
   bad_code method body fault (Err e) says judged has faulty x = subst (λ z. AnswersCode classes c number (Err z)) (sym x.outcome.1) tt
 
-  pub given : (body : CodeBody) (xs : List (ℕ × Instruction)) (method : Method Act) (r : Result Verdict VerifyFault) → code_at c number ≡ Some body → SpellsCode 0 body.code xs
-      → method_of c number (supported_acts (acts xs)) ≡ Some method → is_judged method ≡ true → Gives (verdict classes method) r → AnswersCode classes c number r
-  given body xs method (Ok Verified) has spelled says judged g = record { body = body; has_code = has; instructions = xs; spelled = spelled; method = method; says = says; judged = judged; told = g }
+  pub given : (body : CodeBody) (xs : List (ℕ × Instruction)) (method : Method Act) (r : Result Verdict VerifyFault)
+      → code_at c number ≡ Some body → SpellsCode 0 body.code xs
+      → method_of c number (supported_acts (acts xs)) ≡ Some method → is_judged method ≡ true → Gives (verdict classes method) r
+      → AnswersCode classes c number r
+  given body xs method (Ok Verified) has spelled says judged g =
+      record { body = body; has_code = has; instructions = xs; spelled = spelled; method = method; says = says; judged = judged; told = g }
   given body xs method (Ok NoCode) has spelled says judged g = g
   given body xs method (Ok (Refused at why)) has spelled says judged g =
-      inr (inr (record { body = body; has_code = has; instructions = xs; spelled = spelled; method = method; says = says; judged = judged; told = g }))
+      inr (inr (record {
+        body = body;
+        has_code = has;
+        instructions = xs;
+        spelled = spelled;
+        method = method;
+        says = says;
+        judged =
+            judged;
+        told = g;
+      }))
   given body xs method (Err OutOfMemory) has spelled says judged g = tt
   given body xs method (Err NotInHierarchy) has spelled says judged g = g
 
   -- what is verified is type-safe
   pub type_safe_in : WellFormed c → HasVerdict classes c number verified → IsTypeSafeIn classes c number
   type_safe_in formed v =
-      let code : v.method.code ≡ supported_acts (acts v.instructions) = code_is c (supported_acts (acts v.instructions)) v.method number v.says in
-      let rise : OffsetsRise 0 (supported_acts (acts v.instructions)) = decoded_rise 0 v.instructions (starts_rise 0 v.body.code v.instructions v.spelled) in
-      let begins : IsStart (supported_acts (acts v.instructions)) 0 = decoded_begins v.body.code v.instructions v.spelled (some_code c formed number v.body v.has_code) in
+      let code : v.method.code ≡ supported_acts (acts v.instructions) =
+      code_is c (supported_acts (acts v.instructions)) v.method number v.says in
+      let rise : OffsetsRise 0 (supported_acts (acts v.instructions)) =
+      decoded_rise 0 v.instructions (starts_rise 0 v.body.code v.instructions v.spelled) in
+      let begins : IsStart (supported_acts (acts v.instructions)) 0 =
+      decoded_begins v.body.code v.instructions v.spelled (some_code c formed number v.body v.has_code) in
       let safe : IsTypeSafe classes v.method =
       verified_is_type_safe classes v.method (subst (OffsetsRise 0) (sym code) rise) (subst (λ z. IsStart z 0) (sym code) begins) v.told in
       let x = has_code c number v.body v.has_code in
-      let method = none_is_replaced classes c number (acts v.instructions) v.method rise v.says safe in
-      (v.method, record { member = x.member; numbered = x.numbered; body = v.body; has_code = x.has_code; instructions = v.instructions; spelled = v.spelled; method = method }, safe)
+      let method = none_is_replaced classes c number (acts v.instructions) v.method rise v.says safe in (
+        v.method,
+        record {
+          member = x.member;
+          numbered = x.numbered;
+          body = v.body;
+          has_code = x.has_code;
+          instructions =
+              v.instructions;
+          spelled = v.spelled;
+          method = method;
+        },
+        safe,
+      )
 
-  pub answers_code : WellFormed c → IsListed classes c → (r : Result Verdict VerifyFault) → AnswersCode classes c number r → Answers classes c number r
+  pub answers_code : WellFormed c → IsListed classes c → (r : Result Verdict VerifyFault) → AnswersCode classes c number r
+      → Answers classes c number r
   answers_code formed listed (Ok Verified) a = (listed, type_safe_in formed a)
   answers_code formed listed (Ok NoCode) a = absurd a
   answers_code formed listed (Ok (Refused at why)) a = (listed, a)
@@ -108,35 +151,45 @@ module _ (classes : List ClassFact) (c : Class) (number : ℕ) where
     own_code : (body : CodeBody) → code_at c number ≡ Some body → i.body ≡ body
     own_code body e =
         let x = has_code c number body e in
-        some_same i.body body (sym i.has_code ∙ ap (λ z. code_of z.attributes) (some_same i.member x.member (sym i.numbered ∙ x.numbered)) ∙ x.has_code)
+        some_same i.body body (sym i.has_code ∙ ap (λ z. code_of z.attributes) (some_same i.member x.member (sym i.numbered ∙ x.numbered))
+        ∙ x.has_code)
 
     none_absent : code_at c number ≡ None → ⊥
-    none_absent e = let there : code_at c number ≡ Some i.body = ap (option_and_then (λ z. code_of z.attributes)) i.numbered ∙ i.has_code in cc
+    none_absent e = let there : code_at c number ≡ Some i.body =
+        ap (option_and_then (λ z. code_of z.attributes)) i.numbered ∙ i.has_code in cc
 
     not_left_out : (at : ℕ) (why : RuleReason) → IsLeftOut c number at why → ⊥
-    not_left_out at why x = let e : true ≡ false = sym judged ∙ judged_alike c (acts i.instructions) [] m x.method number i.method x.says ∙ x.left_out in cc
+    not_left_out at why x = let e : true ≡ false =
+        sym judged ∙ judged_alike c (acts i.instructions) [] m x.method number i.method x.says ∙ x.left_out in cc
 
     not_faulty : (at : ℕ) (why : RuleReason) → HasBadCode c number at why → ⊥
-    not_faulty at why x = code_or_fault x.body.code i.instructions x.fault (subst (λ z. SpellsCode 0 z.code i.instructions) (own_code x.body x.has_code) i.spelled) x.faulty
+    not_faulty at why x = code_or_fault x.body.code i.instructions x.fault
+        (subst (λ z. SpellsCode 0 z.code i.instructions) (own_code x.body x.has_code) i.spelled) x.faulty
 
     code_there : m.code ≡ acts i.instructions
     code_there = code_is c (acts i.instructions) m number i.method
 
-    same_method : (body : CodeBody) (xs : List (ℕ × Instruction)) (n : Method Act) → code_at c number ≡ Some body → SpellsCode 0 body.code xs → method_of c number (supported_acts (acts xs)) ≡ Some n → n ≡ m
+    same_method : (body : CodeBody) (xs : List (ℕ × Instruction)) (n : Method Act) → code_at c number ≡ Some body
+        → SpellsCode 0 body.code xs → method_of c number (supported_acts (acts xs)) ≡ Some n → n ≡ m
     same_method body xs n has spelled says =
-        let same : i.instructions ≡ xs = one_code 0 body.code i.instructions xs (subst (λ z. SpellsCode 0 z.code i.instructions) (own_code body has) i.spelled) spelled in
+        let same : i.instructions ≡ xs =
+        one_code 0 body.code i.instructions xs (subst (λ z. SpellsCode 0 z.code i.instructions) (own_code body has) i.spelled) spelled
+        in
         let kept : supported_acts (acts i.instructions) ≡ acts i.instructions = ap supported_acts (sym code_there) ∙ rules ∙ code_there in
-        some_same n m (sym says ∙ ap (λ z. method_of c number (supported_acts (acts z))) (sym same) ∙ ap (method_of c number) kept ∙ i.method)
+        some_same n m (sym says ∙ ap (λ z. method_of c number (supported_acts (acts z))) (sym same) ∙ ap (method_of c number) kept
+        ∙ i.method)
 
     is_verified : verdict classes m ≡ verified
     is_verified =
         let kept : supported_acts (acts i.instructions) ≡ acts i.instructions = ap supported_acts (sym code_there) ∙ rules ∙ code_there in
-        let rise : OffsetsRise 0 (supported_acts (acts i.instructions)) = decoded_rise 0 i.instructions (starts_rise 0 i.body.code i.instructions i.spelled) in
+        let rise : OffsetsRise 0 (supported_acts (acts i.instructions)) =
+        decoded_rise 0 i.instructions (starts_rise 0 i.body.code i.instructions i.spelled) in
         type_safe_is_verified classes m (subst (OffsetsRise 0) (kept ∙ sym code_there) rise) safe
 
     not_refused : (at : ℕ) (why : Reason) → HasVerdict classes c number (refused at why) → ⊥
     not_refused at why v =
-        let e : refused at why ≡ verified = sym v.told ∙ ap (verdict classes) (same_method v.body v.instructions v.method v.has_code v.spelled v.says) ∙ is_verified in
+        let e : refused at why ≡ verified =
+        sym v.told ∙ ap (verdict classes) (same_method v.body v.instructions v.method v.has_code v.spelled v.says) ∙ is_verified in
         cc
 
     refused_never : (at : ℕ) (why : RuleReason) → IsRefused classes c number at why → ⊥
@@ -144,7 +197,8 @@ module _ (classes : List ClassFact) (c : Class) (number : ℕ) where
     refused_never at why (inr (inl x)) = not_faulty at why x
     refused_never at why (inr (inr x)) = not_refused at (reason_view why) x
 
-    verifies : IsListed classes c → (r : Result Verdict VerifyFault) → Answers classes c number r → MatchResult r (λ v. v ≡ Verified) (λ e. e ≡ OutOfMemory)
+    verifies : IsListed classes c → (r : Result Verdict VerifyFault) → Answers classes c number r
+        → MatchResult r (λ v. v ≡ Verified) (λ e. e ≡ OutOfMemory)
     verifies listed (Ok Verified) a = refl
     verifies listed (Ok NoCode) a = absurd (none_absent a.1)
     verifies listed (Ok (Refused at why)) a = absurd (refused_never at why a.1)
@@ -153,15 +207,3 @@ module _ (classes : List ClassFact) (c : Class) (number : ℕ) where
 
   pub only_then : (r : Result Verdict VerifyFault) → Answers classes c number r → VerifiesTypeSafe classes c number r
   only_then r a = λ listed m i judged rules safe. verifies m i judged rules safe listed r a
-
-  -- ---- all that is promised of the answer
-
-  module _ (hierarchy : IsHierarchy classes) (formed : WellFormed c) (listed : IsListed classes c) (r : Result Verdict VerifyFault) (a : AnswersCode classes c number r) where
-    pub answered : Answers classes c number r
-    answered = answers_code formed listed r a
-
-    pub answered_only : VerifiesTypeSafe classes c number r
-    answered_only = only_then r answered
-
-    pub answered_safe : VerifiedIsSafe classes c number r
-    answered_safe = safe_then hierarchy r answered

@@ -70,7 +70,8 @@ nothing_back (Some t) = record { offsets_are = refl; early = inl refl }
 none : {goes : Bool} {p : Plan} → p ≡ refuses 60 → IsPlain goes p
 none e = record { offsets_are = ap offsets_of e; early = inr (60, e, omega arith) }
 
-goes_as : (m : Method Act) (a : Act) → offsets_of (plan m (as_supported a)) ≡ [] → goes_on a ≡ falls (plan m (as_supported a)) → IsPlain (goes_on a) (plan m (as_supported a))
+goes_as : (m : Method Act) (a : Act) → offsets_of (plan m (as_supported a)) ≡ [] → goes_on a ≡ falls (plan m (as_supported a))
+    → IsPlain (goes_on a) (plan m (as_supported a))
 goes_as m a o e = record { offsets_are = o; early = inl e }
 
 pub ways : (m : Method Act) (a : Act) → IsPlain (goes_on a) (plan m (as_supported a))
@@ -120,26 +121,33 @@ ways m acts.Unsupported = none refl
 
 -- ---- the least reason
 
-refused_least : (classes : List ClassFact) (m : Method Act) (at n : ℕ) (f : FrameFact) → least (conditions classes m at (refuses n) f) ≡ Some (reason n)
+refused_least : (classes : List ClassFact) (m : Method Act) (at n : ℕ) (f : FrameFact)
+    → least (conditions classes m at (refuses n) f) ≡ Some (reason n)
 refused_least classes m at n f = refl
 
 not_less : (n : ℕ) → n < 67 → nat_lt 71 n ≡ false
 not_less n lt = grind (arith, nat_tests, lt)
 
-early_least : (cs : Conditions) (n : ℕ) (b : Bool) → least cs ≡ Some (reason n) → n < 67 → least (cs ++ ((reason 71, b) ∷ [])) ≡ Some (reason n)
+early_least : (cs : Conditions) (n : ℕ) (b : Bool) → least cs ≡ Some (reason n) → n < 67
+    → least (cs ++ ((reason 71, b) ∷ [])) ≡ Some (reason n)
 early_least cs n true e lt = both_least cs ((reason 71, true) ∷ []) (Some (reason n)) (Some (reason 71)) e refl ∙ rw (not_less n lt) refl
 early_least cs n false e lt = both_least cs ((reason 71, false) ∷ []) (Some (reason n)) None e refl
 
 module _ (classes : List ClassFact) (m : Method Act) (at : ℕ) (f : FrameFact) where
   ends_alike : (goes last : Bool) (p : Plan) → IsPlain goes p
-      → least (conditions classes m at p f ++ ((reason 71, goes && last) ∷ [])) ≡ least (conditions classes m at p f ++ ((reason 71, falls p && last) ∷ []))
+      → least (conditions classes m at p f ++ ((reason 71, goes && last) ∷ [])) ≡ least
+      (conditions classes m at p f ++ ((reason 71, falls p && last) ∷ []))
   ends_alike goes last p x = by x.early
     where
-      by : (goes ≡ falls p) ⊎ ((n : ℕ) × (p ≡ refuses n) × (n < 67)) → least (conditions classes m at p f ++ ((reason 71, goes && last) ∷ [])) ≡ least (conditions classes m at p f ++ ((reason 71, falls p && last) ∷ []))
+      by : (goes ≡ falls p) ⊎ ((n : ℕ) × (p ≡ refuses n) × (n < 67))
+          → least (conditions classes m at p f ++ ((reason 71, goes && last) ∷ [])) ≡ least
+          (conditions classes m at p f ++ ((reason 71, falls p && last) ∷ []))
       by (inl e) = ap (λ (z : Bool). least (conditions classes m at p f ++ ((reason 71, z && last) ∷ []))) e
       by (inr r) =
-          let e : least (conditions classes m at p f) ≡ Some (reason r.0) = ap (λ z. least (conditions classes m at z f)) r.1 ∙ refused_least classes m at r.0 f in
-          early_least (conditions classes m at p f) r.0 (goes && last) e r.2 ∙ sym (early_least (conditions classes m at p f) r.0 (falls p && last) e r.2)
+          let e : least (conditions classes m at p f) ≡ Some (reason r.0) =
+          ap (λ z. least (conditions classes m at z f)) r.1 ∙ refused_least classes m at r.0 f in
+          early_least (conditions classes m at p f) r.0 (goes && last) e r.2
+          ∙ sym (early_least (conditions classes m at p f) r.0 (falls p && last) e r.2)
 
   uncovered : (x b : Bool) → least ((reason 71, b) ∷ (reason 75, x && false) ∷ []) ≡ least ((reason 71, b) ∷ [])
   uncovered true b = refl
@@ -164,23 +172,37 @@ module _ (classes : List ClassFact) (m : Method Act) (at : ℕ) (f : FrameFact) 
 
   pub ends : (goes last : Bool) (p : Plan) (next : Option ℕ) → m.exceptions ≡ [] → IsPlain goes p → is_none next ≡ last
       → least (conditions classes m at p f ++ ((reason 71, goes && last) ∷ [])) ≡ least (at_conditions classes m [] at p next f)
-  ends goes last p next none x e = ends_alike goes last p x ∙ ap (λ (z : Bool). least (conditions classes m at p f ++ ((reason 71, falls p && z) ∷ []))) (sym e) ∙ sym (alone p next none x.offsets_are)
+  ends goes last p next none x e =
+      ends_alike goes last p x ∙ ap (λ (z : Bool). least (conditions classes m at p f ++ ((reason 71, falls p && z) ∷ []))) (sym e)
+      ∙ sym (alone p next none x.offsets_are)
 
-  module _ (goes last : Bool) (p : Plan) (next : Option ℕ) (none : m.exceptions ≡ []) (x : IsPlain goes p) (is : is_none next ≡ last) (g : FrameFact) where
-    pub done_end : (u : Unit {0}) (r : Result Unit RuleReason) → Done (conditions classes m at p f) (after m at p f) g (Ok u) → Judges ((reason 71, goes && last) ∷ []) r
+  module _ (goes last : Bool) (p : Plan) (next : Option ℕ) (none : m.exceptions ≡ []) (x : IsPlain goes p) (is : is_none next ≡ last)
+      (g : FrameFact) where
+    pub done_end : (u : Unit {0}) (r : Result Unit RuleReason) → Done (conditions classes m at p f) (after m at p f) g (Ok u)
+        → Judges ((reason 71, goes && last) ∷ []) r
         → Done (at_conditions classes m [] at p next f) (after m at p f) g r
     done_end u (Ok v) d j =
-        record { outcome = (sym (ends goes last p next none x is) ∙ both_least (conditions classes m at p f) ((reason 71, goes && last) ∷ []) None None d.outcome.0 j.outcome, d.outcome.1) }
+        record {
+          outcome = (
+            sym (ends goes last p next none x is)
+                ∙ both_least (conditions classes m at p f) ((reason 71, goes && last) ∷ []) None None d.outcome.0 j.outcome,
+            d.outcome.1,
+          );
+        }
     done_end u (Err e) d j = record { outcome = by j.outcome }
       where
-        by : (e ≡ OutOfMemory) ⊎ (least ((reason 71, goes && last) ∷ []) ≡ Some (reason_view e)) → (e ≡ OutOfMemory) ⊎ (least (at_conditions classes m [] at p next f) ≡ Some (reason_view e))
+        by : (e ≡ OutOfMemory) ⊎ (least ((reason 71, goes && last) ∷ []) ≡ Some (reason_view e)) → (e ≡ OutOfMemory)
+            ⊎ (least (at_conditions classes m [] at p next f) ≡ Some (reason_view e))
         by (inl q) = inl q
-        by (inr q) = inr (sym (ends goes last p next none x is) ∙ both_least (conditions classes m at p f) ((reason 71, goes && last) ∷ []) None (Some (reason_view e)) d.outcome.0 q)
+        by (inr q) = inr (sym (ends goes last p next none x is)
+            ∙ both_least (conditions classes m at p f) ((reason 71, goes && last) ∷ []) None (Some (reason_view e)) d.outcome.0 q)
 
-    pub refused_end : (e : RuleReason) → Judges (conditions classes m at p f ++ ((reason 71, goes && last) ∷ [])) (Err e) → Done (at_conditions classes m [] at p next f) (after m at p f) g (Err e)
+    pub refused_end : (e : RuleReason) → Judges (conditions classes m at p f ++ ((reason 71, goes && last) ∷ [])) (Err e)
+        → Done (at_conditions classes m [] at p next f) (after m at p f) g (Err e)
     refused_end e j = record { outcome = by j.outcome }
       where
-        by : (e ≡ OutOfMemory) ⊎ (least (conditions classes m at p f ++ ((reason 71, goes && last) ∷ [])) ≡ Some (reason_view e)) → (e ≡ OutOfMemory) ⊎ (least (at_conditions classes m [] at p next f) ≡ Some (reason_view e))
+        by : (e ≡ OutOfMemory) ⊎ (least (conditions classes m at p f ++ ((reason 71, goes && last) ∷ [])) ≡ Some (reason_view e))
+            → (e ≡ OutOfMemory) ⊎ (least (at_conditions classes m [] at p next f) ≡ Some (reason_view e))
         by (inl q) = inl q
         by (inr q) = inr (sym (ends goes last p next none x is) ∙ q)
 
@@ -199,8 +221,10 @@ judges_of : (cs : Conditions) (w g : FrameFact) (e : RuleReason) → Done cs w g
 judges_of cs w g e d = record { outcome = d.outcome }
 
 -- what ran is the instruction's act, and what is asked at its end is asked of that
-module _ (classes : List ClassFact) (m : Method Act) (at : ℕ) (f g : FrameFact) (a b : Act) (same : b ≡ a) (goes last : Bool) (right : goes ≡ goes_on a) (none : m.exceptions ≡ []) (next : Option ℕ) (is : is_none next ≡ last)
-    (ran : Result Unit RuleReason) (done : Done (conditions classes m at (plan m (as_supported b)) f) (after m at (plan m (as_supported b)) f) g ran) where
+module _ (classes : List ClassFact) (m : Method Act) (at : ℕ) (f g : FrameFact) (a b : Act) (same : b ≡ a) (goes last : Bool)
+    (right : goes ≡ goes_on a) (none : m.exceptions ≡ []) (next : Option ℕ) (is : is_none next ≡ last)
+    (ran : Result Unit RuleReason) (done : Done (conditions classes m at (plan m (as_supported b)) f)
+    (after m at (plan m (as_supported b)) f) g ran) where
   plain : IsPlain goes (plan m (as_supported a))
   plain = subst (λ z. IsPlain z (plan m (as_supported a))) (sym right) (ways m a)
 
@@ -219,7 +243,9 @@ module _ (classes : List ClassFact) (m : Method Act) (at : ℕ) (f g : FrameFact
   judged_err x y end e j all =
       let cs = conditions classes m at (plan m (as_supported a)) f in
       refused_end classes m at f goes last (plan m (as_supported a)) next none plain is g y
-      (all cs ((reason 71, goes && last) ∷ []) (judges_of cs (after m at (plan m (as_supported a)) f) g x (subst (Done cs (after m at (plan m (as_supported a)) f) g) e done_as)) j)
+      (all cs ((reason 71, goes && last) ∷ [])
+      (judges_of cs (after m at (plan m (as_supported a)) f) g x
+      (subst (Done cs (after m at (plan m (as_supported a)) f) g) e done_as)) j)
 
   -- it then goes on as its act says
   pub falls_as : (u : Unit {0}) → ran ≡ Ok u → goes ≡ falls (plan m (as_supported a))

@@ -36,17 +36,20 @@ module _ {A : Type 0} (m : Method A) (judged : is_judged m ≡ true) where
   is_static = left_of m.is_static _ judged
 
   pub no_stack_map : m.stack_map ≡ None
-  no_stack_map = none_of m.stack_map (left_of (is_none m.stack_map) (is_empty m.exceptions) (right_of (not m.is_init) _ (right_of m.is_static _ judged)))
+  no_stack_map = none_of m.stack_map
+      (left_of (is_none m.stack_map) (is_empty m.exceptions) (right_of (not m.is_init) _ (right_of m.is_static _ judged)))
 
   pub no_exceptions : m.exceptions ≡ []
-  no_exceptions = empty_of m.exceptions (right_of (is_none m.stack_map) (is_empty m.exceptions) (right_of (not m.is_init) _ (right_of m.is_static _ judged)))
+  no_exceptions = empty_of m.exceptions
+      (right_of (is_none m.stack_map) (is_empty m.exceptions) (right_of (not m.is_init) _ (right_of m.is_static _ judged)))
 
 some_none : {A : Type 0} (o : Option A) → is_some o ≡ false → is_none o ≡ true
 some_none None e = refl
 some_none (Some x) e = cc
 
 -- by its four properties
-pub judged_by : {A : Type 0} (m : Method A) (b : Bool) → m.is_static ≡ true → m.is_init ≡ false → is_some m.stack_map ≡ false → is_empty m.exceptions ≡ b → b ≡ is_judged m
+pub judged_by : {A : Type 0} (m : Method A) (b : Bool) → m.is_static ≡ true → m.is_init ≡ false → is_some m.stack_map ≡ false
+    → is_empty m.exceptions ≡ b → b ≡ is_judged m
 judged_by m b s i o e = let none : is_none m.stack_map ≡ true = some_none m.stack_map o in rw (s, i, none, e) refl
 
 pub empty_by : {X Y : Type 0} (f : X → Y) (xs : List X) (n : ℕ) → n ≡ length xs → is_empty (map f xs) ≡ nat_eq n 0
@@ -72,17 +75,20 @@ module _ (m : Method Act) (judged : is_judged m ≡ true) where
 
     pub wide_enough : nat_lt m.max_locals (length (in_locals (initial_types m))) ≡ false → verdict classes m ≡ code_judged classes m []
     wide_enough e =
-        rw e (ap (with_frames classes m) declares_none ∙ ap (λ (es : List ExceptionEntry). table_judged classes m [] es (code_judged classes m [])) (no_exceptions m judged))
+        rw e (ap (with_frames classes m) declares_none
+        ∙ ap (λ (es : List ExceptionEntry). table_judged classes m [] es (code_judged classes m [])) (no_exceptions m judged))
 
   -- what is answered of the locals, by the parameters
   module _ (params : List FieldDescriptor) (same : m.type.params ≡ params) where
     types_are : map descriptor_type params ≡ initial_types m
     types_are = ap (map descriptor_type) (sym same) ∙ sym parameters_alone
 
-    pub room_as : (b : Bool) → nat_lt m.max_locals (length (in_locals (map descriptor_type params))) ≡ b → nat_lt m.max_locals (length (in_locals (initial_types m))) ≡ b
+    pub room_as : (b : Bool) → nat_lt m.max_locals (length (in_locals (map descriptor_type params))) ≡ b
+        → nat_lt m.max_locals (length (in_locals (initial_types m))) ≡ b
     room_as b e = ap (λ (ts : List VerificationType). nat_lt m.max_locals (length (in_locals ts))) (sym types_are) ∙ e
 
-    pub initial_as : (f : FrameFact) → f.locals ≡ all_locals m.max_locals (map descriptor_type params) → f.stack ≡ [] → f.flag ≡ false → f ≡ initial_frame m
+    pub initial_as : (f : FrameFact) → f.locals ≡ all_locals m.max_locals (map descriptor_type params) → f.stack ≡ [] → f.flag ≡ false
+        → f ≡ initial_frame m
     initial_as f l s b =
         let locals = l ∙ ap (all_locals m.max_locals) types_are in
         let flag = b ∙ sym flag_unset in

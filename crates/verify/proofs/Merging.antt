@@ -22,14 +22,16 @@ three n j k false false p q = let e : nat_lt (number_of k) (number_of n) ≡ fal
 lesser_merge : (n : conditions.Reason) (a b : Option conditions.Reason) → Some (lesser n (merge a b)) ≡ merge (Some (lesser n a)) b
 lesser_merge n None b = refl
 lesser_merge n (Some j) None = refl
-lesser_merge n (Some j) (Some k) = ap (λ (z : conditions.Reason). Some z) (three n j k (nat_lt (number_of k) (number_of j)) (nat_lt (number_of j) (number_of n)) refl refl)
+lesser_merge n (Some j) (Some k) =
+    ap (λ (z : conditions.Reason). Some z) (three n j k (nat_lt (number_of k) (number_of j)) (nat_lt (number_of j) (number_of n)) refl refl)
 
 pub least_append : (cs ds : Conditions) → least (cs ++ ds) ≡ merge (least cs) (least ds)
 least_append [] ds = refl
 least_append (c ∷ cs) ds = by c.1 (least_append cs ds)
   where
     by : (b : Bool) → least (cs ++ ds) ≡ merge (least cs) (least ds)
-        → (if b then Some (lesser c.0 (least (cs ++ ds))) else least (cs ++ ds)) ≡ merge (if b then Some (lesser c.0 (least cs)) else least cs) (least ds)
+        → (if b then Some (lesser c.0 (least (cs ++ ds))) else least (cs ++ ds)) ≡ merge
+        (if b then Some (lesser c.0 (least cs)) else least cs) (least ds)
     by true e = ap (λ (z : Option conditions.Reason). Some (lesser c.0 z)) e ∙ lesser_merge c.0 (least cs) (least ds)
     by false e = e
 
@@ -59,10 +61,12 @@ number_one OutOfMemory h = refl
 number_one _ h = absurd (omega (arith, h))
 
 less_view : (x y : Reason) → reason_number y < reason_number x → lesser (reason_view x) (Some (reason_view y)) ≡ reason_view y
-less_view x y lt = let e : nat_lt (number_of (reason_view y)) (number_of (reason_view x)) ≡ true = grind (arith, nat_tests, view_number x, view_number y, lt) in rw e refl
+less_view x y lt = let e : nat_lt (number_of (reason_view y)) (number_of (reason_view x)) ≡ true =
+    grind (arith, nat_tests, view_number x, view_number y, lt) in rw e refl
 
 first_view : (x y : Reason) → reason_number x ≤ reason_number y → lesser (reason_view x) (Some (reason_view y)) ≡ reason_view x
-first_view x y le = let e : nat_lt (number_of (reason_view y)) (number_of (reason_view x)) ≡ false = grind (arith, nat_tests, view_number x, view_number y, le) in rw e refl
+first_view x y le = let e : nat_lt (number_of (reason_view y)) (number_of (reason_view x)) ≡ false =
+    grind (arith, nat_tests, view_number x, view_number y, le) in rw e refl
 
 module _ (cs ds : Conditions) where
   pub judges_alone : (x : Reason) (u : Unit {0}) → Judges cs (Err x) → Judges ds (Ok u) → Judges (cs ++ ds) (Err x)
@@ -75,15 +79,19 @@ module _ (cs ds : Conditions) where
   pub judges_less : (x y : Reason) → reason_number y < reason_number x → Judges cs (Err x) → Judges ds (Err y) → Judges (cs ++ ds) (Err y)
   judges_less x y lt a b = record { outcome = by a.outcome b.outcome }
     where
-      by : (x ≡ OutOfMemory) ⊎ (least cs ≡ Some (reason_view x)) → (y ≡ OutOfMemory) ⊎ (least ds ≡ Some (reason_view y)) → (y ≡ OutOfMemory) ⊎ (least (cs ++ ds) ≡ Some (reason_view y))
+      by : (x ≡ OutOfMemory) ⊎ (least cs ≡ Some (reason_view x)) → (y ≡ OutOfMemory) ⊎ (least ds ≡ Some (reason_view y))
+          → (y ≡ OutOfMemory) ⊎ (least (cs ++ ds) ≡ Some (reason_view y))
       by i (inl q) = inl q
       by (inl p) (inr q) = let e : reason_number x ≡ 1 = ap reason_number p in absurd (omega (arith, e, lt, number_some y))
-      by (inr p) (inr q) = inr (both_least cs ds (Some (reason_view x)) (Some (reason_view y)) p q ∙ ap (λ (z : conditions.Reason). Some z) (less_view x y lt))
+      by (inr p) (inr q) = inr (both_least cs ds (Some (reason_view x)) (Some (reason_view y)) p q
+          ∙ ap (λ (z : conditions.Reason). Some z) (less_view x y lt))
 
   pub judges_first : (x y : Reason) → reason_number x ≤ reason_number y → Judges cs (Err x) → Judges ds (Err y) → Judges (cs ++ ds) (Err x)
   judges_first x y le a b = record { outcome = by a.outcome b.outcome }
     where
-      by : (x ≡ OutOfMemory) ⊎ (least cs ≡ Some (reason_view x)) → (y ≡ OutOfMemory) ⊎ (least ds ≡ Some (reason_view y)) → (x ≡ OutOfMemory) ⊎ (least (cs ++ ds) ≡ Some (reason_view x))
+      by : (x ≡ OutOfMemory) ⊎ (least cs ≡ Some (reason_view x)) → (y ≡ OutOfMemory) ⊎ (least ds ≡ Some (reason_view y))
+          → (x ≡ OutOfMemory) ⊎ (least (cs ++ ds) ≡ Some (reason_view x))
       by (inl p) j = inl p
       by (inr p) (inl q) = let e : reason_number y ≡ 1 = ap reason_number q in inl (number_one x (omega (arith, e, le)))
-      by (inr p) (inr q) = inr (both_least cs ds (Some (reason_view x)) (Some (reason_view y)) p q ∙ ap (λ (z : conditions.Reason). Some z) (first_view x y le))
+      by (inr p) (inr q) = inr (both_least cs ds (Some (reason_view x)) (Some (reason_view y)) p q
+          ∙ ap (λ (z : conditions.Reason). Some z) (first_view x y le))

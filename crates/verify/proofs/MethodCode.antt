@@ -1,24 +1,17 @@
 -- A method of a well-formed class, and its code.
-use Rattle.std.proofs.Common.{◌≡◌, ℕ, ◌<◌, ◌≤◌, Bool, false, not, nat_eq, nat_lt, List, [], ◌∷◌, length, Option, Some, None, Result, Ok, Err, refl, sym, ◌∙◌, ap, arith, slice_get}
+use Rattle.std.proofs.Common.{◌≡◌, ℕ, ◌<◌, ◌≤◌, false, nat_eq, nat_lt, List, [], ◌∷◌, length, Option, Some, None, refl, sym, ◌∙◌, ap, arith, slice_get}
 use Rattle.std.proofs.lemmas.Bool.Decides.{nat_tests}
 use Rattle.std.specs.List.{list_any}
 use Rattle.std.specs.Option.{option_and_then}
-use Rattle.std.proofs.lemmas.Option.{slice_get_within}
-use Rattle.names.specs.declared.fault.NameFault.{NameFault}
-use Rattle.names.specs.Reading.{method_answer}
-use Rattle.pool.specs.declared.fault.PoolFault.{PoolFault}
-use Rattle.pool.specs.Lookups.{text_at}
-use Rattle.pool.specs.Members.{found}
 use Rattle.layout.specs.PieceLaws.{fields as by_field, raw}
 use Rattle.pool.specs.Entries.{Entry}
 use Rattle.names.specs.Descriptors.{MethodDescriptor}
 use Rattle.names.specs.ReferenceTypes.{ReferenceType}
 use Rattle.classfile.specs.declared.form_fault.Place.TheVariants as places
 use Rattle.classfile.specs.Values.{Handler, CodeBody, Attribute, Member, Class}
-use Rattle.classfile.specs.Methods.{Method, ExceptionEntry, code_of, caught_type, entry_with, exception_entries, has_static_flag, member_type, method_with, method_from, method_of}
-use Rattle.classfile.specs.MethodParts.{or_empty, params_in, params_at, code_at}
+use Rattle.classfile.specs.Methods.{Method, ExceptionEntry, code_of, caught_type, entry_with, exception_entries, method_with, method_from, method_of}
+use Rattle.classfile.specs.MethodParts.{or_empty, code_at}
 use Rattle.classfile.specs.AttributeForm.{on_body, has_bad_length, have_bad_length}
-use Rattle.classfile.specs.Flags.{has, STATIC}
 use Rattle.classfile.specs.WellFormed.{WellFormed, conditions_of_method}
 use Rattle.classfile.proofs.Places.{method_is}
 use Rattle.classfile.proofs.FormedNames.{none_holds, left_not, right_not}
@@ -27,10 +20,6 @@ use Rattle.verify.specs.Judged.{is_empty, is_judged}
 
 some_same : {A : Type 0} (a b : A) → Some a ≡ Some b → a ≡ b
 some_same a b e = cc
-
-ok_same : {X E : Type 0} (r : Result X E) (a b : X) → r ≡ Ok a → r ≡ Ok b → a ≡ b
-ok_same (Ok x) a b p q = let e : Ok a ≡ Ok b = sym p ∙ q in cc
-ok_same (Err x) a b p q = cc
 
 -- ---- the Code attribute
 
@@ -42,67 +31,82 @@ pub record HasCode (c : Class) (number : ℕ) (body : CodeBody) : Type 0 where
 pub has_code : (c : Class) (number : ℕ) (body : CodeBody) → code_at c number ≡ Some body → HasCode c number body
 has_code c number body e = by (slice_get c.methods number) refl e
   where
-    by : (o : Option Member) → slice_get c.methods number ≡ o → option_and_then (λ m. code_of m.attributes) o ≡ Some body → HasCode c number body
+    by : (o : Option Member) → slice_get c.methods number ≡ o → option_and_then (λ m. code_of m.attributes) o ≡ Some body
+        → HasCode c number body
     by None is e = cc
     by (Some member) is e = record { member = member; numbered = is; has_code = e }
 
-length_passes : (attributes : List Attribute) (body : CodeBody) → code_of attributes ≡ Some body → list_any (on_body has_bad_length) attributes ≡ false → has_bad_length body ≡ false
+length_passes : (attributes : List Attribute) (body : CodeBody) → code_of attributes ≡ Some body
+    → list_any (on_body has_bad_length) attributes ≡ false → has_bad_length body ≡ false
 length_passes [] body is h = cc
-length_passes (by_field name code ∷ attributes) body is h = let same : code ≡ body = some_same code body is in sym (ap has_bad_length same) ∙ left_not (has_bad_length code) (list_any (on_body has_bad_length) attributes) h
-length_passes (raw name bytes ∷ attributes) body is h = length_passes attributes body is (right_not (on_body has_bad_length (raw name bytes)) (list_any (on_body has_bad_length) attributes) h)
+length_passes (by_field name code ∷ attributes) body is h = let same : code ≡ body = some_same code body is in
+    sym (ap has_bad_length same) ∙ left_not (has_bad_length code) (list_any (on_body has_bad_length) attributes) h
+length_passes (raw name bytes ∷ attributes) body is h =
+    length_passes attributes body is (right_not (on_body has_bad_length (raw name bytes)) (list_any (on_body has_bad_length) attributes) h)
 
 length_good : (c : Class) → WellFormed c → (number : ℕ) (body : CodeBody) → HasCode c number body → has_bad_length body ≡ false
 unfolding have_bad_length
 length_good c formed number body x =
-    let none = none_holds (conditions_of_method c number x.member) (sym (method_is c number x.member x.numbered) ∙ formed.everywhere (places.Method number)) in
+    let none = none_holds (conditions_of_method c number x.member)
+    (sym (method_is c number x.member x.numbered) ∙ formed.everywhere (places.Method number)) in
     length_passes x.member.attributes body x.has_code none.1.1.1.1.1.1.1.1.0
 
 -- code_length is 1 to 65,535 (4.7.3)
 pub some_code : (c : Class) → WellFormed c → (number : ℕ) (body : CodeBody) → code_at c number ≡ Some body → 0 < length body.code
 some_code c formed number body e =
-    let fits = left_not (nat_eq (length body.code) 0) (nat_lt 65535 (length body.code)) (length_good c formed number body (has_code c number body e)) in
+    let fits = left_not (nat_eq (length body.code) 0) (nat_lt 65535 (length body.code))
+    (length_good c formed number body (has_code c number body e)) in
     grind (arith, nat_tests, fits)
 
 pub little_code : (c : Class) → WellFormed c → (number : ℕ) (body : CodeBody) → code_at c number ≡ Some body → length body.code ≤ 65535
 little_code c formed number body e =
-    let fits = right_not (nat_eq (length body.code) 0) (nat_lt 65535 (length body.code)) (length_good c formed number body (has_code c number body e)) in
+    let fits = right_not (nat_eq (length body.code) 0) (nat_lt 65535 (length body.code))
+    (length_good c formed number body (has_code c number body e)) in
     grind (arith, nat_tests, fits)
 
 -- ---- the exception table: there are as many entries as items
 
-entry_there : (h : Handler) (t : Option ReferenceType) (others : Option (List ExceptionEntry)) (es : List ExceptionEntry) → entry_with h t others ≡ Some es → is_empty es ≡ false
+entry_there : (h : Handler) (t : Option ReferenceType) (others : Option (List ExceptionEntry)) (es : List ExceptionEntry)
+    → entry_with h t others ≡ Some es → is_empty es ≡ false
 entry_there h (Some t) (Some others) es e = sym (ap is_empty (some_same _ es e))
 entry_there h (Some t) None es e = cc
 entry_there h None others es e = cc
 
-pub entries_alike : (pool : List Entry) (hs : List Handler) (es : List ExceptionEntry) → exception_entries pool hs ≡ Some es → is_empty (or_empty (exception_entries pool hs)) ≡ is_empty hs
+pub entries_alike : (pool : List Entry) (hs : List Handler) (es : List ExceptionEntry) → exception_entries pool hs ≡ Some es
+    → is_empty (or_empty (exception_entries pool hs)) ≡ is_empty hs
 entries_alike pool [] es e = refl
-entries_alike pool (h ∷ hs) es e = ap (λ o. is_empty (or_empty o)) e ∙ entry_there h (caught_type pool h.catch_type) (exception_entries pool hs) es e
+entries_alike pool (h ∷ hs) es e =
+    ap (λ o. is_empty (or_empty o)) e ∙ entry_there h (caught_type pool h.catch_type) (exception_entries pool hs) es e
 
 -- ---- what is judged does not hang on what the code says
 
 module _ {A B : Type 0} (c : Class) (a : List (ℕ × A)) (b : List (ℕ × B)) (m : Method A) (n : Method B) where
-  with_alike : (member : Member) (body : CodeBody) (class name : Option (List ℕ)) (type : Option MethodDescriptor) (exceptions : Option (List ExceptionEntry))
-      → method_with c member a body class name type exceptions ≡ Some m → method_with c member b body class name type exceptions ≡ Some n → is_judged m ≡ is_judged n
-  with_alike member body (Some class) (Some name) (Some type) (Some exceptions) p q = sym (ap is_judged (some_same _ m p)) ∙ ap is_judged (some_same _ n q)
+  with_alike : (member : Member) (body : CodeBody) (class name : Option (List ℕ)) (type : Option MethodDescriptor)
+      (exceptions : Option (List ExceptionEntry))
+      → method_with c member a body class name type exceptions ≡ Some m → method_with c member b body class name type exceptions ≡ Some n
+      → is_judged m ≡ is_judged n
+  with_alike member body (Some class) (Some name) (Some type) (Some exceptions) p q =
+      sym (ap is_judged (some_same _ m p)) ∙ ap is_judged (some_same _ n q)
   with_alike member body None name type exceptions p q = cc
   with_alike member body (Some class) None type exceptions p q = cc
   with_alike member body (Some class) (Some name) None exceptions p q = cc
   with_alike member body (Some class) (Some name) (Some type) None p q = cc
 
-  bodies_alike : (member : Member) (o : Option CodeBody) (f : CodeBody → Option (Method A)) (g : CodeBody → Option (Method B)) → ((x : CodeBody) → f x ≡ Some m → g x ≡ Some n → is_judged m ≡ is_judged n)
+  bodies_alike : (member : Member) (o : Option CodeBody) (f : CodeBody → Option (Method A)) (g : CodeBody → Option (Method B))
+      → ((x : CodeBody) → f x ≡ Some m → g x ≡ Some n → is_judged m ≡ is_judged n)
       → option_and_then f o ≡ Some m → option_and_then g o ≡ Some n → is_judged m ≡ is_judged n
   bodies_alike member (Some x) f g k p q = k x p q
   bodies_alike member None f g k p q = cc
 
-  members_alike : (o : Option Member) → option_and_then (method_from c a) o ≡ Some m → option_and_then (method_from c b) o ≡ Some n → is_judged m ≡ is_judged n
+  members_alike : (o : Option Member) → option_and_then (method_from c a) o ≡ Some m → option_and_then (method_from c b) o ≡ Some n
+      → is_judged m ≡ is_judged n
   members_alike (Some member) p q = bodies_alike member (code_of member.attributes) _ _ (λ x p q. with_alike member x _ _ _ _ p q) p q
   members_alike None p q = cc
 
   pub judged_alike : (number : ℕ) → method_of c number a ≡ Some m → method_of c number b ≡ Some n → is_judged m ≡ is_judged n
   judged_alike number p q = members_alike (slice_get c.methods number) p q
 
--- ---- what is read of it
+-- ---- its exception table
 
 module _ (c : Class) (formed : WellFormed c) (number : ℕ) (body : CodeBody) (coded : code_at c number ≡ Some body) where
   code : HasCode c number body
@@ -111,38 +115,5 @@ module _ (c : Class) (formed : WellFormed c) (number : ℕ) (body : CodeBody) (c
   names : NamesMethod c code.member body
   names = formed_method c formed number code.member body code.numbered code.has_code
 
-  -- it stands in the table of methods
-  pub within : number < length c.methods
-  within = slice_get_within c.methods number code.member code.numbered
-
   pub tables_alike : is_empty (or_empty (exception_entries c.constant_pool body.exception_table)) ≡ is_empty body.exception_table
   tables_alike = entries_alike c.constant_pool body.exception_table names.entries names.entries_are
-
-  module _ (member : Member) (here : slice_get c.methods number ≡ Some member) where
-    same_member : code.member ≡ member
-    same_member = some_same code.member member (sym code.numbered ∙ here)
-
-    text_there : text_at c.constant_pool member.descriptor ≡ Ok names.descriptor
-    text_there = ap (λ (m : Member). text_at c.constant_pool m.descriptor) (sym same_member) ∙ names.descriptor_is
-
-    text_as : (text : List ℕ) → text_at c.constant_pool member.descriptor ≡ Ok text → text ≡ names.descriptor
-    text_as text e = ok_same (text_at c.constant_pool member.descriptor) text names.descriptor e text_there
-
-    answer_there : (text : List ℕ) (receiver : Bool) → text_at c.constant_pool member.descriptor ≡ Ok text → receiver ≡ not (has_static_flag member.access_flags) → method_answer receiver text ≡ Ok names.type
-    answer_there text receiver e r =
-        ap (λ (b : Bool). method_answer b text) (r ∙ ap (λ (m : Member). not (has_static_flag m.access_flags)) (sym same_member))
-        ∙ ap (method_answer (not (has_static_flag code.member.access_flags))) (text_as text e)
-        ∙ names.type_is
-
-    -- the parameters, from the text of the descriptor
-    pub params_there : (text : List ℕ) (receiver : Bool) (type : MethodDescriptor) → text_at c.constant_pool member.descriptor ≡ Ok text → receiver ≡ not (has_static_flag member.access_flags) → method_answer receiver text ≡ Ok type
-        → params_at c number ≡ type.params
-    params_there text receiver type e r a =
-        ap (λ (o : Option Member). params_in (option_and_then (member_type c.constant_pool) o)) code.numbered
-        ∙ ap (λ (r : Result (List ℕ) PoolFault). params_in (option_and_then (λ text. found (method_answer (not (has_static_flag code.member.access_flags)) text)) (found r))) names.descriptor_is
-        ∙ ap (λ (r : Result MethodDescriptor NameFault). params_in (found r)) names.type_is
-        ∙ ap (λ (m : MethodDescriptor). m.params) (ok_same (method_answer receiver text) names.type type (answer_there text receiver e r) a)
-
-pub static_flag : (flags : ℕ) → has flags STATIC ≡ has_static_flag flags
-unfolding has
-static_flag flags = refl

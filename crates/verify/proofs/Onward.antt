@@ -62,8 +62,10 @@ after_length m at (refuses n) f = refl
 raw_length : (f : Frame) → length (frame_of f).locals ≡ length f.locals.items
 raw_length f = length-map f.locals.items type_of
 
-pub keeps_length : (m : Method Act) (at : ℕ) (p : Plan) (old now : Frame) (n : ℕ) → length old.locals.items ≡ n → frame_of now ≡ after m at p (frame_of old) → length now.locals.items ≡ n
-keeps_length m at p old now n e q = sym (raw_length now) ∙ ap (λ z. length z.locals) q ∙ after_length m at p (frame_of old) ∙ raw_length old ∙ e
+pub keeps_length : (m : Method Act) (at : ℕ) (p : Plan) (old now : Frame) (n : ℕ) → length old.locals.items ≡ n
+    → frame_of now ≡ after m at p (frame_of old) → length now.locals.items ≡ n
+keeps_length m at p old now n e q =
+    sym (raw_length now) ∙ ap (λ z. length z.locals) q ∙ after_length m at p (frame_of old) ∙ raw_length old ∙ e
 
 -- ---- the code that is left
 
@@ -92,34 +94,43 @@ module _ (classes : List ClassFact) (m : Method Act) where
   pub at_end : (xs : List (ℕ × Insn)) (i : ℕ) (b : Bool) (f : FrameFact) → length xs ≤ i → left (drop i xs) b f ≡ verified
   at_end xs i b f le = ap (λ z. left z b f) (drop_all i xs le)
 
-  module _ (xs : List (ℕ × Insn)) (i : ℕ) (d : ℕ × Insn) (lt : i < length xs) (b : Bool) (f : FrameFact) (v : Verdict) (same : v ≡ left (drop i xs) b f) where
+  module _ (xs : List (ℕ × Insn)) (i : ℕ) (d : ℕ × Insn) (lt : i < length xs) (b : Bool) (f : FrameFact) (v : Verdict)
+      (same : v ≡ left (drop i xs) b f) where
     pub refused_in : (why : Reason) → entry classes b f None ≡ Some why → v ≡ refused (get_or xs i d).0 why
-    refused_in why e = same ∙ ap (λ z. left z b f) (drop_more xs i d lt) ∙ ap (λ z. refused_or z (get_or xs i d).0 (passes classes m [] (coded (get_or xs i d ∷ drop (i + 1) xs)) f)) e
+    refused_in why e = same ∙ ap (λ z. left z b f) (drop_more xs i d lt)
+        ∙ ap (λ z. refused_or z (get_or xs i d).0 (passes classes m [] (coded (get_or xs i d ∷ drop (i + 1) xs)) f)) e
 
     abbrev here : List (ℕ × Insn) → Option Reason
     here ys = least (at_conditions classes m [] (get_or xs i d).0 (plan m (act_at xs i d)) (first_offset (coded ys)) f)
 
     opened : entry classes b f None ≡ None
-        → v ≡ refused_or (here (drop (i + 1) xs)) (get_or xs i d).0 (left (drop (i + 1) xs) (falls (plan m (act_at xs i d))) (after m (get_or xs i d).0 (plan m (act_at xs i d)) f))
-    opened e = same ∙ ap (λ z. left z b f) (drop_more xs i d lt) ∙ ap (λ z. refused_or z (get_or xs i d).0 (passes classes m [] (coded (get_or xs i d ∷ drop (i + 1) xs)) f)) e
+        → v ≡ refused_or (here (drop (i + 1) xs)) (get_or xs i d).0
+        (left (drop (i + 1) xs) (falls (plan m (act_at xs i d))) (after m (get_or xs i d).0 (plan m (act_at xs i d)) f))
+    opened e = same ∙ ap (λ z. left z b f) (drop_more xs i d lt)
+        ∙ ap (λ z. refused_or z (get_or xs i d).0 (passes classes m [] (coded (get_or xs i d ∷ drop (i + 1) xs)) f)) e
 
     pub refused_at : (why : Reason) → entry classes b f None ≡ None → here (drop (i + 1) xs) ≡ Some why → v ≡ refused (get_or xs i d).0 why
     refused_at why e q =
         opened e
-        ∙ ap (λ z. refused_or z (get_or xs i d).0 (left (drop (i + 1) xs) (falls (plan m (act_at xs i d))) (after m (get_or xs i d).0 (plan m (act_at xs i d)) f))) q
+        ∙ ap (λ z. refused_or z (get_or xs i d).0
+        (left (drop (i + 1) xs) (falls (plan m (act_at xs i d))) (after m (get_or xs i d).0 (plan m (act_at xs i d)) f))) q
 
-    pub goes_on : (c : Bool) (now : FrameFact) → entry classes b f None ≡ None → here (drop (i + 1) xs) ≡ None → c ≡ falls (plan m (act_at xs i d)) → now ≡ after m (get_or xs i d).0 (plan m (act_at xs i d)) f
+    pub goes_on : (c : Bool) (now : FrameFact) → entry classes b f None ≡ None → here (drop (i + 1) xs) ≡ None
+        → c ≡ falls (plan m (act_at xs i d)) → now ≡ after m (get_or xs i d).0 (plan m (act_at xs i d)) f
         → v ≡ left (drop (i + 1) xs) c now
     goes_on c now e q k l =
         opened e
-        ∙ ap (λ z. refused_or z (get_or xs i d).0 (left (drop (i + 1) xs) (falls (plan m (act_at xs i d))) (after m (get_or xs i d).0 (plan m (act_at xs i d)) f))) q
+        ∙ ap (λ z. refused_or z (get_or xs i d).0
+        (left (drop (i + 1) xs) (falls (plan m (act_at xs i d))) (after m (get_or xs i d).0 (plan m (act_at xs i d)) f))) q
         ∙ ap (λ z. left (drop (i + 1) xs) z (after m (get_or xs i d).0 (plan m (act_at xs i d)) f)) (sym k)
         ∙ ap (left (drop (i + 1) xs) c) (sym l)
 
-    pub stops_in : (r : Result Unit RuleReason) (e : RuleReason) → r ≡ Err e → Enters classes b f None f r → (e ≡ OutOfMemory) ⊎ (v ≡ refused (get_or xs i d).0 (reason_view e))
+    pub stops_in : (r : Result Unit RuleReason) (e : RuleReason) → r ≡ Err e → Enters classes b f None f r → (e ≡ OutOfMemory)
+        ⊎ (v ≡ refused (get_or xs i d).0 (reason_view e))
     stops_in r e q x = by (subst (Enters classes b f None f) q x).outcome
       where
-        by : (e ≡ OutOfMemory) ⊎ (entry classes b f None ≡ Some (reason_view e)) → (e ≡ OutOfMemory) ⊎ (v ≡ refused (get_or xs i d).0 (reason_view e))
+        by : (e ≡ OutOfMemory) ⊎ (entry classes b f None ≡ Some (reason_view e)) → (e ≡ OutOfMemory)
+            ⊎ (v ≡ refused (get_or xs i d).0 (reason_view e))
         by (inl p) = inl p
         by (inr p) = inr (refused_in (reason_view e) p)
 
@@ -132,19 +143,24 @@ module _ (classes : List ClassFact) (m : Method Act) where
     abbrev pub after_here : FrameFact
     after_here = after m (get_or xs i d).0 (plan m (act_at xs i d)) f
 
-    pub stops_at : (g : FrameFact) (r : Result Unit RuleReason) (e : RuleReason) → entry classes b f None ≡ None → r ≡ Err e → Done (at_here (drop (i + 1) xs)) after_here g r
+    pub stops_at : (g : FrameFact) (r : Result Unit RuleReason) (e : RuleReason) → entry classes b f None ≡ None → r ≡ Err e
+        → Done (at_here (drop (i + 1) xs)) after_here g r
         → (e ≡ OutOfMemory) ⊎ (v ≡ refused (get_or xs i d).0 (reason_view e))
     stops_at g r e came q x = by (subst (Done (at_here (drop (i + 1) xs)) after_here g) q x).outcome
       where
-        by : (e ≡ OutOfMemory) ⊎ (least (at_here (drop (i + 1) xs)) ≡ Some (reason_view e)) → (e ≡ OutOfMemory) ⊎ (v ≡ refused (get_or xs i d).0 (reason_view e))
+        by : (e ≡ OutOfMemory) ⊎ (least (at_here (drop (i + 1) xs)) ≡ Some (reason_view e)) → (e ≡ OutOfMemory)
+            ⊎ (v ≡ refused (get_or xs i d).0 (reason_view e))
         by (inl p) = inl p
         by (inr p) = inr (refused_at (reason_view e) came p)
 
     -- what was not refused goes on with the frame after
-    pub goes_done : (g : FrameFact) (r : Result Unit RuleReason) (u : Unit {0}) (c : Bool) → entry classes b f None ≡ None → r ≡ Ok u → Done (at_here (drop (i + 1) xs)) after_here g r
+    pub goes_done : (g : FrameFact) (r : Result Unit RuleReason) (u : Unit {0}) (c : Bool) → entry classes b f None ≡ None → r ≡ Ok u
+        → Done (at_here (drop (i + 1) xs)) after_here g r
         → c ≡ act_goes_on (act (view (get_or xs i d).1)) → v ≡ left (drop (i + 1) xs) c g
     goes_done g r u c came q x k =
         let done = subst (Done (at_here (drop (i + 1) xs)) after_here g) q x in
         goes_on c g came done.outcome.0
-        (k ∙ goes_right classes m (get_or xs i d).0 f (act_goes_on (act (view (get_or xs i d).1))) (plan m (act_at xs i d)) (ways m (act (view (get_or xs i d).1))) (rule_none (conditions classes m (get_or xs i d).0 (plan m (act_at xs i d)) f) _ done.outcome.0))
+        (k ∙ goes_right classes m (get_or xs i d).0 f (act_goes_on (act (view (get_or xs i d).1))) (plan m (act_at xs i d))
+        (ways m (act (view (get_or xs i d).1)))
+        (rule_none (conditions classes m (get_or xs i d).0 (plan m (act_at xs i d)) f) _ done.outcome.0))
         done.outcome.1

@@ -31,14 +31,16 @@ in_locals_append [] us = refl
 in_locals_append (t ∷ ts) us = by (is_wide t) (in_locals_append ts us)
   where
     by : (b : Bool) → in_locals (ts ++ us) ≡ in_locals ts ++ in_locals us
-        → (if b then t ∷ top ∷ in_locals (ts ++ us) else t ∷ in_locals (ts ++ us)) ≡ (if b then t ∷ top ∷ in_locals ts else t ∷ in_locals ts) ++ in_locals us
+        → (if b then t ∷ top ∷ in_locals (ts ++ us) else t ∷ in_locals (ts ++ us)) ≡
+        (if b then t ∷ top ∷ in_locals ts else t ∷ in_locals ts) ++ in_locals us
     by true e = ap (λ (z : List VerificationType). t ∷ top ∷ z) e
     by false e = ap (λ (z : List VerificationType). t ∷ z) e
 
 abbrev pub parameter_locals : List FieldType → List VerificationType
 parameter_locals ps = in_locals (map descriptor_type (map descriptor_of ps))
 
-pub one_more : (ps : List FieldType) (i : ℕ) (d : FieldType) (old mid : List VType) (now : List VType) (t : VerificationType) → i < length ps
+pub one_more : (ps : List FieldType) (i : ℕ) (d : FieldType) (old mid : List VType) (now : List VType) (t : VerificationType)
+    → i < length ps
     → map type_of mid ≡ map type_of old ++ parameter_locals (take i ps)
     → t ≡ descriptor_type (descriptor_of (get_or ps i d))
     → map type_of now ≡ map type_of mid ++ in_locals (t ∷ [])
@@ -75,8 +77,12 @@ all_of n ts vs now e le is =
     ∙ ap (λ (z : List VerificationType). in_locals ts ++ z) (filled (n - length vs))
     ∙ ap (λ (k : ℕ). in_locals ts ++ replicate (n - k) top) (sym (length-map vs type_of) ∙ ap length e)
 
-pub too_many : (n : ℕ) (ts : List VerificationType) (vs : List VType) → map type_of vs ≡ in_locals ts → n < length vs → nat_lt n (length (in_locals ts)) ≡ true
-too_many n ts vs e lt = let k : length vs ≡ length (in_locals ts) = sym (length-map vs type_of) ∙ ap length e in grind (arith, nat_tests, k, lt)
+pub too_many : (n : ℕ) (ts : List VerificationType) (vs : List VType) → map type_of vs ≡ in_locals ts → n < length vs
+    → nat_lt n (length (in_locals ts)) ≡ true
+too_many n ts vs e lt = let k : length vs ≡ length (in_locals ts) = sym (length-map vs type_of) ∙ ap length e in
+    grind (arith, nat_tests, k, lt)
 
-pub enough : (n : ℕ) (ts : List VerificationType) (vs : List VType) → map type_of vs ≡ in_locals ts → length vs ≤ n → nat_lt n (length (in_locals ts)) ≡ false
-enough n ts vs e le = let k : length vs ≡ length (in_locals ts) = sym (length-map vs type_of) ∙ ap length e in grind (arith, nat_tests, k, le)
+pub enough : (n : ℕ) (ts : List VerificationType) (vs : List VType) → map type_of vs ≡ in_locals ts → length vs ≤ n
+    → nat_lt n (length (in_locals ts)) ≡ false
+enough n ts vs e le = let k : length vs ≡ length (in_locals ts) = sym (length-map vs type_of) ∙ ap length e in
+    grind (arith, nat_tests, k, le)

@@ -22,7 +22,8 @@ some_same : {A : Type 0} (a b : A) → Some a ≡ Some b → a ≡ b
 some_same a b e = cc
 
 module _ (c : Class) (code : List (ℕ × Act)) (m : Method Act) where
-  with_code : (member : Member) (body : CodeBody) (class name : Option (List ℕ)) (type : Option MethodDescriptor) (exceptions : Option (List ExceptionEntry))
+  with_code : (member : Member) (body : CodeBody) (class name : Option (List ℕ)) (type : Option MethodDescriptor)
+      (exceptions : Option (List ExceptionEntry))
       → method_with c member code body class name type exceptions ≡ Some m → m.code ≡ code
   with_code member body (Some class) (Some name) (Some type) (Some exceptions) e = sym (ap (λ z. z.code) (some_same _ m e))
   with_code member body None name type exceptions e = cc
@@ -30,7 +31,8 @@ module _ (c : Class) (code : List (ℕ × Act)) (m : Method Act) where
   with_code member body (Some class) (Some name) None exceptions e = cc
   with_code member body (Some class) (Some name) (Some type) None e = cc
 
-  from_code : (member : Member) (o : Option CodeBody) (k : CodeBody → Option (Method Act)) → ((b : CodeBody) → k b ≡ Some m → m.code ≡ code) → option_and_then k o ≡ Some m → m.code ≡ code
+  from_code : (member : Member) (o : Option CodeBody) (k : CodeBody → Option (Method Act))
+      → ((b : CodeBody) → k b ≡ Some m → m.code ≡ code) → option_and_then k o ≡ Some m → m.code ≡ code
   from_code member (Some body) k f e = f body e
   from_code member None k f e = cc
 
@@ -43,7 +45,8 @@ module _ (c : Class) (code : List (ℕ × Act)) (m : Method Act) where
 
 -- ---- instructions that are not refused
 
-unsupported_unsafe : (classes : List ClassFact) (m : Method Act) (frames : Frames) (table : ℕ → FrameFact) (at : ℕ) → IsTypeSafeAt classes m frames table at (refuses 60) → ⊥
+unsupported_unsafe : (classes : List ClassFact) (m : Method Act) (frames : Frames) (table : ℕ → FrameFact) (at : ℕ)
+    → IsTypeSafeAt classes m frames table at (refuses 60) → ⊥
 unsupported_unsafe classes m frames table at s = let e : true ≡ false = s.rule.1.0 in cc
 
 pub kept : (a : Act) → (as_supported a ≡ Unsupported → ⊥) → as_supported a ≡ a
@@ -53,7 +56,8 @@ kept a f = by (is_supported a) f
     by true f = refl
     by false f = absurd (f refl)
 
-all_kept : (code : List (ℕ × Act)) → AreApart (supported_acts code) → ((at : ℕ) (act : Act) → at_offset (supported_acts code) at ≡ Some act → act ≡ Unsupported → ⊥)
+all_kept : (code : List (ℕ × Act)) → AreApart (supported_acts code)
+    → ((at : ℕ) (act : Act) → at_offset (supported_acts code) at ≡ Some act → act ≡ Unsupported → ⊥)
     → supported_acts code ≡ code
 all_kept [] apart f = refl
 all_kept (x ∷ xs) apart f =
@@ -61,13 +65,16 @@ all_kept (x ∷ xs) apart f =
     let tail : supported_acts xs ≡ xs = all_kept xs apart.1 (λ at act i e. by at act i (nat_eq x.0 at) refl (λ j. f at act j e)) in
     ap (λ (z : Act). (x.0, z) ∷ supported_acts xs) head ∙ ap (λ (z : List (ℕ × Act)). x ∷ z) tail
   where
-    by : (at : ℕ) (act : Act) → at_offset (supported_acts xs) at ≡ Some act → (b : Bool) → nat_eq x.0 at ≡ b → (at_offset (supported_acts (x ∷ xs)) at ≡ Some act → ⊥) → ⊥
-    by at act i true q k = let same : at_offset (supported_acts xs) at ≡ None = subst (λ z. at_offset (supported_acts xs) z ≡ None) (eqb-true x.0 at q) apart.0 in cc
+    by : (at : ℕ) (act : Act) → at_offset (supported_acts xs) at ≡ Some act → (b : Bool) → nat_eq x.0 at ≡ b
+        → (at_offset (supported_acts (x ∷ xs)) at ≡ Some act → ⊥) → ⊥
+    by at act i true q k = let same : at_offset (supported_acts xs) at ≡ None =
+        subst (λ z. at_offset (supported_acts xs) z ≡ None) (eqb-true x.0 at q) apart.0 in cc
     by at act i false q k = k (rw q i)
 
 pub none_is_replaced : NoneIsReplaced
 none_is_replaced classes c number code m rise is safe =
     let e : m.code ≡ supported_acts code = code_is c (supported_acts code) m number is in
     let same : supported_acts code ≡ code = all_kept code (rising_apart 0 (supported_acts code) rise)
-    (λ at act i u. unsupported_unsafe classes m safe.frames safe.table at (subst (λ z. IsTypeSafeAt classes m safe.frames safe.table at (plan m z)) u (safe.each at act (ap (λ z. at_offset z at) e ∙ i)))) in
+    (λ at act i u. unsupported_unsafe classes m safe.frames safe.table at
+    (subst (λ z. IsTypeSafeAt classes m safe.frames safe.table at (plan m z)) u (safe.each at act (ap (λ z. at_offset z at) e ∙ i)))) in
     subst (λ z. method_of c number z ≡ Some m) same is

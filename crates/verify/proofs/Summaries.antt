@@ -106,7 +106,8 @@ fact_same a = rw (text_same a.name, name_same a.superclass, flag_same a.interfac
 some_same : (a b : ClassFact) → Some a ≡ Some b → a ≡ b
 some_same a b e = cc
 
-pub looked_up : (o : Option ClassFact) (found own : ClassFact) (b : Bool) → o ≡ Some found → b ≡ same_fact found own → IsTrue b ↔ (o ≡ Some own)
+pub looked_up : (o : Option ClassFact) (found own : ClassFact) (b : Bool) → o ≡ Some found → b ≡ same_fact found own
+    → IsTrue b ↔ (o ≡ Some own)
 looked_up o found own b e is = (
   λ t. e ∙ ap (λ (z : ClassFact). Some z) (facts found own (sym is ∙ t)),
   λ h. is ∙ ap (same_fact found) (sym (some_same found own (sym e ∙ h))) ∙ fact_same found,
@@ -115,14 +116,17 @@ looked_up o found own b e is = (
 -- ---- members one by one
 
 module _ (ms ns : List MemberSummary) (i : ℕ) where
-  pub members_next : (d : MemberSummary) → i < length ms → i < length ns → same_member (member_of (get_or ms i d)) (member_of (get_or ns i d)) ≡ true
-      → same_members (map member_of (drop i ms)) (map member_of (drop i ns)) ≡ same_members (map member_of (drop (i + 1) ms)) (map member_of (drop (i + 1) ns))
+  pub members_next : (d : MemberSummary) → i < length ms → i < length ns
+      → same_member (member_of (get_or ms i d)) (member_of (get_or ns i d)) ≡ true
+      → same_members (map member_of (drop i ms)) (map member_of (drop i ns)) ≡ same_members (map member_of (drop (i + 1) ms))
+      (map member_of (drop (i + 1) ns))
   members_next d p q e =
       ap (λ z. same_members (map member_of z) (map member_of (drop i ns))) (drop_more ms i d p)
       ∙ ap (λ z. same_members (map member_of (get_or ms i d ∷ drop (i + 1) ms)) (map member_of z)) (drop_more ns i d q)
       ∙ ap (λ z. z && same_members (map member_of (drop (i + 1) ms)) (map member_of (drop (i + 1) ns))) e
 
-  pub members_differ : (d : MemberSummary) → i < length ms → i < length ns → same_member (member_of (get_or ms i d)) (member_of (get_or ns i d)) ≡ false
+  pub members_differ : (d : MemberSummary) → i < length ms → i < length ns
+      → same_member (member_of (get_or ms i d)) (member_of (get_or ns i d)) ≡ false
       → same_members (map member_of (drop i ms)) (map member_of (drop i ns)) ≡ false
   members_differ d p q e =
       ap (λ z. same_members (map member_of z) (map member_of (drop i ns))) (drop_more ms i d p)
@@ -140,6 +144,7 @@ lengths_differ [] (n ∷ ns) f = refl
 lengths_differ (m ∷ ms) [] f = refl
 lengths_differ (m ∷ ms) (n ∷ ns) f = either (same_member (member_of m) (member_of n)) (lengths_differ ms ns (λ e. f (ap suc e)))
   where
-    either : (b : Bool) → same_members (map member_of ms) (map member_of ns) ≡ false → b && same_members (map member_of ms) (map member_of ns) ≡ false
+    either : (b : Bool) → same_members (map member_of ms) (map member_of ns) ≡ false
+        → b && same_members (map member_of ms) (map member_of ns) ≡ false
     either true e = e
     either false e = refl

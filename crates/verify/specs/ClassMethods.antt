@@ -38,4 +38,5 @@ TypeSafeMethodsAreSafe =
 abbrev pub NoneIsReplaced : Type 0
 NoneIsReplaced =
     (classes : List ClassFact) (c : Class) (number : ℕ) (code : List (ℕ × Act)) (m : Method Act)
-    → OffsetsRise 0 (supported_acts code) → method_of c number (supported_acts code) ≡ Some m → IsTypeSafe classes m → method_of c number code ≡ Some m
+    → OffsetsRise 0 (supported_acts code) → method_of c number (supported_acts code) ≡ Some m → IsTypeSafe classes m
+    → method_of c number code ≡ Some m

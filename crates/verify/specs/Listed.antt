@@ -26,7 +26,8 @@ same_kind Method Field = false
 abbrev pub same_member : MemberFact → MemberFact → Bool
 same_member a b =
     bytes_eq a.name b.name
-    && (bytes_eq a.descriptor b.descriptor && (same_kind a.kind b.kind && (same_flag a.is_static b.is_static && same_flag a.is_protected b.is_protected)))
+    && (bytes_eq a.descriptor b.descriptor
+    && (same_kind a.kind b.kind && (same_flag a.is_static b.is_static && same_flag a.is_protected b.is_protected)))
 
 abbrev pub same_members : List MemberFact → List MemberFact → Bool
 same_members [] [] = true
@@ -43,4 +44,5 @@ same_name (Some a) None = false
 abbrev pub same_fact : ClassFact → ClassFact → Bool
 same_fact a b =
     bytes_eq a.name b.name
-    && (same_name a.superclass b.superclass && (same_flag a.interface b.interface && (same_flag a.is_final b.is_final && same_members a.members b.members)))
+    && (same_name a.superclass b.superclass
+    && (same_flag a.interface b.interface && (same_flag a.is_final b.is_final && same_members a.members b.members)))

@@ -25,7 +25,8 @@ pub record Judges (cs : Conditions) (r : Result Unit Reason) : Type 0 where
   pub outcome : MatchResult r (λ _. least cs ≡ None) (λ e. (e ≡ OutOfMemory) ⊎ (least cs ≡ Some (reason_view e)))
 
 -- a frame comes to a start, where this one is declared, and this one goes on; or this is the reason against it, or want of memory
-pub record Enters (classes : List ClassFact) (falls : Bool) (f : FrameFact) (declared : Option FrameFact) (now : FrameFact) (r : Result Unit Reason) : Type 0 where
+pub record Enters (classes : List ClassFact) (falls : Bool) (f : FrameFact) (declared : Option FrameFact) (now : FrameFact)
+    (r : Result Unit Reason) : Type 0 where
   pub outcome : MatchResult r
       (λ _. (entry classes falls f declared ≡ None) × (now ≡ entered f declared))
       (λ e. (e ≡ OutOfMemory) ⊎ (entry classes falls f declared ≡ Some (reason_view e)))
@@ -41,7 +42,9 @@ place_of (codes.NonZeroByte at) = at
 
 -- 79 there, with the fault's number; or want of memory
 pub record RefusesCode (fault : CodeFault) (r : Result Verdict VerifyFault) : Type 0 where
-  pub outcome : MatchResult r (λ v. (fault ≢ codes.OutOfMemory) × (v ≡ Refused (place_of fault) (BadCode (code_fault_number fault)))) (λ e. (fault ≡ codes.OutOfMemory) × (e ≡ faults.OutOfMemory))
+  pub outcome : MatchResult r
+      (λ v. (fault ≢ codes.OutOfMemory) × (v ≡ Refused (place_of fault) (BadCode (code_fault_number fault))))
+      (λ e. (fault ≡ codes.OutOfMemory) × (e ≡ faults.OutOfMemory))
 
 -- the verdict on code, or want of memory
 abbrev pub Gives : verdicts.Verdict → Result Verdict VerifyFault → Type 0

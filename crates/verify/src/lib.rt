@@ -1,14 +1,14 @@
-//! Methods that are type-safe (JVMS 4.10.1), and what is proved of them.
+//! Whether methods are type-safe (JVMS 4.10.1), and what is proved of those that are. The call to know is [`verify_method`]: its
+//! answers, case by case, are in specs/Answers.antt.
 //!
-//! - `theorem`: type-safe methods are safe.
-//! - `verdict`: what is answered of a method.
-//! - `initial`: the frame with which a method begins.
-//! - `flow`: from one instruction to the next.
-//! - `judging`: one pass over a method's code.
+//! - `method`: the verdict on a method.
+//! - `verdict`: what is answered.
 //! - `listing`: whether a hierarchy has a class as it is.
 //! - `refusal`: verdicts that refuse.
-//! - `method`: the verdict on a method.
-//! - `report`: the verdicts on the methods of a class.
+//! - `initial`: the frame with which a method begins.
+//! - `judging`: one pass over a method's code, against the verdict in specs/Verdict.antt.
+//! - `flow`: from one instruction to the next.
+//! - `theorem`: type-safe methods are safe.
 //! - `laws`: the verdict on a method is verified exactly where it is type-safe, and what a refusal says.
 #![tactic(auto)]
 

@@ -1,8 +1,8 @@
 //! The verdict on a method.
 ghost use Rattle.std.specs.Prelude.{◌≡◌, ◌<◌, ℕ, true, [], map, length, Some, IfOk, IfErr};
-ghost use Rattle.names.specs.Types.{type_of};
-ghost use Rattle.classfile.specs.MethodParts.{code_at, params_at};
-ghost use Rattle.classfile.specs.CodeMethods.{code_method_view};
+ghost use Rattle.names.specs.Types.{type_of, method_of};
+ghost use Rattle.classfile.specs.MethodParts.{code_at};
+ghost use Rattle.classfile.specs.CodeMethods.{code_method_view, types_of};
 ghost use Rattle.classfile.specs.Views.{class_view, code_view};
 ghost use Rattle.classfile.specs.WellFormed.{WellFormed};
 ghost use Rattle.rules.specs.Bodies.{method_view};
@@ -10,7 +10,6 @@ ghost use Rattle.verify.specs.declared.verdict.VerifyFault.TheVariants.{OutOfMem
 ghost use Rattle.verify.specs.Verdict.{verdict};
 ghost use Rattle.verify.specs.Steps.{Gives};
 ghost use Rattle.verify.specs.Judged.{is_judged};
-ghost use Rattle.hierarchy.specs.Rules.{IsHierarchy};
 ghost use Rattle.verify.specs.Listed.{IsListed};
 ghost use Rattle.verify.specs.Answers.{AnswersCode, Answers, VerifiesTypeSafe, VerifiedIsSafe};
 
@@ -19,7 +18,6 @@ use crate::judging::pass;
 use crate::listing::is_listed;
 use crate::refusal::{has_stack_map, refuse, refuse_code};
 use crate::verdict::{Verdict, VerifyFault};
-use classfile::flags::{STATIC, has};
 use classfile::{CodeMethod, Formed};
 use frames::Frame;
 use hierarchy::Classes;
@@ -46,18 +44,14 @@ fn is_judged(method: &CodeMethod<'_, '_>) -> bool
     method.code.exception_table.is_empty()
 }
 
-/// The types of a method's parameters, and of its result. The only refusal is want of memory.
+/// The types that a method's descriptor names. The only refusal is want of memory.
 fn types_of<'a>(alloc: Global, method: &CodeMethod<'_, 'a>) -> Result<MethodType<'a>, VerifyFault>
-    requires formed { WellFormed (class_view method.now.class.now) }
-    requires coded { code_at (class_view method.now.class.now) method.now.number ≡ Some (code_view method.now.code.now) }
-    ensures found { IfOk result (λ t. params_at (class_view method.now.class.now) method.now.number ≡ map type_of t.params.items) }
+    ensures found { IfOk result (λ t. method_of t ≡ types_of method.now) }
     ensures memory { IfErr result (λ e. e ≡ OutOfMemory) }
 {
-    let class = method.class;
-    let member = &class.methods[method.number];
-    let text = class.constant_pool.text(member.descriptor).unwrap();
-    match method_type(alloc, text, !has(member.access_flags, STATIC)) {
+    match method_type(alloc, method.descriptor(), !method.is_static) {
         Ok(types) => Ok(types),
+        // The descriptor is one, so that nothing else is refused.
         Err(_) => Err(VerifyFault::OutOfMemory),
     }
 }
@@ -113,19 +107,16 @@ fn verify_code<'a, C: Classes>(
     judge_body(alloc, &body, &types.params, classes)
 }
 
-/// The verdict on the method of this number of a class that the hierarchy has as it is.
-pub fn verify_listed<'a, C: Classes>(
+/// The verdict on a method of a class that the hierarchy has as it is.
+fn verify_listed<'a, C: Classes>(
     alloc: Global,
     formed: &Formed<'_, 'a>,
     number: usize,
     classes: &C,
 ) -> Result<Verdict<'a>, VerifyFault>
-    requires number { number < length formed.now.class.now.methods.items }
-    requires hierarchy { IsHierarchy (C.content classes.now) }
+    requires within { number < length formed.now.class.now.methods.items }
     requires listed { IsListed (C.content classes.now) (class_view formed.now.class.now) }
-    ensures exactly { Answers (C.content classes.now) (class_view formed.now.class.now) number result }
-    ensures only { VerifiesTypeSafe (C.content classes.now) (class_view formed.now.class.now) number result }
-    ensures safe { VerifiedIsSafe (C.content classes.now) (class_view formed.now.class.now) number result }
+    ensures { Answers (C.content classes.now) (class_view formed.now.class.now) number result }
 {
     formed.class();
     match formed.method(number) {
@@ -134,17 +125,17 @@ pub fn verify_listed<'a, C: Classes>(
     }
 }
 
-/// The verdict on the method of this number, which counts from 0, of a class in a hierarchy (JVMS 4.10.1). Refused is,
-/// by the first of these steps that refuses:
+/// The verdict on the method of this number, which counts from 0, of a class in a hierarchy (JVMS 4.10.1).
 ///
-/// - 80, where the hierarchy has no class with exactly this class's summary;
+/// A method without a Code attribute has none. The first of these steps that refuses says why and where:
+///
 /// - 60 at 0: the method is not static, is an `<init>`, or has a StackMapTable or an exception table;
 /// - 79 where the first instruction at fault begins, with the number of its fault (31 to 35);
 /// - 64 at 0: the parameters do not fit into max_locals;
 /// - 70 at an instruction to which no frame comes, 71 where the last one goes on, and otherwise what an instruction's rule
 ///   refuses (60 to 66, 74, 76, 77): at the first instruction that is refused, the least number that holds there.
 ///
-/// Or 1, where memory ran out.
+/// Before all that, 80 where the hierarchy has no class with exactly this class's summary; and 1 where memory ran out.
 pub fn verify_method<'a, C: Classes>(
     alloc: Global,
     formed: &Formed<'_, 'a>,

@@ -9,8 +9,10 @@ returns-in-Ok c = λ cs ds a b. judges_alone cs ds c.args.one c.in-Ok.field-0 a 
 
 pub returns-then-number : goal.returns-then-number
 returns-then-number c = λ cs ds a b.
-    judges_less cs ds c.args.one c.in-Err.another (let h : reason_number c.in-Err.another < reason_number c.args.one = search rules in h) a (subst (Judges ds) c.in-Err.is b)
+    judges_less cs ds c.args.one c.in-Err.another (let h : reason_number c.in-Err.another < reason_number c.args.one = search rules in h) a
+    (subst (Judges ds) c.in-Err.is b)
 
 pub returns-else-number : goal.returns-else-number
 returns-else-number c = λ cs ds a b.
-    judges_first cs ds c.args.one c.in-Err.another (let h : reason_number c.args.one ≤ reason_number c.in-Err.another = search rules in h) a (subst (Judges ds) c.in-Err.is b)
+    judges_first cs ds c.args.one c.in-Err.another (let h : reason_number c.args.one ≤ reason_number c.in-Err.another = search rules in h)
+    a (subst (Judges ds) c.in-Err.is b)

@@ -10,7 +10,8 @@ pub returns : goal.returns
 returns c =
     let ts = map descriptor_type (map descriptor_of c.args.parameters.now) in
     let vs = c.put_parameters.new.locals.items in
-    let e : map type_of vs ≡ in_locals ts = c.in_ok-put_parameters.ensures ∙ ap (λ z. map type_of z ++ in_locals ts) c.in_ok-locals.ensures.items in
+    let e : map type_of vs ≡ in_locals ts =
+    c.in_ok-put_parameters.ensures ∙ ap (λ z. map type_of z ++ in_locals ts) c.in_ok-locals.ensures.items in
     let size : c.put_parameters.new.locals.len ≡ length vs = c.put_parameters.new.locals.ok.0 in
     let le : length vs ≤ c.args.max_locals = omega (arith, size) in
     let now : c.resize.new.self.items ≡ take c.args.max_locals vs ++ replicate (c.args.max_locals - length vs) Top =

@@ -17,7 +17,8 @@ returns-in-Err g c =
     let f = frame_of c.loop-i.frame in
     let d = no_insn in
     c.refuse.ensures (code_judged classes m [])
-    (stops_in classes m c.args.body.now.list.now c.loop-i.i d c.loop-i-test.true c.loop-i.comes f (code_judged classes m []) c.loop-i.invariant.same c.enter.result c.in-Err.reason c.in-Err.is (c.enter.ensures classes f))
+    (stops_in classes m c.args.body.now.list.now c.loop-i.i d c.loop-i-test.true c.loop-i.comes f (code_judged classes m [])
+    c.loop-i.invariant.same c.enter.result c.in-Err.reason c.in-Err.is (c.enter.ensures classes f))
 
 pub returns-in-Err-judge : goal.returns-in-Err-judge
 returns-in-Err-judge g c =
@@ -27,9 +28,11 @@ returns-in-Err-judge g c =
     let d = no_insn in
     let xs = c.args.body.now.list.now in
     let i = c.loop-i.i in
-    let came = comes_in classes m xs i d c.loop-i-test.true c.loop-i.comes f (code_judged classes m []) c.loop-i.invariant.same c.enter.result c.in_default.field-0 c.in_default.is (c.enter.ensures classes f) in
+    let came = comes_in classes m xs i d c.loop-i-test.true c.loop-i.comes f (code_judged classes m []) c.loop-i.invariant.same
+    c.enter.result c.in_default.field-0 c.in_default.is (c.enter.ensures classes f) in
     c.refuse-in-Err-judge.ensures (code_judged classes m [])
-    (stops_at classes m xs i d c.loop-i-test.true c.loop-i.comes f (code_judged classes m []) c.loop-i.invariant.same (frame_of c.judge.new.frame) c.judge.result c.in-Err-judge.reason came c.in-Err-judge.is
+    (stops_at classes m xs i d c.loop-i-test.true c.loop-i.comes f (code_judged classes m []) c.loop-i.invariant.same
+    (frame_of c.judge.new.frame) c.judge.result c.in-Err-judge.reason came c.in-Err-judge.is
     (c.judge.ensures (first_offset (coded (drop (i + 1) xs))) (last_is xs i c.loop-i-test.true)))
 
 pub loop-i-preserved : goal.loop-i-preserved
@@ -40,10 +43,13 @@ loop-i-preserved g c =
     let d = no_insn in
     let xs = c.args.body.now.list.now in
     let i = c.loop-i.i in
-    let came = comes_in classes m xs i d c.loop-i-test.true c.loop-i.comes f (code_judged classes m []) c.loop-i.invariant.same c.enter.result c.in_default.field-0 c.in_default.is (c.enter.ensures classes f) in
+    let came = comes_in classes m xs i d c.loop-i-test.true c.loop-i.comes f (code_judged classes m []) c.loop-i.invariant.same
+    c.enter.result c.in_default.field-0 c.in_default.is (c.enter.ensures classes f) in
     record {
-      same = goes_done classes m xs i d c.loop-i-test.true c.loop-i.comes f (code_judged classes m []) c.loop-i.invariant.same (frame_of c.judge.new.frame) c.judge.result c.in_default-judge.field-0 c.falls-comes.result came c.in_default-judge.is
+      same = goes_done classes m xs i d c.loop-i-test.true c.loop-i.comes f (code_judged classes m []) c.loop-i.invariant.same
+          (frame_of c.judge.new.frame) c.judge.result c.in_default-judge.field-0 c.falls-comes.result came c.in_default-judge.is
           (c.judge.ensures (first_offset (coded (drop (i + 1) xs))) (last_is xs i c.loop-i-test.true)) c.falls-comes.ensures;
-      locals = keeps_length m (get_or xs i d).0 (plan m (as_supported (act (view (get_or xs i d).1)))) c.loop-i.frame c.judge.new.frame c.args.body.now.method.code.now.max_locals c.loop-i.invariant.locals
+      locals = keeps_length m (get_or xs i d).0 (plan m (as_supported (act (view (get_or xs i d).1)))) c.loop-i.frame c.judge.new.frame
+          c.args.body.now.method.code.now.max_locals c.loop-i.invariant.locals
           (c.in_default-judge.ensures (first_offset (coded (drop (i + 1) xs))) (last_is xs i c.loop-i-test.true)).outcome.1;
     }

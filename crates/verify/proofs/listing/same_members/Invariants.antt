@@ -4,4 +4,5 @@ use Rattle.verify.specs.Listed.{same_members}
 use Rattle.verify.proofs.listing.same_members.Given as goal
 
 abbrev pub invariant-loop-i : goal.invariant-loop-i
-invariant-loop-i l = same_members (map member_of l.ones) (map member_of l.others) ≡ same_members (map member_of (drop l.i l.ones)) (map member_of (drop l.i l.others))
+invariant-loop-i l = same_members (map member_of l.ones) (map member_of l.others) ≡ same_members (map member_of (drop l.i l.ones))
+    (map member_of (drop l.i l.others))

@@ -17,22 +17,30 @@ pub returns-then-not-is_judged : goal.returns-then-not-is_judged
 returns-then-not-is_judged g c =
     let m = c.args.method in
     left_out (g.C.Classes.content c.args.classes.now) (class_view m.class.now) m.number (code_method_view {A = Act} m [])
-    (method_says {A = Act} (class_view m.class.now) m.number (code_view m.code.now) m.is_static m.is_init (option_map type_of m.result_type) m.is_method []) (sym c.is_judged.ensures ∙ c.if-not-is_judged.true)
+    (method_says {A = Act} (class_view m.class.now) m.number (code_view m.code.now) m.is_static m.is_init
+    (option_map type_of m.result_type) m.is_method []) (sym c.is_judged.ensures ∙ c.if-not-is_judged.true)
 
 pub decode_code-requires : goal.decode_code-requires
-decode_code-requires g c = let m = c.args.method in little_code (class_view m.class.now) c.requires.formed m.number (code_view m.code.now) c.requires.coded
+decode_code-requires g c = let m = c.args.method in
+    little_code (class_view m.class.now) c.requires.formed m.number (code_view m.code.now) c.requires.coded
 
 pub returns-in-Err : goal.returns-in-Err
 returns-in-Err g c =
     let m = c.args.method in
-    bad_code (g.C.Classes.content c.args.classes.now) (class_view m.class.now) m.number (code_method_view {A = Act} m []) (code_view m.code.now) c.in-Err.fault c.refuse_code.result
-    (method_says {A = Act} (class_view m.class.now) m.number (code_view m.code.now) m.is_static m.is_init (option_map type_of m.result_type) m.is_method []) (sym c.is_judged.ensures ∙ c.if-not-is_judged.false) c.requires.coded
+    bad_code (g.C.Classes.content c.args.classes.now) (class_view m.class.now) m.number (code_method_view {A = Act} m [])
+    (code_view m.code.now) c.in-Err.fault c.refuse_code.result
+    (method_says {A = Act} (class_view m.class.now) m.number (code_view m.code.now) m.is_static m.is_init
+    (option_map type_of m.result_type) m.is_method []) (sym c.is_judged.ensures ∙ c.if-not-is_judged.false) c.requires.coded
     c.in-Err.ensures.fault c.refuse_code.ensures
 
 pub returns : goal.returns
 returns g c =
     let m = c.args.method in
     let xs = views c.deref.result.now in
-    let spelled : SpellsCode 0 (code_view m.code.now).code xs = subst (λ z. SpellsCode 0 (code_view m.code.now).code (views z)) (sym c.deref.ensures.value) c.in-Ok.ensures.found in
-    given (g.C.Classes.content c.args.classes.now) (class_view m.class.now) m.number (code_view m.code.now) xs (code_method_view {A = Act} m (supported_acts (acts xs))) c.judge_body.result c.requires.coded spelled
-    (method_says {A = Act} (class_view m.class.now) m.number (code_view m.code.now) m.is_static m.is_init (option_map type_of m.result_type) m.is_method (supported_acts (acts xs))) (sym c.is_judged.ensures ∙ c.if-not-is_judged.false) c.judge_body.ensures
+    let spelled : SpellsCode 0 (code_view m.code.now).code xs =
+    subst (λ z. SpellsCode 0 (code_view m.code.now).code (views z)) (sym c.deref.ensures.value) c.in-Ok.ensures.found in
+    given (g.C.Classes.content c.args.classes.now) (class_view m.class.now) m.number (code_view m.code.now) xs
+    (code_method_view {A = Act} m (supported_acts (acts xs))) c.judge_body.result c.requires.coded spelled
+    (method_says {A = Act} (class_view m.class.now) m.number (code_view m.code.now) m.is_static m.is_init
+    (option_map type_of m.result_type) m.is_method (supported_acts (acts xs))) (sym c.is_judged.ensures ∙ c.if-not-is_judged.false)
+    c.judge_body.ensures
