@@ -5,3 +5,5 @@ pub mod Demands
 pub mod Steps
 pub mod Runs
 pub mod Breadth
+pub mod Views
+pub mod Decided

@@ -8,6 +8,16 @@
 //! - `specs/Runs.antt`: initial states and runs.
 #![tactic(auto)]
 
+mod choosing;
+mod items;
 pub mod laws;
+mod objects;
+mod snapshot;
+
+pub use choosing::{Choice, Outcome, StepFault};
+pub use items::{Slot, Value};
+pub use objects::{Object, RunType, Status};
+pub use snapshot::State;
+
 #[cfg(test)]
 mod tests;
