@@ -1,2 +1,4 @@
 mod Flows
 mod Breadth
+mod Types
+mod Stacks

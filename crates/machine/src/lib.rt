@@ -8,10 +8,12 @@
 //! - `specs/Runs.antt`: initial states and runs.
 #![tactic(auto)]
 
+mod below;
 mod choosing;
 mod items;
 pub mod laws;
 mod objects;
+mod operands;
 mod snapshot;
 
 pub use choosing::{Choice, Outcome, StepFault};
