@@ -2,3 +2,4 @@ mod Flows
 mod Breadth
 mod Types
 mod Stacks
+mod Addresses

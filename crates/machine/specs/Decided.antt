@@ -11,6 +11,7 @@ use Rattle.insn.specs.declared.stack.StackPlace.{StackPlace}
 use Rattle.insn.specs.declared.stack.StackPlace.TheVariants.{Narrow, Wide}
 use Rattle.insn.specs.Acts.{StackForm}
 use Rattle.insn.specs.Stacks.{same_kind}
+use Rattle.machine.specs.Heap.{Status, ready, made, this, Object}
 use Rattle.machine.specs.Values.{Value, number, null, reference, Slot, empty, second, holds, is_wide_value, is_wide_slot, place_of}
 
 -- ---- operands
@@ -100,3 +101,14 @@ type_below classes (class a) (class b) = class_below classes a b
 type_below classes (array x) (class b) = is_above_arrays classes b
 type_below classes (array x) (array y) = type_below classes x y
 type_below classes _ _ = false
+
+-- ---- objects
+
+abbrev pub is_own : Status → Bool
+is_own this = true
+is_own ready = false
+is_own made = false
+
+-- the own object, not initialized yet
+abbrev pub is_this : Object → Bool
+is_this o = is_own o.status

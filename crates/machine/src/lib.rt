@@ -10,6 +10,7 @@
 
 mod below;
 mod choosing;
+mod heaps;
 mod items;
 pub mod laws;
 mod objects;
