@@ -3,3 +3,4 @@ mod Breadth
 mod Types
 mod Stacks
 mod Addresses
+mod Moves

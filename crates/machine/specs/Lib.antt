@@ -7,3 +7,6 @@ pub mod Runs
 pub mod Breadth
 pub mod Views
 pub mod Decided
+pub mod Rising
+pub mod Deeds
+pub mod Bodies

@@ -9,14 +9,19 @@
 #![tactic(auto)]
 
 mod below;
+mod body;
 mod choosing;
+mod deed;
+mod deeds;
 mod heaps;
 mod items;
 pub mod laws;
 mod objects;
 mod operands;
 mod snapshot;
+mod stacking;
 
+pub use body::{ExceptionEntry, Method};
 pub use choosing::{Choice, Outcome, StepFault};
 pub use items::{Slot, Value};
 pub use objects::{Object, RunType, Status};
