@@ -4,3 +4,5 @@ mod Types
 mod Stacks
 mod Addresses
 mod Moves
+pub mod Apart
+mod Places

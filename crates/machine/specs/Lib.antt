@@ -10,3 +10,4 @@ pub mod Decided
 pub mod Rising
 pub mod Deeds
 pub mod Bodies
+pub mod Demanded

@@ -13,6 +13,7 @@ mod body;
 mod choosing;
 mod deed;
 mod deeds;
+mod demands;
 mod heaps;
 mod items;
 pub mod laws;
@@ -20,6 +21,7 @@ mod objects;
 mod operands;
 mod snapshot;
 mod stacking;
+mod starts;
 
 pub use body::{ExceptionEntry, Method};
 pub use choosing::{Choice, Outcome, StepFault};
