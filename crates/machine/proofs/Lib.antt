@@ -6,3 +6,5 @@ mod Addresses
 mod Moves
 pub mod Apart
 mod Places
+mod Faults
+mod Deciding
