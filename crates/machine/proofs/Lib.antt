@@ -8,3 +8,4 @@ pub mod Apart
 mod Places
 mod Faults
 mod Deciding
+mod Writes

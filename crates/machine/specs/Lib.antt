@@ -11,3 +11,4 @@ pub mod Rising
 pub mod Deeds
 pub mod Bodies
 pub mod Demanded
+pub mod Happening

@@ -22,6 +22,7 @@ mod operands;
 mod snapshot;
 mod stacking;
 mod starts;
+mod storing;
 
 pub use body::{ExceptionEntry, Method};
 pub use choosing::{Choice, Outcome, StepFault};
