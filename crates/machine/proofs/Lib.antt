@@ -9,3 +9,4 @@ mod Places
 mod Faults
 mod Deciding
 mod Writes
+mod Raised

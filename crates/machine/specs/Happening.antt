@@ -1,8 +1,8 @@
 -- What the calls answer that go on and that raise, by what is done and where the next instruction begins.
-use Rattle.std.specs.Prelude.{◌≡◌, ℕ, zero, suc, ◌+◌, ◌≤◌, Bool, true, false, List, [], ◌∷◌, Option, Some, None, Result, Ok, Err, if◌then◌else◌}
+use Rattle.std.specs.Prelude.{◌≡◌, ℕ, zero, suc, ◌+◌, ◌≤◌, Bool, true, false, List, [], ◌∷◌, slice_get, Option, Some, None, Result, Ok, Err, if◌then◌else◌}
 use Rattle.names.specs.ReferenceTypes.{ReferenceType}
 use Rattle.hierarchy.specs.World.{World}
-use Rattle.classfile.specs.Methods.{Method}
+use Rattle.classfile.specs.Methods.{Method, ExceptionEntry, covers}
 use Rattle.insn.specs.Meanings.{Act}
 use Rattle.machine.specs.declared.deed.Deed.{Deed}
 use Rattle.machine.specs.declared.deed.Deed.TheVariants.{Operates, Reads, Writes, Increments, Moves, Leaves, Ends, Stuck}
@@ -10,11 +10,11 @@ use Rattle.machine.specs.declared.choosing.Outcome.{Outcome as RawOutcome}
 use Rattle.machine.specs.declared.choosing.Outcome.TheVariants as outcomes
 use Rattle.machine.specs.declared.choosing.StepFault.{StepFault}
 use Rattle.machine.specs.declared.choosing.StepFault.TheVariants.{OutOfMemory, NotAChoice}
-use Rattle.machine.specs.Values.{Value, number, Slot, empty, is_wide_slot, behind_lost, stored, kind_units}
-use Rattle.machine.specs.Heap.{IsFresh, with_fresh}
+use Rattle.machine.specs.Values.{Value, number, reference, Slot, empty, is_wide_slot, behind_lost, stored, kind_units}
+use Rattle.machine.specs.Heap.{Heap, IsBelow, IsFresh, with_fresh}
 use Rattle.machine.specs.Tasks.{falls}
 use Rattle.machine.specs.Demands.{State, IsNoFault}
-use Rattle.machine.specs.Steps.{Choice, Outcome, goes_on, ended, Happens, IsRaised, IsCaught}
+use Rattle.machine.specs.Steps.{Choice, Outcome, goes_on, ended, Happens, IsRaised, IsCaught, moved_with}
 use Rattle.machine.specs.Deeds.{task_view, stack_after}
 use Rattle.machine.specs.Views.{state_view}
 
@@ -95,6 +95,21 @@ Goes d next s branch answer fresh (Err OutOfMemory) = Unit {0}
 Goes d next s branch answer fresh (Err NotAChoice) = IsAsked s branch answer fresh → Stays d next
 
 -- ---- raising
+
+-- an object of a type is caught by the entry of a place, and stands alone on the stack
+pub record Catches (world : World) (m : Method Act) (s : State) (address : ℕ) (type : ReferenceType) (heap : Heap) (entry : ℕ) (t : State) : Type 0 where
+  pub by_entry : ExceptionEntry
+  pub which : slice_get m.exceptions entry ≡ Some by_entry
+  pub covered : covers by_entry s.at ≡ true
+  pub catches : IsBelow world type by_entry.caught
+  pub result : t ≡ moved_with s by_entry.handler (reference address ∷ []) heap
+
+abbrev pub CatchesBy : World → Method Act → State → ℕ → ReferenceType → Heap → ℕ → Result RawOutcome StepFault → Type 0
+CatchesBy world m s address type heap entry (Ok (outcomes.Next t)) = Catches world m s address type heap entry (state_view t)
+CatchesBy world m s address type heap entry (Ok outcomes.Ended) = ⊥
+CatchesBy world m s address type heap entry (Ok outcomes.Fault) = ⊥
+CatchesBy world m s address type heap entry (Err OutOfMemory) = Unit {0}
+CatchesBy world m s address type heap entry (Err NotAChoice) = (t : State) → Catches world m s address type heap entry t → ⊥
 
 -- no entry is named by which it is caught
 abbrev pub CaughtBy : World → Method Act → State → ℕ → List (ℕ × ReferenceType) → Option ℕ → State → Type 0
