@@ -57,7 +57,7 @@ itself Long = refl
 itself Float = refl
 itself Double = refl
 
-number_is : (k : Kind) (v : Value) → is_number k v ≡ true → v ≡ number k
+pub number_is : (k : Kind) (v : Value) → is_number k v ≡ true → v ≡ number k
 number_is k (number j) e = ap number (kind_is j k e)
 number_is k null e = cc
 number_is k (reference a) e = cc
@@ -83,7 +83,7 @@ kinds_usable heap [] vs = tt
 kinds_usable heap (k ∷ ks) [] = tt
 kinds_usable heap (k ∷ ks) (v ∷ vs) = (tt, kinds_usable heap ks vs)
 
-held_number : (k : Kind) (o : Option Slot) → holds_number k o ≡ true → (v : Value) × (o ≡ Some (holds v)) × (v ≡ number k)
+pub held_number : (k : Kind) (o : Option Slot) → holds_number k o ≡ true → (v : Value) × (o ≡ Some (holds v)) × (v ≡ number k)
 held_number k None e = absurd cc
 held_number k (Some empty) e = absurd cc
 held_number k (Some second) e = absurd cc
@@ -233,7 +233,7 @@ given_depth : (r : Option Kind) (vs : List Value) → depth_of (given r ++ vs) �
 given_depth None vs = omega arith
 given_depth (Some kind) vs = refl
 
-kinds_beneath : (ks : List Kind) (vs : List Value) → beneath (needs_of_kinds ks) vs ≡ drop (length ks) vs
+pub kinds_beneath : (ks : List Kind) (vs : List Value) → beneath (needs_of_kinds ks) vs ≡ drop (length ks) vs
 kinds_beneath [] vs = refl
 kinds_beneath (k ∷ ks) [] = refl
 kinds_beneath (k ∷ ks) (v ∷ vs) = kinds_beneath ks vs

@@ -10,3 +10,4 @@ mod Faults
 mod Deciding
 mod Writes
 mod Raised
+mod Chosen

@@ -24,6 +24,7 @@ mod raising;
 mod snapshot;
 mod stacking;
 mod starts;
+mod stepping;
 mod storing;
 
 pub use body::{ExceptionEntry, Method};
@@ -31,6 +32,7 @@ pub use choosing::{Choice, Outcome, StepFault};
 pub use items::{Slot, Value};
 pub use objects::{Object, RunType, Status};
 pub use snapshot::State;
+pub use stepping::step;
 
 #[cfg(test)]
 mod tests;
