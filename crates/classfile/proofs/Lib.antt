@@ -3,9 +3,11 @@ pub mod ClassMeasure
 pub mod Classes
 pub mod Encodings
 pub mod FirstFaults
+pub mod FormedMethods
 pub mod FormedNames
 pub mod LeastRules
 pub mod Measures
+pub mod MethodLaws
 pub mod NamingLaws
 pub mod Places
 pub mod SeenLaws

@@ -1,11 +1,15 @@
 -- The tests of names that compute are the forms of names.
-use Rattle.std.proofs.Common.{◌≡◌, ◌<◌, ℕ, Bool, true, false, not, List, [], ◌∷◌, length, refl, arith}
+use Rattle.std.proofs.Common.{◌≡◌, ◌<◌, ℕ, Bool, true, false, not, List, [], ◌∷◌, length, Option, Some, None, Result, Ok, Err, refl, arith}
+use Rattle.std.specs.Option.{is_none}
+use Rattle.std.specs.Result.{is_ok}
+use Rattle.names.specs.declared.fault.NameFault.{NameFault}
+use Rattle.names.specs.Descriptors.{FieldDescriptor, MethodDescriptor}
 use Rattle.std.proofs.lemmas.Bool.{and_parts, and_from, false≢true}
 use Rattle.std.proofs.lemmas.List.Sums.{AllPass-from_list_all, list_all-from_AllPass}
 use Rattle.std.specs.List.{list_all}
 use Rattle.names.specs.Names.{is_name_unit, is_angle, IsUnqualifiedName, IsMethodName, IsClassName}
 use Rattle.names.proofs.ClassNameLaws.{class_name_from_ends, class_name_ends}
-use Rattle.classfile.specs.Naming.{is_some_text, is_class_name, is_unqualified_name, is_method_name}
+use Rattle.classfile.specs.Naming.{is_some_text, is_class_name, is_unqualified_name, is_method_name, has_no_result}
 
 -- two answers to the same question
 pub same : {P : Type 0} (a b : Bool) → (a ≡ true → P) → (P → a ≡ true) → (b ≡ true → P) → (P → b ≡ true) → a ≡ b
@@ -45,3 +49,17 @@ pub is_method_name_so : (bytes : List ℕ) → IsMethodName bytes → is_method_
 is_method_name_so bytes h =
     and_from (is_unqualified_name bytes) (list_all (λ u. not (is_angle u)) bytes) (is_unqualified_so bytes h.unqualified)
     (list_all-from_AllPass (λ u. not (is_angle u)) bytes h.no_angle)
+
+-- ---- what a descriptor's answer holds
+
+pub ok_value : {X : Type 0} (r : Result X NameFault) → is_ok r ≡ true → (x : X) × (r ≡ Ok x)
+ok_value (Ok x) e = (x, refl)
+ok_value (Err e) h = absurd (false≢true h)
+
+pub void_value : (r : Result MethodDescriptor NameFault) → has_no_result r ≡ true → (m : MethodDescriptor) × (r ≡ Ok m) × (m.result ≡ None)
+void_value (Ok m) e = (m, refl, none m.result e)
+  where
+    none : (o : Option FieldDescriptor) → is_none o ≡ true → o ≡ None
+    none None e = refl
+    none (Some t) e = absurd (false≢true e)
+void_value (Err e) h = absurd (false≢true h)

@@ -1,6 +1,7 @@
 pub mod AttributeForm
 pub mod ClassFile
 pub mod ClassForm
+pub mod CodeMethods
 pub mod Conditions
 pub mod ConstantForm
 pub mod Encoding
@@ -10,6 +11,7 @@ pub mod Indices
 pub mod Laws
 pub mod Locations
 pub mod MemberForm
+pub mod MethodParts
 pub mod Methods
 pub mod Naming
 pub mod Pieces

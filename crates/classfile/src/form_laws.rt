@@ -1,6 +1,11 @@
 //! What follows of the definition of well-formed classes alone, whatever the code does.
 ghost use Rattle.classfile.specs.FormLaws.{LeastIsTold, NoneIsTold, OneFirstFault, NoFaultInFormed, FormedHasNames, NamesAreForms, DescriptorsAreSpellings};
+ghost use Rattle.std.specs.Prelude.{◌≡◌, ℕ, List, Some};
+ghost use Rattle.classfile.specs.Methods.{method_of};
+ghost use Rattle.classfile.specs.CodeMethods.{code_method_view};
+ghost use Rattle.classfile.specs.Views.{class_view};
 
+use crate::code_method::CodeMethod;
 use names::{field_answers, method_answers};
 
 /// Of a place that rule is told which has the least number of those that are broken there.
@@ -31,4 +36,9 @@ pub fn tests_are_forms()
 /// A class that is well formed has the texts that it names itself, its superclass and its members by.
 pub fn formed_has_names()
     ensures { FormedHasNames }
+{}
+
+/// What the class file says of a method is what is kept of it, whatever its code says: `A` is what is known of an instruction.
+pub fn method_is_told<A>(method: CodeMethod<'_, '_>)
+    ensures { (code : List (ℕ × A)) → method_of (class_view method.entry.class.now) method.entry.number code ≡ Some (code_method_view method.entry code) }
 {}

@@ -138,6 +138,28 @@ fn with_a_second_f(alloc: Global) -> Result<ClassFile<'static>, AllocError> {
     Ok(class)
 }
 
+/// The method of this number, if there is one, and it has code.
+fn method<'c, 'a>(formed: Formed<'c, 'a>, number: usize) -> Option<CodeMethod<'c, 'a>> {
+    if number < formed.class().methods.len() {
+        formed.method(number)
+    } else {
+        None
+    }
+}
+
+#[test]
+fn methods_with_code(rt: HostRuntime) -> Result<(), Fail> {
+    let mut class = decode(rt.alloc(), &K)?;
+    class.methods.push(native(rt.alloc(), 2, 6))?;
+    let formed = form_check(rt.alloc(), &class).expect(&rt, "a class that is well formed");
+    let first = method(formed, 0).expect(&rt, "a method with code");
+    assert_eq!(rt; first.code.code.len(), 1);
+    assert!(rt; first.is_static && !first.is_init && first.result_type.is_none());
+    method_is_told::<u8>(first);
+    assert!(rt; method(formed, 1).is_none());
+    Ok(())
+}
+
 /// Whether it is the third method of the class that stands twice.
 fn is_told_twice(fault: FormFault) -> bool {
     fault.number() == 25 && fault.place() == Some(Place::Method(2))

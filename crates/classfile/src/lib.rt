@@ -13,6 +13,7 @@
 //! | `member` | [`Member`], a field or a method |
 //! | `attribute` | [`Attribute`] of a class, field or method |
 //! | `code` | [`CodeAttr`] and its [`ExceptionHandler`]s |
+//! | `code_method` | [`CodeMethod`], a method of a well-formed class as its instructions see it |
 //! | `nested` | [`NestedAttribute`], an attribute of a Code attribute |
 //! | `location` | [`Location`], where an attribute stands, and which are read by field there |
 //! | `table` | a count and so many items, for all tables of a class file |
@@ -31,6 +32,7 @@ mod attribute_form;
 mod class_file;
 mod class_form;
 mod code;
+mod code_method;
 mod constant_form;
 mod decoding;
 mod encoding;
@@ -51,12 +53,14 @@ mod table;
 pub use attribute::Attribute;
 pub use class_file::ClassFile;
 pub use code::{CodeAttr, ExceptionHandler};
+pub use code_method::CodeMethod;
 pub use decoding::decode;
 pub use encoding::encode;
 pub use form::{Formed, form_check};
 pub use form_fault::{FormFault, FormRule, Place};
 pub use form_laws::{
-    formed_has_names, least_rule_is_told, no_fault_in_formed, one_first_fault, tests_are_forms,
+    formed_has_names, least_rule_is_told, method_is_told, no_fault_in_formed, one_first_fault,
+    tests_are_forms,
 };
 pub use laws::{class_or_fault, no_fault_in_class, one_class, one_fault, one_spelling};
 pub use location::Location;

@@ -119,7 +119,8 @@ fn is_badly_described(
 }
 
 #[tactic(auto, unfolding(crate::specs::MemberForm::is_instance_initializer))]
-fn is_instance_initializer(pool: &Pool<'_>, method: &Member<'_>) -> bool
+/// Whether the method is an instance initialization method (JVMS 2.9.1).
+pub fn is_instance_initializer(pool: &Pool<'_>, method: &Member<'_>) -> bool
     ensures { result ≡ is_instance_initializer pool.now (member_view method.now) }
 {
     match pool.text(method.name) {

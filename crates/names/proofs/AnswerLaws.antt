@@ -31,7 +31,7 @@ all_shallow (t ∷ types) h =
 pub shallow : (m : MethodDescriptor) → list_any is_deep (field_types m) ≡ false → AreWithinDimensions m
 shallow m h = All-from_recursion IsWithinDimensions (field_types m) (all_shallow (field_types m) h)
 
-not_deep : (m : MethodDescriptor) → AreWithinDimensions m → list_any is_deep (field_types m) ≡ false
+pub not_deep : (m : MethodDescriptor) → AreWithinDimensions m → list_any is_deep (field_types m) ≡ false
 not_deep m h = list_any_none is_deep (field_types m) (λ k d lt. le-ltb 255 (dimensions (get_or (field_types m) k d)) (h k d lt))
 
 deep_type : (types : List FieldDescriptor) → list_any is_deep types ≡ true → Any (λ t. 255 < dimensions t) types

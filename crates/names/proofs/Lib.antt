@@ -10,3 +10,4 @@ pub mod Written
 pub mod Steps
 pub mod Judged
 pub mod Kept
+pub mod Returned

@@ -1,4 +1,5 @@
 pub mod Answers
+pub mod DescriptorCodes
 pub mod Descriptors
 pub mod Faults
 pub mod Names

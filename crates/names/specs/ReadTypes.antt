@@ -49,6 +49,16 @@ pub record FailsMethod (bytes : List ℕ) (e : NameFault) : Type 0 where
   pub reads : read_method bytes ≡ outside stop
   pub is : e ≡ BadDescriptor (length bytes - length stop)
 
+-- parameters stand at the front of the bytes, of which none is kept
+pub record PassesParams (bytes rest : List ℕ) : Type 0 where
+  pub types : List FieldDescriptor
+  pub reads : read_params (length bytes) bytes ≡ found types rest
+
+-- a method's descriptor stands there, of which the result is kept
+pub record PassesMethod (bytes : List ℕ) (result : Option FieldRead) (rest : List ℕ) : Type 0 where
+  pub types : List FieldDescriptor
+  pub reads : read_method bytes ≡ found (method_type types (option_map type_read result)) rest
+
 -- what the limits leave of a method's types
 abbrev pub IsLimited : Bool → MethodDescriptor → Result MethodType NameFault → Type 0
 IsLimited receiver m r = MatchResult r (λ v. limited_method receiver (Ok m) ≡ Ok (method_of v)) (λ e. limited_method receiver (Ok m) ≡ Err e)

@@ -122,3 +122,16 @@ field_answer bytes = limited_field (whole bytes (read_field bytes))
 -- the types that a method's descriptor names, or its refusal
 unfoldable pub method_answer : Bool → List ℕ → Result MethodDescriptor NameFault
 method_answer receiver bytes = limited_method receiver (whole bytes (read_method bytes))
+
+-- a type of too many dimensions is none
+abbrev pub within_dimensions : Option FieldDescriptor → Option FieldDescriptor
+within_dimensions None = None
+within_dimensions (Some t) = if is_deep t then None else Some t
+
+abbrev pub result_in : Result MethodDescriptor NameFault → Option FieldDescriptor
+result_in (Err e) = None
+result_in (Ok m) = within_dimensions m.result
+
+-- the result that a method's descriptor names, whatever its parameters
+unfoldable pub result_answer : List ℕ → Option FieldDescriptor
+result_answer bytes = result_in (whole bytes (read_method bytes))

@@ -26,6 +26,7 @@ pub use fault::NameFault;
 pub use name::{is_class_name, is_field_name, is_method_name, names_by_units};
 pub use reading::{
     field_answers, field_type, method_answers, method_type, one_field_type, one_method_type,
+    result_type,
 };
 pub use text::{Text, check_text, one_unit_list, spell, text_answers, units};
 

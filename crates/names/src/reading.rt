@@ -1,14 +1,14 @@
 //! Reading descriptors: from the front of a text byte by byte, and then whether the text ends there and
 //! the limits hold.
 
-ghost use Rattle.std.specs.Prelude.{◌≡◌, ◌⊎◌, ◌↔◌, Bool, Ok, Err, ◌≤◌, ◌<◌, ◌-◌, ℕ, true, false, List, ◌∷◌, ◌++◌, [], drop, length, vec_len, ◌==◌, MatchResult, IfOk, OnOk, IfErr, IsErrAnd, IsOkAnd};
+ghost use Rattle.std.specs.Prelude.{◌≡◌, ◌⊎◌, ◌↔◌, Bool, Ok, Err, Some, ◌≤◌, ◌<◌, ◌-◌, ℕ, true, false, List, ◌∷◌, ◌++◌, [], drop, length, vec_len, ◌==◌, MatchResult, IfOk, OnOk, IfErr, IfSome, IsErrAnd, IsOkAnd};
 ghost use Rattle.std.specs.List.{prefix_len};
 ghost use Rattle.names.specs.Descriptors.{FieldDescriptor, MethodDescriptor, SpellsField, SpellsMethod, base_of, dimensions, method_width, AreWithinDimensions};
 ghost use Rattle.names.specs.Names.{bracket};
 ghost use Rattle.names.specs.Faults.{IsFieldFault, IsMethodFault};
-ghost use Rattle.names.specs.Reading.{found, outside, read_class, primitive_of, read_base, read_field, read_params, read_result, method_type, field_answer, method_answer};
+ghost use Rattle.names.specs.Reading.{found, outside, read_class, primitive_of, read_base, read_field, read_params, read_result, method_type, field_answer, method_answer, read_method, result_answer};
 ghost use Rattle.std.specs.Option.{option_map};
-ghost use Rattle.names.specs.ReadTypes.{type_read, KeepsTypes, ReadsParams, FailsParams, ReadsMethod, FailsMethod, IsLimited, IsFitting};
+ghost use Rattle.names.specs.ReadTypes.{type_read, KeepsTypes, ReadsParams, FailsParams, ReadsMethod, FailsMethod, PassesParams, PassesMethod, IsLimited, IsFitting};
 ghost use Rattle.names.specs.Types.{type_of, method_of};
 ghost use Rattle.names.specs.Answers.{IsFieldAnswer, IsMethodAnswer};
 ghost use Rattle.names.specs.declared.fault.NameFault.{NameFault};
@@ -353,6 +353,71 @@ pub fn method_type(
     ensures computed { IsMethodAnswer receiver text.entry.bytes.now result }
 {
     judge_method(alloc, text.bytes(), receiver)
+}
+
+/// Field types up to a `)`, of which none is kept, and what stands behind that.
+fn behind_params(bytes: &[u8]) -> Result<&[u8], Outside<'_>>
+    ensures { MatchResult result (λ rest. PassesParams bytes.now rest.now) (λ e. read_params (length bytes.now) bytes.now ≡ outside e.rest.now) }
+{
+    let mut rest = bytes;
+    'types: loop {
+        if is_first(rest, b')') {
+            let (_, after) = rest.split_at(1);
+            return Ok(after);
+        }
+        match read_field(rest) {
+            Ok((_, after)) => rest = after,
+            Err(stop) => return Err(stop),
+        }
+    }
+}
+
+/// The result behind parameters of which none is kept, and what stands behind it.
+fn read_returned(bytes: &[u8]) -> Result<(Option<FieldRead<'_>>, &[u8]), Outside<'_>>
+    ensures { MatchResult result (λ x. PassesMethod bytes.now x.0 x.1.now) (λ e. read_method bytes.now ≡ outside e.rest.now) }
+{
+    if !is_first(bytes, b'(') {
+        return Err(Outside { rest: bytes });
+    }
+    let (_, inside) = bytes.split_at(1);
+    match behind_params(inside) {
+        Ok(rest) => read_result(rest),
+        Err(stop) => Err(stop),
+    }
+}
+
+fn judge_result(bytes: &[u8]) -> Option<FieldType<'_>>
+    ensures { option_map type_of result ≡ result_answer bytes.now }
+{
+    match read_returned(bytes) {
+        Err(_) => None,
+        Ok((returned, over)) => {
+            if !over.is_empty() {
+                return None;
+            }
+            match returned {
+                None => None,
+                Some(field) => field.limited().ok(),
+            }
+        }
+    }
+}
+
+/// The type of the result that a method descriptor names, `None` standing for `V` (JVMS 4.3.3). Takes no memory.
+///
+/// `None` stands as well for a text that is no method descriptor, and for a result of more than 255 dimensions:
+/// [`method_type`] tells these apart.
+pub fn result_type(text: Text<'_>) -> Option<FieldType<'_>>
+    // Of a text that is a descriptor, the result.
+    ensures named { (m : MethodDescriptor) → SpellsMethod text.entry.bytes.now m → AreWithinDimensions m → option_map type_of result ≡ m.result }
+
+    // A type only where the text is a descriptor with this result.
+    ensures only { IfSome result (λ t. (m : MethodDescriptor) × SpellsMethod text.entry.bytes.now m × (m.result ≡ Some (type_of t))) }
+
+    // The same in words that compute, with or without a receiver.
+    ensures computed { (receiver : Bool) (m : MethodDescriptor) → method_answer receiver text.entry.bytes.now ≡ Ok m → option_map type_of result ≡ m.result }
+{
+    judge_result(text.bytes())
 }
 
 /// A text spells at most one type.

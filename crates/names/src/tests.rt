@@ -61,6 +61,17 @@ fn a_method_both_ways(rt: HostRuntime) -> Result<(), Fail> {
     Ok(())
 }
 
+#[test]
+fn results(rt: HostRuntime) -> Result<(), Fail> {
+    let text = check_text(b"(I[La(b)c;J)[[Ld)e;")?;
+    let returned = result_type(text);
+    let base = Base::Class(b"d)e");
+    assert_eq!(rt; returned, Some(FieldType { dims: 2, base }));
+    assert_eq!(rt; result_type(check_text(b"([I)V")?), None);
+    assert_eq!(rt; result_type(check_text(b"()II")?), None);
+    Ok(())
+}
+
 /// `(`, so many times `I`, and `)V`.
 fn ints(alloc: Global, count: usize) -> Result<Vec<u8>, Fail> {
     let mut bytes = Vec::new(alloc);

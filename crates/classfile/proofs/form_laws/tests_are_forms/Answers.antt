@@ -1,13 +1,10 @@
-use Rattle.std.proofs.Common.{◌≡◌, ◌↔◌, IsTrue, ℕ, List, Option, Some, None, Result, Ok, Err, Bool, true, refl, ap, ◌∙◌}
-use Rattle.std.proofs.lemmas.Bool.{false≢true}
+use Rattle.std.proofs.Common.{◌↔◌, IsTrue, ℕ, List, Bool, ap, ◌∙◌}
 use Rattle.std.specs.Option.{is_none}
 use Rattle.std.specs.Result.{is_ok}
-use Rattle.names.specs.declared.fault.NameFault.{NameFault}
-use Rattle.names.specs.Descriptors.{FieldDescriptor, MethodDescriptor}
 use Rattle.names.specs.Reading.{field_answer, method_answer}
 use Rattle.classfile.specs.Naming.{is_field_descriptor, is_method_descriptor, is_void_descriptor, has_no_result}
 use Rattle.classfile.specs.FormLaws.{SpellsSomeField, SpellsSomeMethod, SpellsSomeVoidMethod}
-use Rattle.classfile.proofs.NamingLaws.{class_name_is, is_class_name_so, unqualified_is, is_unqualified_so, method_name_is, is_method_name_so}
+use Rattle.classfile.proofs.NamingLaws.{class_name_is, is_class_name_so, unqualified_is, is_unqualified_so, method_name_is, is_method_name_so, ok_value, void_value}
 use Rattle.classfile.proofs.form_laws.tests_are_forms.Goals as goal
 
 pub returns-clause-names : goal.returns-clause-names
@@ -16,18 +13,6 @@ returns-clause-names c = record {
   unqualified_name = λ bytes. (unqualified_is bytes, is_unqualified_so bytes);
   method_name = λ bytes. (method_name_is bytes, is_method_name_so bytes);
 }
-
-ok_value : {X : Type 0} (r : Result X NameFault) → is_ok r ≡ true → (x : X) × (r ≡ Ok x)
-ok_value (Ok x) e = (x, refl)
-ok_value (Err e) h = absurd (false≢true h)
-
-void_value : (r : Result MethodDescriptor NameFault) → has_no_result r ≡ true → (m : MethodDescriptor) × (r ≡ Ok m) × (m.result ≡ None)
-void_value (Ok m) e = (m, refl, none m.result e)
-  where
-    none : (o : Option FieldDescriptor) → is_none o ≡ true → o ≡ None
-    none None e = refl
-    none (Some t) e = absurd (false≢true e)
-void_value (Err e) h = absurd (false≢true h)
 
 pub returns-clause-descriptors : goal.returns-clause-descriptors
 returns-clause-descriptors c = record { field = fields; method = methods; void = voids }

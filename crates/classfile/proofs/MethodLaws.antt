@@ -1,0 +1,139 @@
+-- A method of a well-formed class by its parts, whatever its code says.
+use Rattle.std.proofs.Common.{◌≡◌, ◌<◌, ◌+◌, ℕ, suc, Bool, not, List, [], ◌∷◌, length, drop, drop-cons, add-one, Option, Some, None, Result, refl, sym, ap, ◌∙◌}
+use Rattle.std.specs.Prelude.{slice_get}
+use Rattle.std.specs.Option.{option_map, option_and_then}
+use Rattle.std.specs.Str.{bytes_eq}
+use Rattle.std.proofs.lemmas.Option.{slice_get_within, get_or_from_slice_get}
+use Rattle.names.specs.declared.fault.NameFault.{NameFault}
+use Rattle.names.specs.Descriptors.{FieldDescriptor, MethodDescriptor}
+use Rattle.names.specs.StandardNames.{init_name}
+use Rattle.names.specs.Reading.{method_answer}
+use Rattle.pool.specs.declared.fault.PoolFault.{PoolFault}
+use Rattle.pool.specs.Lookups.{text_at}
+use Rattle.pool.specs.Members.{found, class_at}
+use Rattle.classfile.specs.Values.{CodeBody, Attribute, Member, Class}
+use Rattle.classfile.specs.Methods.{Method, ExceptionEntry, code_of, class_named, superclass_of, declared_fields, exception_entries, stack_map_of, has_static_flag, member_type, method_with, method_from, method_of}
+use Rattle.classfile.specs.MethodParts.{or_empty, params_in, params_at, method_by_parts, IsMethod}
+use Rattle.classfile.specs.Flags.{has, STATIC}
+use Rattle.classfile.specs.Indices.{on_found}
+use Rattle.classfile.specs.Naming.{is_init as is_init_name}
+use Rattle.classfile.specs.MemberForm.{is_instance_initializer}
+use Rattle.classfile.specs.WellFormed.{WellFormed}
+use Rattle.classfile.proofs.FormedMethods.{NamesMethod, formed_method}
+
+-- ---- what the code says is only handed on
+
+abbrev with_code : {A B : Type 0} → List (ℕ × B) → Method A → Method B
+with_code code m = record {
+  code = code;
+  code_length = m.code_length;
+  max_stack = m.max_stack;
+  max_locals = m.max_locals;
+  exceptions = m.exceptions;
+  stack_map = m.stack_map;
+  constant_pool = m.constant_pool;
+  major_version = m.major_version;
+  class = m.class;
+  superclass = m.superclass;
+  fields = m.fields;
+  is_static = m.is_static;
+  is_init = m.is_init;
+  type = m.type;
+}
+
+handed_with : {A B : Type 0} (c : Class) (m : Member) (body : CodeBody) (class name : Option (List ℕ)) (type : Option MethodDescriptor) (entries : Option (List ExceptionEntry)) (a : List (ℕ × A)) (b : List (ℕ × B))
+    → method_with c m b body class name type entries ≡ option_map (with_code b) (method_with c m a body class name type entries)
+handed_with c m body (Some class) (Some name) (Some type) (Some entries) a b = refl
+handed_with c m body _ _ _ _ a b = refl
+
+handed_on : {A B : Type 0} (c : Class) (number : ℕ) (a : List (ℕ × A)) (b : List (ℕ × B)) → method_of c number b ≡ option_map (with_code b) (method_of c number a)
+handed_on c number a b = by_member (slice_get c.methods number)
+  where
+    by_body : (m : Member) (body : Option CodeBody) →
+        option_and_then (λ body. method_with c m b body (class_named (class_at c.constant_pool c.this_class)) (found (text_at c.constant_pool m.name)) (member_type c.constant_pool m) (exception_entries c.constant_pool body.exception_table)) body
+        ≡ option_map (with_code b) (option_and_then (λ body. method_with c m a body (class_named (class_at c.constant_pool c.this_class)) (found (text_at c.constant_pool m.name)) (member_type c.constant_pool m) (exception_entries c.constant_pool body.exception_table)) body)
+    by_body m None = refl
+    by_body m (Some body) =
+        handed_with c m body (class_named (class_at c.constant_pool c.this_class)) (found (text_at c.constant_pool m.name)) (member_type c.constant_pool m) (exception_entries c.constant_pool body.exception_table) a b
+
+    by_member : (m : Option Member) → option_and_then (method_from c b) m ≡ option_map (with_code b) (option_and_then (method_from c a) m)
+    by_member None = refl
+    by_member (Some m) = by_body m (code_of m.attributes)
+
+-- the method of this number has the parts, with any code
+pub method_says : {A : Type 0} (c : Class) (number : ℕ) (body : CodeBody) (is_static is_init : Bool) (result : Option FieldDescriptor) → IsMethod c number body is_static is_init result
+    → (code : List (ℕ × A)) → method_of c number code ≡ Some (method_by_parts c number body is_static is_init result code)
+method_says {A} c number body is_static is_init result is code = handed_on {A = ℕ} {B = A} c number [] code ∙ ap (option_map (with_code code)) is
+
+-- ---- the parts of a method of a well-formed class
+
+abbrev assembled : Class → CodeBody → List ℕ → List ExceptionEntry → Bool → Bool → MethodDescriptor → Method ℕ
+assembled c body class entries is_static is_init type = record {
+  code = [];
+  code_length = length body.code;
+  max_stack = body.max_stack;
+  max_locals = body.max_locals;
+  exceptions = entries;
+  stack_map = stack_map_of body.attributes;
+  constant_pool = c.constant_pool;
+  major_version = c.major_version;
+  class = class;
+  superclass = superclass_of c.constant_pool c.super_class;
+  fields = declared_fields c.constant_pool c.fields;
+  is_static = is_static;
+  is_init = is_init;
+  type = type;
+}
+
+looked_up : (c : Class) (number : ℕ) (m : Member) (body : CodeBody) → slice_get c.methods number ≡ Some m → code_of m.attributes ≡ Some body → (x : NamesMethod c m body)
+    → method_of {A = ℕ} c number [] ≡ Some (assembled c body x.class x.entries (has_static_flag m.access_flags) (bytes_eq x.name init_name) x.type)
+looked_up c number m body here coded x =
+    let pool = c.constant_pool in
+    let type : member_type pool m ≡ Some x.type =
+    ap (λ (r : Result (List ℕ) PoolFault). option_and_then (λ text. found (method_answer (not (has_static_flag m.access_flags)) text)) (found r)) x.descriptor_is
+    ∙ ap (λ (r : Result MethodDescriptor NameFault). found r) x.type_is in
+    ap (option_and_then (method_from c [])) here
+    ∙ ap (λ (o : Option CodeBody). option_and_then (λ body. method_with {A = ℕ} c m [] body (class_named (class_at pool c.this_class)) (found (text_at pool m.name)) (member_type pool m) (exception_entries pool body.exception_table)) o) coded
+    ∙ ap (λ (o : Option (List ℕ)). method_with {A = ℕ} c m [] body o (found (text_at pool m.name)) (member_type pool m) (exception_entries pool body.exception_table)) x.class_is
+    ∙ ap (λ (r : Result (List ℕ) PoolFault). method_with {A = ℕ} c m [] body (Some x.class) (found r) (member_type pool m) (exception_entries pool body.exception_table)) x.name_is
+    ∙ ap (λ (o : Option MethodDescriptor). method_with {A = ℕ} c m [] body (Some x.class) (Some x.name) o (exception_entries pool body.exception_table)) type
+    ∙ ap (λ (o : Option (List ExceptionEntry)). method_with {A = ℕ} c m [] body (Some x.class) (Some x.name) (Some x.type) o) x.entries_are
+
+params_are : (c : Class) (number : ℕ) (m : Member) (body : CodeBody) → slice_get c.methods number ≡ Some m → (x : NamesMethod c m body) → params_at c number ≡ x.type.params
+params_are c number m body here x =
+    ap (λ (o : Option Member). params_in (option_and_then (member_type c.constant_pool) o)) here
+    ∙ ap (λ (r : Result (List ℕ) PoolFault). params_in (option_and_then (λ text. found (method_answer (not (has_static_flag m.access_flags)) text)) (found r))) x.descriptor_is
+    ∙ ap (λ (r : Result MethodDescriptor NameFault). params_in (found r)) x.type_is
+
+is_method : (c : Class) (number : ℕ) (m : Member) (body : CodeBody) (is_static is_init : Bool) (result : Option FieldDescriptor) → slice_get c.methods number ≡ Some m → code_of m.attributes ≡ Some body
+    → (x : NamesMethod c m body) → is_static ≡ has_static_flag m.access_flags → is_init ≡ bytes_eq x.name init_name → result ≡ x.type.result → IsMethod c number body is_static is_init result
+is_method c number m body is_static is_init result here coded x static init type =
+    let class : x.class ≡ or_empty (class_named (class_at c.constant_pool c.this_class)) = ap or_empty (sym x.class_is) in
+    let entries : x.entries ≡ or_empty (exception_entries c.constant_pool body.exception_table) = ap or_empty (sym x.entries_are) in
+    let params : x.type.params ≡ params_at c number = sym (params_are c number m body here x) in
+    looked_up c number m body here coded x
+    ∙ (λ i. Some (assembled c body (class i) (entries i) (sym static i) (sym init i) (record { params = params i; result = sym type i })))
+
+-- the method of this number, by what was read of it
+pub method_there : (c : Class) → WellFormed c → (number : ℕ) (m : Member) (body : CodeBody) (is_static is_init : Bool) (result : Option FieldDescriptor) → slice_get c.methods number ≡ Some m → code_of m.attributes ≡ Some body
+    → is_static ≡ has m.access_flags STATIC → is_init ≡ is_instance_initializer c.constant_pool m
+    → ((receiver : Bool) (t : MethodDescriptor) → option_and_then (λ text. found (method_answer receiver text)) (found (text_at c.constant_pool m.descriptor)) ≡ Some t → result ≡ t.result)
+    → IsMethod c number body is_static is_init result
+unfolding has is_instance_initializer
+method_there c formed number m body is_static is_init result here coded static init answers =
+    let x = formed_method c formed number m body here coded in
+    let receiver = not (has_static_flag m.access_flags) in
+    let type : option_and_then (λ text. found (method_answer receiver text)) (found (text_at c.constant_pool m.descriptor)) ≡ Some x.type =
+    ap (λ (r : Result (List ℕ) PoolFault). option_and_then (λ text. found (method_answer receiver text)) (found r)) x.descriptor_is
+    ∙ ap (λ (r : Result MethodDescriptor NameFault). found r) x.type_is in
+    is_method c number m body is_static is_init result here coded x static (init ∙ ap (on_found is_init_name) x.name_is) (answers receiver x.type type)
+
+-- ---- the Code attribute among the others
+
+-- from one attribute on, which is the next
+pub code_from : (attributes : List Attribute) (i : ℕ) (a : Attribute) → slice_get attributes i ≡ Some a → code_of (drop i attributes) ≡ code_of (a ∷ drop (i + 1) attributes)
+code_from attributes i a here =
+    let lt : i < length attributes = slice_get_within attributes i a here in
+    ap code_of (drop-cons attributes i a lt)
+    ∙ ap (λ (x : Attribute). code_of (x ∷ drop (suc i) attributes)) (get_or_from_slice_get attributes i a a here)
+    ∙ ap (λ (k : ℕ). code_of (a ∷ drop k attributes)) (sym (add-one i))
