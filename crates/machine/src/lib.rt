@@ -18,6 +18,7 @@ mod going;
 mod heaps;
 mod items;
 pub mod laws;
+mod making;
 mod objects;
 mod operands;
 mod raising;
