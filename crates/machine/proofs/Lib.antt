@@ -11,3 +11,4 @@ mod Deciding
 mod Writes
 mod Raised
 mod Chosen
+mod Entries

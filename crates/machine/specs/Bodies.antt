@@ -1,11 +1,12 @@
 -- The method that runs, as the program keeps it.
-use Rattle.std.specs.Prelude.{ℕ, List, [], map, length, slice_get, Option, Some, None, option_map}
+use Rattle.std.specs.Prelude.{◌≡◌, ℕ, List, [], map, length, slice_get, Option, Some, None, option_map}
 use Rattle.std.specs.Option.{option_and_then}
 use Rattle.names.specs.Descriptors.{FieldDescriptor, MethodDescriptor}
 use Rattle.names.specs.Types.{type_of}
 use Rattle.pool.specs.Members.{class_at}
-use Rattle.classfile.specs.Values.{Class}
-use Rattle.classfile.specs.Methods.{Method, ExceptionEntry, stack_map_of, class_named, superclass_of, declared_fields, member_type}
+use Rattle.pool.specs.Entries.{Entry}
+use Rattle.classfile.specs.Values.{Handler, Class}
+use Rattle.classfile.specs.Methods.{Method, ExceptionEntry, stack_map_of, class_named, superclass_of, declared_fields, member_type, caught_type}
 use Rattle.classfile.specs.Views.{class_view, code_view}
 use Rattle.insn.specs.declared.instruction.Insn as insns
 use Rattle.insn.specs.Meanings.{Act}
@@ -18,6 +19,11 @@ use Rattle.machine.specs.Views.{run_type_view}
 
 abbrev pub entry_view : RawEntry → ExceptionEntry
 entry_view e = record { from = e.from; to = e.to; handler = e.handler; caught = run_type_view e.caught }
+
+-- the entry of the exception table that an item of it is
+pub record IsEntry (pool : List Entry) (h : Handler) (e : ExceptionEntry) : Type 0 where
+  pub caught : caught_type pool h.catch_type ≡ Some e.caught
+  pub is : e ≡ record { from = h.start_pc; to = h.end_pc; handler = h.handler_pc; caught = e.caught }
 
 -- the instructions that are supported; the others count as Unsupported
 abbrev pub code_of : List (ℕ × insns.Insn) → List (ℕ × Act)
