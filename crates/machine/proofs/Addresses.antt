@@ -1,6 +1,6 @@
 -- Objects by their addresses.
-use Rattle.std.specs.Prelude.{◌↔◌, cond, IfSome, All}
-use Rattle.std.proofs.Common.{◌≡◌, ℕ, ◌+◌, ◌-◌, ◌<◌, ◌≤◌, ◌^◌, zero, suc, nat_eq, List, [], ◌∷◌, length, get_or, drop, Bool, true, false, Option, Some, None, option_map, refl, sym, ◌∙◌, ap, subst, arith, if◌then◌else◌}
+use Rattle.std.specs.Prelude.{cond, IfSome, All}
+use Rattle.std.proofs.Common.{◌≡◌, ℕ, ◌+◌, ◌-◌, ◌<◌, zero, suc, nat_eq, List, ◌∷◌, length, get_or, drop, Bool, true, false, Option, Some, None, option_map, refl, sym, ◌∙◌, ap, subst, arith, if◌then◌else◌}
 use Rattle.std.specs.Option.{is_some}
 use Rattle.std.specs.BTreeMap.{BTreeMap, get, is_at, values, IsOrdered}
 use Rattle.std.specs.Cmp.{eq_by_cmp_equiv}
@@ -14,11 +14,10 @@ use Rattle.std.proofs.lemmas.Bool.Decides.{nat_tests}
 use Rattle.names.specs.declared.base.Base.{Base}
 use Rattle.names.specs.declared.base.Base.TheVariants as bases
 use Rattle.names.specs.Descriptors.{dimensions, dimensioned, base_of}
-use Rattle.names.specs.ReferenceTypes.{ReferenceType, dimensions_of}
+use Rattle.names.specs.ReferenceTypes.{ReferenceType}
 use Rattle.machine.specs.declared.objects.RunType.{RunType}
 use Rattle.machine.specs.declared.objects.RunType.TheVariants as types
 use Rattle.machine.specs.declared.objects.Object.{Object as RawObject}
-use Rattle.machine.specs.declared.objects.Status.TheVariants as statuses
 use Rattle.machine.specs.Heap.{Status, ready, made, this, Object, object, Heap, IsAddress, IsRunTimeType, IsFresh, with_fresh, with_object, HasNoThis}
 use Rattle.machine.specs.Decided.{is_own, is_this}
 use Rattle.machine.specs.Views.{heap_view, object_view, run_type_view, fresh_view}

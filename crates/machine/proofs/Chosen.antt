@@ -1,6 +1,6 @@
 -- What comes of a choice is what the calls answer that go on and that raise.
-use Rattle.std.specs.Prelude.{pos, nat_le, nat_eq, ◌&&◌}
-use Rattle.std.proofs.Common.{◌≡◌, ℕ, ◌+◌, ◌<◌, ◌≤◌, Bool, true, false, List, [], ◌∷◌, ◌++◌, length, drop, slice_get, Option, Some, None, Result, Ok, Err, refl, sym, ap, ◌∙◌, subst, arith, inl, inr}
+use Rattle.std.specs.Prelude.{pos, nat_le, nat_eq}
+use Rattle.std.proofs.Common.{◌≡◌, ℕ, ◌+◌, true, false, List, [], ◌∷◌, ◌++◌, length, drop, slice_get, Option, Some, None, Result, Ok, Err, refl, sym, ap, ◌∙◌, subst, arith, inl, inr}
 use Rattle.std.proofs.lemmas.Bool.{false≢true}
 use Rattle.std.proofs.lemmas.Bool.Decides.{nat_tests}
 use Rattle.names.specs.ReferenceTypes.{ReferenceType}
@@ -16,18 +16,18 @@ use Rattle.machine.specs.declared.choosing.Outcome.{Outcome as RawOutcome}
 use Rattle.machine.specs.declared.choosing.Outcome.TheVariants as outcomes
 use Rattle.machine.specs.declared.choosing.StepFault.{StepFault}
 use Rattle.machine.specs.declared.choosing.StepFault.TheVariants.{OutOfMemory, NotAChoice}
-use Rattle.machine.specs.Values.{Value, number, Slot, holds, kind_units, stored}
-use Rattle.machine.specs.Heap.{Heap, IsFresh, with_fresh}
-use Rattle.machine.specs.Tasks.{Task, falls, targets, task}
+use Rattle.machine.specs.Values.{Value, number, Slot, kind_units, stored}
+use Rattle.machine.specs.Heap.{Heap, with_fresh}
+use Rattle.machine.specs.Tasks.{falls, targets, task}
 use Rattle.machine.specs.Demands.{State, IsNoFault}
-use Rattle.machine.specs.Steps.{Choice, go, raise, Outcome, goes_on, ended, Replies, Does, IsBranch, GoesTo, Steps, IsLast, Ends as EndsBy, IsRaised, IsCaught, Happens}
+use Rattle.machine.specs.Steps.{go, raise, Outcome, goes_on, ended, Replies, Does, IsBranch, Steps, IsLast, Ends as EndsBy, Happens}
 use Rattle.machine.specs.Decided.{has_kinds, is_number, form_for, paired_behind}
 use Rattle.machine.specs.Deeds.{reply_view, task_view, given, held, rearranged_by}
 use Rattle.machine.specs.Demanded.{has_operands, Meets}
-use Rattle.machine.specs.Happening.{HasPlace, is_last, state_after, locals_after, IsAsked, GoesOn, Stays, Goes, CaughtBy, Raises, Stepped}
+use Rattle.machine.specs.Happening.{HasPlace, is_last, state_after, IsAsked, GoesOn, Stays, Goes, Raises, Stepped}
 use Rattle.machine.specs.Views.{state_view}
 use Rattle.machine.proofs.Faults.{split, some_is, form_chosen, number_is, held_number, kinds_beneath, no_targets}
-use Rattle.machine.proofs.Deciding.{no_fault, meets}
+use Rattle.machine.proofs.Deciding.{no_fault}
 
 pub nowhere : (world : World) (m : Method Act) (s : State) → at_offset m.code s.at ≡ None → IsNoFault world m s → ⊥
 nowhere world m s e n = cc (e, n.here)

@@ -1,6 +1,6 @@
 -- A state meets the tests exactly where it is no fault.
-use Rattle.std.specs.Prelude.{not, nat_lt, nat_eq, ◌&&◌, ◌||◌}
-use Rattle.std.proofs.Common.{◌≡◌, ℕ, ℤ, ◌+◌, ◌<◌, ◌≤◌, Bool, true, false, List, [], ◌∷◌, length, Option, Some, None, if◌then◌else◌, refl, sym, ap, ◌∙◌, subst, arith, inl, inr}
+use Rattle.std.specs.Prelude.{not, nat_lt, nat_eq, ◌||◌}
+use Rattle.std.proofs.Common.{◌≡◌, ℕ, ℤ, ◌≤◌, Bool, true, false, List, [], ◌∷◌, length, Option, Some, if◌then◌else◌, refl, sym, ap, ◌∙◌, subst, arith, inl, inr}
 use Rattle.std.specs.Option.{is_some}
 use Rattle.std.proofs.lemmas.Bool.Decides.{nat_tests}
 use Rattle.hierarchy.specs.World.{World}
@@ -10,10 +10,10 @@ use Rattle.insn.specs.Offsets.{at_offset, IsStart, has_offset, first_offset, nex
 use Rattle.machine.specs.declared.deed.Deed.{Deed}
 use Rattle.machine.specs.Values.{depth_of}
 use Rattle.machine.specs.Tasks.{needs_of, falls, targets, task}
-use Rattle.machine.specs.Demands.{State, AllMeet, MeetsRest, HasRoom, AllUsable, EndsReady, LeadsToStart, HasOperands, IsWithinStack, StaysOnStarts, IsNoFault}
+use Rattle.machine.specs.Demands.{State, AllMeet, MeetsRest, HasRoom, AllUsable, EndsReady, LeadsToStart, IsNoFault}
 use Rattle.machine.specs.Decided.{paired_behind}
 use Rattle.machine.specs.Deeds.{task_view, stack_after}
-use Rattle.machine.specs.Demanded.{has_operands, are_whole, are_within, leads, all_lead, stays, Meets}
+use Rattle.machine.specs.Demanded.{has_operands, leads, all_lead, Meets}
 use Rattle.machine.proofs.Faults.{split, join, not_true, not_false, some_is, paired_is, is_paired, operands_meet, rest_meets, has_them, usable, room, within, no_targets}
 
 -- ---- starts

@@ -1,30 +1,29 @@
 -- A state is no fault exactly where it meets the tests.
-use Rattle.std.specs.Prelude.{◌↔◌, not, nat_lt, nat_le, nat_eq, ◌&&◌, ◌||◌}
-use Rattle.std.proofs.Common.{◌≡◌, ℕ, ℤ, zero, suc, ◌+◌, ◌<◌, ◌≤◌, Bool, true, false, List, [], ◌∷◌, ◌++◌, length, drop, slice_get, Option, Some, None, if◌then◌else◌, refl, sym, ap, ◌∙◌, subst, arith, inl, inr}
+use Rattle.std.specs.Prelude.{not, nat_le, ◌&&◌}
+use Rattle.std.proofs.Common.{◌≡◌, ℕ, ◌+◌, ◌≤◌, Bool, true, false, List, [], ◌∷◌, ◌++◌, length, drop, slice_get, Option, Some, None, if◌then◌else◌, refl, sym, ap, ◌∙◌, subst, arith, inl, inr}
 use Rattle.std.specs.Option.{is_some}
 use Rattle.std.proofs.lemmas.Bool.Decides.{nat_tests}
 use Rattle.hierarchy.specs.World.{World}
-use Rattle.classfile.specs.Methods.{Method, ExceptionEntry, covers}
+use Rattle.classfile.specs.Methods.{Method}
 use Rattle.insn.specs.declared.operation.Kind.{Kind}
 use Rattle.insn.specs.declared.operation.Kind.TheVariants.{Int, Long, Float, Double}
 use Rattle.insn.specs.declared.stack.StackPlace.{StackPlace}
 use Rattle.insn.specs.declared.stack.StackPlace.TheVariants.{Narrow, Wide}
 use Rattle.insn.specs.declared.stack.StackOperator.{StackOperator}
-use Rattle.insn.specs.Acts.{is_wide, StackForm, stack_forms}
+use Rattle.insn.specs.Acts.{StackForm, stack_forms}
 use Rattle.insn.specs.Meanings.{Act}
-use Rattle.insn.specs.Offsets.{at_offset, IsStart, has_offset, first_offset, next_offset, IsAmong}
+use Rattle.insn.specs.Offsets.{IsAmong}
 use Rattle.insn.specs.Stacks.{same_kind, beneath, rearranged}
 use Rattle.machine.specs.declared.deed.Deed.{Deed}
 use Rattle.machine.specs.declared.deed.Deed.TheVariants.{Operates, Reads, Writes, Increments, Moves, Leaves, Ends, Stuck}
-use Rattle.machine.specs.Values.{Value, number, null, reference, Slot, empty, second, holds, is_wide_value, is_wide_slot, units, kind_units, depth_of, ArePairedBehind, place_of}
+use Rattle.machine.specs.Values.{Value, number, null, reference, Slot, empty, second, holds, is_wide_value, units, kind_units, depth_of, ArePairedBehind, place_of}
 use Rattle.machine.specs.Heap.{Heap}
-use Rattle.machine.specs.Tasks.{Task, of_kind, needs_of_kinds, needs_of, reply_units, falls, targets, task}
-use Rattle.machine.specs.Demands.{State, AllMeet, AreForm, HasLocal, HasForm, MeetsRest, HasRoom, AllUsable, EndsReady, LeadsToStart, HasOperands, IsWithinStack, StaysOnStarts, IsNoFault}
-use Rattle.machine.specs.Decided.{is_number, has_kinds, holds_number, same_place, are_form, form_for, is_second, is_behind, paired_behind}
+use Rattle.machine.specs.Tasks.{of_kind, needs_of_kinds, needs_of, reply_units, targets}
+use Rattle.machine.specs.Demands.{State, AllMeet, AreForm, HasLocal, MeetsRest, HasRoom, AllUsable}
+use Rattle.machine.specs.Decided.{is_number, has_kinds, holds_number, same_place, are_form, form_for, paired_behind}
 use Rattle.machine.specs.Deeds.{reply_view, task_view, given, held, rearranged_by, stack_after}
-use Rattle.machine.specs.Demanded.{has_operands, are_whole, are_within, leads, all_lead, stays, Meets}
+use Rattle.machine.specs.Demanded.{has_operands}
 use Rattle.machine.proofs.Apart.{table_apart, one_form}
-use Rattle.machine.proofs.Moves.{beneath_drop}
 
 -- ---- tests
 

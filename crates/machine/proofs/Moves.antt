@@ -1,12 +1,11 @@
 -- What instructions leave on the stack.
-use Rattle.std.proofs.Common.{◌≡◌, ℕ, zero, suc, ◌+◌, ◌-◌, ◌<◌, ◌≤◌, List, [], ◌∷◌, ◌++◌, length, get_or, take, drop, map, reverse, refl, sym, ◌∙◌, ap, arith, Some, None, slice_get, inl, inr}
+use Rattle.std.proofs.Common.{◌≡◌, ℕ, zero, suc, ◌-◌, ◌<◌, ◌≤◌, List, [], ◌∷◌, ◌++◌, length, get_or, take, drop, map, reverse, refl, sym, ◌∙◌, ap, arith, Some, slice_get, inl, inr}
 use Rattle.std.proofs.lemmas.Bool.{cases_lt}
-use Rattle.std.proofs.lemmas.List.{drop_all, map-append, reverse-append, length-map, length-reverse, length-drop, take-append-drop, take_rest, append_assoc, get_or-reverse}
+use Rattle.std.proofs.lemmas.List.{drop_all, map-append, reverse-append, length-map, length-reverse, length-drop, take-append-drop, take_rest, get_or-reverse}
 use Rattle.std.proofs.Math.ListN.{get_or-map}
 use Rattle.std.proofs.lemmas.Option.{slice_get-get_or, slice_get_past}
 use Rattle.insn.specs.Stacks.{beneath, chosen, with_item}
 use Rattle.machine.specs.declared.items.Value.{Value as RawValue}
-use Rattle.machine.specs.Values.{Value}
 use Rattle.machine.specs.Views.{value_view, stack_of}
 
 pub beneath_drop : {A B : Type 0} → (ks : List A) (vs : List B) → beneath ks vs ≡ drop (length ks) vs

@@ -1,14 +1,11 @@
 -- Instructions by their places in the list, and by their offsets.
 use Rattle.std.specs.Prelude.{nat_le, nat_eq, ◌&&◌, ◌||◌}
-use Rattle.std.proofs.Common.{◌≡◌, ℕ, ◌+◌, ◌<◌, ◌≤◌, zero, suc, Bool, true, false, List, [], ◌∷◌, length, get_or, slice_get, option_map, Option, Some, None, if◌then◌else◌, Result, Ok, Err, refl, sym, ap, ◌∙◌, arith, drop, map}
+use Rattle.std.proofs.Common.{◌≡◌, ℕ, ◌+◌, ◌<◌, ◌≤◌, zero, suc, Bool, true, false, List, [], ◌∷◌, length, get_or, slice_get, option_map, Option, Some, None, if◌then◌else◌, Ok, Err, refl, sym, ap, ◌∙◌, arith}
 use Rattle.std.specs.Option.{is_some}
-use Rattle.std.specs.Result.{is_ok}
 use Rattle.std.specs.List.Sorted.{IsSearchInRange, IsBinarySearchResult}
 use Rattle.std.specs.Ordering.{nat_cmp}
 use Rattle.std.proofs.lemmas.Cmp.{ranked}
-use Rattle.std.proofs.lemmas.Bool.{false≢true}
 use Rattle.std.proofs.lemmas.Bool.Decides.{nat_tests}
-use Rattle.std.proofs.lemmas.List.{drop_more, drop_all}
 use Rattle.insn.specs.declared.instruction.Insn.{Insn}
 use Rattle.insn.specs.Instructions.{Instruction}
 use Rattle.insn.specs.Meanings.{Act, act}
@@ -18,9 +15,7 @@ use Rattle.insn.specs.Code.{is_start, StartsRise}
 use Rattle.insn.specs.Views.{view, views}
 use Rattle.insn.proofs.Starts.{searched}
 use Rattle.machine.specs.Rising.{rises}
-use Rattle.machine.specs.Bodies.{code_of, entry_view}
-use Rattle.machine.specs.declared.body.ExceptionEntry.{ExceptionEntry}
-use Rattle.machine.specs.Demanded.{leads, all_lead}
+use Rattle.machine.specs.Bodies.{code_of}
 
 -- ---- rising offsets
 

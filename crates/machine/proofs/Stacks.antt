@@ -1,13 +1,13 @@
 -- Stacks and local variables as the program keeps them.
-use Rattle.std.specs.Prelude.{IsTrue, ◌==◌, ◌↔◌, nat_lt, not}
-use Rattle.std.proofs.Common.{◌≡◌, ℕ, ◌+◌, ◌-◌, ◌<◌, ◌≤◌, Bool, true, false, ◌&&◌, List, [], ◌∷◌, ◌++◌, length, get_or, drop, map, reverse, refl, sym, ◌∙◌, ap, arith, Some, None, if◌then◌else◌}
-use Rattle.std.proofs.lemmas.List.{drop_more, drop_all, map-append, reverse-append}
+use Rattle.std.specs.Prelude.{IsTrue, ◌==◌, ◌↔◌, not}
+use Rattle.std.proofs.Common.{◌≡◌, ℕ, ◌+◌, ◌-◌, ◌<◌, ◌≤◌, Bool, true, false, ◌&&◌, List, [], ◌∷◌, ◌++◌, length, get_or, drop, map, reverse, refl, ◌∙◌, ap, arith, Some, None, if◌then◌else◌}
+use Rattle.std.proofs.lemmas.List.{drop_more, drop_all, reverse-append}
 use Rattle.std.proofs.lemmas.Bool.Decides.{nat_tests}
 use Rattle.insn.specs.declared.stack.StackForm as raw
 use Rattle.insn.specs.Views.{stack_form_view}
 use Rattle.machine.specs.declared.items.Value.{Value as RawValue}
 use Rattle.machine.specs.declared.items.Slot.{Slot as RawSlot}
-use Rattle.machine.specs.Values.{Value, Slot, depth_of, units, is_wide_value, is_wide_slot}
+use Rattle.machine.specs.Values.{Value, depth_of, units, is_wide_value, is_wide_slot}
 use Rattle.machine.specs.Decided.{are_form, form_for, is_behind, paired_behind}
 use Rattle.machine.specs.Views.{value_view, slot_view, stack_of, locals_of}
 

@@ -12,7 +12,7 @@ use Rattle.insn.specs.declared.stack.StackPlace.TheVariants.{Narrow, Wide}
 use Rattle.insn.specs.Acts.{StackForm}
 use Rattle.insn.specs.Stacks.{same_kind}
 use Rattle.machine.specs.Heap.{Status, ready, made, this, Object}
-use Rattle.machine.specs.Values.{Value, number, null, reference, Slot, empty, second, holds, is_wide_value, is_wide_slot, place_of}
+use Rattle.machine.specs.Values.{Value, number, null, reference, Slot, empty, second, holds, is_wide_slot, place_of}
 
 -- ---- operands
 

@@ -1,4 +1,3 @@
-use Rattle.std.proofs.Common.{arith}
 use Rattle.machine.specs.declared.objects.RunType.TheVariants.{Array}
 use Rattle.machine.proofs.Addresses.{run_time}
 use Rattle.machine.proofs.heaps.array.Goals as goal

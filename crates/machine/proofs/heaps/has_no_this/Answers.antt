@@ -1,4 +1,3 @@
-use Rattle.std.proofs.Common.{sym, ◌∙◌}
 use Rattle.machine.proofs.Addresses.{no_this, this_none}
 use Rattle.machine.proofs.heaps.has_no_this.Goals as goal
 

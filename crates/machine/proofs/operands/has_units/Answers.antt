@@ -1,4 +1,4 @@
-use Rattle.std.proofs.Common.{refl, ◌∙◌}
+use Rattle.std.proofs.Common.{refl}
 use Rattle.machine.proofs.Stacks.{units_less, units_enough, units_end, units_test}
 use Rattle.machine.proofs.operands.has_units.Goals as goal
 

@@ -1,6 +1,6 @@
-use Rattle.std.proofs.Common.{◌≡◌, sym, ◌∙◌, ap}
+use Rattle.std.proofs.Common.{sym, ◌∙◌, ap}
 use Rattle.machine.specs.Bodies.{entry_view}
-use Rattle.machine.specs.Views.{heap_view, locals_of, state_view}
+use Rattle.machine.specs.Views.{heap_view, locals_of}
 use Rattle.machine.proofs.Raised.{entry_at, state_is}
 use Rattle.machine.proofs.raising.caught.Goals as goal
 

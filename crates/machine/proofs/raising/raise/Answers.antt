@@ -1,4 +1,4 @@
-use Rattle.std.proofs.Common.{◌≡◌, sym, ◌∙◌, ap, subst}
+use Rattle.std.proofs.Common.{sym, subst}
 use Rattle.hierarchy.specs.Class.{world_of}
 use Rattle.machine.specs.Bodies.{method_view}
 use Rattle.machine.specs.Happening.{Raises}

@@ -1,8 +1,6 @@
-use Rattle.std.proofs.Common.{sym, ◌∙◌}
 use Rattle.hierarchy.specs.Class.{world_of}
 use Rattle.names.specs.ReferenceTypes.{class_type}
 use Rattle.names.specs.StandardNames.{throwable_name}
-use Rattle.machine.specs.Heap.{IsBelow}
 use Rattle.machine.specs.Views.{heap_view}
 use Rattle.machine.proofs.Raised.{other_type}
 use Rattle.machine.proofs.raising.raised_type.Goals as goal

@@ -1,6 +1,5 @@
-use Rattle.std.proofs.Common.{rules, ap, sym, ◌∙◌, Some, Err}
+use Rattle.std.proofs.Common.{rules}
 use Rattle.std.proofs.lemmas.List.Sorted.{answers_always}
-use Rattle.insn.specs.Supported.{as_supported}
 use Rattle.machine.proofs.Places.{missed, met}
 use Rattle.machine.proofs.starts.found_at.Goals as goal
 

@@ -1,14 +1,14 @@
-use Rattle.std.proofs.Common.{◌≡◌, Some, sym, ◌∙◌, ap, subst, option_map}
+use Rattle.std.proofs.Common.{◌≡◌, Some, sym, ◌∙◌, subst, option_map}
 use Rattle.std.proofs.lemmas.Bool.{false≢true}
 use Rattle.hierarchy.specs.Class.{world_of}
 use Rattle.insn.specs.Offsets.{at_offset, next_offset}
 use Rattle.insn.specs.Supported.{as_supported}
 use Rattle.insn.specs.Views.{act_view}
 use Rattle.machine.specs.Bodies.{code_of, method_view}
-use Rattle.machine.specs.Happening.{Stepped, Goes, Raises}
-use Rattle.machine.specs.Views.{value_view, fresh_view, state_view, choice_view}
+use Rattle.machine.specs.Happening.{Goes, Raises}
+use Rattle.machine.specs.Views.{value_view, fresh_view, state_view}
 use Rattle.machine.proofs.Deciding.{meets}
-use Rattle.machine.proofs.Chosen.{has_place, go_steps, raise_steps}
+use Rattle.machine.proofs.Chosen.{go_steps, raise_steps}
 use Rattle.machine.proofs.stepping.step.Goals as goal
 
 pub returns-then-not-meets : goal.returns-then-not-meets

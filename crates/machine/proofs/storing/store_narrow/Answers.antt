@@ -1,5 +1,4 @@
-use Rattle.std.proofs.Common.{◌≡◌, ap, arith, false}
-use Rattle.insn.specs.Acts.{is_wide}
+use Rattle.std.proofs.Common.{ap}
 use Rattle.machine.specs.Values.{number, holds}
 use Rattle.machine.specs.declared.items.Slot.TheVariants as raw
 use Rattle.machine.proofs.Writes.{stored_narrow, narrow_kind}

@@ -1,4 +1,4 @@
-use Rattle.std.proofs.Common.{◌≡◌, Some, option_map, sym, ◌∙◌, ap, subst}
+use Rattle.std.proofs.Common.{◌≡◌, Some, option_map, sym, ◌∙◌, ap}
 use Rattle.classfile.specs.MethodParts.{code_at}
 use Rattle.classfile.specs.Views.{class_view, code_view}
 use Rattle.machine.proofs.Entries.{code_fits}
