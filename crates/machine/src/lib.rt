@@ -1,4 +1,16 @@
-//! An abstract machine of the JVM for one method (JVMS 2.6, 2.10, 2.11, 6.5): tagged values, objects by their addresses, and no frames. Here are its definitions, in specs.
+//! An abstract machine of the JVM for one method (JVMS 2.6, 2.10, 2.11, 6.5): tagged values, objects by their addresses, and no frames. Proved against its definitions in specs. The calls to know are [`Method::new`] and [`step`].
+//!
+//! - `items`, `objects`, `snapshot`: values, objects and states.
+//! - `choosing`: what a step leaves open, and what comes of it.
+//! - `body`, `making`: the method that runs, and how it is made of a class.
+//! - `starts`: the instruction at an offset.
+//! - `deed`, `deeds`: what an instruction does.
+//! - `operands`, `demands`: when a state is no fault.
+//! - `stacking`, `storing`, `going`: what comes of an instruction.
+//! - `below`, `heaps`, `raising`: run-time types, objects by their addresses, and what is raised.
+//! - `stepping`: a step.
+//!
+//! Definitions:
 //!
 //! - `specs/Values.antt`: values, local variables and stacks.
 //! - `specs/Heap.antt`: objects, and which values fit which types.
@@ -6,8 +18,36 @@
 //! - `specs/Demands.antt`: when a state is no fault.
 //! - `specs/Steps.antt`: what comes of an instruction and a choice.
 //! - `specs/Runs.antt`: initial states and runs.
+//! - `specs/Views.antt`, `specs/Bodies.antt`: what the program's values stand for.
+//! - `specs/Happening.antt`: what the calls answer.
 #![tactic(auto)]
 
+mod below;
+mod body;
+mod choosing;
+mod deed;
+mod deeds;
+mod demands;
+mod going;
+mod heaps;
+mod items;
 pub mod laws;
+mod making;
+mod objects;
+mod operands;
+mod raising;
+mod snapshot;
+mod stacking;
+mod starts;
+mod stepping;
+mod storing;
+
+pub use body::{ExceptionEntry, Method};
+pub use choosing::{Choice, Outcome, StepFault};
+pub use items::{Slot, Value};
+pub use objects::{Object, RunType, Status};
+pub use snapshot::State;
+pub use stepping::step;
+
 #[cfg(test)]
 mod tests;

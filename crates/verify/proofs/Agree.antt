@@ -22,7 +22,7 @@ use Rattle.rules.specs.Table as table
 use Rattle.machine.specs.Values.{kind_units}
 use Rattle.machine.specs.Tasks as tasks
 use Rattle.machine.specs.Tasks.{Need, Reply, Task}
-use Rattle.verify.proofs.Apart.{AllApart, table_apart}
+use Rattle.machine.proofs.Apart.{AllApart, table_apart}
 
 -- what a rule asks of an operand, and what the machine needs of it
 abbrev pub WantNeed : Want → Need → Type 0

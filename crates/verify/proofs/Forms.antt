@@ -22,7 +22,7 @@ use Rattle.machine.specs.Steps.{moved, Does}
 use Rattle.verify.proofs.Fits.{View, Items, Fits, Keeps, keep, depth_width, items_append}
 use Rattle.verify.proofs.Plain.{items_beneath_same, room}
 use Rattle.verify.proofs.Locals.{fit_wide}
-use Rattle.verify.proofs.Apart.{AllApart, one_form}
+use Rattle.machine.proofs.Apart.{AllApart, one_form}
 
 -- types that fit the places have values that do
 narrow_type : (t : VerificationType) → is_narrow t ≡ true → is_wide t ≡ false

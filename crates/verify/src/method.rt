@@ -108,7 +108,7 @@ fn verify_code<'a, C: Classes>(
 }
 
 /// The verdict on a method of a class that the hierarchy has as it is.
-fn verify_listed<'a, C: Classes>(
+pub fn verify_listed<'a, C: Classes>(
     alloc: Global,
     formed: &Formed<'_, 'a>,
     number: usize,

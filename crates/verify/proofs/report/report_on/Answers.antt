@@ -4,8 +4,9 @@ use Rattle.pool.specs.Lookups.{text_at, Answers as Finds}
 use Rattle.classfile.specs.Views.{class_view, member_view}
 use Rattle.classfile.proofs.FormedNames.{both_named}
 use Rattle.classfile.proofs.Places.{viewed_at}
-use Rattle.verify.specs.Answers.{Answers, VerifiesTypeSafe, VerifiedIsSafe}
+use Rattle.verify.specs.Answers.{Answers}
 use Rattle.verify.specs.Reports.{IsReported}
+use Rattle.verify.proofs.Answering.{only_then, safe_then}
 use Rattle.verify.proofs.Named.{texts_there, is_found, names_of}
 use Rattle.verify.proofs.report.report_on.Goals as goal
 
@@ -41,13 +42,13 @@ returns-in-Ok-clause-found g c =
     let name : text_at class.constant_pool member.name ≡ Ok c.unwrap-name.result.bytes.now = subst (Finds (λ t. t.bytes.now) (text_at class.constant_pool member.name)) c.unwrap-name.ensures c.text.ensures in
     let descriptor : text_at class.constant_pool member.descriptor ≡ Ok c.unwrap-descriptor.result.bytes.now = subst (Finds (λ t. t.bytes.now) (text_at class.constant_pool member.descriptor)) c.unwrap-descriptor.ensures c.text-2.ensures in
     let classes = g.C.Classes.content c.args.classes.now in
-    let back = sym c.class-class.ensures.same in
+    let answers : Answers classes class c.args.number (Ok c.in-Ok.verdict) = subst (λ k. Answers classes (class_view k) c.args.number (Ok c.in-Ok.verdict)) (sym c.class-class.ensures.same) c.in-Ok.ensures in
     subst (λ k. IsReported classes (class_view k) c.args.number (record { name = c.unwrap-name.result; descriptor = c.unwrap-descriptor.result; verdict = c.in-Ok.verdict })) c.class-class.ensures.same
     (record {
       member = member_view member;
       numbered = here;
       called = both_named class.constant_pool member.name member.descriptor c.unwrap-name.result.bytes.now c.unwrap-descriptor.result.bytes.now name descriptor;
-      exactly = subst (λ k. Answers classes (class_view k) c.args.number (Ok c.in-Ok.verdict)) back c.in-Ok.ensures.exactly;
-      only = subst (λ k. VerifiesTypeSafe classes (class_view k) c.args.number (Ok c.in-Ok.verdict)) back c.in-Ok.ensures.only;
-      safe = subst (λ k. VerifiedIsSafe classes (class_view k) c.args.number (Ok c.in-Ok.verdict)) back c.in-Ok.ensures.safe;
+      exactly = answers;
+      only = only_then classes class c.args.number (Ok c.in-Ok.verdict) answers;
+      safe = safe_then classes class c.args.number c.requires.hierarchy (Ok c.in-Ok.verdict) answers;
     })

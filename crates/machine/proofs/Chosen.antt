@@ -1,0 +1,208 @@
+-- What comes of a choice is what the calls answer that go on and that raise.
+use Rattle.std.specs.Prelude.{pos, nat_le, nat_eq}
+use Rattle.std.proofs.Common.{◌≡◌, ℕ, ◌+◌, true, false, List, [], ◌∷◌, ◌++◌, length, drop, slice_get, Option, Some, None, Result, Ok, Err, refl, sym, ap, ◌∙◌, subst, arith, inl, inr}
+use Rattle.std.proofs.lemmas.Bool.{false≢true}
+use Rattle.std.proofs.lemmas.Bool.Decides.{nat_tests}
+use Rattle.names.specs.ReferenceTypes.{ReferenceType}
+use Rattle.hierarchy.specs.World.{World}
+use Rattle.classfile.specs.Methods.{Method}
+use Rattle.insn.specs.declared.operation.Kind.{Kind}
+use Rattle.insn.specs.Acts.{stack_forms}
+use Rattle.insn.specs.Meanings.{Act}
+use Rattle.insn.specs.Offsets.{at_offset, next_offset, IsAmong}
+use Rattle.machine.specs.declared.deed.Deed.{Deed}
+use Rattle.machine.specs.declared.deed.Deed.TheVariants.{Operates, Reads, Writes, Increments, Moves, Leaves, Ends, Stuck}
+use Rattle.machine.specs.declared.choosing.Outcome.{Outcome as RawOutcome}
+use Rattle.machine.specs.declared.choosing.Outcome.TheVariants as outcomes
+use Rattle.machine.specs.declared.choosing.StepFault.{StepFault}
+use Rattle.machine.specs.declared.choosing.StepFault.TheVariants.{OutOfMemory, NotAChoice}
+use Rattle.machine.specs.Values.{Value, number, Slot, kind_units, stored}
+use Rattle.machine.specs.Heap.{Heap, with_fresh}
+use Rattle.machine.specs.Tasks.{falls, targets, task}
+use Rattle.machine.specs.Demands.{State, IsNoFault}
+use Rattle.machine.specs.Steps.{go, raise, Outcome, goes_on, ended, Replies, Does, IsBranch, Steps, IsLast, Ends as EndsBy, Happens}
+use Rattle.machine.specs.Decided.{has_kinds, is_number, form_for, paired_behind}
+use Rattle.machine.specs.Deeds.{reply_view, task_view, given, held, rearranged_by}
+use Rattle.machine.specs.Demanded.{has_operands, Meets}
+use Rattle.machine.specs.Happening.{HasPlace, is_last, state_after, IsAsked, GoesOn, Stays, Goes, Raises, Stepped}
+use Rattle.machine.specs.Views.{state_view}
+use Rattle.machine.proofs.Faults.{split, some_is, form_chosen, number_is, held_number, kinds_beneath, no_targets}
+use Rattle.machine.proofs.Deciding.{no_fault}
+
+pub nowhere : (world : World) (m : Method Act) (s : State) → at_offset m.code s.at ≡ None → IsNoFault world m s → ⊥
+nowhere world m s e n = cc (e, n.here)
+
+-- what is written has its place
+place_fits : (d : Deed) (limit n : ℕ) (vs : List Value) (ls : List Slot) → has_operands limit d vs ls ≡ true → n ≡ limit → HasPlace d n
+place_fits (Operates needs reply) limit n vs ls e f = tt
+place_fits (Reads kind local) limit n vs ls e f = tt
+place_fits (Writes kind local) limit n vs ls e f =
+    let le : nat_le (local + kind_units kind) limit ≡ true = (split (has_kinds (kind ∷ []) vs) (nat_le (local + kind_units kind) limit) e).1 in
+    grind (arith, nat_tests, le, f)
+place_fits (Increments local) limit n vs ls e f = tt
+place_fits (Moves operator) limit n vs ls e f = tt
+place_fits (Leaves kind) limit n vs ls e f = tt
+place_fits Ends limit n vs ls e f = tt
+place_fits Stuck limit n vs ls e f = tt
+
+pub has_place : (m : Method Act) (d : Deed) (next : Option ℕ) (s : State) → Meets m d next s → HasPlace d (length s.locals)
+has_place m d next s p =
+    let same : nat_eq (length s.locals) m.max_locals ≡ true = (split (nat_eq (length s.locals) m.max_locals) (paired_behind false s.locals) p.locals).0 in
+    let e : length s.locals ≡ m.max_locals = grind (arith, nat_tests, same) in
+    place_fits d m.max_locals (length s.locals) s.stack s.locals p.operands e
+
+-- ---- an instruction
+
+abbrev with_new : State → List (ℕ × ReferenceType) → State
+with_new s fresh = record { at = s.at; stack = s.stack; locals = s.locals; heap = with_fresh s.heap fresh }
+
+replies : (world : World) (heap : Heap) (r : Option Kind) → Replies world heap (reply_view r) None (given r)
+replies world heap None = (refl, refl)
+replies world heap (Some kind) = (refl, refl)
+
+reply_none : (world : World) (heap : Heap) (r : Option Kind) (answer : Option Value) (vs : List Value) → Replies world heap (reply_view r) answer vs → answer ≡ None
+reply_none world heap None answer vs p = p.0
+reply_none world heap (Some kind) answer vs p = p.0
+
+reply_given : (world : World) (heap : Heap) (r : Option Kind) (answer : Option Value) (vs : List Value) → Replies world heap (reply_view r) answer vs → vs ≡ given r
+reply_given world heap None answer vs p = p.1
+reply_given world heap (Some kind) answer vs p = p.1
+
+top_number : (kind : Kind) (vs : List Value) → has_kinds (kind ∷ []) vs ≡ true → (v : Value) × (rest : List Value) × (vs ≡ v ∷ rest) × (v ≡ number kind)
+top_number kind [] e = absurd cc
+top_number kind (v ∷ vs) e = (v, vs, refl, number_is kind v (split (is_number kind v) true e).0)
+
+module _ (world : World) (m : Method Act) (s : State) (fresh : List (ℕ × ReferenceType)) (at : ℕ) where
+  abbrev state : List Value → List Slot → State
+  state stack locals = record { at = at; stack = stack; locals = locals; heap = with_fresh s.heap fresh }
+
+  does : (d : Deed) → has_operands m.max_locals d s.stack s.locals ≡ true → falls (task_view d) ≡ true → Does world (task_view d) (with_new s fresh) None at (state_after d s at fresh)
+  does (Operates needs reply) e f = (tt, (given reply, replies world (with_fresh s.heap fresh) reply, ap (λ z. state (given reply ++ z) s.locals) (sym (kinds_beneath needs.now s.stack))))
+  does (Reads kind local) e f =
+      let h = held_number kind (slice_get s.locals local) e in
+      (h.0, h.1, refl, ap (λ z. state (held z ++ s.stack) s.locals) h.1)
+  does (Writes kind local) e f =
+      let h = top_number kind s.stack (split (has_kinds (kind ∷ []) s.stack) (nat_le (local + kind_units kind) m.max_locals) e).0 in
+      (h.0, h.1, h.2, refl, ap (λ z. state (drop 1 z) (stored (number kind) local s.locals)) h.2 ∙ ap (λ z. state h.1 (stored z local s.locals)) (sym h.3))
+  does (Increments local) e f = (refl, refl)
+  does (Moves operator) e f =
+      let found = some_is (form_for (stack_forms operator) s.stack) e in
+      let c = form_chosen (stack_forms operator) s.stack found.0 found.1 in
+      (found.0, c.0, c.1, refl, ap (λ z. state (rearranged_by z s.stack) s.locals) found.1)
+  does (Leaves kind) e f = absurd cc
+  does Ends e f = absurd cc
+  does Stuck e f = absurd cc
+
+  answer_none : (d : Deed) (answer : Option Value) (t : State) → Does world (task_view d) (with_new s fresh) answer at t → answer ≡ None
+  answer_none (Operates needs reply) answer t p = reply_none world (with_fresh s.heap fresh) reply answer p.1.0 p.1.1
+  answer_none (Reads kind local) answer t p = p.2
+  answer_none (Writes kind local) answer t p = p.3
+  answer_none (Increments local) answer t p = p.0
+  answer_none (Moves operator) answer t p = p.3
+  answer_none (Leaves kind) answer t p = absurd p
+  answer_none Ends answer t p = absurd p
+  answer_none Stuck answer t p = absurd p
+
+last_is : (d : Deed) → is_last d ≡ true → IsLast (task_view d)
+last_is (Operates needs reply) e = absurd cc
+last_is (Reads kind local) e = absurd cc
+last_is (Writes kind local) e = absurd cc
+last_is (Increments local) e = absurd cc
+last_is (Moves operator) e = absurd cc
+last_is (Leaves kind) e = tt
+last_is Ends e = tt
+last_is Stuck e = absurd cc
+
+is_the_last : (d : Deed) → IsLast (task_view d) → is_last d ≡ true
+is_the_last (Operates needs reply) e = absurd e
+is_the_last (Reads kind local) e = absurd e
+is_the_last (Writes kind local) e = absurd e
+is_the_last (Increments local) e = absurd e
+is_the_last (Moves operator) e = absurd e
+is_the_last (Leaves kind) e = refl
+is_the_last Ends e = refl
+is_the_last Stuck e = absurd e
+
+module _ (world : World) (m : Method Act) (s : State) (act : Act) (d : Deed) (next : Option ℕ)
+    (here : at_offset m.code s.at ≡ Some act) (what : task_view d ≡ task m act) (after : next_offset m.code s.at ≡ next) (p : Meets m d next s) where
+  abbrev fine : IsNoFault world m s
+  fine = no_fault world m s act d next here what after p
+
+  -- the task of whatever act is found
+  same_task : (other : Act) → at_offset m.code s.at ≡ Some other → task m other ≡ task_view d
+  same_task other e =
+      let same : other ≡ act = cc (e, here) in
+      ap (task m) same ∙ sym what
+
+  module _ (branch : Option ℕ) (answer : Option Value) (fresh : List (ℕ × ReferenceType)) where
+    stepped : (t : State) → IsAsked s branch answer fresh → GoesOn d next s fresh t → Steps world m s branch answer fresh t
+    stepped t asked g = record {
+      act = act;
+      here = here;
+      unused = asked.unused;
+      to = g.at;
+      branches = subst (λ z. IsBranch (targets s.at z) branch g.at) what (subst (λ z. IsBranch z branch g.at) (sym (no_targets s.at d)) asked.no_branch);
+      goes = inr (sym (ap falls what) ∙ g.goes, after ∙ g.here);
+      does = subst (λ z. Does world z (with_new s fresh) answer g.at t) what
+          (subst (λ z. Does world (task_view d) (with_new s fresh) z g.at t) (sym asked.no_answer)
+          (subst (λ z. Does world (task_view d) (with_new s fresh) None g.at z) (sym g.result) (does world m s fresh g.at d p.operands g.goes)));
+    }
+
+    asked_by : (t : State) → Steps world m s branch answer fresh t → IsAsked s branch answer fresh
+    asked_by t w =
+        let e = same_task w.act w.here in
+        record {
+          no_branch = subst (λ z. IsBranch z branch w.to) (no_targets s.at d) (subst (λ z. IsBranch (targets s.at z) branch w.to) e w.branches);
+          no_answer = answer_none world m s fresh w.to d answer t (subst (λ z. Does world z (with_new s fresh) answer w.to t) e w.does);
+          unused = w.unused;
+        }
+
+    no_way : (t : State) → Steps world m s branch answer fresh t → Stays d next → ⊥
+    no_way t w n =
+        let e = same_task w.act w.here in
+        elim w.goes [
+          | inl a ↦ subst (λ z. IsAmong (pos w.to) z) (no_targets s.at d) (subst (λ z. IsAmong (pos w.to) (targets s.at z)) e a)
+          | inr g ↦ n.goes (sym (ap falls e) ∙ g.0) w.to (sym after ∙ g.1)
+        ]
+
+    no_end : EndsBy m s branch answer fresh → Stays d next → ⊥
+    no_end w n = false≢true (sym n.ends ∙ is_the_last d (subst IsLast (same_task w.act w.here) w.last))
+
+    pub go_steps : (r : Result RawOutcome StepFault) → Goes d next s branch answer fresh r → Stepped world m s (go branch answer fresh) r
+    go_steps (Ok (outcomes.Next t)) g = (fine, stepped (state_view t) g.0 g.1)
+    go_steps (Ok outcomes.Ended) g = (
+      fine,
+      record {
+        act = act;
+        here = here;
+        unused = g.0.unused;
+        no_branch = g.0.no_branch;
+        no_answer = g.0.no_answer;
+        last = subst IsLast what (last_is d g.1);
+      },
+    )
+    go_steps (Ok outcomes.Fault) g = absurd g
+    go_steps (Err OutOfMemory) g = tt
+    go_steps (Err NotAChoice) g = (fine, none)
+      where
+        none : (o : Outcome) → Happens world m s (go branch answer fresh) o → ⊥
+        none (goes_on t) h = no_way t h.1 (g (asked_by t h.1))
+        none ended h = no_end h.1 (g (record { no_branch = h.1.no_branch; no_answer = h.1.no_answer; unused = h.1.unused }))
+
+  pub raise_steps : (address : ℕ) (fresh : List (ℕ × ReferenceType)) (entry : Option ℕ) (r : Result RawOutcome StepFault) → Raises world m s address fresh entry r → Stepped world m s (raise address fresh entry) r
+  raise_steps address fresh None (Ok (outcomes.Next t)) g = absurd g
+  raise_steps address fresh (Some entry) (Ok (outcomes.Next t)) g = (fine, g)
+  raise_steps address fresh None (Ok outcomes.Ended) g = (fine, g.1)
+  raise_steps address fresh (Some entry) (Ok outcomes.Ended) g = absurd cc
+  raise_steps address fresh entry (Ok outcomes.Fault) g = absurd g
+  raise_steps address fresh entry (Err OutOfMemory) g = tt
+  raise_steps address fresh None (Err NotAChoice) g = (fine, none)
+    where
+      none : (o : Outcome) → Happens world m s (raise address fresh None) o → ⊥
+      none (goes_on t) h = h
+      none ended h = g.0 refl h.1
+  raise_steps address fresh (Some entry) (Err NotAChoice) g = (fine, none)
+    where
+      none : (o : Outcome) → Happens world m s (raise address fresh (Some entry)) o → ⊥
+      none (goes_on t) h = g.1 t h.1
+      none ended h = h

@@ -1,0 +1,139 @@
+-- A state meets the tests exactly where it is no fault.
+use Rattle.std.specs.Prelude.{not, nat_lt, nat_eq, ◌||◌}
+use Rattle.std.proofs.Common.{◌≡◌, ℕ, ℤ, ◌≤◌, Bool, true, false, List, [], ◌∷◌, length, Option, Some, if◌then◌else◌, refl, sym, ap, ◌∙◌, subst, arith, inl, inr}
+use Rattle.std.specs.Option.{is_some}
+use Rattle.std.proofs.lemmas.Bool.Decides.{nat_tests}
+use Rattle.hierarchy.specs.World.{World}
+use Rattle.classfile.specs.Methods.{Method, ExceptionEntry, covers}
+use Rattle.insn.specs.Meanings.{Act}
+use Rattle.insn.specs.Offsets.{at_offset, IsStart, has_offset, first_offset, next_offset, IsAmong}
+use Rattle.machine.specs.declared.deed.Deed.{Deed}
+use Rattle.machine.specs.Values.{depth_of}
+use Rattle.machine.specs.Tasks.{needs_of, falls, targets, task}
+use Rattle.machine.specs.Demands.{State, AllMeet, MeetsRest, HasRoom, AllUsable, EndsReady, LeadsToStart, IsNoFault}
+use Rattle.machine.specs.Decided.{paired_behind}
+use Rattle.machine.specs.Deeds.{task_view, stack_after}
+use Rattle.machine.specs.Demanded.{has_operands, leads, all_lead, Meets}
+use Rattle.machine.proofs.Faults.{split, join, not_true, not_false, some_is, paired_is, is_paired, operands_meet, rest_meets, has_them, usable, room, within, no_targets}
+
+-- ---- starts
+
+start_of : (code : List (ℕ × Act)) (at : ℕ) → has_offset code at ≡ true → IsStart code at
+start_of code at e = let h = some_is (at_offset code at) e in record { what = h.0; here = h.1 }
+
+offset_of : (code : List (ℕ × Act)) (at : ℕ) → IsStart code at → has_offset code at ≡ true
+offset_of code at s = ap is_some s.here
+
+or_some : (b : Bool) (a : Act) (o : Option Act) → is_some o ≡ true → is_some (if b then Some a else o) ≡ true
+or_some true a o e = refl
+or_some false a o e = e
+
+first_begins : (x : ℕ × Act) (xs : List (ℕ × Act)) (n : ℕ) → first_offset xs ≡ Some n → has_offset (x ∷ xs) n ≡ true
+first_begins x [] n e = absurd cc
+first_begins x (y ∷ ys) n e =
+    let same : y.0 ≡ n = cc in
+    let here : nat_eq y.0 n ≡ true = grind (arith, nat_tests, same) in
+    or_some (nat_eq x.0 n) x.1 (at_offset (y ∷ ys) n) (ap (λ b. is_some (if b then Some y.1 else at_offset ys n)) here)
+
+next_step : (x : ℕ × Act) (xs : List (ℕ × Act)) (at n : ℕ) (b : Bool) → (next_offset xs at ≡ Some n → has_offset xs n ≡ true) → (if b then first_offset xs else next_offset xs at) ≡ Some n → has_offset (x ∷ xs) n ≡ true
+next_step x xs at n true later e = first_begins x xs n e
+next_step x xs at n false later e = or_some (nat_eq x.0 n) x.1 (at_offset xs n) (later e)
+
+next_begins : (code : List (ℕ × Act)) (at n : ℕ) → next_offset code at ≡ Some n → has_offset code n ≡ true
+next_begins [] at n e = absurd cc
+next_begins (x ∷ xs) at n e = next_step x xs at n (nat_eq x.0 at) (next_begins xs at n) e
+
+-- ---- handlers
+
+leads_on : (c h : Bool) → (not c || h) ≡ true → c ≡ true → h ≡ true
+leads_on true h e f = e
+leads_on false h e f = cc
+
+leads_there : (c h : Bool) → (c ≡ true → h ≡ true) → (not c || h) ≡ true
+leads_there true h f = f refl
+leads_there false h f = refl
+
+module _ (code : List (ℕ × Act)) (at : ℕ) where
+  lead : (es : List ExceptionEntry) → all_lead code at es ≡ true → (e : ExceptionEntry) → IsAmong e es → covers e at ≡ true → IsStart code e.handler
+  lead [] t e a c = absurd a
+  lead (x ∷ xs) t e (inl a) c =
+      start_of code e.handler (leads_on (covers e at) (has_offset code e.handler) (subst (λ z. leads code at z ≡ true) (sym a) (split (leads code at x) (all_lead code at xs) t).0) c)
+  lead (x ∷ xs) t e (inr a) c = lead xs (split (leads code at x) (all_lead code at xs) t).1 e a c
+
+  led : (es : List ExceptionEntry) → ((e : ExceptionEntry) → IsAmong e es → covers e at ≡ true → IsStart code e.handler) → all_lead code at es ≡ true
+  led [] f = refl
+  led (x ∷ xs) f = join (leads code at x) (all_lead code at xs)
+      (leads_there (covers x at) (has_offset code x.handler) (λ c. offset_of code x.handler (f x (inl refl) c)))
+      (led xs (λ e a. f e (inr a)))
+
+-- ---- both ways
+
+not_over : (limit n : ℕ) → not (nat_lt limit n) ≡ true → n ≤ limit
+not_over limit n e = let f : nat_lt limit n ≡ false = not_true (nat_lt limit n) e in grind (arith, nat_tests, f)
+
+over_not : (limit n : ℕ) → n ≤ limit → not (nat_lt limit n) ≡ true
+over_not limit n le = not_false (nat_lt limit n) (grind (arith, nat_tests, le))
+
+same_length : (a b : ℕ) → nat_eq a b ≡ true → a ≡ b
+same_length a b e = grind (arith, nat_tests, e)
+
+length_same : (a b : ℕ) → a ≡ b → nat_eq a b ≡ true
+length_same a b e = grind (arith, nat_tests, e)
+
+goes : (f t : Bool) → (not f || t) ≡ true → f ≡ true → t ≡ true
+goes = leads_on
+
+module _ (world : World) (m : Method Act) (s : State) (act : Act) (d : Deed) (next : Option ℕ)
+    (here : at_offset m.code s.at ≡ Some act) (what : task_view d ≡ task m act) (after : next_offset m.code s.at ≡ next) where
+  abbrev on : Bool
+  on = not (falls (task_view d)) || is_some next
+
+  pub no_fault : Meets m d next s → IsNoFault world m s
+  no_fault p =
+      let whole = split (nat_eq (length s.locals) m.max_locals) (paired_behind false s.locals) p.locals in
+      let deep = split (not (nat_lt m.max_stack (depth_of s.stack))) (not (nat_lt m.max_stack (depth_of (stack_after d s.stack s.locals)))) p.stack in
+      let ways = split on (all_lead m.code s.at m.exceptions) p.control in
+      record {
+        act = act;
+        here = here;
+        operands = record {
+          operands = subst (λ t. AllMeet world s.heap (needs_of t) s.stack) what (operands_meet world m s d p.operands);
+          others = subst (λ t. MeetsRest world m t s) what (rest_meets world m s d p.operands);
+          all_locals = same_length (length s.locals) m.max_locals whole.0;
+          paired = paired_is false s.locals whole.1;
+        };
+        stack = record {
+          before = not_over m.max_stack (depth_of s.stack) deep.0;
+          after = subst (λ t. HasRoom m t s) what (room m s d (not_over m.max_stack (depth_of (stack_after d s.stack s.locals)) deep.1));
+        };
+        control = record {
+          branches = subst (λ t. (target : ℤ) → IsAmong target (targets s.at t) → LeadsToStart m target) what (λ target a. absurd (subst (IsAmong target) (no_targets s.at d) a));
+          next = λ f.
+              let n = some_is next (goes (falls (task_view d)) (is_some next) ways.0 (ap falls what ∙ f)) in
+              (n.0, after ∙ n.1, start_of m.code n.0 (next_begins m.code s.at n.0 (after ∙ n.1)));
+          caught = lead m.code s.at m.exceptions ways.1;
+        };
+        objects = record { uses = subst (λ t. AllUsable s.heap (needs_of t) s.stack) what (usable world m s d) };
+        own_object = record { own = subst (λ t. EndsReady m t s) what p.own_object };
+      }
+
+  met : (n : IsNoFault world m s) → task m n.act ≡ task_view d → Meets m d next s
+  met n e =
+      let ops : has_operands m.max_locals d s.stack s.locals ≡ true =
+      has_them world m s d (subst (λ t. AllMeet world s.heap (needs_of t) s.stack) e n.operands.operands) (subst (λ t. MeetsRest world m t s) e n.operands.others) in
+      record {
+        locals = join (nat_eq (length s.locals) m.max_locals) (paired_behind false s.locals) (length_same (length s.locals) m.max_locals n.operands.all_locals) (is_paired false s.locals n.operands.paired);
+        operands = ops;
+        stack = join (not (nat_lt m.max_stack (depth_of s.stack))) (not (nat_lt m.max_stack (depth_of (stack_after d s.stack s.locals))))
+            (over_not m.max_stack (depth_of s.stack) n.stack.before)
+            (over_not m.max_stack (depth_of (stack_after d s.stack s.locals)) (within m s d (subst (λ t. HasRoom m t s) e n.stack.after) ops n.stack.before));
+        control = join on (all_lead m.code s.at m.exceptions)
+            (leads_there (falls (task_view d)) (is_some next) (λ f. let r = n.control.next (ap falls e ∙ f) in ap is_some (sym after ∙ r.1)))
+            (led m.code s.at m.exceptions n.control.caught);
+        own_object = subst (λ t. EndsReady m t s) e n.own_object.own;
+      }
+
+  pub meets : IsNoFault world m s → Meets m d next s
+  meets n =
+      let same : n.act ≡ act = cc (n.here, here) in
+      met n (ap (task m) same ∙ sym what)

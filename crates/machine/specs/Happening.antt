@@ -1,0 +1,135 @@
+-- What the calls answer that go on and that raise, by what is done and where the next instruction begins.
+use Rattle.std.specs.Prelude.{◌≡◌, ℕ, zero, suc, ◌+◌, ◌≤◌, Bool, true, false, List, [], ◌∷◌, slice_get, Option, Some, None, Result, Ok, Err, if◌then◌else◌}
+use Rattle.names.specs.ReferenceTypes.{ReferenceType}
+use Rattle.hierarchy.specs.World.{World}
+use Rattle.classfile.specs.Methods.{Method, ExceptionEntry, covers}
+use Rattle.insn.specs.Meanings.{Act}
+use Rattle.machine.specs.declared.deed.Deed.{Deed}
+use Rattle.machine.specs.declared.deed.Deed.TheVariants.{Operates, Reads, Writes, Increments, Moves, Leaves, Ends, Stuck}
+use Rattle.machine.specs.declared.choosing.Outcome.{Outcome as RawOutcome}
+use Rattle.machine.specs.declared.choosing.Outcome.TheVariants as outcomes
+use Rattle.machine.specs.declared.choosing.StepFault.{StepFault}
+use Rattle.machine.specs.declared.choosing.StepFault.TheVariants.{OutOfMemory, NotAChoice}
+use Rattle.machine.specs.Values.{Value, number, reference, Slot, empty, is_wide_slot, behind_lost, stored, kind_units}
+use Rattle.machine.specs.Heap.{Heap, IsBelow, IsFresh, with_fresh}
+use Rattle.machine.specs.Tasks.{falls}
+use Rattle.machine.specs.Demands.{State, IsNoFault}
+use Rattle.machine.specs.Steps.{Choice, Outcome, goes_on, ended, Happens, IsRaised, IsCaught, moved_with}
+use Rattle.machine.specs.Deeds.{task_view, stack_after}
+use Rattle.machine.specs.Views.{state_view}
+
+-- ---- stores
+
+-- the local variable before this place, if it holds a long or double, is empty
+abbrev pub with_before : ℕ → List Slot → List Slot
+with_before n [] = []
+with_before zero (s ∷ ss) = s ∷ ss
+with_before (suc zero) (s ∷ ss) = (if is_wide_slot s then empty else s) ∷ ss
+with_before (suc (suc n)) (s ∷ ss) = s ∷ with_before (suc n) ss
+
+-- where this one holds a long or double, the one behind it is empty
+abbrev pub with_behind : ℕ → List Slot → List Slot
+with_behind n [] = []
+with_behind zero (s ∷ ss) = s ∷ behind_lost (is_wide_slot s) ss
+with_behind (suc n) (s ∷ ss) = s ∷ with_behind n ss
+
+abbrev pub locals_after : Deed → List Slot → List Slot
+locals_after (Operates needs reply) ls = ls
+locals_after (Reads kind local) ls = ls
+locals_after (Writes kind local) ls = stored (number kind) local ls
+locals_after (Increments local) ls = ls
+locals_after (Moves operator) ls = ls
+locals_after (Leaves kind) ls = ls
+locals_after Ends ls = ls
+locals_after Stuck ls = ls
+
+-- so many local variables are enough for what is written
+abbrev pub HasPlace : Deed → ℕ → Type 0
+HasPlace (Operates needs reply) n = Unit {0}
+HasPlace (Reads kind local) n = Unit {0}
+HasPlace (Writes kind local) n = local + kind_units kind ≤ n
+HasPlace (Increments local) n = Unit {0}
+HasPlace (Moves operator) n = Unit {0}
+HasPlace (Leaves kind) n = Unit {0}
+HasPlace Ends n = Unit {0}
+HasPlace Stuck n = Unit {0}
+
+-- ---- going on
+
+abbrev pub is_last : Deed → Bool
+is_last (Operates needs reply) = false
+is_last (Reads kind local) = false
+is_last (Writes kind local) = false
+is_last (Increments local) = false
+is_last (Moves operator) = false
+is_last (Leaves kind) = true
+is_last Ends = true
+is_last Stuck = false
+
+abbrev pub state_after : Deed → State → ℕ → List (ℕ × ReferenceType) → State
+state_after d s at fresh = record { at = at; stack = stack_after d s.stack s.locals; locals = locals_after d s.locals; heap = with_fresh s.heap fresh }
+
+-- a choice that may be made: nothing is asked, and the new objects are new
+pub record IsAsked (s : State) (branch : Option ℕ) (answer : Option Value) (fresh : List (ℕ × ReferenceType)) : Type 0 where
+  pub no_branch : branch ≡ None
+  pub no_answer : answer ≡ None
+  pub unused : IsFresh s.heap fresh
+
+-- it goes on to the next start
+pub record GoesOn (d : Deed) (next : Option ℕ) (s : State) (fresh : List (ℕ × ReferenceType)) (t : State) : Type 0 where
+  pub goes : falls (task_view d) ≡ true
+  pub at : ℕ
+  pub here : next ≡ Some at
+  pub result : t ≡ state_after d s at fresh
+
+-- neither does it go on nor end
+pub record Stays (d : Deed) (next : Option ℕ) : Type 0 where
+  pub goes : falls (task_view d) ≡ true → (at : ℕ) → next ≡ Some at → ⊥
+  pub ends : is_last d ≡ false
+
+abbrev pub Goes : Deed → Option ℕ → State → Option ℕ → Option Value → List (ℕ × ReferenceType) → Result RawOutcome StepFault → Type 0
+Goes d next s branch answer fresh (Ok (outcomes.Next t)) = IsAsked s branch answer fresh × GoesOn d next s fresh (state_view t)
+Goes d next s branch answer fresh (Ok outcomes.Ended) = IsAsked s branch answer fresh × (is_last d ≡ true)
+Goes d next s branch answer fresh (Ok outcomes.Fault) = ⊥
+Goes d next s branch answer fresh (Err OutOfMemory) = Unit {0}
+Goes d next s branch answer fresh (Err NotAChoice) = IsAsked s branch answer fresh → Stays d next
+
+-- ---- raising
+
+-- an object of a type is caught by the entry of a place, and stands alone on the stack
+pub record Catches (world : World) (m : Method Act) (s : State) (address : ℕ) (type : ReferenceType) (heap : Heap) (entry : ℕ) (t : State) : Type 0 where
+  pub by_entry : ExceptionEntry
+  pub which : slice_get m.exceptions entry ≡ Some by_entry
+  pub covered : covers by_entry s.at ≡ true
+  pub catches : IsBelow world type by_entry.caught
+  pub result : t ≡ moved_with s by_entry.handler (reference address ∷ []) heap
+
+abbrev pub CatchesBy : World → Method Act → State → ℕ → ReferenceType → Heap → ℕ → Result RawOutcome StepFault → Type 0
+CatchesBy world m s address type heap entry (Ok (outcomes.Next t)) = Catches world m s address type heap entry (state_view t)
+CatchesBy world m s address type heap entry (Ok outcomes.Ended) = ⊥
+CatchesBy world m s address type heap entry (Ok outcomes.Fault) = ⊥
+CatchesBy world m s address type heap entry (Err OutOfMemory) = Unit {0}
+CatchesBy world m s address type heap entry (Err NotAChoice) = (t : State) → Catches world m s address type heap entry t → ⊥
+
+-- no entry is named by which it is caught
+abbrev pub CaughtBy : World → Method Act → State → ℕ → List (ℕ × ReferenceType) → Option ℕ → State → Type 0
+CaughtBy world m s address fresh None t = ⊥
+CaughtBy world m s address fresh (Some entry) t = IsCaught world m s address fresh entry t
+
+abbrev pub Raises : World → Method Act → State → ℕ → List (ℕ × ReferenceType) → Option ℕ → Result RawOutcome StepFault → Type 0
+Raises world m s address fresh entry (Ok (outcomes.Next t)) = CaughtBy world m s address fresh entry (state_view t)
+Raises world m s address fresh entry (Ok outcomes.Ended) = (entry ≡ None) × IsRaised world s address fresh
+Raises world m s address fresh entry (Ok outcomes.Fault) = ⊥
+Raises world m s address fresh entry (Err OutOfMemory) = Unit {0}
+Raises world m s address fresh entry (Err NotAChoice) =
+    (entry ≡ None → IsRaised world s address fresh → ⊥) × ((t : State) → CaughtBy world m s address fresh entry t → ⊥)
+
+-- ---- steps
+
+-- what a step answers: a fault exactly at a fault; elsewhere what comes of the choice, and 54 exactly where nothing does
+abbrev pub Stepped : World → Method Act → State → Choice → Result RawOutcome StepFault → Type 0
+Stepped world m s choice (Ok (outcomes.Next t)) = Happens world m s choice (goes_on (state_view t))
+Stepped world m s choice (Ok outcomes.Ended) = Happens world m s choice ended
+Stepped world m s choice (Ok outcomes.Fault) = IsNoFault world m s → ⊥
+Stepped world m s choice (Err OutOfMemory) = Unit {0}
+Stepped world m s choice (Err NotAChoice) = IsNoFault world m s × ((o : Outcome) → Happens world m s choice o → ⊥)

@@ -1,0 +1,52 @@
+//! The method that runs.
+ghost use Rattle.std.specs.Prelude.{◌≡◌, true};
+ghost use Rattle.insn.specs.Views.{views};
+ghost use Rattle.machine.specs.Rising.{rises};
+
+use crate::objects::RunType;
+use classfile::{ClassFile, CodeAttr};
+use insn::Insn;
+use names::FieldType;
+use pool::Pool;
+
+/// An entry of the exception table (JVMS 4.7.3), with the type that it catches.
+#[derive(Clone, Copy, Debug)]
+pub struct ExceptionEntry<'a> {
+    /// The first byte of code that is covered.
+    pub from: u16,
+    /// The first byte of code behind those that are covered.
+    pub to: u16,
+    /// Where the handler begins.
+    pub handler: u16,
+    pub caught: RunType<'a>,
+}
+
+/// A method with its code, ready to run.
+#[derive(Drop)]
+pub struct Method<'c, 'a> {
+    pub(crate) class: &'c ClassFile<'a>,
+    pub(crate) number: usize,
+    pub(crate) code: &'c CodeAttr<'a>,
+    pub(crate) is_static: bool,
+    pub(crate) is_init: bool,
+    pub(crate) result_type: Option<FieldType<'a>>,
+    pub(crate) list: Vec<(u16, Insn<'a>)>,
+    pub(crate) exceptions: Vec<ExceptionEntry<'a>>,
+    pub ghost rising: { rises 0 (views list.items) ≡ true },
+}
+
+impl<'c, 'a> Method<'c, 'a> {
+    /// The constant pool of its class.
+    pub(crate) fn pool(&self) -> &'c Pool<'a>
+        ensures { result.now ≡ self.now.class.now.constant_pool }
+    {
+        &self.class.constant_pool
+    }
+
+    /// The type of its result, if it has one.
+    pub(crate) fn result_type(&self) -> Option<FieldType<'a>>
+        ensures { result ≡ self.now.result_type }
+    {
+        self.result_type
+    }
+}

@@ -1,0 +1,81 @@
+//! What is chosen at a step, and what comes of it.
+ghost use Rattle.std.specs.Prelude.{◌≡◌};
+ghost use Rattle.machine.specs.Views.{fault_number};
+
+use crate::items::Value;
+use crate::objects::RunType;
+use crate::snapshot::State;
+use std::alloc::{AllocError, AllocFailed};
+
+/// What an instruction leaves open (JVMS 6.5). In each choice `fresh` has the objects that come into being first: ready, each at an address that is unused.
+#[derive(Drop)]
+pub enum Choice<'a> {
+    /// The instruction is done.
+    Go {
+        /// The offset in the code that is gone to, given exactly for an instruction with targets.
+        branch: Option<u16>,
+        /// The value that is answered, given exactly for an instruction that asks for one.
+        answer: Option<Value>,
+        fresh: Vec<(u32, RunType<'a>)>,
+    },
+    /// An object is raised (JVMS 2.10).
+    Raise {
+        /// Where the object is.
+        address: u32,
+        fresh: Vec<(u32, RunType<'a>)>,
+        /// The place in the exception table, from 0, of the entry that catches it. Without one the method ends.
+        entry: Option<u16>,
+    },
+}
+
+/// What comes of a state and a choice.
+#[derive(Drop)]
+pub enum Outcome<'a> {
+    /// The state before the next instruction.
+    Next(State<'a>),
+    /// The method has ended.
+    Ended,
+    /// The state does not meet what its instruction demands.
+    Fault,
+}
+
+/// Why a step was not taken.
+#[derive(Clone, Copy, Debug, PartialEq, Eq)]
+pub enum StepFault {
+    /// 1: memory ran out.
+    OutOfMemory,
+    /// 54: the state is no fault, and nothing comes of this choice there.
+    NotAChoice,
+}
+
+impl StepFault {
+    /// The number by which this fault is told.
+    pub fn number(&self) -> u8
+        ensures { result ≡ fault_number self.now }
+    {
+        match self {
+            StepFault::OutOfMemory => 1,
+            StepFault::NotAChoice => 54,
+        }
+    }
+}
+
+impl From<AllocError> for StepFault {
+    ghost use Rattle.machine.specs.declared.choosing.StepFault.TheVariants.{OutOfMemory};
+
+    ghost from_gives = { λ _ e. e ≡ OutOfMemory };
+
+    fn from(_error: AllocError) -> StepFault {
+        StepFault::OutOfMemory
+    }
+}
+
+impl<T: Drop> From<AllocFailed<T>> for StepFault {
+    ghost use Rattle.machine.specs.declared.choosing.StepFault.TheVariants.{OutOfMemory};
+
+    ghost from_gives = { λ _ e. e ≡ OutOfMemory };
+
+    fn from(_failed: AllocFailed<T>) -> StepFault {
+        StepFault::OutOfMemory
+    }
+}

@@ -1,0 +1,155 @@
+//! The method that runs is made.
+ghost use Rattle.std.specs.Prelude.{◌≡◌, None, Some, Ok, IfOk, IfErr, IfSome, IsSome, MatchOption, map, option_map};
+ghost use Rattle.names.specs.ReferenceTypes.{array_of, reference_type};
+ghost use Rattle.names.specs.Types.{type_of};
+ghost use Rattle.classfile.specs.MethodParts.{code_at};
+ghost use Rattle.classfile.specs.Methods.{caught_type, exception_entries, method_of};
+ghost use Rattle.classfile.specs.Views.{class_view, handler_view};
+ghost use Rattle.insn.specs.Code.{FaultyCode, SpellsCode, StartsRise, UnlessMemory};
+ghost use Rattle.insn.specs.Views.{views};
+ghost use Rattle.machine.specs.Bodies.{IsEntry, code_of, entry_view, method_view};
+ghost use Rattle.machine.specs.Views.{run_type_view};
+
+use crate::body::{ExceptionEntry, Method};
+use crate::objects::RunType;
+use classfile::{ClassFile, CodeAttr, ExceptionHandler, Formed};
+use insn::{CodeFault, Insn, decode_code};
+use names::{FieldType, Text, field_type};
+use pool::Pool;
+use std::alloc::{AllocError, Global};
+
+/// The method of a number by its parts. The offsets of its instructions rise.
+#[tactic(auto, using(crate::proofs::Places::starts_rise))]
+pub(crate) fn assembled<'c, 'a>(
+    class: &'c ClassFile<'a>,
+    number: usize,
+    code: &'c CodeAttr<'a>,
+    is_static: bool,
+    is_init: bool,
+    result_type: Option<FieldType<'a>>,
+    list: Vec<(u16, Insn<'a>)>,
+    exceptions: Vec<ExceptionEntry<'a>>,
+) -> Method<'c, 'a>
+    requires { StartsRise 0 (views list.items) }
+    ensures { let m = result in
+        (m.class.now ≡ class.now) × (m.number ≡ number) × (m.code.now ≡ code.now) × (m.is_static ≡ is_static) × (m.is_init ≡ is_init)
+        × (m.result_type ≡ result_type.entry) × (m.list ≡ list.entry) × (m.exceptions ≡ exceptions.entry) }
+{
+    Method {
+        class,
+        number,
+        code,
+        is_static,
+        is_init,
+        result_type,
+        list,
+        exceptions,
+    }
+}
+
+// The name of the class of all that is raised.
+const THROWABLE: &[u8] = b"java/lang/Throwable";
+
+// An array of at least one dimension.
+fn array(t: FieldType<'_>) -> Option<RunType<'_>>
+    ensures { option_map run_type_view result ≡ array_of (Ok (type_of t.entry)) }
+{
+    match t.dims {
+        0 => None,
+        dims => Some(RunType::Array { dims, base: t.base }),
+    }
+}
+
+// The type that a Class constant of this text names (JVMS 4.4.1).
+fn reference(text: Text<'_>) -> Option<RunType<'_>>
+    ensures { option_map run_type_view result ≡ reference_type text.entry.bytes.now }
+{
+    let bytes = text.bytes();
+    match bytes.first() {
+        Some(b'[') => match field_type(text) {
+            Ok(t) => array(t),
+            Err(_) => None,
+        },
+        _ => Some(RunType::Class(bytes)),
+    }
+}
+
+// The type that an entry of the exception table catches: catch type 0 is for all that is raised.
+fn caught_type<'a>(pool: &Pool<'a>, index: u16) -> Option<RunType<'a>>
+    ensures { option_map run_type_view result ≡ caught_type pool.now index }
+{
+    if index == 0 {
+        return Some(RunType::Class(THROWABLE));
+    }
+    match pool.class_name(index) {
+        Ok(text) => reference(text),
+        Err(_) => None,
+    }
+}
+
+// An entry of the exception table, with the type that it catches.
+fn entry<'a>(pool: &Pool<'a>, handler: &ExceptionHandler) -> Option<ExceptionEntry<'a>>
+    ensures { MatchOption result (caught_type pool.now handler.now.catch_type ≡ None) (λ e. IsEntry pool.now (handler_view handler.now) (entry_view e)) }
+{
+    let caught = caught_type(pool, handler.catch_type)?;
+    Some(ExceptionEntry {
+        from: handler.start_pc,
+        to: handler.end_pc,
+        handler: handler.handler_pc,
+        caught,
+    })
+}
+
+// The exception table, if each type that it catches is there.
+fn entries<'a>(
+    alloc: Global,
+    pool: &Pool<'a>,
+    table: &[ExceptionHandler],
+) -> Result<Option<Vec<ExceptionEntry<'a>>>, AllocError>
+    ensures { IfOk result (λ o. option_map (λ v. map entry_view v.items) o ≡ exception_entries pool.now (map handler_view table.now)) }
+{
+    let mut entries = Vec::new(alloc);
+    for handler in table {
+        match entry(pool, handler) {
+            None => return Ok(None),
+            Some(found) => entries.push(found)?,
+        }
+    }
+    Ok(Some(entries))
+}
+
+impl<'c, 'a> Method<'c, 'a> {
+    /// The method of this number, which counts from 0, of a well-formed class. It is that of a method with a Code attribute.
+    ///
+    /// Refused is the first instruction of its code that is none, 31 to 35; or 1.
+    pub fn new(
+        alloc: Global,
+        formed: &Formed<'c, 'a>,
+        number: usize,
+    ) -> Result<Method<'c, 'a>, CodeFault>
+        requires { IsSome (code_at (class_view formed.now.class.now) number) }
+        // It is what the class file says of that method, with the instructions of its code.
+        ensures told { IfOk result (λ m. method_of (class_view formed.now.class.now) number (code_of m.list.items) ≡ Some (method_view m)) }
+        ensures list { IfOk result (λ m. SpellsCode 0 m.code.now.code.now (views m.list.items)) }
+        ensures fault { IfErr result (λ e. IfSome (code_at (class_view formed.now.class.now) number) (λ body. UnlessMemory e (FaultyCode body.code e))) }
+    {
+        let class = formed.class();
+        let method = formed.method(number).unwrap();
+        let code = method.code;
+        let list = decode_code(alloc, code.code)?;
+        let pool = &class.constant_pool;
+        match entries(alloc, pool, &code.exception_table)? {
+            None => unreachable!(),
+            Some(exceptions) => Ok(assembled(
+                class,
+                number,
+                code,
+                method.is_static,
+                method.is_init,
+                method.result_type,
+                list,
+                exceptions,
+            )),
+        }
+    }
+}

@@ -1,0 +1,71 @@
+//! Where instructions begin.
+ghost use Rattle.std.specs.Prelude.{◌≡◌, true, Some, None, map, option_map, slice_get, MatchOption};
+ghost use Rattle.classfile.specs.Methods.{covers};
+ghost use Rattle.insn.specs.Offsets.{at_offset, next_offset, has_offset};
+ghost use Rattle.insn.specs.Supported.{as_supported};
+ghost use Rattle.insn.specs.Views.{views, act_view};
+ghost use Rattle.machine.specs.Rising.{rises};
+ghost use Rattle.machine.specs.Bodies.{code_of, entry_view};
+ghost use Rattle.machine.specs.Demanded.{leads, all_lead};
+
+use crate::body::ExceptionEntry;
+use insn::{Act, Insn, act, is_start};
+
+// Where the instruction of this number begins, if there is one.
+fn start_at(list: &[(u16, Insn<'_>)], number: usize) -> Option<u16>
+    ensures { result ≡ option_map (λ x. x.0) (slice_get list.now number) }
+{
+    match list.get(number) {
+        None => None,
+        Some((start, _)) => Some(*start),
+    }
+}
+
+/// What the instruction at an offset does, and where the next one begins, if one begins there.
+pub fn found_at<'a>(list: &[(u16, Insn<'a>)], at: u16) -> Option<(Act<'a>, Option<u16>)>
+    requires { rises 0 (views list.now) ≡ true }
+    ensures { MatchOption result (at_offset (code_of list.now) at ≡ None)
+        (λ x. (at_offset (code_of list.now) at ≡ Some (as_supported (act_view x.0))) × (next_offset (code_of list.now) at ≡ x.1)) }
+{
+    match list.binary_search_by_key(&at, |(start, _)| *start) {
+        Err(_) => None,
+        Ok(place) => {
+            let next = start_at(list, place + 1);
+            Some((act(&list[place].1), next))
+        }
+    }
+}
+
+fn has_offset(list: &[(u16, Insn<'_>)], at: u16) -> bool
+    requires { rises 0 (views list.now) ≡ true }
+    ensures { result ≡ has_offset (code_of list.now) at }
+{
+    is_start(list, at)
+}
+
+/// Whether the entry covers the instruction at an offset.
+pub fn covers(entry: &ExceptionEntry<'_>, at: u16) -> bool
+    ensures { result ≡ covers (entry_view entry.now) at }
+{
+    entry.from <= at && at < entry.to
+}
+
+fn leads(entry: &ExceptionEntry<'_>, at: u16, list: &[(u16, Insn<'_>)]) -> bool
+    requires { rises 0 (views list.now) ≡ true }
+    ensures { result ≡ leads (code_of list.now) at (entry_view entry.now) }
+{
+    !covers(entry, at) || has_offset(list, entry.handler)
+}
+
+/// Whether an instruction begins at the handler of each entry that covers the one at an offset.
+pub fn all_lead(entries: &[ExceptionEntry<'_>], at: u16, list: &[(u16, Insn<'_>)]) -> bool
+    requires { rises 0 (views list.now) ≡ true }
+    ensures { result ≡ all_lead (code_of list.now) at (map entry_view entries.now) }
+{
+    for entry in entries {
+        if !leads(entry, at, list) {
+            return false;
+        }
+    }
+    true
+}

@@ -1,0 +1,51 @@
+//! A step of the machine.
+ghost use Rattle.hierarchy.specs.Class.{world_of};
+ghost use Rattle.machine.specs.Bodies.{method_view};
+ghost use Rattle.machine.specs.Happening.{Stepped};
+ghost use Rattle.machine.specs.Views.{state_view, choice_view};
+
+use crate::body::Method;
+use crate::choosing::{Choice, Outcome, StepFault};
+use crate::deeds::deed_of;
+use crate::demands::meets;
+use crate::going::go;
+use crate::raising::raise;
+use crate::snapshot::State;
+use crate::stacking::stack_after;
+use crate::starts::found_at;
+use hierarchy::Classes;
+use std::alloc::Global;
+
+/// A step of the machine (JVMS 2.10, 2.11, 6.5) from a state, by a choice, in the world that has these classes and no other.
+///
+/// `Fault` is answered exactly where the state does not meet the demands of its instruction, whatever the choice. Elsewhere `Next` or `Ended` is what comes of the choice, and 54 says that nothing does. 1 may be answered in place of any other answer. The state stays as it is.
+pub fn step<'a, C: Classes>(
+    alloc: Global,
+    method: &Method<'_, 'a>,
+    classes: &C,
+    state: &State<'a>,
+    choice: &Choice<'a>,
+) -> Result<Outcome<'a>, StepFault>
+    ensures { Stepped (world_of (C.content classes.now)) (method_view method.now) (state_view state.now) (choice_view choice.now) result }
+{
+    let Some((act, next)) = found_at(&method.list, state.at) else {
+        return Ok(Outcome::Fault);
+    };
+    let deed = deed_of(act, method);
+    let stack = stack_after(alloc, deed, &state.stack, &state.locals)?;
+    if !meets(method, deed, next, state, &stack) {
+        return Ok(Outcome::Fault);
+    }
+    match choice {
+        Choice::Go {
+            branch,
+            answer,
+            fresh,
+        } => go(alloc, deed, next, state, stack, *branch, *answer, fresh),
+        Choice::Raise {
+            address,
+            fresh,
+            entry,
+        } => raise(alloc, method, classes, state, *address, fresh, *entry),
+    }
+}
