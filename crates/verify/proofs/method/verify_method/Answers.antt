@@ -1,0 +1,17 @@
+use Rattle.classfile.specs.Views.{class_view}
+use Rattle.verify.proofs.Answering.{only_then, safe_then}
+use Rattle.verify.proofs.method.verify_method.Goals as goal
+
+pub verify_listed-requires-clause-listed : goal.verify_listed-requires-clause-listed
+verify_listed-requires-clause-listed g c = c.in_ok-is_listed.ensures.found.0 c.if-not-branch.false
+
+pub returns-clause-only : goal.returns-clause-only
+returns-clause-only g c =
+    only_then (g.C.Classes.content c.args.classes.now) (class_view c.args.formed.now.class.now) c.args.number c.verify_listed.result
+    c.verify_listed.ensures
+
+pub returns-clause-safe : goal.returns-clause-safe
+returns-clause-safe g c =
+    safe_then (g.C.Classes.content c.args.classes.now) (class_view c.args.formed.now.class.now) c.args.number
+    c.in_ok-is_listed.ensures.formed c.verify_listed.result
+    c.verify_listed.ensures
