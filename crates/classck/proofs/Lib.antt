@@ -1,3 +1,4 @@
 pub mod OneAnswer
 pub mod Rows
 pub mod Tellings
+pub mod Summaries

@@ -4,12 +4,13 @@ use Rattle.classfile.specs.Values.{Class}
 use Rattle.classfile.specs.Laws.{OneClass, NoFaultInClass, OneFault}
 use Rattle.classfile.specs.FormLaws.{NoFaultInFormed, OneFirstFault}
 use Rattle.classfile.specs.WellFormed.{WellFormed, IsFirstFault}
-use Rattle.classck.specs.Answers.{Read, IsFormed, IsRefused, FileSays, CheckTells, ShowTells, refusal_status}
+use Rattle.classck.specs.Answers.{FileSays, CheckTells, ShowTells}
+use Rattle.classck.specs.Files.{Read, IsFormed, IsRefused, refusal_status}
 use Rattle.classck.specs.Texts.{refusal_line}
 use Rattle.classck.specs.declared.refusal.Refusal.{Refusal}
 use Rattle.classck.specs.declared.refusal.Refusal.TheVariants.{Unread, NoClass, Malformed}
 use Rattle.classck.specs.Laws.{OneAnswer}
-use Rattle.classck.specs.declared.line.Command.TheVariants.{Check, Show}
+use Rattle.classck.specs.declared.line.Command.TheVariants.{Check, Show, Verify}
 
 -- the laws of class files that it rests on
 pub record Laws : Type 0 where
@@ -67,6 +68,7 @@ one_show : (c : Class) (text other : List ℕ) (status next : ℕ) → ShowTells
 one_show c text other status next p q = (p.0 ∙ sym q.0, p.1 ∙ sym q.1)
 
 pub same_answer : Laws → OneAnswer
-same_answer laws command [] text other status next p q = (p.0 ∙ sym q.0, p.1 ∙ sym q.1)
-same_answer laws Check (read ∷ others) text other status next p q = one_said laws CheckTells one_check read text other status next p q
-same_answer laws Show (read ∷ others) text other status next p q = one_said laws ShowTells one_show read text other status next p q
+same_answer laws command [] text other status next file p q = (p.0 ∙ sym q.0, p.1 ∙ sym q.1)
+same_answer laws Check (read ∷ others) text other status next file p q = one_said laws CheckTells one_check read text other status next p q
+same_answer laws Show (read ∷ others) text other status next file p q = one_said laws ShowTells one_show read text other status next p q
+same_answer laws Verify (read ∷ others) text other status next file p q = absurd file

@@ -1,7 +1,8 @@
 -- An answer of what is told is an answer of what is said.
 use Rattle.std.proofs.Common.{◌≡◌, ℕ, List, Option, Result, Ok, Err, inl, inr}
 use Rattle.classfile.specs.Values.{Class}
-use Rattle.classck.specs.Answers.{Read, Answered, IsFormed, IsRefused, FileSays, refusal_status}
+use Rattle.classck.specs.Answers.{Answered, FileSays}
+use Rattle.classck.specs.Files.{Read, IsFormed, IsRefused, refusal_status}
 use Rattle.classck.specs.Texts.{refusal_line}
 use Rattle.classck.specs.declared.refusal.Refusal.{Refusal}
 use Rattle.classck.specs.declared.fault.AnswerFault.{AnswerFault}

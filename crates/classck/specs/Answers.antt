@@ -1,54 +1,28 @@
 -- What is answered to a request: a text and a status.
-use Rattle.std.specs.Prelude.{◌≡◌, ◌⊎◌, ℕ, Bool, true, false, List, [], ◌∷◌, codes, if◌then◌else◌, Option, Some, None, Result, Ok, Err, Vec}
+use Rattle.std.specs.Prelude.{◌≡◌, ◌⊎◌, ℕ, Bool, true, false, List, [], ◌∷◌, ◌++◌, ◌+◌, map, codes, if◌then◌else◌, Option, Some, None, Result, Ok, Err}
 use Rattle.std.specs.List.{list_any}
 use Rattle.std.specs.Io.KnownBytes.{Appends, Keeps}
-use Rattle.layout.specs.declared.fault.StreamFault.{StreamFault}
 use Rattle.layout.specs.declared.fault.ReadFault.{ReadFault}
 use Rattle.layout.specs.declared.fault.ReadFault.TheVariants as reading
 use Rattle.classfile.specs.Values.{Class}
-use Rattle.classfile.specs.ClassFile.{IsClass, ClassFault}
 use Rattle.classfile.specs.WellFormed.{WellFormed, IsFirstFault}
 use Rattle.classfile.specs.declared.class_file.ClassFile.{ClassFile}
 use Rattle.classfile.specs.Views.{class_view}
 use Rattle.printing.specs.Classes.{class_lines, has_refused}
 use Rattle.printing.specs.Writing.{AppendsFront}
+use Rattle.hierarchy.specs.declared.summary.Summary.{Summary}
+use Rattle.classfile.specs.declared.form.Formed.{Formed}
+use Rattle.hierarchy.specs.Summary.{fact_of, facts_of}
+use Rattle.hierarchy.specs.ClassSummary.{summary_of}
+use Rattle.classck.specs.Files.{Read, IsDecoded, IsFormed, IsRefused, refusal_status}
+use Rattle.classck.specs.Verdicts.{AreFormed, IsFirstRefused, VerifySays}
 use Rattle.classck.specs.Texts.{refusal_line}
 use Rattle.classck.specs.declared.refusal.Refusal.{Refusal}
-use Rattle.classck.specs.declared.refusal.Refusal.TheVariants.{Unread, NoClass, Malformed}
+use Rattle.classck.specs.declared.refusal.Refusal.TheVariants.{NoClass, Malformed}
 use Rattle.classck.specs.declared.fault.AnswerFault.{AnswerFault}
 use Rattle.classck.specs.declared.fault.AnswerFault.TheVariants.{OutOfMemory, WriteFailed}
 use Rattle.classck.specs.declared.line.Command.{Command}
-use Rattle.classck.specs.declared.line.Command.TheVariants.{Check, Show}
-
--- a file as it was read: its bytes, or why it could not be
-abbrev pub Read : Type 0
-Read = Result (List ℕ) ReadFault
-
-abbrev pub read_view : {Z : Type 0} → Result (Vec ℕ Z) StreamFault → Read
-read_view (Ok bytes) = Ok bytes.items
-read_view (Err fault) = Err fault.why
-
--- the status where a file could not be read
-abbrev pub read_status : ReadFault → ℕ
-read_status (reading.ReadFailed at) = 2
-read_status e = 1
-
--- the file is this class, which is well formed
-abbrev pub IsFormed : Read → Class → Type 0
-IsFormed (Ok bytes) c = IsClass bytes c × WellFormed c
-IsFormed (Err fault) c = ⊥
-
--- The file is none for this reason: it could not be read; it is no class; or the class breaks this rule first.
-abbrev pub IsRefused : Read → Refusal → Type 0
-IsRefused (Err fault) (Unread e) = fault ≡ e
-IsRefused (Ok bytes) (NoClass e) = ClassFault bytes e
-IsRefused (Ok bytes) (Malformed rule place) = (c : Class) × IsClass bytes c × IsFirstFault c rule place
-IsRefused read refusal = ⊥
-
-abbrev pub refusal_status : Refusal → ℕ
-refusal_status (Unread e) = read_status e
-refusal_status (NoClass e) = 1
-refusal_status (Malformed rule place) = 1
+use Rattle.classck.specs.declared.line.Command.TheVariants.{Check, Show, Verify}
 
 -- What is said of a file: what is told of the class that it is, or why it is none.
 abbrev pub FileSays : (Class → List ℕ → ℕ → Type 0) → Read → List ℕ → ℕ → Type 0
@@ -69,6 +43,7 @@ abbrev pub Says : Command → List Read → List ℕ → ℕ → Type 0
 Says command [] text status = (text ≡ []) × (status ≡ 0)
 Says Check (read ∷ others) text status = FileSays CheckTells read text status
 Says Show (read ∷ others) text status = FileSays ShowTells read text status
+Says Verify (read ∷ known) text status = VerifySays read known text status
 
 -- What an answer did to the bytes that its writer holds: all of what is to be said was written; or nothing, where memory
 -- ran out; or a beginning of it, where a write failed.
@@ -104,3 +79,28 @@ abbrev pub Decides : Read → Result (Result ClassFile Refusal) AnswerFault → 
 Decides read (Ok (Ok class)) = IsFormed read (class_view class)
 Decides read (Ok (Err refusal)) = IsRefused read refusal
 Decides read (Err e) = e ≡ OutOfMemory
+
+-- the class that the bytes of a file are, or why they are none
+abbrev pub Decodes : Read → Result (Result ClassFile Refusal) AnswerFault → Type 0
+Decodes read (Ok (Ok class)) = IsDecoded read (class_view class)
+Decodes read (Ok (Err refusal)) = IsRefused read refusal
+Decodes read (Err e) = e ≡ OutOfMemory
+
+-- the summary of the class that a file is
+abbrev pub Summarises : Read → Result (Result Summary Refusal) AnswerFault → Type 0
+Summarises read (Ok (Ok summary)) = (c : Class) × IsFormed read c × (fact_of summary ≡ summary_of c)
+Summarises read (Ok (Err refusal)) = IsRefused read refusal
+Summarises read (Err e) = e ≡ OutOfMemory
+
+-- a class that is well formed, or the first rule that it breaks
+abbrev pub Forms : ClassFile → Result (Result Formed Refusal) AnswerFault → Type 0
+Forms class (Ok (Ok formed)) = (formed.class.now ≡ class) × WellFormed (class_view class)
+Forms class (Ok (Err (Malformed rule place))) = IsFirstFault (class_view class) rule place
+Forms class (Ok (Err refusal)) = ⊥
+Forms class (Err e) = e ≡ OutOfMemory
+
+-- The summaries of these files stand behind those that were there; or the file of this number, from 1 on, is the first that is refused.
+abbrev pub Adds : List Read → List Summary → List Summary → Result (Option (ℕ × Refusal)) AnswerFault → Type 0
+Adds known old new (Ok None) = (cs : List Class) × AreFormed known cs × (facts_of new ≡ facts_of old ++ map summary_of cs)
+Adds known old new (Ok (Some (number, refusal))) = (i : ℕ) × (number ≡ i + 1) × IsFirstRefused known i refusal
+Adds known old new (Err e) = e ≡ OutOfMemory

@@ -3,3 +3,5 @@ pub mod Laws
 pub mod Line
 pub mod Texts
 pub mod Writing
+pub mod Files
+pub mod Verdicts

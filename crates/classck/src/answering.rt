@@ -1,12 +1,14 @@
 //! Answers a request.
 ghost use Rattle.std.specs.Prelude.{◌≡◌, length, map, Err, true};
-ghost use Rattle.classck.specs.Answers.{Answered, Says, has_lost, is_lost, read_view};
+ghost use Rattle.classck.specs.Answers.{Answered, Says, has_lost, is_lost};
+ghost use Rattle.classck.specs.Files.{read_view};
 ghost use Rattle.classck.specs.declared.fault.AnswerFault.TheVariants.{OutOfMemory};
 
 use crate::checking::check;
 use crate::fault::AnswerFault;
 use crate::line::{Command, Request};
 use crate::showing::show;
+use crate::verifying::verify;
 use layout::{ReadFault, StreamFault};
 use std::alloc::Global;
 use std::hash::BuildHasher;
@@ -20,7 +22,7 @@ pub fn answer<W: Write, S: BuildHasher + Drop>(
     alloc: Global,
     request: &Request,
     reads: &[Result<Vec<u8>, StreamFault>],
-    _hasher: S,
+    hasher: S,
     out: &mut W,
 ) -> Result<u8, AnswerFault>
     requires { length reads.now ≡ length request.now.files.items }
@@ -32,9 +34,10 @@ pub fn answer<W: Write, S: BuildHasher + Drop>(
     }
     match reads {
         [] => Ok(0),
-        [read, ..] => match request.command {
+        [read, known @ ..] => match request.command {
             Command::Check => check(alloc, read, out),
             Command::Show => show(alloc, read, out),
+            Command::Verify => verify(alloc, read, known, hasher, out),
         },
     }
 }

@@ -1,5 +1,6 @@
 //! The command `check`: whether a file is a class file that is well formed.
-ghost use Rattle.classck.specs.Answers.{Answered, CheckTells, FileSays, read_view};
+ghost use Rattle.classck.specs.Answers.{Answered, CheckTells, FileSays};
+ghost use Rattle.classck.specs.Files.{read_view};
 
 use crate::fault::AnswerFault;
 use crate::forming::class_of;

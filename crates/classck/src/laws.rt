@@ -3,7 +3,7 @@ ghost use Rattle.classck.specs.Laws.{OneAnswer};
 
 use classfile::{no_fault_in_class, no_fault_in_formed, one_class, one_fault, one_first_fault};
 
-/// To a request about files that were read so there is one text and one status.
+/// To a request about one file that was read so there is one text and one status.
 pub fn one_answer()
     ensures { OneAnswer }
 {

@@ -11,6 +11,9 @@ pub enum Command {
     Check,
     /// `show FILE`: what the class file holds.
     Show,
+    /// `verify CLASS KNOWN...`: the verdicts on the methods of the class in the first file, which may refer to the classes
+    /// in the others.
+    Verify,
 }
 
 /// What a command line asks for.

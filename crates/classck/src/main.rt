@@ -1,7 +1,7 @@
 //! `classck`: verifies Java class files by type checking.
 //!
 //! `main` reads the line (`parsing`), opens and reads the files (`reading`), answers (`answering`, with a module for
-//! each command: `checking`, `showing`), and prints the answer, or why there is none (`complaining`). What is said is
+//! each command: `checking`, `showing`, `verifying`), and prints the answer, or why there is none (`complaining`). What is said is
 //! decided first (`forming`), and then written (`telling`, `refusal`).
 #![tactic(auto)]
 
@@ -20,6 +20,8 @@ mod showing;
 mod telling;
 #[cfg(test)]
 mod tests;
+mod verdicts;
+mod verifying;
 
 use crate::answering::answer;
 use crate::complaining::complaint;

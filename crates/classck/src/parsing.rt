@@ -1,8 +1,8 @@
 //! Reads a command line.
-ghost use Rattle.std.specs.Prelude.{◌≡◌, IfOk, codes, false, map, string_bytes};
-ghost use Rattle.clap.specs.Words.{app_of, rows_of, found_of, new_app, with_rule};
+ghost use Rattle.std.specs.Prelude.{◌≡◌, ◌++◌, IfOk, OnOk, codes, false, map, string_bytes};
+ghost use Rattle.clap.specs.Words.{Kinds, HasKind, app_of, rule_of, rows_of, found_of, new_app, with_rule};
 ghost use Rattle.clap.specs.declared.builder.command.Command.TheViews.{out-Command};
-ghost use Rattle.classck.specs.Line.{line, file, Asks, command_named, files_in};
+ghost use Rattle.classck.specs.Line.{line, line_of_file, file, class_file, known_files, IsFault, Asks, command_named, words_for, files_in};
 
 use crate::line::{Command, LineFault, Request};
 use clap::{Arg, ArgMatches, Command as Parser};
@@ -43,9 +43,48 @@ fn show<'a>(alloc: Global) -> Result<Parser<'a>, AllocError>
     ))
 }
 
-/// The command lines that the program knows.
-fn parser<'a>(alloc: Global) -> Result<Parser<'a>, AllocError>
-    ensures { IfOk result (λ c. app_of c ≡ line) }
+/// The file of the class that is verified.
+fn class_file<'a>(alloc: Global) -> Arg<'a>
+    ensures rule { rule_of result ≡ class_file }
+    ensures local { result.global ≡ false }
+{
+    Arg::new(alloc, "CLASS")
+        .required(true)
+        .help("The path of the file of the class that is verified")
+}
+
+/// Any number of files of known classes.
+fn known_files<'a>(alloc: Global) -> Arg<'a>
+    ensures rule { rule_of result ≡ known_files }
+    ensures local { result.global ≡ false }
+{
+    Arg::new(alloc, "KNOWN").num_args(0..).help(
+        "The paths of the files of the classes that it may refer to, java/lang/Object among them",
+    )
+}
+
+/// A command that takes the file of a class and those of known ones.
+fn class_and_known<'a>(alloc: Global) -> Result<Parser<'a>, AllocError>
+    ensures app { IfOk result (λ c. app_of c ≡ with_rule (with_rule (new_app (codes "verify")) class_file) known_files) }
+    ensures local { IfOk result (λ c. (out-Command c).has_globals ≡ false) }
+{
+    Parser::new(alloc, "verify")
+        .arg(class_file(alloc))?
+        .arg(known_files(alloc))
+}
+
+/// `verify CLASS KNOWN...`
+fn verify<'a>(alloc: Global) -> Result<Parser<'a>, AllocError>
+    ensures app { IfOk result (λ c. app_of c ≡ with_rule (with_rule (new_app (codes "verify")) class_file) known_files) }
+    ensures local { IfOk result (λ c. (out-Command c).has_globals ≡ false) }
+{
+    let command = class_and_known(alloc)?;
+    Ok(command.about("Prints the verdict on each method of a class"))
+}
+
+/// The command lines of one file.
+fn commands_of_files<'a>(alloc: Global) -> Result<Parser<'a>, AllocError>
+    ensures { IfOk result (λ c. app_of c ≡ line_of_file) }
 {
     Parser::new(alloc, "classck")
         .about("Verifies Java class files by type checking")
@@ -55,26 +94,52 @@ fn parser<'a>(alloc: Global) -> Result<Parser<'a>, AllocError>
         .subcommand(show(alloc)?)
 }
 
-/// Copies of the words.
-fn owned(alloc: Global, words: &[&str]) -> Result<Vec<String>, AllocError>
-    ensures { IfOk result (λ v. map string_bytes v.items ≡ map (λ w. w.now) words.now) }
+/// The command lines that the program knows.
+fn parser<'a>(alloc: Global) -> Result<Parser<'a>, AllocError>
+    ensures { IfOk result (λ c. app_of c ≡ line) }
 {
-    let mut copies = Vec::new(alloc);
+    commands_of_files(alloc)?.subcommand(verify(alloc)?)
+}
+
+/// Adds copies of the words.
+fn add_owned(alloc: Global, words: &[&str], files: &mut Vec<String>) -> Result<(), AllocError>
+    ensures { OnOk result (map string_bytes files.new.items ≡ map string_bytes files.old.items ++ map (λ w. w.now) words.now) }
+{
     for word in words {
-        copies.push(String::from_str(alloc, word)?)?;
+        files.push(String::from_str(alloc, word)?)?;
     }
-    Ok(copies)
+    Ok(())
+}
+
+/// Adds the words for the argument of this name.
+#[tactic(auto, using(crate::proofs::Rows::raw_rows))]
+fn add_words(
+    alloc: Global,
+    found: &ArgMatches<'_>,
+    name: &str,
+    files: &mut Vec<String>,
+) -> Result<(), AllocError>
+    ensures { OnOk result (map string_bytes files.new.items ≡ map string_bytes files.old.items ++ words_for name.now (rows_of (found_of found.now))) }
+{
+    match found.get_strs(name) {
+        Some(words) => add_owned(alloc, words, files),
+        None => Ok(()),
+    }
 }
 
 /// The files that the words after a command name.
-#[tactic(auto, using(crate::proofs::Rows::raw_rows))]
-fn files(alloc: Global, found: &ArgMatches<'_>) -> Result<Vec<String>, AllocError>
-    ensures { IfOk result (λ v. map string_bytes v.items ≡ files_in (rows_of (found_of found.now))) }
+fn files(alloc: Global, command: Command, found: &ArgMatches<'_>) -> Result<Vec<String>, AllocError>
+    ensures { IfOk result (λ v. map string_bytes v.items ≡ files_in command (rows_of (found_of found.now))) }
 {
-    match found.get_strs("FILE") {
-        Some(words) => owned(alloc, words),
-        None => Ok(Vec::new(alloc)),
+    let mut files = Vec::new(alloc);
+    match command {
+        Command::Check | Command::Show => add_words(alloc, found, "FILE", &mut files)?,
+        Command::Verify => {
+            add_words(alloc, found, "CLASS", &mut files)?;
+            add_words(alloc, found, "KNOWN", &mut files)?;
+        }
     }
+    Ok(files)
 }
 
 /// The command of this name.
@@ -83,8 +148,21 @@ fn command_named(name: &str) -> Command
 {
     if name == "show" {
         Command::Show
+    } else if name == "verify" {
+        Command::Verify
     } else {
         Command::Check
+    }
+}
+
+/// Why a line asks for nothing, of which `clap` says so.
+fn line_fault(error: clap::Error) -> LineFault
+    ensures { (kinds : Kinds) → HasKind kinds error → IsFault kinds result }
+{
+    if matches!(error.kind(), clap::error::ErrorKind::OutOfMemory) {
+        LineFault::OutOfMemory
+    } else {
+        LineFault::NoRequest(error)
     }
 }
 
@@ -95,18 +173,16 @@ pub fn request(alloc: Global, words: &[&str]) -> Result<Request, LineFault>
     let parser = parser(alloc)?;
     let matches = match parser.try_get_matches_from(words) {
         Ok(matches) => matches,
-        Err(error) => {
-            if matches!(error.kind(), clap::error::ErrorKind::OutOfMemory) {
-                return Err(LineFault::OutOfMemory);
-            }
-            return Err(LineFault::NoRequest(error));
-        }
+        Err(error) => return Err(line_fault(error)),
     };
     match matches.subcommand() {
-        Some((name, found)) => Ok(Request {
-            command: command_named(name),
-            files: files(alloc, found)?,
-        }),
+        Some((name, found)) => {
+            let command = command_named(name);
+            Ok(Request {
+                command,
+                files: files(alloc, command, found)?,
+            })
+        }
         None => unreachable!(),
     }
 }

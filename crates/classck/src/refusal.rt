@@ -1,7 +1,7 @@
 //! Why a file is no class that is well formed.
 ghost use Rattle.std.specs.Prelude.{◌≡◌};
 ghost use Rattle.classck.specs.Texts.{refusal_text};
-ghost use Rattle.classck.specs.Answers.{refusal_status};
+ghost use Rattle.classck.specs.Files.{refusal_status};
 
 use classfile::{FormRule, Place};
 use layout::ReadFault;

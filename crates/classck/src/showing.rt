@@ -1,5 +1,6 @@
 //! The command `show`: what a class file holds.
-ghost use Rattle.classck.specs.Answers.{Answered, ShowTells, FileSays, read_view};
+ghost use Rattle.classck.specs.Answers.{Answered, ShowTells, FileSays};
+ghost use Rattle.classck.specs.Files.{read_view};
 
 use crate::fault::AnswerFault;
 use crate::forming::class_of;

@@ -1,6 +1,7 @@
 //! Writes what was decided.
 ghost use Rattle.std.specs.Prelude.{◌≡◌};
-ghost use Rattle.classck.specs.Answers.{Answered, refusal_status};
+ghost use Rattle.classck.specs.Answers.{Answered};
+ghost use Rattle.classck.specs.Files.{refusal_status};
 ghost use Rattle.classck.specs.Texts.{refusal_line};
 
 use crate::fault::AnswerFault;

@@ -5,6 +5,7 @@ use crate::complaining::complaint;
 use crate::fault::{AnswerFault, MainFault};
 use crate::line::{Command, LineFault, Request};
 use crate::parsing::request;
+use crate::verifying::verify;
 use clap::error::ErrorKind;
 use layout::{ReadFault, StreamFault};
 use std::alloc::{AllocError, Global};
@@ -66,6 +67,13 @@ impl Write for Counted {
         Ok(())
     }
 }
+
+/// The class file of `java/lang/Object`, without members.
+const O: [u8; 46] = [
+    0xCA, 0xFE, 0xBA, 0xBE, 0, 0, 0, 0x34, 0, 3, 7, 0, 2, 1, 0, 0x10, 0x6A, 0x61, 0x76, 0x61, 0x2F,
+    0x6C, 0x61, 0x6E, 0x67, 0x2F, 0x4F, 0x62, 0x6A, 0x65, 0x63, 0x74, 0, 0x21, 0, 1, 0, 0, 0, 0, 0,
+    0, 0, 0, 0, 0,
+];
 
 fn one_file(alloc: Global) -> Result<Request, AllocError>
     ensures { IfOk result (λ r. length r.files.items ≡ 1) }
@@ -193,6 +201,87 @@ fn malformed_classes(rt: HostRuntime) -> Result<(), Fail> {
     bytes.extend_from_slice(&K[91..])?;
     let (status, out) = checked(&rt, rt.alloc(), RandomState::new(&rt)?, &bytes)?;
     assert!(rt; status == 1 && out.as_slice() == b"refused 29 method 0\n".as_slice());
+    Ok(())
+}
+
+/// What `verify` prints of these files, and its status.
+fn verified(
+    rt: &impl Abort,
+    alloc: Global,
+    hasher: RandomState,
+    class: &[u8],
+    known: &[&[u8]],
+) -> Result<(u8, Vec<u8>), AllocError> {
+    let mut reads: Vec<Result<Vec<u8>, StreamFault>> = Vec::new(alloc);
+    for bytes in known {
+        reads.push(Ok(bytes.to_vec(alloc)?))?;
+    }
+    let read = Ok(class.to_vec(alloc)?);
+    let mut out: Vec<u8> = Vec::new(alloc);
+    match verify(alloc, &read, &reads, hasher, &mut out) {
+        Ok(status) => Ok((status, out)),
+        Err(AnswerFault::OutOfMemory) => Err(AllocError),
+        Err(AnswerFault::WriteFailed) => panic!(rt; "a failed write"),
+    }
+}
+
+#[test]
+fn verdicts(rt: HostRuntime) -> Result<(), Fail> {
+    let (status, out) = verified(&rt, rt.alloc(), RandomState::new(&rt)?, &K, &[&O])?;
+    assert!(rt; status == 0 && out.as_slice() == b"method f ()V verified\n".as_slice());
+    let mut falls_off = K.to_vec(rt.alloc())?;
+    assert!(rt; falls_off.len() == 97);
+    falls_off[90] = 0;
+    let (status, out) = verified(&rt, rt.alloc(), RandomState::new(&rt)?, &falls_off, &[&O])?;
+    assert!(rt; status == 1 && out.as_slice() == b"method f ()V refused 71 at 0\n".as_slice());
+    Ok(())
+}
+
+#[test]
+fn no_verdicts(rt: HostRuntime) -> Result<(), Fail> {
+    let (status, out) = verified(&rt, rt.alloc(), RandomState::new(&rt)?, &K, &[])?;
+    assert!(rt; status == 1 && out.as_slice() == b"hierarchy refused 42 K\n".as_slice());
+    let (status, out) = verified(&rt, rt.alloc(), RandomState::new(&rt)?, &K, &[&O, &O])?;
+    assert!(rt;
+        status == 1 && out.as_slice() == b"hierarchy refused 40 java/lang/Object\n".as_slice()
+    );
+    let (status, out) = verified(&rt, rt.alloc(), RandomState::new(&rt)?, &K[..96], &[&O])?;
+    assert!(rt; status == 1 && out.as_slice() == b"class refused 2 at 95\n".as_slice());
+    let (status, out) = verified(&rt, rt.alloc(), RandomState::new(&rt)?, &K, &[&O, &O[..45]])?;
+    assert!(rt; status == 1 && out.as_slice() == b"known 2 refused 2 at 44\n".as_slice());
+    Ok(())
+}
+
+/// The commands through one answer, and their lines.
+#[test]
+fn other_commands(rt: HostRuntime) -> Result<(), Fail> {
+    let mut asked = one_file(rt.alloc())?;
+    let mut reads = one_read(rt.alloc(), &K)?;
+    asked.command = Command::Show;
+    let mut out: Vec<u8> = Vec::new(rt.alloc());
+    let status = answer(rt.alloc(), &asked, &reads, RandomState::new(&rt)?, &mut out)?;
+    assert!(rt;
+        status == 0
+            && out
+                .as_slice()
+                .starts_with(b"class K major 52 minor 0 flags 0021\n".as_slice())
+    );
+    asked.command = Command::Verify;
+    asked.files.push(String::from_str(rt.alloc(), "b")?)?;
+    reads.push(Ok(O.to_vec(rt.alloc())?))?;
+    let mut out: Vec<u8> = Vec::new(rt.alloc());
+    let status = answer(rt.alloc(), &asked, &reads, RandomState::new(&rt)?, &mut out)?;
+    assert!(rt; status == 0 && out.as_slice() == b"method f ()V verified\n".as_slice());
+    let line = request(rt.alloc(), &["classck", "verify", "K", "O", "P"]);
+    match line {
+        Ok(line) => assert!(rt;
+            line.command == Command::Verify
+                && line.files.len() == 3
+                && line.files[2].as_str() == "P"
+        ),
+        Err(LineFault::OutOfMemory) => return Err(Fail::from(AllocError)),
+        Err(LineFault::NoRequest(_)) => panic!(rt; "no request"),
+    }
     Ok(())
 }
 

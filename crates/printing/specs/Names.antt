@@ -1,7 +1,7 @@
 -- The texts of flags and names.
-use Rattle.std.specs.Prelude.{ℕ, ◌+◌, ◌/◌, ◌%◌, Bool, not, ◌&&◌, nat_eq, nat_le, nat_lt, if◌then◌else◌, List, [], ◌∷◌, Result, Ok, Err}
+use Rattle.std.specs.Prelude.{ℕ, ◌+◌, ◌/◌, ◌%◌, Bool, not, is_none, ◌&&◌, nat_eq, nat_le, nat_lt, if◌then◌else◌, List, [], ◌∷◌, Result, Ok, Err}
 use Rattle.std.specs.List.{flat_map}
-use Rattle.names.specs.Units.{units_of}
+use Rattle.names.specs.Units.{bad_text, units_of}
 use Rattle.pool.specs.declared.fault.PoolFault.{PoolFault}
 use Rattle.pool.specs.Entries.{Entry}
 use Rattle.pool.specs.Lookups.{text_at, class_name_at}
@@ -24,6 +24,10 @@ unit_text unit = if is_plain unit then unit ∷ [] else 92 ∷ 117 ∷ hexadecim
 
 abbrev pub name_text : List ℕ → List ℕ
 name_text bytes = flat_map unit_text (units_of bytes)
+
+-- the text of bytes that spell one; of others nothing
+abbrev pub spelled_text : List ℕ → List ℕ
+spelled_text bytes = if is_none (bad_text bytes) then name_text bytes else []
 
 -- ---- texts of the constant pool; of a constant that is not there nothing is written
 

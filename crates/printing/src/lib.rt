@@ -20,8 +20,8 @@ mod name;
 mod print;
 
 pub use listing::Listing;
-pub use name::{ClassName, ConstantText, Hexadecimal, Name};
-pub use print::{Number, Print, Then, Word, WriteFailed, put_bytes};
+pub use name::{ClassName, ConstantText, Hexadecimal, Name, Spelled};
+pub use print::{Lines, Number, Print, Then, Word, WriteFailed, put_bytes, put_lines};
 
 #[cfg(test)]
 mod tests;

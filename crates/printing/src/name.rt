@@ -4,7 +4,7 @@ ghost use Rattle.printing.specs.Writing.{Writes};
 ghost use Rattle.printing.specs.Names.{digit, hexadecimal, unit_text, name_text, constant_text, class_text};
 
 use crate::print::{Print, WriteFailed, put_bytes};
-use names::Text;
+use names::{Text, check_text};
 use pool::Pool;
 use std::io::Write;
 
@@ -74,6 +74,23 @@ impl<'a> Print for Name<'a> {
             }
         }
         Ok(())
+    }
+}
+
+/// Bytes that spell a text, as a [`Name`]. Of other bytes nothing is written.
+#[derive(Clone, Copy)]
+pub struct Spelled<'a>(pub &'a [u8]);
+
+impl<'a> Print for Spelled<'a> {
+    ghost use Rattle.printing.specs.Names.{spelled_text};
+
+    ghost text = { λ t. spelled_text t.0.now };
+
+    fn put<W: Write>(&self, out: &mut W) -> Result<(), WriteFailed> {
+        match check_text(self.0) {
+            Ok(text) => Name(text).put(out),
+            Err(_) => put_bytes(out, &[]),
+        }
     }
 }
 

@@ -1,6 +1,7 @@
 -- None so far is lost, so it rests with the others.
 use Rattle.std.proofs.Common.{◌≡◌, map, drop}
-use Rattle.classck.specs.Answers.{has_lost, read_view}
+use Rattle.classck.specs.Answers.{has_lost}
+use Rattle.classck.specs.Files.{read_view}
 use Rattle.classck.proofs.answering.has_lost.Given as goal
 
 abbrev pub invariant-loop-read : goal.invariant-loop-read

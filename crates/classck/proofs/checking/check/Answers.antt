@@ -1,6 +1,7 @@
 use Rattle.std.proofs.Common.{Ok, subst}
 use Rattle.classfile.specs.Views.{class_view}
-use Rattle.classck.specs.Answers.{Decides, IsFormed, IsRefused, CheckTells, read_view}
+use Rattle.classck.specs.Answers.{Decides, CheckTells}
+use Rattle.classck.specs.Files.{IsFormed, IsRefused, read_view}
 use Rattle.classck.proofs.Tellings.{of_class, of_refusal}
 use Rattle.classck.proofs.checking.check.Goals as goal
 

@@ -1,4 +1,4 @@
-use Rattle.std.proofs.Common.{◌≡◌, ◌∙◌, map, option_map, List, Option, Some, None, true, refl, sym, ap, []}
+use Rattle.std.proofs.Common.{◌≡◌, ◌∙◌, map, option_map, List, Option, Some, None, true, refl, sym, ap, subst, []}
 use Rattle.clap.specs.Words.{Text, app_of, rows_of, found_of, is_simple, is_simple_and_free, fault_of, subcommand_of, subcommand_rows_of}
 use Rattle.clap.specs.Simple.{subcommand_rows}
 use Rattle.clap.specs.declared.parser.matches.ArgMatches.TheViews.{out-ArgMatches, out-SubCommand}
@@ -6,7 +6,7 @@ use Rattle.std.specs.Prelude.{Box}
 use Rattle.std.specs.Box.{box_value}
 use Rattle.clap.specs.declared.parser.matches.SubCommand.{SubCommand}
 use Rattle.clap.proofs.OnLiterals.{clap_on_literals}
-use Rattle.classck.specs.Line.{line, asked, files_in}
+use Rattle.classck.specs.Line.{line, IsFault, asked, files_in}
 use Rattle.classck.proofs.parsing.request.Goals as goal
 
 free : is_simple_and_free line ≡ true
@@ -37,6 +37,12 @@ returns c =
     let name : Some c.in-Some.name.now ≡ option_map (λ p. p.0) (subcommand_rows_of m) = c.in-Some.ensures.name ∙ sym (name_in (out-ArgMatches m).subcommand) in (
       ap (λ a. fault_of a words) (sym is_line) ∙ none,
       ap (λ a. asked (subcommand_of a words)) (sym is_line) ∙ ap asked (sym rows) ∙ ap asked (sym (both (subcommand_rows_of m) _ _ name found))
-          ∙ ap (λ command. Some (command, files_in (rows_of (found_of c.in-Some.found.now)))) (sym c.command_named.ensures)
-          ∙ ap (λ files. Some (c.command_named.result, files)) (sym c.in_ok-files-in-Some.ensures),
+          ∙ ap (λ command. Some (command, files_in command (rows_of (found_of c.in-Some.found.now)))) (sym c.command_named-command.ensures)
+          ∙ ap (λ files. Some (c.command_named-command.result, files)) (sym c.in_ok-files-in-Some.ensures),
     )
+
+pub returns-in-Err : goal.returns-in-Err
+returns-in-Err c =
+    let words : List Text = map (λ w. w.now) c.args.words.now in
+    let is_line : app_of c.in_ok-parser.parser ≡ line = c.in_ok-parser.ensures in
+    subst (λ a. IsFault (fault_of a words) c.line_fault.result) is_line (c.line_fault.ensures (fault_of (app_of c.in_ok-parser.parser) words) (c.in-Err.ensures.kinds (ap is_simple_and_free is_line ∙ free)))

@@ -1,7 +1,8 @@
 use Rattle.std.proofs.Common.{rules, ◌≡◌, ◌∙◌, Ok, if◌then◌else◌, subst}
 use Rattle.classfile.specs.Views.{class_view}
 use Rattle.printing.specs.Classes.{class_lines, has_refused}
-use Rattle.classck.specs.Answers.{Decides, IsFormed, IsRefused, ShowTells, read_view}
+use Rattle.classck.specs.Answers.{Decides, ShowTells}
+use Rattle.classck.specs.Files.{IsFormed, IsRefused, read_view}
 use Rattle.classck.proofs.Tellings.{of_class, of_refusal}
 use Rattle.classck.proofs.showing.show.Goals as goal
 

@@ -1,0 +1,14 @@
+use Rattle.std.proofs.Common.{◌≡◌, ◌∙◌, ◌++◌, [], None, map, option_map, string_bytes, sym, ap}
+use Rattle.std.specs.Option.{unwrap_or}
+use Rattle.std.proofs.lemmas.List.{append-nil}
+use Rattle.clap.specs.Words.{all_of, rows_of, found_of}
+use Rattle.classck.proofs.Rows.{raw_rows}
+use Rattle.classck.proofs.parsing.add_words.Goals as goal
+
+pub returns-in-None : goal.returns-in-None
+returns-in-None c =
+    let found = found_of c.args.found.now in
+    let none : all_of c.args.name.now (rows_of found) ≡ None =
+    sym (raw_rows found c.args.name.now) ∙ sym c.get_strs.ensures ∙ ap (option_map (λ s. map (λ v. v.now) s.now)) c.in-None.is in
+    let old = map string_bytes c.args.files.now.items in
+    sym (append-nil old) ∙ ap (λ o. old ++ unwrap_or o []) (sym none)

@@ -1,0 +1,27 @@
+use Rattle.std.proofs.Common.{◌≡◌, ◌∙◌, Bool, false, ◌||◌, Result, Ok, Err, ap}
+use Rattle.std.specs.Prelude.{IfOk}
+use Rattle.clap.specs.Words.{app_of, with_rule}
+use Rattle.clap.specs.declared.builder.command.Command.TheViews.{out-Command}
+use Rattle.classck.specs.Line.{class_file, known_files}
+use Rattle.classck.proofs.parsing.class_and_known.Goals as goal
+
+if_ok : {T E : Type 0} (r : Result T E) (P Q : T → Type 0) → IfOk r P → ((x : T) → P x → Q x) → IfOk r Q
+if_ok (Ok x) P Q p f = f x p
+if_ok (Err e) P Q p f = p
+
+neither : (a b : Bool) → a ≡ false → b ≡ false → (a || b) ≡ false
+neither a b x y = ap (λ z. z || b) x ∙ y
+
+pub returns-clause-app : goal.returns-clause-app
+returns-clause-app c =
+    let first = c.in_ok-arg.field-0 in
+    let one : app_of first ≡ with_rule (app_of c.new.result) class_file = c.in_ok-arg.ensures.shape c.class_file.ensures.local ∙ ap (with_rule (app_of c.new.result)) c.class_file.ensures.rule in
+    if_ok c.arg-2.result _ _ c.arg-2.ensures (λ x a.
+    a.shape c.known_files.ensures.local ∙ ap (with_rule (app_of first)) c.known_files.ensures.rule
+    ∙ ap (λ o. with_rule o known_files) (one ∙ ap (λ o. with_rule o class_file) c.new.ensures.app))
+
+pub returns-clause-local : goal.returns-clause-local
+returns-clause-local c =
+    let first = c.in_ok-arg.field-0 in
+    let one : (out-Command first).has_globals ≡ false = c.in_ok-arg.ensures.globals ∙ neither _ _ c.new.ensures.local c.class_file.ensures.local in
+    if_ok c.arg-2.result _ _ c.arg-2.ensures (λ x a. a.globals ∙ neither _ _ one c.known_files.ensures.local)
