@@ -216,3 +216,15 @@ fn exceptions_are_caught_or_not(rt: HostRuntime) -> Result<(), Fail> {
     assert!(rt; matches!(uncaught, Ok(Outcome::Ended)));
     Ok(())
 }
+
+/// Where memory runs out a step answers 1, and otherwise the next state.
+#[test]
+fn memory_runs_out_for_a_step(rt: HostRuntime) {
+    let choice = go(rt.alloc(), None);
+    match run(rt.alloc(), &[0x04, 0xAC], &EMPTY, &[], &choice) {
+        Ok(Ok(Outcome::Next(state))) => assert!(rt; state.at == 1 && state.stack.len() == 1),
+        Ok(Ok(_)) => panic!(rt; "another outcome"),
+        Ok(Err(fault)) => assert_eq!(rt; fault.number(), 1),
+        Err(_) => {}
+    }
+}

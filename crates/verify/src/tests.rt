@@ -1,6 +1,6 @@
 use super::*;
 use classfile::{
-    Attribute, ClassFile, CodeAttr, ExceptionHandler, Member, NestedAttribute, form_check,
+    Attribute, ClassFile, CodeAttr, ExceptionHandler, Member, NestedAttribute, decode, form_check,
 };
 use hierarchy::{Chains, OBJECT, Summary, summary_of};
 use names::check_text;
@@ -246,4 +246,51 @@ fn methods_that_are_not_judged(rt: HostRuntime) -> Result<(), Fail> {
 fn numbers(rt: HostRuntime) {
     assert_eq!(rt; VerifyFault::OutOfMemory.number(), 1);
     assert_eq!(rt; VerifyFault::NotInHierarchy.number(), 80);
+}
+
+/// The class file of a class with one static method, `f`, which returns.
+const K: [u8; 97] = [
+    0xCA, 0xFE, 0xBA, 0xBE, 0, 0, 0, 0x34, 0, 8, 7, 0, 2, 1, 0, 1, 0x4B, 7, 0, 4, 1, 0, 0x10, 0x6A,
+    0x61, 0x76, 0x61, 0x2F, 0x6C, 0x61, 0x6E, 0x67, 0x2F, 0x4F, 0x62, 0x6A, 0x65, 0x63, 0x74, 1, 0,
+    1, 0x66, 1, 0, 3, 0x28, 0x29, 0x56, 1, 0, 4, 0x43, 0x6F, 0x64, 0x65, 0, 0x21, 0, 1, 0, 3, 0, 0,
+    0, 0, 0, 1, 0, 9, 0, 5, 0, 6, 0, 1, 0, 7, 0, 0, 0, 0x0D, 0, 0, 0, 0, 0, 0, 0, 1, 0xB1, 0, 0, 0,
+    0, 0, 0,
+];
+
+/// The verdicts on the methods of K; none where memory runs out.
+fn report<'a>(alloc: Global) -> Result<Vec<MethodVerdict<'a>>, AllocError> {
+    let Ok(class) = decode(alloc, &K) else {
+        return Err(AllocError);
+    };
+    let Ok(formed) = form_check(alloc, &class) else {
+        return Err(AllocError);
+    };
+    let list = [object(alloc), summary_of(alloc, &formed)?];
+    let hasher: BuildHasherDefault<FoldHasher> = BuildHasherDefault::new();
+    let Ok(classes) = Chains::new(alloc, &list, hasher) else {
+        return Err(AllocError);
+    };
+    match verify_class(alloc, &K, &classes) {
+        Ok(report) => Ok(report),
+        Err(_) => Err(AllocError),
+    }
+}
+
+#[test]
+fn a_report(rt: HostRuntime) -> Result<(), Fail> {
+    let report = report(rt.alloc())?;
+    assert!(rt; report.len() == 1 && report[0].verdict == Verdict::Verified);
+    assert!(rt;
+        report[0].name.bytes() == b"f".as_slice()
+            && report[0].descriptor.bytes() == b"()V".as_slice()
+    );
+    Ok(())
+}
+
+/// Where memory runs out there is no report, and otherwise the whole one.
+#[test]
+fn memory_runs_out_for_a_report(rt: HostRuntime) {
+    if let Ok(report) = report(rt.alloc()) {
+        assert!(rt; report.len() == 1);
+    }
 }
