@@ -1,10 +1,13 @@
 //! The method that runs is made.
-ghost use Rattle.std.specs.Prelude.{◌≡◌, None, Some, Ok, IfOk, IfErr, IfSome, IsSome, MatchOption, map, option_map};
+ghost use Rattle.std.specs.Prelude.{◌≡◌, ℕ, List, None, Some, Ok, IfOk, IfErr, IfSome, IsSome, MatchOption, map, option_map};
 ghost use Rattle.names.specs.ReferenceTypes.{array_of, reference_type};
 ghost use Rattle.names.specs.Types.{type_of};
 ghost use Rattle.classfile.specs.MethodParts.{code_at};
 ghost use Rattle.classfile.specs.Methods.{caught_type, exception_entries, method_of};
 ghost use Rattle.classfile.specs.Views.{class_view, handler_view};
+ghost use Rattle.classfile.specs.Values.{CodeBody};
+ghost use Rattle.insn.specs.Instructions.{Instruction};
+ghost use Rattle.insn.specs.declared.fault.CodeFault.TheVariants.{OutOfMemory};
 ghost use Rattle.insn.specs.Code.{FaultyCode, SpellsCode, StartsRise, UnlessMemory};
 ghost use Rattle.insn.specs.Views.{views};
 ghost use Rattle.machine.specs.Bodies.{IsEntry, code_of, entry_view, method_view};
@@ -131,6 +134,8 @@ impl<'c, 'a> Method<'c, 'a> {
         // It is what the class file says of that method, with the instructions of its code.
         ensures told { IfOk result (λ m. method_of (class_view formed.now.class.now) number (code_of m.list.items) ≡ Some (method_view m)) }
         ensures list { IfOk result (λ m. SpellsCode 0 m.code.now.code.now (views m.list.items)) }
+        // Where its code is some instructions, it is answered, unless memory runs out.
+        ensures only { (body : CodeBody) (xs : List (ℕ × Instruction)) → code_at (class_view formed.now.class.now) number ≡ Some body → SpellsCode 0 body.code xs → IfErr result (λ e. e ≡ OutOfMemory) }
         ensures fault { IfErr result (λ e. IfSome (code_at (class_view formed.now.class.now) number) (λ body. UnlessMemory e (FaultyCode body.code e))) }
     {
         let class = formed.class();

@@ -1,7 +1,7 @@
 //! Steps of methods that are put together by hand.
 use super::making::assembled;
 use super::*;
-use classfile::{ClassFile, CodeAttr};
+use classfile::{ClassFile, CodeAttr, decode, form_check};
 use hierarchy::{Chains, OBJECT, Summary};
 use insn::decode_code;
 use pool::Pool;
@@ -227,4 +227,44 @@ fn memory_runs_out_for_a_step(rt: HostRuntime) {
         Ok(Err(fault)) => assert_eq!(rt; fault.number(), 1),
         Err(_) => {}
     }
+}
+
+/// The class file of a class with one static method, which returns.
+const K: [u8; 97] = [
+    0xCA, 0xFE, 0xBA, 0xBE, 0, 0, 0, 0x34, 0, 8, 7, 0, 2, 1, 0, 1, 0x4B, 7, 0, 4, 1, 0, 0x10, 0x6A,
+    0x61, 0x76, 0x61, 0x2F, 0x6C, 0x61, 0x6E, 0x67, 0x2F, 0x4F, 0x62, 0x6A, 0x65, 0x63, 0x74, 1, 0,
+    1, 0x66, 1, 0, 3, 0x28, 0x29, 0x56, 1, 0, 4, 0x43, 0x6F, 0x64, 0x65, 0, 0x21, 0, 1, 0, 3, 0, 0,
+    0, 0, 0, 1, 0, 9, 0, 5, 0, 6, 0, 1, 0, 7, 0, 0, 0, 0x0D, 0, 0, 0, 0, 0, 0, 0, 1, 0xB1, 0, 0, 0,
+    0, 0, 0,
+];
+
+/// Whether the method of K ends; want of memory aside.
+fn ends(rt: &impl Abort, alloc: Global) -> Result<bool, AllocError> {
+    let Ok(class) = decode(alloc, &K) else {
+        return Err(AllocError);
+    };
+    let Ok(formed) = form_check(alloc, &class) else {
+        return Err(AllocError);
+    };
+    assert!(rt; class.methods.len() == 1);
+    assert!(rt; class.methods[0].code().is_some());
+    let Ok(method) = Method::new(alloc, &formed, 0) else {
+        return Err(AllocError);
+    };
+    let object = [summary(alloc, OBJECT, None)];
+    let hasher: BuildHasherDefault<FoldHasher> = BuildHasherDefault::new();
+    let Ok(classes) = Chains::new(alloc, &object, hasher) else {
+        return Err(AllocError);
+    };
+    let start = state(alloc, &[], &[])?;
+    match step(alloc, &method, &classes, &start, &go(alloc, None)) {
+        Ok(outcome) => Ok(matches!(outcome, Outcome::Ended)),
+        Err(_) => Err(AllocError),
+    }
+}
+
+#[test]
+fn a_method_of_a_class_ends(rt: HostRuntime) -> Result<(), Fail> {
+    assert!(rt; ends(&rt, rt.alloc())?);
+    Ok(())
 }
