@@ -23,12 +23,12 @@ fn theorem_and_laws_are_called() {
 
 /// A method of K: its flags, descriptor and sizes, and its code, if it has any.
 #[derive(Clone, Copy)]
-struct Given<'a> {
+pub(crate) struct Given<'a> {
     flags: u16,
     descriptor: &'a [u8],
     max_stack: u16,
-    max_locals: u16,
-    code: Option<&'a [u8]>,
+    pub(crate) max_locals: u16,
+    pub(crate) code: Option<&'a [u8]>,
     has_map: bool,
     catches: bool,
 }
@@ -106,7 +106,7 @@ fn attributes<'a>(alloc: Global, given: Given<'a>) -> Result<Vec<Attribute<'a>>,
     Ok(attributes)
 }
 
-fn class<'a>(
+pub(crate) fn class<'a>(
     rt: &impl Abort,
     alloc: Global,
     given: Given<'a>,
@@ -132,7 +132,7 @@ fn class<'a>(
     })
 }
 
-fn object<'a>(alloc: Global) -> Summary<'a> {
+pub(crate) fn object<'a>(alloc: Global) -> Summary<'a> {
     Summary {
         name: OBJECT,
         superclass: None,
@@ -165,10 +165,9 @@ fn refused<'a>(at: usize, reason: Reason<'a>) -> Result<Verdict<'a>, VerifyFault
     Ok(Verdict::Refused { at, reason })
 }
 
-#[test]
-fn verdicts(rt: HostRuntime) -> Result<(), Fail> {
-    let alloc = rt.alloc();
-    let rows = [
+/// Methods with what is answered of them.
+pub(crate) fn worked_methods<'a>() -> [(Given<'a>, Result<Verdict<'a>, VerifyFault>); 11] {
+    [
         (
             static_method(b"()V", 1, 0, &[0x03, 0x57, 0xB1]),
             Ok(Verdict::Verified),
@@ -213,8 +212,13 @@ fn verdicts(rt: HostRuntime) -> Result<(), Fail> {
             static_method(b"()V", 0, 0, &[0x00, 0xCA]),
             refused(1, Reason::BadCode { fault: 31 }),
         ),
-    ];
-    for (given, want) in rows {
+    ]
+}
+
+#[test]
+fn verdicts(rt: HostRuntime) -> Result<(), Fail> {
+    let alloc = rt.alloc();
+    for (given, want) in worked_methods() {
         assert!(rt; is_answered(&rt, alloc, given, false, want)?);
     }
     Ok(())
