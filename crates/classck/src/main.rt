@@ -7,6 +7,8 @@
 
 mod answering;
 mod checking;
+#[cfg(test)]
+mod code_tests;
 mod complaining;
 mod ending;
 mod fault;

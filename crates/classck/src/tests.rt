@@ -14,7 +14,8 @@ use std::io::{self, Write};
 use std::process::Abort;
 use std::test::*;
 
-const K: [u8; 97] = [
+/// The class file of a class with one static method, `f`, which returns.
+pub(crate) const K: [u8; 97] = [
     0xCA, 0xFE, 0xBA, 0xBE, 0, 0, 0, 0x34, 0, 8, 7, 0, 2, 1, 0, 1, 0x4B, 7, 0, 4, 1, 0, 0x10, 0x6A,
     0x61, 0x76, 0x61, 0x2F, 0x6C, 0x61, 0x6E, 0x67, 0x2F, 0x4F, 0x62, 0x6A, 0x65, 0x63, 0x74, 1, 0,
     1, 0x66, 1, 0, 3, 0x28, 0x29, 0x56, 1, 0, 4, 0x43, 0x6F, 0x64, 0x65, 0, 0x21, 0, 1, 0, 3, 0, 0,
@@ -69,13 +70,13 @@ impl Write for Counted {
 }
 
 /// The class file of `java/lang/Object`, without members.
-const O: [u8; 46] = [
+pub(crate) const O: [u8; 46] = [
     0xCA, 0xFE, 0xBA, 0xBE, 0, 0, 0, 0x34, 0, 3, 7, 0, 2, 1, 0, 0x10, 0x6A, 0x61, 0x76, 0x61, 0x2F,
     0x6C, 0x61, 0x6E, 0x67, 0x2F, 0x4F, 0x62, 0x6A, 0x65, 0x63, 0x74, 0, 0x21, 0, 1, 0, 0, 0, 0, 0,
     0, 0, 0, 0, 0,
 ];
 
-fn one_file(alloc: Global) -> Result<Request, AllocError>
+pub(crate) fn one_file(alloc: Global) -> Result<Request, AllocError>
     ensures { IfOk result (λ r. length r.files.items ≡ 1) }
 {
     let mut files = Vec::new(alloc);
@@ -86,7 +87,10 @@ fn one_file(alloc: Global) -> Result<Request, AllocError>
     })
 }
 
-fn one_read(alloc: Global, bytes: &[u8]) -> Result<Vec<Result<Vec<u8>, StreamFault>>, AllocError>
+pub(crate) fn one_read(
+    alloc: Global,
+    bytes: &[u8],
+) -> Result<Vec<Result<Vec<u8>, StreamFault>>, AllocError>
     ensures { IfOk result (λ v. length v.items ≡ 1) }
 {
     let mut reads = Vec::new(alloc);
@@ -205,7 +209,7 @@ fn malformed_classes(rt: HostRuntime) -> Result<(), Fail> {
 }
 
 /// What `verify` prints of these files, and its status.
-fn verified(
+pub(crate) fn verified(
     rt: &impl Abort,
     alloc: Global,
     hasher: RandomState,
