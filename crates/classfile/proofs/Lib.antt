@@ -5,6 +5,7 @@ pub mod Encodings
 pub mod FirstFaults
 pub mod FormedMethods
 pub mod FormedNames
+pub mod FormedOrFaulty
 pub mod LeastRules
 pub mod Measures
 pub mod MethodLaws

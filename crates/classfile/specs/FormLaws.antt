@@ -1,6 +1,6 @@
--- What follows of the definition of well-formed classes alone: which rule is told of a place, that there is one first
--- fault at most, that the tests of names and descriptors are their forms, and that what a class names is there.
-use Rattle.std.specs.Prelude.{◌≡◌, ◌≢◌, ◌↔◌, ◌≤◌, ℕ, Bool, List, slice_get, Some, None, Ok, IsTrue}
+-- What follows of the definition of well-formed classes alone: which rule is told of a place, that a class is
+-- well formed or has one first fault, that the tests of names and descriptors are their forms, and that what a class names is there.
+use Rattle.std.specs.Prelude.{◌≡◌, ◌≢◌, ◌↔◌, ◌≤◌, ◌⊎◌, ℕ, Bool, List, slice_get, Some, None, Ok, IsTrue}
 use Rattle.names.specs.Names.{IsUnqualifiedName, IsMethodName, IsClassName}
 use Rattle.names.specs.Descriptors.{FieldDescriptor, MethodDescriptor, SpellsField, SpellsMethod, dimensions, method_width, AreWithinDimensions}
 use Rattle.pool.specs.Lookups.{class_name_at, Named, named}
@@ -19,9 +19,15 @@ LeastIsTold = (c : Class) (p : Place) (rule : FormRule) → (fault_at c p ≡ So
 abbrev pub NoneIsTold : Type 0
 NoneIsTold = (c : Class) (p : Place) → (fault_at c p ≡ None) ↔ HasNoBroken (conditions_at c p)
 
+-- a class is well formed or has a first fault
+abbrev pub FormedOrFaulty : Type 0
+FormedOrFaulty = (c : Class) → WellFormed c ⊎ ((rule : FormRule) × (place : Place) × IsFirstFault c rule place)
+
+-- and one at most
 abbrev pub OneFirstFault : Type 0
 OneFirstFault = (c : Class) (r s : FormRule) (p q : Place) → IsFirstFault c r p → IsFirstFault c s q → (r ≡ s) × (p ≡ q)
 
+-- and not both
 abbrev pub NoFaultInFormed : Type 0
 NoFaultInFormed = (c : Class) (r : FormRule) (p : Place) → WellFormed c → IsFirstFault c r p → ⊥
 

@@ -1,5 +1,5 @@
 //! What follows of the definition of well-formed classes alone, whatever the code does.
-ghost use Rattle.classfile.specs.FormLaws.{LeastIsTold, NoneIsTold, OneFirstFault, NoFaultInFormed, FormedHasNames, NamesAreForms, DescriptorsAreSpellings};
+ghost use Rattle.classfile.specs.FormLaws.{LeastIsTold, NoneIsTold, FormedOrFaulty, OneFirstFault, NoFaultInFormed, FormedHasNames, NamesAreForms, DescriptorsAreSpellings};
 ghost use Rattle.std.specs.Prelude.{◌≡◌, ℕ, List, Some};
 ghost use Rattle.classfile.specs.Methods.{method_of};
 ghost use Rattle.classfile.specs.CodeMethods.{code_method_view};
@@ -12,6 +12,11 @@ use names::{field_answers, method_answers};
 pub fn least_rule_is_told()
     ensures some { LeastIsTold }
     ensures none { NoneIsTold }
+{}
+
+/// A class is well formed, or has a first fault.
+pub fn formed_or_faulty()
+    ensures { FormedOrFaulty }
 {}
 
 /// A class has at most one first fault.

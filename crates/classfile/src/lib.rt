@@ -59,8 +59,8 @@ pub use encoding::encode;
 pub use form::{Formed, form_check};
 pub use form_fault::{FormFault, FormRule, Place};
 pub use form_laws::{
-    formed_has_names, least_rule_is_told, method_is_told, no_fault_in_formed, one_first_fault,
-    tests_are_forms,
+    formed_has_names, formed_or_faulty, least_rule_is_told, method_is_told, no_fault_in_formed,
+    one_first_fault, tests_are_forms,
 };
 pub use laws::{class_or_fault, no_fault_in_class, one_class, one_fault, one_spelling};
 pub use location::Location;

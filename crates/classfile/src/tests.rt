@@ -35,6 +35,21 @@ fn code_of<'c, 'a>(rt: &impl Abort, method: &'c Member<'a>) -> &'c CodeAttr<'a> 
 }
 
 #[test]
+fn laws_are_called() {
+    one_class();
+    one_spelling();
+    class_or_fault();
+    no_fault_in_class();
+    one_fault();
+    least_rule_is_told();
+    formed_or_faulty();
+    one_first_fault();
+    no_fault_in_formed();
+    tests_are_forms();
+    formed_has_names();
+}
+
+#[test]
 fn a_class_both_ways(rt: HostRuntime) -> Result<(), Fail> {
     let class = decode(rt.alloc(), &K)?;
     assert_eq!(rt; (class.minor_version, class.major_version), (0, 52));

@@ -153,6 +153,14 @@ fn compare_frames<C: Classes>(
 }
 
 #[test]
+fn laws_are_called() {
+    laws::classes_have_one_answer();
+    laws::types_mean();
+    laws::frames_have_one_answer();
+    laws::frames_to_themselves();
+}
+
+#[test]
 fn types(rt: HostRuntime) -> Result<(), Fail> {
     let alloc = rt.alloc();
     let list = setting(alloc);

@@ -42,6 +42,16 @@ fn refusal<'a>(alloc: Global, classes: &[Summary<'a>]) -> Option<HierarchyFault<
 }
 
 #[test]
+fn laws_are_called() {
+    laws::keeps_subclasses();
+    laws::extends_itself();
+    laws::chains_are_steps();
+    laws::has_one_subclass_answer();
+    laws::faults_break_rules();
+    laws::summary_has_texts();
+}
+
+#[test]
 fn answers(rt: HostRuntime) -> Result<(), Fail> {
     let alloc = rt.alloc();
     let list = [

@@ -3,6 +3,17 @@ use std::alloc::Global;
 use std::test::*;
 
 #[test]
+fn laws_are_called() {
+    one_unit_list();
+    text_answers();
+    one_field_type();
+    one_method_type();
+    field_answers();
+    method_answers();
+    names_by_units();
+}
+
+#[test]
 fn a_text_both_ways(rt: HostRuntime) -> Result<(), Fail> {
     let spelled = spell(rt.alloc(), &[0, 0xD83D, 0xDE00])?;
     assert_eq!(rt;

@@ -11,6 +11,11 @@ const ALL: [u8; 85] = [
 ];
 
 #[test]
+fn laws_are_called() {
+    found_where_it_stands();
+}
+
+#[test]
 fn both_ways(rt: HostRuntime) -> Result<(), Fail> {
     let mut cursor = Cursor::new(&ALL);
     let pool = Pool::take(rt.alloc(), &mut cursor)?;
