@@ -1,5 +1,5 @@
 //! Writing one instruction.
-ghost use Rattle.std.specs.Prelude.{◌≡◌, ◌+◌, ◌*◌, ◌/◌, ◌≤◌, ◌<◌, ◌^◌, ◌++◌, ℕ, Bool, true, false, length, nat_eq};
+ghost use Rattle.std.specs.Prelude.{◌≡◌, ◌+◌, ◌*◌, ◌≤◌, ◌++◌, ℕ, Bool, true, false, length, nat_eq};
 ghost use Rattle.std.specs.Int.{cast_unsigned, w8, w16, w32};
 ghost use Rattle.byteorder.specs.Endian.{big_bytes};
 ghost use Rattle.insn.specs.Encoding.{Appends, HasNone, AppendsInstruction};

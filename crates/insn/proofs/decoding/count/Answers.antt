@@ -1,4 +1,4 @@
-use Rattle.std.proofs.Common.{ℕ, ◌+◌, ◌≤◌, ◌++◌, ◌∷◌, [], length, refl, arith}
+use Rattle.std.proofs.Common.{◌++◌, ◌∷◌, [], refl, arith}
 use Rattle.std.proofs.lemmas.List.{length-append}
 use Rattle.insn.specs.Views.{located}
 use Rattle.insn.proofs.CodeLaws.{step_read, code_step, code_whole, shorter}

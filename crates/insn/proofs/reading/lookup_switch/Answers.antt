@@ -1,7 +1,4 @@
-use Rattle.std.proofs.Common.{◌≡◌, ◌-◌, Ok, List, ℕ, length, take, sym, ap, ◌∙◌}
-use Rattle.layout.specs.Format.{reads}
-use Rattle.insn.specs.Faults.{judged}
-use Rattle.insn.specs.Instructions.{lookup_switch_at}
+use Rattle.std.proofs.Common.{◌≡◌, ◌-◌, Ok, length, take, sym, ap, ◌∙◌}
 use Rattle.insn.specs.Switches.{lookup_switch_of}
 use Rattle.insn.specs.Views.{lookup_switch_view}
 use Rattle.insn.proofs.Kept.{lookup_kept}
