@@ -3,7 +3,7 @@ use Rattle.std.proofs.Common.{◌≡◌, ℕ, ◌+◌, ◌<◌, ◌≤◌, List,
 use Rattle.std.proofs.lemmas.List.{length-append, append-nil, nil_from_length}
 use Rattle.layout.specs.Place.{Place, Took}
 use Rattle.layout.specs.declared.fault.ReadFault.{ReadFault}
-use Rattle.layout.specs.Format.{Spells, FirstFault, reads}
+use Rattle.layout.specs.Format.{Format, Spells, FirstFault, reads}
 use Rattle.layout.specs.FormatLaws.{reads_spells, reads_fault, spelled_reads, spelled_no_fault, same_good}
 use Rattle.insn.specs.declared.fault.CodeFault.{CodeFault}
 use Rattle.insn.specs.declared.fault.CodeFault.TheVariants.{OutOfMemory, CutInstruction}
@@ -28,14 +28,14 @@ by_fault : {V : Type 0} (p : Place) (r : Result V CodeFault) (f : CodeFault) →
 by_fault p (Ok w) f e = absurd cc
 by_fault p (Err g) f e = let same : g ≡ f = cc in ap Err same
 
--- an instruction that was read is spelled by the bytes that were taken
-pub read_spells : (at : ℕ) (old new : Place) (i : Instruction) (r : Result Read ReadFault) → reads (instruction_at at) old.at old.rest ≡ r → judged at r ≡ Ok (i, new)
-    → (first : List ℕ) × SpellsInstruction at first i × Took first old new
-read_spells at old new i (Ok x) e h =
-    let parts = by_value x.1 new x.0 i h in
-    let s = reads_spells (instruction_at at) old.at old.rest x e in
-    (s.0, subst (λ v. Spells (instruction_at at) s.0 v) parts.0 s.1, subst (λ p. Took s.0 old p) parts.1 s.2)
-read_spells at old new i (Err d) e h = absurd cc
+-- what was read is spelled by the bytes that were taken
+pub read_spells : {V : Type 0} (at : ℕ) (f : Format (Result V CodeFault)) (old new : Place) (v : V) (r : Result (Result V CodeFault × Place) ReadFault)
+    → reads f old.at old.rest ≡ r → judged at r ≡ Ok (v, new) → (first : List ℕ) × Spells f first (Ok v) × Took first old new
+read_spells at f old new v (Ok x) e h =
+    let parts = by_value x.1 new x.0 v h in
+    let s = reads_spells f old.at old.rest x e in
+    (s.0, subst (λ w. Spells f s.0 w) parts.0 s.1, subst (λ p. Took s.0 old p) parts.1 s.2)
+read_spells at f old new v (Err d) e h = absurd cc
 
 -- a refusal is a fault of the bytes
 pub refusal_faulty : (old : Place) (f : CodeFault) (r : Result Read ReadFault) → reads (instruction_at old.at) old.at old.rest ≡ r → judged old.at r ≡ Err f → FaultyInstruction old.at old.rest f

@@ -1,6 +1,7 @@
 pub mod CodeLaws
 pub mod CodeSpellings
 pub mod Keys
+pub mod Kept
 pub mod Numbers
 pub mod OperandLaws
 pub mod Readings

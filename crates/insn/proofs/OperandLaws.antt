@@ -1,5 +1,5 @@
 -- What stands behind an opcode, and an instruction: exactly one list of bytes spells what agrees, and none what does not.
-use Rattle.std.proofs.Common.{◌≡◌, ℕ, ℤ, ◌^◌, ◌<◌, true, cond, Option, Some, None, List, [], ◌++◌, length, Result, Ok, Err, refl, sym, ap, subst, ◌∙◌, append_assoc, arith, eqb, SFits, of_z, w8, w16, w32, ◌/◌}
+use Rattle.std.proofs.Common.{◌≡◌, ℕ, ℤ, ◌^◌, ◌<◌, true, cond, Option, Some, None, List, [], ◌++◌, length, Result, Ok, Err, refl, sym, ap, subst, ◌∙◌, append_assoc, arith, eqb, SFits, of_z, w8, w16, w32}
 use Rattle.std.specs.Int.{cast_signed, cast_unsigned}
 use Rattle.std.proofs.lemmas.Int.{to_z-of_z, of_z-to_z}
 use Rattle.std.proofs.lemmas.List.{append-nil, length-append}
@@ -117,7 +117,7 @@ operands_written at (multi_new_array i n) fine range =
     number_first 2 number_2 (λ i. andthen (number 1) (λ n. done (outcome (multi_new_array i n)))) i (big_bytes 1 n) (outcome (multi_new_array i n)) range.0
     (number_last 1 number_1 (λ n. multi_new_array i n) n (multi_new_array i n) range.1 refl)
 operands_written at (table_switch padding d lo hi offsets) fine range = table_switch_written at padding d lo hi offsets fine range
-operands_written at (lookup_switch padding d pairs) fine range = lookup_switch_written at padding d pairs fine range
+operands_written at (lookup_switch padding d n pairs) fine range = lookup_switch_written at padding d n pairs fine range
 operands_written at (wide_local o n) fine range = wide_written at o (big_bytes 2 n) (wide_local o n) (local_written at n o (form o) fine range)
 operands_written at (wide_increment o n by) fine range =
     wide_written at o (big_bytes 2 n ++ big_bytes 2 (of_z w16 by)) (wide_increment o n by) (increment_written at n by o (form o) fine range.0 range.1)
@@ -179,8 +179,8 @@ operands_measured (table_switch padding d lo hi offsets) =
     let head = big_bytes 4 (of_z w32 d) ++ big_bytes 4 (of_z w32 lo) in
     let tail = big_bytes 4 (of_z w32 hi) ++ offsets in
     omega (arith, length-append (padding ++ head) tail, length-append padding head)
-operands_measured (lookup_switch padding d pairs) =
-    let head = big_bytes 4 (of_z w32 d) ++ big_bytes 4 (length pairs / 8) in
+operands_measured (lookup_switch padding d n pairs) =
+    let head = big_bytes 4 (of_z w32 d) ++ big_bytes 4 (of_z w32 n) in
     omega (arith, length-append (padding ++ head) pairs, length-append padding head)
 operands_measured _ = refl
 

@@ -26,7 +26,7 @@ by_step : (whole : List ℕ) (xs : List (ℕ × Instruction)) (p : Place) (f : �
 by_step whole xs p f so more goes_on (Err e) is =
     code_fault whole xs p e so more (refusal_faulty p e (reads (instruction_at p.at) p.at p.rest) refl is)
 by_step whole xs p f so more goes_on (Ok x) is =
-    let read = read_spells p.at p x.1 x.0 (reads (instruction_at p.at) p.at p.rest) refl is in
+    let read = read_spells p.at (instruction_at p.at) p x.1 x.0 (reads (instruction_at p.at) p.at p.rest) refl is in
     let next = code_step whole xs (xs ++ (p.at, x.0) ∷ []) p x.1 (p.at, x.0) so refl refl read in
     subst (IsReading whole) (regrouped xs (p.at, x.0) (f x.1.at x.1.rest))
     (goes_on (xs ++ (p.at, x.0) ∷ []) x.1 next (shorter read.0 x.0 p x.1 read.1 read.2))
@@ -78,7 +78,7 @@ same_reading (suc n) zero at (b ∷ bytes) h k = absurd (omega (arith, k))
 same_reading (suc n) (suc m) at (b ∷ bytes) h k =
     let p : Place = record { at = at; rest = b ∷ bytes } in
     same_behind at (reading_from n) (reading_from m) (judged at (reads (instruction_at at) at (b ∷ bytes))) (λ x is.
-    let read = read_spells at p x.1 x.0 (reads (instruction_at at) at (b ∷ bytes)) refl is in
+    let read = read_spells at (instruction_at at) p x.1 x.0 (reads (instruction_at at) at (b ∷ bytes)) refl is in
     let less = shorter read.0 x.0 p x.1 read.1 read.2 in
     same_reading n m x.1.at x.1.rest (omega (arith, less, h)) (omega (arith, less, k)))
 
@@ -90,7 +90,7 @@ one_step at [] r more is = absurd (omega (arith, more))
 one_step at (b ∷ bytes) r more is =
     let p : Place = record { at = at; rest = b ∷ bytes } in
     same_behind at (reading_from (length bytes)) (λ k rest. reading_from (length rest) k rest) (judged at (reads (instruction_at at) at (b ∷ bytes))) (λ x e.
-    let read = read_spells at p x.1 x.0 (reads (instruction_at at) at (b ∷ bytes)) refl e in
+    let read = read_spells at (instruction_at at) p x.1 x.0 (reads (instruction_at at) at (b ∷ bytes)) refl e in
     let less = shorter read.0 x.0 p x.1 read.1 read.2 in
     same_reading (length bytes) (length x.1.rest) x.1.at x.1.rest (omega (arith, less)) (omega arith))
     ∙ ap (reading_behind (λ k rest. reading_from (length rest) k rest) at) is

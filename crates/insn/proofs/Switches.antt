@@ -1,9 +1,9 @@
 -- Which bytes spell a switch.
-use Rattle.std.proofs.Common.{◌≡◌, ℕ, ℤ, pos, ◌*◌, ◌/◌, ◌%◌, ◌^◌, ◌<◌, Bool, true, false, cond, ◌&&◌, List, [], ◌++◌, length, Err, refl, sym, ap, subst, ◌∙◌, append_assoc, arith, ltb, eqb, SFits, to_z, of_z, w32}
+use Rattle.std.proofs.Common.{◌≡◌, ℕ, ℤ, pos, ◌*◌, ◌^◌, ◌<◌, Bool, true, false, cond, ◌&&◌, List, [], ◌++◌, length, Err, refl, sym, ap, subst, ◌∙◌, append_assoc, eqb, SFits, to_z, of_z, w32}
 use Rattle.std.specs.Prelude.{not, int_lt, unsigned_abs}
 use Rattle.std.specs.Int.{cast_signed, cast_unsigned}
-use Rattle.std.proofs.lemmas.Bool.{eqb-true, eq-eqb, le-ltb, lt-ltb, ltb-true}
-use Rattle.std.proofs.lemmas.Int.{ints, to_z-of_z, of_z-to_z, to_z_pos}
+use Rattle.std.proofs.lemmas.Bool.{eqb-true, eq-eqb}
+use Rattle.std.proofs.lemmas.Int.{to_z-of_z, of_z-to_z}
 use Rattle.std.proofs.lemmas.List.{append-nil}
 use Rattle.std.proofs.Math.Facts.{Fits-of_z}
 use Rattle.byteorder.specs.Endian.{big_bytes}
@@ -18,7 +18,7 @@ use Rattle.insn.proofs.Spelled.{outcome, last, Known, signed, number_parts, numb
 both : (a b : Bool) → a ≡ true → b ≡ true → (a && b) ≡ true
 both a b h k = ap (λ (x : Bool). x && b) h ∙ k
 
-halves : (a b : Bool) → (a && b) ≡ true → (a ≡ true) × (b ≡ true)
+pub halves : (a b : Bool) → (a && b) ≡ true → (a ≡ true) × (b ≡ true)
 halves true b h = (refl, h)
 halves false b h = absurd cc
 
@@ -34,16 +34,16 @@ headed bytes padding rest first others second last p q r =
 again : (k : ℕ) → k < 256 ^ 4 → big_bytes 4 k ≡ big_bytes 4 (cast_unsigned w32 (cast_signed w32 k))
 again k lt = signed 4 w32 k (of_z-to_z w32 k lt)
 
-headed_again : (padding last : List ℕ) (d n m : ℕ) → d < 256 ^ 4 → big_bytes 4 n ≡ big_bytes 4 m
-    → (padding ++ (big_bytes 4 d ++ big_bytes 4 n)) ++ last ≡ switch_head padding (cast_signed w32 d) m ++ last
+headed_again : (padding last : List ℕ) (d n : ℕ) → d < 256 ^ 4 → n < 256 ^ 4
+    → (padding ++ (big_bytes 4 d ++ big_bytes 4 n)) ++ last ≡ switch_head padding (cast_signed w32 d) (cast_signed w32 n) ++ last
 unfolding switch_head
-headed_again padding last d n m lt is =
+headed_again padding last d n lt less =
     ap (λ (t : List ℕ). (padding ++ (t ++ big_bytes 4 n)) ++ last) (again d lt)
-    ∙ ap (λ (t : List ℕ). (padding ++ (big_bytes 4 (cast_unsigned w32 (cast_signed w32 d)) ++ t)) ++ last) is
+    ∙ ap (λ (t : List ℕ). (padding ++ (big_bytes 4 (cast_unsigned w32 (cast_signed w32 d)) ++ t)) ++ last) (again n less)
 
 -- ---- tableswitch
 
-offsets_known : (at : ℕ) (padding : List ℕ) (d lo hi : ℤ) (bytes : List ℕ) (x : Operands) (b : Bool) → int_lt hi lo ≡ b
+pub offsets_known : (at : ℕ) (padding : List ℕ) (d lo hi : ℤ) (bytes : List ℕ) (x : Operands) (b : Bool) → int_lt hi lo ≡ b
     → Spells (cond b (done (Err (BadSwitch at))) (part (4 * table_length lo hi) (λ offsets. done (outcome (table_switch padding d lo hi offsets))))) bytes (outcome x)
     → (offsets : List ℕ) × (bytes ≡ offsets) × (table_switch padding d lo hi offsets ≡ x) × (fills lo hi offsets ≡ true)
 offsets_known at padding d lo hi bytes x true is s = absurd (let wrong = s.1 in cc)
@@ -59,8 +59,8 @@ table_bytes : (bytes padding rest p_others q_others r_others offsets : List ℕ)
 unfolding operands_bytes
 table_bytes bytes padding rest p_others q_others r_others offsets d lo hi dl ll hl e p q r o =
     headed bytes padding rest (big_bytes 4 d) p_others (big_bytes 4 lo) q_others e p q
-    ∙ headed_again padding q_others d lo (cast_unsigned w32 (cast_signed w32 lo)) dl (again lo ll)
-    ∙ ap (λ (t : List ℕ). switch_head padding (cast_signed w32 d) (cast_unsigned w32 (cast_signed w32 lo)) ++ t)
+    ∙ headed_again padding q_others d lo dl ll
+    ∙ ap (λ (t : List ℕ). switch_head padding (cast_signed w32 d) (cast_signed w32 lo) ++ t)
     (r ∙ ap (λ (t : List ℕ). t ++ r_others) (again hi hl) ∙ ap (λ (t : List ℕ). big_bytes 4 (cast_unsigned w32 (cast_signed w32 hi)) ++ t) o)
 
 pub table_switch_known : (at : ℕ) (bytes : List ℕ) (x : Operands) → AreBytes bytes → Spells (table_switch_at at) bytes (outcome x) → Known at forms.TableSwitch bytes x
@@ -84,47 +84,34 @@ table_switch_known at bytes x fit s =
 
 -- ---- lookupswitch
 
--- a count that is not negative is the number itself
-not_negative : (k : ℕ) → k < 256 ^ 4 → int_lt (cast_signed w32 k) (pos 0) ≡ false → k < 2 ^ 31
-not_negative k lt h = grind (arith, ints)
-
-pairs_up_if : (pairs : List ℕ) (k : ℕ) → length pairs ≡ 8 * k → k < 2 ^ 31 → rising (keys pairs) ≡ true → (pairs_up pairs ≡ true) × (k ≡ length pairs / 8)
-pairs_up_if pairs k long lt up =
-    let whole : length pairs % 8 ≡ 0 = omega (arith, long) in
-    let count : length pairs / 8 ≡ k = omega (arith, long) in
-    let few : length pairs / 8 < 2 ^ 31 = omega (arith, count, lt) in
-    (both _ _ (eq-eqb _ _ whole) (both _ (rising (keys pairs)) (lt-ltb _ _ few) up), sym count)
-
-rising_known : (at : ℕ) (padding : List ℕ) (d : ℤ) (pairs bytes : List ℕ) (x : Operands) (b : Bool) → rising (keys pairs) ≡ b
-    → Spells (cond b (done (outcome (lookup_switch padding d pairs))) (done (Err (BadSwitch at)))) bytes (outcome x)
-    → (bytes ≡ []) × (lookup_switch padding d pairs ≡ x) × (rising (keys pairs) ≡ true)
-rising_known at padding d pairs bytes x true is s = let l = last (lookup_switch padding d pairs) x bytes s in (l.0, l.1, is)
-rising_known at padding d pairs bytes x false is s = absurd (let wrong = s.1 in cc)
+rising_known : (at : ℕ) (padding : List ℕ) (d n : ℤ) (pairs bytes : List ℕ) (x : Operands) (b : Bool) → rising (keys pairs) ≡ b
+    → Spells (cond b (done (outcome (lookup_switch padding d n pairs))) (done (Err (BadSwitch at)))) bytes (outcome x)
+    → (bytes ≡ []) × (lookup_switch padding d n pairs ≡ x) × (rising (keys pairs) ≡ true)
+rising_known at padding d n pairs bytes x true is s = let l = last (lookup_switch padding d n pairs) x bytes s in (l.0, l.1, is)
+rising_known at padding d n pairs bytes x false is s = absurd (let wrong = s.1 in cc)
 
 abbrev pairs_format : ℕ → List ℕ → ℤ → ℤ → Format Outcome
-pairs_format at padding d count =
-    part (8 * unsigned_abs count) (λ pairs. cond (rising (keys pairs)) (done (outcome (lookup_switch padding d pairs))) (done (Err (BadSwitch at))))
+pairs_format at padding d n =
+    part (8 * unsigned_abs n) (λ pairs. cond (rising (keys pairs)) (done (outcome (lookup_switch padding d n pairs))) (done (Err (BadSwitch at))))
 
-pairs_known : (at : ℕ) (padding : List ℕ) (d : ℤ) (k : ℕ) (bytes : List ℕ) (x : Operands) (b : Bool) → k < 256 ^ 4 → int_lt (cast_signed w32 k) (pos 0) ≡ b
-    → Spells (cond b (done (Err (BadSwitch at))) (pairs_format at padding d (cast_signed w32 k))) bytes (outcome x)
-    → (pairs : List ℕ) × (bytes ≡ pairs) × (lookup_switch padding d pairs ≡ x) × (pairs_up pairs ≡ true) × (k ≡ length pairs / 8)
-pairs_known at padding d k bytes x true lt is s = absurd (let wrong = s.1 in cc)
-pairs_known at padding d k bytes x false lt is s =
+pub pairs_known : (at : ℕ) (padding : List ℕ) (d n : ℤ) (bytes : List ℕ) (x : Operands) (b : Bool) → int_lt n (pos 0) ≡ b
+    → Spells (cond b (done (Err (BadSwitch at))) (pairs_format at padding d n)) bytes (outcome x)
+    → (pairs : List ℕ) × (bytes ≡ pairs) × (lookup_switch padding d n pairs ≡ x) × (pairs_up n pairs ≡ true)
+pairs_known at padding d n bytes x true is s = absurd (let wrong = s.1 in cc)
+pairs_known at padding d n bytes x false is s =
     let pairs = s.0 in
-    let small = not_negative k lt is in
-    let long : length pairs ≡ 8 * k = s.2 ∙ ap (λ (z : ℤ). 8 * unsigned_abs z) (to_z_pos w32 k small) in
-    let r = rising_known at padding d pairs s.1 x (rising (keys pairs)) refl s.4 in
-    let u = pairs_up_if pairs k long small r.2 in
-    (pairs, s.3 ∙ ap (λ (t : List ℕ). pairs ++ t) r.0 ∙ append-nil pairs, r.1, u.0, u.1)
+    let r = rising_known at padding d n pairs s.1 x (rising (keys pairs)) refl s.4 in
+    let all : eqb (length pairs) (8 * unsigned_abs n) ≡ true = eq-eqb _ _ s.2 in
+    (pairs, s.3 ∙ ap (λ (t : List ℕ). pairs ++ t) r.0 ∙ append-nil pairs, r.1, both (not (int_lt n (pos 0))) _ (ap not is) (both _ (rising (keys pairs)) all r.2))
 
-lookup_bytes : (bytes padding rest p_others q_others pairs : List ℕ) (d k : ℕ) → d < 256 ^ 4 → k ≡ length pairs / 8
+lookup_bytes : (bytes padding rest p_others q_others pairs : List ℕ) (d k : ℕ) → d < 256 ^ 4 → k < 256 ^ 4
     → bytes ≡ padding ++ rest → rest ≡ big_bytes 4 d ++ p_others → p_others ≡ big_bytes 4 k ++ q_others → q_others ≡ pairs
-    → bytes ≡ operands_bytes (lookup_switch padding (cast_signed w32 d) pairs)
+    → bytes ≡ operands_bytes (lookup_switch padding (cast_signed w32 d) (cast_signed w32 k) pairs)
 unfolding operands_bytes
-lookup_bytes bytes padding rest p_others q_others pairs d k dl is e p q o =
+lookup_bytes bytes padding rest p_others q_others pairs d k dl kl e p q o =
     headed bytes padding rest (big_bytes 4 d) p_others (big_bytes 4 k) q_others e p q
-    ∙ headed_again padding q_others d k (length pairs / 8) dl (ap (big_bytes 4) is)
-    ∙ ap (λ (t : List ℕ). switch_head padding (cast_signed w32 d) (length pairs / 8) ++ t) o
+    ∙ headed_again padding q_others d k dl kl
+    ∙ ap (λ (t : List ℕ). switch_head padding (cast_signed w32 d) (cast_signed w32 k) ++ t) o
 
 pub lookup_switch_known : (at : ℕ) (bytes : List ℕ) (x : Operands) → AreBytes bytes → Spells (lookup_switch_at at) bytes (outcome x) → Known at forms.LookupSwitch bytes x
 unfolding lookup_switch_at
@@ -134,12 +121,13 @@ lookup_switch_known at bytes x fit s =
     let behind_two : ℕ → ℕ → Format Outcome = λ d count. pairs_behind at padding (cast_signed w32 d) (cast_signed w32 count) in
     let p = number_parts 4 number_4 (λ d. andthen (number 4) (behind_two d)) s.1 (outcome x) bs.1 s.4 in
     let q = number_parts 4 number_4 (behind_two p.value) p.others (outcome x) p.are_bytes p.behind in
-    let o = pairs_known at padding (cast_signed w32 p.value) q.value q.others x (int_lt (cast_signed w32 q.value) (pos 0)) q.fits refl q.behind in
+    let n = cast_signed w32 q.value in
+    let o = pairs_known at padding (cast_signed w32 p.value) n q.others x (int_lt n (pos 0)) refl q.behind in
     let aligned : eqb (length padding) (padding_at at) ≡ true = eq-eqb _ _ s.2 in
     subst (λ (y : Operands). Known at forms.LookupSwitch bytes y) o.2 (record {
       has_form = refl;
-      agree = both _ (pairs_up o.0) aligned o.3;
-      bytes_are = lookup_bytes bytes padding s.1 p.others q.others o.0 p.value q.value p.fits o.4 s.3 p.parts q.parts o.1;
+      agree = both _ (pairs_up n o.0) aligned o.3;
+      bytes_are = lookup_bytes bytes padding s.1 p.others q.others o.0 p.value q.value p.fits q.fits s.3 p.parts q.parts o.1;
     })
 
 -- ---- what agrees is spelled
@@ -177,31 +165,33 @@ table_switch_written at padding d lo hi offsets fine range =
     rest true is long = absurd cc
     rest false is long = (offsets, [], long, sym (append-nil offsets), (refl, refl))
 
-pub lookup_switch_written : (at : ℕ) (padding : List ℕ) (d : ℤ) (pairs : List ℕ) → agrees at (lookup_switch padding d pairs) ≡ true → AreInRange (lookup_switch padding d pairs)
-    → Spells (lookup_switch_at at) (operands_bytes (lookup_switch padding d pairs)) (outcome (lookup_switch padding d pairs))
+pub lookup_switch_written : (at : ℕ) (padding : List ℕ) (d n : ℤ) (pairs : List ℕ) → agrees at (lookup_switch padding d n pairs) ≡ true → AreInRange (lookup_switch padding d n pairs)
+    → Spells (lookup_switch_at at) (operands_bytes (lookup_switch padding d n pairs)) (outcome (lookup_switch padding d n pairs))
 unfolding lookup_switch_at operands_bytes switch_head
-lookup_switch_written at padding d pairs fine range =
-    let x = lookup_switch padding d pairs in
-    let k = length pairs / 8 in
-    let h = halves (eqb (length padding) (padding_at at)) (pairs_up pairs) fine in
-    let u = halves (eqb (length pairs % 8) 0) (ltb k (2 ^ 31) && rising (keys pairs)) h.1 in
-    let v = halves (ltb k (2 ^ 31)) (rising (keys pairs)) u.1 in
-    let few : k < 2 ^ 31 = ltb-true _ _ v.0 in
-    let long : length pairs ≡ 8 * k = omega (arith, eqb-true _ _ u.0) in
-    let inner : Spells (pairs_behind at padding d (pos k)) pairs (outcome x) = counted (int_lt (pos k) (pos 0)) (le-ltb k 0 (omega arith)) long v.1 in
-    let read : Spells (pairs_behind at padding (to_z w32 (of_z w32 d)) (to_z w32 k)) pairs (outcome x) =
-    subst (λ (z : ℤ). Spells (pairs_behind at padding z (to_z w32 k)) pairs (outcome x)) (sym (to_z-of_z w32 d range))
-    (subst (λ (z : ℤ). Spells (pairs_behind at padding d z) pairs (outcome x)) (sym (to_z_pos w32 k few)) inner) in
+lookup_switch_written at padding d n pairs fine range =
+    let x = lookup_switch padding d n pairs in
+    let h = halves (eqb (length padding) (padding_at at)) (pairs_up n pairs) fine in
+    let u = halves (not (int_lt n (pos 0))) (eqb (length pairs) (8 * unsigned_abs n) && rising (keys pairs)) h.1 in
+    let v = halves (eqb (length pairs) (8 * unsigned_abs n)) (rising (keys pairs)) u.1 in
+    let inner : Spells (pairs_behind at padding d n) pairs (outcome x) = counted (int_lt n (pos 0)) u.0 (eqb-true _ _ v.0) v.1 in
+    let read : Spells (pairs_behind at padding (to_z w32 (of_z w32 d)) (to_z w32 (of_z w32 n))) pairs (outcome x) =
+    subst (λ (z : ℤ). Spells (pairs_behind at padding z (to_z w32 (of_z w32 n))) pairs (outcome x)) (sym (to_z-of_z w32 d range.0))
+    (subst (λ (z : ℤ). Spells (pairs_behind at padding d z) pairs (outcome x)) (sym (to_z-of_z w32 n range.1)) inner) in
     let cast_two : ℕ → ℕ → Format Outcome = λ a b. pairs_behind at padding (cast_signed w32 a) (cast_signed w32 b) in
-    let two = number_first 4 number_4 (cast_two (of_z w32 d)) k pairs (outcome x) (omega (arith, few)) read in
-    let one = number_first 4 number_4 (λ a. andthen (number 4) (cast_two a)) (of_z w32 d) (big_bytes 4 k ++ pairs) (outcome x) (word d range) two in
-    (padding, big_bytes 4 (of_z w32 d) ++ (big_bytes 4 k ++ pairs), eqb-true _ _ h.0, sym (regroup padding (big_bytes 4 (of_z w32 d)) (big_bytes 4 k) pairs), one)
+    let two = number_first 4 number_4 (cast_two (of_z w32 d)) (of_z w32 n) pairs (outcome x) (word n range.1) read in
+    let one = number_first 4 number_4 (λ a. andthen (number 4) (cast_two a)) (of_z w32 d) (big_bytes 4 (of_z w32 n) ++ pairs) (outcome x) (word d range.0) two in (
+      padding,
+      big_bytes 4 (of_z w32 d) ++ (big_bytes 4 (of_z w32 n) ++ pairs),
+      eqb-true _ _ h.0,
+      sym (regroup padding (big_bytes 4 (of_z w32 d)) (big_bytes 4 (of_z w32 n)) pairs),
+      one,
+    )
   where
-    rest : (b : Bool) → b ≡ true → Spells (cond b (done (outcome (lookup_switch padding d pairs))) (done (Err (BadSwitch at)))) [] (outcome (lookup_switch padding d pairs))
+    rest : (b : Bool) → b ≡ true → Spells (cond b (done (outcome (lookup_switch padding d n pairs))) (done (Err (BadSwitch at)))) [] (outcome (lookup_switch padding d n pairs))
     rest true is = (refl, refl)
     rest false is = absurd cc
 
-    counted : (b : Bool) → b ≡ false → length pairs ≡ 8 * (length pairs / 8) → rising (keys pairs) ≡ true
-        → Spells (cond b (done (Err (BadSwitch at))) (pairs_format at padding d (pos (length pairs / 8)))) pairs (outcome (lookup_switch padding d pairs))
+    counted : (b : Bool) → not b ≡ true → length pairs ≡ 8 * unsigned_abs n → rising (keys pairs) ≡ true
+        → Spells (cond b (done (Err (BadSwitch at))) (pairs_format at padding d n)) pairs (outcome (lookup_switch padding d n pairs))
     counted true is long up = absurd cc
     counted false is long up = (pairs, [], long, sym (append-nil pairs), rest (rising (keys pairs)) up)

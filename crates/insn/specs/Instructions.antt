@@ -29,7 +29,7 @@ pub data Operands : Type 0 where
   new_array : (element : ℕ) → Operands
   multi_new_array : (index dimensions : ℕ) → Operands
   table_switch : (padding : List ℕ) (default low high : ℤ) (offsets : List ℕ) → Operands
-  lookup_switch : (padding : List ℕ) (default : ℤ) (pairs : List ℕ) → Operands
+  lookup_switch : (padding : List ℕ) (default count : ℤ) (pairs : List ℕ) → Operands
   -- behind `wide`: an opcode, and its operands in twice the bytes
   wide_local : (opcode : Opcode) (local : ℕ) → Operands
   wide_increment : (opcode : Opcode) (local : ℕ) (by : ℤ) → Operands
@@ -88,7 +88,7 @@ table_behind at padding default low high =
 abbrev pub pairs_behind : ℕ → List ℕ → ℤ → ℤ → Format Outcome
 pairs_behind at padding default count =
     if int_lt count (pos 0) then faulty (BadSwitch at)
-    else part (8 * unsigned_abs count) (λ pairs. if rising (keys pairs) then spelled (lookup_switch padding default pairs) else faulty (BadSwitch at))
+    else part (8 * unsigned_abs count) (λ pairs. if rising (keys pairs) then spelled (lookup_switch padding default count pairs) else faulty (BadSwitch at))
 
 unfoldable pub table_switch_at : ℕ → Format Outcome
 table_switch_at at = part (padding_at at) (λ padding.

@@ -14,3 +14,4 @@ pub mod Views
 pub mod Offsets
 pub mod Stacks
 pub mod Supported
+pub mod Switches

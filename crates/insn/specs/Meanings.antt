@@ -70,7 +70,7 @@ abbrev pub offset_of : Operands → ℤ
 offset_of (branch offset) = offset
 offset_of (wide_branch offset) = offset
 offset_of (table_switch padding default low high offsets) = default
-offset_of (lookup_switch padding default pairs) = default
+offset_of (lookup_switch padding default count pairs) = default
 offset_of _ = pos 0
 
 -- numbers of four bytes each
@@ -84,7 +84,7 @@ pair_offsets bytes = map (λ x. x.1) (pairs bytes)
 
 abbrev pub offsets_of : Operands → List ℤ
 offsets_of (table_switch padding default low high bytes) = offsets bytes
-offsets_of (lookup_switch padding default pairs) = pair_offsets pairs
+offsets_of (lookup_switch padding default count pairs) = pair_offsets pairs
 offsets_of _ = []
 
 -- the types of arrays' elements by their numbers (JVMS 6.5, table 6.5.newarray-A)

@@ -18,7 +18,7 @@ operands_size (invoke_dynamic i) = 4
 operands_size (new_array element) = 1
 operands_size (multi_new_array i dimensions) = 3
 operands_size (table_switch padding default low high offsets) = 12 + (length padding + length offsets)
-operands_size (lookup_switch padding default pairs) = 8 + (length padding + length pairs)
+operands_size (lookup_switch padding default count pairs) = 8 + (length padding + length pairs)
 operands_size (wide_local opcode n) = 3
 operands_size (wide_increment opcode n by) = 5
 

@@ -1,6 +1,7 @@
 -- What an instruction is written as (JVMS 6.5, "Format"): its opcode, and what stands behind it, one part behind the other.
-use Rattle.std.specs.Prelude.{◌≡◌, ℕ, ℤ, ◌*◌, ◌/◌, ◌%◌, ◌<◌, ◌^◌, Bool, true, false, not, ◌&&◌, List, [], ◌++◌, length, nat_eq, nat_lt, int_lt, FitsSigned}
+use Rattle.std.specs.Prelude.{◌≡◌, ℕ, ℤ, pos, ◌*◌, ◌<◌, Bool, true, false, not, ◌&&◌, List, [], ◌++◌, length, nat_eq, int_lt, FitsSigned}
 use Rattle.std.specs.Int.{cast_unsigned, w8, w16, w32}
+use Rattle.std.specs.Int.RustNames.{unsigned_abs}
 use Rattle.byteorder.specs.Endian.{big_bytes}
 use Rattle.insn.specs.declared.table.Form.{Form}
 use Rattle.insn.specs.declared.table.Form.TheVariants as forms
@@ -23,7 +24,7 @@ form_of (invoke_dynamic i) = forms.InvokeDynamic
 form_of (new_array element) = forms.NewArray
 form_of (multi_new_array i dimensions) = forms.MultiNewArray
 form_of (table_switch padding default low high offsets) = forms.TableSwitch
-form_of (lookup_switch padding default pairs) = forms.LookupSwitch
+form_of (lookup_switch padding default count pairs) = forms.LookupSwitch
 form_of (wide_local opcode n) = forms.Wide
 form_of (wide_increment opcode n by) = forms.Wide
 
@@ -41,13 +42,13 @@ takes_increment form = false
 abbrev pub fills : ℤ → ℤ → List ℕ → Bool
 fills low high offsets = not (int_lt high low) && nat_eq (length offsets) (4 * table_length low high)
 
--- the table has whole pairs, no more than an `int` counts, and their keys rise
-abbrev pub pairs_up : List ℕ → Bool
-pairs_up pairs = nat_eq (length pairs % 8) 0 && (nat_lt (length pairs / 8) (2 ^ 31) && rising (keys pairs))
+-- the table has as many pairs as are counted, and their keys rise
+abbrev pub pairs_up : ℤ → List ℕ → Bool
+pairs_up count pairs = not (int_lt count (pos 0)) && (nat_eq (length pairs) (8 * unsigned_abs count) && rising (keys pairs))
 
 abbrev pub agrees : ℕ → Operands → Bool
 agrees at (table_switch padding default low high offsets) = nat_eq (length padding) (padding_at at) && fills low high offsets
-agrees at (lookup_switch padding default pairs) = nat_eq (length padding) (padding_at at) && pairs_up pairs
+agrees at (lookup_switch padding default count pairs) = nat_eq (length padding) (padding_at at) && pairs_up count pairs
 agrees at (wide_local opcode n) = takes_local (form opcode)
 agrees at (wide_increment opcode n by) = takes_increment (form opcode)
 agrees at _ = true
@@ -73,15 +74,15 @@ AreInRange (invoke_dynamic i) = i < 65536
 AreInRange (new_array element) = element < 256
 AreInRange (multi_new_array i dimensions) = (i < 65536) × (dimensions < 256)
 AreInRange (table_switch padding default low high offsets) = FitsSigned w32 default × FitsSigned w32 low × FitsSigned w32 high
-AreInRange (lookup_switch padding default pairs) = FitsSigned w32 default
+AreInRange (lookup_switch padding default count pairs) = FitsSigned w32 default × FitsSigned w32 count
 AreInRange (wide_local opcode n) = n < 65536
 AreInRange (wide_increment opcode n by) = (n < 65536) × FitsSigned w16 by
 
 -- ---- the bytes
 
 -- what both switches begin with: the second number is the low bound, or how many pairs there are
-unfoldable pub switch_head : List ℕ → ℤ → ℕ → List ℕ
-switch_head padding default second = padding ++ (big_bytes 4 (cast_unsigned w32 default) ++ big_bytes 4 second)
+unfoldable pub switch_head : List ℕ → ℤ → ℤ → List ℕ
+switch_head padding default second = padding ++ (big_bytes 4 (cast_unsigned w32 default) ++ big_bytes 4 (cast_unsigned w32 second))
 
 unfoldable pub operands_bytes : Operands → List ℕ
 operands_bytes nothing = []
@@ -98,8 +99,8 @@ operands_bytes (invoke_dynamic i) = big_bytes 2 i ++ big_bytes 2 0
 operands_bytes (new_array element) = big_bytes 1 element
 operands_bytes (multi_new_array i dimensions) = big_bytes 2 i ++ big_bytes 1 dimensions
 operands_bytes (table_switch padding default low high offsets) =
-    switch_head padding default (cast_unsigned w32 low) ++ (big_bytes 4 (cast_unsigned w32 high) ++ offsets)
-operands_bytes (lookup_switch padding default pairs) = switch_head padding default (length pairs / 8) ++ pairs
+    switch_head padding default low ++ (big_bytes 4 (cast_unsigned w32 high) ++ offsets)
+operands_bytes (lookup_switch padding default count pairs) = switch_head padding default count ++ pairs
 operands_bytes (wide_local opcode n) = big_bytes 1 (number opcode) ++ big_bytes 2 n
 operands_bytes (wide_increment opcode n by) = big_bytes 1 (number opcode) ++ (big_bytes 2 n ++ big_bytes 2 (cast_unsigned w16 by))
 

@@ -6,6 +6,8 @@ use Rattle.insn.specs.declared.switch.Targets.{Targets}
 use Rattle.insn.specs.declared.switch.Targets.TheVariants as targets
 use Rattle.insn.specs.declared.switch.Offsets.{Offsets}
 use Rattle.insn.specs.declared.switch.Pairs.{Pairs}
+use Rattle.insn.specs.declared.switch.TableSwitch.{TableSwitch}
+use Rattle.insn.specs.declared.switch.LookupSwitch.{LookupSwitch}
 use Rattle.insn.specs.declared.stack.StackForm as forms
 use Rattle.insn.specs.Acts.{StackForm}
 use Rattle.insn.specs.Meanings as means
@@ -14,6 +16,7 @@ use Rattle.insn.specs.declared.instruction.Operands.TheVariants as operands
 use Rattle.insn.specs.declared.instruction.Insn as insns
 use Rattle.insn.specs.Instructions as is
 use Rattle.insn.specs.Instructions.{Instruction}
+use Rattle.insn.specs.Switches.{table_switch_of, lookup_switch_of}
 
 abbrev pub operands_view : Operands → is.Operands
 operands_view operands.Nothing = is.nothing
@@ -29,8 +32,8 @@ operands_view (operands.InvokeInterface index count) = is.invoke_interface index
 operands_view (operands.InvokeDynamic index) = is.invoke_dynamic index
 operands_view (operands.NewArray element) = is.new_array element
 operands_view (operands.MultiNewArray index dimensions) = is.multi_new_array index dimensions
-operands_view (operands.TableSwitch padding default low high offsets) = is.table_switch padding.now default low high offsets.now
-operands_view (operands.LookupSwitch padding default pairs) = is.lookup_switch padding.now default pairs.now
+operands_view (operands.TableSwitch bytes) = table_switch_of bytes.now
+operands_view (operands.LookupSwitch bytes) = lookup_switch_of bytes.now
 operands_view (operands.WideLocal opcode local) = is.wide_local opcode local
 operands_view (operands.WideIncrement opcode local by) = is.wide_increment opcode local by
 
@@ -44,6 +47,13 @@ located x = (x.0, view x.1)
 -- instructions with the offsets where they begin
 abbrev pub views : List (ℕ × insns.Insn) → List (ℕ × Instruction)
 views xs = map located xs
+
+-- a switch of these parts
+abbrev pub table_switch_view : TableSwitch → is.Operands
+table_switch_view s = is.table_switch s.padding.now s.default s.low s.high s.offsets.now
+
+abbrev pub lookup_switch_view : LookupSwitch → is.Operands
+lookup_switch_view s = is.lookup_switch s.padding.now s.default s.count s.pairs.now
 
 -- where a switch goes, by its bytes
 abbrev pub targets_view : Targets → List ℤ

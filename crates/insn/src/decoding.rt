@@ -11,8 +11,22 @@ use crate::fault::CodeFault;
 use crate::instruction::Insn;
 use std::alloc::Global;
 
+/// How many instructions this code has; or the fault of the first that is none, 31 to 35.
+fn count(code: &[u8]) -> Result<usize, CodeFault>
+    ensures found { IfOk result (λ n. (xs : List (ℕ × Instruction)) × SpellsCode 0 code.now xs × (length xs ≡ n)) }
+    ensures fault { IfErr result (λ e. FaultyCode code.now e) }
+{
+    let mut count = 0;
+    for step in Instructions::new(code) {
+        step?;
+        count += 1;
+    }
+    Ok(count)
+}
+
 /// The instructions of this code, which has at most 65,535 bytes (JVMS 4.7.3), with the offsets in
-/// bytes where they begin; or the fault of the first that is none, 31 to 35; or 1.
+/// bytes where they begin; or the fault of the first that is none, 31 to 35; or 1. Memory is asked
+/// for once, for as many instructions as there are.
 pub fn decode_code<'a>(alloc: Global, code: &'a [u8]) -> Result<Vec<(u16, Insn<'a>)>, CodeFault>
     requires { length code.now ≤ MAX_CODE_BYTES }
     // What is answered is spelled by the code.
@@ -24,7 +38,7 @@ pub fn decode_code<'a>(alloc: Global, code: &'a [u8]) -> Result<Vec<(u16, Insn<'
     // Which fault it is.
     ensures fault { IfErr result (λ e. UnlessMemory e (FaultyCode code.now e)) }
 {
-    let mut list = Vec::new(alloc);
+    let mut list = Vec::with_capacity(alloc, count(code)?)?;
     for step in Instructions::new(code) {
         let (at, insn) = step?;
         list.push((at as u16, insn))?;

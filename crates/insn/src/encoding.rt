@@ -8,6 +8,7 @@ ghost use Rattle.insn.specs.Sizes.{operands_size, size, code_size};
 ghost use Rattle.insn.specs.Views.{operands_view, view};
 
 use crate::instruction::{Insn, Operands};
+use crate::switch::{LookupSwitch, TableSwitch};
 use crate::writing::put_insn;
 use layout::{MAX_CODE_BYTES, WriteFault};
 use std::alloc::Global;
@@ -40,12 +41,14 @@ fn behind_operands(room: usize, operands: Operands<'_>) -> Option<usize>
         | Operands::InvokeInterface { .. }
         | Operands::InvokeDynamic { .. } => room.checked_sub(4),
         Operands::WideIncrement { .. } => room.checked_sub(5),
-        Operands::TableSwitch {
-            padding,
-            offsets,
-            ..
-        } => behind_switch(room, 12, padding, offsets),
-        Operands::LookupSwitch { padding, pairs, .. } => behind_switch(room, 8, padding, pairs),
+        Operands::TableSwitch(bytes) => {
+            let switch = TableSwitch::new(bytes);
+            behind_switch(room, 12, switch.padding, switch.offsets)
+        }
+        Operands::LookupSwitch(bytes) => {
+            let switch = LookupSwitch::new(bytes);
+            behind_switch(room, 8, switch.padding, switch.pairs)
+        }
     }
 }
 

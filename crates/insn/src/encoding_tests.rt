@@ -14,13 +14,7 @@ fn a_switch_is_written_with_its_padding(rt: HostRuntime) -> Result<(), Fail> {
         },
         Insn {
             opcode: Opcode::Tableswitch,
-            operands: Operands::TableSwitch {
-                padding: &[1, 2],
-                default: 19,
-                low: 0,
-                high: 0,
-                offsets: &[0, 0, 0, 19],
-            },
+            operands: Operands::TableSwitch(&code[2..20]),
         },
         Insn {
             opcode: Opcode::Return,
@@ -78,63 +72,52 @@ fn what_no_bytes_spell(rt: HostRuntime) {
                 by: 1,
             },
         ),
-        (
-            Opcode::Tableswitch,
-            Operands::TableSwitch {
-                padding: &[],
-                default: 0,
-                low: 0,
-                high: 0,
-                offsets: &[0, 0, 0, 0],
-            },
-        ),
-        (
-            Opcode::Tableswitch,
-            Operands::TableSwitch {
-                padding: &[0, 0, 0],
-                default: 0,
-                low: 1,
-                high: 0,
-                offsets: &[],
-            },
-        ),
-        (
-            Opcode::Tableswitch,
-            Operands::TableSwitch {
-                padding: &[0, 0, 0],
-                default: 0,
-                low: i32::MIN,
-                high: i32::MAX,
-                offsets: &[0, 0, 0, 0],
-            },
-        ),
-        (
-            Opcode::Lookupswitch,
-            Operands::LookupSwitch {
-                padding: &[0, 0, 0, 0],
-                default: 0,
-                pairs: &[],
-            },
-        ),
-        (
-            Opcode::Lookupswitch,
-            Operands::LookupSwitch {
-                padding: &[0, 0, 0],
-                default: 0,
-                pairs: &[0, 0, 0, 0, 0, 0, 0],
-            },
-        ),
-        (
-            Opcode::Lookupswitch,
-            Operands::LookupSwitch {
-                padding: &[0, 0, 0],
-                default: 0,
-                pairs: &[0, 0, 0, 1, 0, 0, 0, 0, 0, 0, 0, 1, 0, 0, 0, 0],
-            },
-        ),
     ];
     for (opcode, operands) in wrong {
         let answer = encode_code(rt.alloc(), &[Insn { opcode, operands }]);
+        assert!(rt; matches!(answer, Err(WriteFault::HasNoSpelling)));
+    }
+}
+
+#[test]
+fn switches_that_no_bytes_spell(rt: HostRuntime) {
+    let tables: [&[u8]; 5] = [
+        // no padding
+        &[0; 16],
+        // no offsets
+        &[0; 15],
+        // no numbers
+        &[0; 3],
+        &[0, 0, 0, 0, 0, 0, 0, 0, 0, 0, 1, 0, 0, 0, 0],
+        &[
+            0, 0, 0, 0, 0, 0, 0, 0x80, 0, 0, 0, 0x7F, 0xFF, 0xFF, 0xFF, 0, 0, 0, 0,
+        ],
+    ];
+    for bytes in tables {
+        let switch = Insn {
+            opcode: Opcode::Tableswitch,
+            operands: Operands::TableSwitch(bytes),
+        };
+        let answer = encode_code(rt.alloc(), &[switch]);
+        assert!(rt; matches!(answer, Err(WriteFault::HasNoSpelling)));
+    }
+    let pairs: [&[u8]; 5] = [
+        // no padding
+        &[0; 8],
+        // half a pair that is not counted
+        &[0; 15],
+        &[0, 0, 0, 0, 0, 0, 0, 0, 0, 0, 1],
+        &[0, 0, 0, 0, 0, 0, 0, 0xFF, 0xFF, 0xFF, 0xFF],
+        &[
+            0, 0, 0, 0, 0, 0, 0, 0, 0, 0, 2, 0, 0, 0, 1, 0, 0, 0, 0, 0, 0, 0, 1, 0, 0, 0, 0,
+        ],
+    ];
+    for bytes in pairs {
+        let switch = Insn {
+            opcode: Opcode::Lookupswitch,
+            operands: Operands::LookupSwitch(bytes),
+        };
+        let answer = encode_code(rt.alloc(), &[switch]);
         assert!(rt; matches!(answer, Err(WriteFault::HasNoSpelling)));
     }
 }
@@ -147,11 +130,7 @@ fn padding_by_the_offset(rt: HostRuntime) -> Result<(), Fail> {
     };
     let switch = Insn {
         opcode: Opcode::Lookupswitch,
-        operands: Operands::LookupSwitch {
-            padding: &[0, 0, 0],
-            default: 12,
-            pairs: &[],
-        },
+        operands: Operands::LookupSwitch(&[0, 0, 0, 0, 0, 0, 12, 0, 0, 0, 0]),
     };
     let bytes = encode_code(rt.alloc(), &[switch])?;
     assert_eq!(rt; bytes.len(), 12);

@@ -86,6 +86,33 @@ fn instructions_one_by_one(rt: HostRuntime) {
 }
 
 #[test]
+fn parts_of_switches(rt: HostRuntime) {
+    let bytes = [
+        9u8, 8, 7, 0, 0, 0, 19, 0, 0, 0, 1, 0, 0, 0, 2, 0, 0, 0, 3, 0, 0, 0, 4,
+    ];
+    let table = TableSwitch::new(&bytes);
+    assert_eq!(rt; table.padding, &bytes[..3]);
+    assert_eq!(rt; (table.default, table.low, table.high), (19, 1, 2));
+    assert_eq!(rt; table.offsets, &bytes[15..]);
+    let pairs = LookupSwitch::new(&bytes[1..19]);
+    assert_eq!(rt; pairs.padding, &bytes[1..3]);
+    assert_eq!(rt; (pairs.default, pairs.count), (19, 1));
+    assert_eq!(rt; pairs.pairs, &bytes[11..19]);
+    let cut = TableSwitch::new(&bytes[3..11]);
+    assert_eq!(rt;
+        (cut.padding.len(), cut.default, cut.low, cut.high),
+        (0, 19, 1, 0)
+    );
+    assert!(rt; cut.offsets.is_empty());
+}
+
+#[test]
+fn an_instruction_of_a_list_takes_40_bytes(rt: HostRuntime) {
+    assert_eq!(rt; size_of::<Operands<'_>>(), 24);
+    assert_eq!(rt; size_of::<(u16, Insn<'_>)>(), 40);
+}
+
+#[test]
 fn where_switches_go(rt: HostRuntime) {
     let table = [0u8, 0, 0, 19, 0xFF, 0xFF, 0xFF, 0xFE];
     let mut offsets = Targets::Offsets(&table).offsets();

@@ -6,8 +6,8 @@ ghost use Rattle.insn.specs.Views.{view, views};
 
 use crate::opcode::Opcode;
 
-/// What stands behind an opcode (JVMS 6.5), as its [`Form`](crate::Form) says. The tables of
-/// switches are parts of the code.
+/// What stands behind an opcode (JVMS 6.5), as its [`Form`](crate::Form) says. A switch keeps all
+/// bytes behind its opcode as they stand in the code, so that all operands are small.
 #[derive(Clone, Copy, Debug)]
 pub enum Operands<'a> {
     /// Nothing.
@@ -23,57 +23,29 @@ pub enum Operands<'a> {
     /// The number of a local variable.
     Local(u8),
     /// The local variable of `iinc`, and what is added to it.
-    Increment {
-        local: u8,
-        by: i8,
-    },
+    Increment { local: u8, by: i8 },
     /// Where a branch goes, in bytes from the instruction's own start.
     Branch(i16),
     /// Where `goto_w` or `jsr_w` goes, in bytes from the instruction's own start.
     WideBranch(i32),
     /// The index and the count of `invokeinterface`; the byte behind them is 0.
-    InvokeInterface {
-        index: u16,
-        count: u8,
-    },
+    InvokeInterface { index: u16, count: u8 },
     /// The index of `invokedynamic`; the two bytes behind it are 0.
-    InvokeDynamic {
-        index: u16,
-    },
+    InvokeDynamic { index: u16 },
     /// The number of the element type of `newarray` (JVMS 6.5, table 6.5.newarray-A).
     NewArray(u8),
     /// The index of `multianewarray`, and how many dimensions are made.
-    MultiNewArray {
-        index: u16,
-        dimensions: u8,
-    },
-    /// `tableswitch`: the padding, 0 to 3 bytes as they stand, where to go for other keys, the
-    /// bounds, and for each key in between four bytes that say where to go.
-    TableSwitch {
-        padding: &'a [u8],
-        default: i32,
-        low: i32,
-        high: i32,
-        offsets: &'a [u8],
-    },
-    /// `lookupswitch`: the padding, 0 to 3 bytes as they stand, where to go for other keys, and
-    /// pairs of four bytes for a key and four that say where to go.
-    LookupSwitch {
-        padding: &'a [u8],
-        default: i32,
-        pairs: &'a [u8],
-    },
+    MultiNewArray { index: u16, dimensions: u8 },
+    /// `tableswitch`: all bytes behind the opcode, whose parts
+    /// [`TableSwitch`](crate::TableSwitch) tells.
+    TableSwitch(&'a [u8]),
+    /// `lookupswitch`: all bytes behind the opcode, whose parts
+    /// [`LookupSwitch`](crate::LookupSwitch) tells.
+    LookupSwitch(&'a [u8]),
     /// `wide` before a load, a store or `ret`: that opcode, and the number of a local variable.
-    WideLocal {
-        opcode: Opcode,
-        local: u16,
-    },
+    WideLocal { opcode: Opcode, local: u16 },
     /// `wide` before `iinc`: that opcode, the local variable, and what is added to it.
-    WideIncrement {
-        opcode: Opcode,
-        local: u16,
-        by: i16,
-    },
+    WideIncrement { opcode: Opcode, local: u16, by: i16 },
 }
 
 /// An instruction (JVMS 6.5).
@@ -105,8 +77,8 @@ pub fn modified(insn: &Insn<'_>) -> Opcode
         | Operands::InvokeDynamic { .. }
         | Operands::NewArray(_)
         | Operands::MultiNewArray { .. }
-        | Operands::TableSwitch { .. }
-        | Operands::LookupSwitch { .. } => insn.opcode,
+        | Operands::TableSwitch(_)
+        | Operands::LookupSwitch(_) => insn.opcode,
     }
 }
 

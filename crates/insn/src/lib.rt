@@ -17,7 +17,7 @@
 //! - `operation`: operators, and what instructions may mean
 //! - `reading`: one instruction
 //! - `stack`: the instructions that move what is on the stack
-//! - `switch`: where a switch goes
+//! - `switch`: the parts of a switch, and where it goes
 //! - `table`: the instruction set, a row for each opcode
 //! - `writing`: one instruction, written
 #![tactic(auto)]
@@ -51,7 +51,7 @@ pub use opcode::Opcode;
 pub use operation::{Act, Kind, Meaning, NumericOperator, takes_array};
 pub use reading::read_insn;
 pub use stack::{StackForm, StackOperator, StackPlace};
-pub use switch::{Offsets, Pairs, Targets};
+pub use switch::{LookupSwitch, Offsets, Pairs, TableSwitch, Targets};
 pub use table::Form;
 
 #[cfg(test)]

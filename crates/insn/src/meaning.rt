@@ -6,7 +6,7 @@ ghost use Rattle.insn.specs.Views.{view, operands_view, act_view, targets_view};
 
 use crate::instruction::{Insn, Operands, modified};
 use crate::operation::{Act, Meaning};
-use crate::switch::Targets;
+use crate::switch::{LookupSwitch, TableSwitch, Targets};
 use names::Primitive;
 
 /// The meaning of an instruction, without its form: `iload_0`, `iload 0` and `wide iload 0` have one
@@ -105,8 +105,8 @@ fn local_of(operands: Operands<'_>) -> u16
         | Operands::InvokeDynamic { .. }
         | Operands::NewArray(_)
         | Operands::MultiNewArray { .. }
-        | Operands::TableSwitch { .. }
-        | Operands::LookupSwitch { .. } => 0,
+        | Operands::TableSwitch(_)
+        | Operands::LookupSwitch(_) => 0,
     }
 }
 
@@ -128,8 +128,8 @@ fn index_of(operands: Operands<'_>) -> u16
         | Operands::Branch(_)
         | Operands::WideBranch(_)
         | Operands::NewArray(_)
-        | Operands::TableSwitch { .. }
-        | Operands::LookupSwitch { .. }
+        | Operands::TableSwitch(_)
+        | Operands::LookupSwitch(_)
         | Operands::WideLocal { .. }
         | Operands::WideIncrement { .. } => 0,
     }
@@ -153,8 +153,8 @@ fn byte_of(operands: Operands<'_>) -> u8
         | Operands::Branch(_)
         | Operands::WideBranch(_)
         | Operands::InvokeDynamic { .. }
-        | Operands::TableSwitch { .. }
-        | Operands::LookupSwitch { .. }
+        | Operands::TableSwitch(_)
+        | Operands::LookupSwitch(_)
         | Operands::WideLocal { .. }
         | Operands::WideIncrement { .. } => 0,
     }
@@ -167,8 +167,8 @@ fn offset_of(operands: Operands<'_>) -> i32
     match operands {
         Operands::Branch(offset) => i32::from(offset),
         Operands::WideBranch(offset) => offset,
-        Operands::TableSwitch { default, .. } => default,
-        Operands::LookupSwitch { default, .. } => default,
+        Operands::TableSwitch(bytes) => TableSwitch::new(bytes).default,
+        Operands::LookupSwitch(bytes) => LookupSwitch::new(bytes).default,
         Operands::Nothing
         | Operands::Byte(_)
         | Operands::Short(_)
@@ -190,8 +190,8 @@ fn targets_of<'a>(operands: Operands<'a>) -> Targets<'a>
     ensures { targets_view result ≡ offsets_of (operands_view operands.entry) }
 {
     match operands {
-        Operands::TableSwitch { offsets, .. } => Targets::Offsets(offsets),
-        Operands::LookupSwitch { pairs, .. } => Targets::Pairs(pairs),
+        Operands::TableSwitch(bytes) => Targets::Offsets(TableSwitch::new(bytes).offsets),
+        Operands::LookupSwitch(bytes) => Targets::Pairs(LookupSwitch::new(bytes).pairs),
         Operands::Nothing
         | Operands::Byte(_)
         | Operands::Short(_)

@@ -1,14 +1,14 @@
 //! Reading one instruction. No call takes memory.
-ghost use Rattle.std.specs.Prelude.{◌≡◌, Some};
+ghost use Rattle.std.specs.Prelude.{◌≡◌, ◌≤◌, ◌-◌, Some, length, take};
 ghost use Rattle.insn.specs.Code.{ReadsInstruction};
 ghost use Rattle.insn.specs.Faults.{Decodes, or_cut};
 ghost use Rattle.insn.specs.Instructions.{operands_at, behind_opcode, instruction_at, wide_at, widened, widened_opcode, invoke_interface_at, invoke_dynamic_at, table_switch_at, table_behind, lookup_switch_at, pairs_behind, keys, rising, follows};
-ghost use Rattle.insn.specs.Views.{operands_view, view};
+ghost use Rattle.insn.specs.Views.{operands_view, table_switch_view, lookup_switch_view, view};
 
 use crate::fault::CodeFault;
 use crate::instruction::{Insn, Operands};
 use crate::opcode::Opcode;
-use crate::switch::Pairs;
+use crate::switch::{LookupSwitch, Pairs, TableSwitch};
 use crate::table::Form;
 use layout::{Cursor, ReadFault};
 
@@ -130,11 +130,28 @@ fn widened<'a>(
     }
 }
 
-/// What stands behind `tableswitch`. The table is taken as it stands, so that it costs nothing
-/// before its bytes are there.
-#[tactic(auto, unfolding(crate::specs::Instructions::table_switch_at))]
+/// The bytes in front of the last ones, of which so many are left.
+fn taken(bytes: &[u8], left: usize) -> &[u8]
+    requires { left ≤ length bytes.now }
+    ensures { result.now ≡ take (length bytes.now - left) bytes.now }
+{
+    let (taken, _) = bytes.split_at(bytes.len() - left);
+    taken
+}
+
+/// What stands behind `tableswitch`: the bytes as they stand, so that the table costs nothing.
 fn table_switch<'a>(cursor: &mut Cursor<'a>, at: usize) -> Result<Operands<'a>, CodeFault>
     ensures { Decodes at (table_switch_at at) operands_view cursor.old cursor.new result }
+{
+    let bytes = cursor.rest();
+    table_switch_parts(cursor, at)?;
+    Ok(Operands::TableSwitch(taken(bytes, cursor.rest().len())))
+}
+
+/// The parts of a `tableswitch`, behind its opcode.
+#[tactic(auto, unfolding(crate::specs::Instructions::table_switch_at))]
+fn table_switch_parts<'a>(cursor: &mut Cursor<'a>, at: usize) -> Result<TableSwitch<'a>, CodeFault>
+    ensures { Decodes at (table_switch_at at) table_switch_view cursor.old cursor.new result }
 {
     let padding = or_cut(at, cursor.part(3 - at % 4))?;
     let default = or_cut(at, cursor.u4())?.cast_signed();
@@ -151,15 +168,15 @@ fn offsets<'a>(
     default: i32,
     low: i32,
     high: i32,
-) -> Result<Operands<'a>, CodeFault>
-    ensures { Decodes at (table_behind at padding.now default low high) operands_view cursor.old cursor.new result }
+) -> Result<TableSwitch<'a>, CodeFault>
+    ensures { Decodes at (table_behind at padding.now default low high) table_switch_view cursor.old cursor.new result }
 {
     if high < low {
         return Err(CodeFault::BadSwitch { at });
     }
     let length = (i64::from(high) - i64::from(low)).unsigned_abs() as usize + 1;
     let offsets = or_cut(at, cursor.part(4 * length))?;
-    Ok(Operands::TableSwitch {
+    Ok(TableSwitch {
         padding,
         default,
         low,
@@ -168,11 +185,22 @@ fn offsets<'a>(
     })
 }
 
-/// What stands behind `lookupswitch`. The pairs are taken as they stand, so that they cost nothing
-/// before their bytes are there.
-#[tactic(auto, unfolding(crate::specs::Instructions::lookup_switch_at))]
+/// What stands behind `lookupswitch`: the bytes as they stand, so that the pairs cost nothing.
 fn lookup_switch<'a>(cursor: &mut Cursor<'a>, at: usize) -> Result<Operands<'a>, CodeFault>
     ensures { Decodes at (lookup_switch_at at) operands_view cursor.old cursor.new result }
+{
+    let bytes = cursor.rest();
+    lookup_switch_parts(cursor, at)?;
+    Ok(Operands::LookupSwitch(taken(bytes, cursor.rest().len())))
+}
+
+/// The parts of a `lookupswitch`, behind its opcode.
+#[tactic(auto, unfolding(crate::specs::Instructions::lookup_switch_at))]
+fn lookup_switch_parts<'a>(
+    cursor: &mut Cursor<'a>,
+    at: usize,
+) -> Result<LookupSwitch<'a>, CodeFault>
+    ensures { Decodes at (lookup_switch_at at) lookup_switch_view cursor.old cursor.new result }
 {
     let padding = or_cut(at, cursor.part(3 - at % 4))?;
     let default = or_cut(at, cursor.u4())?.cast_signed();
@@ -187,8 +215,8 @@ fn pairs<'a>(
     padding: &'a [u8],
     default: i32,
     count: i32,
-) -> Result<Operands<'a>, CodeFault>
-    ensures { Decodes at (pairs_behind at padding.now default count) operands_view cursor.old cursor.new result }
+) -> Result<LookupSwitch<'a>, CodeFault>
+    ensures { Decodes at (pairs_behind at padding.now default count) lookup_switch_view cursor.old cursor.new result }
 {
     if count < 0 {
         return Err(CodeFault::BadSwitch { at });
@@ -197,9 +225,10 @@ fn pairs<'a>(
     if !rising(pairs) {
         return Err(CodeFault::BadSwitch { at });
     }
-    Ok(Operands::LookupSwitch {
+    Ok(LookupSwitch {
         padding,
         default,
+        count,
         pairs,
     })
 }

@@ -1,9 +1,96 @@
-//! Where a switch goes. No call takes memory.
+//! The parts of a switch, and where it goes. No call takes memory.
 ghost use Rattle.std.specs.Prelude.{◌≡◌, [], ◌∷◌, MatchOption};
 ghost use Rattle.insn.specs.Instructions.{pairs};
+ghost use Rattle.insn.specs.Switches.{padding_of, number_of, behind, default_of, low_of, high_of, table_of, count_of, pairs_of};
 ghost use Rattle.insn.specs.Views.{targets_view, offsets_left, pairs_left};
 
 use byteorder::{BigEndian, ByteOrder};
+
+/// The parts of a `tableswitch` (JVMS 6.5).
+#[derive(Clone, Copy, Debug)]
+pub struct TableSwitch<'a> {
+    /// 0 to 3 bytes as they stand, whatever they are.
+    pub padding: &'a [u8],
+    /// Where to go for other keys, in bytes from the instruction's own start.
+    pub default: i32,
+    /// The least key of the table.
+    pub low: i32,
+    /// The greatest key of the table.
+    pub high: i32,
+    /// For each key from `low` to `high` four bytes that say where to go.
+    pub offsets: &'a [u8],
+}
+
+impl<'a> TableSwitch<'a> {
+    /// The parts of all bytes behind the opcode, as an instruction keeps them
+    /// ([`Operands::TableSwitch`](crate::Operands)). Their number modulo 4 is that of the padding,
+    /// and a number whose bytes are missing counts as 0.
+    pub fn new(bytes: &'a [u8]) -> Self
+        ensures padding { result.padding.now ≡ padding_of bytes.now }
+        ensures default { result.default ≡ default_of bytes.now }
+        ensures low { result.low ≡ low_of bytes.now }
+        ensures high { result.high ≡ high_of bytes.now }
+        ensures offsets { result.offsets.now ≡ table_of bytes.now }
+    {
+        let (padding, fours) = bytes.split_at(bytes.len() % 4);
+        let (default, fours) = first_number(fours);
+        let (low, fours) = first_number(fours);
+        let (high, offsets) = first_number(fours);
+        TableSwitch {
+            padding,
+            default,
+            low,
+            high,
+            offsets,
+        }
+    }
+}
+
+/// The parts of a `lookupswitch` (JVMS 6.5).
+#[derive(Clone, Copy, Debug)]
+pub struct LookupSwitch<'a> {
+    /// 0 to 3 bytes as they stand, whatever they are.
+    pub padding: &'a [u8],
+    /// Where to go for other keys, in bytes from the instruction's own start.
+    pub default: i32,
+    /// How many pairs there are.
+    pub count: i32,
+    /// Pairs of four bytes for a key and four that say where to go.
+    pub pairs: &'a [u8],
+}
+
+impl<'a> LookupSwitch<'a> {
+    /// The parts of all bytes behind the opcode, as an instruction keeps them
+    /// ([`Operands::LookupSwitch`](crate::Operands)). Their number modulo 4 is that of the padding,
+    /// and a number whose bytes are missing counts as 0.
+    pub fn new(bytes: &'a [u8]) -> Self
+        ensures padding { result.padding.now ≡ padding_of bytes.now }
+        ensures default { result.default ≡ default_of bytes.now }
+        ensures count { result.count ≡ count_of bytes.now }
+        ensures pairs { result.pairs.now ≡ pairs_of bytes.now }
+    {
+        let (padding, fours) = bytes.split_at(bytes.len() % 4);
+        let (default, fours) = first_number(fours);
+        let (count, pairs) = first_number(fours);
+        LookupSwitch {
+            padding,
+            default,
+            count,
+            pairs,
+        }
+    }
+}
+
+/// The number in front of fours of bytes, 0 where there is none, and the fours behind it.
+fn first_number(fours: &[u8]) -> (i32, &[u8])
+    ensures number { result.0 ≡ number_of fours.now }
+    ensures others { result.1.now ≡ behind fours.now }
+{
+    match fours {
+        [a, b, c, d, others @ ..] => (BigEndian::read_i32(&[*a, *b, *c, *d]), others),
+        _ => (0, &[]),
+    }
+}
 
 /// What the targets of a switch are read from.
 #[derive(Clone, Copy, Debug)]
@@ -62,8 +149,8 @@ pub struct Pairs<'a> {
 }
 
 impl<'a> Pairs<'a> {
-    /// The pairs that these bytes have, as an instruction keeps them
-    /// ([`Operands::LookupSwitch`](crate::Operands)).
+    /// The pairs that these bytes have, as a switch has them
+    /// ([`LookupSwitch`](LookupSwitch::pairs)).
     pub fn new(bytes: &'a [u8]) -> Self
         ensures { pairs_left result ≡ pairs bytes.now }
     {

@@ -15,18 +15,14 @@ fn a_switch_with_its_padding(rt: HostRuntime) -> Result<(), Fail> {
     assert_eq!(rt; start, 1);
     assert_eq!(rt; insn.opcode.mnemonic(), "tableswitch");
     match insn.operands {
-        Operands::TableSwitch {
-            padding,
-            default,
-            low,
-            high,
-            offsets,
-        } => {
-            assert_eq!(rt; padding, [1u8, 2].as_slice());
-            assert_eq!(rt; default, 19);
-            assert_eq!(rt; low, 0);
-            assert_eq!(rt; high, 0);
-            assert_eq!(rt; offsets, [0u8, 0, 0, 19].as_slice());
+        Operands::TableSwitch(bytes) => {
+            assert_eq!(rt; bytes, &code[2..20]);
+            let switch = TableSwitch::new(bytes);
+            assert_eq!(rt; switch.padding, [1u8, 2].as_slice());
+            assert_eq!(rt; switch.default, 19);
+            assert_eq!(rt; switch.low, 0);
+            assert_eq!(rt; switch.high, 0);
+            assert_eq!(rt; switch.offsets, [0u8, 0, 0, 19].as_slice());
         }
         _ => assert!(rt; false),
     }

@@ -1,16 +1,17 @@
 //! Writing one instruction.
-ghost use Rattle.std.specs.Prelude.{◌≡◌, ◌+◌, ◌*◌, ◌/◌, ◌≤◌, ◌<◌, ◌^◌, ◌++◌, ℕ, Bool, true, false, length, nat_eq};
+ghost use Rattle.std.specs.Prelude.{◌≡◌, ◌+◌, ◌*◌, ◌≤◌, ◌++◌, ℕ, Bool, true, false, length, nat_eq};
 ghost use Rattle.std.specs.Int.{cast_unsigned, w8, w16, w32};
 ghost use Rattle.byteorder.specs.Endian.{big_bytes};
 ghost use Rattle.insn.specs.Encoding.{Appends, HasNone, AppendsInstruction};
 ghost use Rattle.insn.specs.Instructions.{padding_at, table_length};
 ghost use Rattle.insn.specs.Opcodes.{form, number};
 ghost use Rattle.insn.specs.Spellings.{form_of, agrees, fills, pairs_up, AreInRange, takes_local, takes_increment, switch_head, operands_bytes, IsFine};
-ghost use Rattle.insn.specs.Views.{operands_view, view};
+ghost use Rattle.insn.specs.Views.{operands_view, table_switch_view, lookup_switch_view, view};
 
 use crate::instruction::{Insn, Operands};
 use crate::opcode::Opcode;
 use crate::reading::rising;
+use crate::switch::{LookupSwitch, TableSwitch};
 use crate::table::Form;
 use byteorder::{BigEndian, ByteOrder};
 use layout::WriteFault;
@@ -33,8 +34,8 @@ fn form_of(operands: &Operands<'_>) -> Form
         Operands::InvokeDynamic { .. } => Form::InvokeDynamic,
         Operands::NewArray(_) => Form::NewArray,
         Operands::MultiNewArray { .. } => Form::MultiNewArray,
-        Operands::TableSwitch { .. } => Form::TableSwitch,
-        Operands::LookupSwitch { .. } => Form::LookupSwitch,
+        Operands::TableSwitch(_) => Form::TableSwitch,
+        Operands::LookupSwitch(_) => Form::LookupSwitch,
         Operands::WideLocal { .. } | Operands::WideIncrement { .. } => Form::Wide,
     }
 }
@@ -50,11 +51,14 @@ fn fills(low: i32, high: i32, offsets: &[u8]) -> bool
     offsets.len() == 4 * length
 }
 
-/// Whether the table has whole pairs, no more than an `int` counts, and their keys rise.
-fn pairs_up(pairs: &[u8]) -> bool
-    ensures { result ≡ pairs_up pairs.now }
+/// Whether the table has as many pairs as are counted, and their keys rise.
+fn pairs_up(count: i32, pairs: &[u8]) -> bool
+    ensures { result ≡ pairs_up count pairs.now }
 {
-    pairs.len() % 8 == 0 && pairs.len() / 8 < 0x8000_0000 && rising(pairs)
+    if count < 0 {
+        return false;
+    }
+    pairs.len() == 8 * count.unsigned_abs() as usize && rising(pairs)
 }
 
 /// Whether the operands may stand in an instruction that begins at `at`, behind an opcode of their
@@ -63,15 +67,13 @@ fn agrees(at: usize, operands: &Operands<'_>) -> bool
     ensures { result ≡ agrees at (operands_view operands.now) }
 {
     match operands {
-        Operands::TableSwitch {
-            padding,
-            low,
-            high,
-            offsets,
-            ..
-        } => padding.len() == 3 - at % 4 && fills(*low, *high, offsets),
-        Operands::LookupSwitch { padding, pairs, .. } => {
-            padding.len() == 3 - at % 4 && pairs_up(pairs)
+        Operands::TableSwitch(bytes) => {
+            let switch = TableSwitch::new(bytes);
+            switch.padding.len() == 3 - at % 4 && fills(switch.low, switch.high, switch.offsets)
+        }
+        Operands::LookupSwitch(bytes) => {
+            let switch = LookupSwitch::new(bytes);
+            switch.padding.len() == 3 - at % 4 && pairs_up(switch.count, switch.pairs)
         }
         Operands::WideLocal { opcode, .. } => matches!(opcode.form(), Form::Local),
         Operands::WideIncrement { opcode, .. } => matches!(opcode.form(), Form::Increment),
@@ -119,6 +121,13 @@ fn put_u4(out: &mut Vec<u8>, n: u32) -> Result<(), WriteFault>
     Ok(())
 }
 
+/// Appends a signed number of four bytes, the highest byte first.
+fn put_i4(out: &mut Vec<u8>, n: i32) -> Result<(), WriteFault>
+    ensures { Appends (big_bytes 4 (cast_unsigned w32 n)) out.old.items out.new.items result }
+{
+    put_u4(out, n.cast_unsigned())
+}
+
 /// Appends a number of one byte and then one of one byte.
 fn put_increment(out: &mut Vec<u8>, local: u8, by: i8) -> Result<(), WriteFault>
     ensures { Appends (big_bytes 1 local ++ big_bytes 1 (cast_unsigned w8 by)) out.old.items out.new.items result }
@@ -152,6 +161,14 @@ fn put_multi_new_array(out: &mut Vec<u8>, index: u16, dimensions: u8) -> Result<
     put_u1(out, dimensions)
 }
 
+/// Appends two signed numbers of four bytes.
+fn put_ints(out: &mut Vec<u8>, first: i32, second: i32) -> Result<(), WriteFault>
+    ensures { Appends (big_bytes 4 (cast_unsigned w32 first) ++ big_bytes 4 (cast_unsigned w32 second)) out.old.items out.new.items result }
+{
+    put_i4(out, first)?;
+    put_i4(out, second)
+}
+
 /// Appends what both switches begin with: the second number is the low bound, or how many pairs
 /// there are.
 #[tactic(auto, unfolding(crate::specs::Spellings::switch_head))]
@@ -159,20 +176,19 @@ fn put_switch_head(
     out: &mut Vec<u8>,
     padding: &[u8],
     default: i32,
-    second: u32,
+    second: i32,
 ) -> Result<(), WriteFault>
     ensures { Appends (switch_head padding.now default second) out.old.items out.new.items result }
 {
     out.extend_from_slice(padding)?;
-    put_u4(out, default.cast_unsigned())?;
-    put_u4(out, second)
+    put_ints(out, default, second)
 }
 
 /// Appends the high bound of a `tableswitch` and its offsets.
 fn put_offsets(out: &mut Vec<u8>, high: i32, offsets: &[u8]) -> Result<(), WriteFault>
     ensures { Appends (big_bytes 4 (cast_unsigned w32 high) ++ offsets.now) out.old.items out.new.items result }
 {
-    put_u4(out, high.cast_unsigned())?;
+    put_i4(out, high)?;
     out.extend_from_slice(offsets)?;
     Ok(())
 }
@@ -207,32 +223,21 @@ fn put_wide_increment(
 }
 
 /// Appends what stands behind `tableswitch`.
-fn put_table_switch(
-    out: &mut Vec<u8>,
-    padding: &[u8],
-    default: i32,
-    low: i32,
-    high: i32,
-    offsets: &[u8],
-) -> Result<(), WriteFault>
-    ensures { Appends (switch_head padding.now default (cast_unsigned w32 low) ++ (big_bytes 4 (cast_unsigned w32 high) ++ offsets.now)) out.old.items out.new.items result }
+#[tactic(auto, unfolding(crate::specs::Spellings::operands_bytes))]
+fn put_table_switch(out: &mut Vec<u8>, switch: TableSwitch<'_>) -> Result<(), WriteFault>
+    ensures { Appends (operands_bytes (table_switch_view switch.entry)) out.old.items out.new.items result }
 {
-    put_switch_head(out, padding, default, low.cast_unsigned())?;
-    put_offsets(out, high, offsets)
+    put_switch_head(out, switch.padding, switch.default, switch.low)?;
+    put_offsets(out, switch.high, switch.offsets)
 }
 
 /// Appends what stands behind `lookupswitch`.
-fn put_lookup_switch(
-    out: &mut Vec<u8>,
-    padding: &[u8],
-    default: i32,
-    pairs: &[u8],
-) -> Result<(), WriteFault>
-    requires { length pairs.now / 8 < 2 ^ 31 }
-    ensures { Appends (switch_head padding.now default (length pairs.now / 8) ++ pairs.now) out.old.items out.new.items result }
+#[tactic(auto, unfolding(crate::specs::Spellings::operands_bytes))]
+fn put_lookup_switch(out: &mut Vec<u8>, switch: LookupSwitch<'_>) -> Result<(), WriteFault>
+    ensures { Appends (operands_bytes (lookup_switch_view switch.entry)) out.old.items out.new.items result }
 {
-    put_switch_head(out, padding, default, (pairs.len() / 8) as u32)?;
-    put_pairs(out, pairs)
+    put_switch_head(out, switch.padding, switch.default, switch.count)?;
+    put_pairs(out, switch.pairs)
 }
 
 /// Appends what stands behind an opcode.
@@ -251,25 +256,15 @@ fn put_operands(out: &mut Vec<u8>, operands: Operands<'_>) -> Result<(), WriteFa
         Operands::Local(local) => put_u1(out, local),
         Operands::Increment { local, by } => put_increment(out, local, by),
         Operands::Branch(offset) => put_u2(out, offset.cast_unsigned()),
-        Operands::WideBranch(offset) => put_u4(out, offset.cast_unsigned()),
+        Operands::WideBranch(offset) => put_i4(out, offset),
         Operands::InvokeInterface { index, count } => put_invoke_interface(out, index, count),
         Operands::InvokeDynamic { index } => put_two(out, index, 0),
         Operands::NewArray(element) => put_u1(out, element),
         Operands::MultiNewArray { index, dimensions } => put_multi_new_array(
             out, index, dimensions,
         ),
-        Operands::TableSwitch {
-            padding,
-            default,
-            low,
-            high,
-            offsets,
-        } => put_table_switch(out, padding, default, low, high, offsets),
-        Operands::LookupSwitch {
-            padding,
-            default,
-            pairs,
-        } => put_lookup_switch(out, padding, default, pairs),
+        Operands::TableSwitch(bytes) => put_table_switch(out, TableSwitch::new(bytes)),
+        Operands::LookupSwitch(bytes) => put_lookup_switch(out, LookupSwitch::new(bytes)),
         Operands::WideLocal { opcode, local } => put_wide_local(out, opcode, local),
         Operands::WideIncrement { opcode, local, by } => put_wide_increment(out, opcode, local, by),
     }

@@ -47,7 +47,7 @@ operands_text at (new_array element) = number_text element
 operands_text at (multi_new_array i dimensions) = index_text i ++ number_text dimensions
 operands_text at (table_switch padding default low high table) =
     value_text low ++ (value_text high ++ (target_text at default ++ flat_map (target_text at) (offsets table)))
-operands_text at (lookup_switch padding default table) = target_text at default ++ flat_map (pair_text at) (pairs table)
+operands_text at (lookup_switch padding default count table) = target_text at default ++ flat_map (pair_text at) (pairs table)
 operands_text at (wide_local opcode n) = number_text n
 operands_text at (wide_increment opcode n by) = number_text n ++ value_text by
 

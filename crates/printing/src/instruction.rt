@@ -6,7 +6,7 @@ ghost use Rattle.printing.specs.Instructions.{target_text, pair_text, wide_text,
 ghost use Rattle.insn.specs.Views.{operands_view};
 
 use crate::print::{Number, Print, Then, Word, WriteFailed};
-use insn::{Insn, Operands, Pairs, Targets, mnemonic};
+use insn::{Insn, LookupSwitch, Operands, Pairs, TableSwitch, Targets, mnemonic};
 use itoa::Integer;
 use std::io::Write;
 
@@ -155,8 +155,8 @@ impl<'a> Located<'a> {
             | Operands::InvokeDynamic { .. }
             | Operands::NewArray(_)
             | Operands::MultiNewArray { .. }
-            | Operands::TableSwitch { .. }
-            | Operands::LookupSwitch { .. } => Word(""),
+            | Operands::TableSwitch(_)
+            | Operands::LookupSwitch(_) => Word(""),
         }
     }
 
@@ -188,26 +188,22 @@ impl<'a> Located<'a> {
             Operands::MultiNewArray { index, dimensions } => {
                 Then(Index(index), Value(dimensions)).put(out)
             }
-            Operands::TableSwitch {
-                default,
-                low,
-                high,
-                offsets,
-                ..
-            } => {
+            Operands::TableSwitch(bytes) => {
+                let switch = TableSwitch::new(bytes);
                 let table = Table {
                     at: self.at,
-                    offsets,
+                    offsets: switch.offsets,
                 };
-                Then(
-                    Value(low),
-                    Then(Value(high), Then(self.target(default), table)),
-                )
-                .put(out)
+                let targets = Then(self.target(switch.default), table);
+                Then(Value(switch.low), Then(Value(switch.high), targets)).put(out)
             }
-            Operands::LookupSwitch { default, pairs, .. } => {
-                let cases = Cases { at: self.at, pairs };
-                Then(self.target(default), cases).put(out)
+            Operands::LookupSwitch(bytes) => {
+                let switch = LookupSwitch::new(bytes);
+                let cases = Cases {
+                    at: self.at,
+                    pairs: switch.pairs,
+                };
+                Then(self.target(switch.default), cases).put(out)
             }
             Operands::WideLocal { local, .. } => Value(local).put(out),
             Operands::WideIncrement { local, by, .. } => Then(Value(local), Value(by)).put(out),

@@ -7,11 +7,14 @@ use Rattle.insn.specs.Views.{located, views}
 use Rattle.insn.proofs.CodeLaws.{SoFar, step_read, step_fault, code_step, code_whole, code_or_fault, starts_rise, within, unless_memory}
 use Rattle.insn.proofs.decoding.decode_code.Goals as goal
 
+pub returns-in_err-count-clause-only : goal.returns-in_err-count-clause-only
+returns-in_err-count-clause-only c = λ xs code. absurd (code_or_fault c.args.code.now xs c.in_err-count.field-0.0 code c.in_err-count.ensures.fault)
+
 pub loop-step-init : goal.loop-step-init
 loop-step-init c =
     let is = c.into_iter-step-iterator.ensures.into_iter_gives ∙ c.new-step-items.ensures in
-    let none : views c.new-list.result.items ≡ [] = rw c.new-list.ensures.items refl in
-    subst (λ (p : Place). SoFar c.args.code.now p (views c.new-list.result.items)) (sym is) ([], refl, refl, rw none refl)
+    let none : views c.in_ok-list.list.items ≡ [] = rw c.in_ok-list.ensures.items refl in
+    subst (λ (p : Place). SoFar c.args.code.now p (views c.in_ok-list.list.items)) (sym is) ([], refl, refl, rw none refl)
 
 pub returns-in_err-at-clause-only : goal.returns-in_err-at-clause-only
 returns-in_err-at-clause-only c =
@@ -23,7 +26,7 @@ pub returns-in_err-at-clause-fault : goal.returns-in_err-at-clause-fault
 returns-in_err-at-clause-fault c =
     let fault = step_fault located c.args.code.now (views c.loop-step.list.items) c.loop-step.step-iterator c.next.new.self c.in-Some.step c.in_err-at.field-0.0
     c.loop-step.invariant c.in-Some.ensures.steps c.in_err-at.was in
-    let p = err_from_is_err_and c.from_residual.result c.from_residual.ensures.1 in
+    let p = err_from_is_err_and c.from_residual-in_err-at.result c.from_residual-in_err-at.ensures.1 in
     rw (p.1, p.2) (unless_memory c.in_err-at.field-0.0 fault)
 
 pub overflow_cast-at : goal.overflow_cast-at

@@ -24,4 +24,4 @@ returns c =
     let is = view c.in_ok-insn.insn in
     let a = subst (λ (s : Place). judged c.at-at.result (reads (instruction_at c.at-at.result) s.at s.rest) ≡ Ok (is, new)) c.fork-step.ensures c.in_ok-insn.ensures in
     let b = subst (λ (k : ℕ). judged k (reads (instruction_at k) old.at old.rest) ≡ Ok (is, new)) c.at-at.ensures.place a in
-    read_spells old.at old new is _ refl b
+    read_spells old.at (instruction_at old.at) old new is _ refl b
