@@ -122,7 +122,8 @@ fn entries<'a>(
 }
 
 impl<'c, 'a> Method<'c, 'a> {
-    /// The method of this number, which counts from 0, of a well-formed class. It is that of a method with a Code attribute.
+    /// The method of this number, which counts from 0, of a well-formed class. It is that of a method with a Code
+    /// attribute.
     ///
     /// Refused is the first instruction of its code that is none, 31 to 35; or 1.
     pub fn new(

@@ -89,7 +89,8 @@ fn raised_type<'a, C: Classes>(
     }
 }
 
-/// What comes of a raise of the object at this address, after these new objects, where it is caught by the entry of that place, if there is one.
+/// What comes of a raise of the object at this address, after these new objects, where it is caught by the entry of
+/// that place, if there is one.
 pub fn raise<'a, C: Classes>(
     alloc: Global,
     method: &Method<'_, 'a>,

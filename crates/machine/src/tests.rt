@@ -65,7 +65,8 @@ fn state<'a>(alloc: Global, locals: &[Slot], stack: &[Value]) -> Result<State<'a
     })
 }
 
-// What comes of the code's first instruction, in a method of two local variables and four units of stack, which catches all that is raised there.
+// What comes of the code's first instruction, in a method of two local variables and four units of stack, which catches
+// all that is raised there.
 fn run<'a>(
     alloc: Global,
     bytes: &'a [u8],
