@@ -1,5 +1,6 @@
 //! Steps of methods that are put together by hand.
 use super::making::assembled;
+use super::objects::THROWABLE;
 use super::*;
 use classfile::{ClassFile, CodeAttr, decode, form_check};
 use hierarchy::{Chains, OBJECT, Summary};
@@ -10,8 +11,6 @@ use std::collections::BTreeMap;
 use std::hash::{BuildHasherDefault, FoldHasher};
 use std::process::Abort;
 use std::test::Fail;
-
-const THROWABLE: &[u8] = b"java/lang/Throwable";
 
 #[test]
 fn laws_are_called() {
