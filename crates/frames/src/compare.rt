@@ -73,7 +73,10 @@ fn components_assignable<'n, C: Classes>(
 
 /// Whether a value of type `from` may stand where one of type `to` is wanted (JVMS 4.10.1.2). Takes no memory.
 ///
-/// Each type is assignable to itself and to `Top`, and null to every class and array. A class is assignable to itself, to `java/lang/Object`, to every interface, and to the classes on its chain of superclasses. An array is assignable to `java/lang/Object`, `java/lang/Cloneable` and `java/io/Serializable`, and to an array of the same primitive type or of a reference type that its own is assignable to.
+/// Each type is assignable to itself and to `Top`, and null to every class and array. A class is assignable to itself,
+/// to `java/lang/Object`, to every interface, and to the classes on its chain of superclasses. An array is assignable
+/// to `java/lang/Object`, `java/lang/Cloneable` and `java/io/Serializable`, and to an array of the same primitive type
+/// or of a reference type that its own is assignable to.
 ///
 /// Where two classes have to be looked up, `Missing` carries the first of `to` and `from` that is absent.
 pub fn assignable<'n, C: Classes>(from: &VType<'n>, to: &VType<'n>, classes: &C) -> Answer<'n>

@@ -82,7 +82,10 @@ fn keeps_flag(from: &Frame, to: &Frame) -> bool
 
 /// Whether a frame may stand where another is wanted (JVMS 4.10.1.4). Takes no memory.
 ///
-/// `No` where the numbers of locals or of the stack's items differ, the flag is set in the first frame alone, some local or item is not assignable to the other's, or an item of the stack has another width than the other's; otherwise `Missing` with the first name that a comparison lacks, locals from 0 up and then the stack from the bottom up; otherwise `Yes`.
+/// `No` where the numbers of locals or of the stack's items differ, the flag is set in the first frame alone, some
+/// local or item is not assignable to the other's, or an item of the stack has another width than the other's;
+/// otherwise `Missing` with the first name that a comparison lacks, locals from 0 up and then the stack from the bottom
+/// up; otherwise `Yes`.
 pub fn frame_assignable<'n, C: Classes>(from: &Frame<'n>, to: &Frame<'n>, classes: &C) -> Answer<'n>
     ensures { outcome_of result ≡ frame_answer (C.content classes.now) (frame_of from.now) (frame_of to.now) }
 {

@@ -6,7 +6,8 @@ pub fn classes_have_one_answer()
     ensures { ClassesHaveOneAnswer }
 {}
 
-/// A comparison of two types is `Yes` exactly where the first is assignable to the second, and `Missing` exactly where the comparison of their classes is.
+/// A comparison of two types is `Yes` exactly where the first is assignable to the second, and `Missing` exactly where
+/// the comparison of their classes is.
 pub fn types_mean()
     ensures { TypesMean }
 {}

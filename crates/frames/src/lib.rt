@@ -1,4 +1,6 @@
-//! Verification types and frames, and when one may stand where another is wanted. Proved against the answers in specs/Assignable.antt and specs/FrameAssignable.antt (JVMS 4.10.1.2 and 4.10.1.4). The call to know is [`frame_assignable`].
+//! Verification types and frames, and when one may stand where another is wanted. Proved against the answers in
+//! specs/Assignable.antt and specs/FrameAssignable.antt (JVMS 4.10.1.2 and 4.10.1.4). The call to know is
+//! [`frame_assignable`].
 //!
 //! - `vtype`: verification types.
 //! - `frame`: frames.

@@ -21,6 +21,7 @@ pub enum VType<'a> {
     Array { dims: u8, base: Base<'a> },
     /// The own object of a constructor, of which no other constructor has returned yet.
     UninitThis,
-    /// An object that the `new` at this offset in the code, in bytes, has made, and of which no constructor has returned yet.
+    /// An object that the `new` at this offset in the code, in bytes, has made, and of which no constructor has
+    /// returned yet.
     Uninit(u16),
 }

@@ -48,7 +48,8 @@ fn check_rules<'s, 'a, S: BuildHasher>(
     Ok(())
 }
 
-/// A hierarchy that answers by a walk along the chain of superclasses. It borrows the list that it is made from, and copies no name.
+/// A hierarchy that answers by a walk along the chain of superclasses. It borrows the list that it is made from, and
+/// copies no name.
 #[derive(Drop)]
 pub struct Chains<'s, 'a, S: BuildHasher> {
     index: Index<'s, 'a, S>,
@@ -69,7 +70,9 @@ impl<'s, 'a, S: BuildHasher> Model for Chains<'s, 'a, S> {
 impl<'s, 'a, S: BuildHasher + Drop> Chains<'s, 'a, S> {
     /// The classes of a list, in time n log n for n classes.
     ///
-    /// Refused by the least number that holds, with the name of the first class in the list's order: 40 `ClassTwice`, 41 `Cycle`, 42 `SuperMissing`, 43 `NoObject`, 44 `BadArrayInterface`, 45 `TooManyClasses`, 46 `InterfaceSuper`; and 1 where there was no memory left.
+    /// Refused by the least number that holds, with the name of the first class in the list's order: 40 `ClassTwice`,
+    /// 41 `Cycle`, 42 `SuperMissing`, 43 `NoObject`, 44 `BadArrayInterface`, 45 `TooManyClasses`, 46 `InterfaceSuper`;
+    /// and 1 where there was no memory left.
     pub fn new(
         alloc: Global,
         classes: &'s [Summary<'a>],

@@ -23,7 +23,8 @@ pub trait Classes {
     fn is_interface(&self, name: &[u8]) -> Option<bool>
         ensures { result ≡ interface_of (content self.now) name.now };
 
-    /// Whether `a` is `b` or stands below it: `Yes` where they are equal, `Missing(a)` where `a` is absent, and otherwise whether `b` is on the chain of superclasses of `a` (JVMS 4.10.1.2).
+    /// Whether `a` is `b` or stands below it: `Yes` where they are equal, `Missing(a)` where `a` is absent, and
+    /// otherwise whether `b` is on the chain of superclasses of `a` (JVMS 4.10.1.2).
     fn is_subclass<'n>(&self, a: &'n [u8], b: &'n [u8]) -> Answer<'n>
         ensures { SubclassAnswer (content self.now) a.now b.now (outcome_of result) };
 }

@@ -6,7 +6,8 @@ ghost use Rattle.std.specs.Prelude.{◌≡◌};
 use std::alloc::{AllocError, AllocFailed};
 use thiserror::Error;
 
-/// Why a list of classes is refused. A fault with a name carries that of the first class in the list that has the fault.
+/// Why a list of classes is refused. A fault with a name carries that of the first class in the list that has the
+/// fault.
 #[derive(Clone, Copy, Debug, PartialEq, Eq, Error)]
 pub enum HierarchyFault<'a> {
     /// 1: there was no memory left.

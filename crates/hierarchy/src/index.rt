@@ -39,7 +39,8 @@ fn repeats<'a, S: BuildHasher>(
         .collect(alloc)
 }
 
-// The name of the first class whose name stands twice, where a table has the names up to a place, and the class there has one of them.
+// The name of the first class whose name stands twice, where a table has the names up to a place, and the class there
+// has one of them.
 fn first_twice<'a, S: BuildHasher>(
     alloc: Global,
     classes: &[Summary<'a>],
@@ -134,7 +135,8 @@ impl<'s, 'a, S: BuildHasher> Index<'s, 'a, S> {
         }
     }
 
-    /// Whether a chain of superclasses leads from one name to another. A longer chain than there are classes comes round again.
+    /// Whether a chain of superclasses leads from one name to another. A longer chain than there are classes comes
+    /// round again.
     pub fn reaches(&self, from: &[u8], to: &[u8]) -> bool
         ensures { IsTrue result ↔ IsSubclass self.now from.now to.now }
     {

@@ -1,4 +1,6 @@
-//! The classes that a class is verified against, their superclasses, and what is asked of them. Proved against the finite chains of superclasses in specs/World.antt (JVMS 4.10.1.2). The call to know is [`Chains::new`], which makes a list of summaries answer as [`Classes`].
+//! The classes that a class is verified against, their superclasses, and what is asked of them. Proved against the
+//! finite chains of superclasses in specs/World.antt (JVMS 4.10.1.2). The call to know is [`Chains::new`], which makes
+//! a list of summaries answer as [`Classes`].
 //!
 //! - `summary`: what is known of a class, and the names that the standard fixes.
 //! - `class_summary`: the summary of a class file.

@@ -133,6 +133,8 @@ fn kinds_and_forms(rt: HostRuntime) {
     assert!(rt; !Kind::Float.is_wide());
     assert!(rt; takes_array(names::Primitive::Byte, names::Primitive::Boolean));
     assert!(rt; !takes_array(names::Primitive::Boolean, names::Primitive::Boolean));
+    assert_eq!(rt; computed_as(names::Primitive::Boolean), Kind::Int);
+    assert_eq!(rt; computed_as(names::Primitive::Double), Kind::Double);
     let forms = StackOperator::DupX2.forms();
     assert_eq!(rt; forms.len(), 2);
     assert_eq!(rt;

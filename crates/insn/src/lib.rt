@@ -48,7 +48,7 @@ pub use laws::{
 };
 pub use meaning::act;
 pub use opcode::Opcode;
-pub use operation::{Act, Kind, Meaning, NumericOperator, takes_array};
+pub use operation::{Act, Kind, Meaning, NumericOperator, computed_as, takes_array};
 pub use reading::read_insn;
 pub use stack::{StackForm, StackOperator, StackPlace};
 pub use switch::{LookupSwitch, Offsets, Pairs, TableSwitch, Targets};

@@ -1,6 +1,7 @@
 //! The meaning of an instruction, without its form.
 ghost use Rattle.std.specs.Prelude.{◌≡◌};
 ghost use Rattle.insn.specs.Acts.{is_wide, takes_array, numeric_row};
+ghost use Rattle.insn.specs.Stacks.{computed_as};
 
 use crate::stack::StackOperator;
 use crate::switch::Targets;
@@ -22,6 +23,22 @@ impl Kind {
         ensures { result ≡ is_wide self }
     {
         matches!(self, Kind::Long | Kind::Double)
+    }
+}
+
+/// The kind of number as which a primitive type is computed with (JVMS Table 2.11.1-B).
+pub fn computed_as(primitive: Primitive) -> Kind
+    ensures { result ≡ computed_as primitive }
+{
+    match primitive {
+        Primitive::Float => Kind::Float,
+        Primitive::Long => Kind::Long,
+        Primitive::Double => Kind::Double,
+        Primitive::Byte
+        | Primitive::Char
+        | Primitive::Int
+        | Primitive::Short
+        | Primitive::Boolean => Kind::Int,
     }
 }
 

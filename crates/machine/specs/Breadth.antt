@@ -89,7 +89,8 @@ HasCatches world m s address type fresh =
 -- what may come of an instruction at a state, where these objects come into being
 pub record HasChoices (world : World) (m : Method Act) (s : State) (act : Act) (fresh : List (ℕ × ReferenceType)) : Type 0 where
   -- to every target, and on to the next start, with every answer
-  pub steps : MayGoOn world (task m act) (with_new s fresh) → (answer : Option Value) → IsAnswer world (task m act) (with_new s fresh) answer
+  pub steps : MayGoOn world (task m act) (with_new s fresh)
+      → (answer : Option Value) → IsAnswer world (task m act) (with_new s fresh) answer
       → (to : ℕ) → GoesTo m s.at (task m act) to → HasStep world m s act fresh answer to
   -- and there is somewhere to go
   pub somewhere : MayGoOn world (task m act) (with_new s fresh) → (to : ℕ) × GoesTo m s.at (task m act) to
@@ -135,8 +136,8 @@ class_entry superclass = record { superclass = superclass; interface = false }
 pub record HasWorlds (classes : List ClassFact) : Type 0 where
   pub itself : Extends (world_of classes) classes
   pub interfaces : (name : List ℕ) → IsAbsent classes name → Extends (with_class (world_of classes) name interface_entry) classes
-  pub more_classes : (name : List ℕ) → IsAbsent classes name → name ≢ cloneable_name → name ≢ serializable_name → (superclass : Option (List ℕ))
-      → Extends (with_class (world_of classes) name (class_entry superclass)) classes
+  pub more_classes : (name : List ℕ) → IsAbsent classes name → name ≢ cloneable_name → name ≢ serializable_name
+      → (superclass : Option (List ℕ)) → Extends (with_class (world_of classes) name (class_entry superclass)) classes
 
 abbrev pub WorldBreadth : Type 0
 WorldBreadth = (classes : List ClassFact) → IsHierarchy classes → HasWorlds classes

@@ -87,7 +87,8 @@ MeetsRest world m _ s = Unit {0}
 abbrev pub HasRoom : {A : Type 0} → Method A → Task → State → Type 0
 HasRoom m (operates needs live reply offsets on) s = reply_units reply + depth_of (beneath needs s.stack) ≤ m.max_stack
 HasRoom m (calls_special class needs live reply) s = reply_units reply + depth_of (beneath needs s.stack) ≤ m.max_stack
-HasRoom m (reads need local) s = (v : Value) → slice_get s.locals local ≡ Some (holds v) → units (is_wide_value v) + depth_of s.stack ≤ m.max_stack
+HasRoom m (reads need local) s =
+    (v : Value) → slice_get s.locals local ≡ Some (holds v) → units (is_wide_value v) + depth_of s.stack ≤ m.max_stack
 HasRoom m (moves forms) s = (f : StackForm) → IsAmong f forms → AreForm f.takes s.stack → depth_of (rearranged f s.stack) ≤ m.max_stack
 HasRoom m (creates class) s = 1 + depth_of s.stack ≤ m.max_stack
 HasRoom m (makes_array needs type) s = 1 + depth_of (beneath needs s.stack) ≤ m.max_stack

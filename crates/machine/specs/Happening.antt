@@ -67,7 +67,8 @@ is_last Ends = true
 is_last Stuck = false
 
 abbrev pub state_after : Deed → State → ℕ → List (ℕ × ReferenceType) → State
-state_after d s at fresh = record { at = at; stack = stack_after d s.stack s.locals; locals = locals_after d s.locals; heap = with_fresh s.heap fresh }
+state_after d s at fresh =
+    record { at = at; stack = stack_after d s.stack s.locals; locals = locals_after d s.locals; heap = with_fresh s.heap fresh }
 
 -- a choice that may be made: nothing is asked, and the new objects are new
 pub record IsAsked (s : State) (branch : Option ℕ) (answer : Option Value) (fresh : List (ℕ × ReferenceType)) : Type 0 where
@@ -97,7 +98,8 @@ Goes d next s branch answer fresh (Err NotAChoice) = IsAsked s branch answer fre
 -- ---- raising
 
 -- an object of a type is caught by the entry of a place, and stands alone on the stack
-pub record Catches (world : World) (m : Method Act) (s : State) (address : ℕ) (type : ReferenceType) (heap : Heap) (entry : ℕ) (t : State) : Type 0 where
+pub record Catches (world : World) (m : Method Act) (s : State)
+    (address : ℕ) (type : ReferenceType) (heap : Heap) (entry : ℕ) (t : State) : Type 0 where
   pub by_entry : ExceptionEntry
   pub which : slice_get m.exceptions entry ≡ Some by_entry
   pub covered : covers by_entry s.at ≡ true

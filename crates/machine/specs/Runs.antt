@@ -12,7 +12,8 @@ use Rattle.machine.specs.Steps.{Choice, goes_on, Happens}
 -- What a method receives: nothing; an object that fits its class; or its own object, of its class or one below it.
 abbrev pub Receives : World → Method Act → Heap → ℕ → Receiver → List Value → Type 0
 Receives world m heap own no_receiver vs = vs ≡ []
-Receives world m heap own ready_receiver vs = (a : ℕ) × (vs ≡ reference a ∷ []) × FitsReference world heap (class_type m.class) (reference a)
+Receives world m heap own ready_receiver vs =
+    (a : ℕ) × (vs ≡ reference a ∷ []) × FitsReference world heap (class_type m.class) (reference a)
 Receives world m heap own own_receiver vs =
     (vs ≡ reference own ∷ []) × ((x : List ℕ) × (heap own ≡ Some (object (class_type x) this)) × IsSubclassIn world x m.class)
 

@@ -73,7 +73,8 @@ Does world takes_element s answer at t =
     × (s.stack ≡ i ∷ reference a ∷ rest) × (s.heap a ≡ Some (object (array_type component) ready)) × FitsField world s.heap component v
     × (answer ≡ Some v) × (t ≡ moved s at (v ∷ rest))
 Does world (passes type) s answer at t =
-    (v : Value) × (rest : List Value) × (s.stack ≡ v ∷ rest) × FitsReference world s.heap type v × (answer ≡ None) × (t ≡ moved s at (v ∷ rest))
+    (v : Value) × (rest : List Value) × (s.stack ≡ v ∷ rest) × FitsReference world s.heap type v × (answer ≡ None)
+    × (t ≡ moved s at (v ∷ rest))
 Does world (creates class) s answer at t =
     (a : ℕ) × (answer ≡ Some (reference a)) × (s.heap a ≡ None) × IsAddress a
     × (t ≡ moved_with s at (reference a ∷ s.stack) (with_object s.heap a (object (class_type class) made)))

@@ -187,7 +187,8 @@ constructor_call c (array_type component) = stuck
 abbrev pub special_call : ℕ → List ℕ → MethodConstant → Task
 special_call major me c =
     where_allowed (is_class_type c.class && (has_room_for_receiver c && may_name major c.interface))
-    (calls_special c.class (arguments_on c.type.params (of_type (class_type me) ∷ [])) (Some (length c.type.params)) (reply_of c.type.result))
+    (calls_special c.class (arguments_on c.type.params (of_type (class_type me) ∷ []))
+    (Some (length c.type.params)) (reply_of c.type.result))
 
 abbrev pub invoke_special : ℕ → List ℕ → Option MethodConstant → Task
 invoke_special major me (Some c) = if is_init_name c then constructor_call c c.class else special_call major me c

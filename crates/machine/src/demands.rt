@@ -91,7 +91,8 @@ fn ends_ready(method: &Method<'_, '_>, deed: Deed, state: &State<'_>) -> bool
     }
 }
 
-/// Whether the state meets the demands of an instruction that does this, where that is the next start, and that the stack afterwards.
+/// Whether the state meets the demands of an instruction that does this, where that is the next start, and that the
+/// stack afterwards.
 pub fn meets(
     method: &Method<'_, '_>,
     deed: Deed,

@@ -1,7 +1,8 @@
 //! What the machine's choices, beginnings and worlds take in.
 ghost use Rattle.machine.specs.Breadth.{StepBreadth, StartBreadth, WorldBreadth};
 
-/// At a state that is no fault an instruction goes each way with each answer that fits, and each Throwable may be raised, whatever objects come into being meanwhile.
+/// At a state that is no fault an instruction goes each way with each answer that fits, and each Throwable may be
+/// raised, whatever objects come into being meanwhile.
 pub fn step_breadth()
     ensures { StepBreadth }
 {}

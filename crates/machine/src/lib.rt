@@ -1,4 +1,6 @@
-//! An abstract machine of the JVM for one method (JVMS 2.6, 2.10, 2.11, 6.5): tagged values, objects by their addresses, and no frames. Proved against its definitions in specs. The calls to know are [`Method::new`] and [`step`].
+//! An abstract machine of the JVM for one method (JVMS 2.6, 2.10, 2.11, 6.5): tagged values, objects by their
+//! addresses, and no frames. Proved against its definitions in specs. The calls to know are [`Method::new`] and
+//! [`step`].
 //!
 //! - `items`, `objects`, `snapshot`: values, objects and states.
 //! - `choosing`: what a step leaves open, and what comes of it.

@@ -14,7 +14,7 @@ ghost use Rattle.machine.specs.Bodies.{IsEntry, code_of, entry_view, method_view
 ghost use Rattle.machine.specs.Views.{run_type_view};
 
 use crate::body::{ExceptionEntry, Method};
-use crate::objects::RunType;
+use crate::objects::{RunType, THROWABLE};
 use classfile::{ClassFile, CodeAttr, ExceptionHandler, Formed};
 use insn::{CodeFault, Insn, decode_code};
 use names::{FieldType, Text, field_type};
@@ -49,9 +49,6 @@ pub(crate) fn assembled<'c, 'a>(
         exceptions,
     }
 }
-
-// The name of the class of all that is raised.
-const THROWABLE: &[u8] = b"java/lang/Throwable";
 
 // An array of at least one dimension.
 fn array(t: FieldType<'_>) -> Option<RunType<'_>>
@@ -122,7 +119,8 @@ fn entries<'a>(
 }
 
 impl<'c, 'a> Method<'c, 'a> {
-    /// The method of this number, which counts from 0, of a well-formed class. It is that of a method with a Code attribute.
+    /// The method of this number, which counts from 0, of a well-formed class. It is that of a method with a Code
+    /// attribute.
     ///
     /// Refused is the first instruction of its code that is none, 31 to 35; or 1.
     pub fn new(

@@ -14,15 +14,12 @@ use crate::body::Method;
 use crate::choosing::{Outcome, StepFault};
 use crate::heaps::{ready_type, with_fresh};
 use crate::items::{Slot, Value};
-use crate::objects::{Object, RunType};
+use crate::objects::{Object, RunType, THROWABLE};
 use crate::snapshot::State;
 use crate::starts::covers;
 use hierarchy::Classes;
 use std::alloc::{AllocError, Global};
 use std::collections::BTreeMap;
-
-/// The name of the class of all that is raised.
-const THROWABLE: &[u8] = b"java/lang/Throwable";
 
 // A stack with this reference alone.
 fn alone(alloc: Global, address: u32) -> Result<Vec<Value>, AllocError>
@@ -89,7 +86,8 @@ fn raised_type<'a, C: Classes>(
     }
 }
 
-/// What comes of a raise of the object at this address, after these new objects, where it is caught by the entry of that place, if there is one.
+/// What comes of a raise of the object at this address, after these new objects, where it is caught by the entry of
+/// that place, if there is one.
 pub fn raise<'a, C: Classes>(
     alloc: Global,
     method: &Method<'_, 'a>,

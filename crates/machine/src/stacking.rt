@@ -52,7 +52,8 @@ fn given(kind: Option<Kind>) -> Option<Value>
     }
 }
 
-// Pushes the items of these numbers, the first one last. The top has number 0; a number that no item has is passed over.
+// Pushes the items of these numbers, the first one last. The top has number 0; a number that no item has is passed
+// over.
 fn push_chosen(numbers: &[usize], stack: &[Value], after: &mut Vec<Value>) -> Result<(), AllocError>
     ensures { OnOk result (stack_of after.new.items ≡ chosen (stack_of stack.now) numbers.now ++ stack_of after.old.items) }
 {

@@ -16,9 +16,12 @@ use crate::starts::found_at;
 use hierarchy::Classes;
 use std::alloc::Global;
 
-/// A step of the machine (JVMS 2.10, 2.11, 6.5) from a state, by a choice, in the world that has these classes and no other.
+/// A step of the machine (JVMS 2.10, 2.11, 6.5) from a state, by a choice, in the world that has these classes and no
+/// other.
 ///
-/// `Fault` is answered exactly where the state does not meet the demands of its instruction, whatever the choice. Elsewhere `Next` or `Ended` is what comes of the choice, and 54 says that nothing does. 1 may be answered in place of any other answer. The state stays as it is.
+/// `Fault` is answered exactly where the state does not meet the demands of its instruction, whatever the choice.
+/// Elsewhere `Next` or `Ended` is what comes of the choice, and 54 says that nothing does. 1 may be answered in place
+/// of any other answer. The state stays as it is.
 pub fn step<'a, C: Classes>(
     alloc: Global,
     method: &Method<'_, 'a>,

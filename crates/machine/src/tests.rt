@@ -1,5 +1,6 @@
 //! Steps of methods that are put together by hand.
 use super::making::assembled;
+use super::objects::THROWABLE;
 use super::*;
 use classfile::{ClassFile, CodeAttr, decode, form_check};
 use hierarchy::{Chains, OBJECT, Summary};
@@ -10,8 +11,6 @@ use std::collections::BTreeMap;
 use std::hash::{BuildHasherDefault, FoldHasher};
 use std::process::Abort;
 use std::test::Fail;
-
-const THROWABLE: &[u8] = b"java/lang/Throwable";
 
 #[test]
 fn laws_are_called() {
@@ -65,7 +64,8 @@ fn state<'a>(alloc: Global, locals: &[Slot], stack: &[Value]) -> Result<State<'a
     })
 }
 
-// What comes of the code's first instruction, in a method of two local variables and four units of stack, which catches all that is raised there.
+// What comes of the code's first instruction, in a method of two local variables and four units of stack, which catches
+// all that is raised there.
 fn run<'a>(
     alloc: Global,
     bytes: &'a [u8],

@@ -14,7 +14,8 @@ use classfile::Formed;
 use hierarchy::Classes;
 use insn::Insn;
 
-/// The environment of a method's instructions (JVMS 4.10.1.6): the method with their list, and the classes that it may name.
+/// The environment of a method's instructions (JVMS 4.10.1.6): the method with their list, and the classes that it may
+/// name.
 #[derive(Drop)]
 pub struct Env<'e, 'c, 'a, C: Classes> {
     /// The method and its instructions.
@@ -24,8 +25,8 @@ pub struct Env<'e, 'c, 'a, C: Classes> {
 }
 
 impl<'e, 'c, 'a, C: Classes> Env<'e, 'c, 'a, C> {
-    /// The environment of the method of this number, whose code this list is. The number, which counts from 0, is that of a
-    /// method with a Code attribute. Takes no memory.
+    /// The environment of the method of this number, whose code this list is. The number, which counts from 0, is that
+    /// of a method with a Code attribute. Takes no memory.
     pub fn new(
         formed: &Formed<'c, 'a>,
         number: usize,

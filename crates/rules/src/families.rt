@@ -13,16 +13,16 @@ ghost use Rattle.rules.specs.Views.{want_view, pushed_types};
 ghost use Rattle.rules.specs.Outcomes.{Done, pushed, settled, result_kind};
 
 use crate::body::Body;
-use crate::kinds::computed_as;
 use crate::operands::{accepts, is_wider, take_numbers};
 use crate::reason::Reason;
 use crate::want::Want;
 use frames::{Frame, VType};
 use hierarchy::{Answer, Classes};
-use insn::Kind;
+use insn::{Kind, computed_as};
 use names::{Base, FieldType};
 
-/// Pushes what an instruction gives, and judges what is left: 65, or 77 by the answer for its operands, which is not no.
+/// Pushes what an instruction gives, and judges what is left: 65, or 77 by the answer for its operands, which is not
+/// no.
 pub fn settle<'a>(
     body: &Body<'_, '_, 'a>,
     answer: Answer<'a>,

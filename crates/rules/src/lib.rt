@@ -1,4 +1,6 @@
-//! The rules by which an instruction is verified (JVMS 4.10.1.9), family by family. Proved against the conditions in specs/Rules.antt and the frame after in specs/After.antt. The calls to know are [`Env::new`] and [`apply`], and [`run`], which changes the frame in place.
+//! The rules by which an instruction is verified (JVMS 4.10.1.9), family by family. Proved against the conditions in
+//! specs/Rules.antt and the frame after in specs/After.antt. The calls to know are [`Env::new`] and [`apply`], and
+//! [`run`], which changes the frame in place.
 //!
 //! - `reason`: why an instruction is refused.
 //! - `body`: the method whose instructions are judged.

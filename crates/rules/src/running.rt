@@ -21,7 +21,8 @@ use frames::Frame;
 use hierarchy::Classes;
 use insn::Act;
 
-/// Runs the instruction at an offset on a frame, in place, by its rule (JVMS 4.10.1.9). The frame has max_locals locals.
+/// Runs the instruction at an offset on a frame, in place, by its rule (JVMS 4.10.1.9). The frame has max_locals
+/// locals.
 ///
 /// Refused is, by the least number that holds, what the rule refuses (60 to 66, 74, 76, 77); or 1 where memory ran out.
 /// Nothing is said of the frame then.
@@ -65,38 +66,6 @@ pub fn run<'a, C: Classes>(
         Act::Stack(operator) => rearranges(body, operator, frame),
         Act::Return(kind) => return_number(body, kind, frame, classes),
         Act::ReturnVoid => return_nothing(body, frame),
-        Act::ConstantNull
-        | Act::LoadConstant { .. }
-        | Act::LoadReference { .. }
-        | Act::StoreReference { .. }
-        | Act::IfInt { .. }
-        | Act::IfInts { .. }
-        | Act::IfReferences { .. }
-        | Act::IfNull { .. }
-        | Act::Goto { .. }
-        | Act::Switch { .. }
-        | Act::ReturnReference
-        | Act::GetStatic { .. }
-        | Act::PutStatic { .. }
-        | Act::GetField { .. }
-        | Act::PutField { .. }
-        | Act::InvokeVirtual { .. }
-        | Act::InvokeSpecial { .. }
-        | Act::InvokeStatic { .. }
-        | Act::InvokeInterface { .. }
-        | Act::New { .. }
-        | Act::LoadElement(_)
-        | Act::StoreElement(_)
-        | Act::LoadReferenceElement
-        | Act::StoreReferenceElement
-        | Act::ArrayLength
-        | Act::NewArray(_)
-        | Act::NewReferenceArray { .. }
-        | Act::NewMultiArray { .. }
-        | Act::CheckCast { .. }
-        | Act::InstanceOf { .. }
-        | Act::Throw
-        | Act::Monitor
-        | Act::Unsupported => Err(Reason::NotSupported),
+        _ => Err(Reason::NotSupported),
     }
 }

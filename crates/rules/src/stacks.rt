@@ -63,7 +63,8 @@ fn form_for(forms: &'static [StackForm], stack: &[VType<'_>]) -> Option<StackFor
     None
 }
 
-/// Pushes the items of these numbers, the first one last. The top has number 0; a number that no item has is passed over.
+/// Pushes the items of these numbers, the first one last. The top has number 0; a number that no item has is passed
+/// over.
 fn push_chosen(numbers: &[usize], stack: &mut Vec<VType<'_>>) -> Result<(), AllocError>
     ensures { OnOk result (Pushes numbers.now stack.old.items stack.new.items) }
 {

@@ -35,42 +35,6 @@ pub fn branches<'a>(insn: &Insn<'a>) -> Branches<'a>
         | Act::IfNull { offset }
         | Act::Goto { offset } => Branches::One(offset),
         Act::Switch { default, targets } => Branches::Switch { default, targets },
-        Act::Nothing
-        | Act::Constant(_)
-        | Act::ConstantNull
-        | Act::LoadConstant { .. }
-        | Act::LoadWideConstant { .. }
-        | Act::Load { .. }
-        | Act::LoadReference { .. }
-        | Act::Store { .. }
-        | Act::StoreReference { .. }
-        | Act::Increment { .. }
-        | Act::Numeric(_)
-        | Act::Stack(_)
-        | Act::Return(_)
-        | Act::ReturnReference
-        | Act::ReturnVoid
-        | Act::GetStatic { .. }
-        | Act::PutStatic { .. }
-        | Act::GetField { .. }
-        | Act::PutField { .. }
-        | Act::InvokeVirtual { .. }
-        | Act::InvokeSpecial { .. }
-        | Act::InvokeStatic { .. }
-        | Act::InvokeInterface { .. }
-        | Act::New { .. }
-        | Act::LoadElement(_)
-        | Act::StoreElement(_)
-        | Act::LoadReferenceElement
-        | Act::StoreReferenceElement
-        | Act::ArrayLength
-        | Act::NewArray(_)
-        | Act::NewReferenceArray { .. }
-        | Act::NewMultiArray { .. }
-        | Act::CheckCast { .. }
-        | Act::InstanceOf { .. }
-        | Act::Throw
-        | Act::Monitor
-        | Act::Unsupported => Branches::Nowhere,
+        _ => Branches::Nowhere,
     }
 }
