@@ -1,3 +1,5 @@
+pub mod OneFile
+pub mod OneVerify
 pub mod OneAnswer
 pub mod Rows
 pub mod Tellings

@@ -2,8 +2,10 @@
 ghost use Rattle.classck.specs.Laws.{OneAnswer};
 
 use classfile::{no_fault_in_class, no_fault_in_formed, one_class, one_fault, one_first_fault};
+use hierarchy::laws::{faults_break_rules, one_hierarchy_fault};
+use verify::one_report;
 
-/// To a request about one file that was read so there is one text and one status.
+/// To a request whose files were read so there is one text and one status.
 pub fn one_answer()
     ensures { OneAnswer }
 {
@@ -12,4 +14,7 @@ pub fn one_answer()
     one_fault();
     no_fault_in_formed();
     one_first_fault();
+    faults_break_rules();
+    one_hierarchy_fault();
+    one_report();
 }

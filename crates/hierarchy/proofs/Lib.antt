@@ -4,5 +4,6 @@ pub mod Breaking
 pub mod Table
 pub mod Worlds
 pub mod Subclass
+pub mod OneFault
 pub mod Ancestors
 pub mod Summaries

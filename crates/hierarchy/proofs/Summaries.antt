@@ -1,14 +1,12 @@
 -- The texts of a summary are found where the class names them.
-use Rattle.std.proofs.Common.{◌≡◌, ◌≢◌, ℕ, Bool, true, false, cond, nat_eq, List, [], Option, Some, None, Result, Ok, Err, refl, sym, ap, ◌∙◌, eq-eqb}
+use Rattle.std.proofs.Common.{◌≡◌, ℕ, Bool, cond, List, [], Some, None, Result, Ok, Err, refl, sym, ap, ◌∙◌, eq-eqb}
 use Rattle.std.proofs.lemmas.Bool.{ne_eqb}
 use Rattle.std.specs.Result.{result_unwrap_or}
 use Rattle.pool.specs.declared.fault.PoolFault.{PoolFault}
 use Rattle.pool.specs.Entries.{Entry}
 use Rattle.pool.specs.Lookups.{and_then, text_at, class_name_at, Named, named}
-use Rattle.classfile.specs.Values as values
-use Rattle.classfile.specs.FormLaws.{HasNames, FormedHasNames}
-use Rattle.hierarchy.specs.declared.summary.Kind.{Kind}
-use Rattle.hierarchy.specs.ClassSummary.{text_of, class_name_of, superclass_name, member_summary, HasNameAndType, HasItsTexts, SummaryHasTexts}
+use Rattle.classfile.specs.FormLaws.{FormedHasNames}
+use Rattle.hierarchy.specs.ClassSummary.{text_of, class_name_of, SummaryHasTexts}
 
 found : {E : Type 0} (r : Result (List ℕ) E) (x : List ℕ) → r ≡ Ok x → r ≡ Ok (result_unwrap_or r [])
 found r x is = is ∙ ap Ok (sym (ap (λ (s : Result (List ℕ) _). result_unwrap_or s []) is))

@@ -1,5 +1,5 @@
 -- Which fault of a list of classes is answered: the least number that holds, with the name of the first class in the list's order. No section of the standard numbers these faults.
-use Rattle.std.specs.Prelude.{◌≢◌, ℕ, ◌≤◌, ◌<◌, List, length}
+use Rattle.std.specs.Prelude.{◌≡◌, ◌≢◌, ℕ, ◌≤◌, ◌<◌, List, Option, Some, None, length}
 use Rattle.hierarchy.specs.declared.fault.HierarchyFault.{HierarchyFault}
 use Rattle.hierarchy.specs.declared.fault.HierarchyFault.TheVariants.{OutOfMemory, ClassTwice, Cycle, SuperMissing, NoObject, BadArrayInterface, TooManyClasses, InterfaceSuper}
 use Rattle.hierarchy.specs.Class.{ClassFact}
@@ -26,6 +26,24 @@ number_of (BadArrayInterface _) = 44
 number_of TooManyClasses = 45
 number_of (InterfaceSuper _) = 46
 
+-- the class that a fault names
+abbrev pub fault_class : HierarchyFault → Option (List ℕ)
+fault_class OutOfMemory = None
+fault_class (ClassTwice name) = Some name.now
+fault_class (Cycle name) = Some name.now
+fault_class (SuperMissing name) = Some name.now
+fault_class NoObject = None
+fault_class (BadArrayInterface name) = Some name.now
+fault_class TooManyClasses = None
+fault_class (InterfaceSuper name) = Some name.now
+
 -- a list that is refused is no hierarchy, want of memory aside
 abbrev pub FaultsBreakRules : Type 0
 FaultsBreakRules = (classes : List ClassFact) (fault : HierarchyFault) → fault ≢ OutOfMemory → FaultOf classes fault → IsHierarchy classes → ⊥
+
+-- a list has one fault at most, want of memory aside, and it names one class
+abbrev pub OneFault : Type 0
+OneFault =
+    (classes : List ClassFact) (fault other : HierarchyFault) → fault ≢ OutOfMemory → other ≢ OutOfMemory
+    → FaultOf classes fault → FaultOf classes other
+    → (number_of fault ≡ number_of other) × (fault_class fault ≡ fault_class other)

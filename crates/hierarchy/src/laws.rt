@@ -1,7 +1,7 @@
 //! Laws of faults, of chains of superclasses, of worlds and of summaries.
 ghost use Rattle.hierarchy.specs.Answer.{HasOneSubclassAnswer};
 ghost use Rattle.hierarchy.specs.ClassSummary.{SummaryHasTexts};
-ghost use Rattle.hierarchy.specs.Faults.{FaultsBreakRules};
+ghost use Rattle.hierarchy.specs.Faults.{FaultsBreakRules, OneFault};
 ghost use Rattle.hierarchy.specs.Extends.{KeepsSubclasses, ExtendsItself, ChainsAreSteps};
 
 use classfile::formed_has_names;
@@ -29,6 +29,11 @@ pub fn has_one_subclass_answer()
 /// A list of classes that has a fault is no hierarchy, want of memory aside.
 pub fn faults_break_rules()
     ensures { FaultsBreakRules }
+{}
+
+/// A list of classes has one fault at most, want of memory aside, and the fault names one class.
+pub fn one_hierarchy_fault()
+    ensures { OneFault }
 {}
 
 /// The texts of the summary of a class that is well formed are those that its constants lead to.

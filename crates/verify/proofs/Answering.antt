@@ -127,7 +127,7 @@ module _ (classes : List ClassFact) (c : Class) (number : ℕ) where
 
   pub answers_code : WellFormed c → IsListed classes c → (r : Result Verdict VerifyFault) → AnswersCode classes c number r
       → Answers classes c number r
-  answers_code formed listed (Ok Verified) a = (listed, type_safe_in formed a)
+  answers_code formed listed (Ok Verified) a = (listed, type_safe_in formed a, a)
   answers_code formed listed (Ok NoCode) a = absurd a
   answers_code formed listed (Ok (Refused at why)) a = (listed, a)
   answers_code formed listed (Err OutOfMemory) a = tt

@@ -28,5 +28,6 @@ pub mod Summaries
 pub mod Judged
 pub mod MethodCode
 pub mod Answering
+pub mod OneVerdict
 mod Examples
 pub mod Named

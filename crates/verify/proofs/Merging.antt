@@ -48,7 +48,7 @@ rule_none cs ds e = by (least cs) (least ds) (sym (least_append cs ds) ∙ e)
 
 -- ---- the reasons of the program
 
-view_number : (e : Reason) → number_of (reason_view e) ≡ reason_number e
+pub view_number : (e : Reason) → number_of (reason_view e) ≡ reason_number e
 view_number OutOfMemory = refl
 view_number _ = refl
 

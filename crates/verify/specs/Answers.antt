@@ -69,9 +69,10 @@ AnswersCode classes c number (Ok (Refused at why)) = IsRefused classes c number 
 AnswersCode classes c number (Err OutOfMemory) = Unit {0}
 AnswersCode classes c number (Err NotInHierarchy) = ⊥
 
--- Any method. 80 where the hierarchy has not this class as it is; that goes first.
+-- Any method. 80 where the hierarchy has not this class as it is; that goes first. A method that is verified is one of those that
+-- are judged yet, and its instructions have a rule.
 abbrev pub Answers : List ClassFact → Class → ℕ → Result Verdict VerifyFault → Type 0
-Answers classes c number (Ok Verified) = IsListed classes c × IsTypeSafeIn classes c number
+Answers classes c number (Ok Verified) = IsListed classes c × IsTypeSafeIn classes c number × HasVerdict classes c number verified
 Answers classes c number (Ok NoCode) = IsListed classes c × (code_at c number ≡ None)
 Answers classes c number (Ok (Refused at why)) = IsListed classes c × IsRefused classes c number at why
 Answers classes c number (Err OutOfMemory) = Unit {0}

@@ -10,3 +10,4 @@ pub mod Listed
 pub mod Judged
 pub mod Answers
 pub mod Reports
+pub mod OneVerdict

@@ -1,6 +1,7 @@
 //! What the verdict on a method means.
 ghost use Rattle.verify.specs.Refusals.{MapRefusedWhere, RefusedWhere};
 ghost use Rattle.verify.specs.ClassMethods.{NoneIsReplaced};
+ghost use Rattle.verify.specs.OneVerdict.{OneVerdict, OneReport};
 ghost use Rattle.verify.specs.VerdictLaws.{TypeSafeIsVerified, VerifiedIsTypeSafe};
 
 /// A method whose verdict is verified is type-safe.
@@ -28,4 +29,14 @@ pub fn map_refused_where()
 /// A method that is type-safe has no instruction without a rule.
 pub fn none_is_replaced()
     ensures { NoneIsReplaced }
+{}
+
+/// A method has one verdict, whatever the hierarchy.
+pub fn one_verdict()
+    ensures { OneVerdict }
+{}
+
+/// A class has one report.
+pub fn one_report()
+    ensures { OneReport }
 {}

@@ -9,7 +9,7 @@
 //! - `judging`: one pass over a method's code, against the verdict in specs/Verdict.antt.
 //! - `flow`: from one instruction to the next.
 //! - `theorem`: type-safe methods are safe.
-//! - `laws`: the verdict on a method is verified exactly where it is type-safe, and what a refusal says.
+//! - `laws`: the verdict on a method is verified exactly where it is type-safe, there is one, and what a refusal says.
 #![tactic(auto)]
 
 mod flow;
@@ -24,8 +24,8 @@ mod theorem;
 mod verdict;
 
 pub use laws::{
-    map_refused_where, none_is_replaced, refused_where, type_safe_is_verified,
-    verified_is_type_safe,
+    map_refused_where, none_is_replaced, one_report, one_verdict, refused_where,
+    type_safe_is_verified, verified_is_type_safe,
 };
 pub use method::verify_method;
 pub use report::{ClassRefusal, MethodVerdict, verify_class, verify_methods};

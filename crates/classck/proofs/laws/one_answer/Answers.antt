@@ -9,4 +9,7 @@ returns c =
       one_fault = c.one_fault.ensures;
       not_formed = c.no_fault_in_formed.ensures;
       one_first = c.one_first_fault.ensures;
+      not_hierarchy = c.faults_break_rules.ensures;
+      one_hierarchy_fault = c.one_hierarchy_fault.ensures;
+      one_report = c.one_report.ensures;
     }

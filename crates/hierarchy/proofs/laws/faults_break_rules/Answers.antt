@@ -1,14 +1,11 @@
-use Rattle.std.proofs.Common.{◌≢◌, ℕ, List, refl, arith}
-use Rattle.std.proofs.lemmas.Option.{slice_get_within}
+use Rattle.std.proofs.Common.{◌≢◌, List, refl, arith}
 use Rattle.hierarchy.specs.declared.fault.HierarchyFault.{HierarchyFault}
 use Rattle.hierarchy.specs.declared.fault.HierarchyFault.TheVariants.{OutOfMemory, ClassTwice, Cycle, SuperMissing, NoObject, BadArrayInterface, TooManyClasses, InterfaceSuper}
 use Rattle.hierarchy.specs.Class.{ClassFact}
-use Rattle.hierarchy.specs.Rules.{IsTwice, IsOnCycle, LacksSuper, IsBadArrayInterface, HasWrongSuper, NoClass, IsFirst, IsHierarchy}
+use Rattle.hierarchy.specs.Rules.{IsTwice, IsOnCycle, LacksSuper, IsBadArrayInterface, HasWrongSuper, IsHierarchy}
 use Rattle.hierarchy.specs.Faults.{FaultOf}
+use Rattle.hierarchy.proofs.OneFault.{none_first}
 use Rattle.hierarchy.proofs.laws.faults_break_rules.Goals as goal
-
-none_first : (P : ClassFact → Type 0) (classes : List ClassFact) (name : List ℕ) → NoClass P classes → IsFirst P classes name → ⊥
-none_first P classes name none first = none first.0 (slice_get_within classes first.0 first.1 first.2) first.1 first.2 first.4
 
 broken : (classes : List ClassFact) (fault : HierarchyFault) → fault ≢ OutOfMemory → FaultOf classes fault → IsHierarchy classes → ⊥
 broken classes OutOfMemory n f h = n refl

@@ -1,0 +1,5 @@
+use Rattle.verify.proofs.OneVerdict.{one_report}
+use Rattle.verify.proofs.laws.one_report.Goals as goal
+
+pub returns : goal.returns
+returns c = one_report

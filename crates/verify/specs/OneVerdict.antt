@@ -1,0 +1,39 @@
+-- A method has one verdict, and a class one report.
+use Rattle.std.specs.Prelude.{◌≡◌, ℕ, List, length, slice_get, Some, Ok}
+use Rattle.classfile.specs.Values.{Class}
+use Rattle.hierarchy.specs.Class.{ClassFact}
+use Rattle.rules.specs.Reasons.{reason_number, reason_view}
+use Rattle.verify.specs.declared.verdict.Verdict.{Verdict}
+use Rattle.verify.specs.declared.verdict.Verdict.TheVariants.{Verified, NoCode, Refused}
+use Rattle.verify.specs.declared.report.MethodVerdict.{MethodVerdict}
+use Rattle.verify.specs.Answers.{Answers}
+use Rattle.verify.specs.Reports.{IsReport}
+
+-- two verdicts say the same: of refusals the offset, the number, and the missing class by its name
+abbrev pub AreSameVerdict : Verdict → Verdict → Type 0
+AreSameVerdict Verified Verified = Unit {0}
+AreSameVerdict NoCode NoCode = Unit {0}
+AreSameVerdict (Refused at why) (Refused there other) =
+    (at ≡ there) × (reason_number why ≡ reason_number other) × (reason_view why ≡ reason_view other)
+AreSameVerdict _ _ = ⊥
+
+-- the class need not be one that is well formed
+abbrev pub OneVerdict : Type 0
+OneVerdict =
+    (classes : List ClassFact) (c : Class) (number : ℕ) (verdict other : Verdict)
+    → Answers classes c number (Ok verdict) → Answers classes c number (Ok other) → AreSameVerdict verdict other
+
+-- two answers say the same of a method
+pub record IsSameLine (r other : MethodVerdict) : Type 0 where
+  pub name : r.name.bytes.now ≡ other.name.bytes.now
+  pub descriptor : r.descriptor.bytes.now ≡ other.descriptor.bytes.now
+  pub verdict : AreSameVerdict r.verdict other.verdict
+
+pub record IsSameReport (rs others : List MethodVerdict) : Type 0 where
+  pub all : length rs ≡ length others
+  pub each : (number : ℕ) (r other : MethodVerdict) → slice_get rs number ≡ Some r → slice_get others number ≡ Some other → IsSameLine r other
+
+abbrev pub OneReport : Type 0
+OneReport =
+    (classes : List ClassFact) (c : Class) (rs others : List MethodVerdict) → IsReport classes c rs → IsReport classes c others
+    → IsSameReport rs others
