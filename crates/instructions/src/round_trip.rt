@@ -97,7 +97,7 @@ fn same_code(alloc: Global, code: &[u8]) -> Result<usize, Difference> {
         Ok(list) => list,
         Err(fault) => return Err(Difference::NoCode(fault)),
     };
-    let mut instructions: Vec<Insn<'_>> = Vec::new(alloc);
+    let mut instructions: Vec<Insn<'_>> = Vec::with_capacity(alloc, list.len())?;
     for (_, insn) in &list {
         instructions.push(*insn)?;
     }
