@@ -5,3 +5,4 @@ pub mod Texts
 pub mod Writing
 pub mod Files
 pub mod Verdicts
+pub mod Endings

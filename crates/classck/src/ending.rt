@@ -1,4 +1,8 @@
 //! Ends without an answer, with status 2.
+ghost use Rattle.std.specs.Prelude.{◌≡◌};
+ghost use Rattle.classck.specs.declared.ending.Ending.TheVariants.{Fault};
+ghost use Rattle.classck.specs.declared.fault.MainFault.TheVariants.{Memory};
+ghost use Rattle.classck.specs.Endings.{line_ending, answer_ending};
 
 use crate::complaining::complaint;
 use crate::fault::{AnswerFault, MainFault};
@@ -28,18 +32,24 @@ impl Ending {
 }
 
 impl From<AllocError> for Ending {
+    ghost from_gives = { λ _ e. e ≡ Fault Memory };
+
     fn from(_e: AllocError) -> Ending {
         Ending::Fault(MainFault::Memory)
     }
 }
 
 impl<T: Drop> From<AllocFailed<T>> for Ending {
+    ghost from_gives = { λ _ e. e ≡ Fault Memory };
+
     fn from(_e: AllocFailed<T>) -> Ending {
         Ending::Fault(MainFault::Memory)
     }
 }
 
 impl From<LineFault> for Ending {
+    ghost from_gives = { λ fault e. e ≡ line_ending fault };
+
     fn from(fault: LineFault) -> Ending {
         match fault {
             LineFault::OutOfMemory => Ending::Fault(MainFault::Memory),
@@ -49,6 +59,8 @@ impl From<LineFault> for Ending {
 }
 
 impl From<AnswerFault> for Ending {
+    ghost from_gives = { λ fault e. e ≡ answer_ending fault };
+
     fn from(fault: AnswerFault) -> Ending {
         match fault {
             AnswerFault::OutOfMemory => Ending::Fault(MainFault::Memory),

@@ -1,5 +1,6 @@
 //! Opens and reads the files of a line.
 ghost use Rattle.std.specs.Prelude.{◌≡◌, ◌⊎◌, ◌+◌, IfOk, IfErr, IfSome, take, length};
+ghost use Rattle.classck.specs.Endings.{StopsReading};
 ghost use Rattle.layout.specs.declared.fault.ReadFault.TheVariants.{OutOfMemory, ReadFailed};
 
 use crate::ending::Ending;
@@ -36,7 +37,8 @@ pub fn read_all(
     rt: &HostRuntime,
     files: &[String],
 ) -> Result<Vec<Result<Vec<u8>, StreamFault>>, Ending>
-    ensures { IfOk result (λ v. length v.items ≡ length files.now) }
+    ensures each { IfOk result (λ v. length v.items ≡ length files.now) }
+    ensures stopped { IfErr result (StopsReading (length files.now)) }
 {
     let mut reads = Vec::new(rt.alloc());
     for i in 0..files.len() {
