@@ -33,6 +33,6 @@ pub use theorem::type_safe_is_safe;
 pub use verdict::{Verdict, VerifyFault};
 
 #[cfg(test)]
-mod memory_tests;
+mod call_tests;
 #[cfg(test)]
 mod tests;

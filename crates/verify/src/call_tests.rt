@@ -106,7 +106,7 @@ fn is_reported<C: Classes>(
 }
 
 #[test]
-fn memory_is_enough(rt: HostRuntime) -> Result<(), Fail> {
+fn each_call_answers(rt: HostRuntime) -> Result<(), Fail> {
     let alloc = rt.alloc();
     for (given, want) in worked_methods() {
         let class = class(&rt, alloc, given)?;
