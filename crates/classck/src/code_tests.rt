@@ -1,7 +1,6 @@
 //! A method's code through the program's answers: what `show` and `verify` say of it.
-use crate::answering::answer;
 use crate::line::Command;
-use crate::tests::{K, O, one_file, one_read, verified};
+use crate::tests::{K, O, answered, verified};
 use std::alloc::{AllocError, Global};
 use std::hash::RandomState;
 use std::process::Abort;
@@ -21,21 +20,6 @@ fn with_code(rt: &impl Abort, alloc: Global, code: &[u8]) -> Result<Vec<u8>, All
     bytes.extend_from_slice(code)?;
     bytes.extend_from_slice(&K[91..])?;
     Ok(bytes)
-}
-
-/// What `show` prints of a file of these bytes, and its status.
-fn shown(
-    rt: &impl Abort,
-    alloc: Global,
-    hasher: RandomState,
-    bytes: &[u8],
-) -> Result<(u8, Vec<u8>), AllocError> {
-    let mut out: Vec<u8> = Vec::new(alloc);
-    let mut asked = one_file(alloc)?;
-    asked.command = Command::Show;
-    let reads = one_read(alloc, bytes)?;
-    let status = answer(alloc, &asked, &reads, hasher, &mut out).expect(rt, "an answer");
-    Ok((status, out))
 }
 
 #[test]
@@ -66,7 +50,7 @@ fn instructions_are_shown(rt: HostRuntime) -> Result<(), Fail> {
     ];
     for (code, lines) in rows {
         let class = with_code(&rt, rt.alloc(), code)?;
-        let (status, out) = shown(&rt, rt.alloc(), RandomState::new(&rt)?, &class)?;
+        let (status, out) = answered(&rt, rt.alloc(), RandomState::new(&rt)?, Command::Show, &class)?;
         let mut want = HEAD.to_vec(rt.alloc())?;
         want.extend_from_slice(lines)?;
         assert!(rt; status == 0 && out.as_slice() == want.as_slice());
@@ -111,7 +95,7 @@ fn code_at_fault(rt: HostRuntime) -> Result<(), Fail> {
     ];
     for (code, shows, verdict) in rows {
         let class = with_code(&rt, rt.alloc(), code)?;
-        let (status, out) = shown(&rt, rt.alloc(), RandomState::new(&rt)?, &class)?;
+        let (status, out) = answered(&rt, rt.alloc(), RandomState::new(&rt)?, Command::Show, &class)?;
         let mut want = HEAD.to_vec(rt.alloc())?;
         want.extend_from_slice(shows)?;
         assert!(rt; status == 1 && out.as_slice() == want.as_slice());

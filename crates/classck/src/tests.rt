@@ -160,25 +160,29 @@ fn a_failed_read(rt: HostRuntime) -> Result<(), Fail> {
 
 #[test]
 fn a_refused_file(rt: HostRuntime) -> Result<(), Fail> {
-    let mut out: Vec<u8> = Vec::new(rt.alloc());
-    let asked = one_file(rt.alloc())?;
-    let reads = one_read(rt.alloc(), &K[..96])?;
-    let hasher = RandomState::new(&rt)?;
-    let status = answer(rt.alloc(), &asked, &reads, hasher, &mut out).expect(&rt, "an answer");
+    let (status, out) = answered(
+        &rt,
+        rt.alloc(),
+        RandomState::new(&rt)?,
+        Command::Check,
+        &K[..96],
+    )?;
     assert_eq!(rt; status, 1);
     assert!(rt; out.as_slice() == b"refused 2 at 95\n".as_slice());
     Ok(())
 }
 
-/// What `check` prints of a file of these bytes, and its status.
-fn checked(
+/// What a command prints of a file of these bytes, and its status.
+pub(crate) fn answered(
     rt: &impl Abort,
     alloc: Global,
     hasher: RandomState,
+    command: Command,
     bytes: &[u8],
 ) -> Result<(u8, Vec<u8>), AllocError> {
     let mut out: Vec<u8> = Vec::new(alloc);
-    let asked = one_file(alloc)?;
+    let mut asked = one_file(alloc)?;
+    asked.command = command;
     let reads = one_read(alloc, bytes)?;
     let status = answer(alloc, &asked, &reads, hasher, &mut out).expect(rt, "an answer");
     Ok((status, out))
@@ -195,7 +199,7 @@ fn malformed_classes(rt: HostRuntime) -> Result<(), Fail> {
         let mut bytes = K.to_vec(rt.alloc())?;
         assert!(rt; place < bytes.len());
         bytes[place] = byte;
-        let (status, out) = checked(&rt, rt.alloc(), RandomState::new(&rt)?, &bytes)?;
+        let (status, out) = answered(&rt, rt.alloc(), RandomState::new(&rt)?, Command::Check, &bytes)?;
         assert!(rt; status == 1 && out.as_slice() == line.as_bytes());
     }
     let mut bytes = K[..81].to_vec(rt.alloc())?;
@@ -203,7 +207,7 @@ fn malformed_classes(rt: HostRuntime) -> Result<(), Fail> {
     bytes.extend_from_slice(&K[82..89])?;
     bytes.push(0)?;
     bytes.extend_from_slice(&K[91..])?;
-    let (status, out) = checked(&rt, rt.alloc(), RandomState::new(&rt)?, &bytes)?;
+    let (status, out) = answered(&rt, rt.alloc(), RandomState::new(&rt)?, Command::Check, &bytes)?;
     assert!(rt; status == 1 && out.as_slice() == b"refused 29 method 0\n".as_slice());
     Ok(())
 }
@@ -259,17 +263,14 @@ fn no_verdicts(rt: HostRuntime) -> Result<(), Fail> {
 /// The commands through one answer, and their lines.
 #[test]
 fn other_commands(rt: HostRuntime) -> Result<(), Fail> {
-    let mut asked = one_file(rt.alloc())?;
-    let mut reads = one_read(rt.alloc(), &K)?;
-    asked.command = Command::Show;
-    let mut out: Vec<u8> = Vec::new(rt.alloc());
-    let status = answer(rt.alloc(), &asked, &reads, RandomState::new(&rt)?, &mut out)?;
+    let (status, out) = answered(&rt, rt.alloc(), RandomState::new(&rt)?, Command::Show, &K)?;
     assert!(rt;
         status == 0
-            && out
-                .as_slice()
-                .starts_with(b"class K major 52 minor 0 flags 0021\n".as_slice())
+            && out.as_slice()
+                == b"class K major 52 minor 0 flags 0021\nsuper java/lang/Object\nmethod 0009 f ()V\n  stack 0 locals 0\n  0 return\n".as_slice()
     );
+    let mut asked = one_file(rt.alloc())?;
+    let mut reads = one_read(rt.alloc(), &K)?;
     asked.command = Command::Verify;
     asked.files.push(String::from_str(rt.alloc(), "b")?)?;
     reads.push(Ok(O.to_vec(rt.alloc())?))?;

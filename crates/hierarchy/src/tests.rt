@@ -48,6 +48,7 @@ fn laws_are_called() {
     laws::chains_are_steps();
     laws::has_one_subclass_answer();
     laws::faults_break_rules();
+    laws::one_hierarchy_fault();
     laws::summary_has_texts();
 }
 

@@ -1,6 +1,6 @@
 -- The parts of a switch by all bytes behind its opcode, as an instruction keeps them (JVMS 6.5, tableswitch and lookupswitch).
 -- All but the padding are fours of bytes, so the padding is what is left of the length.
-use Rattle.std.specs.Prelude.{ℕ, ℤ, pos, ◌%◌, List, [], ◌∷◌, length, take, drop}
+use Rattle.std.specs.Prelude.{ℕ, ℤ, negsuc, ◌%◌, List, [], ◌∷◌, length, take, drop}
 use Rattle.std.specs.Int.{cast_signed, w32}
 use Rattle.byteorder.specs.Endian.{big_number}
 use Rattle.insn.specs.Instructions.{Operands, table_switch, lookup_switch}
@@ -12,10 +12,11 @@ padding_of bytes = take (length bytes % 4) bytes
 abbrev pub fours : List ℕ → List ℕ
 fours bytes = drop (length bytes % 4) bytes
 
--- the number in front of fours: one whose bytes are missing counts as 0
+-- The number in front of fours. One whose bytes are missing counts as -1: so a switch that lacks bytes has no spelling, since
+-- less than no pairs are counted, or offsets of at least one key are missing.
 abbrev pub number_of : List ℕ → ℤ
 number_of (a ∷ b ∷ c ∷ d ∷ others) = cast_signed w32 (big_number 4 (a ∷ b ∷ c ∷ d ∷ []))
-number_of _ = pos 0
+number_of _ = negsuc 0
 
 -- and the fours behind it
 abbrev pub behind : List ℕ → List ℕ

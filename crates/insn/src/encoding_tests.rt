@@ -101,9 +101,13 @@ fn switches_that_no_bytes_spell(rt: HostRuntime) {
         let answer = encode_code(rt.alloc(), &[switch]);
         assert!(rt; matches!(answer, Err(WriteFault::HasNoSpelling)));
     }
-    let pairs: [&[u8]; 5] = [
+    let pairs: [&[u8]; 8] = [
         // no padding
         &[0; 8],
+        // no numbers, or no count
+        &[],
+        &[0; 3],
+        &[0; 7],
         // half a pair that is not counted
         &[0; 15],
         &[0, 0, 0, 0, 0, 0, 0, 0, 0, 0, 1],

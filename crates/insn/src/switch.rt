@@ -24,7 +24,7 @@ pub struct TableSwitch<'a> {
 impl<'a> TableSwitch<'a> {
     /// The parts of all bytes behind the opcode, as an instruction keeps them
     /// ([`Operands::TableSwitch`](crate::Operands)). Their number modulo 4 is that of the padding,
-    /// and a number whose bytes are missing counts as 0.
+    /// and a number whose bytes are missing counts as -1.
     pub fn new(bytes: &'a [u8]) -> Self
         ensures padding { result.padding.now ≡ padding_of bytes.now }
         ensures default { result.default ≡ default_of bytes.now }
@@ -62,7 +62,7 @@ pub struct LookupSwitch<'a> {
 impl<'a> LookupSwitch<'a> {
     /// The parts of all bytes behind the opcode, as an instruction keeps them
     /// ([`Operands::LookupSwitch`](crate::Operands)). Their number modulo 4 is that of the padding,
-    /// and a number whose bytes are missing counts as 0.
+    /// and a number whose bytes are missing counts as -1.
     pub fn new(bytes: &'a [u8]) -> Self
         ensures padding { result.padding.now ≡ padding_of bytes.now }
         ensures default { result.default ≡ default_of bytes.now }
@@ -81,14 +81,14 @@ impl<'a> LookupSwitch<'a> {
     }
 }
 
-/// The number in front of fours of bytes, 0 where there is none, and the fours behind it.
+/// The number in front of fours of bytes, -1 where there is none, and the fours behind it.
 fn first_number(fours: &[u8]) -> (i32, &[u8])
     ensures number { result.0 ≡ number_of fours.now }
     ensures others { result.1.now ≡ behind fours.now }
 {
     match fours {
         [a, b, c, d, others @ ..] => (BigEndian::read_i32(&[*a, *b, *c, *d]), others),
-        _ => (0, &[]),
+        _ => (-1, &[]),
     }
 }
 

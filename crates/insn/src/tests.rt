@@ -2,6 +2,16 @@ use super::*;
 use std::test::*;
 
 #[test]
+fn laws_are_called() {
+    code_is_one_list();
+    readings_are_spellings();
+    opcodes_have_numbers();
+    list_is_one_code();
+    written_is_read();
+    read_is_written();
+}
+
+#[test]
 fn a_switch_with_its_padding(rt: HostRuntime) -> Result<(), Fail> {
     let code = [
         0x03u8, 0xAA, 1, 2, 0, 0, 0, 0x13, 0, 0, 0, 0, 0, 0, 0, 0, 0, 0, 0, 0x13, 0xB1,

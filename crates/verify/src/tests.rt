@@ -19,6 +19,8 @@ fn theorem_and_laws_are_called() {
     refused_where();
     map_refused_where();
     none_is_replaced();
+    one_verdict();
+    one_report();
 }
 
 /// A method of K: its flags, descriptor and sizes, and its code, if it has any.
