@@ -3,6 +3,7 @@ ghost use Rattle.std.specs.Prelude.{◌≡◌, Some, IfOk, length};
 use crate::answering::answer;
 use crate::complaining::complaint;
 use crate::fault::{AnswerFault, MainFault};
+use crate::laws::one_answer;
 use crate::line::{Command, LineFault, Request};
 use crate::parsing::request;
 use crate::verifying::verify;
@@ -96,6 +97,11 @@ pub(crate) fn one_read(
     let mut reads = Vec::new(alloc);
     reads.push(Ok(bytes.to_vec(alloc)?))?;
     Ok(reads)
+}
+
+#[test]
+fn laws_are_called() {
+    one_answer();
 }
 
 #[test]
