@@ -5,10 +5,11 @@ ghost use Rattle.insn.specs.Opcodes.{mnemonic};
 ghost use Rattle.insn.specs.Views.{view, views};
 
 use crate::opcode::Opcode;
+use std::fmt;
 
 /// What stands behind an opcode (JVMS 6.5), as its [`Form`](crate::Form) says. A switch keeps all
 /// bytes behind its opcode as they stand in the code, so that all operands are small.
-#[derive(Clone, Copy, Debug)]
+#[derive(Clone, Copy)]
 pub enum Operands<'a> {
     /// Nothing.
     Nothing,
@@ -49,12 +50,19 @@ pub enum Operands<'a> {
 }
 
 /// An instruction (JVMS 6.5).
-#[derive(Clone, Copy, Debug)]
+#[derive(Clone, Copy)]
 pub struct Insn<'a> {
     /// The instruction's first byte.
     pub opcode: Opcode,
     /// What stands behind it.
     pub operands: Operands<'a>,
+}
+
+/// By its mnemonic, without its operands.
+impl fmt::Debug for Insn<'_> {
+    fn fmt<W: fmt::Write>(&self, f: &mut fmt::Formatter<W>) -> fmt::Result {
+        f.write_str(mnemonic(self))
+    }
 }
 
 /// The opcode that says what is done: behind `wide` the one that is modified.

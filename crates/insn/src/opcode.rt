@@ -2,9 +2,11 @@
 ghost use Rattle.std.specs.Prelude.{◌≡◌};
 ghost use Rattle.insn.specs.Opcodes.{number};
 
+use std::fmt;
+
 /// The opcodes by the standard's mnemonics (JVMS 6.5, 7). Those from 202 on have no meaning in a
 /// class file.
-#[derive(Clone, Copy, Debug, PartialEq, Eq)]
+#[derive(Clone, Copy, PartialEq, Eq)]
 pub enum Opcode {
     /// `nop`
     Nop = 0,
@@ -418,5 +420,12 @@ impl Opcode {
         ensures { result ≡ number self }
     {
         self as u8
+    }
+}
+
+/// By its mnemonic.
+impl fmt::Debug for Opcode {
+    fn fmt<W: fmt::Write>(&self, f: &mut fmt::Formatter<W>) -> fmt::Result {
+        f.write_str(self.mnemonic())
     }
 }

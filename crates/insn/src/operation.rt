@@ -246,7 +246,7 @@ impl NumericOperator {
 /// The meaning of an instruction, without its form: `iload_0`, `iload 0` and `wide iload 0` are one
 /// act. Of numbers an act has the kind and not the value. Indices lead into the constant pool;
 /// locals are numbers of local variables; offsets count bytes from the instruction's own start.
-#[derive(Clone, Copy, Debug)]
+#[derive(Clone, Copy)]
 pub enum Act<'a> {
     /// Nothing is done: `nop`.
     Nothing,
@@ -338,7 +338,7 @@ pub enum Act<'a> {
 }
 
 /// What an opcode means, before its operands are looked at: the [`Act`] of the same name.
-#[derive(Clone, Copy, Debug, PartialEq, Eq)]
+#[derive(Clone, Copy, Debug)]
 pub enum Meaning {
     Nothing,
     Constant(Kind),
