@@ -1,4 +1,4 @@
-use Rattle.std.proofs.Common.{◌≡◌, sym, ap, subst}
+use Rattle.std.proofs.Common.{◌≡◌, sym, ap, subst, rules}
 use Rattle.insn.specs.Acts.{stack_forms}
 use Rattle.insn.specs.Views.{act_view}
 use Rattle.frames.specs.FrameFact.{frame_of}
@@ -27,3 +27,9 @@ returns-in-ReturnVoid g c =
     let f = frame_of c.args.frame.now in
     let e : plan m (as_supported (act_view c.args.act)) ≡ return_nothing m.type.result = ap (λ a. plan m (as_supported (act_view a))) c.in-ReturnVoid.is in
     returned m c.args.at (plan m (as_supported (act_view c.args.act))) cs f (frame_of c.return_nothing.new.frame) c.return_nothing.result e (c.return_nothing.ensures cs)
+
+pub returns-in-Numeric : goal.returns-in-Numeric
+returns-in-Numeric g c = search rules
+
+pub returns-in-Nothing : goal.returns-in-Nothing
+returns-in-Nothing g c = search rules
