@@ -65,7 +65,7 @@ pub fields_told : (c : Class) → ((i : ℕ) → fault_at c (places.Pool i) ≡ 
 fields_told c pool class OutOfMemory h = tt
 fields_told c pool class (Broken rule p) (n, is, here, below) = subst (IsFirstFault c rule) (sym is) (first_field c rule n pool (class 0) here below)
 
-pub methods_told : (c : Class) → ((i : ℕ) → fault_at c (places.Pool i) ≡ None) → (ℕ → fault_at c places.Class ≡ None)
+methods_told : (c : Class) → ((i : ℕ) → fault_at c (places.Pool i) ≡ None) → (ℕ → fault_at c places.Class ≡ None)
     → ((i : ℕ) → fault_at c (places.Field i) ≡ None) → (e : FormFault) → Passes c (λ n. places.Method n) (Err e) → TellsFirst c e
 methods_told c pool class fields OutOfMemory h = tt
 methods_told c pool class fields (Broken rule p) (n, is, here, below) = subst (IsFirstFault c rule) (sym is) (first_method c rule n pool (class 0) fields here below)

@@ -1,5 +1,5 @@
 -- Each class is well formed or has a first fault: its tables are searched one after the other.
-use Rattle.std.proofs.Common.{◌≡◌, ◌<◌, ◌+◌, ℕ, zero, suc, List, length, Option, Some, None, refl, arith, ◌⊎◌, inl, inr}
+use Rattle.std.proofs.Common.{◌≡◌, ◌<◌, ◌+◌, ℕ, zero, suc, List, length, Option, Some, None, Ok, Err, refl, arith, ◌⊎◌, inl, inr}
 use Rattle.std.specs.Prelude.{slice_get}
 use Rattle.classfile.specs.declared.form_fault.FormFault.TheVariants.{Broken}
 use Rattle.classfile.specs.declared.form_fault.FormRule.{FormRule}
@@ -8,7 +8,7 @@ use Rattle.classfile.specs.declared.form_fault.Place.TheVariants as places
 use Rattle.classfile.specs.Values.{Class}
 use Rattle.classfile.specs.WellFormed.{fault_at, WellFormed, IsFirstFault}
 use Rattle.classfile.specs.FormLaws.{FormedOrFaulty}
-use Rattle.classfile.proofs.FirstFaults.{pool_told, class_told, fields_told, methods_told}
+use Rattle.classfile.proofs.FirstFaults.{pool_told, class_told, fields_told, all_told}
 use Rattle.classfile.proofs.Places.{all_entries, earlier_entries, entry_past, field_past, method_past, none_at_all, none_more}
 
 -- the first of the places of one kind that has a fault
@@ -37,15 +37,9 @@ Answer c = WellFormed c ⊎ ((rule : FormRule) × (place : Place) × IsFirstFaul
 
 by_methods : (c : Class) → HasNone c (λ n. places.Pool n) → fault_at c places.Class ≡ None → HasNone c (λ n. places.Field n)
     → HasNone c (λ n. places.Method n) ⊎ Found c (λ n. places.Method n) → Answer c
-by_methods c pool class fields (inl none) = inl (record { everywhere = each })
-  where
-    each : (p : Place) → fault_at c p ≡ None
-    each (places.Pool i) = pool i
-    each places.Class = class
-    each (places.Field i) = fields i
-    each (places.Method i) = none i
+by_methods c pool class fields (inl none) = inl (all_told c pool (λ k. class) fields (Ok tt) none)
 by_methods c pool class fields (inr (rule, n, here, below)) =
-    inr (rule, places.Method n, methods_told c pool (λ k. class) fields (Broken rule (places.Method n)) (n, refl, here, below))
+    inr (rule, places.Method n, all_told c pool (λ k. class) fields (Err (Broken rule (places.Method n))) (n, refl, here, below))
 
 by_fields : (c : Class) → HasNone c (λ n. places.Pool n) → fault_at c places.Class ≡ None
     → HasNone c (λ n. places.Field n) ⊎ Found c (λ n. places.Field n) → Answer c
