@@ -15,7 +15,7 @@
 //! | `code` | [`CodeAttr`] and its [`ExceptionHandler`]s |
 //! | `code_method` | [`CodeMethod`], a method of a well-formed class as its instructions see it |
 //! | `nested` | [`NestedAttribute`], an attribute of a Code attribute |
-//! | `location` | [`Location`], where an attribute stands, and which are read by field there |
+//! | `location` | the table that an attribute stands in, and which are read by field there |
 //! | `table` | a count and so many items, for all tables of a class file |
 //! | `decoding`, `encoding` | the two calls |
 //! | `laws` | that they undo one another |
@@ -63,7 +63,6 @@ pub use form_laws::{
     one_first_fault, tests_are_forms,
 };
 pub use laws::{class_or_fault, no_fault_in_class, one_class, one_fault, one_spelling};
-pub use location::Location;
 pub use member::Member;
 pub use nested::NestedAttribute;
 
