@@ -3,6 +3,7 @@ pub mod ClassMeasure
 pub mod Classes
 pub mod Encodings
 pub mod FirstFaults
+pub mod FormExamples
 pub mod FormedMethods
 pub mod FormedNames
 pub mod FormedOrFaulty
