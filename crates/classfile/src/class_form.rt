@@ -1,7 +1,7 @@
 //! Which rule a class itself breaks (JVMS 4.1).
 ghost use Rattle.std.specs.Prelude.{◌≡◌, map};
 ghost use Rattle.classfile.specs.Conditions.{broken_rule};
-ghost use Rattle.classfile.specs.ClassForm.{is_object, interfaces_have_bad, interfaces_have_other, interfaces_have_array, class_has_bad, class_has_other, class_has_array, leads_to_object, leads_elsewhere, lacks_super, is_object_below, is_interface_elsewhere, has_bad_super, class_conditions};
+ghost use Rattle.classfile.specs.ClassForm.{is_object, interfaces_have_bad, interfaces_have_other, interfaces_have_array, class_has_bad, class_has_other, class_has_array, leads_to_object, leads_elsewhere, has_bad_super, class_conditions};
 ghost use Rattle.classfile.specs.Views.{class_view};
 
 use crate::attribute_form::{attributes_have_bad, attributes_have_other};

@@ -1,5 +1,5 @@
 //! Which rule an entry of the constant pool breaks, by its kind (JVMS 4.4.1 to 4.4.10).
-ghost use Rattle.std.specs.Prelude.{◌≡◌, IfOk, false};
+ghost use Rattle.std.specs.Prelude.{◌≡◌, IfOk};
 ghost use Rattle.classfile.specs.Conditions.{broken_rule};
 ghost use Rattle.classfile.specs.ConstantForm.{names_class, describes_nothing, is_no_class_name, is_array_class, is_no_unqualified_name, is_no_descriptor, is_no_field_descriptor, is_no_method_descriptor, is_no_field, is_no_method, is_no_method_of_class, is_special, is_no_method_name, has_bad, has_other, texts_have_bad, texts_have_other, class_conditions, string_conditions, field_conditions, method_conditions, interface_method_conditions, name_and_type_conditions, method_handle_conditions, method_type_conditions, dynamic_conditions, invoke_dynamic_conditions, constant_conditions};
 ghost use Rattle.pool.specs.Views.{view};

@@ -1,5 +1,5 @@
 //! What stands at an index of the constant pool: whether it may be looked up, and of which kind it is (JVMS 4.4).
-ghost use Rattle.std.specs.Prelude.{◌≡◌, ◌&&◌, not, nat_eq};
+ghost use Rattle.std.specs.Prelude.{◌≡◌};
 ghost use Rattle.classfile.specs.Indices.{is_of, is_bad, is_bad_unless_zero, is_other};
 ghost use Rattle.pool.specs.Views.{view};
 

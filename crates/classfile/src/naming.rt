@@ -1,7 +1,5 @@
 //! Whether texts are names or descriptors of their forms (JVMS 4.2, 4.3).
-ghost use Rattle.std.specs.Prelude.{◌≡◌, ◌↔◌, true, IsTrue, IfOk, nat_eq};
-ghost use Rattle.std.specs.Str.{bytes_eq};
-ghost use Rattle.names.specs.Names.{bracket, IsClassName, IsUnqualifiedName, IsMethodName};
+ghost use Rattle.std.specs.Prelude.{◌≡◌, IfOk};
 ghost use Rattle.classfile.specs.Naming.{begins_with, is_array_name, is_class_name, is_unqualified_name, is_method_name, is_init, is_clinit, is_field_descriptor, is_method_descriptor, is_void_descriptor, fits_method};
 
 use names::{NameFault, Text, field_type, method_type};

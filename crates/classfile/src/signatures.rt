@@ -1,5 +1,5 @@
 //! Names and descriptors of members that were met, to find those that stand twice (JVMS 4.5, 4.6).
-ghost use Rattle.std.specs.Prelude.{◌≡◌, IfOk, List, []};
+ghost use Rattle.std.specs.Prelude.{IfOk, List, []};
 ghost use Rattle.classfile.specs.Seen.{AreSeen, Meets, MeetsMember};
 ghost use Rattle.classfile.specs.Views.{member_view};
 ghost use Rattle.pool.specs.Entries.{Entry};
