@@ -122,8 +122,11 @@ constants = refl
 abbrev catching : ℕ → List Handler
 catching index = record { start_pc = 0; end_pc = 1; handler_pc = 0; catch_type = index } ∷ []
 
+abbrev body_with : List ℕ → List Handler → List Nested → CodeBody
+body_with code handlers attributes = record { max_stack = 0; max_locals = 0; code = code; exception_table = handlers; attributes = attributes }
+
 abbrev body : List Handler → List Nested → CodeBody
-body handlers attributes = record { max_stack = 0; max_locals = 0; code = 177 ∷ []; exception_table = handlers; attributes = attributes }
+body = body_with (177 ∷ [])
 
 abbrev code : ℕ → List Handler → List Nested → Attribute
 code name handlers attributes = by_field name (body handlers attributes)
@@ -143,11 +146,12 @@ attributes :
     ∷ (attributes_have_bad pool (code 16 (catching 19) [] ∷ []), attributes_have_bad pool (code 16 [] [] ∷ []))
     ∷ (attributes_have_other pool (code 16 (catching 2) [] ∷ []), attributes_have_other pool (code 16 [] [] ∷ []))
     ∷ (has_code (raw 2 [] ∷ code 16 [] [] ∷ []), has_code (raw 16 [] ∷ []))
+    ∷ (have_bad_length (by_field 16 (body_with [] [] []) ∷ []), have_bad_length (code 16 [] [] ∷ []))
     ∷ (has_two_stack_maps (body [] (stack_map 17 ∷ stack_map 17 ∷ [])), has_two_stack_maps (body [] (stack_map 17 ∷ raw 2 [] ∷ [])))
     ∷ (stack_map_stands_twice (code 16 [] (stack_map 17 ∷ stack_map 17 ∷ []) ∷ []), stack_map_stands_twice (code 16 [] (stack_map 17 ∷ []) ∷ []))
     ∷ (have_twice (code 16 [] [] ∷ code 16 [] [] ∷ []), have_twice (code 16 [] [] ∷ raw 16 [] ∷ []))
-    ∷ []) ≡ told 14
-unfolding handlers_have_bad handlers_have_other nested_have_bad nested_have_other code_has_bad code_has_other attribute_has_bad attribute_has_other attributes_have_bad attributes_have_other has_code has_two_stack_maps stack_map_stands_twice code_stands_twice have_twice is_bad is_other entry_at
+    ∷ []) ≡ told 15
+unfolding handlers_have_bad handlers_have_other nested_have_bad nested_have_other code_has_bad code_has_other attribute_has_bad attribute_has_other attributes_have_bad attributes_have_other has_code have_bad_length has_two_stack_maps stack_map_stands_twice code_stands_twice have_twice is_bad is_other entry_at
 attributes = refl
 
 -- ---- members
