@@ -28,6 +28,3 @@ pub use limits::{MAX_CLASS_BYTES, MAX_CODE_BYTES};
 pub use lists::{many, whole};
 pub use output::Output;
 pub use part::Part;
-
-#[cfg(test)]
-mod tests;

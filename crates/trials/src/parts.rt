@@ -1,4 +1,4 @@
-use super::*;
+use layout::{Cursor, Output, Part, ReadFault, StreamFault, WriteFault, many, whole};
 use std::test::*;
 
 #[test]
