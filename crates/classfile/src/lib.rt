@@ -65,8 +65,3 @@ pub use form_laws::{
 pub use laws::{class_or_fault, no_fault_in_class, one_class, one_fault, one_spelling};
 pub use member::Member;
 pub use nested::NestedAttribute;
-
-#[cfg(test)]
-mod form_tests;
-#[cfg(test)]
-mod tests;

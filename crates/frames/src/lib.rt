@@ -19,6 +19,3 @@ pub use compare::assignable;
 pub use compare_frames::{both, frame_assignable, width};
 pub use frame::Frame;
 pub use vtype::VType;
-
-#[cfg(test)]
-mod tests;

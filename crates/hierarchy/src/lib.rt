@@ -33,6 +33,3 @@ pub use class_summary::summary_of;
 pub use classes::Classes;
 pub use fault::HierarchyFault;
 pub use summary::{CLONEABLE, Kind, MemberSummary, OBJECT, SERIALIZABLE, Summary};
-
-#[cfg(test)]
-mod tests;

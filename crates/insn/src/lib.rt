@@ -53,10 +53,3 @@ pub use reading::read_insn;
 pub use stack::{StackForm, StackOperator, StackPlace};
 pub use switch::{LookupSwitch, Offsets, Pairs, TableSwitch, Targets};
 pub use table::Form;
-
-#[cfg(test)]
-mod encoding_tests;
-#[cfg(test)]
-mod forms_tests;
-#[cfg(test)]
-mod tests;

@@ -50,6 +50,3 @@ pub use items::{Slot, Value};
 pub use objects::{Object, RunType, Status};
 pub use snapshot::State;
 pub use stepping::step;
-
-#[cfg(test)]
-mod tests;

@@ -29,6 +29,3 @@ pub use reading::{
     result_type,
 };
 pub use text::{Text, TextUnits, check_text, one_unit_list, spell, text_answers, units};
-
-#[cfg(test)]
-mod tests;

@@ -33,6 +33,3 @@ pub use laws::found_where_it_stands;
 pub use reading::read_pool;
 pub use reference::{FieldRef, MethodRef, NameAndType};
 pub use writing::put_pool;
-
-#[cfg(test)]
-mod tests;

@@ -48,6 +48,3 @@ pub use environment::{Env, body_is_told};
 pub use reason::Reason;
 pub use running::run;
 pub use ways::{branches, falls};
-
-#[cfg(test)]
-mod tests;

@@ -31,8 +31,3 @@ pub use method::verify_method;
 pub use report::{ClassRefusal, MethodVerdict, verify_class, verify_methods};
 pub use theorem::type_safe_is_safe;
 pub use verdict::{Verdict, VerifyFault};
-
-#[cfg(test)]
-mod call_tests;
-#[cfg(test)]
-mod tests;

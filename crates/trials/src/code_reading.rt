@@ -1,4 +1,9 @@
-use super::*;
+use insn::{
+    Act, CodeFault, Kind, NumericOperator, Opcode, Operands, TableSwitch, act, code_is_one_list,
+    decode_code, is_start, list_is_one_code, mnemonic, opcodes_have_numbers, read_insn,
+    read_is_written, readings_are_spellings, written_is_read,
+};
+use layout::Cursor;
 use std::test::*;
 
 #[test]
@@ -95,7 +100,7 @@ fn a_table_of_four_billion_entries_costs_nothing(rt: HostRuntime) {
     let code = [
         0xAAu8, 0, 0, 0, 0, 0, 0, 0x13, 0x80, 0, 0, 0, 0x7F, 0xFF, 0xFF, 0xFF,
     ];
-    let mut cursor = layout::Cursor::new(&code);
+    let mut cursor = Cursor::new(&code);
     assert!(rt;
         matches!(
             read_insn(&mut cursor),

@@ -1,58 +1,24 @@
 //! Steps of methods that are put together by hand.
-use super::making::assembled;
-use super::objects::THROWABLE;
-use super::*;
-use classfile::{ClassFile, CodeAttr, decode, form_check};
-use hierarchy::{Chains, OBJECT, Summary};
-use insn::decode_code;
-use pool::Pool;
+use crate::samples::{K, class, hasher, object, static_method, summary};
+use classfile::{ExceptionHandler, decode, form_check};
+use hierarchy::{Chains, OBJECT};
+use machine::{Choice, Method, Outcome, RunType, Slot, State, StepFault, Value, laws, step};
 use std::alloc::{AllocError, Global};
 use std::collections::BTreeMap;
-use std::hash::{BuildHasherDefault, FoldHasher};
 use std::process::Abort;
 use std::test::Fail;
+
+/// The class of all that is raised (JVMS 2.10).
+const THROWABLE: &[u8] = b"java/lang/Throwable";
+
+/// The index of the Class constant of `java/lang/Object`.
+const OBJECT_INDEX: u16 = 3;
 
 #[test]
 fn laws_are_called() {
     laws::step_breadth();
     laws::start_breadth();
     laws::world_breadth();
-}
-
-fn class<'a>(alloc: Global) -> ClassFile<'a> {
-    ClassFile {
-        minor_version: 0,
-        major_version: 55,
-        constant_pool: Pool::new(Vec::new(alloc)),
-        access_flags: 0,
-        this_class: 0,
-        super_class: 0,
-        interfaces: Vec::new(alloc),
-        fields: Vec::new(alloc),
-        methods: Vec::new(alloc),
-        attributes: Vec::new(alloc),
-    }
-}
-
-fn summary<'a>(alloc: Global, name: &'a [u8], superclass: Option<&'a [u8]>) -> Summary<'a> {
-    Summary {
-        name,
-        superclass,
-        interface: false,
-        is_final: false,
-        members: Vec::new(alloc),
-    }
-}
-
-fn catch_all<'a>(alloc: Global) -> Result<Vec<ExceptionEntry<'a>>, AllocError> {
-    let mut entries = Vec::new(alloc);
-    entries.push(ExceptionEntry {
-        from: 0,
-        to: 1,
-        handler: 1,
-        caught: RunType::Class(OBJECT),
-    })?;
-    Ok(entries)
 }
 
 fn state<'a>(alloc: Global, locals: &[Slot], stack: &[Value]) -> Result<State<'a>, AllocError> {
@@ -67,35 +33,37 @@ fn state<'a>(alloc: Global, locals: &[Slot], stack: &[Value]) -> Result<State<'a
 // What comes of the code's first instruction, in a method of two local variables and four units of stack, which catches
 // all that is raised there.
 fn run<'a>(
+    rt: &impl Abort,
     alloc: Global,
     bytes: &'a [u8],
     locals: &[Slot; 2],
     stack: &[Value],
     choice: &Choice<'a>,
 ) -> Result<Result<Outcome<'a>, StepFault>, AllocError> {
-    let class = class(alloc);
-    let code = CodeAttr {
-        max_stack: 4,
-        max_locals: 2,
-        code: bytes,
-        exception_table: Vec::new(alloc),
-        attributes: Vec::new(alloc),
-    };
-    let bytes = &bytes[..bytes.len().min(9)];
-    let Ok(list) = decode_code(alloc, bytes) else {
+    let mut given = static_method(b"()V", 4, 2, bytes);
+    given.catches = Some(ExceptionHandler {
+        start_pc: 0,
+        end_pc: 1,
+        handler_pc: 1,
+        catch_type: OBJECT_INDEX,
+    });
+    let class = class(rt, alloc, given)?;
+    let Ok(formed) = form_check(alloc, &class) else {
         return Err(AllocError);
     };
-    let object = [
-        summary(alloc, OBJECT, None),
-        summary(alloc, THROWABLE, Some(OBJECT)),
+    assert!(rt; class.methods.len() == 1);
+    assert!(rt; class.methods[0].code().is_some());
+    let Ok(method) = Method::new(alloc, &formed, 0) else {
+        return Err(AllocError);
+    };
+    let list = [
+        object(alloc),
+        summary(alloc, THROWABLE, Some(OBJECT), false),
     ];
-    let hasher: BuildHasherDefault<FoldHasher> = BuildHasherDefault::new();
-    let Ok(classes) = Chains::new(alloc, &object, hasher) else {
+    let Ok(classes) = Chains::new(alloc, &list, hasher()) else {
         return Err(AllocError);
     };
     let state = state(alloc, locals, stack)?;
-    let exceptions = catch_all(alloc)?;
-    let method = assembled(&class, 0, &code, true, false, None, list, exceptions);
     Ok(step(alloc, &method, &classes, &state, choice))
 }
 
@@ -132,7 +100,7 @@ fn numbers_are_computed(rt: HostRuntime) -> Result<(), Fail> {
     let stack = [Value::Null, Value::Int, Value::Int];
     let after = next(
         &rt,
-        run(alloc, &[0x60, 0x00], &EMPTY, &stack, &go(alloc, None))?,
+        run(&rt, alloc, &[0x60, 0x00], &EMPTY, &stack, &go(alloc, None))?,
     );
     assert_eq!(rt; after.at, 1);
     assert_eq!(rt;
@@ -149,6 +117,7 @@ fn half_of_a_long_is_overwritten(rt: HostRuntime) -> Result<(), Fail> {
     let after = next(
         &rt,
         run(
+            &rt,
             alloc,
             &[0x3C, 0x00],
             &locals,
@@ -166,7 +135,7 @@ fn half_of_a_long_is_overwritten(rt: HostRuntime) -> Result<(), Fail> {
 #[test]
 fn methods_end(rt: HostRuntime) -> Result<(), Fail> {
     let alloc = rt.alloc();
-    let ended = run(alloc, &[0xB1, 0x00], &EMPTY, &[], &go(alloc, None))?;
+    let ended = run(&rt, alloc, &[0xB1, 0x00], &EMPTY, &[], &go(alloc, None))?;
     assert!(rt; matches!(ended, Ok(Outcome::Ended)));
     Ok(())
 }
@@ -175,6 +144,7 @@ fn methods_end(rt: HostRuntime) -> Result<(), Fail> {
 fn missing_operands_are_faults(rt: HostRuntime) -> Result<(), Fail> {
     let alloc = rt.alloc();
     let fault = run(
+        &rt,
         alloc,
         &[0x60, 0x00],
         &EMPTY,
@@ -182,7 +152,7 @@ fn missing_operands_are_faults(rt: HostRuntime) -> Result<(), Fail> {
         &go(alloc, None),
     )?;
     assert!(rt; matches!(fault, Ok(Outcome::Fault)));
-    let unsupported = run(alloc, &[0x01, 0x00], &EMPTY, &[], &go(alloc, None))?;
+    let unsupported = run(&rt, alloc, &[0x01, 0x00], &EMPTY, &[], &go(alloc, None))?;
     assert!(rt; matches!(unsupported, Ok(Outcome::Fault)));
     Ok(())
 }
@@ -190,7 +160,7 @@ fn missing_operands_are_faults(rt: HostRuntime) -> Result<(), Fail> {
 #[test]
 fn branches_are_no_choice(rt: HostRuntime) -> Result<(), Fail> {
     let alloc = rt.alloc();
-    match run(alloc, &[0x00, 0x00], &EMPTY, &[], &go(alloc, Some(1)))? {
+    match run(&rt, alloc, &[0x00, 0x00], &EMPTY, &[], &go(alloc, Some(1)))? {
         Err(fault) => assert_eq!(rt; fault.number(), 54),
         Ok(_) => panic!(rt; "a branch"),
     }
@@ -203,6 +173,7 @@ fn exceptions_are_caught_or_not(rt: HostRuntime) -> Result<(), Fail> {
     let caught = next(
         &rt,
         run(
+            &rt,
             alloc,
             &[0x00, 0x00],
             &EMPTY,
@@ -212,7 +183,7 @@ fn exceptions_are_caught_or_not(rt: HostRuntime) -> Result<(), Fail> {
     );
     assert_eq!(rt; caught.at, 1);
     assert_eq!(rt; caught.stack.as_slice(), [Value::Ref(7)].as_slice());
-    let uncaught = run(alloc, &[0x00, 0x00], &EMPTY, &[], &raise(alloc, None)?)?;
+    let uncaught = run(&rt, alloc, &[0x00, 0x00], &EMPTY, &[], &raise(alloc, None)?)?;
     assert!(rt; matches!(uncaught, Ok(Outcome::Ended)));
     Ok(())
 }
@@ -221,22 +192,13 @@ fn exceptions_are_caught_or_not(rt: HostRuntime) -> Result<(), Fail> {
 #[test]
 fn memory_runs_out_for_a_step(rt: HostRuntime) {
     let choice = go(rt.alloc(), None);
-    match run(rt.alloc(), &[0x04, 0xAC], &EMPTY, &[], &choice) {
+    match run(&rt, rt.alloc(), &[0x04, 0xAC], &EMPTY, &[], &choice) {
         Ok(Ok(Outcome::Next(state))) => assert!(rt; state.at == 1 && state.stack.len() == 1),
         Ok(Ok(_)) => panic!(rt; "another outcome"),
         Ok(Err(fault)) => assert_eq!(rt; fault.number(), 1),
         Err(_) => {}
     }
 }
-
-/// The class file of a class with one static method, which returns.
-const K: [u8; 97] = [
-    0xCA, 0xFE, 0xBA, 0xBE, 0, 0, 0, 0x34, 0, 8, 7, 0, 2, 1, 0, 1, 0x4B, 7, 0, 4, 1, 0, 0x10, 0x6A,
-    0x61, 0x76, 0x61, 0x2F, 0x6C, 0x61, 0x6E, 0x67, 0x2F, 0x4F, 0x62, 0x6A, 0x65, 0x63, 0x74, 1, 0,
-    1, 0x66, 1, 0, 3, 0x28, 0x29, 0x56, 1, 0, 4, 0x43, 0x6F, 0x64, 0x65, 0, 0x21, 0, 1, 0, 3, 0, 0,
-    0, 0, 0, 1, 0, 9, 0, 5, 0, 6, 0, 1, 0, 7, 0, 0, 0, 0x0D, 0, 0, 0, 0, 0, 0, 0, 1, 0xB1, 0, 0, 0,
-    0, 0, 0,
-];
 
 /// Whether the method of K ends; want of memory aside.
 fn ends(rt: &impl Abort, alloc: Global) -> Result<bool, AllocError> {
@@ -251,9 +213,8 @@ fn ends(rt: &impl Abort, alloc: Global) -> Result<bool, AllocError> {
     let Ok(method) = Method::new(alloc, &formed, 0) else {
         return Err(AllocError);
     };
-    let object = [summary(alloc, OBJECT, None)];
-    let hasher: BuildHasherDefault<FoldHasher> = BuildHasherDefault::new();
-    let Ok(classes) = Chains::new(alloc, &object, hasher) else {
+    let list = [object(alloc)];
+    let Ok(classes) = Chains::new(alloc, &list, hasher()) else {
         return Err(AllocError);
     };
     let start = state(alloc, &[], &[])?;

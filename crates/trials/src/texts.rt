@@ -1,4 +1,8 @@
-use super::*;
+use names::{
+    Base, FieldType, NameFault, check_text, field_answers, field_type, is_class_name,
+    is_field_name, is_method_name, method_answers, method_type, names_by_units, one_field_type,
+    one_method_type, one_unit_list, result_type, spell, text_answers, units,
+};
 use std::alloc::Global;
 use std::test::*;
 

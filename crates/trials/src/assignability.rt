@@ -1,40 +1,10 @@
-use super::*;
+use crate::samples::{frame, hasher, object, summary};
+use frames::{VType, assignable, frame_assignable, laws};
 use hierarchy::{Answer, Chains, Classes, OBJECT, Summary};
 use names::{Base, Primitive};
 use std::alloc::{AllocError, Global};
-use std::hash::{BuildHasherDefault, FoldHasher};
 use std::process::Abort;
 use std::test::Fail;
-
-fn class<'a>(
-    alloc: Global,
-    name: &'a [u8],
-    superclass: Option<&'a [u8]>,
-    interface: bool,
-) -> Summary<'a> {
-    Summary {
-        name,
-        superclass,
-        interface,
-        is_final: false,
-        members: Vec::new(alloc),
-    }
-}
-
-fn frame<'a>(
-    alloc: Global,
-    locals: &[VType<'a>],
-    stack: &[VType<'a>],
-    flag: bool,
-) -> Result<Frame<'a>, AllocError> {
-    let locals = locals.iter().copied().collect(alloc)?;
-    let stack = stack.iter().copied().collect(alloc)?;
-    Ok(Frame {
-        locals,
-        stack,
-        flag,
-    })
-}
 
 fn array<'a>(dims: u8, base: Base<'a>) -> VType<'a> {
     VType::Array { dims, base }
@@ -42,9 +12,9 @@ fn array<'a>(dims: u8, base: Base<'a>) -> VType<'a> {
 
 fn setting<'a>(alloc: Global) -> [Summary<'a>; 3] {
     [
-        class(alloc, OBJECT, None, false),
-        class(alloc, b"A", Some(OBJECT), false),
-        class(alloc, b"I", Some(OBJECT), true),
+        object(alloc),
+        summary(alloc, b"A", Some(OBJECT), false),
+        summary(alloc, b"I", Some(OBJECT), true),
     ]
 }
 
@@ -164,8 +134,7 @@ fn laws_are_called() {
 fn types(rt: HostRuntime) -> Result<(), Fail> {
     let alloc = rt.alloc();
     let list = setting(alloc);
-    let hasher: BuildHasherDefault<FoldHasher> = BuildHasherDefault::new();
-    let classes = Chains::new(alloc, &list, hasher).expect(&rt, "a hierarchy");
+    let classes = Chains::new(alloc, &list, hasher()).expect(&rt, "a hierarchy");
     compare_types(&rt, &classes);
     Ok(())
 }
@@ -174,8 +143,7 @@ fn types(rt: HostRuntime) -> Result<(), Fail> {
 fn frames(rt: HostRuntime) -> Result<(), Fail> {
     let alloc = rt.alloc();
     let list = setting(alloc);
-    let hasher: BuildHasherDefault<FoldHasher> = BuildHasherDefault::new();
-    let classes = Chains::new(alloc, &list, hasher).expect(&rt, "a hierarchy");
+    let classes = Chains::new(alloc, &list, hasher()).expect(&rt, "a hierarchy");
     compare_frames(&rt, alloc, &classes)?;
     Ok(())
 }

@@ -1,6 +1,6 @@
 //! The worked methods through each call that takes memory: where there is memory enough, none answers that it ran out.
-use super::tests::{Given, class, object, worked_methods};
-use super::*;
+use crate::samples::{Given, class, hasher, object};
+use crate::verdicts::worked_methods;
 use classfile::{ClassFile, Formed, decode, encode, form_check};
 use frames::{Frame, VType};
 use hierarchy::{Chains, Classes, summary_of};
@@ -9,9 +9,9 @@ use machine::{Choice, Method, Slot, State, step};
 use rules::{Env, apply};
 use std::alloc::{AllocError, Global};
 use std::collections::BTreeMap;
-use std::hash::{BuildHasherDefault, FoldHasher};
 use std::process::Abort;
 use std::test::Fail;
+use verify::{verify_class, verify_method, verify_methods};
 
 /// The number of want of memory.
 const OUT_OF_MEMORY: u8 = 1;
@@ -112,8 +112,7 @@ fn each_call_answers(rt: HostRuntime) -> Result<(), Fail> {
         let class = class(&rt, alloc, given)?;
         let formed = form_check(alloc, &class).expect(&rt, "a class");
         let list = [object(alloc), summary_of(alloc, &formed)?];
-        let hasher: BuildHasherDefault<FoldHasher> = BuildHasherDefault::new();
-        let classes = Chains::new(alloc, &list, hasher).expect(&rt, "a hierarchy");
+        let classes = Chains::new(alloc, &list, hasher()).expect(&rt, "a hierarchy");
         assert!(rt; applies(&rt, alloc, &formed, given, &classes)?);
         assert!(rt; steps(&rt, alloc, &formed, given, &classes)?);
         assert!(rt; is_reported(alloc, &class, &formed, &classes));

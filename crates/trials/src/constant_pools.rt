@@ -1,5 +1,5 @@
-use super::*;
 use layout::{Cursor, Output, Part, ReadFault, WriteFault};
+use pool::{Constant, Pool, PoolFault, found_where_it_stands, put_pool};
 use std::alloc::Global;
 use std::test::*;
 

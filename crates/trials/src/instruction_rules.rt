@@ -1,20 +1,13 @@
-ghost use Rattle.std.specs.Prelude.{◌≡◌, length, IfOk};
-
-use super::*;
+use crate::samples::{class_of, frame, hasher, object, utf8};
 use classfile::{Attribute, ClassFile, CodeAttr, Member, form_check};
-use frames::{Frame, VType};
-use hierarchy::{Chains, OBJECT, Summary};
+use frames::VType;
+use hierarchy::{Chains, OBJECT};
 use insn::decode_code;
-use names::check_text;
-use pool::{Constant, Pool};
+use pool::Constant;
+use rules::{After, Branches, Env, Refusal, apply, body_is_told, branches, falls};
 use std::alloc::{AllocError, Global};
-use std::hash::{BuildHasherDefault, FoldHasher};
 use std::process::Abort;
 use std::test::Fail;
-
-fn utf8<'a>(rt: &impl Abort, bytes: &'a [u8]) -> Constant<'a> {
-    Constant::Utf8(check_text(bytes).expect(rt, "a text"))
-}
 
 /// Constants of the kinds that instructions name, and the names of the class and its method.
 fn constants<'a>(rt: &impl Abort, alloc: Global) -> Result<Vec<Constant<'a>>, AllocError> {
@@ -76,35 +69,8 @@ fn class<'a>(
     code: &'a [u8],
     given: &Given<'_>,
 ) -> Result<ClassFile<'a>, AllocError> {
-    let mut methods = Vec::new(alloc);
-    methods.push(method(alloc, code, given)?)?;
-    Ok(ClassFile {
-        minor_version: 0,
-        major_version: 55,
-        constant_pool: Pool::new(constants(rt, alloc)?),
-        access_flags: 0x21,
-        this_class: 8,
-        super_class: 10,
-        interfaces: Vec::new(alloc),
-        fields: Vec::new(alloc),
-        methods,
-        attributes: Vec::new(alloc),
-    })
-}
-
-fn frame<'a>(
-    alloc: Global,
-    locals: &[VType<'a>],
-    stack: &[VType<'a>],
-    flag: bool,
-) -> Result<Frame<'a>, AllocError>
-    ensures { IfOk result (λ f. length f.locals.items ≡ length locals.now) }
-{
-    Ok(Frame {
-        locals: locals.iter().copied().collect(alloc)?,
-        stack: stack.iter().copied().collect(alloc)?,
-        flag,
-    })
+    let method = method(alloc, code, given)?;
+    class_of(alloc, constants(rt, alloc)?, 8, 10, method)
 }
 
 // What is known before an instruction of a method with two locals and this many units of stack.
@@ -141,15 +107,8 @@ fn judge<'a>(
     let Ok(list) = decode_code(alloc, bytes) else {
         return Err(AllocError);
     };
-    let object = [Summary {
-        name: OBJECT,
-        superclass: None,
-        interface: false,
-        is_final: false,
-        members: Vec::new(alloc),
-    }];
-    let hasher: BuildHasherDefault<FoldHasher> = BuildHasherDefault::new();
-    let Ok(classes) = Chains::new(alloc, &object, hasher) else {
+    let alone = [object(alloc)];
+    let Ok(classes) = Chains::new(alloc, &alone, hasher()) else {
         return Err(AllocError);
     };
     assert!(rt; !formed.class().methods.is_empty());

@@ -1,17 +1,13 @@
-use super::*;
+use crate::samples::K;
+use classfile::{
+    Attribute, CodeAttr, Member, NestedAttribute, class_or_fault, decode, encode, formed_has_names,
+    formed_or_faulty, least_rule_is_told, no_fault_in_class, no_fault_in_formed, one_class,
+    one_fault, one_first_fault, one_spelling, tests_are_forms,
+};
 use layout::{MAX_CLASS_BYTES, ReadFault, WriteFault};
 use std::alloc::{AllocError, Global};
 use std::process::Abort;
 use std::test::*;
-
-/// A class with one static method `f` that returns.
-pub const K: [u8; 97] = [
-    0xCA, 0xFE, 0xBA, 0xBE, 0, 0, 0, 0x34, 0, 8, 7, 0, 2, 1, 0, 1, 0x4B, 7, 0, 4, 1, 0, 0x10, 0x6A,
-    0x61, 0x76, 0x61, 0x2F, 0x6C, 0x61, 0x6E, 0x67, 0x2F, 0x4F, 0x62, 0x6A, 0x65, 0x63, 0x74, 1, 0,
-    1, 0x66, 1, 0, 3, 0x28, 0x29, 0x56, 1, 0, 4, 0x43, 0x6F, 0x64, 0x65, 0, 0x21, 0, 1, 0, 3, 0, 0,
-    0, 0, 0, 1, 0, 9, 0, 5, 0, 6, 0, 1, 0, 7, 0, 0, 0, 0x0D, 0, 0, 0, 0, 0, 0, 0, 1, 0xB1, 0, 0, 0,
-    0, 0, 0,
-];
 
 /// The text `StackMapTable` as a constant.
 const STACK_MAP_TABLE: &[u8] = b"\x01\x00\x0DStackMapTable";

@@ -1,4 +1,9 @@
-use super::*;
+use insn::{
+    CodeFault, Form, Insn, Instructions, Kind, LookupSwitch, Opcode, Operands, Pairs,
+    StackOperator, StackPlace, TableSwitch, Targets, computed_as, decode_code, encode_code,
+    is_start, mnemonic, takes_array,
+};
+use names::Primitive;
 use std::test::*;
 
 /// How many bytes an instruction at offset 0 has whose operands are zeros.
@@ -101,7 +106,7 @@ fn parts_of_switches(rt: HostRuntime) {
     let cut = TableSwitch::new(&bytes[3..11]);
     assert_eq!(rt;
         (cut.padding.len(), cut.default, cut.low, cut.high),
-        (0, 19, 1, 0)
+        (0, 19, 1, -1)
     );
     assert!(rt; cut.offsets.is_empty());
 }
@@ -131,10 +136,10 @@ fn where_switches_go(rt: HostRuntime) {
 fn kinds_and_forms(rt: HostRuntime) {
     assert!(rt; Kind::Double.is_wide());
     assert!(rt; !Kind::Float.is_wide());
-    assert!(rt; takes_array(names::Primitive::Byte, names::Primitive::Boolean));
-    assert!(rt; !takes_array(names::Primitive::Boolean, names::Primitive::Boolean));
-    assert_eq!(rt; computed_as(names::Primitive::Boolean), Kind::Int);
-    assert_eq!(rt; computed_as(names::Primitive::Double), Kind::Double);
+    assert!(rt; takes_array(Primitive::Byte, Primitive::Boolean));
+    assert!(rt; !takes_array(Primitive::Boolean, Primitive::Boolean));
+    assert_eq!(rt; computed_as(Primitive::Boolean), Kind::Int);
+    assert_eq!(rt; computed_as(Primitive::Double), Kind::Double);
     let forms = StackOperator::DupX2.forms();
     assert_eq!(rt; forms.len(), 2);
     assert_eq!(rt;

@@ -1,37 +1,11 @@
-use super::*;
+use crate::samples::{K, hasher, summary};
 use classfile::{decode, form_check};
+use hierarchy::{
+    Answer, Chains, Classes, HierarchyFault, Kind, MemberSummary, OBJECT, Summary, laws, summary_of,
+};
 use std::alloc::Global;
-use std::hash::{BuildHasherDefault, FoldHasher};
 use std::process::Abort;
 use std::test::Fail;
-
-fn class<'a>(
-    alloc: Global,
-    name: &'a [u8],
-    superclass: Option<&'a [u8]>,
-    interface: bool,
-) -> Summary<'a> {
-    Summary {
-        name,
-        superclass,
-        interface,
-        is_final: false,
-        members: Vec::new(alloc),
-    }
-}
-
-fn hasher() -> BuildHasherDefault<FoldHasher> {
-    BuildHasherDefault::new()
-}
-
-/// A class with one static method `f` that returns.
-const K: [u8; 97] = [
-    0xCA, 0xFE, 0xBA, 0xBE, 0, 0, 0, 0x34, 0, 8, 7, 0, 2, 1, 0, 1, 0x4B, 7, 0, 4, 1, 0, 0x10, 0x6A,
-    0x61, 0x76, 0x61, 0x2F, 0x6C, 0x61, 0x6E, 0x67, 0x2F, 0x4F, 0x62, 0x6A, 0x65, 0x63, 0x74, 1, 0,
-    1, 0x66, 1, 0, 3, 0x28, 0x29, 0x56, 1, 0, 4, 0x43, 0x6F, 0x64, 0x65, 0, 0x21, 0, 1, 0, 3, 0, 0,
-    0, 0, 0, 1, 0, 9, 0, 5, 0, 6, 0, 1, 0, 7, 0, 0, 0, 0x0D, 0, 0, 0, 0, 0, 0, 0, 1, 0xB1, 0, 0, 0,
-    0, 0, 0,
-];
 
 // Why a list is refused, or none.
 fn refusal<'a>(alloc: Global, classes: &[Summary<'a>]) -> Option<HierarchyFault<'a>> {
@@ -56,10 +30,10 @@ fn laws_are_called() {
 fn answers(rt: HostRuntime) -> Result<(), Fail> {
     let alloc = rt.alloc();
     let list = [
-        class(alloc, OBJECT, None, false),
-        class(alloc, b"A", Some(OBJECT), false),
-        class(alloc, b"I", Some(OBJECT), true),
-        class(alloc, b"C", Some(b"A"), false),
+        summary(alloc, OBJECT, None, false),
+        summary(alloc, b"A", Some(OBJECT), false),
+        summary(alloc, b"I", Some(OBJECT), true),
+        summary(alloc, b"C", Some(b"A"), false),
     ];
     let chains = Chains::new(alloc, &list, hasher()).expect(&rt, "a hierarchy");
     ask(&rt, &chains);
@@ -81,37 +55,37 @@ fn ask<C: Classes>(rt: &impl Abort, classes: &C) {
 fn refusals(rt: HostRuntime) -> Result<(), Fail> {
     let alloc = rt.alloc();
     let twice = [
-        class(alloc, OBJECT, None, false),
-        class(alloc, b"A", Some(OBJECT), false),
-        class(alloc, b"B", Some(OBJECT), false),
-        class(alloc, b"B", Some(OBJECT), false),
-        class(alloc, b"A", Some(OBJECT), false),
+        summary(alloc, OBJECT, None, false),
+        summary(alloc, b"A", Some(OBJECT), false),
+        summary(alloc, b"B", Some(OBJECT), false),
+        summary(alloc, b"B", Some(OBJECT), false),
+        summary(alloc, b"A", Some(OBJECT), false),
     ];
     assert_eq!(rt;
         refusal(alloc, &twice),
         Some(HierarchyFault::ClassTwice { name: b"A" })
     );
     let cycle = [
-        class(alloc, b"X", Some(b"A"), false),
-        class(alloc, b"A", Some(b"B"), false),
-        class(alloc, b"B", Some(b"A"), false),
+        summary(alloc, b"X", Some(b"A"), false),
+        summary(alloc, b"A", Some(b"B"), false),
+        summary(alloc, b"B", Some(b"A"), false),
     ];
     assert_eq!(rt;
         refusal(alloc, &cycle),
         Some(HierarchyFault::Cycle { name: b"A" })
     );
     let second = [
-        class(alloc, b"X", Some(b"A"), false),
-        class(alloc, b"B", Some(b"B"), false),
-        class(alloc, b"A", Some(b"A"), false),
+        summary(alloc, b"X", Some(b"A"), false),
+        summary(alloc, b"B", Some(b"B"), false),
+        summary(alloc, b"A", Some(b"A"), false),
     ];
     assert_eq!(rt;
         refusal(alloc, &second),
         Some(HierarchyFault::Cycle { name: b"B" })
     );
     let missing = [
-        class(alloc, OBJECT, None, false),
-        class(alloc, b"A", Some(b"B"), false),
+        summary(alloc, OBJECT, None, false),
+        summary(alloc, b"A", Some(b"B"), false),
     ];
     assert_eq!(rt;
         refusal(alloc, &missing),
@@ -119,8 +93,8 @@ fn refusals(rt: HostRuntime) -> Result<(), Fail> {
     );
     assert_eq!(rt; refusal(alloc, &[]), Some(HierarchyFault::NoObject));
     let bad = [
-        class(alloc, OBJECT, None, false),
-        class(alloc, b"java/lang/Cloneable", Some(OBJECT), false),
+        summary(alloc, OBJECT, None, false),
+        summary(alloc, b"java/lang/Cloneable", Some(OBJECT), false),
     ];
     assert_eq!(rt;
         refusal(alloc, &bad),
@@ -129,9 +103,9 @@ fn refusals(rt: HostRuntime) -> Result<(), Fail> {
         })
     );
     let wrong = [
-        class(alloc, OBJECT, None, false),
-        class(alloc, b"A", Some(OBJECT), false),
-        class(alloc, b"I", Some(b"A"), true),
+        summary(alloc, OBJECT, None, false),
+        summary(alloc, b"A", Some(OBJECT), false),
+        summary(alloc, b"I", Some(b"A"), true),
     ];
     assert_eq!(rt;
         refusal(alloc, &wrong),
@@ -146,10 +120,10 @@ fn refusals(rt: HostRuntime) -> Result<(), Fail> {
 fn want_of_memory(rt: HostRuntime) {
     let alloc = rt.alloc();
     let list = [
-        class(alloc, OBJECT, None, false),
-        class(alloc, b"A", Some(OBJECT), false),
-        class(alloc, b"I", Some(OBJECT), true),
-        class(alloc, b"C", Some(b"A"), false),
+        summary(alloc, OBJECT, None, false),
+        summary(alloc, b"A", Some(OBJECT), false),
+        summary(alloc, b"I", Some(OBJECT), true),
+        summary(alloc, b"C", Some(b"A"), false),
     ];
     match refusal(alloc, &list) {
         None => {}

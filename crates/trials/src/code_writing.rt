@@ -1,4 +1,4 @@
-use super::*;
+use insn::{Insn, Opcode, Operands, decode_code, encode_code};
 use layout::WriteFault;
 use std::test::*;
 
