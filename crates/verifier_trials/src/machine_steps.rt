@@ -1,8 +1,9 @@
 //! Steps of methods that are put together by hand.
-use crate::samples::{K, class, hasher, object, static_method, summary};
+use crate::making::{class, hasher, object, static_method, summary};
 use classfile::{ExceptionHandler, decode, form_check};
 use hierarchy::{Chains, OBJECT};
 use machine::{Choice, Method, Outcome, RunType, Slot, State, StepFault, Value, laws, step};
+use samples::K;
 use std::alloc::{AllocError, Global};
 use std::collections::BTreeMap;
 use std::process::Abort;

@@ -1,8 +1,9 @@
-use crate::samples::{K, hasher, summary};
+use crate::making::{hasher, summary};
 use classfile::{decode, form_check};
 use hierarchy::{
     Answer, Chains, Classes, HierarchyFault, Kind, MemberSummary, OBJECT, Summary, laws, summary_of,
 };
+use samples::K;
 use std::alloc::Global;
 use std::process::Abort;
 use std::test::Fail;

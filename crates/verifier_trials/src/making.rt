@@ -1,4 +1,4 @@
-//! What several tests stand on: a class file, classes put together by hand, hierarchies and frames.
+//! What several tests stand on: classes put together by hand, hierarchies and frames.
 ghost use Rattle.std.specs.Prelude.{◌≡◌, length, IfOk};
 
 use classfile::{Attribute, ClassFile, CodeAttr, ExceptionHandler, Member, NestedAttribute};
@@ -9,15 +9,6 @@ use pool::{Constant, Pool};
 use std::alloc::{AllocError, Global};
 use std::hash::{BuildHasherDefault, FoldHasher};
 use std::process::Abort;
-
-/// The class file of a class with one static method, `f`, which returns.
-pub const K: [u8; 97] = [
-    0xCA, 0xFE, 0xBA, 0xBE, 0, 0, 0, 0x34, 0, 8, 7, 0, 2, 1, 0, 1, 0x4B, 7, 0, 4, 1, 0, 0x10, 0x6A,
-    0x61, 0x76, 0x61, 0x2F, 0x6C, 0x61, 0x6E, 0x67, 0x2F, 0x4F, 0x62, 0x6A, 0x65, 0x63, 0x74, 1, 0,
-    1, 0x66, 1, 0, 3, 0x28, 0x29, 0x56, 1, 0, 4, 0x43, 0x6F, 0x64, 0x65, 0, 0x21, 0, 1, 0, 3, 0, 0,
-    0, 0, 0, 1, 0, 9, 0, 5, 0, 6, 0, 1, 0, 7, 0, 0, 0, 0x0D, 0, 0, 0, 0, 0, 0, 0, 1, 0xB1, 0, 0, 0,
-    0, 0, 0,
-];
 
 pub const STATIC: u16 = 0x0008;
 

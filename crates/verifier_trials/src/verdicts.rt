@@ -1,7 +1,8 @@
-use crate::samples::{Given, K, STATIC, class, hasher, object, static_method};
+use crate::making::{Given, STATIC, class, hasher, object, static_method};
 use classfile::{ExceptionHandler, decode, form_check};
 use hierarchy::{Chains, summary_of};
 use rules::Reason;
+use samples::K;
 use std::alloc::{AllocError, Global};
 use std::process::Abort;
 use std::test::Fail;

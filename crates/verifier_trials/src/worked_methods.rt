@@ -1,5 +1,5 @@
 //! The worked methods through each call that takes memory: where there is memory enough, none answers that it ran out.
-use crate::samples::{Given, class, hasher, object};
+use crate::making::{Given, class, hasher, object};
 use crate::verdicts::worked_methods;
 use classfile::{ClassFile, Formed, decode, encode, form_check};
 use frames::{Frame, VType};

@@ -1,4 +1,4 @@
-use crate::samples::{frame, hasher, object, summary};
+use crate::making::{frame, hasher, object, summary};
 use frames::{VType, assignable, frame_assignable, laws};
 use hierarchy::{Answer, Chains, Classes, OBJECT, Summary};
 use names::{Base, Primitive};

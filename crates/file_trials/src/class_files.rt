@@ -1,10 +1,10 @@
-use crate::samples::K;
 use classfile::{
     Attribute, CodeAttr, Member, NestedAttribute, class_or_fault, decode, encode, formed_has_names,
     formed_or_faulty, least_rule_is_told, no_fault_in_class, no_fault_in_formed, one_class,
     one_fault, one_first_fault, one_spelling, tests_are_forms,
 };
 use layout::{MAX_CLASS_BYTES, ReadFault, WriteFault};
+use samples::K;
 use std::alloc::{AllocError, Global};
 use std::process::Abort;
 use std::test::*;

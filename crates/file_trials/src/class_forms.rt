@@ -1,9 +1,9 @@
 use crate::class_files::changed;
-use crate::samples::K;
 use classfile::{
     ClassFile, CodeMethod, FormFault, FormRule, Formed, Member, Place, decode, form_check,
     method_is_told,
 };
+use samples::K;
 use std::alloc::{AllocError, Global};
 use std::process::Abort;
 use std::test::*;

@@ -1,4 +1,4 @@
-use crate::samples::{class_of, frame, hasher, object, utf8};
+use crate::making::{class_of, frame, hasher, object, utf8};
 use classfile::{Attribute, ClassFile, CodeAttr, Member, form_check};
 use frames::VType;
 use hierarchy::{Chains, OBJECT};
