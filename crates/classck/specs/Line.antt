@@ -2,6 +2,8 @@
 use Rattle.std.specs.Prelude.{◌≡◌, true, List, [], map, codes, Option, Some, Result, Ok, Err, string_bytes, bytes_eq, if◌then◌else◌, ℕ, ◌++◌}
 use Rattle.std.specs.Option.{option_map, unwrap_or}
 use Rattle.clap.specs.Lexer.{usize_max}
+use Rattle.clap.specs.declared.error.Error.{Error}
+use Rattle.clap.specs.declared.error.kind.ErrorKind.TheVariants as kind
 use Rattle.clap.specs.Words.{App, Row, Rule, Shape, Text, all_of, new_app, new_rule, with_rule, with_subcommand, subcommand_of, fault_of, Kinds, IsAmong, kind_of}
 use Rattle.classck.specs.declared.line.Command.{Command}
 use Rattle.classck.specs.declared.line.Command.TheVariants.{Check, Show, Verify}
@@ -59,6 +61,11 @@ asked = option_map (λ p. (command_named p.0, files_in (command_named p.0) p.1))
 abbrev pub IsFault : Kinds → LineFault → Type 0
 IsFault kinds OutOfMemory = Unit {0}
 IsFault kinds (NoRequest e) = IsAmong (kind_of e) kinds
+
+-- The fault that an error of `clap` is: want of memory where it says so, and otherwise the error itself.
+abbrev pub ToldBy : Error → LineFault → Type 0
+ToldBy e OutOfMemory = kind_of e ≡ kind.OutOfMemory
+ToldBy e (NoRequest f) = (f ≡ e) × (kind_of e ≡ kind.OutOfMemory → ⊥)
 
 -- What these words ask for, where `clap` takes them; otherwise one of the kinds of fault that it finds in them.
 abbrev pub Asks : List Text → Result Request LineFault → Type 0

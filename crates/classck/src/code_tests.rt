@@ -50,7 +50,13 @@ fn instructions_are_shown(rt: HostRuntime) -> Result<(), Fail> {
     ];
     for (code, lines) in rows {
         let class = with_code(&rt, rt.alloc(), code)?;
-        let (status, out) = answered(&rt, rt.alloc(), RandomState::new(&rt)?, Command::Show, &class)?;
+        let (status, out) = answered(
+            &rt,
+            rt.alloc(),
+            RandomState::new(&rt)?,
+            Command::Show,
+            &class,
+        )?;
         let mut want = HEAD.to_vec(rt.alloc())?;
         want.extend_from_slice(lines)?;
         assert!(rt; status == 0 && out.as_slice() == want.as_slice());
@@ -95,7 +101,13 @@ fn code_at_fault(rt: HostRuntime) -> Result<(), Fail> {
     ];
     for (code, shows, verdict) in rows {
         let class = with_code(&rt, rt.alloc(), code)?;
-        let (status, out) = answered(&rt, rt.alloc(), RandomState::new(&rt)?, Command::Show, &class)?;
+        let (status, out) = answered(
+            &rt,
+            rt.alloc(),
+            RandomState::new(&rt)?,
+            Command::Show,
+            &class,
+        )?;
         let mut want = HEAD.to_vec(rt.alloc())?;
         want.extend_from_slice(shows)?;
         assert!(rt; status == 1 && out.as_slice() == want.as_slice());

@@ -2,7 +2,7 @@
 ghost use Rattle.std.specs.Prelude.{◌≡◌, ◌++◌, IfOk, OnOk, codes, false, map, string_bytes};
 ghost use Rattle.clap.specs.Words.{Kinds, HasKind, app_of, rule_of, rows_of, found_of, new_app, with_rule};
 ghost use Rattle.clap.specs.declared.builder.command.Command.TheViews.{out-Command};
-ghost use Rattle.classck.specs.Line.{line, line_of_file, file, class_file, known_files, IsFault, Asks, command_named, words_for, files_in};
+ghost use Rattle.classck.specs.Line.{line, line_of_file, file, class_file, known_files, IsFault, ToldBy, Asks, command_named, words_for, files_in};
 
 use crate::line::{Command, LineFault, Request};
 use clap::{Arg, ArgMatches, Command as Parser};
@@ -157,7 +157,8 @@ fn command_named(name: &str) -> Command
 
 /// Why a line asks for nothing, of which `clap` says so.
 fn line_fault(error: clap::Error) -> LineFault
-    ensures { (kinds : Kinds) → HasKind kinds error → IsFault kinds result }
+    ensures kind { (kinds : Kinds) → HasKind kinds error → IsFault kinds result }
+    ensures told { ToldBy error result }
 {
     if matches!(error.kind(), clap::error::ErrorKind::OutOfMemory) {
         LineFault::OutOfMemory

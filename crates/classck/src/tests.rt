@@ -205,7 +205,13 @@ fn malformed_classes(rt: HostRuntime) -> Result<(), Fail> {
         let mut bytes = K.to_vec(rt.alloc())?;
         assert!(rt; place < bytes.len());
         bytes[place] = byte;
-        let (status, out) = answered(&rt, rt.alloc(), RandomState::new(&rt)?, Command::Check, &bytes)?;
+        let (status, out) = answered(
+            &rt,
+            rt.alloc(),
+            RandomState::new(&rt)?,
+            Command::Check,
+            &bytes,
+        )?;
         assert!(rt; status == 1 && out.as_slice() == line.as_bytes());
     }
     let mut bytes = K[..81].to_vec(rt.alloc())?;
@@ -213,7 +219,13 @@ fn malformed_classes(rt: HostRuntime) -> Result<(), Fail> {
     bytes.extend_from_slice(&K[82..89])?;
     bytes.push(0)?;
     bytes.extend_from_slice(&K[91..])?;
-    let (status, out) = answered(&rt, rt.alloc(), RandomState::new(&rt)?, Command::Check, &bytes)?;
+    let (status, out) = answered(
+        &rt,
+        rt.alloc(),
+        RandomState::new(&rt)?,
+        Command::Check,
+        &bytes,
+    )?;
     assert!(rt; status == 1 && out.as_slice() == b"refused 29 method 0\n".as_slice());
     Ok(())
 }

@@ -45,4 +45,4 @@ pub returns-in-Err : goal.returns-in-Err
 returns-in-Err c =
     let words : List Text = map (λ w. w.now) c.args.words.now in
     let is_line : app_of c.in_ok-parser.parser ≡ line = c.in_ok-parser.ensures in
-    subst (λ a. IsFault (fault_of a words) c.line_fault.result) is_line (c.line_fault.ensures (fault_of (app_of c.in_ok-parser.parser) words) (c.in-Err.ensures.kinds (ap is_simple_and_free is_line ∙ free)))
+    subst (λ a. IsFault (fault_of a words) c.line_fault.result) is_line (c.line_fault.ensures.kind (fault_of (app_of c.in_ok-parser.parser) words) (c.in-Err.ensures.kinds (ap is_simple_and_free is_line ∙ free)))
