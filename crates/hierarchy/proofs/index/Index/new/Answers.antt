@@ -1,4 +1,4 @@
-use Rattle.std.proofs.Common.{◌∙◌, ap, sym, refl, map, get_or, List, ℕ}
+use Rattle.std.proofs.Common.{rules, ◌∙◌, ap, sym, refl, map, get_or, List, ℕ}
 use Rattle.std.specs.Borrow.{Bor}
 use Rattle.std.specs.Str.{bytes_eq}
 use Rattle.std.specs.List.{list_any}
@@ -29,3 +29,6 @@ loop-i-preserved g c =
 
 pub returns-clause-ok : goal.returns-clause-ok
 returns-clause-ok g c = (refl, none_twice c.args.classes.now c.loop-i.names.keys (filled_all c.args.classes.now c.loop-i.names.keys c.loop-i.i c.loop-i-test.false c.loop-i.invariant.named) c.loop-i.invariant.distinct)
+
+pub returns-then-not-added-clause-err : goal.returns-then-not-added-clause-err
+returns-then-not-added-clause-err g c = search rules

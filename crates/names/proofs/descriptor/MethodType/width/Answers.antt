@@ -1,4 +1,4 @@
-use Rattle.std.proofs.Common.{arith}
+use Rattle.std.proofs.Common.{rules, arith}
 use Rattle.names.specs.declared.base.Base.TheVariants.{Primitive}
 use Rattle.names.specs.declared.base.Primitive.TheVariants.{Byte}
 use Rattle.names.specs.declared.descriptor.FieldType.{FieldType}
@@ -11,3 +11,6 @@ loop-param-preserved c =
     let none : FieldType = record { dims = 0; base = Primitive Byte } in
     let more = one_more_width c.args.self.now.params.items c.loop-param.param-index none (rw c.deref-param-items.ensures.value at c.loop-param-test.true) in
     record { so_far = omega (arith, width, more); few = omega (arith, width, width_at_most_two) }
+
+pub loop-param-init : goal.loop-param-init
+loop-param-init c = search rules
