@@ -1,4 +1,4 @@
-use Rattle.std.proofs.Common.{rules, ◌≡◌, ◌∷◌, ◌++◌, [], refl, sym, ap, ◌∙◌, arith, inr}
+use Rattle.std.proofs.Common.{◌≡◌, ◌∷◌, ◌++◌, [], refl, sym, ap, ◌∙◌, arith, inr}
 use Rattle.names.specs.Descriptors.{right_parenthesis}
 use Rattle.names.specs.ReadTypes.{type_read}
 use Rattle.names.proofs.Kept.{params_end, params_fail, one_type_more, field_shorter, stop_shorter}
