@@ -3,8 +3,8 @@ use Rattle.std.specs.Prelude.{ℕ, ◌≤◌}
 use Rattle.classck.specs.declared.ending.Ending.{Ending}
 use Rattle.classck.specs.declared.ending.Ending.TheVariants.{Line, NoText, Fault}
 use Rattle.classck.specs.declared.fault.MainFault.TheVariants.{NoRandom, CannotOpen, Memory, NotWritten}
-use Rattle.classck.specs.declared.fault.AnswerFault.{AnswerFault}
-use Rattle.classck.specs.declared.fault.AnswerFault.TheVariants as answering
+use Rattle.answers.specs.declared.fault.AnswerFault.{AnswerFault}
+use Rattle.answers.specs.declared.fault.AnswerFault.TheVariants as answering
 use Rattle.classck.specs.declared.line.LineFault.{LineFault}
 use Rattle.classck.specs.declared.line.LineFault.TheVariants as parsing
 

@@ -5,8 +5,8 @@ use Rattle.clap.specs.Lexer.{usize_max}
 use Rattle.clap.specs.declared.error.Error.{Error}
 use Rattle.clap.specs.declared.error.kind.ErrorKind.TheVariants as kind
 use Rattle.clap.specs.Words.{App, Row, Rule, Shape, Text, all_of, new_app, new_rule, with_rule, with_subcommand, subcommand_of, fault_of, Kinds, IsAmong, kind_of}
-use Rattle.classck.specs.declared.line.Command.{Command}
-use Rattle.classck.specs.declared.line.Command.TheVariants.{Check, Show, Verify}
+use Rattle.answers.specs.declared.command.Command.{Command}
+use Rattle.answers.specs.declared.command.Command.TheVariants.{Check, Show, Verify}
 use Rattle.classck.specs.declared.line.Request.{Request}
 use Rattle.classck.specs.declared.line.LineFault.{LineFault}
 use Rattle.classck.specs.declared.line.LineFault.TheVariants.{OutOfMemory, NoRequest}

@@ -2,8 +2,8 @@
 use Rattle.std.specs.Prelude.{◌≡◌, ℕ, List, Option, Result, Ok, Err}
 use Rattle.std.specs.Io.KnownBytes.{Appends}
 use Rattle.printing.specs.Writing.{AppendsFront}
-use Rattle.classck.specs.declared.fault.AnswerFault.{AnswerFault}
-use Rattle.classck.specs.declared.fault.AnswerFault.TheVariants as faults
+use Rattle.answers.specs.declared.fault.AnswerFault.{AnswerFault}
+use Rattle.answers.specs.declared.fault.AnswerFault.TheVariants as faults
 
 -- the text was written, or a write failed and a beginning of it was
 abbrev pub WritesOrFails : Option (List ℕ) → Option (List ℕ) → List ℕ → Result (Unit {0}) AnswerFault → Type 0

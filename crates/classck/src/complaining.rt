@@ -2,7 +2,8 @@
 ghost use Rattle.classck.specs.Texts.{complaint_text};
 ghost use Rattle.classck.specs.Writing.{WritesOrFails};
 
-use crate::fault::{AnswerFault, MainFault};
+use crate::fault::MainFault;
+use answers::AnswerFault;
 use printing::{Number, Print, Then, Word, WriteFailed};
 use std::io::Write;
 

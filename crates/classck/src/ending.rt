@@ -5,8 +5,9 @@ ghost use Rattle.classck.specs.declared.fault.MainFault.TheVariants.{Memory};
 ghost use Rattle.classck.specs.Endings.{line_ending, answer_ending};
 
 use crate::complaining::complaint;
-use crate::fault::{AnswerFault, MainFault};
+use crate::fault::MainFault;
 use crate::line::LineFault;
+use answers::AnswerFault;
 use std::alloc::{AllocError, AllocFailed};
 
 /// Why the program ends with status 2.

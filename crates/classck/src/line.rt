@@ -2,19 +2,8 @@
 ghost use Rattle.std.specs.Prelude.{◌≡◌};
 ghost use Rattle.classck.specs.declared.line.LineFault.TheVariants.{OutOfMemory};
 
+use answers::Command;
 use std::alloc::{AllocError, AllocFailed};
-
-/// The commands of the program.
-#[derive(Clone, Copy, Debug, PartialEq, Eq)]
-pub enum Command {
-    /// `check FILE`: whether the file is a class file that is well formed.
-    Check,
-    /// `show FILE`: what the class file holds.
-    Show,
-    /// `verify CLASS KNOWN...`: the verdicts on the methods of the class in the first file, which may refer to the classes
-    /// in the others.
-    Verify,
-}
 
 /// What a command line asks for.
 #[derive(Debug, Drop)]

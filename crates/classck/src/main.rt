@@ -1,37 +1,25 @@
 //! `classck`: verifies Java class files by type checking.
 //!
-//! `main` reads the line (`parsing`), opens and reads the files (`reading`), answers (`answering`, with a module for
-//! each command: `checking`, `showing`, `verifying`), and prints the answer, or why there is none (`complaining`). What is said is
-//! decided first (`forming`), and then written (`telling`, `refusal`).
+//! `main` reads the line (`parsing`), opens and reads the files (`reading`), answers (the library `answers`), and prints
+//! the answer, or why there is none (`ending`, `complaining`).
 #![tactic(auto)]
 
-mod answering;
-mod checking;
-#[cfg(test)]
-mod code_tests;
 mod complaining;
 mod ending;
 mod fault;
-mod forming;
-mod laws;
 mod line;
 mod parsing;
 mod reading;
-mod refusal;
-mod showing;
-mod telling;
 #[cfg(test)]
 mod tests;
-mod verdicts;
-mod verifying;
 
-use crate::answering::answer;
 use crate::complaining::complaint;
 use crate::ending::Ending;
 use crate::fault::MainFault;
 use crate::line::Request;
 use crate::parsing::request;
 use crate::reading::read_all;
+use answers::answer;
 use std::hash::RandomState;
 use std::io::{BufWriter, ErrorKind, Write};
 use std::process::ExitCode;
@@ -63,7 +51,7 @@ fn run(rt: &HostRuntime) -> Result<u8, Ending> {
     let Ok(mut out) = BufWriter::new(rt.alloc(), rt.stdout()) else {
         return Err(Ending::Fault(MainFault::Memory));
     };
-    let status = answer(rt.alloc(), &request, &reads, hasher, &mut out)?;
+    let status = answer(rt.alloc(), request.command, &reads, hasher, &mut out)?;
     match out.flush() {
         Ok(()) => Ok(status),
         Err(_) => Err(Ending::Fault(MainFault::NotWritten)),

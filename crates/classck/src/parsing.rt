@@ -4,7 +4,8 @@ ghost use Rattle.clap.specs.Words.{Kinds, HasKind, app_of, rule_of, rows_of, fou
 ghost use Rattle.clap.specs.declared.builder.command.Command.TheViews.{out-Command};
 ghost use Rattle.classck.specs.Line.{line, line_of_file, file, class_file, known_files, IsFault, ToldBy, Asks, command_named, words_for, files_in};
 
-use crate::line::{Command, LineFault, Request};
+use crate::line::{LineFault, Request};
+use answers::Command;
 use clap::{Arg, ArgMatches, Command as Parser};
 use std::alloc::{AllocError, Global};
 

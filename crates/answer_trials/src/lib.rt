@@ -1,0 +1,17 @@
+//! The tests of the public calls of `answers`. They stand in crates of their own, so that each library is proved once and not a second time with its tests.
+//!
+//! | File | What it tests |
+//! |---|---|
+//! | `files` | what each command answers of files, read or not |
+//! | `code` | a method's code: what `show` and `verify` say of it |
+//! | `making` | what both stand on |
+//!
+//! A test with `memory` in its name passes also where any one allocation fails; `tests/allocations` runs those so.
+#![tactic(auto)]
+
+#[cfg(test)]
+mod code;
+#[cfg(test)]
+mod files;
+#[cfg(test)]
+mod making;

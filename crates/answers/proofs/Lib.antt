@@ -1,0 +1,5 @@
+pub mod OneFile
+pub mod OneVerify
+pub mod OneAnswer
+pub mod Tellings
+pub mod Summaries

@@ -1,0 +1,46 @@
+-- Files that are classes, one behind the other.
+use Rattle.std.proofs.Common.{◌≡◌, ℕ, zero, suc, ◌<◌, List, [], ◌∷◌, ◌++◌, take, Some, None, Ok, Err, subst, arith}
+use Rattle.std.specs.Prelude.{slice_get}
+use Rattle.classfile.specs.Values.{Class}
+use Rattle.classfile.specs.WellFormed.{WellFormed}
+use Rattle.classfile.specs.declared.class_file.ClassFile.{ClassFile}
+use Rattle.classfile.specs.Views.{class_view}
+use Rattle.answers.specs.Answers.{Forms}
+use Rattle.answers.specs.Files.{Read, IsDecoded, IsFormed, IsRefused}
+use Rattle.answers.specs.declared.refusal.Refusal.{Refusal}
+use Rattle.answers.specs.declared.refusal.Refusal.TheVariants.{Unread, NoClass, Malformed}
+use Rattle.answers.specs.Verdicts.{AreFormed}
+
+some_same : {A : Type 0} (a b : A) → Some a ≡ Some b → a ≡ b
+some_same a b e = cc
+
+none_some : {A : Type 0} (a : A) → None ≡ Some a → ⊥
+none_some a e = cc
+
+-- a class that was decoded and is well formed
+pub decoded_formed : (read : Read) (c : Class) → IsDecoded read c → WellFormed c → IsFormed read c
+decoded_formed (Ok bytes) c is formed = (is, formed)
+decoded_formed (Err e) c is formed = is
+
+-- a class that was decoded and breaks a rule
+pub refused_by : (read : Read) (class : ClassFile) (refusal : Refusal) → IsDecoded read (class_view class) → Forms class (Ok (Err refusal)) → IsRefused read refusal
+refused_by (Ok bytes) class (Unread e) is broken = absurd broken
+refused_by (Ok bytes) class (NoClass e) is broken = absurd broken
+refused_by (Ok bytes) class (Malformed rule place) is broken = (class_view class, is, broken)
+refused_by (Err e) class refusal is broken = absurd is
+
+-- one file more
+pub one_more_formed : (reads : List Read) (cs : List Class) (read : Read) (c : Class) → AreFormed reads cs → IsFormed read c → AreFormed (reads ++ read ∷ []) (cs ++ c ∷ [])
+one_more_formed [] [] read c all one = (one, tt)
+one_more_formed [] (d ∷ cs) read c all one = absurd all
+one_more_formed (r ∷ reads) [] read c all one = absurd all
+one_more_formed (r ∷ reads) (d ∷ cs) read c all one = (all.0, one_more_formed reads cs read c all.1 one)
+
+-- each of the first files is a class
+pub earlier_formed : (reads : List Read) (i : ℕ) (cs : List Class) → AreFormed (take i reads) cs
+    → (j : ℕ) → j < i → (other : Read) → slice_get reads j ≡ Some other → (c : Class) × IsFormed other c
+earlier_formed [] i cs all j lt other e = absurd (none_some other e)
+earlier_formed (r ∷ reads) zero cs all j lt other e = absurd (omega (arith, lt))
+earlier_formed (r ∷ reads) (suc i) [] all j lt other e = absurd all
+earlier_formed (r ∷ reads) (suc i) (c ∷ cs) all zero lt other e = (c, subst (λ x. IsFormed x c) (some_same r other e) all.0)
+earlier_formed (r ∷ reads) (suc i) (c ∷ cs) all (suc j) lt other e = earlier_formed reads i cs all.1 j (omega (arith, lt)) other e

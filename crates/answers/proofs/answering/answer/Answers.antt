@@ -1,0 +1,35 @@
+use Rattle.std.proofs.Common.{◌≡◌, ◌≤◌, ◌∙◌, ◌-◌, take, length, map, List, [], ◌∷◌, slice_index_or, drop, sym, ap, subst, arith, refl}
+use Rattle.std.proofs.lemmas.List.{take_all, length-drop}
+use Rattle.answers.specs.Verdicts.{VerifySays}
+use Rattle.answers.specs.Answers.{Answered, Says}
+use Rattle.answers.specs.Files.{read_view}
+use Rattle.answers.proofs.answering.answer.Goals as goal
+
+first : {X Y : Type 0} (f : X → Y) (xs : List X) (d : X) → 1 ≤ length xs → map f xs ≡ f (slice_index_or xs 0 d) ∷ map f (drop 1 xs)
+first f (x ∷ xs) d le = refl
+first f [] d le = absurd (omega arith)
+
+split : {X Y : Type 0} (f : X → Y) (xs : List X) (x : X) → 1 ≤ length xs → x ≡ slice_index_or xs 0 x → map f xs ≡ f x ∷ map f (drop 1 xs)
+split f xs x some is = first f xs x some ∙ ap (λ r. f r ∷ map f (drop 1 xs)) (sym is)
+
+pub returns-in-Check-clause-answered : goal.returns-in-Check-clause-answered
+returns-in-Check-clause-answered g c =
+    let held = g.W.Write.contents in
+    let read = c.read-item.result in
+    rw (split read_view c.args.reads.now read c.in-len1-up.len_at_least c.read-item.is) (subst (λ command. Answered (Says command (read_view read ∷ map read_view (drop 1 c.args.reads.now))) (held c.args.out.now) (held c.check.new.out) c.check.result) (sym c.in-Check.is) c.check.ensures)
+
+pub returns-in-Show-clause-answered : goal.returns-in-Show-clause-answered
+returns-in-Show-clause-answered g c =
+    let held = g.W.Write.contents in
+    let read = c.read-item.result in
+    rw (split read_view c.args.reads.now read c.in-len1-up.len_at_least c.read-item.is) (subst (λ command. Answered (Says command (read_view read ∷ map read_view (drop 1 c.args.reads.now))) (held c.args.out.now) (held c.show.new.out) c.show.result) (sym c.in-Show.is) c.show.ensures)
+
+pub returns-in-Verify-clause-answered : goal.returns-in-Verify-clause-answered
+returns-in-Verify-clause-answered g c =
+    let held = g.W.Write.contents in
+    let reads = c.args.reads.now in
+    let read = c.read-item.result in
+    let all : take (length reads - 1) (drop 1 reads) ≡ drop 1 reads = take_all (length reads - 1) (drop 1 reads) (omega (arith, length-drop 1 reads)) in
+    rw (split read_view reads read c.in-len1-up.len_at_least c.read-item.is)
+    (subst (λ command. Answered (Says command (read_view read ∷ map read_view (drop 1 reads))) (held c.args.out.now) (held c.verify.new.out) c.verify.result) (sym c.in-Verify.is)
+    (subst (λ known. Answered (VerifySays (read_view read) (map read_view known)) (held c.args.out.now) (held c.verify.new.out) c.verify.result) all c.verify.ensures))

@@ -1,0 +1,5 @@
+pub mod Answers
+pub mod Laws
+pub mod Texts
+pub mod Files
+pub mod Verdicts

@@ -1,0 +1,64 @@
+//! Answers a command.
+ghost use Rattle.std.specs.Prelude.{◌≡◌, map, Err, true};
+ghost use Rattle.answers.specs.Answers.{Answered, Says, has_lost, is_lost};
+ghost use Rattle.answers.specs.Files.{read_view};
+ghost use Rattle.answers.specs.declared.fault.AnswerFault.TheVariants.{OutOfMemory};
+
+use crate::checking::check;
+use crate::command::Command;
+use crate::fault::AnswerFault;
+use crate::showing::show;
+use crate::verifying::verify;
+use layout::{ReadFault, StreamFault};
+use std::alloc::Global;
+use std::hash::BuildHasher;
+use std::io::Write;
+
+/// Writes the answer to a command, of whose files each was read so, and gives the status that goes with it. Of no file
+/// nothing is said.
+///
+/// 1 where memory ran out, also while a file was read: then nothing was written. 19 where a write fails or takes
+/// nothing: then what went out is a beginning of the text.
+pub fn answer<W: Write, S: BuildHasher + Drop>(
+    alloc: Global,
+    command: Command,
+    reads: &[Result<Vec<u8>, StreamFault>],
+    hasher: S,
+    out: &mut W,
+) -> Result<u8, AnswerFault>
+    ensures answered { Answered (Says command (map read_view reads.now)) (W.contents out.old) (W.contents out.new) result }
+    ensures memory { has_lost (map read_view reads.now) ≡ true → result ≡ Err OutOfMemory }
+{
+    if has_lost(reads) {
+        return Err(AnswerFault::OutOfMemory);
+    }
+    match reads {
+        [] => Ok(0),
+        [read, known @ ..] => match command {
+            Command::Check => check(alloc, read, out),
+            Command::Show => show(alloc, read, out),
+            Command::Verify => verify(alloc, read, known, hasher, out),
+        },
+    }
+}
+
+fn is_lost(read: &Result<Vec<u8>, StreamFault>) -> bool
+    ensures { result ≡ is_lost (read_view read.now) }
+{
+    match read {
+        Err(fault) => matches!(fault.why, ReadFault::OutOfMemory),
+        Ok(_) => false,
+    }
+}
+
+/// Whether memory ran out while one of the files was read.
+fn has_lost(reads: &[Result<Vec<u8>, StreamFault>]) -> bool
+    ensures { result ≡ has_lost (map read_view reads.now) }
+{
+    for read in reads {
+        if is_lost(read) {
+            return true;
+        }
+    }
+    false
+}

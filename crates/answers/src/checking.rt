@@ -1,0 +1,26 @@
+//! The command `check`: whether a file is a class file that is well formed.
+ghost use Rattle.answers.specs.Answers.{Answered, CheckTells, FileSays};
+ghost use Rattle.answers.specs.Files.{read_view};
+
+use crate::fault::AnswerFault;
+use crate::forming::class_of;
+use crate::telling::{refuse, tell};
+use layout::StreamFault;
+use printing::Word;
+use std::alloc::Global;
+use std::io::Write;
+
+/// Answers `check` of a file that was read so.
+pub fn check<W: Write>(
+    alloc: Global,
+    read: &Result<Vec<u8>, StreamFault>,
+    out: &mut W,
+) -> Result<u8, AnswerFault>
+    ensures { Answered (FileSays CheckTells (read_view read.now)) (W.contents out.old) (W.contents out.new) result }
+{
+    match class_of(alloc, read) {
+        Ok(Ok(_)) => tell(&Word("ok\n"), 0, out),
+        Ok(Err(refusal)) => refuse(refusal, out),
+        Err(fault) => Err(fault),
+    }
+}

@@ -1,0 +1,26 @@
+//! Why there is no answer.
+ghost use Rattle.std.specs.Prelude.{◌≡◌};
+
+use printing::WriteFailed;
+use thiserror::Error;
+
+/// Why an answer was not written whole.
+#[derive(Clone, Copy, Debug, Error)]
+pub enum AnswerFault {
+    /// 1: memory ran out, and nothing was written.
+    #[error("refused 1")]
+    OutOfMemory,
+    /// 19: a write failed or took nothing, and what went out is a beginning of the text.
+    #[error("refused 19")]
+    WriteFailed,
+}
+
+impl From<WriteFailed> for AnswerFault {
+    ghost use Rattle.answers.specs.declared.fault.AnswerFault.TheVariants as faults;
+
+    ghost from_gives = { λ _ e. e ≡ faults.WriteFailed };
+
+    fn from(_failed: WriteFailed) -> AnswerFault {
+        AnswerFault::WriteFailed
+    }
+}

@@ -1,0 +1,20 @@
+//! What follows of the definition of answers alone.
+ghost use Rattle.answers.specs.Laws.{OneAnswer};
+
+use classfile::{no_fault_in_class, no_fault_in_formed, one_class, one_fault, one_first_fault};
+use hierarchy::laws::{faults_break_rules, one_hierarchy_fault};
+use verify::one_report;
+
+/// To a command whose files were read so there is one text and one status.
+pub fn one_answer()
+    ensures { OneAnswer }
+{
+    one_class();
+    no_fault_in_class();
+    one_fault();
+    no_fault_in_formed();
+    one_first_fault();
+    faults_break_rules();
+    one_hierarchy_fault();
+    one_report();
+}

@@ -1,0 +1,22 @@
+//! What is answered of files, once they are read: a text and a status.
+//!
+//! `answer` (`answering`) answers each [`Command`], with a module for each: `checking`, `showing`, `verifying`. What is
+//! said is decided first (`forming`), and then written (`telling`, `refusal`, `verdicts`).
+#![tactic(auto)]
+
+mod answering;
+mod checking;
+mod command;
+mod fault;
+mod forming;
+mod laws;
+mod refusal;
+mod showing;
+mod telling;
+mod verdicts;
+mod verifying;
+
+pub use answering::answer;
+pub use command::Command;
+pub use fault::AnswerFault;
+pub use laws::one_answer;

@@ -1,0 +1,29 @@
+//! The command `show`: what a class file holds.
+ghost use Rattle.answers.specs.Answers.{Answered, ShowTells, FileSays};
+ghost use Rattle.answers.specs.Files.{read_view};
+
+use crate::fault::AnswerFault;
+use crate::forming::class_of;
+use crate::telling::{refuse, tell};
+use layout::StreamFault;
+use printing::Listing;
+use std::alloc::Global;
+use std::io::Write;
+
+/// Answers `show` of a file that was read so.
+pub fn show<W: Write>(
+    alloc: Global,
+    read: &Result<Vec<u8>, StreamFault>,
+    out: &mut W,
+) -> Result<u8, AnswerFault>
+    ensures { Answered (FileSays ShowTells (read_view read.now)) (W.contents out.old) (W.contents out.new) result }
+{
+    match class_of(alloc, read) {
+        Ok(Ok(class)) => {
+            let listing = Listing(&class);
+            tell(&listing, u8::from(listing.is_refused()), out)
+        }
+        Ok(Err(refusal)) => refuse(refusal, out),
+        Err(fault) => Err(fault),
+    }
+}

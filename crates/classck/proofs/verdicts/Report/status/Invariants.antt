@@ -1,8 +1,0 @@
--- None so far is refused, so it rests with the others.
-use Rattle.std.proofs.Common.{◌≡◌, drop}
-use Rattle.std.specs.List.{list_any}
-use Rattle.classck.specs.Verdicts.{is_refusal}
-use Rattle.classck.proofs.verdicts.Report.status.Given as goal
-
-abbrev pub invariant-loop-method : goal.invariant-loop-method
-invariant-loop-method l = list_any (λ r. is_refusal r.verdict) l.self.0.now ≡ list_any (λ r. is_refusal r.verdict) (drop l.method-index l.self.0.now)
