@@ -121,6 +121,7 @@ fn a_lost_file(rt: HostRuntime) -> Result<(), Fail> {
 }
 
 /// Files, what is asked of them, and what is answered: a status and a text.
+#[derive(Clone, Copy)]
 struct Row<'a> {
     command: Command,
     files: &'a [&'a [u8]],

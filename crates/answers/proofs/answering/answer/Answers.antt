@@ -1,4 +1,4 @@
-use Rattle.std.proofs.Common.{◌≡◌, ◌≤◌, ◌∙◌, ◌-◌, take, length, map, List, [], ◌∷◌, slice_index_or, drop, sym, ap, subst, arith, refl}
+use Rattle.std.proofs.Common.{rules, ◌≡◌, ◌≤◌, ◌∙◌, ◌-◌, take, length, map, List, [], ◌∷◌, slice_index_or, drop, sym, ap, subst, arith, refl}
 use Rattle.std.proofs.lemmas.List.{take_all, length-drop}
 use Rattle.answers.specs.Verdicts.{VerifySays}
 use Rattle.answers.specs.Answers.{Answered, Says}
@@ -33,3 +33,12 @@ returns-in-Verify-clause-answered g c =
     rw (split read_view reads read c.in-len1-up.len_at_least c.read-item.is)
     (subst (λ command. Answered (Says command (read_view read ∷ map read_view (drop 1 reads))) (held c.args.out.now) (held c.verify.new.out) c.verify.result) (sym c.in-Verify.is)
     (subst (λ known. Answered (VerifySays (read_view read) (map read_view known)) (held c.args.out.now) (held c.verify.new.out) c.verify.result) all c.verify.ensures))
+
+pub returns-in-Check-clause-memory : goal.returns-in-Check-clause-memory
+returns-in-Check-clause-memory g c = search rules
+
+pub returns-in-Show-clause-memory : goal.returns-in-Show-clause-memory
+returns-in-Show-clause-memory g c = search rules
+
+pub returns-in-Verify-clause-memory : goal.returns-in-Verify-clause-memory
+returns-in-Verify-clause-memory g c = search rules
