@@ -17,7 +17,7 @@ pub enum FormRule {
     BadName,
     /// 23: a descriptor is not of its form or beyond its limits (JVMS 4.3).
     BadDescriptor,
-    /// 24: access flags stand together that may not (JVMS 4.1, 4.5, 4.6).
+    /// 24: access flags stand together that may not, or one stands without another that it needs (JVMS 4.1, 4.5, 4.6).
     BadFlags,
     /// 25: an earlier field (method) has this name and descriptor (JVMS 4.5, 4.6).
     Twice,

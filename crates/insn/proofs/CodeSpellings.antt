@@ -60,9 +60,6 @@ pub record SoFarWritten (all rest : List Instruction) (out : List ℕ) : Type 0 
   pub code : SpellsCode 0 out list
   pub long : length out ≡ code_size (instructions list)
 
-pub written_begin : (all : List Instruction) → SoFarWritten all all []
-written_begin all = record { list = []; same = refl; code = refl; long = refl }
-
 instructions_append : (xs ys : List (ℕ × Instruction)) → instructions (xs ++ ys) ≡ instructions xs ++ instructions ys
 instructions_append [] ys = refl
 instructions_append (x ∷ xs) ys = ap (λ (t : List Instruction). x.1 ∷ t) (instructions_append xs ys)

@@ -1,8 +1,7 @@
 -- What comes of a choice is what the calls answer that go on and that raise.
-use Rattle.std.specs.Prelude.{pos, nat_le, nat_eq}
-use Rattle.std.proofs.Common.{◌≡◌, ℕ, ◌+◌, true, false, List, [], ◌∷◌, ◌++◌, length, drop, slice_get, Option, Some, None, Result, Ok, Err, refl, sym, ap, ◌∙◌, subst, arith, inl, inr}
+use Rattle.std.specs.Prelude.{pos, nat_le}
+use Rattle.std.proofs.Common.{◌≡◌, ℕ, ◌+◌, true, false, List, [], ◌∷◌, ◌++◌, drop, slice_get, Option, Some, None, Result, Ok, Err, refl, sym, ap, ◌∙◌, subst, inl, inr}
 use Rattle.std.proofs.lemmas.Bool.{false≢true}
-use Rattle.std.proofs.lemmas.Bool.Decides.{nat_tests}
 use Rattle.names.specs.ReferenceTypes.{ReferenceType}
 use Rattle.hierarchy.specs.World.{World}
 use Rattle.classfile.specs.Methods.{Method}
@@ -21,35 +20,16 @@ use Rattle.machine.specs.Heap.{Heap, with_fresh}
 use Rattle.machine.specs.Tasks.{falls, targets, task}
 use Rattle.machine.specs.Demands.{State, IsNoFault}
 use Rattle.machine.specs.Steps.{go, raise, Outcome, goes_on, ended, Replies, Does, IsBranch, Steps, IsLast, Ends as EndsBy, Happens}
-use Rattle.machine.specs.Decided.{has_kinds, is_number, form_for, paired_behind}
+use Rattle.machine.specs.Decided.{has_kinds, is_number, form_for}
 use Rattle.machine.specs.Deeds.{reply_view, task_view, given, held, rearranged_by}
 use Rattle.machine.specs.Demanded.{has_operands, Meets}
-use Rattle.machine.specs.Happening.{HasPlace, is_last, state_after, IsAsked, GoesOn, Stays, Goes, Raises, Stepped}
+use Rattle.machine.specs.Happening.{is_last, state_after, IsAsked, GoesOn, Stays, Goes, Raises, Stepped}
 use Rattle.machine.specs.Views.{state_view}
 use Rattle.machine.proofs.Faults.{split, some_is, form_chosen, number_is, held_number, kinds_beneath, no_targets}
 use Rattle.machine.proofs.Deciding.{no_fault}
 
 pub nowhere : (world : World) (m : Method Act) (s : State) → at_offset m.code s.at ≡ None → IsNoFault world m s → ⊥
 nowhere world m s e n = cc (e, n.here)
-
--- what is written has its place
-place_fits : (d : Deed) (limit n : ℕ) (vs : List Value) (ls : List Slot) → has_operands limit d vs ls ≡ true → n ≡ limit → HasPlace d n
-place_fits (Operates needs reply) limit n vs ls e f = tt
-place_fits (Reads kind local) limit n vs ls e f = tt
-place_fits (Writes kind local) limit n vs ls e f =
-    let le : nat_le (local + kind_units kind) limit ≡ true = (split (has_kinds (kind ∷ []) vs) (nat_le (local + kind_units kind) limit) e).1 in
-    grind (arith, nat_tests, le, f)
-place_fits (Increments local) limit n vs ls e f = tt
-place_fits (Moves operator) limit n vs ls e f = tt
-place_fits (Leaves kind) limit n vs ls e f = tt
-place_fits Ends limit n vs ls e f = tt
-place_fits Stuck limit n vs ls e f = tt
-
-pub has_place : (m : Method Act) (d : Deed) (next : Option ℕ) (s : State) → Meets m d next s → HasPlace d (length s.locals)
-has_place m d next s p =
-    let same : nat_eq (length s.locals) m.max_locals ≡ true = (split (nat_eq (length s.locals) m.max_locals) (paired_behind false s.locals) p.locals).0 in
-    let e : length s.locals ≡ m.max_locals = grind (arith, nat_tests, same) in
-    place_fits d m.max_locals (length s.locals) s.stack s.locals p.operands e
 
 -- ---- an instruction
 

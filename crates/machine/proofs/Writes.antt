@@ -78,12 +78,6 @@ behind_length n [] = refl
 behind_length zero (s ∷ ss) = ap suc (lost_length (is_wide_slot s) ss)
 behind_length (suc n) (s ∷ ss) = ap suc (behind_length n ss)
 
-pub length_before : (n : ℕ) (old new : List RawSlot) → locals_of new ≡ with_before n (locals_of old) → length new ≡ length old
-length_before n old new e = sym (length-map new slot_view) ∙ ap length e ∙ before_length n (locals_of old) ∙ length-map old slot_view
-
-pub length_behind : (n : ℕ) (old new : List RawSlot) → locals_of new ≡ with_behind n (locals_of old) → length new ≡ length old
-length_behind n old new e = sym (length-map new slot_view) ∙ ap length e ∙ behind_length n (locals_of old) ∙ length-map old slot_view
-
 module _ (n : ℕ) (v : RawSlot) (w : Value) (is : slot_view v ≡ holds w) (old before behind : List RawSlot) where
   pub stored_narrow : locals_of before ≡ with_before n (locals_of old) → locals_of behind ≡ with_behind n (locals_of before) → is_wide_value w ≡ false → n < length old → locals_of (set behind n v) ≡ stored w n (locals_of old)
   stored_narrow e f k lt =

@@ -30,9 +30,6 @@ or_no false b h = rw h refl
 still : (types : List FieldDescriptor) (t : FieldDescriptor) (deep : Bool) → is_deep t ≡ false → deep ≡ list_any is_deep types → deep ≡ list_any is_deep (types ++ t ∷ [])
 still types t deep h e = e ∙ sym (or_no (list_any is_deep types) (is_deep t) h) ∙ sym (deep_more types t)
 
-pub keeps_none : Keeps [] false false []
-keeps_none = record { is_deep_known = refl; few = omega arith; all = λ d w. refl; many = λ d w. absurd (true≢false (sym w)) }
-
 pub keeps_deep : (kept : List FieldType) (deep wide : Bool) (types : List FieldDescriptor) (t : FieldDescriptor) → is_deep t ≡ true → Keeps kept deep wide types → Keeps kept true wide (types ++ t ∷ [])
 keeps_deep kept deep wide types t h k =
     record {
@@ -71,9 +68,6 @@ too_many_types types o receiver h = omega (arith, many_are_wide types)
 
 deep_types : (types : List FieldDescriptor) (o : Option FieldDescriptor) → list_any is_deep (field_types (method_type types o)) ≡ (list_any is_deep types || list_any is_deep (result_types o))
 deep_types types o = list_any-append is_deep types (result_types o)
-
-pub limited_by_param : (receiver : Bool) (types : List FieldDescriptor) (o : Option FieldDescriptor) → list_any is_deep types ≡ true → limited_method receiver (Ok (method_type types o)) ≡ Err TooManyDimensions
-limited_by_param receiver types o h = cond-true (list_any is_deep (field_types (method_type types o))) _ _ (deep_types types o ∙ or_left (list_any is_deep types) (list_any is_deep (result_types o)) h)
 
 pub limited_by_result : (receiver : Bool) (types : List FieldDescriptor) (t : FieldDescriptor) → is_deep t ≡ true → limited_method receiver (Ok (method_type types (Some t))) ≡ Err TooManyDimensions
 limited_by_result receiver types t h =

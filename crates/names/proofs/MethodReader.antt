@@ -220,9 +220,6 @@ params_stops (suc n) (b ∷ bytes) rest le e =
         let fits : length between ≤ n = omega (arith, le, some, ap length one.parts, length-append one.front between) in
         behind_type t between one (inner between rest fits (mapped_outside (λ (ts : List FieldDescriptor). t ∷ ts) (read_params n between) rest then))
 
-pub read_all_params : List ℕ → Reading (List FieldDescriptor)
-read_all_params bytes = read_params (length bytes) bytes
-
 -- ---- results
 
 pub record SpellsResult (bytes : List ℕ) (result : Option FieldDescriptor) : Type 0 where

@@ -1,5 +1,5 @@
 -- Finding a unit is the other side of spelling it.
-use Rattle.std.proofs.Common.{◌≡◌, ℕ, zero, suc, ◌+◌, ◌-◌, ◌*◌, ◌/◌, ◌%◌, ◌^◌, ◌<◌, ◌≤◌, Bool, true, false, cond, ltb, leb, eqb, List, [], ◌∷◌, ◌++◌, length, get_or, drop, Option, Some, None, refl, sym, ap, subst, ◌∙◌, append_assoc, arith, inl, inr, ◌⊎◌, ◌&&◌, ◌||◌}
+use Rattle.std.proofs.Common.{◌≡◌, ℕ, zero, suc, ◌+◌, ◌-◌, ◌*◌, ◌/◌, ◌%◌, ◌^◌, ◌<◌, ◌≤◌, Bool, true, false, cond, ltb, leb, eqb, List, [], ◌∷◌, ◌++◌, length, drop, Option, Some, None, refl, sym, ap, subst, ◌∙◌, append_assoc, arith, inl, inr, ◌⊎◌, ◌&&◌, ◌||◌}
 use Rattle.std.proofs.lemmas.Bool.Decides.{nat_tests}
 use Rattle.std.proofs.lemmas.Bool.{cases_lt, ltb-true, ltb-false, eqb-true, eqb-false}
 use Rattle.layout.specs.FormatLaws.{chosen}
@@ -9,9 +9,6 @@ use Rattle.std.specs.Coded.{le_prop}
 use Rattle.std.proofs.lemmas.Grind.{flat_map-append}
 use Rattle.names.specs.Texts.{IsText, FirstBad, unit, spelling, AreUnits}
 use Rattle.names.specs.Units.{bad_behind, bad_from, bad_text, unit_at, two, three, shortest, units_behind, units_from, units_of}
-
-abbrev pub IsBytes : List ℕ → Type 0
-IsBytes bytes = (i : ℕ) → get_or bytes i 0 < 256
 
 -- ---- what is spelled is found
 
@@ -199,25 +196,10 @@ read_on bytes at u n r e =
       len = rw spelling_push len;
     }
 
-pub read_none : (bytes : List ℕ) → ReadTo bytes 0
-read_none bytes = record { units = []; fit = tt; parts = refl; len = refl }
-
 pub read_all : (bytes : List ℕ) (at : ℕ) → ReadTo bytes at → length bytes ≤ at → IsText bytes
 read_all bytes at r le =
     let none : drop at bytes ≡ [] = nil_from_length _ (omega (arith, length-drop at bytes)) in
     record { units = r.units; fit = r.fit; spelled = r.parts ∙ ap (λ (t : List ℕ). spelling r.units ++ t) none ∙ append-nil (spelling r.units) }
-
-pub read_bad : (bytes : List ℕ) (at : ℕ) → ReadTo bytes at → at < length bytes → unit_at (drop at bytes) ≡ None → FirstBad bytes at
-read_bad bytes at r lt none =
-    record {
-      units = r.units;
-      others = drop at bytes;
-      fit = r.fit;
-      parts = r.parts;
-      at = r.len;
-      more = omega (arith, length-drop at bytes);
-      bad = λ u x h e. no_unit (drop at bytes) none u x h e;
-    }
 
 pub stays_within : (bytes : List ℕ) (at u n : ℕ) → at < length bytes → unit_at (drop at bytes) ≡ Some (u, n) → at + n ≤ length bytes
 stays_within bytes at u n lt e =

@@ -18,14 +18,6 @@ wide_local t e = by t e
     by double e = refl
     by _ e = absurd (omega (arith, e))
 
-pub narrow_local : (t : VerificationType) → (width_of t ≡ 2 → ⊥) → in_locals (t ∷ []) ≡ t ∷ []
-narrow_local t f = by t f
-  where
-    by : (t : VerificationType) → (width_of t ≡ 2 → ⊥) → in_locals (t ∷ []) ≡ t ∷ []
-    by long f = absurd (f refl)
-    by double f = absurd (f refl)
-    by _ f = refl
-
 in_locals_append : (ts : List VerificationType) (us : List VerificationType) → in_locals (ts ++ us) ≡ in_locals ts ++ in_locals us
 in_locals_append [] us = refl
 in_locals_append (t ∷ ts) us = by (is_wide t) (in_locals_append ts us)
@@ -76,11 +68,6 @@ all_of n ts vs now e le is =
     ∙ ap (λ (z : List VerificationType). z ++ map type_of (replicate (n - length vs) Top)) e
     ∙ ap (λ (z : List VerificationType). in_locals ts ++ z) (filled (n - length vs))
     ∙ ap (λ (k : ℕ). in_locals ts ++ replicate (n - k) top) (sym (length-map vs type_of) ∙ ap length e)
-
-pub too_many : (n : ℕ) (ts : List VerificationType) (vs : List VType) → map type_of vs ≡ in_locals ts → n < length vs
-    → nat_lt n (length (in_locals ts)) ≡ true
-too_many n ts vs e lt = let k : length vs ≡ length (in_locals ts) = sym (length-map vs type_of) ∙ ap length e in
-    grind (arith, nat_tests, k, lt)
 
 pub enough : (n : ℕ) (ts : List VerificationType) (vs : List VType) → map type_of vs ≡ in_locals ts → length vs ≤ n
     → nat_lt n (length (in_locals ts)) ≡ false

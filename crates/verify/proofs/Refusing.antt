@@ -19,9 +19,6 @@ use Rattle.verify.proofs.Declared.{none_least}
 use Rattle.verify.proofs.Passing.{IsFineIn, came, own_of, wider, fine_each, wider_head, comes_in}
 use Rattle.verify.proofs.Premises.{not_at, rising_apart, first_at_zero, frames_there, sound_of}
 
-some_reason : (v w : Reason) → Some v ≡ Some w → v ≡ w
-some_reason v w e = cc
-
 -- which part has refused
 pub told : (o : Option Reason) (p : ℕ) (rest : Verdict) (at : ℕ) (why : Reason) → refused_or o p rest ≡ refused at why
     → ((o ≡ Some why) × (p ≡ at)) ⊎ ((o ≡ None) × (rest ≡ refused at why))
