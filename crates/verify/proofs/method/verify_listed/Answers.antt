@@ -1,4 +1,4 @@
-use Rattle.std.proofs.Common.{subst}
+use Rattle.std.proofs.Common.{rules, subst}
 use Rattle.classfile.specs.Views.{class_view}
 use Rattle.classfile.specs.WellFormed.{WellFormed}
 use Rattle.verify.specs.Answers.{AnswersCode}
@@ -14,3 +14,6 @@ returns-in-Some g c =
     answers_code classes class c.args.number formed c.requires.listed r
     (subst (λ n. AnswersCode classes class n r) c.in-Some.ensures.here.number_is
     (subst (λ k. AnswersCode classes (class_view k) c.in-Some.method.number r) c.in-Some.ensures.here.class_is c.verify_code.ensures))
+
+pub returns-in-None : goal.returns-in-None
+returns-in-None g c = search rules
