@@ -18,107 +18,149 @@ fn setting<'a>(alloc: Global) -> [Summary<'a>; 3] {
     ]
 }
 
-fn compare_types<C: Classes>(rt: &impl Abort, classes: &C) {
+/// A type, where another is wanted, and what is answered.
+fn type_rows<'a>() -> [(VType<'a>, VType<'a>, Answer<'a>); 11] {
     let a = VType::Class(b"A");
     let b = VType::Class(b"B");
     let i = VType::Class(b"I");
     let object = VType::Class(OBJECT);
-    let rows = [
+    let objects = array(1, Base::Class(OBJECT));
+    let bs = array(1, Base::Class(b"B"));
+    [
         (a, i, Answer::Yes),
         (i, a, Answer::No),
         (a, b, Answer::Missing(b"B")),
         (b, a, Answer::Missing(b"B")),
         (b, object, Answer::Yes),
-        (
-            array(1, Base::Class(b"B")),
-            array(1, Base::Class(OBJECT)),
-            Answer::Yes,
-        ),
-        (
-            array(1, Base::Class(b"B")),
-            array(1, Base::Class(b"A")),
-            Answer::Missing(b"B"),
-        ),
+        (bs, objects, Answer::Yes),
+        (bs, array(1, Base::Class(b"A")), Answer::Missing(b"B")),
         (
             array(2, Base::Primitive(Primitive::Int)),
-            array(1, Base::Class(OBJECT)),
+            objects,
             Answer::Yes,
         ),
         (
             array(1, Base::Primitive(Primitive::Int)),
-            array(1, Base::Class(OBJECT)),
+            objects,
             Answer::No,
         ),
         (VType::Uninit(0), VType::Top, Answer::Yes),
         (VType::Uninit(0), a, Answer::No),
-    ];
-    for (from, to, want) in rows {
+    ]
+}
+
+fn compare_types<C: Classes>(rt: &impl Abort, classes: &C) {
+    for (from, to, want) in type_rows() {
         assert_eq!(rt; assignable(&from, &to, classes), want);
     }
 }
 
-fn stacks<'a, C: Classes>(
-    alloc: Global,
-    classes: &C,
-    from: &[VType<'a>],
-    to: &[VType<'a>],
-) -> Result<Answer<'a>, AllocError> {
-    let from = frame(alloc, &[], from, false)?;
-    let to = frame(alloc, &[], to, false)?;
-    Ok(frame_assignable(&from, &to, classes))
+/// Two stacks, where the second is wanted, and what is answered.
+#[derive(Clone, Copy)]
+struct StackRow<'s, 'a> {
+    from: &'s [VType<'a>],
+    to: &'s [VType<'a>],
+    want: Answer<'a>,
 }
 
-fn locals<'a, C: Classes>(
-    alloc: Global,
-    classes: &C,
-    from: &[VType<'a>],
-    to: &[VType<'a>],
-    flags: (bool, bool),
-) -> Result<Answer<'a>, AllocError> {
-    let from = frame(alloc, from, &[], flags.0)?;
-    let to = frame(alloc, to, &[], flags.1)?;
-    Ok(frame_assignable(&from, &to, classes))
+/// Two lists of local variables with the flags of their frames, where the second is wanted, and what is answered.
+#[derive(Clone, Copy)]
+struct LocalRow<'s, 'a> {
+    from: (&'s [VType<'a>], bool),
+    to: (&'s [VType<'a>], bool),
+    want: Answer<'a>,
 }
 
-fn compare_frames<C: Classes>(
+fn check_stacks<C: Classes>(
+    rt: &impl Abort,
+    alloc: Global,
+    classes: &C,
+    row: &StackRow,
+) -> Result<(), AllocError> {
+    let from = frame(alloc, &[], row.from, false)?;
+    let to = frame(alloc, &[], row.to, false)?;
+    assert_eq!(rt; frame_assignable(&from, &to, classes), row.want);
+    Ok(())
+}
+
+fn check_locals<C: Classes>(
+    rt: &impl Abort,
+    alloc: Global,
+    classes: &C,
+    row: &LocalRow,
+) -> Result<(), AllocError> {
+    let from = frame(alloc, row.from.0, &[], row.from.1)?;
+    let to = frame(alloc, row.to.0, &[], row.to.1)?;
+    assert_eq!(rt; frame_assignable(&from, &to, classes), row.want);
+    Ok(())
+}
+
+fn compare_stacks<C: Classes>(
     rt: &impl Abort,
     alloc: Global,
     classes: &C,
 ) -> Result<(), AllocError> {
     let a = VType::Class(b"A");
     let b = VType::Class(b"B");
-    assert_eq!(rt; stacks(alloc, classes, &[VType::Int], &[a])?, Answer::No);
-    assert_eq!(rt; stacks(alloc, classes, &[VType::Null], &[a])?, Answer::Yes);
-    assert_eq!(rt;
-        stacks(alloc, classes, &[VType::Long], &[VType::Top])?,
-        Answer::No
-    );
-    assert_eq!(rt;
-        stacks(alloc, classes, &[a, VType::Int], &[b, a])?,
-        Answer::No
-    );
-    assert_eq!(rt;
-        stacks(alloc, classes, &[a, a], &[a, b])?,
-        Answer::Missing(b"B")
-    );
-    assert_eq!(rt;
-        locals(
-            alloc,
-            classes,
-            &[VType::Long, VType::Top],
-            &[VType::Top, VType::Top],
-            (false, false)
-        )?,
-        Answer::Yes
-    );
-    assert_eq!(rt;
-        locals(alloc, classes, &[a], &[a], (true, false))?,
-        Answer::No
-    );
-    assert_eq!(rt;
-        locals(alloc, classes, &[a], &[a], (false, true))?,
-        Answer::Yes
-    );
+    let rows = [
+        StackRow {
+            from: &[VType::Int],
+            to: &[a],
+            want: Answer::No,
+        },
+        StackRow {
+            from: &[VType::Null],
+            to: &[a],
+            want: Answer::Yes,
+        },
+        StackRow {
+            from: &[VType::Long],
+            to: &[VType::Top],
+            want: Answer::No,
+        },
+        StackRow {
+            from: &[a, VType::Int],
+            to: &[b, a],
+            want: Answer::No,
+        },
+        StackRow {
+            from: &[a, a],
+            to: &[a, b],
+            want: Answer::Missing(b"B"),
+        },
+    ];
+    for row in rows {
+        check_stacks(rt, alloc, classes, &row)?;
+    }
+    Ok(())
+}
+
+fn compare_locals<C: Classes>(
+    rt: &impl Abort,
+    alloc: Global,
+    classes: &C,
+) -> Result<(), AllocError> {
+    let a = VType::Class(b"A");
+    let rows = [
+        LocalRow {
+            from: (&[VType::Long, VType::Top], false),
+            to: (&[VType::Top, VType::Top], false),
+            want: Answer::Yes,
+        },
+        LocalRow {
+            from: (&[a], true),
+            to: (&[a], false),
+            want: Answer::No,
+        },
+        LocalRow {
+            from: (&[a], false),
+            to: (&[a], true),
+            want: Answer::Yes,
+        },
+    ];
+    for row in rows {
+        check_locals(rt, alloc, classes, &row)?;
+    }
     Ok(())
 }
 
@@ -144,6 +186,7 @@ fn frames(rt: HostRuntime) -> Result<(), Fail> {
     let alloc = rt.alloc();
     let list = setting(alloc);
     let classes = Chains::new(alloc, &list, hasher()).expect(&rt, "a hierarchy");
-    compare_frames(&rt, alloc, &classes)?;
+    compare_stacks(&rt, alloc, &classes)?;
+    compare_locals(&rt, alloc, &classes)?;
     Ok(())
 }

@@ -1,39 +1,44 @@
-use crate::making::{class_of, frame, hasher, object, utf8};
-use classfile::{Attribute, ClassFile, CodeAttr, Member, form_check};
-use frames::VType;
-use hierarchy::{Chains, OBJECT};
-use insn::decode_code;
+//! Single instructions of methods that are put together by hand.
+use crate::making::{apply_first, class_of, coded, frame, hasher, object, utf8};
+use classfile::{ClassFile, CodeAttr, Formed, Member, form_check};
+use frames::{Frame, VType};
+use hierarchy::{Chains, Classes, OBJECT};
+use insn::{Insn, decode_code};
 use pool::Constant;
-use rules::{After, Branches, Env, Refusal, apply, body_is_told, branches, falls};
+use rules::{After, Branches, Env, Refusal, body_is_told, branches, falls};
 use std::alloc::{AllocError, Global};
 use std::process::Abort;
 use std::test::Fail;
 
+/// What the rule of an instruction says.
+type Judged<'a> = Result<After<'a>, Refusal<'a>>;
+
 /// Constants of the kinds that instructions name, and the names of the class and its method.
-fn constants<'a>(rt: &impl Abort, alloc: Global) -> Result<Vec<Constant<'a>>, AllocError> {
-    let mut constants = Vec::new(alloc);
-    constants.push(Constant::Long { high: 0, low: 1 })?;
-    constants.push(Constant::Unusable)?;
-    constants.push(Constant::Integer { bits: 5 })?;
-    constants.push(Constant::Dynamic {
-        bootstrap: 0,
-        name_and_type: 5,
-    })?;
-    constants.push(Constant::NameAndType {
-        name: 6,
-        descriptor: 7,
-    })?;
-    constants.push(utf8(rt, b"f"))?;
-    constants.push(utf8(rt, b"J"))?;
-    constants.push(Constant::Class { name: 9 })?;
-    constants.push(utf8(rt, b"K"))?;
-    constants.push(Constant::Class { name: 11 })?;
-    constants.push(utf8(rt, OBJECT))?;
-    constants.push(utf8(rt, b"<init>"))?;
-    constants.push(utf8(rt, b"()V"))?;
-    constants.push(utf8(rt, b"()Z"))?;
-    constants.push(utf8(rt, b"Code"))?;
-    Ok(constants)
+fn constants(rt: &impl Abort, alloc: Global) -> Result<Vec<Constant<'static>>, AllocError> {
+    let constants = [
+        Constant::Long { high: 0, low: 1 },
+        Constant::Unusable,
+        Constant::Integer { bits: 5 },
+        Constant::Dynamic {
+            bootstrap: 0,
+            name_and_type: 5,
+        },
+        Constant::NameAndType {
+            name: 6,
+            descriptor: 7,
+        },
+        utf8(rt, b"f"),
+        utf8(rt, b"J"),
+        Constant::Class { name: 9 },
+        utf8(rt, b"K"),
+        Constant::Class { name: 11 },
+        utf8(rt, OBJECT),
+        utf8(rt, b"<init>"),
+        utf8(rt, b"()V"),
+        utf8(rt, b"()Z"),
+        utf8(rt, b"Code"),
+    ];
+    constants.iter().copied().collect(alloc)
 }
 
 /// The method that has this code: `<init>`, or one that gives a boolean.
@@ -45,11 +50,7 @@ fn method<'a>(alloc: Global, code: &'a [u8], given: &Given<'_>) -> Result<Member
         exception_table: Vec::new(alloc),
         attributes: Vec::new(alloc),
     };
-    let mut attributes = Vec::new(alloc);
-    attributes.push(Attribute::Code {
-        name: 15,
-        code: Box::new(alloc, code)?,
-    })?;
+    let attributes = coded(alloc, 15, code)?;
     let (name, descriptor) = if given.gives_boolean {
         (6, 14)
     } else {
@@ -93,38 +94,77 @@ fn before<'a>(stack: &'a [VType<'a>]) -> Given<'a> {
     }
 }
 
+/// What the rule says of the first instruction of the class's one method, and whether the method is told as it is.
+fn judge_among<'a, C: Classes>(
+    rt: &impl Abort,
+    alloc: Global,
+    formed: &Formed<'_, 'a>,
+    list: &[(u16, Insn<'a>)],
+    classes: &C,
+    frame: &Frame<'a>,
+) -> Result<After<'a>, Refusal<'a>> {
+    assert!(rt; !formed.class().methods.is_empty());
+    let Some(method) = formed.method(0) else {
+        panic!(rt; "a method with code");
+    };
+    let env = Env::new(formed, 0, list, classes);
+    body_is_told(&env.body);
+    assert_eq!(rt; env.body.method.is_init, method.is_init);
+    apply_first(rt, alloc, &env, frame)
+}
+
+/// The same, where `java/lang/Object` is the one class.
+fn judge_list<'a>(
+    rt: &impl Abort,
+    alloc: Global,
+    formed: &Formed<'_, 'a>,
+    list: &[(u16, Insn<'a>)],
+    frame: &Frame<'a>,
+) -> Result<Judged<'a>, AllocError> {
+    let alone = [object(alloc)];
+    match Chains::new(alloc, &alone, hasher()) {
+        Ok(classes) => Ok(judge_among(rt, alloc, formed, list, &classes, frame)),
+        Err(_) => Err(AllocError),
+    }
+}
+
+/// The same, of code that is not yet read, before which this is given.
+fn judge_code<'a>(
+    rt: &impl Abort,
+    alloc: Global,
+    formed: &Formed<'_, 'a>,
+    bytes: &'a [u8],
+    given: &Given<'a>,
+) -> Result<Judged<'a>, AllocError> {
+    let frame = frame(alloc, &given.locals, given.stack, given.flag)?;
+    match decode_code(alloc, &bytes[..bytes.len().min(9)]) {
+        Ok(list) => judge_list(rt, alloc, formed, &list, &frame),
+        Err(_) => Err(AllocError),
+    }
+}
+
+/// What the rule says of the first instruction of this code, before which this is given.
 fn judge<'a>(
     rt: &impl Abort,
     alloc: Global,
     bytes: &'a [u8],
     given: &Given<'a>,
-) -> Result<Result<After<'a>, Refusal<'a>>, AllocError> {
+) -> Result<Judged<'a>, AllocError> {
     let class = class(rt, alloc, bytes, given)?;
-    let Ok(formed) = form_check(alloc, &class) else {
-        return Err(AllocError);
-    };
-    let bytes = &bytes[..bytes.len().min(9)];
-    let Ok(list) = decode_code(alloc, bytes) else {
-        return Err(AllocError);
-    };
-    let alone = [object(alloc)];
-    let Ok(classes) = Chains::new(alloc, &alone, hasher()) else {
-        return Err(AllocError);
-    };
-    assert!(rt; !formed.class().methods.is_empty());
-    let Some(method) = formed.method(0) else {
-        panic!(rt; "a method with code");
-    };
-    let env = Env::new(&formed, 0, &list, &classes);
-    body_is_told(&env.body);
-    assert_eq!(rt; env.body.method.is_init, method.is_init);
-    let (_, first) = *list.first().expect(rt, "an instruction");
-    let frame = frame(alloc, &given.locals, given.stack, given.flag)?;
-    assert_eq!(rt;
-        frame.locals.len(),
-        usize::from(env.body.method.code.max_locals)
-    );
-    Ok(apply(alloc, &env, 0, &first, &frame))
+    match form_check(alloc, &class) {
+        Ok(formed) => judge_code(rt, alloc, &formed, bytes, given),
+        Err(_) => Err(AllocError),
+    }
+}
+
+/// What an instruction leaves that must not be refused.
+fn taken<'a>(
+    rt: &impl Abort,
+    alloc: Global,
+    bytes: &'a [u8],
+    given: &Given<'a>,
+) -> Result<After<'a>, AllocError> {
+    Ok(judge(rt, alloc, bytes, given)?.expect(rt, "a rule"))
 }
 
 fn refused(rt: &impl Abort, alloc: Global, bytes: &[u8], given: &Given) -> Result<u8, AllocError> {
@@ -134,6 +174,10 @@ fn refused(rt: &impl Abort, alloc: Global, bytes: &[u8], given: &Given) -> Resul
     }
 }
 
+fn goes_on(after: &After<'_>) -> bool {
+    after.falls && !after.own && matches!(after.branches, Branches::Nowhere)
+}
+
 fn check_stack(
     rt: &impl Abort,
     alloc: Global,
@@ -141,47 +185,56 @@ fn check_stack(
     stack: &[VType],
     want: &[VType],
 ) -> Result<(), AllocError> {
-    let after = judge(rt, alloc, bytes, &before(stack))?.expect(rt, "a rule");
+    let after = taken(rt, alloc, bytes, &before(stack))?;
     assert_eq!(rt; after.frame.stack.as_slice(), want);
-    assert!(rt; after.falls && !after.own && matches!(after.branches, Branches::Nowhere));
+    assert!(rt; goes_on(&after));
     Ok(())
 }
 
 #[test]
 fn stacks(rt: HostRuntime) -> Result<(), Fail> {
-    let alloc = rt.alloc();
-    check_stack(&rt, alloc, &[0x00], &[], &[])?;
-    check_stack(&rt, alloc, &[0x09], &[], &[VType::Long])?;
-    check_stack(&rt, alloc, &[0x14, 0, 1], &[], &[VType::Long])?;
-    check_stack(
-        &rt,
-        alloc,
-        &[0x60],
-        &[VType::Int, VType::Int],
-        &[VType::Int],
-    )?;
-    check_stack(
-        &rt,
-        alloc,
-        &[0x79],
-        &[VType::Long, VType::Int],
-        &[VType::Long],
-    )?;
-    check_stack(&rt, alloc, &[0x58], &[VType::Long], &[])?;
-    check_stack(
-        &rt,
-        alloc,
-        &[0x5A],
-        &[VType::Int, VType::Float],
-        &[VType::Float, VType::Int, VType::Float],
-    )?;
-    check_stack(
-        &rt,
-        alloc,
-        &[0x5F],
-        &[VType::Int, VType::Null],
-        &[VType::Null, VType::Int],
-    )?;
+    let rows: [(&[u8], &[VType], &[VType]); 8] = [
+        (&[0x00], &[], &[]),
+        (&[0x09], &[], &[VType::Long]),
+        (&[0x14, 0, 1], &[], &[VType::Long]),
+        (&[0x60], &[VType::Int, VType::Int], &[VType::Int]),
+        (&[0x79], &[VType::Long, VType::Int], &[VType::Long]),
+        (&[0x58], &[VType::Long], &[]),
+        (
+            &[0x5A],
+            &[VType::Int, VType::Float],
+            &[VType::Float, VType::Int, VType::Float],
+        ),
+        (
+            &[0x5F],
+            &[VType::Int, VType::Null],
+            &[VType::Null, VType::Int],
+        ),
+    ];
+    for (bytes, stack, want) in rows {
+        check_stack(&rt, rt.alloc(), bytes, stack, want)?;
+    }
+    Ok(())
+}
+
+fn check_locals(
+    rt: &impl Abort,
+    alloc: Global,
+    bytes: &[u8],
+    given: &Given,
+    want: &[VType],
+) -> Result<(), AllocError> {
+    let after = taken(rt, alloc, bytes, given)?;
+    assert_eq!(rt; after.frame.locals.as_slice(), want);
+    Ok(())
+}
+
+fn check_load(rt: &impl Abort, alloc: Global, given: &Given) -> Result<(), AllocError> {
+    let loaded = taken(rt, alloc, &[0x1A], given)?;
+    assert_eq!(rt;
+        loaded.frame.stack.as_slice(),
+        [VType::Int, VType::Int].as_slice()
+    );
     Ok(())
 }
 
@@ -190,43 +243,26 @@ fn locals(rt: HostRuntime) -> Result<(), Fail> {
     let alloc = rt.alloc();
     let mut given = before(&[VType::Int]);
     given.locals = [VType::Long, VType::Top];
-    let stored = judge(&rt, alloc, &[0x3C], &given)?.expect(&rt, "istore_1");
-    assert_eq!(rt;
-        stored.frame.locals.as_slice(),
-        [VType::Top, VType::Int].as_slice()
-    );
+    check_locals(&rt, alloc, &[0x3C], &given, &[VType::Top, VType::Int])?;
     given.locals = [VType::Int, VType::Top];
-    let loaded = judge(&rt, alloc, &[0x1A], &given)?.expect(&rt, "iload_0");
-    assert_eq!(rt;
-        loaded.frame.stack.as_slice(),
-        [VType::Int, VType::Int].as_slice()
-    );
-    let counted = judge(&rt, alloc, &[0x84, 0, 1], &given)?.expect(&rt, "iinc");
-    assert_eq!(rt;
-        counted.frame.locals.as_slice(),
-        [VType::Int, VType::Top].as_slice()
-    );
+    check_load(&rt, alloc, &given)?;
+    check_locals(&rt, alloc, &[0x84, 0, 1], &given, &[VType::Int, VType::Top])?;
     Ok(())
 }
 
-#[test]
-fn returns(rt: HostRuntime) -> Result<(), Fail> {
-    let alloc = rt.alloc();
-    let mut given = before(&[VType::Int]);
-    let left = judge(&rt, alloc, &[0xB1], &given)?.expect(&rt, "return");
-    assert!(rt; !left.falls);
-    given.gives_boolean = true;
-    assert_eq!(rt; refused(&rt, alloc, &[0xAC], &given)?, 0);
-    assert_eq!(rt; refused(&rt, alloc, &[0xAD], &given)?, 76);
-    assert_eq!(rt; refused(&rt, alloc, &[0xB1], &given)?, 76);
+/// That the rule refuses the first instruction for the reason of this number, or, if it is 0, does not refuse it.
+fn check_reason(
+    rt: &impl Abort,
+    alloc: Global,
+    bytes: &[u8],
+    given: &Given,
+    number: u8,
+) -> Result<(), AllocError> {
+    assert_eq!(rt; refused(rt, alloc, bytes, given)?, number);
     Ok(())
 }
 
-#[test]
-fn reasons(rt: HostRuntime) -> Result<(), Fail> {
-    let alloc = rt.alloc();
-    let mut given = before(&[VType::Int]);
-    given.locals = [VType::Float, VType::Top];
+fn check_reasons(rt: &impl Abort, alloc: Global, given: &Given) -> Result<(), AllocError> {
     let rows: [(&[u8], u8); 11] = [
         (&[0xA8, 0, 3], 60),
         (&[0x14, 0, 4], 60),
@@ -241,15 +277,37 @@ fn reasons(rt: HostRuntime) -> Result<(), Fail> {
         (&[0x37, 1], 62),
     ];
     for (bytes, number) in rows {
-        assert_eq!(rt; refused(&rt, alloc, bytes, &given)?, number);
+        check_reason(rt, alloc, bytes, given, number)?;
     }
+    Ok(())
+}
+
+#[test]
+fn returns(rt: HostRuntime) -> Result<(), Fail> {
+    let alloc = rt.alloc();
+    let mut given = before(&[VType::Int]);
+    let left = taken(&rt, alloc, &[0xB1], &given)?;
+    assert!(rt; !left.falls);
+    given.gives_boolean = true;
+    for (bytes, number) in [([0xAC], 0), ([0xAD], 76), ([0xB1], 76)] {
+        check_reason(&rt, alloc, &bytes, &given, number)?;
+    }
+    Ok(())
+}
+
+#[test]
+fn reasons(rt: HostRuntime) -> Result<(), Fail> {
+    let alloc = rt.alloc();
+    let mut given = before(&[VType::Int]);
+    given.locals = [VType::Float, VType::Top];
+    check_reasons(&rt, alloc, &given)?;
     given.max_stack = 1;
-    assert_eq!(rt; refused(&rt, alloc, &[0x03], &given)?, 65);
+    check_reason(&rt, alloc, &[0x03], &given, 65)?;
     given.flag = true;
-    assert_eq!(rt; refused(&rt, alloc, &[0xB1], &given)?, 74);
+    check_reason(&rt, alloc, &[0xB1], &given, 74)?;
     let wide = before(&[VType::Long]);
-    assert_eq!(rt; refused(&rt, alloc, &[0x57], &wide)?, 62);
-    assert_eq!(rt; refused(&rt, alloc, &[0x40], &wide)?, 64);
+    check_reason(&rt, alloc, &[0x57], &wide, 62)?;
+    check_reason(&rt, alloc, &[0x40], &wide, 64)?;
     Ok(())
 }
 

@@ -1,5 +1,5 @@
 use crate::making::{hasher, summary};
-use classfile::{decode, form_check};
+use classfile::{ClassFile, decode, form_check};
 use hierarchy::{
     Answer, Chains, Classes, HierarchyFault, Kind, MemberSummary, OBJECT, Summary, laws, summary_of,
 };
@@ -27,91 +27,133 @@ fn laws_are_called() {
     laws::summary_has_texts();
 }
 
-#[test]
-fn answers(rt: HostRuntime) -> Result<(), Fail> {
-    let alloc = rt.alloc();
-    let list = [
+/// Classes A and C below it, and an interface.
+fn setting<'a>(alloc: Global) -> [Summary<'a>; 4] {
+    [
         summary(alloc, OBJECT, None, false),
         summary(alloc, b"A", Some(OBJECT), false),
         summary(alloc, b"I", Some(OBJECT), true),
         summary(alloc, b"C", Some(b"A"), false),
-    ];
+    ]
+}
+
+#[test]
+fn answers(rt: HostRuntime) -> Result<(), Fail> {
+    let alloc = rt.alloc();
+    let list = setting(alloc);
     let chains = Chains::new(alloc, &list, hasher()).expect(&rt, "a hierarchy");
     ask(&rt, &chains);
     Ok(())
 }
 
+fn check_interface<C: Classes>(rt: &impl Abort, classes: &C, name: &[u8], want: Option<bool>) {
+    assert_eq!(rt; classes.is_interface(name), want);
+}
+
+fn check_subclass<C: Classes>(
+    rt: &impl Abort,
+    classes: &C,
+    class: &[u8],
+    ancestor: &[u8],
+    want: Answer<'_>,
+) {
+    assert_eq!(rt; classes.is_subclass(class, ancestor), want);
+}
+
 fn ask<C: Classes>(rt: &impl Abort, classes: &C) {
     assert!(rt; classes.find(b"A").is_some());
     assert!(rt; classes.find(b"B").is_none());
-    assert_eq!(rt; classes.is_interface(b"I"), Some(true));
-    assert_eq!(rt; classes.is_interface(b"B"), None);
-    assert_eq!(rt; classes.is_subclass(b"C", OBJECT), Answer::Yes);
-    assert_eq!(rt; classes.is_subclass(b"A", b"C"), Answer::No);
-    assert_eq!(rt; classes.is_subclass(b"B", b"B"), Answer::Yes);
-    assert_eq!(rt; classes.is_subclass(b"B", b"A"), Answer::Missing(b"B"));
+    check_interface(rt, classes, b"I", Some(true));
+    check_interface(rt, classes, b"B", None);
+    check_subclass(rt, classes, b"C", OBJECT, Answer::Yes);
+    check_subclass(rt, classes, b"A", b"C", Answer::No);
+    check_subclass(rt, classes, b"B", b"B", Answer::Yes);
+    check_subclass(rt, classes, b"B", b"A", Answer::Missing(b"B"));
+}
+
+fn classes_twice(alloc: Global) -> Option<HierarchyFault<'static>> {
+    let list = [
+        summary(alloc, OBJECT, None, false),
+        summary(alloc, b"A", Some(OBJECT), false),
+        summary(alloc, b"B", Some(OBJECT), false),
+        summary(alloc, b"B", Some(OBJECT), false),
+        summary(alloc, b"A", Some(OBJECT), false),
+    ];
+    refusal(alloc, &list)
+}
+
+fn cycle_of_two(alloc: Global) -> Option<HierarchyFault<'static>> {
+    let list = [
+        summary(alloc, b"X", Some(b"A"), false),
+        summary(alloc, b"A", Some(b"B"), false),
+        summary(alloc, b"B", Some(b"A"), false),
+    ];
+    refusal(alloc, &list)
+}
+
+fn cycles_of_one(alloc: Global) -> Option<HierarchyFault<'static>> {
+    let list = [
+        summary(alloc, b"X", Some(b"A"), false),
+        summary(alloc, b"B", Some(b"B"), false),
+        summary(alloc, b"A", Some(b"A"), false),
+    ];
+    refusal(alloc, &list)
+}
+
+fn missing_superclass(alloc: Global) -> Option<HierarchyFault<'static>> {
+    let list = [
+        summary(alloc, OBJECT, None, false),
+        summary(alloc, b"A", Some(b"B"), false),
+    ];
+    refusal(alloc, &list)
+}
+
+fn array_interface_as_class(alloc: Global) -> Option<HierarchyFault<'static>> {
+    let list = [
+        summary(alloc, OBJECT, None, false),
+        summary(alloc, b"java/lang/Cloneable", Some(OBJECT), false),
+    ];
+    refusal(alloc, &list)
+}
+
+fn interface_below_a_class(alloc: Global) -> Option<HierarchyFault<'static>> {
+    let list = [
+        summary(alloc, OBJECT, None, false),
+        summary(alloc, b"A", Some(OBJECT), false),
+        summary(alloc, b"I", Some(b"A"), true),
+    ];
+    refusal(alloc, &list)
 }
 
 #[test]
 fn refusals(rt: HostRuntime) -> Result<(), Fail> {
     let alloc = rt.alloc();
-    let twice = [
-        summary(alloc, OBJECT, None, false),
-        summary(alloc, b"A", Some(OBJECT), false),
-        summary(alloc, b"B", Some(OBJECT), false),
-        summary(alloc, b"B", Some(OBJECT), false),
-        summary(alloc, b"A", Some(OBJECT), false),
+    let rows = [
+        (
+            classes_twice(alloc),
+            HierarchyFault::ClassTwice { name: b"A" },
+        ),
+        (cycle_of_two(alloc), HierarchyFault::Cycle { name: b"A" }),
+        (cycles_of_one(alloc), HierarchyFault::Cycle { name: b"B" }),
+        (
+            missing_superclass(alloc),
+            HierarchyFault::SuperMissing { name: b"A" },
+        ),
+        (refusal(alloc, &[]), HierarchyFault::NoObject),
+        (
+            array_interface_as_class(alloc),
+            HierarchyFault::BadArrayInterface {
+                name: b"java/lang/Cloneable",
+            },
+        ),
+        (
+            interface_below_a_class(alloc),
+            HierarchyFault::InterfaceSuper { name: b"I" },
+        ),
     ];
-    assert_eq!(rt;
-        refusal(alloc, &twice),
-        Some(HierarchyFault::ClassTwice { name: b"A" })
-    );
-    let cycle = [
-        summary(alloc, b"X", Some(b"A"), false),
-        summary(alloc, b"A", Some(b"B"), false),
-        summary(alloc, b"B", Some(b"A"), false),
-    ];
-    assert_eq!(rt;
-        refusal(alloc, &cycle),
-        Some(HierarchyFault::Cycle { name: b"A" })
-    );
-    let second = [
-        summary(alloc, b"X", Some(b"A"), false),
-        summary(alloc, b"B", Some(b"B"), false),
-        summary(alloc, b"A", Some(b"A"), false),
-    ];
-    assert_eq!(rt;
-        refusal(alloc, &second),
-        Some(HierarchyFault::Cycle { name: b"B" })
-    );
-    let missing = [
-        summary(alloc, OBJECT, None, false),
-        summary(alloc, b"A", Some(b"B"), false),
-    ];
-    assert_eq!(rt;
-        refusal(alloc, &missing),
-        Some(HierarchyFault::SuperMissing { name: b"A" })
-    );
-    assert_eq!(rt; refusal(alloc, &[]), Some(HierarchyFault::NoObject));
-    let bad = [
-        summary(alloc, OBJECT, None, false),
-        summary(alloc, b"java/lang/Cloneable", Some(OBJECT), false),
-    ];
-    assert_eq!(rt;
-        refusal(alloc, &bad),
-        Some(HierarchyFault::BadArrayInterface {
-            name: b"java/lang/Cloneable"
-        })
-    );
-    let wrong = [
-        summary(alloc, OBJECT, None, false),
-        summary(alloc, b"A", Some(OBJECT), false),
-        summary(alloc, b"I", Some(b"A"), true),
-    ];
-    assert_eq!(rt;
-        refusal(alloc, &wrong),
-        Some(HierarchyFault::InterfaceSuper { name: b"I" })
-    );
+    for (refused, want) in rows {
+        assert_eq!(rt; refused, Some(want));
+    }
     assert_eq!(rt; HierarchyFault::NoObject.number(), 43);
     Ok(())
 }
@@ -120,29 +162,33 @@ fn refusals(rt: HostRuntime) -> Result<(), Fail> {
 #[test]
 fn want_of_memory(rt: HostRuntime) {
     let alloc = rt.alloc();
-    let list = [
-        summary(alloc, OBJECT, None, false),
-        summary(alloc, b"A", Some(OBJECT), false),
-        summary(alloc, b"I", Some(OBJECT), true),
-        summary(alloc, b"C", Some(b"A"), false),
-    ];
+    let list = setting(alloc);
     match refusal(alloc, &list) {
         None => {}
         Some(fault) => assert_eq!(rt; fault, HierarchyFault::OutOfMemory),
     }
 }
 
-/// The summary of the class; none where memory runs out.
-fn summary_of_k(rt: &impl Abort, alloc: Global) -> Option<Summary<'static>> {
-    let Ok(class) = decode(alloc, &K) else {
-        return None;
-    };
-    match form_check(alloc, &class) {
+/// The summary of the class file; none where memory runs out.
+fn summary_of_class<'a>(
+    rt: &impl Abort,
+    alloc: Global,
+    class: &ClassFile<'a>,
+) -> Option<Summary<'a>> {
+    match form_check(alloc, class) {
         Ok(formed) => summary_of(alloc, &formed).ok(),
         Err(fault) => {
             assert!(rt; fault.number() == 1);
             None
         }
+    }
+}
+
+/// The summary of K; none where memory runs out.
+fn summary_of_k(rt: &impl Abort, alloc: Global) -> Option<Summary<'static>> {
+    match decode(alloc, &K) {
+        Ok(class) => summary_of_class(rt, alloc, &class),
+        Err(_) => None,
     }
 }
 

@@ -1,5 +1,5 @@
 use crate::making::{Given, STATIC, class, hasher, object, static_method};
-use classfile::{ExceptionHandler, decode, form_check};
+use classfile::{ExceptionHandler, Formed, decode, form_check};
 use hierarchy::{Chains, summary_of};
 use rules::Reason;
 use samples::K;
@@ -12,6 +12,7 @@ use verify::{
     verify_class, verify_method,
 };
 
+/// The flag ACC_NATIVE (JVMS 4.6).
 const NATIVE: u16 = 0x0100;
 
 #[test]
@@ -26,22 +27,33 @@ fn theorem_and_laws_are_called() {
     one_report();
 }
 
-/// What is answered of the method, and whether it is `want`. The hierarchy has Object, and K as it is or as another class.
-fn is_answered(
+/// What is answered of the class's first method. The hierarchy has Object, and the class as it is or as another one.
+fn answer<'a>(
+    rt: &impl Abort,
+    alloc: Global,
+    formed: &Formed<'_, 'a>,
+    is_final: bool,
+) -> Result<Result<Verdict<'a>, VerifyFault>, AllocError> {
+    let mut own = summary_of(alloc, formed)?;
+    own.is_final = is_final;
+    let list = [object(alloc), own];
+    let classes = Chains::new(alloc, &list, hasher()).expect(rt, "a hierarchy");
+    assert!(rt; !formed.class().methods.is_empty());
+    Ok(verify_method(alloc, formed, 0, &classes))
+}
+
+/// That the answer of the method is `want`. The hierarchy has Object, and K as it is or as another class.
+fn check_answer(
     rt: &impl Abort,
     alloc: Global,
     given: Given<'_>,
     is_final: bool,
     want: Result<Verdict<'_>, VerifyFault>,
-) -> Result<bool, AllocError> {
+) -> Result<(), AllocError> {
     let class = class(rt, alloc, given)?;
     let formed = form_check(alloc, &class).expect(rt, "a class");
-    let mut own = summary_of(alloc, &formed)?;
-    own.is_final = is_final;
-    let list = [object(alloc), own];
-    let classes = Chains::new(alloc, &list, hasher()).expect(rt, "a hierarchy");
-    assert!(rt; !formed.class().methods.is_empty());
-    Ok(verify_method(alloc, &formed, 0, &classes) == want)
+    assert!(rt; answer(rt, alloc, &formed, is_final)? == want);
+    Ok(())
 }
 
 fn refused<'a>(at: usize, reason: Reason<'a>) -> Result<Verdict<'a>, VerifyFault> {
@@ -100,37 +112,44 @@ pub fn worked_methods<'a>() -> [(Given<'a>, Result<Verdict<'a>, VerifyFault>); 1
 
 #[test]
 fn verdicts(rt: HostRuntime) -> Result<(), Fail> {
-    let alloc = rt.alloc();
     for (given, want) in worked_methods() {
-        assert!(rt; is_answered(&rt, alloc, given, false, want)?);
+        check_answer(&rt, rt.alloc(), given, false, want)?;
     }
     Ok(())
 }
 
-#[test]
-fn methods_that_are_not_judged(rt: HostRuntime) -> Result<(), Fail> {
-    let alloc = rt.alloc();
-    let plain = static_method(b"()V", 0, 0, &[0xB1]);
-    let left_out = refused(0, Reason::NotSupported);
-    assert!(rt; is_answered(&rt, alloc, plain, true, Err(VerifyFault::NotInHierarchy))?);
-    let mut other = plain;
-    other.flags = 0;
-    assert!(rt; is_answered(&rt, alloc, other, false, left_out)?);
-    other = plain;
-    other.has_map = true;
-    assert!(rt; is_answered(&rt, alloc, other, false, left_out)?);
-    other = plain;
-    other.catches = Some(ExceptionHandler {
+/// A method that is verified.
+fn plain<'a>() -> Given<'a> {
+    static_method(b"()V", 0, 0, &[0xB1])
+}
+
+/// The same as a method of instances, with a map, and with an exception table.
+fn left_out<'a>() -> [Given<'a>; 3] {
+    let mut of_instances = plain();
+    of_instances.flags = 0;
+    let mut mapped = plain();
+    mapped.has_map = true;
+    let mut catching = plain();
+    catching.catches = Some(ExceptionHandler {
         start_pc: 0,
         end_pc: 1,
         handler_pc: 0,
         catch_type: 0,
     });
-    assert!(rt; is_answered(&rt, alloc, other, false, left_out)?);
-    other = plain;
-    other.flags = STATIC | NATIVE;
-    other.code = None;
-    assert!(rt; is_answered(&rt, alloc, other, false, Ok(Verdict::NoCode))?);
+    [of_instances, mapped, catching]
+}
+
+#[test]
+fn methods_that_are_not_judged(rt: HostRuntime) -> Result<(), Fail> {
+    let alloc = rt.alloc();
+    check_answer(&rt, alloc, plain(), true, Err(VerifyFault::NotInHierarchy))?;
+    for given in left_out() {
+        check_answer(&rt, alloc, given, false, refused(0, Reason::NotSupported))?;
+    }
+    let mut native = plain();
+    native.flags = STATIC | NATIVE;
+    native.code = None;
+    check_answer(&rt, alloc, native, false, Ok(Verdict::NoCode))?;
     Ok(())
 }
 
@@ -140,20 +159,28 @@ fn numbers(rt: HostRuntime) {
     assert_eq!(rt; VerifyFault::NotInHierarchy.number(), 80);
 }
 
-/// The verdicts on the methods of K; none where memory runs out.
-fn report<'a>(alloc: Global) -> Result<Vec<MethodVerdict<'a>>, AllocError> {
-    let Ok(class) = decode(alloc, &K) else {
-        return Err(AllocError);
-    };
-    let Ok(formed) = form_check(alloc, &class) else {
-        return Err(AllocError);
-    };
-    let list = [object(alloc), summary_of(alloc, &formed)?];
+/// The verdicts on the methods of K, where there are Object and this class, which is K; none where memory runs out.
+fn report_among<'a>(
+    alloc: Global,
+    formed: &Formed<'_, '_>,
+) -> Result<Vec<MethodVerdict<'a>>, AllocError> {
+    let list = [object(alloc), summary_of(alloc, formed)?];
     let Ok(classes) = Chains::new(alloc, &list, hasher()) else {
         return Err(AllocError);
     };
     match verify_class(alloc, &K, &classes) {
         Ok(report) => Ok(report),
+        Err(_) => Err(AllocError),
+    }
+}
+
+/// The verdicts on the methods of K; none where memory runs out.
+fn report<'a>(alloc: Global) -> Result<Vec<MethodVerdict<'a>>, AllocError> {
+    let Ok(class) = decode(alloc, &K) else {
+        return Err(AllocError);
+    };
+    match form_check(alloc, &class) {
+        Ok(formed) => report_among(alloc, &formed),
         Err(_) => Err(AllocError),
     }
 }
