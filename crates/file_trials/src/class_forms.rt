@@ -1,4 +1,4 @@
-use crate::class_files::changed;
+use crate::class_files::{changed, with_code};
 use classfile::{
     ClassFile, CodeMethod, FormFault, FormRule, Formed, Member, Place, decode, form_check,
     method_is_told,
@@ -8,6 +8,12 @@ use std::alloc::{AllocError, Global};
 use std::process::Abort;
 use std::test::*;
 
+/// Why a class is not well formed, of these bytes, if it is not.
+fn form_fault(alloc: Global, bytes: &[u8]) -> Result<Option<FormFault>, Fail> {
+    let class = decode(alloc, bytes)?;
+    Ok(form_check(alloc, &class).err())
+}
+
 /// The class with one byte changed, and what is told of it: nothing, or a number and a place.
 fn told(
     rt: &impl Abort,
@@ -16,10 +22,9 @@ fn told(
     byte: u8,
 ) -> Result<Option<(u8, Option<Place>)>, Fail> {
     let bytes = changed(rt, alloc, place, byte)?;
-    let class = decode(alloc, &bytes)?;
-    Ok(match form_check(alloc, &class) {
-        Ok(_) => None,
-        Err(fault) => Some((fault.number(), fault.place())),
+    Ok(match form_fault(alloc, &bytes)? {
+        None => None,
+        Some(fault) => Some((fault.number(), fault.place())),
     })
 }
 
@@ -77,30 +82,22 @@ fn rules_of_methods(rt: HostRuntime) -> Result<(), Fail> {
     Ok(())
 }
 
-/// The class with no byte of code.
-fn without_code(alloc: Global) -> Result<Vec<u8>, AllocError> {
-    let mut bytes = K[..81].to_vec(alloc)?;
-    bytes.push(0x0C)?;
-    bytes.extend_from_slice(&K[82..89])?;
-    bytes.push(0)?;
-    bytes.extend_from_slice(&K[91..])?;
-    Ok(bytes)
+/// That the rule is broken at the class's first method.
+fn check_method_rule(
+    rt: &impl Abort,
+    alloc: Global,
+    bytes: &[u8],
+    rule: FormRule,
+) -> Result<(), Fail> {
+    let place = Place::Method(0);
+    assert!(rt; form_fault(alloc, bytes)? == Some(FormFault::Broken { rule, place }));
+    Ok(())
 }
 
 #[test]
 fn code_without_bytes(rt: HostRuntime) -> Result<(), Fail> {
-    let bytes = without_code(rt.alloc())?;
-    let class = decode(rt.alloc(), &bytes)?;
-    assert!(rt;
-        matches!(
-            form_check(rt.alloc(), &class),
-            Err(FormFault::Broken {
-                rule: FormRule::BadCodeLength,
-                place: Place::Method(0)
-            })
-        )
-    );
-    Ok(())
+    let bytes = with_code(&rt, rt.alloc(), &[])?;
+    check_method_rule(&rt, rt.alloc(), &bytes, FormRule::BadCodeLength)
 }
 
 #[test]
@@ -109,17 +106,7 @@ fn two_codes(rt: HostRuntime) -> Result<(), Fail> {
     bytes.push(2)?;
     bytes.extend_from_slice(&K[76..95])?;
     bytes.extend_from_slice(&K[76..])?;
-    let class = decode(rt.alloc(), &bytes)?;
-    assert!(rt;
-        matches!(
-            form_check(rt.alloc(), &class),
-            Err(FormFault::Broken {
-                rule: FormRule::AttributeTwice,
-                place: Place::Method(0)
-            })
-        )
-    );
-    Ok(())
+    check_method_rule(&rt, rt.alloc(), &bytes, FormRule::AttributeTwice)
 }
 
 /// A native method of the name and the descriptor with these indices.
@@ -151,16 +138,19 @@ fn method<'c, 'a>(formed: Formed<'c, 'a>, number: usize) -> Option<CodeMethod<'c
     }
 }
 
+fn check_first_method(rt: &impl Abort, first: CodeMethod<'_, '_>) {
+    assert_eq!(rt; first.code.code.len(), 1);
+    assert!(rt; first.is_static && !first.is_init && first.result_type.is_none());
+    assert!(rt; first.descriptor().bytes() == b"()V".as_slice());
+    method_is_told::<u8>(first);
+}
+
 #[test]
 fn methods_with_code(rt: HostRuntime) -> Result<(), Fail> {
     let mut class = decode(rt.alloc(), &K)?;
     class.methods.push(native(rt.alloc(), 2, 6))?;
     let formed = form_check(rt.alloc(), &class).expect(&rt, "a class that is well formed");
-    let first = method(formed, 0).expect(&rt, "a method with code");
-    assert_eq!(rt; first.code.code.len(), 1);
-    assert!(rt; first.is_static && !first.is_init && first.result_type.is_none());
-    assert!(rt; first.descriptor().bytes() == b"()V".as_slice());
-    method_is_told::<u8>(first);
+    check_first_method(&rt, method(formed, 0).expect(&rt, "a method with code"));
     assert!(rt; method(formed, 1).is_none());
     Ok(())
 }

@@ -1,6 +1,8 @@
+use crate::parts::check_text;
 use layout::{Cursor, Output, Part, ReadFault, WriteFault};
 use pool::{Constant, Pool, PoolFault, found_where_it_stands, put_pool};
 use std::alloc::Global;
+use std::process::Abort;
 use std::test::*;
 
 /// Every kind of constant, the Long at 11 and 12 and the Double at 13 and 14.
@@ -15,70 +17,61 @@ fn laws_are_called() {
     found_where_it_stands();
 }
 
+/// That the pool is written as these bytes by `Part`.
+fn check_part(rt: &impl Abort, alloc: Global, pool: &Pool<'_>, want: &[u8]) -> Result<(), Fail> {
+    let mut bytes = Vec::new(alloc);
+    pool.put(&mut bytes)?;
+    assert_eq!(rt; bytes.as_slice(), want);
+    Ok(())
+}
+
+/// That the pool is written as these bytes where an output takes them.
+fn check_output(rt: &impl Abort, alloc: Global, pool: &Pool<'_>, want: &[u8]) -> Result<(), Fail> {
+    let mut out = Output::new(alloc);
+    let answer = put_pool(&mut out, pool);
+    let bytes = out.delivered(answer)?;
+    assert_eq!(rt; bytes.as_slice(), want);
+    Ok(())
+}
+
+fn check_constants(rt: &impl Abort, pool: &Pool<'_>) -> Result<(), Fail> {
+    assert!(rt; matches!(pool.get(11)?, Constant::Long { high: 1, low: 2 }));
+    assert_eq!(rt; pool.constants().len(), 19);
+    Ok(())
+}
+
 #[test]
 fn both_ways(rt: HostRuntime) -> Result<(), Fail> {
     let mut cursor = Cursor::new(&ALL);
     let pool = Pool::take(rt.alloc(), &mut cursor)?;
     assert_eq!(rt; cursor.at(), 85);
-    assert!(rt; matches!(pool.get(11)?, Constant::Long { high: 1, low: 2 }));
-    assert_eq!(rt; pool.constants().len(), 19);
-    let mut bytes = Vec::new(rt.alloc());
-    pool.put(&mut bytes)?;
-    assert_eq!(rt; bytes.as_slice(), ALL.as_slice());
+    check_constants(&rt, &pool)?;
+    check_part(&rt, rt.alloc(), &pool, &ALL)?;
     let again = Pool::new(pool.into_constants());
-    let mut out = Output::new(rt.alloc());
-    let answer = put_pool(&mut out, &again);
-    let bytes = out.delivered(answer)?;
-    assert_eq!(rt; bytes.as_slice(), ALL.as_slice());
-    Ok(())
+    check_output(&rt, rt.alloc(), &again, &ALL)
 }
 
-/// A pool that stands behind eight bytes, as in a class file, and the place where its reading ends.
-fn read(alloc: Global, bytes: &[u8]) -> (Result<(), ReadFault>, usize) {
+/// That no pool stands behind eight bytes, as in a class file, for this fault, and nothing is read.
+fn check_refused(rt: &impl Abort, alloc: Global, bytes: &[u8], want: ReadFault) {
     let mut cursor = Cursor::starting(8, bytes);
-    let answer = Pool::take(alloc, &mut cursor).map(|_| ());
-    (answer, cursor.at())
+    let fault = Pool::take(alloc, &mut cursor).err();
+    assert!(rt; fault == Some(want));
+    assert_eq!(rt; cursor.at(), 8);
 }
 
 #[test]
 fn refused(rt: HostRuntime) {
-    let alloc = rt.alloc();
-    assert!(rt;
-        matches!(
-            read(alloc, &[0, 2, 2]),
-            (Err(ReadFault::BadTag { at: 10, tag: 2 }), 8)
-        )
-    );
-    assert!(rt;
-        matches!(
-            read(alloc, &[0, 2, 5]),
-            (Err(ReadFault::BadTag { at: 10, tag: 5 }), 8)
-        )
-    );
-    assert!(rt;
-        matches!(
-            read(alloc, &[0, 2, 15, 10]),
-            (Err(ReadFault::BadTag { at: 11, tag: 10 }), 8)
-        )
-    );
-    assert!(rt;
-        matches!(
-            read(alloc, &[0, 2, 1, 0, 1, 0]),
-            (Err(ReadFault::BadText { at: 13 }), 8)
-        )
-    );
-    assert!(rt;
-        matches!(
-            read(alloc, &[0, 0]),
-            (Err(ReadFault::BadPoolCount { at: 8 }), 8)
-        )
-    );
-    assert!(rt;
-        matches!(
-            read(alloc, &[0, 2, 9, 0, 1, 0]),
-            (Err(ReadFault::EndsEarly { at: 13 }), 8)
-        )
-    );
+    let rows: [(&[u8], ReadFault); 6] = [
+        (&[0, 2, 2], ReadFault::BadTag { at: 10, tag: 2 }),
+        (&[0, 2, 5], ReadFault::BadTag { at: 10, tag: 5 }),
+        (&[0, 2, 15, 10], ReadFault::BadTag { at: 11, tag: 10 }),
+        (&[0, 2, 1, 0, 1, 0], ReadFault::BadText { at: 13 }),
+        (&[0, 0], ReadFault::BadPoolCount { at: 8 }),
+        (&[0, 2, 9, 0, 1, 0], ReadFault::EndsEarly { at: 13 }),
+    ];
+    for (bytes, want) in rows {
+        check_refused(&rt, rt.alloc(), bytes, want);
+    }
 }
 
 #[test]
@@ -91,28 +84,53 @@ fn unspelled(rt: HostRuntime) -> Result<(), Fail> {
     Ok(())
 }
 
-#[test]
-fn look_ups(rt: HostRuntime) -> Result<(), Fail> {
-    let pool = Pool::take(rt.alloc(), &mut Cursor::new(&ALL))?;
+fn check_names(rt: &impl Abort, pool: &Pool<'_>) -> Result<(), Fail> {
     assert_eq!(rt; pool.text(3)?.bytes(), b"f".as_slice());
     assert_eq!(rt; pool.class_name(2)?.bytes(), b"A".as_slice());
-    let named = pool.name_and_type(5)?;
-    assert_eq!(rt; named.name.bytes(), b"f".as_slice());
-    assert_eq!(rt; named.descriptor.bytes(), b"I".as_slice());
-    assert_eq!(rt; pool.field_ref(6)?.class.bytes(), b"A".as_slice());
-    assert!(rt; !pool.method_ref(7)?.interface);
-    assert!(rt; pool.method_ref(8)?.interface);
-    assert!(rt; matches!(pool.get(0), Err(PoolFault::BadIndex { index: 0 })));
-    assert!(rt; matches!(pool.get(12), Err(PoolFault::BadIndex { index: 12 })));
-    assert!(rt; matches!(pool.get(20), Err(PoolFault::BadIndex { index: 20 })));
-    assert!(rt; matches!(pool.class_name(1), Err(PoolFault::WrongKind { index: 1 })));
-    assert!(rt; matches!(pool.field_ref(7), Err(PoolFault::WrongKind { index: 7 })));
     Ok(())
 }
 
+fn check_name_and_type(rt: &impl Abort, pool: &Pool<'_>) -> Result<(), Fail> {
+    let named = pool.name_and_type(5)?;
+    assert_eq!(rt; named.name.bytes(), b"f".as_slice());
+    assert_eq!(rt; named.descriptor.bytes(), b"I".as_slice());
+    Ok(())
+}
+
+fn check_references(rt: &impl Abort, pool: &Pool<'_>) -> Result<(), Fail> {
+    assert_eq!(rt; pool.field_ref(6)?.class.bytes(), b"A".as_slice());
+    assert!(rt; !pool.method_ref(7)?.interface);
+    assert!(rt; pool.method_ref(8)?.interface);
+    Ok(())
+}
+
+/// That no constant stands at the index.
+fn check_index(rt: &impl Abort, pool: &Pool<'_>, index: u16) {
+    assert!(rt; pool.get(index).err() == Some(PoolFault::BadIndex { index }));
+}
+
+/// That a text is no class, and a method no field.
+fn check_kinds(rt: &impl Abort, pool: &Pool<'_>) {
+    assert!(rt; pool.class_name(1).err() == Some(PoolFault::WrongKind { index: 1 }));
+    assert!(rt; pool.field_ref(7).err() == Some(PoolFault::WrongKind { index: 7 }));
+}
+
 #[test]
-fn nested_faults(rt: HostRuntime) -> Result<(), Fail> {
-    let constants = vec![in rt.alloc();
+fn look_ups(rt: HostRuntime) -> Result<(), Fail> {
+    let pool = Pool::take(rt.alloc(), &mut Cursor::new(&ALL))?;
+    check_names(&rt, &pool)?;
+    check_name_and_type(&rt, &pool)?;
+    check_references(&rt, &pool)?;
+    for index in [0, 12, 20] {
+        check_index(&rt, &pool, index);
+    }
+    check_kinds(&rt, &pool);
+    Ok(())
+}
+
+/// A field and a name and type that name no such constants.
+fn broken(alloc: Global) -> Result<Pool<'static>, Fail> {
+    let constants = vec![in alloc;
         Constant::Class { name: 9 },
         Constant::Fieldref {
             class: 1,
@@ -123,37 +141,36 @@ fn nested_faults(rt: HostRuntime) -> Result<(), Fail> {
             descriptor: 0
         },
     ]?;
-    let pool = Pool::new(constants);
-    assert!(rt; matches!(pool.field_ref(2), Err(PoolFault::BadIndex { index: 9 })));
-    assert!(rt;
-        matches!(
-            pool.name_and_type(3),
-            Err(PoolFault::WrongKind { index: 1 })
-        )
-    );
+    Ok(Pool::new(constants))
+}
+
+#[test]
+fn nested_faults(rt: HostRuntime) -> Result<(), Fail> {
+    let pool = broken(rt.alloc())?;
+    assert!(rt; pool.field_ref(2).err() == Some(PoolFault::BadIndex { index: 9 }));
     let fault = PoolFault::WrongKind { index: 1 };
+    assert!(rt; pool.name_and_type(3).err() == Some(fault));
     assert_eq!(rt; fault.number(), 9);
-    assert_eq!(rt;
-        format!(in rt.alloc(); "{fault}")?.as_str(),
-        "refused 9 index 1"
-    );
-    Ok(())
+    check_text(&rt, rt.alloc(), &fault, "refused 9 index 1")
+}
+
+/// That the pool is written in 85 bytes, or memory runs out and nothing is written.
+fn check_put_or_memory(rt: &impl Abort, alloc: Global, pool: &Pool<'_>) {
+    let mut out = Vec::new(alloc);
+    match pool.put(&mut out) {
+        Ok(()) => assert_eq!(rt; out.len(), 85),
+        Err(e) => {
+            assert!(rt; matches!(e, WriteFault::OutOfMemory));
+            assert_eq!(rt; out.len(), 0);
+        }
+    }
 }
 
 #[test]
 fn want_of_memory(rt: HostRuntime) {
     let mut cursor = Cursor::new(&ALL);
     match Pool::take(rt.alloc(), &mut cursor) {
-        Ok(pool) => {
-            let mut out = Vec::new(rt.alloc());
-            match pool.put(&mut out) {
-                Ok(()) => assert_eq!(rt; out.len(), 85),
-                Err(e) => {
-                    assert!(rt; matches!(e, WriteFault::OutOfMemory));
-                    assert_eq!(rt; out.len(), 0);
-                }
-            }
-        }
+        Ok(pool) => check_put_or_memory(&rt, rt.alloc(), &pool),
         Err(e) => {
             assert!(rt; matches!(e, ReadFault::OutOfMemory));
             assert_eq!(rt; cursor.at(), 0);

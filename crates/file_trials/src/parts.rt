@@ -1,23 +1,60 @@
 use layout::{Cursor, Output, Part, ReadFault, StreamFault, WriteFault, many, whole};
+use std::alloc::Global;
+use std::fmt::Display;
+use std::process::Abort;
 use std::test::*;
+
+/// What is read of the first seven of nine bytes.
+fn check_start(rt: &impl Abort, cursor: &mut Cursor<'_>) -> Result<(), Fail> {
+    assert_eq!(rt; cursor.u1()?, 1);
+    assert_eq!(rt; cursor.u2()?, 0x0203);
+    assert_eq!(rt; cursor.u4()?, 0x0405_0607);
+    Ok(())
+}
+
+/// What is read of the last two of nine bytes by a cursor of its own.
+fn check_fork(rt: &impl Abort, cursor: &Cursor<'_>) -> Result<(), Fail> {
+    let mut other = cursor.fork();
+    assert_eq!(rt; other.part(2)?, [8u8, 9].as_slice());
+    assert_eq!(rt; other.at(), 9);
+    assert!(rt; other.u1().err() == Some(ReadFault::EndsEarly { at: 9 }));
+    Ok(())
+}
+
+/// That two bytes are too few for what is longer, and are not read.
+fn check_short(rt: &impl Abort, cursor: &mut Cursor<'_>) {
+    let short = Some(ReadFault::EndsEarly { at: 7 });
+    assert!(rt; cursor.part(3).err() == short);
+    assert!(rt; cursor.u4().err() == short);
+}
+
+/// What is read of the last two of nine bytes.
+fn check_end(rt: &impl Abort, cursor: &mut Cursor<'_>) -> Result<(), Fail> {
+    check_short(rt, cursor);
+    assert_eq!(rt; cursor.u1()?, 8);
+    assert!(rt; cursor.u2().err() == Some(ReadFault::EndsEarly { at: 8 }));
+    assert_eq!(rt; cursor.rest(), [9u8].as_slice());
+    Ok(())
+}
 
 #[test]
 fn cursor(rt: HostRuntime) -> Result<(), Fail> {
     let bytes = [1u8, 2, 3, 4, 5, 6, 7, 8, 9];
     let mut cursor = Cursor::new(&bytes);
-    assert_eq!(rt; cursor.u1()?, 1);
-    assert_eq!(rt; cursor.u2()?, 0x0203);
-    assert_eq!(rt; cursor.u4()?, 0x0405_0607);
-    let mut other = cursor.fork();
-    assert_eq!(rt; other.part(2)?, [8u8, 9].as_slice());
-    assert_eq!(rt; other.at(), 9);
-    assert!(rt; matches!(other.u1(), Err(ReadFault::EndsEarly { at: 9 })));
-    assert!(rt; matches!(cursor.part(3), Err(ReadFault::EndsEarly { at: 7 })));
-    assert!(rt; matches!(cursor.u4(), Err(ReadFault::EndsEarly { at: 7 })));
-    assert_eq!(rt; cursor.u1()?, 8);
-    assert!(rt; matches!(cursor.u2(), Err(ReadFault::EndsEarly { at: 8 })));
-    assert_eq!(rt; cursor.rest(), [9u8].as_slice());
+    check_start(&rt, &mut cursor)?;
+    check_fork(&rt, &cursor)?;
+    check_end(&rt, &mut cursor)?;
     assert_eq!(rt; Cursor::starting(40, &bytes).at(), 40);
+    Ok(())
+}
+
+/// That the numbers are written as these bytes.
+fn check_numbers(rt: &impl Abort, alloc: Global, numbers: &[u16], want: &[u8]) -> Result<(), Fail> {
+    let mut out = Vec::new(alloc);
+    for number in numbers {
+        number.put(&mut out)?;
+    }
+    assert_eq!(rt; out.as_slice(), want);
     Ok(())
 }
 
@@ -27,37 +64,19 @@ fn parts(rt: HostRuntime) -> Result<(), Fail> {
     let mut cursor = Cursor::new(&bytes);
     let numbers = many::<u16>(rt.alloc(), &mut cursor, 2)?;
     assert_eq!(rt; numbers.as_slice(), [0x0102u16, 0x0304].as_slice());
-    assert!(rt;
-        matches!(
-            u16::take(rt.alloc(), &mut cursor),
-            Err(ReadFault::EndsEarly { at: 4 })
-        )
-    );
-    let mut out = Vec::new(rt.alloc());
-    for number in &numbers {
-        number.put(&mut out)?;
-    }
-    assert_eq!(rt; out.as_slice(), [1u8, 2, 3, 4].as_slice());
-    Ok(())
+    let cut = u16::take(rt.alloc(), &mut cursor).err();
+    assert!(rt; cut == Some(ReadFault::EndsEarly { at: 4 }));
+    check_numbers(&rt, rt.alloc(), &numbers, &[1, 2, 3, 4])
 }
 
 #[test]
 fn body(rt: HostRuntime) -> Result<(), Fail> {
     let bytes = [1u8];
     let mut inner = Cursor::starting(10, &bytes);
-    assert!(rt;
-        matches!(
-            whole(4, &inner, Ok::<u8, ReadFault>(0)),
-            Err(ReadFault::AttributeLength { at: 4 })
-        )
-    );
+    let wrong = Some(ReadFault::AttributeLength { at: 4 });
+    assert!(rt; whole(4, &inner, Ok::<u8, ReadFault>(0)).err() == wrong);
     let cut = inner.u2();
-    assert!(rt;
-        matches!(
-            whole(4, &inner, cut),
-            Err(ReadFault::AttributeLength { at: 4 })
-        )
-    );
+    assert!(rt; whole(4, &inner, cut).err() == wrong);
     let read = inner.u1();
     assert_eq!(rt; whole(4, &inner, read)?, 1);
     Ok(())
@@ -104,13 +123,21 @@ fn refused(rt: HostRuntime) {
     assert!(rt; matches!(out.delivered(Ok(())), Err(WriteFault::HasNoSpelling)));
 }
 
+/// That the thing is displayed as this text.
+pub fn check_text<T: Display>(
+    rt: &impl Abort,
+    alloc: Global,
+    shown: &T,
+    want: &str,
+) -> Result<(), Fail> {
+    assert_eq!(rt; format!(in alloc; "{shown}")?.as_str(), want);
+    Ok(())
+}
+
 #[test]
 fn numbers_and_texts(rt: HostRuntime) -> Result<(), Fail> {
     let tag = ReadFault::BadTag { at: 10, tag: 2 };
-    assert_eq!(rt;
-        format!(in rt.alloc(); "{tag}")?.as_str(),
-        "refused 7 at 10 tag 2"
-    );
+    check_text(&rt, rt.alloc(), &tag, "refused 7 at 10 tag 2")?;
     let version = ReadFault::BadVersion {
         major: 50,
         minor: 0,
@@ -119,13 +146,32 @@ fn numbers_and_texts(rt: HostRuntime) -> Result<(), Fail> {
         taken: 8,
         why: version,
     };
-    assert_eq!(rt;
-        format!(in rt.alloc(); "{stopped}")?.as_str(),
-        "refused 11 50.0"
-    );
+    check_text(&rt, rt.alloc(), &stopped, "refused 11 50.0")?;
     assert_eq!(rt; version.number(), 11);
     assert_eq!(rt; WriteFault::HasNoSpelling.number(), 18);
     Ok(())
+}
+
+/// That a number is written in its two bytes, or memory runs out and nothing is written.
+fn check_put_or_memory(rt: &impl Abort, alloc: Global) {
+    let mut bytes = Vec::new(alloc);
+    match 7u16.put(&mut bytes) {
+        Ok(()) => assert_eq!(rt; bytes.len(), 2),
+        Err(e) => {
+            assert!(rt; matches!(e, WriteFault::OutOfMemory));
+            assert_eq!(rt; bytes.len(), 0);
+        }
+    }
+}
+
+/// That an output delivers the four bytes of a number, or memory runs out.
+fn check_output_or_memory(rt: &impl Abort, alloc: Global) {
+    let mut out = Output::new(alloc);
+    let answer = out.put_u4(1);
+    match out.delivered(answer) {
+        Ok(bytes) => assert_eq!(rt; bytes.len(), 4),
+        Err(e) => assert!(rt; matches!(e, WriteFault::OutOfMemory)),
+    }
 }
 
 #[test]
@@ -134,18 +180,6 @@ fn want_of_memory(rt: HostRuntime) {
         Ok(numbers) => assert_eq!(rt; numbers.len(), 2),
         Err(e) => assert!(rt; matches!(e, ReadFault::OutOfMemory)),
     }
-    let mut bytes = Vec::new(rt.alloc());
-    match 7u16.put(&mut bytes) {
-        Ok(()) => assert_eq!(rt; bytes.len(), 2),
-        Err(e) => {
-            assert!(rt; matches!(e, WriteFault::OutOfMemory));
-            assert_eq!(rt; bytes.len(), 0);
-        }
-    }
-    let mut out = Output::new(rt.alloc());
-    let answer = out.put_u4(1);
-    match out.delivered(answer) {
-        Ok(bytes) => assert_eq!(rt; bytes.len(), 4),
-        Err(e) => assert!(rt; matches!(e, WriteFault::OutOfMemory)),
-    }
+    check_put_or_memory(&rt, rt.alloc());
+    check_output_or_memory(&rt, rt.alloc());
 }

@@ -22,6 +22,3 @@ mod print;
 pub use listing::Listing;
 pub use name::{ClassName, ConstantText, Hexadecimal, Name, Spelled};
 pub use print::{Lines, Number, Print, Then, Word, WriteFailed, put_bytes, put_lines};
-
-#[cfg(test)]
-mod tests;
