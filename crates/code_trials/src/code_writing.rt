@@ -1,5 +1,8 @@
-use insn::{Insn, Opcode, Operands, decode_code, encode_code};
+use crate::code_forms::decoded;
+use insn::{Insn, Opcode, Operands, encode_code};
 use layout::WriteFault;
+use std::alloc::Global;
+use std::process::Abort;
 use std::test::*;
 
 #[test]
@@ -26,6 +29,24 @@ fn a_switch_is_written_with_its_padding(rt: HostRuntime) -> Result<(), Fail> {
     Ok(())
 }
 
+/// The instructions that the code is read as.
+fn read<'a>(rt: &impl Abort, alloc: Global, code: &'a [u8]) -> Result<Vec<Insn<'a>>, Fail> {
+    let read = decoded(rt, alloc, code)?;
+    let mut list = Vec::new(alloc);
+    for (_, insn) in &read {
+        list.push(*insn)?;
+    }
+    Ok(list)
+}
+
+/// That the code is written as it is read.
+fn check_again(rt: &impl Abort, alloc: Global, code: &[u8]) -> Result<(), Fail> {
+    let list = read(rt, alloc, code)?;
+    let bytes = encode_code(alloc, &list)?;
+    assert_eq!(rt; bytes.as_slice(), code);
+    Ok(())
+}
+
 #[test]
 fn what_is_read_is_written(rt: HostRuntime) -> Result<(), Fail> {
     let code = [
@@ -34,14 +55,13 @@ fn what_is_read_is_written(rt: HostRuntime) -> Result<(), Fail> {
         1, 2, 0xAB, 0, 0, 0, 12, 0, 0, 0, 1, 0x80, 0, 0, 0, 0, 0, 0, 4, 0xC4, 0x15, 1, 0, 0xC4,
         0x84, 0, 2, 0xFF, 0xFE,
     ];
-    let read = decode_code(rt.alloc(), &code)?;
-    let mut list = Vec::new(rt.alloc());
-    for (_, insn) in &read {
-        list.push(*insn)?;
-    }
-    let bytes = encode_code(rt.alloc(), &list)?;
-    assert_eq!(rt; bytes.as_slice(), code.as_slice());
-    Ok(())
+    check_again(&rt, rt.alloc(), &code)
+}
+
+/// That the instructions are not written, since no bytes spell them.
+fn check_unspelled(rt: &impl Abort, alloc: Global, list: &[Insn<'_>]) {
+    let fault = encode_code(alloc, list).err();
+    assert!(rt; fault == Some(WriteFault::HasNoSpelling));
 }
 
 #[test]
@@ -74,8 +94,7 @@ fn what_no_bytes_spell(rt: HostRuntime) {
         ),
     ];
     for (opcode, operands) in wrong {
-        let answer = encode_code(rt.alloc(), &[Insn { opcode, operands }]);
-        assert!(rt; matches!(answer, Err(WriteFault::HasNoSpelling)));
+        check_unspelled(&rt, rt.alloc(), &[Insn { opcode, operands }]);
     }
 }
 
@@ -98,8 +117,7 @@ fn switches_that_no_bytes_spell(rt: HostRuntime) {
             opcode: Opcode::Tableswitch,
             operands: Operands::TableSwitch(bytes),
         };
-        let answer = encode_code(rt.alloc(), &[switch]);
-        assert!(rt; matches!(answer, Err(WriteFault::HasNoSpelling)));
+        check_unspelled(&rt, rt.alloc(), &[switch]);
     }
     let pairs: [&[u8]; 8] = [
         // no padding
@@ -121,9 +139,20 @@ fn switches_that_no_bytes_spell(rt: HostRuntime) {
             opcode: Opcode::Lookupswitch,
             operands: Operands::LookupSwitch(bytes),
         };
-        let answer = encode_code(rt.alloc(), &[switch]);
-        assert!(rt; matches!(answer, Err(WriteFault::HasNoSpelling)));
+        check_unspelled(&rt, rt.alloc(), &[switch]);
     }
+}
+
+/// That the instructions are written in so many bytes.
+fn check_length(
+    rt: &impl Abort,
+    alloc: Global,
+    list: &[Insn<'_>],
+    want: usize,
+) -> Result<(), Fail> {
+    let bytes = encode_code(alloc, list)?;
+    assert_eq!(rt; bytes.len(), want);
+    Ok(())
 }
 
 #[test]
@@ -136,12 +165,9 @@ fn padding_by_the_offset(rt: HostRuntime) -> Result<(), Fail> {
         opcode: Opcode::Lookupswitch,
         operands: Operands::LookupSwitch(&[0, 0, 0, 0, 0, 0, 12, 0, 0, 0, 0]),
     };
-    let bytes = encode_code(rt.alloc(), &[switch])?;
-    assert_eq!(rt; bytes.len(), 12);
-    let bytes = encode_code(rt.alloc(), &[nop, nop, nop, nop, switch])?;
-    assert_eq!(rt; bytes.len(), 16);
-    let answer = encode_code(rt.alloc(), &[nop, switch]);
-    assert!(rt; matches!(answer, Err(WriteFault::HasNoSpelling)));
+    check_length(&rt, rt.alloc(), &[switch], 12)?;
+    check_length(&rt, rt.alloc(), &[nop, nop, nop, nop, switch], 16)?;
+    check_unspelled(&rt, rt.alloc(), &[nop, switch]);
     Ok(())
 }
 
@@ -154,8 +180,7 @@ fn no_more_than_a_method_may_have(rt: HostRuntime) -> Result<(), Fail> {
             operands: Operands::Nothing,
         })?;
     }
-    let bytes = encode_code(rt.alloc(), &list)?;
-    assert_eq!(rt; bytes.len(), 65535);
+    check_length(&rt, rt.alloc(), &list, 65535)?;
     list.push(Insn {
         opcode: Opcode::Iload,
         operands: Operands::Nothing,
