@@ -1,10 +1,11 @@
-//! The tests of the public calls of `answers`. They stand in crates of their own, so that each library is proved once and not a second time with its tests.
+//! The tests of the public calls of `answers` and `command_line`. They stand in crates of their own, so that each library is proved once and not a second time with its tests.
 //!
 //! | File | What it tests |
 //! |---|---|
 //! | `files` | what each command answers of files, read or not |
 //! | `code` | a method's code: what `show` and `verify` say of it |
-//! | `making` | what both stand on |
+//! | `lines` | what a line asks for, and what the program complains of |
+//! | `making` | what the first two stand on |
 //!
 //! A test with `memory` in its name passes also where any one allocation fails; `tests/allocations` runs those so.
 #![tactic(auto)]
@@ -13,5 +14,7 @@
 mod code;
 #[cfg(test)]
 mod files;
+#[cfg(test)]
+mod lines;
 #[cfg(test)]
 mod making;

@@ -2,11 +2,11 @@
 use Rattle.std.specs.Prelude.{ℕ, ◌≤◌}
 use Rattle.classck.specs.declared.ending.Ending.{Ending}
 use Rattle.classck.specs.declared.ending.Ending.TheVariants.{Line, NoText, Fault}
-use Rattle.classck.specs.declared.fault.MainFault.TheVariants.{NoRandom, CannotOpen, Memory, NotWritten}
+use Rattle.command_line.specs.declared.fault.MainFault.TheVariants.{NoRandom, CannotOpen, Memory, NotWritten}
 use Rattle.answers.specs.declared.fault.AnswerFault.{AnswerFault}
 use Rattle.answers.specs.declared.fault.AnswerFault.TheVariants as answering
-use Rattle.classck.specs.declared.line.LineFault.{LineFault}
-use Rattle.classck.specs.declared.line.LineFault.TheVariants as parsing
+use Rattle.command_line.specs.declared.line.LineFault.{LineFault}
+use Rattle.command_line.specs.declared.line.LineFault.TheVariants as parsing
 
 abbrev pub line_ending : LineFault → Ending
 line_ending parsing.OutOfMemory = Fault Memory

@@ -1,4 +1,1 @@
-pub mod Line
-pub mod Texts
-pub mod Writing
 pub mod Endings

@@ -1,13 +1,11 @@
 //! Ends without an answer, with status 2.
 ghost use Rattle.std.specs.Prelude.{◌≡◌};
 ghost use Rattle.classck.specs.declared.ending.Ending.TheVariants.{Fault};
-ghost use Rattle.classck.specs.declared.fault.MainFault.TheVariants.{Memory};
+ghost use Rattle.command_line.specs.declared.fault.MainFault.TheVariants.{Memory};
 ghost use Rattle.classck.specs.Endings.{line_ending, answer_ending};
 
-use crate::complaining::complaint;
-use crate::fault::MainFault;
-use crate::line::LineFault;
 use answers::AnswerFault;
+use command_line::{LineFault, MainFault, complaint};
 use std::alloc::{AllocError, AllocFailed};
 
 /// Why the program ends with status 2.

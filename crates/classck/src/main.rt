@@ -1,25 +1,16 @@
 //! `classck`: verifies Java class files by type checking.
 //!
-//! `main` reads the line (`parsing`), opens and reads the files (`reading`), answers (the library `answers`), and prints
-//! the answer, or why there is none (`ending`, `complaining`).
+//! `main` reads the line (the library `command_line`), opens and reads the files (`reading`), answers (the library
+//! `answers`), and prints the answer, or why there is none (`ending`).
 #![tactic(auto)]
 
-mod complaining;
 mod ending;
-mod fault;
-mod line;
-mod parsing;
 mod reading;
-#[cfg(test)]
-mod tests;
 
-use crate::complaining::complaint;
 use crate::ending::Ending;
-use crate::fault::MainFault;
-use crate::line::Request;
-use crate::parsing::request;
 use crate::reading::read_all;
 use answers::answer;
+use command_line::{MainFault, Request, request};
 use std::hash::RandomState;
 use std::io::{BufWriter, ErrorKind, Write};
 use std::process::ExitCode;

@@ -4,7 +4,7 @@ ghost use Rattle.classck.specs.Endings.{StopsReading};
 ghost use Rattle.layout.specs.declared.fault.ReadFault.TheVariants.{OutOfMemory, ReadFailed};
 
 use crate::ending::Ending;
-use crate::fault::MainFault;
+use command_line::MainFault;
 use layout::{MAX_CLASS_BYTES, ReadFault, StreamFault};
 use std::alloc::Global;
 use std::fs::File;

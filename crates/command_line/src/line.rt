@@ -1,6 +1,6 @@
 //! What a command line asks for, or why it asks for nothing.
 ghost use Rattle.std.specs.Prelude.{◌≡◌};
-ghost use Rattle.classck.specs.declared.line.LineFault.TheVariants.{OutOfMemory};
+ghost use Rattle.command_line.specs.declared.line.LineFault.TheVariants.{OutOfMemory};
 
 use answers::Command;
 use std::alloc::{AllocError, AllocFailed};

@@ -1,5 +1,5 @@
 use Rattle.std.proofs.Common.{rules}
-use Rattle.classck.proofs.parsing.command_named.Goals as goal
+use Rattle.command_line.proofs.parsing.command_named.Goals as goal
 
 pub returns-then-eq-2 : goal.returns-then-eq-2
 returns-then-eq-2 c = search rules

@@ -1,9 +1,7 @@
-use crate::complaining::complaint;
-use crate::fault::MainFault;
-use crate::line::LineFault;
-use crate::parsing::request;
+//! What a line asks for, and what the program complains of.
 use answers::Command;
 use clap::error::ErrorKind;
+use command_line::{LineFault, MainFault, complaint, request};
 use std::test::*;
 
 #[test]

@@ -2,8 +2,8 @@ use Rattle.std.proofs.Common.{◌≡◌, ◌∙◌, ◌++◌, [], None, map, opt
 use Rattle.std.specs.Option.{unwrap_or}
 use Rattle.std.proofs.lemmas.List.{append-nil}
 use Rattle.clap.specs.Words.{all_of, rows_of, found_of}
-use Rattle.classck.proofs.Rows.{raw_rows}
-use Rattle.classck.proofs.parsing.add_words.Goals as goal
+use Rattle.command_line.proofs.Rows.{raw_rows}
+use Rattle.command_line.proofs.parsing.add_words.Goals as goal
 
 pub returns-in-None : goal.returns-in-None
 returns-in-None c =

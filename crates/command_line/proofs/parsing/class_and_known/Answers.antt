@@ -2,8 +2,8 @@ use Rattle.std.proofs.Common.{◌≡◌, ◌∙◌, Bool, false, ◌||◌, Resul
 use Rattle.std.specs.Prelude.{IfOk}
 use Rattle.clap.specs.Words.{app_of, with_rule}
 use Rattle.clap.specs.declared.builder.command.Command.TheViews.{out-Command}
-use Rattle.classck.specs.Line.{class_file, known_files}
-use Rattle.classck.proofs.parsing.class_and_known.Goals as goal
+use Rattle.command_line.specs.Line.{class_file, known_files}
+use Rattle.command_line.proofs.parsing.class_and_known.Goals as goal
 
 if_ok : {T E : Type 0} (r : Result T E) (P Q : T → Type 0) → IfOk r P → ((x : T) → P x → Q x) → IfOk r Q
 if_ok (Ok x) P Q p f = f x p

@@ -1,6 +1,6 @@
 //! Says why the program ends without an answer.
-ghost use Rattle.classck.specs.Texts.{complaint_text};
-ghost use Rattle.classck.specs.Writing.{WritesOrFails};
+ghost use Rattle.command_line.specs.Texts.{complaint_text};
+ghost use Rattle.command_line.specs.Writing.{WritesOrFails};
 
 use crate::fault::MainFault;
 use answers::AnswerFault;

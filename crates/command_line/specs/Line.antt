@@ -7,9 +7,9 @@ use Rattle.clap.specs.declared.error.kind.ErrorKind.TheVariants as kind
 use Rattle.clap.specs.Words.{App, Row, Rule, Shape, Text, all_of, new_app, new_rule, with_rule, with_subcommand, subcommand_of, fault_of, Kinds, IsAmong, kind_of}
 use Rattle.answers.specs.declared.command.Command.{Command}
 use Rattle.answers.specs.declared.command.Command.TheVariants.{Check, Show, Verify}
-use Rattle.classck.specs.declared.line.Request.{Request}
-use Rattle.classck.specs.declared.line.LineFault.{LineFault}
-use Rattle.classck.specs.declared.line.LineFault.TheVariants.{OutOfMemory, NoRequest}
+use Rattle.command_line.specs.declared.line.Request.{Request}
+use Rattle.command_line.specs.declared.line.LineFault.{LineFault}
+use Rattle.command_line.specs.declared.line.LineFault.TheVariants.{OutOfMemory, NoRequest}
 
 -- one file, which must be there
 abbrev pub file : Rule

@@ -6,8 +6,8 @@ use Rattle.std.specs.Prelude.{Box}
 use Rattle.std.specs.Box.{box_value}
 use Rattle.clap.specs.declared.parser.matches.SubCommand.{SubCommand}
 use Rattle.clap.proofs.OnLiterals.{clap_on_literals}
-use Rattle.classck.specs.Line.{line, IsFault, asked, files_in}
-use Rattle.classck.proofs.parsing.request.Goals as goal
+use Rattle.command_line.specs.Line.{line, IsFault, asked, files_in}
+use Rattle.command_line.proofs.parsing.request.Goals as goal
 
 free : is_simple_and_free line ≡ true
 unfolding clap_on_literals

@@ -2,7 +2,7 @@
 ghost use Rattle.std.specs.Prelude.{◌≡◌, ◌++◌, IfOk, OnOk, codes, false, map, string_bytes};
 ghost use Rattle.clap.specs.Words.{Kinds, HasKind, app_of, rule_of, rows_of, found_of, new_app, with_rule};
 ghost use Rattle.clap.specs.declared.builder.command.Command.TheViews.{out-Command};
-ghost use Rattle.classck.specs.Line.{line, line_of_file, file, class_file, known_files, IsFault, ToldBy, Asks, command_named, words_for, files_in};
+ghost use Rattle.command_line.specs.Line.{line, line_of_file, file, class_file, known_files, IsFault, ToldBy, Asks, command_named, words_for, files_in};
 
 use crate::line::{LineFault, Request};
 use answers::Command;

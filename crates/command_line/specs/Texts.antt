@@ -1,7 +1,7 @@
 -- The lines that the program writes where it ends without an answer.
 use Rattle.std.specs.Prelude.{ℕ, List, ◌++◌, codes, decimal}
-use Rattle.classck.specs.declared.fault.MainFault.{MainFault}
-use Rattle.classck.specs.declared.fault.MainFault.TheVariants.{NoRandom, CannotOpen, Memory, NotWritten}
+use Rattle.command_line.specs.declared.fault.MainFault.{MainFault}
+use Rattle.command_line.specs.declared.fault.MainFault.TheVariants.{NoRandom, CannotOpen, Memory, NotWritten}
 
 abbrev pub complaint_text : MainFault → List ℕ
 complaint_text NoRandom = codes "no random words\n"

@@ -1,6 +1,6 @@
 use Rattle.std.proofs.Common.{◌∙◌, ap}
 use Rattle.clap.specs.Simple.{app_of_fields}
-use Rattle.classck.proofs.parsing.verify.Goals as goal
+use Rattle.command_line.proofs.parsing.show.Goals as goal
 
 pub returns-clause-app : goal.returns-clause-app
 returns-clause-app c = ap app_of_fields c.about.ensures ∙ c.in_ok-command.ensures.app

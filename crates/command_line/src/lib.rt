@@ -1,0 +1,15 @@
+//! What a command line asks for, and what the program says where it ends without an answer.
+//!
+//! `line` has what is asked for, `parsing` reads it of words with `clap`, `fault` has what else may go wrong, and
+//! `complaining` says it.
+#![tactic(auto)]
+
+mod complaining;
+mod fault;
+mod line;
+mod parsing;
+
+pub use complaining::complaint;
+pub use fault::MainFault;
+pub use line::{LineFault, Request};
+pub use parsing::request;
