@@ -62,22 +62,6 @@ wide v (suc zero) (s ∷ t ∷ []) e lt = absurd (omega (arith, lt))
 wide v (suc zero) (s ∷ t ∷ u ∷ ss) e lt = ap (λ b. (if is_wide_slot s then empty else s) ∷ holds v ∷ (if b then second_first (u ∷ ss) else behind_lost (is_wide_slot t) (u ∷ ss))) (sym e)
 wide v (suc (suc n)) (s ∷ t ∷ ss) e lt = ap (λ ys. s ∷ ys) (wide v (suc n) (t ∷ ss) e (omega (arith, lt)))
 
-before_length : (n : ℕ) (ss : List Slot) → length (with_before n ss) ≡ length ss
-before_length n [] = refl
-before_length zero (s ∷ ss) = refl
-before_length (suc zero) (s ∷ ss) = refl
-before_length (suc (suc n)) (s ∷ ss) = ap suc (before_length (suc n) ss)
-
-lost_length : (b : _) (ss : List Slot) → length (behind_lost b ss) ≡ length ss
-lost_length true [] = refl
-lost_length true (s ∷ ss) = refl
-lost_length false ss = refl
-
-behind_length : (n : ℕ) (ss : List Slot) → length (with_behind n ss) ≡ length ss
-behind_length n [] = refl
-behind_length zero (s ∷ ss) = ap suc (lost_length (is_wide_slot s) ss)
-behind_length (suc n) (s ∷ ss) = ap suc (behind_length n ss)
-
 module _ (n : ℕ) (v : RawSlot) (w : Value) (is : slot_view v ≡ holds w) (old before behind : List RawSlot) where
   pub stored_narrow : locals_of before ≡ with_before n (locals_of old) → locals_of behind ≡ with_behind n (locals_of before) → is_wide_value w ≡ false → n < length old → locals_of (set behind n v) ≡ stored w n (locals_of old)
   stored_narrow e f k lt =
