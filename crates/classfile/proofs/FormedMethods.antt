@@ -30,7 +30,7 @@ use Rattle.classfile.specs.Flags.{has, STATIC}
 use Rattle.classfile.specs.AttributeForm.{on_body, attribute_has_bad, attribute_has_other, attributes_have_bad, attributes_have_other, code_has_bad, code_has_other, handlers_have_bad, handlers_have_other}
 use Rattle.classfile.specs.MemberForm.{member_has_bad, member_has_other, may_describe_method, is_badly_described}
 use Rattle.classfile.specs.WellFormed.{WellFormed, conditions_of_method}
-use Rattle.classfile.specs.Methods.{ExceptionEntry, code_of, class_named, caught_type, entry_with, exception_entries, has_static_flag}
+use Rattle.classfile.specs.Methods.{ExceptionEntry, code_of, class_named, caught_type, entry_with, exception_entries}
 use Rattle.classfile.proofs.Places.{class_is, method_is}
 use Rattle.classfile.proofs.NamingLaws.{ok_value, void_value}
 use Rattle.classfile.proofs.FormedNames.{none_holds, not_false, left_not, right_not, class_there, both_named, texts_there, this_fits}
@@ -195,7 +195,7 @@ pub record NamesMethod (c : Class) (m : Member) (body : CodeBody) : Type 0 where
   pub descriptor : List ℕ
   pub descriptor_is : text_at c.constant_pool m.descriptor ≡ Ok descriptor
   pub type : MethodDescriptor
-  pub type_is : method_answer (not (has_static_flag m.access_flags)) descriptor ≡ Ok type
+  pub type_is : method_answer (not (has m.access_flags STATIC)) descriptor ≡ Ok type
   pub entries : List ExceptionEntry
   pub entries_are : exception_entries c.constant_pool body.exception_table ≡ Some entries
 

@@ -13,9 +13,9 @@ use Rattle.pool.specs.Entries.{Entry}
 use Rattle.pool.specs.Lookups.{text_at}
 use Rattle.pool.specs.Members.{found, class_at}
 use Rattle.classfile.specs.Values.{CodeBody, Attribute, Member, Class}
-use Rattle.classfile.specs.Methods.{Method, ExceptionEntry, code_of, class_named, superclass_of, declared_fields, exception_entries, stack_map_of, has_static_flag, member_type, method_with, method_from, method_of}
-use Rattle.classfile.specs.MethodParts.{or_empty, params_in, params_at, method_by_parts, IsMethod}
 use Rattle.classfile.specs.Flags.{has, STATIC}
+use Rattle.classfile.specs.Methods.{Method, ExceptionEntry, code_of, class_named, superclass_of, declared_fields, exception_entries, stack_map_of, member_type, method_with, method_from, method_of}
+use Rattle.classfile.specs.MethodParts.{or_empty, params_in, params_at, method_by_parts, IsMethod}
 use Rattle.classfile.specs.Indices.{on_found}
 use Rattle.classfile.specs.Naming.{is_init as is_init_name}
 use Rattle.classfile.specs.MemberForm.{is_instance_initializer}
@@ -37,7 +37,7 @@ abbrev with_body : {A : Type 0} → Class → Member → List (ℕ × A) → Cod
 with_body c m code body = method_with c m code body (this_name c) (name_in c m) (member_type c.constant_pool m) (entries_in c body)
 
 abbrev read_as : Member → List ℕ → Option MethodDescriptor
-read_as m text = found (method_answer (not (has_static_flag m.access_flags)) text)
+read_as m text = found (method_answer (not (has m.access_flags STATIC)) text)
 
 -- ---- what the code says is only handed on
 
@@ -111,7 +111,7 @@ assembled c body class entries is_static is_init type = record {
 looked_up : (c : Class) (number : ℕ) (m : Member) (body : CodeBody) → slice_get c.methods number ≡ Some m
     → code_of m.attributes ≡ Some body → (x : NamesMethod c m body)
     → method_of {A = ℕ} c number []
-    ≡ Some (assembled c body x.class x.entries (has_static_flag m.access_flags) (bytes_eq x.name init_name) x.type)
+    ≡ Some (assembled c body x.class x.entries (has m.access_flags STATIC) (bytes_eq x.name init_name) x.type)
 looked_up c number m body here coded x =
     let type : member_type c.constant_pool m ≡ Some x.type =
     ap (λ (r : Result (List ℕ) PoolFault). option_and_then (read_as m) (found r)) x.descriptor_is
@@ -134,7 +134,7 @@ params_are c number m body here x =
 
 is_method : (c : Class) (number : ℕ) (m : Member) (body : CodeBody) (is_static is_init : Bool) (result : Option FieldDescriptor)
     → slice_get c.methods number ≡ Some m → code_of m.attributes ≡ Some body
-    → (x : NamesMethod c m body) → is_static ≡ has_static_flag m.access_flags → is_init ≡ bytes_eq x.name init_name
+    → (x : NamesMethod c m body) → is_static ≡ has m.access_flags STATIC → is_init ≡ bytes_eq x.name init_name
     → result ≡ x.type.result → IsMethod c number body is_static is_init result
 is_method c number m body is_static is_init result here coded x static init type =
     let class : x.class ≡ or_empty (class_named (class_at c.constant_pool c.this_class)) = ap or_empty (sym x.class_is) in
@@ -155,7 +155,7 @@ pub method_there : (c : Class) → WellFormed c
 unfolding has is_instance_initializer
 method_there c formed number m body is_static is_init result here coded static init answers =
     let x = formed_method c formed number m body here coded in
-    let receiver = not (has_static_flag m.access_flags) in
+    let receiver = not (has m.access_flags STATIC) in
     let type : option_and_then (λ text. found (method_answer receiver text)) (found (text_at c.constant_pool m.descriptor)) ≡ Some x.type =
     ap (λ (r : Result (List ℕ) PoolFault). option_and_then (λ text. found (method_answer receiver text)) (found r)) x.descriptor_is
     ∙ ap (λ (r : Result MethodDescriptor NameFault). found r) x.type_is in
@@ -168,7 +168,7 @@ pub record MemberOf (c : Class) (number : ℕ) (v : Method ℕ) : Type 0 where
   pub member : Member
   pub here : slice_get c.methods number ≡ Some member
   pub type_is : member_type c.constant_pool member ≡ Some v.type
-  pub static_is : v.is_static ≡ has_static_flag member.access_flags
+  pub static_is : v.is_static ≡ has member.access_flags STATIC
 
 pub member_of : (c : Class) (number : ℕ) (v : Method ℕ) → method_of c number [] ≡ Some v → MemberOf c number v
 member_of c number v e = by_member (slice_get c.methods number) refl e
@@ -204,7 +204,7 @@ member_of c number v e = by_member (slice_get c.methods number) refl e
 pub record ReadFrom (pool : List Entry) (m : Member) (type : MethodDescriptor) : Type 0 where
   pub text : List ℕ
   pub text_is : text_at pool m.descriptor ≡ Ok text
-  pub read : method_answer (not (has_static_flag m.access_flags)) text ≡ Ok type
+  pub read : method_answer (not (has m.access_flags STATIC)) text ≡ Ok type
 
 pub read_from : (pool : List Entry) (m : Member) (type : MethodDescriptor) → member_type pool m ≡ Some type → ReadFrom pool m type
 read_from pool m type e = by_text (text_at pool m.descriptor) refl e
@@ -213,14 +213,14 @@ read_from pool m type e = by_text (text_at pool m.descriptor) refl e
     same a e = cc
 
     by_answer : (text : List ℕ) → text_at pool m.descriptor ≡ Ok text → (r : Result MethodDescriptor NameFault)
-        → method_answer (not (has_static_flag m.access_flags)) text ≡ r → found r ≡ Some type → ReadFrom pool m type
+        → method_answer (not (has m.access_flags STATIC)) text ≡ r → found r ≡ Some type → ReadFrom pool m type
     by_answer text is (Ok t) read e = record { text = text; text_is = is; read = read ∙ ap (λ (x : MethodDescriptor). Ok x) (same t e) }
     by_answer text is (Err fault) read e = absurd (none-some type e)
 
     by_text : (r : Result (List ℕ) PoolFault) → text_at pool m.descriptor ≡ r
         → option_and_then (read_as m) (found r) ≡ Some type
         → ReadFrom pool m type
-    by_text (Ok text) is e = by_answer text is (method_answer (not (has_static_flag m.access_flags)) text) refl e
+    by_text (Ok text) is e = by_answer text is (method_answer (not (has m.access_flags STATIC)) text) refl e
     by_text (Err fault) is e = absurd (none-some type e)
 
 -- ---- the Code attribute among the others

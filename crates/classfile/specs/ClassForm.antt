@@ -1,7 +1,8 @@
 -- What may be wrong with a class itself (JVMS 4.1): its names, its flags, its superclass and its own attributes.
-use Rattle.std.specs.Prelude.{ℕ, Bool, not, ◌&&◌, ◌||◌, List, [], ◌∷◌, nat_eq, codes}
+use Rattle.std.specs.Prelude.{ℕ, Bool, not, ◌&&◌, ◌||◌, List, [], ◌∷◌, nat_eq}
 use Rattle.std.specs.List.{list_any}
 use Rattle.std.specs.Str.{bytes_eq}
+use Rattle.names.specs.StandardNames.{object_name}
 use Rattle.pool.specs.Entries.{Entry}
 use Rattle.classfile.specs.declared.form_fault.FormRule.TheVariants.{BadIndex, WrongKind, BadName, BadFlags, BadSuper}
 use Rattle.classfile.specs.declared.indices.ConstantKind.TheVariants as kinds
@@ -14,7 +15,7 @@ use Rattle.classfile.specs.AttributeForm.{attributes_have_bad, attributes_have_o
 
 -- the name of the class above all others
 abbrev pub is_object : List ℕ → Bool
-is_object name = bytes_eq name (codes "java/lang/Object")
+is_object name = bytes_eq name object_name
 
 unfoldable pub leads_to_object : List Entry → ℕ → Bool
 leads_to_object pool index = on_class_name pool index is_object

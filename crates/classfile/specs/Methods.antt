@@ -1,14 +1,15 @@
 -- A method with code as its instructions see it (JVMS 4.6, 4.7.3): what its class file says, constants looked up.
-use Rattle.std.specs.Prelude.{ℕ, Bool, false, not, ◌&&◌, ◌||◌, nat_eq, nat_le, nat_lt, bit_and, bytes_eq, List, [], ◌∷◌, Option, Some, None, if◌then◌else◌, slice_get, length, codes}
+use Rattle.std.specs.Prelude.{ℕ, Bool, false, not, ◌&&◌, ◌||◌, nat_eq, nat_le, nat_lt, bytes_eq, List, [], ◌∷◌, Option, Some, None, if◌then◌else◌, slice_get, length}
 use Rattle.std.specs.Option.{option_and_then}
 use Rattle.layout.specs.PieceLaws.{fields as by_field, raw}
 use Rattle.names.specs.Descriptors.{MethodDescriptor}
 use Rattle.names.specs.ReferenceTypes.{ReferenceType, class_type}
-use Rattle.names.specs.StandardNames.{init_name, throwable_name}
+use Rattle.names.specs.StandardNames.{init_name, object_name, throwable_name}
 use Rattle.names.specs.Reading.{method_answer}
 use Rattle.pool.specs.Entries.{Entry}
 use Rattle.pool.specs.Lookups.{Named, text_at}
 use Rattle.pool.specs.Members.{found, class_at, FieldConstant}
+use Rattle.classfile.specs.Flags.{has, STATIC}
 use Rattle.classfile.specs.Values.{Handler, Nested, CodeBody, Attribute, Member, Class}
 
 -- an entry of the exception table (4.7.3): what is caught from one offset on up to another, and where it is handled
@@ -52,7 +53,7 @@ pub data Receiver : Type 0 where
 abbrev pub receiver_of : {A : Type 0} → Method A → Receiver
 receiver_of m =
     if m.is_static then no_receiver
-    else if m.is_init && not (bytes_eq m.class (codes "java/lang/Object")) then own_receiver
+    else if m.is_init && not (bytes_eq m.class object_name) then own_receiver
     else ready_receiver
 
 abbrev pub is_named : List ℕ → List ℕ → Named → Bool
@@ -76,10 +77,6 @@ abbrev pub covers : ExceptionEntry → ℕ → Bool
 covers e at = nat_le e.from at && nat_lt at e.to
 
 -- ---- what a class file says
-
--- ACC_STATIC (Table 4.6-A)
-abbrev pub has_static_flag : ℕ → Bool
-has_static_flag flags = not (nat_eq (bit_and flags 8) 0)
 
 abbrev pub code_of : List Attribute → Option CodeBody
 code_of [] = None
@@ -135,7 +132,7 @@ method_with c member code body (Some class) (Some name) (Some type) (Some except
   class = class;
   superclass = superclass_of c.constant_pool c.super_class;
   fields = declared_fields c.constant_pool c.fields;
-  is_static = has_static_flag member.access_flags;
+  is_static = has member.access_flags STATIC;
   is_init = bytes_eq name init_name;
   type = type;
 })
@@ -144,7 +141,7 @@ method_with c member code body _ _ _ _ = None
 -- a descriptor is measured with a receiver unless the method is static
 abbrev pub member_type : List Entry → Member → Option MethodDescriptor
 member_type pool member =
-    option_and_then (λ text. found (method_answer (not (has_static_flag member.access_flags)) text)) (found (text_at pool member.descriptor))
+    option_and_then (λ text. found (method_answer (not (has member.access_flags STATIC)) text)) (found (text_at pool member.descriptor))
 
 abbrev pub method_from : {A : Type 0} → Class → List (ℕ × A) → Member → Option (Method A)
 method_from c code member =

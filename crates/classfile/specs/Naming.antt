@@ -8,6 +8,7 @@ use Rattle.std.specs.Str.{bytes_eq}
 use Rattle.names.specs.declared.fault.NameFault.{NameFault}
 use Rattle.names.specs.Names.{bracket, is_name_unit, is_angle}
 use Rattle.names.specs.Descriptors.{MethodDescriptor}
+use Rattle.names.specs.StandardNames.{init_name}
 use Rattle.names.specs.Reading.{ends_class_name, field_answer, method_answer}
 
 abbrev pub begins_with : ℕ → List ℕ → Bool
@@ -33,7 +34,7 @@ is_method_name bytes = is_unqualified_name bytes && list_all (λ u. not (is_angl
 
 -- the names of instance initialization methods and of class initialization methods (2.9.1, 2.9.2)
 abbrev pub is_init : List ℕ → Bool
-is_init name = bytes_eq name (codes "<init>")
+is_init name = bytes_eq name init_name
 
 abbrev pub is_clinit : List ℕ → Bool
 is_clinit name = bytes_eq name (codes "<clinit>")

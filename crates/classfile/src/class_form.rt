@@ -10,13 +10,13 @@ use crate::constant_form::is_array_class;
 use crate::flags::{INTERFACE, are_bad_class_flags, has};
 use crate::form_fault::FormRule;
 use crate::indices::{ConstantKind, is_bad, is_bad_unless_zero, is_other};
-use names::Text;
+use names::{OBJECT, Text};
 use pool::Pool;
 
 fn is_object(name: Text<'_>) -> bool
     ensures { result ≡ is_object name.entry.bytes.now }
 {
-    name.bytes() == b"java/lang/Object".as_slice()
+    name.bytes() == OBJECT
 }
 
 #[tactic(auto, unfolding(crate::specs::ClassForm::leads_to_object))]

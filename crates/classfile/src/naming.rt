@@ -2,7 +2,7 @@
 ghost use Rattle.std.specs.Prelude.{◌≡◌, IfOk};
 ghost use Rattle.classfile.specs.Naming.{begins_with, is_array_name, is_class_name, is_unqualified_name, is_method_name, is_init, is_clinit, is_field_descriptor, is_method_descriptor, is_void_descriptor, fits_method};
 
-use names::{NameFault, Text, field_type, method_type};
+use names::{INIT, NameFault, Text, field_type, method_type};
 use std::alloc::{AllocError, Global};
 
 /// Whether the text begins with the byte.
@@ -47,7 +47,7 @@ pub fn is_method_name(text: Text<'_>) -> bool
 pub fn is_init(text: Text<'_>) -> bool
     ensures { result ≡ is_init text.entry.bytes.now }
 {
-    text.bytes() == b"<init>".as_slice()
+    text.bytes() == INIT
 }
 
 /// Whether the text is the name of class initialization methods (JVMS 2.9.2).

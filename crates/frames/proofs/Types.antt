@@ -6,7 +6,7 @@ use Rattle.std.proofs.lemmas.Slice.Eq.{bytes_eq-Decides}
 use Rattle.names.specs.declared.base.Primitive.{Primitive}
 use Rattle.names.specs.declared.base.Primitive.TheVariants.{Byte, Char, Double, Float, Int, Long, Short, Boolean}
 use Rattle.names.specs.Descriptors.{FieldDescriptor, primitive, class as class_type, array as array_type}
-use Rattle.hierarchy.specs.World.{object_name, cloneable_name, serializable_name}
+use Rattle.names.specs.StandardNames.{object_name, cloneable_name, serializable_name}
 use Rattle.hierarchy.specs.Class.{ClassFact, class_of, interface_of}
 use Rattle.hierarchy.specs.Answer.{Outcome, yes, no, missing, yes_if, subclass_answer, SubclassAnswer}
 use Rattle.hierarchy.proofs.Names.{none_some}

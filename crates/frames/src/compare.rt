@@ -6,8 +6,8 @@ ghost use Rattle.frames.specs.VerificationType.{type_of};
 ghost use Rattle.frames.specs.Assignable.{class_answer, component_answer, type_answer, is_above_arrays};
 
 use crate::vtype::VType;
-use hierarchy::{Answer, CLONEABLE, Classes, OBJECT, SERIALIZABLE};
-use names::Base;
+use hierarchy::{Answer, Classes};
+use names::{Base, CLONEABLE, OBJECT, SERIALIZABLE};
 
 // Yes or no.
 fn yes_if<'n>(holds: bool) -> Answer<'n>

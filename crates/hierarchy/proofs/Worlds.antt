@@ -5,7 +5,8 @@ use Rattle.std.proofs.lemmas.Bool.{false≢true}
 use Rattle.std.proofs.lemmas.Slice.Eq.{bytes_eq-Decides}
 use Rattle.hierarchy.proofs.Names.{found_class, some_same, none_some}
 use Rattle.std.specs.Option.{option_and_then}
-use Rattle.hierarchy.specs.World.{Entry, World, superclass_in, IsSubclassIn, same, above, climb, object_name, cloneable_name, serializable_name}
+use Rattle.names.specs.StandardNames.{object_name, cloneable_name, serializable_name}
+use Rattle.hierarchy.specs.World.{Entry, World, superclass_in, IsSubclassIn, same, above, climb}
 use Rattle.hierarchy.specs.Class.{ClassFact, class_of, entry_of, world_of, IsSubclass}
 use Rattle.hierarchy.specs.Rules.{IsHierarchy}
 use Rattle.hierarchy.specs.Extends.{Extends}

@@ -1,6 +1,7 @@
 -- The worlds in which a hierarchy may stand (JVMS 4.10.1.2): they have each of its classes as it has them, and may have more.
 use Rattle.std.specs.Prelude.{◌≡◌, ◌↔◌, ℕ, true, List, Some}
-use Rattle.hierarchy.specs.World.{Entry, World, IsSubclassIn, climb, object_name, cloneable_name, serializable_name}
+use Rattle.names.specs.StandardNames.{object_name, cloneable_name, serializable_name}
+use Rattle.hierarchy.specs.World.{Entry, World, IsSubclassIn, climb}
 use Rattle.hierarchy.specs.Class.{ClassFact, world_of, IsSubclass}
 use Rattle.hierarchy.specs.Rules.{IsHierarchy}
 

@@ -1,15 +1,6 @@
 -- Worlds of classes (JVMS 4.10.1.2): what each name stands for, and the chain of superclasses that leads up from a class.
-use Rattle.std.specs.Prelude.{◌≡◌, ℕ, zero, suc, Bool, List, Option, Some, codes}
+use Rattle.std.specs.Prelude.{◌≡◌, ℕ, zero, suc, Bool, List, Option, Some}
 use Rattle.std.specs.Option.{option_and_then}
-
-abbrev pub object_name : List ℕ
-object_name = codes "java/lang/Object"
-
-abbrev pub cloneable_name : List ℕ
-cloneable_name = codes "java/lang/Cloneable"
-
-abbrev pub serializable_name : List ℕ
-serializable_name = codes "java/io/Serializable"
 
 -- what a world says of a class: its superclass, if it has one, and whether it is an interface
 pub record Entry : Type 0 where

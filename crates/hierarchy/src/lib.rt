@@ -32,4 +32,4 @@ pub use chains::Chains;
 pub use class_summary::summary_of;
 pub use classes::Classes;
 pub use fault::HierarchyFault;
-pub use summary::{CLONEABLE, Kind, MemberSummary, OBJECT, SERIALIZABLE, Summary};
+pub use summary::{Kind, MemberSummary, Summary};

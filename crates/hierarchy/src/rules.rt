@@ -5,7 +5,8 @@ ghost use Rattle.hierarchy.specs.Summary.{fact_of, facts_of};
 ghost use Rattle.hierarchy.specs.Rules.{LacksSuper, HasObject, IsBadArrayInterface, HasWrongSuper, NoClass, IsFirst};
 
 use crate::index::Index;
-use crate::summary::{CLONEABLE, OBJECT, SERIALIZABLE, Summary};
+use crate::summary::Summary;
+use names::{CLONEABLE, OBJECT, SERIALIZABLE};
 use std::hash::BuildHasher;
 
 // A rule that a class may break.

@@ -1,14 +1,5 @@
 //! What is known of a class.
 
-/// The name of the class above all others (JVMS 4.1).
-pub const OBJECT: &[u8] = b"java/lang/Object";
-
-/// The name of an interface of every array (JVMS 4.10.1.2).
-pub const CLONEABLE: &[u8] = b"java/lang/Cloneable";
-
-/// The name of the other interface of every array (JVMS 4.10.1.2).
-pub const SERIALIZABLE: &[u8] = b"java/io/Serializable";
-
 /// Whether a member is a field (JVMS 4.5) or a method (JVMS 4.6).
 #[derive(Clone, Copy, Debug, PartialEq, Eq)]
 pub enum Kind {

@@ -9,7 +9,8 @@ use Rattle.insn.specs.declared.fault.CodeFault.{CodeFault}
 use Rattle.insn.specs.declared.fault.CodeFault.TheVariants.{OutOfMemory, CutInstruction}
 use Rattle.insn.specs.Instructions.{Instruction, instruction_at}
 use Rattle.insn.specs.Faults.{judged, beside}
-use Rattle.insn.specs.Code.{SpellsInstruction, FaultyInstruction, SpellsCode, FaultyCode, StepsThrough, StartsRise, UnlessMemory}
+use Rattle.insn.specs.Code.{SpellsInstruction, FaultyInstruction, SpellsCode, FaultyCode, StepsThrough, UnlessMemory}
+use Rattle.insn.specs.Offsets.{StartsRise}
 
 -- ---- what reading one instruction gives
 

@@ -1,5 +1,6 @@
 -- Offsets in a list of instructions.
-use Rattle.std.proofs.Common.{◌≡◌, ℕ, ◌+◌, ◌<◌, ◌≤◌, zero, suc, Bool, true, false, ◌||◌, eqb, List, [], ◌∷◌, length, get_or, Result, Ok, Err, refl, sym, ap, ◌∙◌, arith}
+use Rattle.std.proofs.Common.{◌≡◌, ℕ, ◌+◌, ◌<◌, ◌≤◌, zero, suc, Bool, true, false, eqb, List, [], ◌∷◌, length, get_or, Option, Some, if◌then◌else◌, Result, Ok, Err, refl, sym, ap, ◌∙◌, arith}
+use Rattle.std.specs.Option.{is_some}
 use Rattle.std.specs.Result.{is_ok}
 use Rattle.std.specs.List.Sorted.{IsSearchInRange, IsBinarySearchResult, IsNonDecreasingBy}
 use Rattle.std.specs.Ordering.{nat_cmp, ordering_index}
@@ -9,26 +10,26 @@ use Rattle.std.proofs.lemmas.Bool.Decides.{nat_tests}
 use Rattle.insn.specs.declared.instruction.Insn.{Insn}
 use Rattle.insn.specs.declared.instruction.Operands.TheVariants.{Nothing}
 use Rattle.insn.specs.declared.opcode.Opcode.TheVariants.{Nop}
-use Rattle.insn.specs.Code.{is_start, StartsRise}
-use Rattle.insn.specs.Views.{views}
+use Rattle.insn.specs.Offsets.{at_offset, has_offset, StartsRise}
+use Rattle.insn.specs.Views.{view, views}
 
-or_true : (a b : Bool) → b ≡ true → (a || b) ≡ true
-or_true true b h = refl
-or_true false b h = h
+some_behind : {A : Type 0} → (b : Bool) (a : A) (o : Option A) → is_some o ≡ true → is_some (if b then Some a else o) ≡ true
+some_behind true a o e = refl
+some_behind false a o e = e
 
-start_at : (xs : List (ℕ × Insn)) (k at : ℕ) (d : ℕ × Insn) → k < length xs → (get_or xs k d).0 ≡ at → is_start (views xs) at ≡ true
+start_at : (xs : List (ℕ × Insn)) (k at : ℕ) (d : ℕ × Insn) → k < length xs → (get_or xs k d).0 ≡ at → has_offset (views xs) at ≡ true
 start_at [] k at d lt e = absurd (omega (arith, lt))
-start_at (x ∷ xs) zero at d lt e = let here : eqb x.0 at ≡ true = grind (arith, nat_tests, e) in ap (λ (b : Bool). b || is_start (views xs) at) here
-start_at (x ∷ xs) (suc k) at d lt e = or_true (eqb x.0 at) (is_start (views xs) at) (start_at xs k at d (omega (arith, lt)) e)
+start_at (x ∷ xs) zero at d lt e = let here : eqb x.0 at ≡ true = grind (arith, nat_tests, e) in ap (λ b. is_some (if b then Some (view x.1) else at_offset (views xs) at)) here
+start_at (x ∷ xs) (suc k) at d lt e = some_behind (eqb x.0 at) (view x.1) (at_offset (views xs) at) (start_at xs k at d (omega (arith, lt)) e)
 
-no_start : (xs : List (ℕ × Insn)) (at : ℕ) (d : ℕ × Insn) → ((k : ℕ) → k < length xs → (get_or xs k d).0 ≡ at → ⊥) → is_start (views xs) at ≡ false
+no_start : (xs : List (ℕ × Insn)) (at : ℕ) (d : ℕ × Insn) → ((k : ℕ) → k < length xs → (get_or xs k d).0 ≡ at → ⊥) → has_offset (views xs) at ≡ false
 no_start [] at d free = refl
 no_start (x ∷ xs) at d free =
     let here : eqb x.0 at ≡ false = grind (arith, nat_tests, free 0) in
-    ap (λ (b : Bool). b || is_start (views xs) at) here ∙ no_start xs at d (λ k lt. free (suc k) (omega (arith, lt)))
+    ap (λ b. is_some (if b then Some (view x.1) else at_offset (views xs) at)) here ∙ no_start xs at d (λ k lt. free (suc k) (omega (arith, lt)))
 
 -- where the offsets rise, one that stands further on is greater
-from_here : (n : ℕ) (xs : List (ℕ × Insn)) (k : ℕ) (d : ℕ × Insn) → StartsRise n (views xs) → k < length xs → n ≤ (get_or xs k d).0
+pub from_here : (n : ℕ) (xs : List (ℕ × Insn)) (k : ℕ) (d : ℕ × Insn) → StartsRise n (views xs) → k < length xs → n ≤ (get_or xs k d).0
 from_here n [] k d r lt = absurd (omega (arith, lt))
 from_here n (x ∷ xs) zero d r lt = r.0
 from_here n (x ∷ xs) (suc k) d r lt = omega (arith, r.0, from_here (x.0 + 1) xs k d r.1 (omega (arith, lt)))
@@ -54,7 +55,7 @@ module _ (xs : List (ℕ × Insn)) (at : ℕ) where
 
   -- what a binary search answers
   pub searched : (r : Result ℕ ℕ) → IsSearchInRange r (length xs) → IsBinarySearchResult (λ (x : ℕ × Insn). nat_cmp x.0 at) xs r
-      → (is_ok r ≡ true → is_start (views xs) at ≡ true) × (StartsRise 0 (views xs) → is_ok r ≡ is_start (views xs) at)
+      → (is_ok r ≡ true → has_offset (views xs) at ≡ true) × (StartsRise 0 (views xs) → is_ok r ≡ has_offset (views xs) at)
   searched (Ok k) within equal = let found = start_at xs k at none within (ranked _ at _ (sym (equal none))) in (λ _. found, λ _. sym found)
   searched (Err k) within parted = (
     λ e. absurd cc,

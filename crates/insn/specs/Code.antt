@@ -1,5 +1,5 @@
 -- Code (JVMS 4.7.3, 4.9.1, 6.5): instructions one behind the other, each at the offset where those before it end.
-use Rattle.std.specs.Prelude.{◌≡◌, ℕ, ◌+◌, ◌<◌, ◌≤◌, Bool, false, ◌||◌, nat_eq, List, [], ◌∷◌, ◌++◌, length, Option, Some, None, Result, Ok, Err, ◌⊎◌}
+use Rattle.std.specs.Prelude.{◌≡◌, ℕ, ◌+◌, ◌<◌, List, [], ◌∷◌, ◌++◌, length, Option, Some, None, Result, Ok, Err, ◌⊎◌}
 use Rattle.layout.specs.Place.{Place, Took}
 use Rattle.layout.specs.declared.fault.ReadFault.{ReadFault}
 use Rattle.layout.specs.Format.{Spells, FirstFault}
@@ -50,16 +50,6 @@ abbrev pub StepsThrough : {X : Type 0} → (X → ℕ × Instruction) → Place 
 StepsThrough view old None new = (old.rest ≡ []) × (new ≡ old)
 StepsThrough view old (Some (Ok x)) new = ((view x).0 ≡ old.at) × (first : List ℕ) × SpellsInstruction old.at first (view x).1 × Took first old new
 StepsThrough view old (Some (Err e)) new = (0 < length old.rest) × FaultyInstruction old.at old.rest e × (new.rest ≡ [])
-
--- all begin at this offset or behind it, each behind the one before
-abbrev pub StartsRise : ℕ → List (ℕ × Instruction) → Type 0
-StartsRise at [] = Unit {0}
-StartsRise at (x ∷ xs) = (at ≤ x.0) × StartsRise (x.0 + 1) xs
-
--- the list has an instruction that begins at this offset
-abbrev pub is_start : List (ℕ × Instruction) → ℕ → Bool
-is_start [] at = false
-is_start (x ∷ xs) at = nat_eq x.0 at || is_start xs at
 
 -- The opcode that says what is done: behind `wide` the one that is modified (JVMS 6.5, wide).
 abbrev pub modified : Opcode → Operands → Opcode

@@ -1,5 +1,5 @@
 -- Instructions by the offsets where they begin (JVMS 4.9.1): what begins where, and what comes next.
-use Rattle.std.specs.Prelude.{◌≡◌, ℕ, ℤ, pos, ◌+ℤ◌, Bool, is_some, if◌then◌else◌, nat_eq, List, [], ◌∷◌, map, Option, Some, None, ◌⊎◌}
+use Rattle.std.specs.Prelude.{◌≡◌, ℕ, ◌+◌, ◌≤◌, ℤ, pos, ◌+ℤ◌, Bool, is_some, if◌then◌else◌, nat_eq, List, [], ◌∷◌, map, Option, Some, None, ◌⊎◌}
 use Rattle.insn.specs.Instructions.{Instruction}
 use Rattle.insn.specs.Meanings.{Act, act}
 
@@ -19,6 +19,11 @@ pub record IsStart {A : Type 0} (code : List (ℕ × A)) (at : ℕ) : Type 0 whe
 
 abbrev pub has_offset : {A : Type 0} → List (ℕ × A) → ℕ → Bool
 has_offset code at = is_some (at_offset code at)
+
+-- all begin at this offset or behind it, each behind the one before
+abbrev pub StartsRise : {A : Type 0} → ℕ → List (ℕ × A) → Type 0
+StartsRise at [] = Unit {0}
+StartsRise at (x ∷ xs) = (at ≤ x.0) × StartsRise (x.0 + 1) xs
 
 abbrev pub first_offset : {A : Type 0} → List (ℕ × A) → Option ℕ
 first_offset [] = None

@@ -2,7 +2,8 @@
 ghost use Rattle.std.specs.Prelude.{◌≡◌, ◌≤◌, ℕ, List, length, IfOk, IfErr};
 ghost use Rattle.layout.specs.declared.limits.TheConstants.{MAX_CODE_BYTES};
 ghost use Rattle.insn.specs.declared.fault.CodeFault.TheVariants.{OutOfMemory};
-ghost use Rattle.insn.specs.Code.{SpellsCode, StartsRise, FaultyCode, UnlessMemory};
+ghost use Rattle.insn.specs.Code.{SpellsCode, FaultyCode, UnlessMemory};
+ghost use Rattle.insn.specs.Offsets.{StartsRise};
 ghost use Rattle.insn.specs.Instructions.{Instruction};
 ghost use Rattle.insn.specs.Views.{views};
 

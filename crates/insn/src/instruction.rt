@@ -1,6 +1,7 @@
 //! Instructions: an opcode and what stands behind it.
 ghost use Rattle.std.specs.Prelude.{◌≡◌, true};
-ghost use Rattle.insn.specs.Code.{is_start, modified, StartsRise};
+ghost use Rattle.insn.specs.Code.{modified};
+ghost use Rattle.insn.specs.Offsets.{StartsRise, has_offset};
 ghost use Rattle.insn.specs.Opcodes.{mnemonic};
 ghost use Rattle.insn.specs.Views.{view, views};
 
@@ -104,8 +105,8 @@ pub fn mnemonic(insn: &Insn<'_>) -> &'static str
 /// [`decode_code`](crate::decode_code)'s list do. In any other list an instruction may be missed,
 /// and none is found that is not there.
 pub fn is_start(list: &[(u16, Insn<'_>)], at: u16) -> bool
-    ensures found { result ≡ true → is_start (views list.now) at ≡ true }
-    ensures exactly { StartsRise 0 (views list.now) → result ≡ is_start (views list.now) at }
+    ensures found { result ≡ true → has_offset (views list.now) at ≡ true }
+    ensures exactly { StartsRise 0 (views list.now) → result ≡ has_offset (views list.now) at }
 {
     list.binary_search_by_key(&at, |(start, _)| *start).is_ok()
 }

@@ -1,5 +1,5 @@
 -- Instructions by their places in the list, and by their offsets.
-use Rattle.std.specs.Prelude.{nat_le, nat_eq, ◌&&◌, ◌||◌}
+use Rattle.std.specs.Prelude.{nat_le, nat_eq, ◌&&◌}
 use Rattle.std.proofs.Common.{◌≡◌, ℕ, ◌+◌, ◌<◌, ◌≤◌, zero, suc, Bool, true, false, List, [], ◌∷◌, length, get_or, slice_get, option_map, Option, Some, None, if◌then◌else◌, Ok, Err, refl, sym, ap, ◌∙◌, arith}
 use Rattle.std.specs.Option.{is_some}
 use Rattle.std.specs.List.Sorted.{IsSearchInRange, IsBinarySearchResult}
@@ -9,11 +9,10 @@ use Rattle.std.proofs.lemmas.Bool.Decides.{nat_tests}
 use Rattle.insn.specs.declared.instruction.Insn.{Insn}
 use Rattle.insn.specs.Instructions.{Instruction}
 use Rattle.insn.specs.Meanings.{Act, act}
-use Rattle.insn.specs.Offsets.{at_offset, next_offset, first_offset, has_offset}
+use Rattle.insn.specs.Offsets.{at_offset, next_offset, first_offset, has_offset, StartsRise}
 use Rattle.insn.specs.Supported.{as_supported}
-use Rattle.insn.specs.Code.{is_start, StartsRise}
 use Rattle.insn.specs.Views.{view, views}
-use Rattle.insn.proofs.Starts.{searched}
+use Rattle.insn.proofs.Starts.{from_here, searched}
 use Rattle.machine.specs.Rising.{rises}
 use Rattle.machine.specs.Bodies.{code_of}
 
@@ -40,20 +39,17 @@ starts_rise n (x ∷ xs) r =
     let le : nat_le n x.0 ≡ true = grind (arith, nat_tests, r.0) in
     join (nat_le n x.0) (rises (x.0 + 1) xs) le (starts_rise (x.0 + 1) xs r.1)
 
-from_here : (n : ℕ) (xs : List (ℕ × Insn)) (k : ℕ) (d : ℕ × Insn) → StartsRise n (views xs) → k < length xs → n ≤ (get_or xs k d).0
-from_here n [] k d r lt = absurd (omega (arith, lt))
-from_here n (x ∷ xs) zero d r lt = r.0
-from_here n (x ∷ xs) (suc k) d r lt = omega (arith, r.0, from_here (x.0 + 1) xs k d r.1 (omega (arith, lt)))
-
 -- ---- what stands at an offset
 
-some_or : {A : Type 0} → (b p : Bool) (a : A) (o : Option A) → p ≡ is_some o → (b || p) ≡ is_some (if b then Some a else o)
-some_or true p a o e = refl
-some_or false p a o e = e
+alike : {A B : Type 0} → (b : Bool) (x : A) (y : B) (o : Option A) (p : Option B) → is_some o ≡ is_some p
+    → is_some (if b then Some x else o) ≡ is_some (if b then Some y else p)
+alike true x y o p e = refl
+alike false x y o p e = e
 
-pub begins : (xs : List (ℕ × Insn)) (at : ℕ) → is_start (views xs) at ≡ has_offset (code_of xs) at
+pub begins : (xs : List (ℕ × Insn)) (at : ℕ) → has_offset (views xs) at ≡ has_offset (code_of xs) at
 begins [] at = refl
-begins (x ∷ xs) at = some_or (nat_eq x.0 at) (is_start (views xs) at) (as_supported (act (view x.1))) (at_offset (code_of xs) at) (begins xs at)
+begins (x ∷ xs) at =
+    alike (nat_eq x.0 at) (view x.1) (as_supported (act (view x.1))) (at_offset (views xs) at) (at_offset (code_of xs) at) (begins xs at)
 
 is_none : {A : Type 0} → (o : Option A) → is_some o ≡ false → o ≡ None
 is_none None e = refl
@@ -92,5 +88,5 @@ module _ (xs : List (ℕ × Insn)) (at : ℕ) (rising : rises 0 (views xs) ≡ t
       let behind : k + 1 ≡ suc k = omega arith in
       (r.0 ∙ ap (λ b. Some (as_supported b)) (sym e), r.1 ∙ ap (λ n. option_map (λ (x : ℕ × Insn). x.0) (slice_get xs n)) (sym behind) ∙ sym f)
 
-  pub is_begin : (b : Bool) → (StartsRise 0 (views xs) → b ≡ is_start (views xs) at) → b ≡ has_offset (code_of xs) at
+  pub is_begin : (b : Bool) → (StartsRise 0 (views xs) → b ≡ has_offset (views xs) at) → b ≡ has_offset (code_of xs) at
   is_begin b exactly = exactly (rises_starts 0 (views xs) rising) ∙ begins xs at

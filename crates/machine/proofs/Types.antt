@@ -8,7 +8,8 @@ use Rattle.names.specs.declared.base.Base.TheVariants as bases
 use Rattle.names.specs.declared.base.Primitive.{Primitive}
 use Rattle.names.specs.declared.base.Primitive.TheVariants.{Byte, Char, Double, Float, Int, Long, Short, Boolean}
 use Rattle.names.specs.Descriptors.{FieldDescriptor, primitive, class, array, base_of, dimensioned}
-use Rattle.hierarchy.specs.World.{Entry, IsSubclassIn, object_name, cloneable_name, serializable_name}
+use Rattle.names.specs.StandardNames.{object_name, cloneable_name, serializable_name}
+use Rattle.hierarchy.specs.World.{Entry, IsSubclassIn}
 use Rattle.hierarchy.specs.Class.{ClassFact, class_of, world_of, entry_of, interface_of}
 use Rattle.hierarchy.specs.declared.answer.Answer.{Answer}
 use Rattle.hierarchy.specs.declared.answer.Answer.TheVariants.{Yes, No, Missing}

@@ -1,12 +1,11 @@
 -- The method that runs, as the program keeps it.
-use Rattle.std.specs.Prelude.{◌≡◌, ℕ, List, [], map, length, slice_get, Option, Some, None, option_map}
-use Rattle.std.specs.Option.{option_and_then}
-use Rattle.names.specs.Descriptors.{FieldDescriptor, MethodDescriptor}
+use Rattle.std.specs.Prelude.{◌≡◌, ℕ, List, map, length, Some, option_map}
 use Rattle.names.specs.Types.{type_of}
 use Rattle.pool.specs.Members.{class_at}
 use Rattle.pool.specs.Entries.{Entry}
-use Rattle.classfile.specs.Values.{Handler, Class}
-use Rattle.classfile.specs.Methods.{Method, ExceptionEntry, stack_map_of, class_named, superclass_of, declared_fields, member_type, caught_type}
+use Rattle.classfile.specs.Values.{Handler}
+use Rattle.classfile.specs.Methods.{Method, ExceptionEntry, stack_map_of, class_named, superclass_of, declared_fields, caught_type}
+use Rattle.classfile.specs.MethodParts.{or_empty, params_at}
 use Rattle.classfile.specs.Views.{class_view, code_view}
 use Rattle.insn.specs.declared.instruction.Insn as insns
 use Rattle.insn.specs.Meanings.{Act}
@@ -29,19 +28,6 @@ pub record IsEntry (pool : List Entry) (h : Handler) (e : ExceptionEntry) : Type
 abbrev pub code_of : List (ℕ × insns.Insn) → List (ℕ × Act)
 code_of list = supported_acts (acts (views list))
 
--- none where there is none
-abbrev pub or_empty : {A : Type 0} → Option (List A) → List A
-or_empty None = []
-or_empty (Some items) = items
-
-abbrev pub params_in : Option MethodDescriptor → List FieldDescriptor
-params_in None = []
-params_in (Some type) = type.params
-
--- the types of the parameters of the method of this number
-abbrev pub params_of : Class → ℕ → List FieldDescriptor
-params_of c number = params_in (option_and_then (member_type c.constant_pool) (slice_get c.methods number))
-
 abbrev pub method_view : RawMethod → Method Act
 method_view m =
     let c = class_view m.class.now in
@@ -60,5 +46,5 @@ method_view m =
       fields = declared_fields c.constant_pool c.fields;
       is_static = m.is_static;
       is_init = m.is_init;
-      type = record { params = params_of c m.number; result = option_map type_of m.result_type };
+      type = record { params = params_at c m.number; result = option_map type_of m.result_type };
     }

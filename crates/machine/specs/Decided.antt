@@ -3,7 +3,7 @@ use Rattle.std.specs.Prelude.{ℕ, Bool, true, false, not, ◌&&◌, ◌||◌, i
 use Rattle.names.specs.declared.base.Primitive.{Primitive}
 use Rattle.names.specs.declared.base.Primitive.TheVariants.{Byte, Char, Double as DoubleType, Float as FloatType, Int as IntType, Long as LongType, Short, Boolean}
 use Rattle.names.specs.Descriptors.{FieldDescriptor, primitive, class, array}
-use Rattle.hierarchy.specs.World.{object_name, cloneable_name, serializable_name}
+use Rattle.names.specs.StandardNames.{object_name, cloneable_name, serializable_name}
 use Rattle.hierarchy.specs.Class.{ClassFact, interface_of}
 use Rattle.hierarchy.specs.Answer.{Outcome, yes, no, missing, subclass_answer}
 use Rattle.insn.specs.declared.operation.Kind.{Kind}

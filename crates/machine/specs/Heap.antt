@@ -3,7 +3,8 @@ use Rattle.std.specs.Prelude.{◌≡◌, ℕ, ◌^◌, ◌<◌, ◌≤◌, true,
 use Rattle.names.specs.declared.base.Primitive.{Primitive}
 use Rattle.names.specs.Descriptors.{FieldDescriptor, primitive, class, array}
 use Rattle.names.specs.ReferenceTypes.{ReferenceType, class_type, array_type, descriptor_of, dimensions_of}
-use Rattle.hierarchy.specs.World.{Entry, World, IsSubclassIn, object_name, cloneable_name, serializable_name}
+use Rattle.names.specs.StandardNames.{object_name, cloneable_name, serializable_name}
+use Rattle.hierarchy.specs.World.{Entry, World, IsSubclassIn}
 use Rattle.insn.specs.Acts.{takes_array}
 use Rattle.insn.specs.Stacks.{computed_as}
 use Rattle.machine.specs.Values.{Value, number, null, reference}

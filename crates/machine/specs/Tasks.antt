@@ -3,13 +3,12 @@ use Rattle.std.specs.Prelude.{ℕ, zero, suc, ℤ, Bool, true, false, not, ◌&&
 use Rattle.names.specs.declared.base.Primitive.{Primitive}
 use Rattle.names.specs.declared.base.Primitive.TheVariants as primitives
 use Rattle.names.specs.Descriptors.{FieldDescriptor, primitive, class, array, method_width}
-use Rattle.names.specs.ReferenceTypes.{ReferenceType, class_type, array_type, dimensions_of, is_class_type}
-use Rattle.names.specs.StandardNames.{init_name, throwable_name, string_name, class_name, method_type_name, method_handle_name}
+use Rattle.names.specs.ReferenceTypes.{ReferenceType, class_type, array_type, descriptor_of, dimensions_of, is_class_type}
+use Rattle.names.specs.StandardNames.{object_name, init_name, throwable_name, string_name, class_name, method_type_name, method_handle_name}
 use Rattle.pool.specs.Entries as entries
 use Rattle.pool.specs.Entries.{Entry}
 use Rattle.pool.specs.Members.{constant_at, class_at, FieldConstant, field_at, MethodConstant, method_at}
 use Rattle.classfile.specs.Methods.{Method, is_own_field}
-use Rattle.hierarchy.specs.World.{object_name}
 use Rattle.insn.specs.declared.operation.Kind.{Kind}
 use Rattle.insn.specs.declared.operation.Kind.TheVariants as kinds
 use Rattle.insn.specs.Acts.{numeric_row, StackForm, stack_forms}
@@ -208,12 +207,8 @@ new_array (Some p) = makes_array (of_kind kinds.Int ∷ []) (element_type p)
 new_array None = stuck
 
 -- an array of elements of a type
-abbrev pub array_of_type : ReferenceType → ReferenceType
-array_of_type (class_type name) = array_type (class name)
-array_of_type (array_type component) = array_type (array component)
-
 abbrev pub new_reference_array : Option ReferenceType → Task
-new_reference_array (Some t) = where_allowed (nat_lt (dimensions_of t) 255) (makes_array (of_kind kinds.Int ∷ []) (array_of_type t))
+new_reference_array (Some t) = where_allowed (nat_lt (dimensions_of t) 255) (makes_array (of_kind kinds.Int ∷ []) (array_type (descriptor_of t)))
 new_reference_array None = stuck
 
 abbrev pub new_multi_array : ℕ → Option ReferenceType → Task

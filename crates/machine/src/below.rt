@@ -8,8 +8,8 @@ ghost use Rattle.machine.specs.Decided.{is_above_all, is_above_arrays, class_bel
 ghost use Rattle.machine.specs.Views.{run_type_view};
 
 use crate::objects::RunType;
-use hierarchy::{Answer, CLONEABLE, Classes, OBJECT, SERIALIZABLE};
-use names::{Base, Primitive};
+use hierarchy::{Answer, Classes};
+use names::{Base, CLONEABLE, OBJECT, Primitive, SERIALIZABLE};
 
 fn is_above_all<C: Classes>(name: &[u8], classes: &C) -> bool
     ensures { result ≡ is_above_all (C.content classes.now) name.now }

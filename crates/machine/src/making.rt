@@ -8,16 +8,17 @@ ghost use Rattle.classfile.specs.Views.{class_view, handler_view};
 ghost use Rattle.classfile.specs.Values.{CodeBody};
 ghost use Rattle.insn.specs.Instructions.{Instruction};
 ghost use Rattle.insn.specs.declared.fault.CodeFault.TheVariants.{OutOfMemory};
-ghost use Rattle.insn.specs.Code.{FaultyCode, SpellsCode, StartsRise, UnlessMemory};
+ghost use Rattle.insn.specs.Code.{FaultyCode, SpellsCode, UnlessMemory};
+ghost use Rattle.insn.specs.Offsets.{StartsRise};
 ghost use Rattle.insn.specs.Views.{views};
 ghost use Rattle.machine.specs.Bodies.{IsEntry, code_of, entry_view, method_view};
 ghost use Rattle.machine.specs.Views.{run_type_view};
 
 use crate::body::{ExceptionEntry, Method};
-use crate::objects::{RunType, THROWABLE};
+use crate::objects::RunType;
 use classfile::{ClassFile, CodeAttr, ExceptionHandler, Formed};
 use insn::{CodeFault, Insn, decode_code};
-use names::{FieldType, Text, field_type};
+use names::{FieldType, THROWABLE, Text, field_type};
 use pool::Pool;
 use std::alloc::{AllocError, Global};
 

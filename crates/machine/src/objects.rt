@@ -1,9 +1,6 @@
 //! Objects (JVMS 2.4, 2.7).
 use names::Base;
 
-/// The name of the class of all that is raised (JVMS 2.10).
-pub(crate) const THROWABLE: &[u8] = b"java/lang/Throwable";
-
 /// What an object is: of a class, or an array.
 #[derive(Clone, Copy, Debug, PartialEq, Eq)]
 pub enum RunType<'a> {

@@ -14,10 +14,11 @@ use crate::body::Method;
 use crate::choosing::{Outcome, StepFault};
 use crate::heaps::{ready_type, with_fresh};
 use crate::items::{Slot, Value};
-use crate::objects::{Object, RunType, THROWABLE};
+use crate::objects::{Object, RunType};
 use crate::snapshot::State;
 use crate::starts::covers;
 use hierarchy::Classes;
+use names::THROWABLE;
 use std::alloc::{AllocError, Global};
 use std::collections::BTreeMap;
 

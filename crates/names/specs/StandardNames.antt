@@ -5,6 +5,17 @@ use Rattle.std.specs.Prelude.{ℕ, List, codes}
 abbrev pub init_name : List ℕ
 init_name = codes "<init>"
 
+-- the class above all others (4.1)
+abbrev pub object_name : List ℕ
+object_name = codes "java/lang/Object"
+
+-- the interfaces of every array (4.10.1.2)
+abbrev pub cloneable_name : List ℕ
+cloneable_name = codes "java/lang/Cloneable"
+
+abbrev pub serializable_name : List ℕ
+serializable_name = codes "java/io/Serializable"
+
 abbrev pub throwable_name : List ℕ
 throwable_name = codes "java/lang/Throwable"
 

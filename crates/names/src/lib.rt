@@ -10,6 +10,7 @@
 //! - `name`: whether a text is a class name, a field's name or a method's name.
 //! - `base`, `descriptor`: the types that descriptors name, their widths, and their texts.
 //! - `reading`: the types of a descriptor's text.
+//! - `standard`: names that the standard speaks of.
 //! - `fault`: the refusals.
 #![tactic(auto)]
 
@@ -18,6 +19,7 @@ mod descriptor;
 mod fault;
 mod name;
 mod reading;
+mod standard;
 mod text;
 
 pub use base::{Base, Primitive};
@@ -28,4 +30,5 @@ pub use reading::{
     field_answers, field_type, method_answers, method_type, one_field_type, one_method_type,
     result_type,
 };
+pub use standard::{CLONEABLE, INIT, OBJECT, SERIALIZABLE, THROWABLE};
 pub use text::{Text, TextUnits, check_text, one_unit_list, spell, text_answers, units};

@@ -1,5 +1,5 @@
 -- From the conditions of a family to those that are left to judge once its operands are there.
-use Rattle.std.specs.Prelude.{nat_lt, ◌&&◌, if◌then◌else◌}
+use Rattle.std.specs.Prelude.{nat_lt, is_none, ◌&&◌, if◌then◌else◌}
 use Rattle.std.proofs.Common.{◌≡◌, ◌⊎◌, ℕ, zero, suc, ◌<◌, ◌≤◌, Bool, true, false, List, [], ◌∷◌, length, get_or, refl, sym, ◌∙◌, ap, subst, arith, inl, inr, Some, None, Option, Result, Ok, Err, slice_get}
 use Rattle.std.proofs.lemmas.Bool.Decides.{nat_tests}
 use Rattle.names.specs.Descriptors.{FieldDescriptor}
@@ -21,7 +21,7 @@ use Rattle.rules.specs.declared.reason.Reason.TheVariants.{OutOfMemory}
 use Rattle.rules.specs.Plans.{Want, pops, loads, stores, rearranges, Plan}
 use Rattle.rules.specs.Table.{return_nothing}
 use Rattle.rules.specs.After.{or_top, local_of, after, with_stack, top_of, rest_of, stored, stored_type, form_for, rearranged_by}
-use Rattle.rules.specs.Rules.{is_short, operands, accepts, is_outside, gives_frame, is_too_wide, is_none, conditions}
+use Rattle.rules.specs.Rules.{is_short, operands, accepts, is_outside, gives_frame, is_too_wide, conditions}
 use Rattle.rules.specs.Outcomes.{Done, Took, pushed, settled}
 use Rattle.rules.specs.Reasons.{reason_view}
 use Rattle.rules.specs.Views.{locals_of}

@@ -1,17 +1,16 @@
 -- Plans of instructions that name constants (JVMS 4.10.1.9). A constant that an instruction may not name is refused 66.
 use Rattle.std.specs.Prelude.{ℕ, Bool, true, false, not, ◌&&◌, ◌||◌, nat_lt, nat_eq, bytes_eq, if◌then◌else◌, List, [], ◌∷◌, Option, Some, None}
 use Rattle.names.specs.declared.base.Primitive.{Primitive}
-use Rattle.names.specs.Descriptors.{primitive, class as class_descriptor, array as array_descriptor, method_width}
-use Rattle.names.specs.ReferenceTypes.{ReferenceType, class_type, array_type, dimensions_of, is_class_type}
-use Rattle.names.specs.StandardNames.{init_name, string_name, class_name, method_type_name, method_handle_name}
+use Rattle.names.specs.Descriptors.{primitive, method_width}
+use Rattle.names.specs.ReferenceTypes.{ReferenceType, class_type, array_type, descriptor_of, dimensions_of, is_class_type}
+use Rattle.names.specs.StandardNames.{object_name, init_name, string_name, class_name, method_type_name, method_handle_name}
 use Rattle.pool.specs.Entries as entries
 use Rattle.pool.specs.Entries.{Entry}
 use Rattle.pool.specs.Members.{FieldConstant, MethodConstant}
 use Rattle.classfile.specs.Methods.{Method, is_own_field}
-use Rattle.hierarchy.specs.World.{object_name}
 use Rattle.insn.specs.declared.operation.Kind.TheVariants as kinds
 use Rattle.insn.specs.Meanings.{Act}
-use Rattle.frames.specs.VerificationType.{VerificationType, int, float, long, double, class, array}
+use Rattle.frames.specs.VerificationType.{int, float, long, double, class, array}
 use Rattle.frames.specs.Slots.{to_reference, descriptor_type}
 use Rattle.rules.specs.Plans.{Want, number, own_or_assignable_to, Plan, pops, makes, constructs, calls_special, refuses, takes, gives, class_want, assignable_to, sizes, want_of, arguments_on, result_types, where_allowed}
 
@@ -117,12 +116,8 @@ new_array (Some p) = pops (number kinds.Int ∷ []) (array (primitive p) ∷ [])
 new_array None = refuses 66
 
 -- an array of elements of a type
-abbrev pub array_of_type : ReferenceType → VerificationType
-array_of_type (class_type name) = array (class_descriptor name)
-array_of_type (array_type component) = array (array_descriptor component)
-
 abbrev pub new_reference_array : Option ReferenceType → Plan
-new_reference_array (Some t) = where_allowed (nat_lt (dimensions_of t) 255) (pops (number kinds.Int ∷ []) (array_of_type t ∷ []) [] true)
+new_reference_array (Some t) = where_allowed (nat_lt (dimensions_of t) 255) (pops (number kinds.Int ∷ []) (array (descriptor_of t) ∷ []) [] true)
 new_reference_array None = refuses 66
 
 abbrev pub new_multi_array : ℕ → Option ReferenceType → Plan

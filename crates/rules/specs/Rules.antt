@@ -1,18 +1,19 @@
 -- The rule of an instruction (JVMS 4.10.1.9): the conditions that refuse it, each with its reason.
-use Rattle.std.specs.Prelude.{ℕ, ◌+◌, Bool, true, false, not, ◌&&◌, ◌||◌, nat_lt, bytes_eq, if◌then◌else◌, List, [], ◌∷◌, Option, Some, None}
+use Rattle.std.specs.Prelude.{ℕ, ◌+◌, Bool, true, false, not, ◌&&◌, ◌||◌, nat_lt, bytes_eq, is_none, if◌then◌else◌, List, [], ◌∷◌}
 use Rattle.names.specs.declared.base.Primitive.{Primitive}
 use Rattle.names.specs.Descriptors.{primitive}
 use Rattle.classfile.specs.Methods.{Method, is_name}
 use Rattle.hierarchy.specs.Class.{ClassFact}
 use Rattle.hierarchy.specs.Answer.{Outcome, yes, yes_if}
 use Rattle.insn.specs.declared.operation.Kind.TheVariants as kinds
-use Rattle.insn.specs.Acts.{takes_array, StackForm}
+use Rattle.insn.specs.Acts.{takes_array}
 use Rattle.insn.specs.Stacks.{beneath, units_taken}
 use Rattle.insn.specs.Meanings.{Act}
 use Rattle.frames.specs.VerificationType.{VerificationType, top, int, float, long, double, null, class, array, uninit_this, uninit}
 use Rattle.frames.specs.FrameFact.{FrameFact}
 use Rattle.frames.specs.Assignable.{type_answer}
 use Rattle.frames.specs.FrameAssignable.{both}
+use Rattle.frames.specs.DeclaredFrames.{is_uninit_this}
 use Rattle.frames.specs.Slots.{number_type, to_reference, units_of}
 use Rattle.frames.specs.Conditions.{Reason, reason, class_missing, Conditions, is_no, missing_if}
 use Rattle.rules.specs.Plans.{Want, number, assignable_to, any_reference, any_array, any_array_for, own_or_assignable_to, Plan, pops, loads, stores, counts, rearranges, loads_element, makes, constructs, calls_special, returns, refuses}
@@ -90,12 +91,6 @@ local_conditions classes m want n width f =
     ∷ missing_if (local_answer classes m want n width f)
     ∷ []
 
--- ---- forms
-
-abbrev pub is_none : Option StackForm → Bool
-is_none None = true
-is_none (Some form) = false
-
 -- ---- objects that are not initialized
 
 abbrev pub is_on_stack : ℕ → List VerificationType → Bool
@@ -109,12 +104,8 @@ may_construct m name (uninit at) = is_name (class_made_at m at) name
 may_construct m name _ = false
 
 -- an `<init>` on the own object that is not initialized
-abbrev pub is_constructed : VerificationType → Bool
-is_constructed uninit_this = true
-is_constructed _ = false
-
 abbrev pub constructs_own : Plan → FrameFact → Bool
-constructs_own (constructs name wants) f = is_constructed (top_of (beneath wants f.stack))
+constructs_own (constructs name wants) f = is_uninit_this (top_of (beneath wants f.stack))
 constructs_own _ f = false
 
 -- ---- invokespecial of another method: the current class is assignable to the method's, or the constant is refused

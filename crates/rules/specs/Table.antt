@@ -2,10 +2,9 @@
 use Rattle.std.specs.Prelude.{ℕ, true, false, if◌then◌else◌, List, [], ◌∷◌, Option, Some, None}
 use Rattle.names.specs.Descriptors.{FieldDescriptor, primitive, class as class_descriptor, array as array_descriptor}
 use Rattle.names.specs.ReferenceTypes.{class_type, array_type}
-use Rattle.names.specs.StandardNames.{throwable_name}
+use Rattle.names.specs.StandardNames.{object_name, throwable_name}
 use Rattle.pool.specs.Members.{constant_at, class_at, field_at, method_at}
 use Rattle.classfile.specs.Methods.{Method}
-use Rattle.hierarchy.specs.World.{object_name}
 use Rattle.insn.specs.declared.operation.Kind.{Kind}
 use Rattle.insn.specs.declared.operation.Kind.TheVariants as kinds
 use Rattle.insn.specs.Acts.{is_wide, numeric_row, stack_forms}

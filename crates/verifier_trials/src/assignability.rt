@@ -1,7 +1,7 @@
 use crate::making::{frame, hasher, object, summary};
 use frames::{VType, assignable, frame_assignable, laws};
-use hierarchy::{Answer, Chains, Classes, OBJECT, Summary};
-use names::{Base, Primitive};
+use hierarchy::{Answer, Chains, Classes, Summary};
+use names::{Base, OBJECT, Primitive};
 use std::alloc::{AllocError, Global};
 use std::process::Abort;
 use std::test::Fail;

@@ -2,8 +2,9 @@
 use crate::making::{apply_first, class_of, coded, frame, hasher, object, utf8};
 use classfile::{ClassFile, CodeAttr, Formed, Member, form_check};
 use frames::{Frame, VType};
-use hierarchy::{Chains, Classes, OBJECT};
+use hierarchy::{Chains, Classes};
 use insn::{Insn, decode_code};
+use names::OBJECT;
 use pool::Constant;
 use rules::{After, Branches, Env, Refusal, body_is_told, branches, falls};
 use std::alloc::{AllocError, Global};

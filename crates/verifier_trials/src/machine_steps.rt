@@ -1,8 +1,9 @@
 //! Steps of methods that are put together by hand.
 use crate::making::{Given, class, hasher, machine_method, object, static_method, summary};
 use classfile::{ClassFile, ExceptionHandler, decode, form_check};
-use hierarchy::{Chains, OBJECT};
+use hierarchy::Chains;
 use machine::{Choice, Method, Outcome, RunType, Slot, State, StepFault, Value, laws, step};
+use names::{OBJECT, THROWABLE};
 use samples::K;
 use std::alloc::{AllocError, Global};
 use std::collections::BTreeMap;
@@ -11,9 +12,6 @@ use std::test::Fail;
 
 /// What comes of a step.
 type Stepped<'a> = Result<Outcome<'a>, StepFault>;
-
-/// The class of all that is raised (JVMS 2.10).
-const THROWABLE: &[u8] = b"java/lang/Throwable";
 
 /// The index of the Class constant of `java/lang/Object`.
 const OBJECT_INDEX: u16 = 3;

@@ -6,10 +6,10 @@ use classfile::{
     Attribute, ClassFile, CodeAttr, ExceptionHandler, Formed, Member, NestedAttribute,
 };
 use frames::{Frame, VType};
-use hierarchy::{Classes, OBJECT, Summary};
+use hierarchy::{Classes, Summary};
 use insn::CodeFault;
 use machine::Method;
-use names::check_text;
+use names::{OBJECT, check_text};
 use pool::{Constant, Pool};
 use rules::{After, Env, Refusal, apply};
 use std::alloc::{AllocError, Global};

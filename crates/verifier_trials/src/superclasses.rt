@@ -1,8 +1,9 @@
 use crate::making::{hasher, summary};
 use classfile::{ClassFile, decode, form_check};
 use hierarchy::{
-    Answer, Chains, Classes, HierarchyFault, Kind, MemberSummary, OBJECT, Summary, laws, summary_of,
+    Answer, Chains, Classes, HierarchyFault, Kind, MemberSummary, Summary, laws, summary_of,
 };
+use names::{CLONEABLE, OBJECT};
 use samples::K;
 use std::alloc::Global;
 use std::process::Abort;
@@ -111,7 +112,7 @@ fn missing_superclass(alloc: Global) -> Option<HierarchyFault<'static>> {
 fn array_interface_as_class(alloc: Global) -> Option<HierarchyFault<'static>> {
     let list = [
         summary(alloc, OBJECT, None, false),
-        summary(alloc, b"java/lang/Cloneable", Some(OBJECT), false),
+        summary(alloc, CLONEABLE, Some(OBJECT), false),
     ];
     refusal(alloc, &list)
 }
@@ -142,9 +143,7 @@ fn refusals(rt: HostRuntime) -> Result<(), Fail> {
         (refusal(alloc, &[]), HierarchyFault::NoObject),
         (
             array_interface_as_class(alloc),
-            HierarchyFault::BadArrayInterface {
-                name: b"java/lang/Cloneable",
-            },
+            HierarchyFault::BadArrayInterface { name: CLONEABLE },
         ),
         (
             interface_below_a_class(alloc),

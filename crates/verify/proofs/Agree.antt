@@ -1,8 +1,8 @@
 -- The rules and the machine take each instruction for the same: they name the same operands, results and offsets.
-use Rattle.std.proofs.Common.{◌≡◌, ℕ, zero, suc, ℤ, Bool, true, false, ◌&&◌, List, [], ◌∷◌, Option, Some, None, if◌then◌else◌, ap, refl}
+use Rattle.std.proofs.Common.{◌≡◌, ℕ, zero, suc, ℤ, Bool, true, false, ◌&&◌, List, [], ◌∷◌, Option, Some, None, if◌then◌else◌, refl}
 use Rattle.names.specs.declared.base.Primitive.{Primitive}
 use Rattle.names.specs.Descriptors.{FieldDescriptor, primitive, class as class_descriptor, array as array_descriptor}
-use Rattle.names.specs.ReferenceTypes.{ReferenceType, class_type, array_type}
+use Rattle.names.specs.ReferenceTypes.{ReferenceType, class_type, array_type, descriptor_of}
 use Rattle.pool.specs.Entries as entries
 use Rattle.pool.specs.Entries.{Entry}
 use Rattle.pool.specs.Members.{constant_at, class_at, FieldConstant, field_at, MethodConstant, method_at}
@@ -13,7 +13,7 @@ use Rattle.insn.specs.Acts.{numeric_row}
 use Rattle.insn.specs.Stacks.{computed_as, same_kind}
 use Rattle.insn.specs.Meanings as acts
 use Rattle.insn.specs.Meanings.{Act}
-use Rattle.frames.specs.VerificationType.{VerificationType, null}
+use Rattle.frames.specs.VerificationType.{VerificationType, null, array}
 use Rattle.frames.specs.Slots.{number_type, to_reference, descriptor_type}
 use Rattle.rules.specs.Plans as rules
 use Rattle.rules.specs.Plans.{Want, Plan}
@@ -195,12 +195,8 @@ new_array_agree : (p : Option Primitive) → Agrees (constants.new_array p) (tas
 new_array_agree (Some p) = record { needs = (refl, tt); reply = refl; offsets = refl; falls = refl }
 new_array_agree None = tt
 
-array_types : (t : ReferenceType) → constants.array_of_type t ≡ to_reference (tasks.array_of_type t)
-array_types (class_type name) = refl
-array_types (array_type component) = refl
-
 new_reference_array_agree : (c : Option ReferenceType) → Agrees (constants.new_reference_array c) (tasks.new_reference_array c)
-new_reference_array_agree (Some t) = allowed _ (rules.pops (rules.number kinds.Int ∷ []) (constants.array_of_type t ∷ []) [] true) (tasks.makes_array (tasks.of_kind kinds.Int ∷ []) (tasks.array_of_type t)) (record { needs = (refl, tt); reply = ap (λ z. z ∷ []) (array_types t); offsets = refl; falls = refl })
+new_reference_array_agree (Some t) = allowed _ (rules.pops (rules.number kinds.Int ∷ []) (array (descriptor_of t) ∷ []) [] true) (tasks.makes_array (tasks.of_kind kinds.Int ∷ []) (array_type (descriptor_of t))) (record { needs = (refl, tt); reply = refl; offsets = refl; falls = refl })
 new_reference_array_agree None = tt
 
 new_multi_array_agree : (n : ℕ) (c : Option ReferenceType) → Agrees (constants.new_multi_array n c) (tasks.new_multi_array n c)

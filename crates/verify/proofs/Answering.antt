@@ -13,7 +13,7 @@ use Rattle.insn.specs.declared.fault.CodeFault.{CodeFault}
 use Rattle.insn.specs.declared.fault.CodeFault.TheVariants as codes
 use Rattle.insn.specs.Code.{SpellsCode, FaultyCode, UnlessMemory}
 use Rattle.insn.specs.Meanings.{Act}
-use Rattle.insn.specs.Offsets.{IsStart, acts}
+use Rattle.insn.specs.Offsets.{IsStart, acts, StartsRise}
 use Rattle.insn.specs.Supported.{supported_acts}
 use Rattle.insn.proofs.CodeLaws.{starts_rise, one_code, code_or_fault}
 use Rattle.frames.specs.Conditions.{Reason}
@@ -26,7 +26,6 @@ use Rattle.rules.specs.declared.reason.Reason.TheVariants.{NotSupported}
 use Rattle.rules.specs.Reasons.{reason_view}
 use Rattle.verify.specs.TypeSafety.{IsTypeSafe}
 use Rattle.verify.specs.Verdict.{verified, refused, verdict}
-use Rattle.verify.specs.VerdictLaws.{OffsetsRise}
 use Rattle.verify.specs.ClassMethods.{IsMethod, IsTypeSafeIn}
 use Rattle.verify.specs.Steps.{RefusesCode, Gives}
 use Rattle.verify.specs.Judged.{is_judged}
@@ -103,12 +102,12 @@ module _ (classes : List ClassFact) (c : Class) (number : ℕ) where
   type_safe_in formed v =
       let code : v.method.code ≡ supported_acts (acts v.instructions) =
       code_is c (supported_acts (acts v.instructions)) v.method number v.says in
-      let rise : OffsetsRise 0 (supported_acts (acts v.instructions)) =
+      let rise : StartsRise 0 (supported_acts (acts v.instructions)) =
       decoded_rise 0 v.instructions (starts_rise 0 v.body.code v.instructions v.spelled) in
       let begins : IsStart (supported_acts (acts v.instructions)) 0 =
       decoded_begins v.body.code v.instructions v.spelled (some_code c formed number v.body v.has_code) in
       let safe : IsTypeSafe classes v.method =
-      verified_is_type_safe classes v.method (subst (OffsetsRise 0) (sym code) rise) (subst (λ z. IsStart z 0) (sym code) begins) v.told in
+      verified_is_type_safe classes v.method (subst (StartsRise 0) (sym code) rise) (subst (λ z. IsStart z 0) (sym code) begins) v.told in
       let x = has_code c number v.body v.has_code in
       let method = none_is_replaced classes c number (acts v.instructions) v.method rise v.says safe in (
         v.method,
@@ -182,9 +181,9 @@ module _ (classes : List ClassFact) (c : Class) (number : ℕ) where
     is_verified : verdict classes m ≡ verified
     is_verified =
         let kept : supported_acts (acts i.instructions) ≡ acts i.instructions = ap supported_acts (sym code_there) ∙ rules ∙ code_there in
-        let rise : OffsetsRise 0 (supported_acts (acts i.instructions)) =
+        let rise : StartsRise 0 (supported_acts (acts i.instructions)) =
         decoded_rise 0 i.instructions (starts_rise 0 i.body.code i.instructions i.spelled) in
-        type_safe_is_verified classes m (subst (OffsetsRise 0) (kept ∙ sym code_there) rise) safe
+        type_safe_is_verified classes m (subst (StartsRise 0) (kept ∙ sym code_there) rise) safe
 
     not_refused : (at : ℕ) (why : Reason) → HasVerdict classes c number (refused at why) → ⊥
     not_refused at why v =

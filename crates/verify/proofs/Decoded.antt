@@ -2,12 +2,11 @@
 use Rattle.std.proofs.Common.{◌≡◌, ℕ, ◌+◌, ◌<◌, List, [], ◌∷◌, length, refl, ap, arith, eq-eqb}
 use Rattle.insn.specs.Instructions.{Instruction}
 use Rattle.insn.specs.Meanings.{act}
-use Rattle.insn.specs.Code.{SpellsCode, StartsRise}
-use Rattle.insn.specs.Offsets.{IsStart, acts}
+use Rattle.insn.specs.Code.{SpellsCode}
+use Rattle.insn.specs.Offsets.{IsStart, acts, StartsRise}
 use Rattle.insn.specs.Supported.{as_supported, supported_acts}
-use Rattle.verify.specs.VerdictLaws.{OffsetsRise}
 
-pub decoded_rise : (from : ℕ) (xs : List (ℕ × Instruction)) → StartsRise from xs → OffsetsRise from (supported_acts (acts xs))
+pub decoded_rise : (from : ℕ) (xs : List (ℕ × Instruction)) → StartsRise from xs → StartsRise from (supported_acts (acts xs))
 decoded_rise from [] r = tt
 decoded_rise from (x ∷ xs) r = (r.0, decoded_rise (x.0 + 1) xs r.1)
 

@@ -1,4 +1,5 @@
 -- Instructions that move items of the stack.
+use Rattle.std.specs.Prelude.{is_none}
 use Rattle.std.proofs.Common.{◌≡◌, ℕ, zero, suc, ◌≤◌, Bool, true, false, List, [], ◌∷◌, slice_get, Option, Some, inl, inr, if◌then◌else◌, sym, ap, refl, ◌∙◌, subst, arith}
 use Rattle.std.proofs.lemmas.Bool.{and_parts}
 use Rattle.hierarchy.specs.Class.{ClassFact}
@@ -13,7 +14,7 @@ use Rattle.frames.specs.Slots.{is_wide, units_of}
 use Rattle.frames.specs.Conditions.{NoneHolds}
 use Rattle.rules.specs.Plans as rules
 use Rattle.rules.specs.After.{is_narrow, fits_place, fits_places, form_for, rearranged_by, after}
-use Rattle.rules.specs.Rules.{is_none, conditions}
+use Rattle.rules.specs.Rules.{conditions}
 use Rattle.machine.specs.Values.{Value, is_wide_value, place_of}
 use Rattle.machine.specs.Heap.{Heap}
 use Rattle.machine.specs.Tasks as tasks

@@ -10,7 +10,7 @@ use Rattle.layout.specs.declared.fault.ReadFault.TheVariants.{AttributeLength}
 use Rattle.classfile.specs.Methods.{Method, ExceptionEntry}
 use Rattle.hierarchy.specs.Class.{ClassFact}
 use Rattle.insn.specs.Meanings.{Act}
-use Rattle.insn.specs.Offsets.{at_offset, has_offset, first_offset, IsStart, IsAmong}
+use Rattle.insn.specs.Offsets.{at_offset, has_offset, first_offset, IsStart, IsAmong, StartsRise}
 use Rattle.frames.specs.VerificationType.{class}
 use Rattle.frames.specs.Slots.{to_reference}
 use Rattle.frames.specs.Assignable.{type_answer}
@@ -20,24 +20,23 @@ use Rattle.frames.specs.DeclaredFrames.{declared_frames}
 use Rattle.verify.specs.InitialFrames.{initial_types}
 use Rattle.verify.specs.TypeSafety.{Frames, HasEntries, Declares, IsSoundEntry}
 use Rattle.verify.specs.Verdict.{MapRefusal, Verdict, verified, refused_or, all_entries, entries_read, or_undeclared, frames_of, frames_declared, is_end, table_conditions, table_judged}
-use Rattle.verify.specs.VerdictLaws.{OffsetsRise}
 use Rattle.verify.proofs.Declared.{none_least}
 use Rattle.verify.proofs.Reasons.{none_told, not_refused, answer_yes, yes_none}
 use Rattle.verify.proofs.Passing.{AreApart}
 
 -- ---- offsets that rise
 
-pub not_at : (from : ℕ) (cs : List (ℕ × Act)) (p : ℕ) → OffsetsRise from cs → p < from → at_offset cs p ≡ None
+pub not_at : (from : ℕ) (cs : List (ℕ × Act)) (p : ℕ) → StartsRise from cs → p < from → at_offset cs p ≡ None
 not_at from [] p r l = refl
 not_at from (c ∷ cs) p r l =
     let apart : nat_eq c.0 p ≡ false = ne_eqb c.0 p (λ q. omega (arith, q, r.0, l)) in
     rw apart (not_at (c.0 + 1) cs p r.1 (omega (arith, r.0, l)))
 
-pub rising_apart : (from : ℕ) (cs : List (ℕ × Act)) → OffsetsRise from cs → AreApart cs
+pub rising_apart : (from : ℕ) (cs : List (ℕ × Act)) → StartsRise from cs → AreApart cs
 rising_apart from [] r = tt
 rising_apart from (c ∷ cs) r = (not_at (c.0 + 1) cs c.0 r.1 (omega arith), rising_apart (c.0 + 1) cs r.1)
 
-pub first_at_zero : (cs : List (ℕ × Act)) → OffsetsRise 0 cs → IsStart cs 0 → first_offset cs ≡ Some 0
+pub first_at_zero : (cs : List (ℕ × Act)) → StartsRise 0 cs → IsStart cs 0 → first_offset cs ≡ Some 0
 first_at_zero [] r s = clash s.what s.here
   where
     clash : (act : Act) → None ≡ Some act → first_offset {A = Act} [] ≡ Some 0

@@ -3,7 +3,7 @@ use Rattle.std.proofs.Common.{◌≡◌, ◌⊎◌, ℕ, ◌+◌, ◌<◌, ◌�
 use Rattle.classfile.specs.Methods.{Method, ExceptionEntry}
 use Rattle.hierarchy.specs.Class.{ClassFact}
 use Rattle.insn.specs.Meanings.{Act}
-use Rattle.insn.specs.Offsets.{at_offset, first_offset, next_offset, IsStart, IsAmong}
+use Rattle.insn.specs.Offsets.{at_offset, first_offset, next_offset, IsStart, IsAmong, StartsRise}
 use Rattle.frames.specs.FrameFact.{FrameFact}
 use Rattle.frames.specs.Slots.{in_locals}
 use Rattle.frames.specs.Conditions.{Reason, reason, NoneHolds, least}
@@ -13,7 +13,6 @@ use Rattle.rules.specs.After.{after}
 use Rattle.verify.specs.InitialFrames.{initial_types, initial_frame}
 use Rattle.verify.specs.TypeSafety.{Frames, IsTypeSafeAt, IsSoundEntry}
 use Rattle.verify.specs.Verdict.{MapRefusal, Verdict, refused, refused_or, at_conditions, entry, entered, arrives, passes, code_judged, table_conditions, table_judged, with_frames, frames_declared}
-use Rattle.verify.specs.VerdictLaws.{OffsetsRise}
 use Rattle.verify.specs.Refusals.{Reaches, BreaksRule, BreaksFrame, BreaksFirst, BreaksTable, HasNoRoom, BreaksCode, BreaksWithFrames, RefusedWhere}
 use Rattle.verify.proofs.Declared.{none_least}
 use Rattle.verify.proofs.Passing.{IsFineIn, came, own_of, wider, fine_each, wider_head, comes_in}
@@ -44,7 +43,7 @@ module _ (classes : List ClassFact) (m : Method Act) (frames : Frames) where
     own : (g : FrameFact) → at_offset frames stop ≡ Some g → table stop ≡ g
     fails : Fails stop act (next_offset cs stop) (table stop) at why
 
-  at_head : (c : ℕ × Act) (cs : List (ℕ × Act)) (f : FrameFact) (at : ℕ) (why : Reason) → OffsetsRise c.0 (c ∷ cs) → ((k : FrameFact) → at_offset frames c.0 ≡ Some k → f ≡ k)
+  at_head : (c : ℕ × Act) (cs : List (ℕ × Act)) (f : FrameFact) (at : ℕ) (why : Reason) → StartsRise c.0 (c ∷ cs) → ((k : FrameFact) → at_offset frames c.0 ≡ Some k → f ≡ k)
       → Fails c.0 c.1 (first_offset cs) f at why → IsFineUpTo (c ∷ cs) f at why
   at_head c cs f at why rise own x = record {
     stop = c.0;
@@ -93,7 +92,7 @@ module _ (classes : List ClassFact) (m : Method Act) (frames : Frames) where
       fails = subst (λ z. Fails r.stop r.act (next_offset (c ∷ cs) r.stop) z at why) (sym kept) (subst (λ z. Fails r.stop r.act z (r.table r.stop) at why) next_same r.fails);
     }
 
-  arriving : (from : ℕ) (c : ℕ × Act) (cs : List (ℕ × Act)) (f : FrameFact) (at : ℕ) (why : Reason) → OffsetsRise from (c ∷ cs) → ((k : FrameFact) → at_offset frames c.0 ≡ Some k → f ≡ k)
+  arriving : (from : ℕ) (c : ℕ × Act) (cs : List (ℕ × Act)) (f : FrameFact) (at : ℕ) (why : Reason) → StartsRise from (c ∷ cs) → ((k : FrameFact) → at_offset frames c.0 ≡ Some k → f ≡ k)
       → least (at_conditions classes m frames c.0 (plan m c.1) (first_offset cs) f) ≡ None
       → ((k : FrameFact) → ((p : ℕ) (j : FrameFact) → first_offset cs ≡ Some p → at_offset frames p ≡ Some j → k ≡ j) → passes classes m frames cs k ≡ refused at why → IsFineUpTo cs k at why)
       → arrives classes frames cs (falls (plan m c.1)) (after m c.0 (plan m c.1) f) (passes classes m frames cs) ≡ refused at why → IsFineUpTo (c ∷ cs) f at why
@@ -114,7 +113,7 @@ module _ (classes : List ClassFact) (m : Method Act) (frames : Frames) where
           (λ q i. let k : d.0 ≡ q = cc in (subst (λ z. entry classes (falls (plan m c.1)) g (at_offset frames z) ≡ None) k x.0, ap (λ z. entered g (at_offset frames z)) k))
           (rec (entered g (at_offset frames d.0)) (λ p k i j. own_of classes m frames (d ∷ ds) g p k i j) x.1)
 
-  refusing : (from : ℕ) (cs : List (ℕ × Act)) (f : FrameFact) (at : ℕ) (why : Reason) → OffsetsRise from cs
+  refusing : (from : ℕ) (cs : List (ℕ × Act)) (f : FrameFact) (at : ℕ) (why : Reason) → StartsRise from cs
       → ((p : ℕ) (k : FrameFact) → first_offset cs ≡ Some p → at_offset frames p ≡ Some k → f ≡ k) → passes classes m frames cs f ≡ refused at why → IsFineUpTo cs f at why
   refusing from [] f at why rise own e = cc
   refusing from (c ∷ cs) f at why rise own e =
@@ -182,7 +181,7 @@ module _ (classes : List ClassFact) (m : Method Act) (frames : Frames) where
           told = x.2;
         })
 
-  code_breaks : (at : ℕ) (why : Reason) → OffsetsRise 0 m.code → first_offset m.code ≡ Some 0 → code_judged classes m frames ≡ refused at why
+  code_breaks : (at : ℕ) (why : Reason) → StartsRise 0 m.code → first_offset m.code ≡ Some 0 → code_judged classes m frames ≡ refused at why
       → BreaksFirst classes m frames at why ⊎ (BreaksFrame classes m frames at why ⊎ BreaksRule classes m frames at why)
   code_breaks at why rise first e = by (arrived m.code true (initial_frame m) at why e)
     where
@@ -241,7 +240,7 @@ module _ (classes : List ClassFact) (m : Method Act) (frames : Frames) where
       by (inl y) rec = inl (record { front = []; broken = x; others = es; parts = refl; sound = λ z i. absurd i; told = y.0; at_zero = sym y.1 })
       by (inr y) rec = on (sound_of classes m frames x (none_least (table_conditions classes m frames x) y.0)) (rec y.1)
 
-  frames_break : (at : ℕ) (why : Reason) → OffsetsRise 0 m.code → first_offset m.code ≡ Some 0 → table_judged classes m frames m.exceptions (code_judged classes m frames) ≡ refused at why
+  frames_break : (at : ℕ) (why : Reason) → StartsRise 0 m.code → first_offset m.code ≡ Some 0 → table_judged classes m frames m.exceptions (code_judged classes m frames) ≡ refused at why
       → BreaksTable classes m frames at why ⊎ BreaksCode classes m frames at why
   frames_break at why rise first e =
       elim (table_breaks m.exceptions (code_judged classes m frames) at why e) [
@@ -255,13 +254,14 @@ refused_where classes m rise begins at why v = by (nat_lt m.max_locals (length (
     same_refusal : (p q : ℕ) (a b : Reason) → refused p a ≡ refused q b → (p ≡ q) × (a ≡ b)
     same_refusal p q a b e = (cc, cc)
 
-    on : (r : Result Frames MapRefusal) → frames_declared m ≡ r → with_frames classes m r ≡ refused at why → BreaksWithFrames classes m at why
-    on (Ok frames) r w = (frames, frames_there m frames r, frames_break classes m frames at why rise (first_at_zero m.code rise begins) w)
-    on (Err fault) r w = cc
+    on : length (in_locals (initial_types m)) ≤ m.max_locals → (r : Result Frames MapRefusal) → frames_declared m ≡ r → with_frames classes m r ≡ refused at why
+        → BreaksWithFrames classes m at why
+    on fit (Ok frames) r w = (fit, frames, frames_there m frames r, frames_break classes m frames at why rise (first_at_zero m.code rise begins) w)
+    on fit (Err fault) r w = cc
 
     by : (b : Bool) → nat_lt m.max_locals (length (in_locals (initial_types m))) ≡ b → (if b then refused 0 (reason 64) else with_frames classes m (frames_declared m)) ≡ refused at why
         → HasNoRoom m at why ⊎ BreaksWithFrames classes m at why
     by true b w =
         let s = same_refusal 0 at (reason 64) why w in
         inl (record { at_zero = sym s.0; narrow = ltb-true m.max_locals (length (in_locals (initial_types m))) b; told = sym s.1 })
-    by false b w = inr (on (frames_declared m) refl w)
+    by false b w = inr (on (ltb-false m.max_locals (length (in_locals (initial_types m))) b) (frames_declared m) refl w)

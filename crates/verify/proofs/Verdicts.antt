@@ -3,19 +3,19 @@ use Rattle.std.proofs.Common.{◌≡◌, ℕ, ◌≤◌, Bool, true, false, nat_
 use Rattle.classfile.specs.Methods.{Method}
 use Rattle.hierarchy.specs.Class.{ClassFact}
 use Rattle.insn.specs.Meanings.{Act}
-use Rattle.insn.specs.Offsets.{at_offset, first_offset, IsStart}
+use Rattle.insn.specs.Offsets.{at_offset, first_offset, IsStart, StartsRise}
 use Rattle.frames.specs.Slots.{in_locals}
 use Rattle.frames.specs.Conditions.{reason}
 use Rattle.verify.specs.InitialFrames.{initial_types, initial_frame}
 use Rattle.verify.specs.TypeSafety.{Frames, Declares, Comes, IsTypeSafe}
 use Rattle.verify.specs.Verdict.{MapRefusal, verified, refused, code_judged, table_judged, with_frames, frames_declared, verdict}
-use Rattle.verify.specs.VerdictLaws.{OffsetsRise, VerifiedIsTypeSafe, TypeSafeIsVerified}
+use Rattle.verify.specs.VerdictLaws.{VerifiedIsTypeSafe, TypeSafeIsVerified}
 use Rattle.verify.proofs.Declared.{good_frames}
 use Rattle.verify.proofs.Passing.{comes_in, came, tail_of, enters_of, own_of, HasTable, has_table, IsFineIn}
 use Rattle.verify.proofs.Following.{comes_none, onward, passes_all}
 use Rattle.verify.proofs.Premises.{rising_apart, first_at_zero, frames_there, there_frames, table_sound, sound_table}
 
-module _ (classes : List ClassFact) (m : Method Act) (rise : OffsetsRise 0 m.code) where
+module _ (classes : List ClassFact) (m : Method Act) (rise : StartsRise 0 m.code) where
   first_fits : (frames : Frames) → first_offset m.code ≡ Some 0 → code_judged classes m frames ≡ verified → HasTable classes m frames m.code (came classes m frames m.code (initial_frame m))
   first_fits frames first judged =
       has_table classes m frames m.code (came classes m frames m.code (initial_frame m)) (rising_apart 0 m.code rise) (λ p k i j. own_of classes m frames m.code (initial_frame m) p k i j)

@@ -7,11 +7,10 @@ use Rattle.hierarchy.specs.Rules.{IsHierarchy}
 use Rattle.insn.specs.Instructions.{Instruction}
 use Rattle.insn.specs.Code.{SpellsCode}
 use Rattle.insn.specs.Meanings.{Act}
-use Rattle.insn.specs.Offsets.{acts}
+use Rattle.insn.specs.Offsets.{acts, StartsRise}
 use Rattle.insn.specs.Supported.{supported_acts}
 use Rattle.verify.specs.TypeSafety.{IsTypeSafe}
 use Rattle.verify.specs.Safety.{IsSafe}
-use Rattle.verify.specs.VerdictLaws.{OffsetsRise}
 
 -- the class's method of this number has code, and this is what its instructions see of it
 pub record IsMethod (c : Class) (number : ℕ) (m : Method Act) : Type 0 where
@@ -38,5 +37,5 @@ TypeSafeMethodsAreSafe =
 abbrev pub NoneIsReplaced : Type 0
 NoneIsReplaced =
     (classes : List ClassFact) (c : Class) (number : ℕ) (code : List (ℕ × Act)) (m : Method Act)
-    → OffsetsRise 0 (supported_acts code) → method_of c number (supported_acts code) ≡ Some m → IsTypeSafe classes m
+    → StartsRise 0 (supported_acts code) → method_of c number (supported_acts code) ≡ Some m → IsTypeSafe classes m
     → method_of c number code ≡ Some m

@@ -3,7 +3,7 @@ use Rattle.std.specs.Prelude.{◌≡◌, ℕ, ◌<◌, ◌≤◌, true, List, �
 use Rattle.classfile.specs.Methods.{Method, ExceptionEntry}
 use Rattle.hierarchy.specs.Class.{ClassFact}
 use Rattle.insn.specs.Meanings.{Act}
-use Rattle.insn.specs.Offsets.{at_offset, next_offset, IsStart, IsAmong}
+use Rattle.insn.specs.Offsets.{at_offset, next_offset, IsStart, IsAmong, StartsRise}
 use Rattle.frames.specs.FrameFact.{FrameFact}
 use Rattle.frames.specs.Slots.{in_locals}
 use Rattle.frames.specs.Conditions.{Reason, reason, NoneHolds, least}
@@ -15,7 +15,6 @@ use Rattle.rules.specs.After.{after}
 use Rattle.verify.specs.InitialFrames.{initial_types, initial_frame}
 use Rattle.verify.specs.TypeSafety.{Frames, HasEntries, Declares, Comes, IsSoundEntry, IsTypeSafeAt}
 use Rattle.verify.specs.Verdict.{MapRefusal, unreadable, undeclared, refused, map_refused, table_conditions, at_conditions, entry, verdict}
-use Rattle.verify.specs.VerdictLaws.{OffsetsRise}
 
 -- the frames at the starts up to an offset, and the conditions of the instructions before it
 pub record IsTypeSafeUpTo (classes : List ClassFact) (m : Method Act) (frames : Frames) (table : ℕ → FrameFact) (to : ℕ) : Type 0 where
@@ -70,13 +69,15 @@ pub record BreaksCode (classes : List ClassFact) (m : Method Act) (frames : Fram
   pub sound : (e : ExceptionEntry) → IsAmong e m.exceptions → IsSoundEntry classes m frames e
   pub broken : BreaksFirst classes m frames at why ⊎ (BreaksFrame classes m frames at why ⊎ BreaksRule classes m frames at why)
 
+-- Receiver and parameters fit, and the stack map declares frames.
 abbrev pub BreaksWithFrames : List ClassFact → Method Act → ℕ → Reason → Type 0
 BreaksWithFrames classes m at why =
-    (frames : Frames) × Declares m frames × (BreaksTable classes m frames at why ⊎ BreaksCode classes m frames at why)
+    (length (in_locals (initial_types m)) ≤ m.max_locals)
+    × (frames : Frames) × Declares m frames × (BreaksTable classes m frames at why ⊎ BreaksCode classes m frames at why)
 
 abbrev pub RefusedWhere : Type 0
 RefusedWhere =
-    (classes : List ClassFact) (m : Method Act) → OffsetsRise 0 m.code → IsStart m.code 0 → (at : ℕ) (why : Reason) → verdict classes m ≡ refused at why
+    (classes : List ClassFact) (m : Method Act) → StartsRise 0 m.code → IsStart m.code 0 → (at : ℕ) (why : Reason) → verdict classes m ≡ refused at why
     → HasNoRoom m at why ⊎ BreaksWithFrames classes m at why
 
 -- ---- the stack map is refused

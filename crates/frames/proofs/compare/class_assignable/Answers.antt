@@ -1,6 +1,6 @@
 use Rattle.std.proofs.Common.{◌≡◌, ◌∙◌, ℕ, List, false, Some, sym, refl, ap}
 use Rattle.std.specs.Str.{bytes_eq}
-use Rattle.hierarchy.specs.World.{object_name}
+use Rattle.names.specs.StandardNames.{object_name}
 use Rattle.hierarchy.specs.Class.{ClassFact, interface_of}
 use Rattle.hierarchy.specs.Answer.{outcome_of, subclass_answer}
 use Rattle.hierarchy.proofs.Subclass.{one_answer}

@@ -6,7 +6,7 @@ use Rattle.names.specs.Reading.{method_answer}
 use Rattle.pool.specs.declared.fault.PoolFault.{PoolFault}
 use Rattle.pool.specs.Lookups.{Answers, text_at}
 use Rattle.classfile.specs.Values.{Member}
-use Rattle.classfile.specs.Methods.{has_static_flag}
+use Rattle.classfile.specs.Flags.{has, STATIC}
 use Rattle.classfile.specs.Views.{class_view, member_view}
 use Rattle.classfile.specs.CodeMethods.{code_method_view, types_of}
 use Rattle.classfile.proofs.Places.{viewed_at}
@@ -37,4 +37,4 @@ returns c =
     subst (λ r. Answers (λ t. t.bytes.now) (text_at pool read.descriptor) r) c.unwrap.ensures c.text.ensures in
     let text : bytes ≡ from.text =
     same_text bytes from.text (sym found ∙ ap (λ (x : Member). text_at pool x.descriptor) same ∙ from.text_is) in
-    ap (λ b. method_answer (not b) bytes) is.static_is ∙ ap (method_answer (not (has_static_flag is.member.access_flags))) text ∙ from.read
+    ap (λ b. method_answer (not b) bytes) is.static_is ∙ ap (method_answer (not (has is.member.access_flags STATIC))) text ∙ from.read
