@@ -7,9 +7,9 @@ use std::alloc::{AllocError, Global};
 use std::process::Abort;
 use std::test::Fail;
 use verify::{
-    MethodVerdict, Verdict, VerifyFault, map_refused_where, none_is_replaced, one_report,
-    one_verdict, refused_where, type_safe_is_safe, type_safe_is_verified, verified_is_type_safe,
-    verify_class, verify_method,
+    ClassRefusal, MethodVerdict, Verdict, VerifyFault, map_refused_where, none_is_replaced,
+    one_report, one_verdict, refused_where, type_safe_is_safe, type_safe_is_verified,
+    verified_is_type_safe, verify_class, verify_method,
 };
 
 /// The flag ACC_NATIVE (JVMS 4.6).
@@ -193,6 +193,26 @@ fn a_report(rt: HostRuntime) -> Result<(), Fail> {
         report[0].name.bytes() == b"f".as_slice()
             && report[0].descriptor.bytes() == b"()V".as_slice()
     );
+    Ok(())
+}
+
+/// The class file of K without its method.
+fn without_methods(alloc: Global) -> Result<Vec<u8>, AllocError> {
+    let mut bytes = Vec::new(alloc);
+    bytes.extend_from_slice(&K[..66])?;
+    bytes.extend_from_slice(&[0, 0, 0, 0])?;
+    Ok(bytes)
+}
+
+/// A class without methods is looked up too.
+#[test]
+fn unlisted_class_without_methods(rt: HostRuntime) -> Result<(), Fail> {
+    let alloc = rt.alloc();
+    let bytes = without_methods(alloc)?;
+    let list = [object(alloc)];
+    let classes = Chains::new(alloc, &list, hasher()).expect(&rt, "a hierarchy");
+    let answer = verify_class(alloc, &bytes, &classes);
+    assert!(rt; matches!(answer, Err(ClassRefusal::NotInHierarchy)));
     Ok(())
 }
 

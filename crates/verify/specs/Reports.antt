@@ -25,7 +25,9 @@ pub record IsReported (classes : List ClassFact) (c : Class) (number : ℕ) (r :
   -- a method that is verified is safe in every world that extends the hierarchy
   pub safe : r.verdict ≡ Verified → IsSafeIn classes c number
 
+-- of a class that the hierarchy has as it is, also where it has no methods
 pub record IsReport (classes : List ClassFact) (c : Class) (rs : List MethodVerdict) : Type 0 where
+  pub listed : IsListed classes c
   pub all : length rs ≡ length c.methods
   pub each : (number : ℕ) (r : MethodVerdict) → slice_get rs number ≡ Some r → IsReported classes c number r
 
