@@ -3,8 +3,9 @@ use Rattle.std.proofs.Common.{◌≡◌, ◌≢◌, ℕ, ℤ, pos, ◌+ℤ◌, B
 use Rattle.std.specs.Str.{bytes_eq}
 use Rattle.std.proofs.lemmas.Slice.Eq.{bytes_eq-Decides}
 use Rattle.names.specs.ReferenceTypes.{ReferenceType, class_type, array_type}
-use Rattle.classfile.specs.Methods.{Method}
-use Rattle.hierarchy.specs.World.{Entry, World, object_name, cloneable_name, serializable_name}
+use Rattle.classfile.specs.Methods.{Method, Receiver, no_receiver, ready_receiver, own_receiver, receiver_of}
+use Rattle.names.specs.StandardNames.{object_name, cloneable_name, serializable_name}
+use Rattle.hierarchy.specs.World.{Entry, World}
 use Rattle.hierarchy.specs.Class.{ClassFact, entry_of, world_of, IsAbsent}
 use Rattle.hierarchy.specs.Rules.{IsHierarchy}
 use Rattle.hierarchy.specs.Extends.{Extends}
@@ -18,8 +19,9 @@ use Rattle.machine.specs.Heap.{Status, ready, made, this, Object, object, Heap, 
 use Rattle.machine.specs.Tasks as tasks
 use Rattle.machine.specs.Tasks.{Need, Reply, Task, task, targets, needs_of}
 use Rattle.machine.specs.Demands.{State, AllMeet, IsMade, IsOwn, MeetsRest, IsNoFault}
-use Rattle.machine.specs.Steps.{Replies, moved_with, IsLive, Does, IsBranch, GoesTo}
-use Rattle.machine.specs.Breadth.{with_new, MayGoOn, IsReplied, IsElement, IsAnswer, MakesNone, HasStep, HasChoices, StepBreadth, StartBreadth, with_class, interface_entry, class_entry, WorldBreadth}
+use Rattle.machine.specs.Steps.{Replies, IsNull, moved_with, IsLive, IsLast, Does, IsBranch}
+use Rattle.machine.specs.Runs.{Receives}
+use Rattle.machine.specs.Breadth.{AreNew, IsNotNull, IsWay, IsReturn, IsReceiver, with_new, MayGoOn, IsReplied, IsElement, IsAnswer, MakesNone, HasStep, HasChoices, StepBreadth, StartBreadth, with_class, interface_entry, class_entry, WorldBreadth}
 use Rattle.machine.proofs.Flows.{Flows, flows}
 
 -- ---- fresh objects leave the others
@@ -33,6 +35,52 @@ keeps_one h a b o x n e = rw (ne_eqb a b apart) e
 keeps : (xs : List (ℕ × ReferenceType)) (h : Heap) (b : ℕ) (x : Object) → IsFresh h xs → h b ≡ Some x → with_fresh h xs b ≡ Some x
 keeps [] h b x f e = e
 keeps (y ∷ ys) h b x f e = keeps ys (with_object h y.0 (object y.1 ready)) b x f.3 (keeps_one h y.0 b (object y.1 ready) x f.0 e)
+
+-- ---- what is allowed, in the words of the relations
+
+new_behind : (h : Heap) (a : ℕ) (o : Object) (xs : List (ℕ × ReferenceType)) → ((y : ℕ × ReferenceType) → IsAmong y xs → y.0 ≢ a) → AreNew h xs
+    → AreNew (with_object h a o) xs
+new_behind h a o [] apart u = tt
+new_behind h a o (x ∷ xs) apart u =
+    (rw (ne_eqb a x.0 (λ q. apart x (inl refl) (sym q))) u.0, u.1, u.2, u.3, new_behind h a o xs (λ y i. apart y (inr i)) u.4)
+
+fresh_where : (h : Heap) (xs : List (ℕ × ReferenceType)) → AreNew h xs → IsFresh h xs
+fresh_where h [] u = tt
+fresh_where h (x ∷ xs) u =
+    let made_one : Object = object x.1 ready in
+    (u.0, u.1, u.2, fresh_where (with_object h x.0 made_one) xs (new_behind h x.0 made_one xs u.3 u.4))
+
+null_where : (o : Option Value) → IsNull o → o ≡ Some null
+null_where (Some null) n = refl
+null_where (Some (number k)) n = elim n [ ]
+null_where (Some (reference a)) n = elim n [ ]
+null_where None n = elim n [ ]
+
+live_where : (l : Option ℕ) (vs : List Value) → IsNotNull l vs → IsLive l vs
+live_where None vs n = tt
+live_where (Some i) vs n = λ k. n (null_where (slice_get vs i) k)
+
+last_where : (t : Task) → IsReturn t → IsLast t
+last_where (tasks.leaves ns) r = tt
+last_where tasks.ends r = tt
+last_where (tasks.operates ns l r os b) e = elim e [ ]
+last_where (tasks.calls_special c ns l r) e = elim e [ ]
+last_where (tasks.reads n i) e = elim e [ ]
+last_where (tasks.writes n i k) e = elim e [ ]
+last_where (tasks.increments i) e = elim e [ ]
+last_where (tasks.moves fs) e = elim e [ ]
+last_where tasks.takes_element e = elim e [ ]
+last_where (tasks.passes r) e = elim e [ ]
+last_where (tasks.creates c) e = elim e [ ]
+last_where (tasks.makes_array ns r) e = elim e [ ]
+last_where (tasks.initializes c ns) e = elim e [ ]
+last_where (tasks.throws n) e = elim e [ ]
+last_where tasks.stuck e = elim e [ ]
+
+receives_where : (w : World) (m : Method Act) (h : Heap) (own : ℕ) (r : Receiver) (vs : List Value) → IsReceiver w m h own r vs → Receives w m h own r vs
+receives_where w m h own no_receiver vs i = i
+receives_where w m h own ready_receiver vs i = i
+receives_where w m h own own_receiver vs i = i
 
 -- ---- what an instruction does
 
@@ -57,8 +105,8 @@ made_there m h c a (inr i) = (i.type, this, i.here)
 
 module _ (w : World) (m : Method Act) (s : State) (fresh : List (ℕ × ReferenceType)) (f : IsFresh s.heap fresh) where
   does : (t : Task) (answer : Option Value) (to : ℕ) → AllMeet w s.heap (needs_of t) s.stack → MeetsRest w m t s → MayGoOn w t (with_new s fresh) → IsAnswer w t (with_new s fresh) answer → (u : State) × Does w t (with_new s fresh) answer to u
-  does (tasks.operates ns l r os b) answer to am mr go_on an = let k = replies w (with_fresh s.heap fresh) r answer an in (_, (go_on, (k.0, k.1, refl)))
-  does (tasks.calls_special c ns l r) answer to am mr go_on an = let k = replies w (with_fresh s.heap fresh) r answer an in (_, (go_on, (k.0, k.1, refl)))
+  does (tasks.operates ns l r os b) answer to am mr go_on an = let k = replies w (with_fresh s.heap fresh) r answer an in (_, (live_where l s.stack go_on, (k.0, k.1, refl)))
+  does (tasks.calls_special c ns l r) answer to am mr go_on an = let k = replies w (with_fresh s.heap fresh) r answer an in (_, (live_where l s.stack go_on, (k.0, k.1, refl)))
   does (tasks.reads n i) answer to am mr go_on an = (_, (mr.value, mr.here, an, refl))
   does (tasks.writes n i k) answer to am mr go_on an = let q = first_one w s.heap n s.stack am in (_, (q.0, q.1, q.2, an, refl))
   does (tasks.increments i) answer to am mr go_on an = (_, (an, refl))
@@ -90,11 +138,11 @@ module _ (w : World) (m : Method Act) (s : State) (fresh : List (ℕ × Referenc
   reply tasks.gives_null = (None, refl)
   reply (tasks.gives_answer t) = let v = field_value t in (Some v.0, (v.0, refl, v.1))
 
-  element_at : (vs : List Value) → vs ≡ s.stack → AllMeet w s.heap (needs_of tasks.takes_element) vs → IsLive (Some 1) vs → (answer : Option Value) × IsElement w (with_new s fresh) answer
+  element_at : (vs : List Value) → vs ≡ s.stack → AllMeet w s.heap (needs_of tasks.takes_element) vs → IsNotNull (Some 1) vs → (answer : Option Value) × IsElement w (with_new s fresh) answer
   element_at [] e am live = elim am [ ]
   element_at (i ∷ []) e am live = elim am.1 [ ]
   element_at (i ∷ (number k ∷ vs)) e am live = elim am.1.0 [ ]
-  element_at (i ∷ (null ∷ vs)) e am live = absurd (live tt)
+  element_at (i ∷ (null ∷ vs)) e am live = absurd (live refl)
   element_at (i ∷ (reference a ∷ vs)) e am live = by am.1.0.0 am.1.0.1 am.1.0.2
     where
       by : (x : ReferenceType) → s.heap a ≡ Some (object x ready) → IsBelow w x tasks.objects → (answer : Option Value) × IsElement w (with_new s fresh) answer
@@ -137,7 +185,7 @@ module _ (w : World) (m : Method Act) (s : State) (fresh : List (ℕ × Referenc
     same_act : n.act ≡ act
     same_act = let q : Some n.act ≡ Some act = sym n.here ∙ here in cc
 
-    step : MayGoOn w (task m act) (with_new s fresh) → (answer : Option Value) → IsAnswer w (task m act) (with_new s fresh) answer → (to : ℕ) → GoesTo m s.at (task m act) to → HasStep w m s act fresh answer to
+    step : MayGoOn w (task m act) (with_new s fresh) → (answer : Option Value) → IsAnswer w (task m act) (with_new s fresh) answer → (to : ℕ) → IsWay m s.at (task m act) to → HasStep w m s act fresh answer to
     step go_on answer an to goes =
         let am = subst (λ a. AllMeet w s.heap (needs_of (task m a)) s.stack) same_act n.operands.operands in
         let mr = subst (λ a. MeetsRest w m (task m a) s) same_act n.operands.others in
@@ -152,10 +200,10 @@ module _ (w : World) (m : Method Act) (s : State) (fresh : List (ℕ × Referenc
 
     -- ---- somewhere to go
 
-    on : tasks.falls (task m act) ≡ true → (to : ℕ) × GoesTo m s.at (task m act) to
+    on : tasks.falls (task m act) ≡ true → (to : ℕ) × IsWay m s.at (task m act) to
     on e = let k = n.control.next (subst (λ a. tasks.falls (task m a) ≡ true) (sym same_act) e) in (k.0, inr (e, k.1))
 
-    along : (z : ℤ) (zs : List ℤ) → tasks.offsets_of (task m act) ≡ z ∷ zs → (to : ℕ) × GoesTo m s.at (task m act) to
+    along : (z : ℤ) (zs : List ℤ) → tasks.offsets_of (task m act) ≡ z ∷ zs → (to : ℕ) × IsWay m s.at (task m act) to
     along z zs e =
         let t : ℤ = pos s.at +ℤ z in
         let i : IsAmong t (targets s.at (task m act)) = subst (λ os. IsAmong t (led_to s.at os)) (sym e) (inl refl) in
@@ -179,10 +227,10 @@ module _ (w : World) (m : Method Act) (s : State) (fresh : List (ℕ × Referenc
     ways tasks.ends f go_on = elim go_on [ ]
     ways tasks.stuck f go_on = elim go_on [ ]
 
-    somewhere : MayGoOn w (task m act) (with_new s fresh) → (to : ℕ) × GoesTo m s.at (task m act) to
+    somewhere : MayGoOn w (task m act) (with_new s fresh) → (to : ℕ) × IsWay m s.at (task m act) to
     somewhere go_on = by (ways (task m act) (flows m act) go_on)
       where
-        by : (tasks.falls (task m act) ≡ true) ⊎ ((z : ℤ) × (zs : List ℤ) × (tasks.offsets_of (task m act) ≡ z ∷ zs)) → (to : ℕ) × GoesTo m s.at (task m act) to
+        by : (tasks.falls (task m act) ≡ true) ⊎ ((z : ℤ) × (zs : List ℤ) × (tasks.offsets_of (task m act) ≡ z ∷ zs)) → (to : ℕ) × IsWay m s.at (task m act) to
         by (inl e) = on e
         by (inr e) = along e.0 e.1 e.2
 
@@ -191,7 +239,7 @@ module _ (w : World) (m : Method Act) (s : State) (fresh : List (ℕ × Referenc
       steps = step;
       somewhere = somewhere;
       answered = λ go_on none. answered (task m act) (subst (λ a. AllMeet w s.heap (needs_of (task m a)) s.stack) same_act n.operands.operands) go_on none;
-      returns = λ l. (n, record { act = act; here = here; unused = f; no_branch = refl; no_answer = refl; last = l });
+      returns = λ l. (n, record { act = act; here = here; unused = f; no_branch = refl; no_answer = refl; last = last_where (task m act) l });
       raises = λ a x at b. (
         (n, record { unused = f; type = x; here = at; throwable = b }),
         λ k e which covered catches. (
@@ -202,7 +250,7 @@ module _ (w : World) (m : Method Act) (s : State) (fresh : List (ℕ × Referenc
     }
 
 pub step_breadth : StepBreadth
-step_breadth w m s n act here fresh f = choices w m s fresh f n act here
+step_breadth w m s n act here fresh f = choices w m s fresh (fresh_where s.heap fresh f) n act here
 
 -- ---- beginnings
 
@@ -213,7 +261,7 @@ start_breadth w m heap own receiver args received fit enough objects none only =
   own = own;
   receiver = receiver;
   arguments = args;
-  receives = received;
+  receives = receives_where w m heap own (receiver_of m) receiver received;
   fit = fit;
   enough = enough;
   locals = refl;
