@@ -1,6 +1,7 @@
 -- The machine leaves nothing out: each way to go, each answer that fits, each exception, each beginning and each world has its place
--- in a run (JVMS 2.6, 2.10, 2.11, 4.10.1.2). So a theorem about all runs is about all that a real machine may do. What is allowed is said here
--- in words of its own and not in those of the relations: a relation that allows less then breaks a law, and does not narrow it.
+-- in a run (JVMS 2.6, 2.10, 2.11, 4.10.1.2). So a theorem about all runs is about all that a real machine may do. Ways to go, returns,
+-- receivers, new objects and what is not null have words of their own here: a relation that allows less of them then breaks a law, and does
+-- not narrow it. What fits a type, and which type is below which, are the machine's own words.
 use Rattle.std.specs.Prelude.{◌≡◌, ◌≢◌, ℕ, ◌<◌, ◌≤◌, ◌^◌, pos, true, false, List, [], ◌∷◌, ◌++◌, length, slice_get, bytes_eq, if◌then◌else◌, Option, Some, None, ◌⊎◌}
 use Rattle.names.specs.Descriptors.{FieldDescriptor}
 use Rattle.names.specs.ReferenceTypes.{ReferenceType, class_type, array_type, dimensions_of}
