@@ -1,5 +1,6 @@
 mod Examples
 pub mod Going
+pub mod Holding
 pub mod Moving
 pub mod Settling
 pub mod Storing

@@ -129,6 +129,20 @@ module _ (numbers : List ℕ) (below counter : ℕ) (old now : List VType) (r : 
         are_chosen = r.are_chosen;
       }
 
+module _ (numbers : List ℕ) (below counter : ℕ) (old now : List VType) (r : Removes numbers below counter old now) where
+  front_size : length (take below old) ≡ below
+  front_size = length-take-le below old (omega (arith, r.from, r.to))
+
+  pub removes_kept : (k : ℕ) → k ≡ below → take k now ≡ take k old
+  removes_kept k e =
+      ap (λ z. take z now) e ∙ ap (take below) r.all
+      ∙ ap (λ z. take z (take below old ++ (drop counter old ++ r.added))) (sym front_size)
+      ∙ take-append_seam (take below old) (drop counter old ++ r.added)
+      ∙ ap (λ z. take z old) (sym e)
+
+  pub removes_above : (k : ℕ) → k ≡ below → k ≤ length now
+  removes_above k e = omega (arith, e, front_size, ap length r.all ∙ length-append (take below old) (drop counter old ++ r.added))
+
 beneath_front : {A B : Type 0} → (ws : List A) (xs ys : List B) → length ws ≡ length xs → beneath ws (xs ++ ys) ≡ ys
 beneath_front [] [] ys e = refl
 beneath_front [] (x ∷ xs) ys e = absurd (omega (arith, e))

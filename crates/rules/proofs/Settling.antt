@@ -22,9 +22,10 @@ use Rattle.rules.specs.Plans.{Want, pops, loads, stores, rearranges, Plan}
 use Rattle.rules.specs.Table.{return_nothing}
 use Rattle.rules.specs.After.{or_top, local_of, after, with_stack, top_of, rest_of, stored, stored_type, form_for, rearranged_by}
 use Rattle.rules.specs.Rules.{is_short, operands, accepts, is_outside, gives_frame, is_too_wide, conditions}
-use Rattle.rules.specs.Outcomes.{Done, Took, pushed, settled}
+use Rattle.rules.specs.Outcomes.{Done, Took, TookOff, pushed, settled}
 use Rattle.rules.specs.Reasons.{reason_view}
 use Rattle.rules.specs.Views.{locals_of}
+use Rattle.rules.specs.Working.{with_locals}
 use Rattle.rules.proofs.Taking.{both_yes}
 
 -- with 65 before the conditions of a family
@@ -136,6 +137,18 @@ module _ (cs : List ClassFact) (m : Method Act) (w : Want) (n k : ℕ) (f : Fram
       ∙ ap (λ z. least (settled m z (pushed (t ∷ []) f))) (sym ac))
       (ap (λ z. pushed (z ∷ []) f) at) d
 
+-- ---- the same on a frame that operands were taken off
+
+module _ (cs : List ClassFact) (m : Method Act) (ws : List Want) (gs : List VerificationType) (f : FrameFact) where
+  took : (a : Outcome) (g : FrameFact) → TookOff cs ws f a g → Took cs ws f.stack a (beneath ws f.stack)
+  took a g t = record { enough = t.enough; answer_is = t.answer_is; left_is = refl }
+
+  pub off_no : (g : FrameFact) → TookOff cs ws f no g → least (conditions cs m 0 (pops ws gs [] true) f) ≡ Some (reason 62)
+  off_no g t = pops_no cs m ws gs f (beneath ws f.stack) (took no g t)
+
+  pub off_done : (a : Outcome) (g now : FrameFact) (r : Result Unit Reason) → TookOff cs ws f a g → (a ≡ no → ⊥) → Done (settled m a (pushed gs g)) (pushed gs g) now r → Done (conditions cs m 0 (pops ws gs [] true) f) (after m 0 (pops ws gs [] true) f) now r
+  off_done a g now r t n d = pops_done cs m ws gs f a (beneath ws f.stack) now r (took a g t) n (subst (λ z. Done (settled m a (pushed gs z)) (pushed gs z) now r) t.left_is d)
+
 -- ---- stores
 
 abbrev pub store_parts : Bool → Bool → Outcome → Conditions
@@ -203,6 +216,19 @@ module _ (cs : List ClassFact) (m : Method Act) (w : Want) (n k : ℕ) (f : Fram
         ∙ ap (λ z. least ((reason 65, nat_lt m.max_stack (units_of z)) ∷ missing_if (operands cs (w ∷ []) f.stack) ∷ [])) stack_is
         ∙ ap (λ z. least (settled m z g)) (answer ∙ sym ac))
         (ap (λ z. record { locals = z; stack = rest_of f.stack; flag = f.flag }) locals_is ∙ ap (λ z. record { locals = locals; stack = z; flag = f.flag }) stack_is) d
+
+module _ (cs : List ClassFact) (m : Method Act) (w : Want) (n k : ℕ) (f g : FrameFact) (t : VerificationType) (e : f ≡ pushed (t ∷ []) g) where
+  pub store_off_no : accepts cs w t ≡ no → least (conditions cs m 0 (stores w n k) f) ≡ Some (reason 62)
+  store_off_no a = stores_no cs m w n k f t g.stack (ap (λ (z : FrameFact). z.stack) e) a
+
+  pub store_off_out : (a : Outcome) → a ≡ accepts cs w t → (a ≡ no → ⊥) → is_outside m n k ≡ true → least (conditions cs m 0 (stores w n k) f) ≡ Some (reason 64)
+  store_off_out a ac ne o = stores_out cs m w n k f t g.stack (ap (λ (z : FrameFact). z.stack) e) a ac ne o
+
+  pub store_off_done : (a : Outcome) (h now : FrameFact) (r : Result Unit Reason) → a ≡ accepts cs w t → (a ≡ no → ⊥) → is_outside m n k ≡ false → h ≡ with_locals g (stored_type t n g.locals)
+      → Done (settled m a h) h now r → Done (conditions cs m 0 (stores w n k) f) (after m 0 (stores w n k) f) now r
+  store_off_done a h now r ac ne o hh d =
+      subst (λ z. Done (conditions cs m 0 (stores w n k) z) (after m 0 (stores w n k) z) now r) (sym e)
+      (stores_done cs m w n k (pushed (t ∷ []) g) t g.stack refl a (stored_type t n g.locals) now r ac ne o refl (subst (λ z. Done (settled m a z) z now r) hh d))
 
 -- ---- instructions that move items
 

@@ -1,8 +1,7 @@
 -- Operands one by one, and how many units a stack has.
-use Rattle.std.specs.Prelude.{IsTrue, ◌==◌, ◌↔◌}
-use Rattle.std.proofs.Common.{◌≡◌, ℕ, ◌+◌, ◌-◌, ◌<◌, ◌≤◌, Bool, false, inl, inr, List, [], ◌∷◌, true, ◌++◌, length, get_or, drop, map, reverse, refl, sym, ◌∙◌, ap, subst, arith}
+use Rattle.std.specs.Prelude.{IsTrue}
+use Rattle.std.proofs.Common.{◌≡◌, ℕ, ◌+◌, ◌<◌, ◌≤◌, Bool, false, inl, inr, List, [], ◌∷◌, true, ◌++◌, length, get_or, drop, map, reverse, refl, sym, ◌∙◌, ap, subst, arith}
 use Rattle.std.proofs.lemmas.List.{drop_more, drop_all, map-append, reverse-append}
-use Rattle.std.proofs.lemmas.Bool.Decides.{nat_tests}
 use Rattle.std.proofs.lemmas.Bool.{cases_lt, false≢true}
 use Rattle.hierarchy.specs.Class.{ClassFact}
 use Rattle.hierarchy.specs.Answer.{Outcome, yes, no, missing}
@@ -10,11 +9,13 @@ use Rattle.insn.specs.declared.operation.Kind.{Kind}
 use Rattle.insn.specs.Stacks.{beneath}
 use Rattle.frames.specs.declared.vtype.VType.{VType}
 use Rattle.frames.specs.VerificationType.{VerificationType, type_of}
-use Rattle.frames.specs.FrameAssignable.{both, width_of}
+use Rattle.frames.specs.FrameAssignable.{both}
 use Rattle.frames.specs.Slots.{units_of}
+use Rattle.frames.specs.FrameFact.{FrameFact}
+use Rattle.rules.specs.After.{with_stack}
 use Rattle.rules.specs.Plans.{Want, number, numbers}
 use Rattle.rules.specs.Rules.{is_short, operands, accepts}
-use Rattle.rules.specs.Outcomes.{Took}
+use Rattle.rules.specs.Outcomes.{Took, TookOff, pushed}
 use Rattle.rules.specs.Views.{stack_of}
 
 pub both_together : (a b c : Outcome) → both (both a b) c ≡ both a (both b c)
@@ -45,19 +46,18 @@ pub rest_more : (cs : List ClassFact) (wants : List Want) (ts : List Verificatio
 rest_more cs wants ts a w ws t us r = record { short_is = r.short_is; left_is = r.left_is; answer_is = r.answer_is ∙ sym (both_together a (accepts cs w t) (operands cs ws us)) }
 
 module _ (cs : List ClassFact) (kinds : List Kind) (i : ℕ) (d : Kind) (wants : List Want) (ts : List VerificationType) (a : Outcome) where
-  pub rest_step : (b : Outcome) (was now : List VType) (t : VType) → i < length kinds → was ≡ now ++ t ∷ [] → b ≡ both a (accepts cs (number (get_or kinds i d)) (type_of t)) → Rest cs wants ts a (numbers (drop i kinds)) (stack_of was) → Rest cs wants ts b (numbers (drop (i + 1) kinds)) (stack_of now)
-  rest_step b was now t lt popped answer r =
+  pub rest_step : (b : Outcome) (was now : List VerificationType) (t : VerificationType) → i < length kinds → was ≡ t ∷ now → b ≡ both a (accepts cs (number (get_or kinds i d)) t) → Rest cs wants ts a (numbers (drop i kinds)) was → Rest cs wants ts b (numbers (drop (i + 1) kinds)) now
+  rest_step b was now t lt s answer r =
       let k = get_or kinds i d in
       let e : drop i kinds ≡ k ∷ drop (i + 1) kinds = drop_more kinds i d lt in
-      let s : stack_of was ≡ type_of t ∷ stack_of now = ap stack_of popped ∙ stack_last now t in
-      subst (λ z. Rest cs wants ts z (numbers (drop (i + 1) kinds)) (stack_of now)) (sym answer)
-      (rest_more cs wants ts a (number k) (numbers (drop (i + 1) kinds)) (type_of t) (stack_of now)
-      (subst (λ z. Rest cs wants ts a (number k ∷ numbers (drop (i + 1) kinds)) z) s (subst (λ z. Rest cs wants ts a (numbers z) (stack_of was)) e r)))
+      subst (λ z. Rest cs wants ts z (numbers (drop (i + 1) kinds)) now) (sym answer)
+      (rest_more cs wants ts a (number k) (numbers (drop (i + 1) kinds)) t now
+      (subst (λ z. Rest cs wants ts a (number k ∷ numbers (drop (i + 1) kinds)) z) s (subst (λ z. Rest cs wants ts a (numbers z) was) e r)))
 
-  pub rest_none : (was : List VType) → i < length kinds → was ≡ [] → Rest cs wants ts a (numbers (drop i kinds)) (stack_of was) → is_short wants ts ≡ true
+  pub rest_none : (was : List VerificationType) → i < length kinds → was ≡ [] → Rest cs wants ts a (numbers (drop i kinds)) was → is_short wants ts ≡ true
   rest_none was lt none r =
       let e : drop i kinds ≡ get_or kinds i d ∷ drop (i + 1) kinds = drop_more kinds i d lt in
-      r.short_is ∙ ap (λ z. is_short (numbers z) (stack_of was)) e ∙ ap (λ z. is_short (number (get_or kinds i d) ∷ numbers (drop (i + 1) kinds)) (stack_of z)) none
+      r.short_is ∙ ap (λ z. is_short (numbers z) was) e ∙ ap (is_short (number (get_or kinds i d) ∷ numbers (drop (i + 1) kinds))) none
 
 pub rest_end : (cs : List ClassFact) (wants : List Want) (ts : List VerificationType) (a : Outcome) (us : List VerificationType) → Rest cs wants ts a [] us → Took cs wants ts a us
 rest_end cs wants ts a us r = record { enough = r.short_is; answer_is = r.answer_is ∙ both_yes a; left_is = sym r.left_is }
@@ -68,32 +68,28 @@ rest_all cs kinds i wants ts a us le r = rest_end cs wants ts a us (subst (λ z.
 -- ---- units
 
 -- how many units a stack has does not hang on its order
-units_append : (xs ys : List VerificationType) → units_of (xs ++ ys) ≡ units_of xs + units_of ys
+pub units_append : (xs ys : List VerificationType) → units_of (xs ++ ys) ≡ units_of xs + units_of ys
 units_append [] ys = omega arith
 units_append (x ∷ xs) ys = omega (arith, units_append xs ys)
 
-units_reverse : (xs : List VerificationType) → units_of (reverse xs) ≡ units_of xs
+pub units_reverse : (xs : List VerificationType) → units_of (reverse xs) ≡ units_of xs
 units_reverse [] = refl
 units_reverse (x ∷ xs) = ap units_of (reverse-append (x ∷ []) xs) ∙ units_append (reverse xs) (x ∷ []) ∙ omega (arith, units_reverse xs)
-
-module _ (types : List VType) (i : ℕ) (d : VType) (left count : ℕ) (lt : i < length types) (so_far : units_of (map type_of types) + left ≡ count + units_of (map type_of (drop i types))) where
-  here : units_of (map type_of (drop i types)) ≡ width_of (type_of (get_or types i d)) + units_of (map type_of (drop (i + 1) types))
-  here = ap (λ z. units_of (map type_of z)) (drop_more types i d lt)
-
-  pub units_less : width_of (type_of (get_or types i d)) < left → units_of (map type_of types) + (left - width_of (type_of (get_or types i d))) ≡ count + units_of (map type_of (drop (i + 1) types))
-  units_less le = omega (arith, here)
-
-  pub units_enough : left ≤ width_of (type_of (get_or types i d)) → count ≤ units_of (stack_of types)
-  units_enough le = omega (arith, here, units_reverse (map type_of types))
-
-pub units_end : (types : List VType) (i left count : ℕ) → length types ≤ i → units_of (map type_of types) + left ≡ count + units_of (map type_of (drop i types)) → units_of (stack_of types) + left ≡ count
-units_end types i left count le so_far =
-    let none : units_of (map type_of (drop i types)) ≡ 0 = ap (λ z. units_of (map type_of z)) (drop_all i types le) in
-    omega (arith, none, units_reverse (map type_of types))
-
-pub units_test : (units left count : ℕ) → units + left ≡ count → IsTrue (left == 0) ↔ (count ≤ units)
-units_test units left count e = (λ t. grind (arith, nat_tests), λ h. grind (arith, nat_tests))
 
 pub has_fewer : (units count : ℕ) (b : Bool) → b ≡ false → (count ≤ units → IsTrue b) → units < count
 has_fewer units count true e h = cc
 has_fewer units count false e h = elim (cases_lt units count) [ inl lt ↦ lt | inr le ↦ absurd (false≢true (h le)) ]
+
+-- ---- a frame while operands are taken off it
+
+pub record RestOff (cs : List ClassFact) (wants : List Want) (f : FrameFact) (a : Outcome) (ws : List Want) (g : FrameFact) : Type 0 where
+  pub rest : Rest cs wants f.stack a ws g.stack
+  pub others : g ≡ with_stack f g.stack
+
+pub off_end : (cs : List ClassFact) (kinds : List Kind) (i : ℕ) (wants : List Want) (f : FrameFact) (a : Outcome) (g : FrameFact) → length kinds ≤ i → RestOff cs wants f a (numbers (drop i kinds)) g → TookOff cs wants f a g
+off_end cs kinds i wants f a g le r =
+    let t : Took cs wants f.stack a g.stack = rest_all cs kinds i wants f.stack a g.stack le r.rest in
+    record { enough = t.enough; answer_is = t.answer_is; left_is = r.others ∙ ap (with_stack f) t.left_is }
+
+pub others_kept : (f was now : FrameFact) (t : VerificationType) → was ≡ pushed (t ∷ []) now → was ≡ with_stack f was.stack → with_stack now now.stack ≡ with_stack f now.stack
+others_kept f was now t e o = ap (λ (z : FrameFact). with_stack z now.stack) (sym e ∙ o)

@@ -4,6 +4,8 @@ pub mod Table
 pub mod After
 pub mod Rules
 pub mod Ways
+pub mod Working
+pub mod Held
 pub mod Reasons
 pub mod Bodies
 pub mod Views

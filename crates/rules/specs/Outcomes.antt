@@ -29,6 +29,12 @@ pub record Took (classes : List ClassFact) (wants : List Want) (stack : List Ver
   pub answer_is : operands classes wants stack ≡ answer
   pub left_is : left ≡ beneath wants stack
 
+-- the same of a frame, which keeps all else
+pub record TookOff (classes : List ClassFact) (wants : List Want) (f : FrameFact) (answer : Outcome) (left : FrameFact) : Type 0 where
+  pub enough : is_short wants f.stack ≡ false
+  pub answer_is : operands classes wants f.stack ≡ answer
+  pub left_is : left ≡ with_stack f (beneath wants f.stack)
+
 abbrev pub pushed : List VerificationType → FrameFact → FrameFact
 pushed types f = with_stack f (types ++ f.stack)
 

@@ -1,5 +1,5 @@
 //! The rule of an instruction, on a copy of the frame.
-ghost use Rattle.std.specs.Prelude.{◌≡◌, length, IfOk};
+ghost use Rattle.std.specs.Prelude.{◌≡◌, length};
 ghost use Rattle.insn.specs.Meanings.{act};
 ghost use Rattle.insn.specs.Views.{view};
 ghost use Rattle.frames.specs.FrameFact.{frame_of};
@@ -13,10 +13,11 @@ use crate::environment::Env;
 use crate::reason::Reason;
 use crate::running::run;
 use crate::ways::{branches, falls};
+use crate::working::Working;
 use frames::Frame;
 use hierarchy::Classes;
 use insn::{Insn, act};
-use std::alloc::{AllocError, Global};
+use std::alloc::Global;
 
 /// What an instruction leaves that is not refused.
 #[derive(Debug, Drop)]
@@ -40,20 +41,6 @@ pub struct Refusal<'a> {
     pub own: bool,
 }
 
-fn copy_of<'a>(alloc: Global, frame: &Frame<'a>) -> Result<Frame<'a>, AllocError>
-    ensures { IfOk result (λ f. (f.locals.items ≡ frame.now.locals.items) × (f.stack.items ≡ frame.now.stack.items) × (f.flag ≡ frame.now.flag)) }
-{
-    let mut locals = Vec::new(alloc);
-    locals.extend_from_slice(&frame.locals)?;
-    let mut stack = Vec::new(alloc);
-    stack.extend_from_slice(&frame.stack)?;
-    Ok(Frame {
-        locals,
-        stack,
-        flag: frame.flag,
-    })
-}
-
 /// Judges the instruction at an offset by its rule (JVMS 4.10.1.9). The frame before it has max_locals locals.
 ///
 /// Refused is, by the least number that holds, what the rule refuses (60 to 66, 74, 76, 77); or 1 where memory ran out.
@@ -68,19 +55,25 @@ pub fn apply<'a, C: Classes>(
     ensures { let m = method_view env.now.body in
         Applied (C.content env.now.classes.now) m at (plan m (as_supported (act (view insn.now)))) (frame_of frame.now) result }
 {
-    let Ok(mut after) = copy_of(alloc, frame) else {
+    let Ok(mut working) = Working::from_frame(alloc, frame, env.body.method.code.max_locals) else {
         return Err(Refusal {
             reason: Reason::OutOfMemory,
             own: false,
         });
     };
-    match run(&env.body, at, act(insn), &mut after, env.classes) {
+    match run(&env.body, at, act(insn), &mut working, env.classes) {
         Err(reason) => Err(Refusal { reason, own: false }),
-        Ok(()) => Ok(After {
-            frame: after,
-            branches: branches(insn),
-            falls: falls(insn),
-            own: false,
-        }),
+        Ok(()) => match working.into_frame() {
+            Err(_) => Err(Refusal {
+                reason: Reason::OutOfMemory,
+                own: false,
+            }),
+            Ok(frame) => Ok(After {
+                frame,
+                branches: branches(insn),
+                falls: falls(insn),
+                own: false,
+            }),
+        },
     }
 }

@@ -1,16 +1,17 @@
 //! Instructions that load constants.
 ghost use Rattle.pool.specs.Members.{constant_at};
-ghost use Rattle.frames.specs.FrameFact.{frame_of};
 ghost use Rattle.rules.specs.Constants.{load_wide_constant};
 ghost use Rattle.rules.specs.After.{after};
 ghost use Rattle.rules.specs.Rules.{conditions};
 ghost use Rattle.rules.specs.Bodies.{method_view};
+ghost use Rattle.rules.specs.Held.{held};
 ghost use Rattle.rules.specs.Outcomes.{Done};
 
 use crate::body::Body;
 use crate::families::pops;
 use crate::reason::Reason;
-use frames::{Frame, VType};
+use crate::working::Working;
+use frames::VType;
 use hierarchy::Classes;
 use pool::Constant;
 
@@ -18,12 +19,12 @@ use pool::Constant;
 pub fn load_wide_constant<'a, C: Classes>(
     body: &Body<'_, '_, 'a>,
     index: u16,
-    frame: &mut Frame<'a>,
+    frame: &mut Working<'a>,
     classes: &C,
 ) -> Result<(), Reason<'a>>
-    ensures { let m = method_view body.now in let f = frame_of frame.old in
+    ensures { let m = method_view body.now in let f = held frame.old in
         let p = load_wide_constant (constant_at m.constant_pool index) in
-        Done (conditions (C.content classes.now) m 0 p f) (after m 0 p f) (frame_of frame.new) result }
+        Done (conditions (C.content classes.now) m 0 p f) (after m 0 p f) (held frame.new) result }
 {
     match body.method.class.constant_pool.get(index) {
         Ok(Constant::Long { .. }) => pops(body, &[], Some(VType::Long), frame, classes),

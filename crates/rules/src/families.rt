@@ -3,20 +3,21 @@ ghost use Rattle.std.specs.Prelude.{◌≡◌, ◌≤◌, List, [], true, length
 ghost use Rattle.names.specs.Types.{type_of};
 ghost use Rattle.hierarchy.specs.Class.{ClassFact};
 ghost use Rattle.hierarchy.specs.Answer.{outcome_of};
-ghost use Rattle.frames.specs.FrameFact.{frame_of};
 ghost use Rattle.rules.specs.Plans.{numbers, pops, loads, counts, returns};
 ghost use Rattle.rules.specs.Table.{return_number, return_nothing};
 ghost use Rattle.rules.specs.After.{after};
 ghost use Rattle.rules.specs.Rules.{conditions};
 ghost use Rattle.rules.specs.Bodies.{method_view};
+ghost use Rattle.rules.specs.Held.{held};
 ghost use Rattle.rules.specs.Views.{want_view, pushed_types};
 ghost use Rattle.rules.specs.Outcomes.{Done, pushed, settled, result_kind};
 
 use crate::body::Body;
-use crate::operands::{accepts, is_wider, take_numbers};
+use crate::operands::{accepts, take_numbers};
 use crate::reason::Reason;
 use crate::want::Want;
-use frames::{Frame, VType};
+use crate::working::Working;
+use frames::VType;
 use hierarchy::{Answer, Classes};
 use insn::{Kind, computed_as};
 use names::{Base, FieldType};
@@ -27,15 +28,15 @@ pub fn settle<'a>(
     body: &Body<'_, '_, 'a>,
     answer: Answer<'a>,
     gives: Option<VType<'a>>,
-    frame: &mut Frame<'a>,
+    frame: &mut Working<'a>,
 ) -> Result<(), Reason<'a>>
-    ensures { let f = pushed (pushed_types gives.entry) (frame_of frame.old) in
-        Done (settled (method_view body.now) (outcome_of answer.entry) f) f (frame_of frame.new) result }
+    ensures { let f = pushed (pushed_types gives.entry) (held frame.old) in
+        Done (settled (method_view body.now) (outcome_of answer.entry) f) f (held frame.new) result }
 {
     if let Some(t) = gives {
-        frame.stack.push(t)?;
+        frame.push(t)?;
     }
-    if is_wider(&frame.stack, body.method.code.max_stack) {
+    if frame.is_wider(body.method.code.max_stack) {
         return Err(Reason::StackOver);
     }
     match answer {
@@ -49,14 +50,14 @@ pub fn pops<'a, C: Classes>(
     body: &Body<'_, '_, 'a>,
     kinds: &[Kind],
     gives: Option<VType<'a>>,
-    frame: &mut Frame<'a>,
+    frame: &mut Working<'a>,
     classes: &C,
 ) -> Result<(), Reason<'a>>
-    ensures { let m = method_view body.now in let f = frame_of frame.old in
+    ensures { let m = method_view body.now in let f = held frame.old in
         let p = pops (numbers kinds.now) (pushed_types gives.entry) [] true in
-        Done (conditions (C.content classes.now) m 0 p f) (after m 0 p f) (frame_of frame.new) result }
+        Done (conditions (C.content classes.now) m 0 p f) (after m 0 p f) (held frame.new) result }
 {
-    match take_numbers(kinds, &mut frame.stack, classes) {
+    match take_numbers(kinds, frame, classes) {
         None => Err(Reason::MissingOperand),
         Some(answer) => match answer {
             Answer::No => Err(Reason::WrongOperand),
@@ -71,21 +72,21 @@ pub fn loads<'a, C: Classes>(
     want: Want,
     local: u16,
     width: usize,
-    frame: &mut Frame<'a>,
+    frame: &mut Working<'a>,
     classes: &C,
 ) -> Result<(), Reason<'a>>
-    requires locals { length frame.old.locals.items ≡ body.now.method.code.now.max_locals }
+    requires locals { length (held frame.old).locals ≡ body.now.method.code.now.max_locals }
     requires some { 1 ≤ width }
     requires few { width ≤ 2 }
-    ensures { let m = method_view body.now in let f = frame_of frame.old in
+    ensures { let m = method_view body.now in let f = held frame.old in
         let p = loads (want_view want) local width in
-        Done (conditions (C.content classes.now) m 0 p f) (after m 0 p f) (frame_of frame.new) result }
+        Done (conditions (C.content classes.now) m 0 p f) (after m 0 p f) (held frame.new) result }
 {
     let place = usize::from(local);
     if usize::from(body.method.code.max_locals) < place + width {
         return Err(Reason::LocalOutOfRange);
     }
-    let t = frame.locals[place];
+    let t = frame.local(place);
     let answer = accepts(want, &t, classes);
     match answer {
         Answer::No => Err(Reason::WrongLocal),
@@ -97,18 +98,18 @@ pub fn loads<'a, C: Classes>(
 pub fn counts<'a, C: Classes>(
     body: &Body<'_, '_, 'a>,
     local: u16,
-    frame: &mut Frame<'a>,
+    frame: &mut Working<'a>,
     classes: &C,
 ) -> Result<(), Reason<'a>>
-    requires { length frame.old.locals.items ≡ body.now.method.code.now.max_locals }
-    ensures { let m = method_view body.now in let f = frame_of frame.old in let p = counts local in
-        Done (conditions (C.content classes.now) m 0 p f) (after m 0 p f) (frame_of frame.new) result }
+    requires { length (held frame.old).locals ≡ body.now.method.code.now.max_locals }
+    ensures { let m = method_view body.now in let f = held frame.old in let p = counts local in
+        Done (conditions (C.content classes.now) m 0 p f) (after m 0 p f) (held frame.new) result }
 {
     let place = usize::from(local);
     if usize::from(body.method.code.max_locals) < place + 1 {
         return Err(Reason::LocalOutOfRange);
     }
-    let t = frame.locals[place];
+    let t = frame.local(place);
     let answer = accepts(Want::Number(Kind::Int), &t, classes);
     match answer {
         Answer::No => Err(Reason::WrongLocal),
@@ -117,21 +118,21 @@ pub fn counts<'a, C: Classes>(
 }
 
 /// A return without a value, from a method without a result.
-pub fn returns<'a>(body: &Body<'_, '_, 'a>, frame: &mut Frame<'a>) -> Result<(), Reason<'a>>
-    ensures { (classes : List ClassFact) → let m = method_view body.now in let f = frame_of frame.old in
-        Done (conditions classes m 0 returns f) (after m 0 returns f) (frame_of frame.new) result }
+pub fn returns<'a>(body: &Body<'_, '_, 'a>, frame: &mut Working<'a>) -> Result<(), Reason<'a>>
+    ensures { (classes : List ClassFact) → let m = method_view body.now in let f = held frame.old in
+        Done (conditions classes m 0 returns f) (after m 0 returns f) (held frame.new) result }
 {
-    if body.method.is_init && frame.flag {
+    if body.method.is_init && frame.flag() {
         return Err(Reason::OwnObjectNotReady);
     }
     settle(body, Answer::Yes, None, frame)
 }
 
 /// A return without a value.
-pub fn return_nothing<'a>(body: &Body<'_, '_, 'a>, frame: &mut Frame<'a>) -> Result<(), Reason<'a>>
-    ensures { (classes : List ClassFact) → let m = method_view body.now in let f = frame_of frame.old in
+pub fn return_nothing<'a>(body: &Body<'_, '_, 'a>, frame: &mut Working<'a>) -> Result<(), Reason<'a>>
+    ensures { (classes : List ClassFact) → let m = method_view body.now in let f = held frame.old in
         let p = return_nothing m.type.result in
-        Done (conditions classes m 0 p f) (after m 0 p f) (frame_of frame.new) result }
+        Done (conditions classes m 0 p f) (after m 0 p f) (held frame.new) result }
 {
     match body.method.result_type {
         None => returns(body, frame),
@@ -143,12 +144,12 @@ pub fn return_nothing<'a>(body: &Body<'_, '_, 'a>, frame: &mut Frame<'a>) -> Res
 pub fn return_number<'a, C: Classes>(
     body: &Body<'_, '_, 'a>,
     kind: Kind,
-    frame: &mut Frame<'a>,
+    frame: &mut Working<'a>,
     classes: &C,
 ) -> Result<(), Reason<'a>>
-    ensures { let m = method_view body.now in let f = frame_of frame.old in
+    ensures { let m = method_view body.now in let f = held frame.old in
         let p = return_number m.type.result kind in
-        Done (conditions (C.content classes.now) m 0 p f) (after m 0 p f) (frame_of frame.new) result }
+        Done (conditions (C.content classes.now) m 0 p f) (after m 0 p f) (held frame.new) result }
 {
     match number_of_result(body.method.result_type) {
         None => Err(Reason::WrongReturn),

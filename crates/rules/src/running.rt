@@ -1,12 +1,12 @@
 //! The rule of an instruction, on a frame in place.
 ghost use Rattle.std.specs.Prelude.{◌≡◌, length};
 ghost use Rattle.insn.specs.Views.{act_view};
-ghost use Rattle.frames.specs.FrameFact.{frame_of};
 ghost use Rattle.insn.specs.Supported.{as_supported};
 ghost use Rattle.rules.specs.Table.{plan};
 ghost use Rattle.rules.specs.After.{after};
 ghost use Rattle.rules.specs.Rules.{conditions};
 ghost use Rattle.rules.specs.Bodies.{method_view};
+ghost use Rattle.rules.specs.Held.{held};
 ghost use Rattle.rules.specs.Outcomes.{Done};
 
 use crate::body::Body;
@@ -17,7 +17,7 @@ use crate::reason::Reason;
 use crate::stacks::rearranges;
 use crate::stores::stores;
 use crate::want::Want;
-use frames::Frame;
+use crate::working::Working;
 use hierarchy::Classes;
 use insn::Act;
 
@@ -30,13 +30,13 @@ pub fn run<'a, C: Classes>(
     body: &Body<'_, '_, 'a>,
     at: u16,
     act: Act<'a>,
-    frame: &mut Frame<'a>,
+    frame: &mut Working<'a>,
     classes: &C,
 ) -> Result<(), Reason<'a>>
-    requires { length frame.old.locals.items ≡ body.now.method.code.now.max_locals }
-    ensures { let m = method_view body.now in let f = frame_of frame.old in
+    requires { length (held frame.old).locals ≡ body.now.method.code.now.max_locals }
+    ensures { let m = method_view body.now in let f = held frame.old in
         let p = plan m (as_supported (act_view act.entry)) in
-        Done (conditions (C.content classes.now) m at p f) (after m at p f) (frame_of frame.new) result }
+        Done (conditions (C.content classes.now) m at p f) (after m at p f) (held frame.new) result }
 {
     match act {
         Act::Nothing => pops(body, &[], None, frame, classes),

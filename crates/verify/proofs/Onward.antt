@@ -62,10 +62,8 @@ after_length m at (refuses n) f = refl
 raw_length : (f : Frame) → length (frame_of f).locals ≡ length f.locals.items
 raw_length f = length-map f.locals.items type_of
 
-pub keeps_length : (m : Method Act) (at : ℕ) (p : Plan) (old now : Frame) (n : ℕ) → length old.locals.items ≡ n
-    → frame_of now ≡ after m at p (frame_of old) → length now.locals.items ≡ n
-keeps_length m at p old now n e q =
-    sym (raw_length now) ∙ ap (λ z. length z.locals) q ∙ after_length m at p (frame_of old) ∙ raw_length old ∙ e
+pub keeps_length : (m : Method Act) (at : ℕ) (p : Plan) (old now : FrameFact) (n : ℕ) → length old.locals ≡ n → now ≡ after m at p old → length now.locals ≡ n
+keeps_length m at p old now n e q = ap (λ (z : FrameFact). length z.locals) q ∙ after_length m at p old ∙ e
 
 -- ---- the code that is left
 

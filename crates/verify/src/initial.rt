@@ -2,7 +2,7 @@
 ghost use Rattle.std.specs.Prelude.{◌≡◌, ◌++◌, [], ◌∷◌, true, false, map, nat_lt, length, IfOk, OnOk, MatchOption};
 ghost use Rattle.names.specs.Types.{type_of as descriptor_of};
 ghost use Rattle.frames.specs.VerificationType.{type_of};
-ghost use Rattle.frames.specs.Slots.{descriptor_type, in_locals, all_locals};
+ghost use Rattle.frames.specs.Slots.{descriptor_type, in_locals};
 
 use frames::{VType, width};
 use names::{Base, FieldType, Primitive};
@@ -57,7 +57,7 @@ fn put_parameters<'a>(
     Ok(())
 }
 
-/// The locals of a static method when it begins (JVMS 4.10.1.6): the parameters, and top; none where the parameters do not fit.
+/// The locals of a static method when it begins (JVMS 4.10.1.6), those of the parameters; none where they do not fit.
 pub fn initial_locals<'a>(
     alloc: Global,
     parameters: &[FieldType<'a>],
@@ -66,14 +66,13 @@ pub fn initial_locals<'a>(
     ensures { let types = map descriptor_type (map descriptor_of parameters.now) in
         IfOk result (λ answer. MatchOption answer
         (nat_lt max_locals (length (in_locals types)) ≡ true)
-        (λ v. (nat_lt max_locals (length (in_locals types)) ≡ false) × (map type_of v.items ≡ all_locals max_locals types))) }
+        (λ v. (nat_lt max_locals (length (in_locals types)) ≡ false) × (map type_of v.items ≡ in_locals types))) }
 {
     let count = usize::from(max_locals);
-    let mut locals = Vec::with_capacity(alloc, count)?;
+    let mut locals = Vec::with_capacity(alloc, parameters.len())?;
     put_parameters(parameters, &mut locals)?;
     if locals.len() > count {
         return Ok(None);
     }
-    locals.resize(count, VType::Top)?;
     Ok(Some(locals))
 }

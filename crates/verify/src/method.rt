@@ -19,11 +19,10 @@ use crate::listing::is_listed;
 use crate::refusal::{has_stack_map, refuse, refuse_code};
 use crate::verdict::{Verdict, VerifyFault};
 use classfile::{CodeMethod, Formed};
-use frames::Frame;
 use hierarchy::Classes;
 use insn::decode_code;
 use names::{FieldType, MethodType, method_type};
-use rules::{Body, Reason};
+use rules::{Body, Reason, Working};
 use std::alloc::Global;
 
 /// Whether the method is one of those that are judged yet.
@@ -61,6 +60,7 @@ fn judge_body<'a, C: Classes>(
     alloc: Global,
     body: &Body<'_, '_, 'a>,
     parameters: &[FieldType<'a>],
+    frame: &mut Working<'a>,
     classes: &C,
 ) -> Result<Verdict<'a>, VerifyFault>
     requires judged { is_judged (method_view body.now) ≡ true }
@@ -71,18 +71,15 @@ fn judge_body<'a, C: Classes>(
     let Some(locals) = initial_locals(alloc, parameters, max_locals)? else {
         return refuse(0, Reason::LocalOutOfRange);
     };
-    let initial = Frame {
-        locals,
-        stack: Vec::with_capacity(alloc, usize::from(body.method.code.max_stack))?,
-        flag: false,
-    };
-    pass(body, initial, classes)
+    frame.start(&locals, max_locals, false)?;
+    pass(body, frame, classes)
 }
 
 /// The verdict on a method with code.
 fn verify_code<'a, C: Classes>(
     alloc: Global,
     method: CodeMethod<'_, 'a>,
+    frame: &mut Working<'a>,
     classes: &C,
 ) -> Result<Verdict<'a>, VerifyFault>
     requires formed { WellFormed (class_view method.class.now) }
@@ -104,7 +101,7 @@ fn verify_code<'a, C: Classes>(
         method,
         list: &list,
     };
-    judge_body(alloc, &body, &types.params, classes)
+    judge_body(alloc, &body, &types.params, frame, classes)
 }
 
 /// The verdict on a method of a class that the hierarchy has as it is.
@@ -112,6 +109,7 @@ pub fn verify_listed<'a, C: Classes>(
     alloc: Global,
     formed: &Formed<'_, 'a>,
     number: usize,
+    frame: &mut Working<'a>,
     classes: &C,
 ) -> Result<Verdict<'a>, VerifyFault>
     requires within { number < length formed.now.class.now.methods.items }
@@ -121,7 +119,7 @@ pub fn verify_listed<'a, C: Classes>(
     formed.class();
     match formed.method(number) {
         None => Ok(Verdict::NoCode),
-        Some(method) => verify_code(alloc, method, classes),
+        Some(method) => verify_code(alloc, method, frame, classes),
     }
 }
 
@@ -153,5 +151,6 @@ pub fn verify_method<'a, C: Classes>(
     if !is_listed(alloc, formed, classes)? {
         return Err(VerifyFault::NotInHierarchy);
     }
-    verify_listed(alloc, formed, number, classes)
+    let mut frame = Working::new(alloc, 0, false);
+    verify_listed(alloc, formed, number, &mut frame, classes)
 }

@@ -14,6 +14,7 @@ use classfile::{FormFault, FormRule, Formed, Place, decode, form_check};
 use hierarchy::Classes;
 use layout::ReadFault;
 use names::Text;
+use rules::Working;
 use std::alloc::Global;
 
 /// What is answered of a method.
@@ -45,6 +46,7 @@ fn report_on<'a, C: Classes>(
     alloc: Global,
     formed: &Formed<'_, 'a>,
     number: usize,
+    frame: &mut Working<'a>,
     classes: &C,
 ) -> Result<MethodVerdict<'a>, VerifyFault>
     requires number { number < length formed.now.class.now.methods.items }
@@ -58,7 +60,7 @@ fn report_on<'a, C: Classes>(
     let pool = &class.constant_pool;
     let name = pool.text(member.name).unwrap();
     let descriptor = pool.text(member.descriptor).unwrap();
-    match verify_listed(alloc, formed, number, classes) {
+    match verify_listed(alloc, formed, number, frame, classes) {
         Ok(verdict) => Ok(MethodVerdict {
             name,
             descriptor,
@@ -81,8 +83,9 @@ pub fn verify_methods<'a, C: Classes>(
         return Err(VerifyFault::NotInHierarchy);
     }
     let mut report = Vec::new(alloc);
+    let mut frame = Working::new(alloc, 0, false);
     for number in 0..formed.class().methods.len() {
-        report.push(report_on(alloc, formed, number, classes)?)?;
+        report.push(report_on(alloc, formed, number, &mut frame, classes)?)?;
     }
     Ok(report)
 }

@@ -1,16 +1,14 @@
-use Rattle.std.proofs.Common.{◌<◌, length, arith, sym, ap, ◌∙◌}
+use Rattle.std.proofs.Common.{arith, sym, ap, ◌∙◌}
 use Rattle.hierarchy.specs.Answer.{outcome_of}
-use Rattle.frames.specs.FrameFact.{frame_of}
-use Rattle.frames.specs.VerificationType.{type_of}
+use Rattle.rules.specs.Held.{held}
 use Rattle.rules.specs.After.{local_of}
 use Rattle.rules.specs.Bodies.{method_view}
 use Rattle.rules.specs.Views.{want_view}
-use Rattle.rules.proofs.Settling.{load_done, local_at, not_less, not_no}
+use Rattle.rules.proofs.Settling.{load_done, not_less, not_no}
 use Rattle.rules.proofs.families.loads.Goals as goal
 
 pub returns-in_default : goal.returns-in_default
 returns-in_default g c =
-    let f = frame_of c.args.frame.now in
-    let lt : c.from-place.result < length c.args.frame.now.locals.items = omega arith in
+    let f = held c.args.frame.now in
     load_done (g.C.Classes.content c.args.classes.now) (method_view c.args.body.now) (want_view c.args.want) c.args.local c.args.width f _ (outcome_of c.accepts-answer.result) _ _
-    (ap (λ n. local_of n f) (sym c.from-place.ensures) ∙ local_at c.args.frame.now.locals.items c.from-place.result c.index.result.now lt ∙ ap type_of (sym c.index.ensures)) (not_less _ _ (omega arith)) c.accepts-answer.ensures (not_no c.accepts-answer.result c.in_default.not-No) c.settle.ensures
+    (ap (λ n. local_of n f) (sym c.from-place.ensures) ∙ sym c.local-t.ensures) (not_less _ _ (omega arith)) c.accepts-answer.ensures (not_no c.accepts-answer.result c.in_default.not-No) c.settle.ensures

@@ -1,5 +1,5 @@
 use Rattle.std.proofs.Common.{◌≡◌, [], drop, length}
-use Rattle.frames.specs.FrameFact.{frame_of}
+use Rattle.rules.specs.Held.{held}
 use Rattle.rules.specs.Bodies.{method_view}
 use Rattle.verify.specs.Verdict.{code_judged}
 use Rattle.verify.proofs.Onward.{left}
@@ -9,6 +9,6 @@ abbrev pub invariant-loop-i : goal.invariant-loop-i
 invariant-loop-i g l = record {
   same :
       code_judged (g.C.Classes.content l.classes) (method_view l.body) []
-      ≡ left (g.C.Classes.content l.classes) (method_view l.body) (drop l.i l.list) l.comes (frame_of l.frame);
-  locals : length l.frame.locals.items ≡ l.body.method.code.now.max_locals;
+      ≡ left (g.C.Classes.content l.classes) (method_view l.body) (drop l.i l.list) l.comes (held l.frame);
+  locals : length (held l.frame).locals ≡ l.body.method.code.now.max_locals;
 }

@@ -1,7 +1,7 @@
 use Rattle.std.proofs.Common.{◌-◌, get_or, length, take, drop, subst, sym, arith}
 use Rattle.rules.specs.Outcomes.{Pushes}
 use Rattle.rules.proofs.Moving.{first_and_others, pushes_item, pushes_none}
-use Rattle.rules.proofs.stacks.+push_chosen.Goals as goal
+use Rattle.rules.proofs.moves.+push_chosen.Goals as goal
 
 pub returns-in_ok-push-in-len1-up : goal.returns-in_ok-push-in-len1-up
 returns-in_ok-push-in-len1-up t c =

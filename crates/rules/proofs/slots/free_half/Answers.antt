@@ -1,7 +1,7 @@
 use Rattle.std.proofs.Common.{◌≡◌, ◌-◌, ◌∙◌, suc, sym, ap, arith}
 use Rattle.rules.specs.Views.{locals_of, with_half_free}
 use Rattle.rules.proofs.Storing.{free_first, free_wide, free_narrow}
-use Rattle.rules.proofs.stores.free_half.Goals as goal
+use Rattle.rules.proofs.slots.free_half.Goals as goal
 
 pub returns-then-place-eq0 : goal.returns-then-place-eq0
 returns-then-place-eq0 c = free_first c.args.locals.now ∙ ap (λ n. with_half_free n (locals_of c.args.locals.now)) (sym c.if-place-eq0.true)

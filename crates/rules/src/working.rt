@@ -1,0 +1,201 @@
+//! The frame that instructions are run on.
+ghost use Rattle.rules.specs.Working.{IsCounted};
+
+use crate::moves::{rearrange, wides};
+use crate::slots::{is_wide, reach, store};
+use frames::{Frame, VType};
+use insn::StackForm;
+use std::alloc::{AllocError, Global};
+
+/// A frame that instructions change in place. Locals beyond those in use take no room: they are top.
+#[derive(Drop)]
+pub struct Working<'a> {
+    // Those in use, from 0 up.
+    locals: Vec<VType<'a>>,
+    max_locals: u16,
+    // From the bottom up.
+    stack: Vec<VType<'a>>,
+    // How many items of the stack are a long or a double.
+    wides: usize,
+    flag: bool,
+    ghost counted: { IsCounted locals.items max_locals stack.items wides },
+}
+
+impl<'a> Working<'a> {
+    ghost use Rattle.std.specs.Prelude.{◌≡◌, ◌<◌, ◌≤◌, ◌↔◌, [], ◌∷◌, IsTrue, nat_lt, length, MatchOption, OnOk, IfOk};
+    ghost use Rattle.frames.specs.Slots.{units_of};
+    ghost use Rattle.frames.specs.VerificationType.{type_of};
+    ghost use Rattle.insn.specs.Stacks.{rearranged};
+    ghost use Rattle.insn.specs.Views.{stack_form_view};
+    ghost use Rattle.frames.specs.FrameFact.{frame_of};
+    ghost use Rattle.rules.specs.After.{local_of, stored_type, with_stack};
+    ghost use Rattle.rules.specs.Outcomes.{pushed};
+    ghost use Rattle.rules.specs.Views.{stack_of};
+    ghost use Rattle.rules.specs.Working.{held_frame, empty_frame, with_locals};
+    ghost use Rattle.rules.specs.Held.{held};
+
+    /// With all locals top, and nothing on the stack.
+    pub fn new(alloc: Global, max_locals: u16, flag: bool) -> Working<'a>
+        ensures { held result ≡ empty_frame max_locals flag }
+    {
+        Working {
+            locals: Vec::new(alloc),
+            max_locals,
+            stack: Vec::new(alloc),
+            wides: 0,
+            flag,
+        }
+    }
+
+    /// Pushes a type.
+    pub fn push(&mut self, t: VType<'a>) -> Result<(), AllocError>
+        ensures { OnOk result (held self.new ≡ pushed (type_of t.entry ∷ []) (held self.old)) }
+    {
+        self.stack.push(t)?;
+        if is_wide(&t) {
+            self.wides += 1;
+        }
+        Ok(())
+    }
+
+    /// Takes the top of the stack off.
+    pub fn pop(&mut self) -> Option<VType<'a>>
+        ensures { MatchOption result (((held self.old).stack ≡ []) × (held self.new ≡ held self.old)) (λ t. held self.old ≡ pushed (type_of t ∷ []) (held self.new)) }
+    {
+        let t = self.stack.pop()?;
+        if is_wide(&t) {
+            self.wides -= 1;
+        }
+        Some(t)
+    }
+
+    /// The local variable of this number.
+    pub fn local(&self, place: usize) -> VType<'a>
+        requires { place < length (held self.now).locals }
+        ensures { type_of result ≡ local_of place (held self.now) }
+    {
+        if place < self.locals.len() {
+            self.locals[place]
+        } else {
+            VType::Top
+        }
+    }
+
+    /// Whether the stack has at least so many units.
+    pub fn has_units(&self, count: usize) -> bool
+        ensures { IsTrue result ↔ (count ≤ units_of (held self.now).stack) }
+    {
+        let height = self.stack.len();
+        count <= height || count - height <= self.wides
+    }
+
+    /// Whether the stack has more units than this.
+    pub fn is_wider(&self, limit: u16) -> bool
+        ensures { result ≡ nat_lt limit (units_of (held self.now).stack) }
+    {
+        self.has_units(usize::from(limit) + 1)
+    }
+
+    /// Whether the own object is uninitialized.
+    pub fn flag(&self) -> bool
+        ensures { result ≡ (held self.now).flag }
+    {
+        self.flag
+    }
+
+    /// The stack from the bottom up.
+    pub fn stack(&self) -> &[VType<'a>]
+        ensures { stack_of result.now ≡ (held self.now).stack }
+    {
+        &self.stack
+    }
+
+    /// Begins anew with these locals and nothing on the stack, in the memory that it has.
+    pub fn start(
+        &mut self,
+        locals: &[VType<'a>],
+        max_locals: u16,
+        flag: bool,
+    ) -> Result<(), AllocError>
+        requires { length locals.now ≤ max_locals }
+        ensures { OnOk result (held self.new ≡ held_frame locals.now max_locals [] flag) }
+    {
+        self.locals.clear();
+        self.stack.clear();
+        self.wides = 0;
+        self.max_locals = max_locals;
+        self.flag = flag;
+        self.locals.extend_from_slice(locals)?;
+        Ok(())
+    }
+
+    /// Stores a type to a local variable. A long or double makes the next one top; where the one before held a long or
+    /// double, that becomes top.
+    pub fn store(&mut self, t: VType<'a>, place: usize) -> Result<(), AllocError>
+        requires { place < length (held self.old).locals }
+        ensures { OnOk result (held self.new ≡ with_locals (held self.old) (stored_type (type_of t.entry) place (held self.old).locals)) }
+    {
+        reach(place, usize::from(self.max_locals), &mut self.locals)?;
+        store(t, place, &mut self.locals);
+        Ok(())
+    }
+
+    /// Takes the items of a form off, and pushes what it leaves. Nothing is said of the stack where memory ran out.
+    pub fn rearrange(&mut self, form: StackForm) -> Result<(), AllocError>
+        requires { length form.takes.now ≤ length (held self.old).stack }
+        ensures { OnOk result (held self.new ≡ with_stack (held self.old) (rearranged (stack_form_view form) (held self.old).stack)) }
+    {
+        let below = self.stack.len() - form.takes.len();
+        let before = wides(&self.stack[below..]);
+        if let Err(error) = rearrange(form, &mut self.stack) {
+            self.stack.clear();
+            self.wides = 0;
+            return Err(error);
+        }
+        self.wides = self.wides - before + wides(&self.stack[below..]);
+        Ok(())
+    }
+
+    /// A copy of a frame that has max_locals locals.
+    pub fn from_frame(
+        alloc: Global,
+        frame: &Frame<'a>,
+        max_locals: u16,
+    ) -> Result<Working<'a>, AllocError>
+        requires { length frame.now.locals.items ≡ max_locals }
+        ensures { IfOk result (λ w. held w ≡ frame_of frame.now) }
+    {
+        let mut locals = Vec::new(alloc);
+        locals.extend_from_slice(&frame.locals)?;
+        let mut stack = Vec::new(alloc);
+        stack.extend_from_slice(&frame.stack)?;
+        let wides = wides(&stack);
+        Ok(Working {
+            locals,
+            max_locals,
+            stack,
+            wides,
+            flag: frame.flag,
+        })
+    }
+
+    /// The frame with all its locals.
+    pub fn into_frame(self) -> Result<Frame<'a>, AllocError>
+        ensures { IfOk result (λ f. frame_of f ≡ held self.entry) }
+    {
+        let Working {
+            locals,
+            max_locals,
+            stack,
+            flag,
+            ..
+        } = self;
+        let mut locals = locals;
+        locals.resize(usize::from(max_locals), VType::Top)?;
+        Ok(Frame {
+            locals,
+            stack,
+            flag,
+        })
+    }
+}
