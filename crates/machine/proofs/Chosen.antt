@@ -17,9 +17,9 @@ use Rattle.machine.specs.declared.choosing.StepFault.{StepFault}
 use Rattle.machine.specs.declared.choosing.StepFault.TheVariants.{OutOfMemory, NotAChoice}
 use Rattle.machine.specs.Values.{Value, number, Slot, kind_units, stored}
 use Rattle.machine.specs.Heap.{Heap, with_fresh}
-use Rattle.machine.specs.Tasks.{falls, targets, task}
-use Rattle.machine.specs.Demands.{State, IsNoFault}
-use Rattle.machine.specs.Steps.{go, raise, Outcome, goes_on, ended, Replies, Does, IsBranch, Steps, IsLast, Ends as EndsBy, Happens}
+use Rattle.machine.specs.Tasks.{falls, targets, Tasks}
+use Rattle.machine.specs.Demands.{State, IsNoFaultBy}
+use Rattle.machine.specs.Steps.{go, raise, Outcome, goes_on, ended, Replies, Does, IsBranch, StepsBy, IsLast, EndsBy, HappensBy}
 use Rattle.machine.specs.Decided.{has_kinds, is_number, form_for}
 use Rattle.machine.specs.Deeds.{reply_view, task_view, given, held, rearranged_by}
 use Rattle.machine.specs.Demanded.{has_operands, Meets}
@@ -28,8 +28,8 @@ use Rattle.machine.specs.Views.{state_view}
 use Rattle.machine.proofs.Faults.{split, some_is, form_chosen, number_is, held_number, kinds_beneath, no_targets}
 use Rattle.machine.proofs.Deciding.{no_fault}
 
-pub nowhere : (world : World) (m : Method Act) (s : State) → at_offset m.code s.at ≡ None → IsNoFault world m s → ⊥
-nowhere world m s e n = cc (e, n.here)
+pub nowhere : (task : Tasks) (world : World) (m : Method Act) (s : State) → at_offset m.code s.at ≡ None → IsNoFaultBy task world m s → ⊥
+nowhere task world m s e n = cc (e, n.here)
 
 -- ---- an instruction
 
@@ -103,10 +103,10 @@ is_the_last (Leaves kind) e = refl
 is_the_last Ends e = refl
 is_the_last Stuck e = absurd e
 
-module _ (world : World) (m : Method Act) (s : State) (act : Act) (d : Deed) (next : Option ℕ)
+module _ (task : Tasks) (world : World) (m : Method Act) (s : State) (act : Act) (d : Deed) (next : Option ℕ)
     (here : at_offset m.code s.at ≡ Some act) (what : task_view d ≡ task m act) (after : next_offset m.code s.at ≡ next) (p : Meets m d next s) where
-  abbrev fine : IsNoFault world m s
-  fine = no_fault world m s act d next here what after p
+  abbrev fine : IsNoFaultBy task world m s
+  fine = no_fault task world m s act d next here what after p
 
   -- the task of whatever act is found
   same_task : (other : Act) → at_offset m.code s.at ≡ Some other → task m other ≡ task_view d
@@ -115,7 +115,7 @@ module _ (world : World) (m : Method Act) (s : State) (act : Act) (d : Deed) (ne
       ap (task m) same ∙ sym what
 
   module _ (branch : Option ℕ) (answer : Option Value) (fresh : List (ℕ × ReferenceType)) where
-    stepped : (t : State) → IsAsked s branch answer fresh → GoesOn d next s fresh t → Steps world m s branch answer fresh t
+    stepped : (t : State) → IsAsked s branch answer fresh → GoesOn d next s fresh t → StepsBy task world m s branch answer fresh t
     stepped t asked g = record {
       act = act;
       here = here;
@@ -128,7 +128,7 @@ module _ (world : World) (m : Method Act) (s : State) (act : Act) (d : Deed) (ne
           (subst (λ z. Does world (task_view d) (with_new s fresh) None g.at z) (sym g.result) (does world m s fresh g.at d p.operands g.goes)));
     }
 
-    asked_by : (t : State) → Steps world m s branch answer fresh t → IsAsked s branch answer fresh
+    asked_by : (t : State) → StepsBy task world m s branch answer fresh t → IsAsked s branch answer fresh
     asked_by t w =
         let e = same_task w.act w.here in
         record {
@@ -137,7 +137,7 @@ module _ (world : World) (m : Method Act) (s : State) (act : Act) (d : Deed) (ne
           unused = w.unused;
         }
 
-    no_way : (t : State) → Steps world m s branch answer fresh t → Stays d next → ⊥
+    no_way : (t : State) → StepsBy task world m s branch answer fresh t → Stays d next → ⊥
     no_way t w n =
         let e = same_task w.act w.here in
         elim w.goes [
@@ -145,10 +145,10 @@ module _ (world : World) (m : Method Act) (s : State) (act : Act) (d : Deed) (ne
           | inr g ↦ n.goes (sym (ap falls e) ∙ g.0) w.to (sym after ∙ g.1)
         ]
 
-    no_end : EndsBy m s branch answer fresh → Stays d next → ⊥
+    no_end : EndsBy task m s branch answer fresh → Stays d next → ⊥
     no_end w n = false≢true (sym n.ends ∙ is_the_last d (subst IsLast (same_task w.act w.here) w.last))
 
-    pub go_steps : (r : Result RawOutcome StepFault) → Goes d next s branch answer fresh r → Stepped world m s (go branch answer fresh) r
+    pub go_steps : (r : Result RawOutcome StepFault) → Goes d next s branch answer fresh r → Stepped task world m s (go branch answer fresh) r
     go_steps (Ok (outcomes.Next t)) g = (fine, stepped (state_view t) g.0 g.1)
     go_steps (Ok outcomes.Ended) g = (
       fine,
@@ -165,11 +165,11 @@ module _ (world : World) (m : Method Act) (s : State) (act : Act) (d : Deed) (ne
     go_steps (Err OutOfMemory) g = tt
     go_steps (Err NotAChoice) g = (fine, none)
       where
-        none : (o : Outcome) → Happens world m s (go branch answer fresh) o → ⊥
+        none : (o : Outcome) → HappensBy task world m s (go branch answer fresh) o → ⊥
         none (goes_on t) h = no_way t h.1 (g (asked_by t h.1))
         none ended h = no_end h.1 (g (record { no_branch = h.1.no_branch; no_answer = h.1.no_answer; unused = h.1.unused }))
 
-  pub raise_steps : (address : ℕ) (fresh : List (ℕ × ReferenceType)) (entry : Option ℕ) (r : Result RawOutcome StepFault) → Raises world m s address fresh entry r → Stepped world m s (raise address fresh entry) r
+  pub raise_steps : (address : ℕ) (fresh : List (ℕ × ReferenceType)) (entry : Option ℕ) (r : Result RawOutcome StepFault) → Raises world m s address fresh entry r → Stepped task world m s (raise address fresh entry) r
   raise_steps address fresh None (Ok (outcomes.Next t)) g = absurd g
   raise_steps address fresh (Some entry) (Ok (outcomes.Next t)) g = (fine, g)
   raise_steps address fresh None (Ok outcomes.Ended) g = (fine, g.1)
@@ -178,11 +178,11 @@ module _ (world : World) (m : Method Act) (s : State) (act : Act) (d : Deed) (ne
   raise_steps address fresh entry (Err OutOfMemory) g = tt
   raise_steps address fresh None (Err NotAChoice) g = (fine, none)
     where
-      none : (o : Outcome) → Happens world m s (raise address fresh None) o → ⊥
+      none : (o : Outcome) → HappensBy task world m s (raise address fresh None) o → ⊥
       none (goes_on t) h = h
       none ended h = g.0 refl h.1
   raise_steps address fresh (Some entry) (Err NotAChoice) g = (fine, none)
     where
-      none : (o : Outcome) → Happens world m s (raise address fresh (Some entry)) o → ⊥
+      none : (o : Outcome) → HappensBy task world m s (raise address fresh (Some entry)) o → ⊥
       none (goes_on t) h = g.1 t h.1
       none ended h = h

@@ -9,8 +9,8 @@ use Rattle.insn.specs.Meanings.{Act}
 use Rattle.insn.specs.Offsets.{at_offset, IsStart, has_offset, first_offset, next_offset, IsAmong}
 use Rattle.machine.specs.declared.deed.Deed.{Deed}
 use Rattle.machine.specs.Values.{depth_of}
-use Rattle.machine.specs.Tasks.{needs_of, falls, targets, task}
-use Rattle.machine.specs.Demands.{State, AllMeet, MeetsRest, HasRoom, AllUsable, EndsReady, LeadsToStart, IsNoFault}
+use Rattle.machine.specs.Tasks.{needs_of, falls, targets, Tasks}
+use Rattle.machine.specs.Demands.{State, AllMeet, MeetsRest, HasRoom, AllUsable, EndsReady, LeadsToStart, IsNoFaultBy}
 use Rattle.machine.specs.Decided.{paired_behind}
 use Rattle.machine.specs.Deeds.{task_view, stack_after}
 use Rattle.machine.specs.Demanded.{has_operands, leads, all_lead, Meets}
@@ -83,12 +83,12 @@ length_same a b e = grind (arith, nat_tests, e)
 goes : (f t : Bool) → (not f || t) ≡ true → f ≡ true → t ≡ true
 goes = leads_on
 
-module _ (world : World) (m : Method Act) (s : State) (act : Act) (d : Deed) (next : Option ℕ)
+module _ (task : Tasks) (world : World) (m : Method Act) (s : State) (act : Act) (d : Deed) (next : Option ℕ)
     (here : at_offset m.code s.at ≡ Some act) (what : task_view d ≡ task m act) (after : next_offset m.code s.at ≡ next) where
   abbrev on : Bool
   on = not (falls (task_view d)) || is_some next
 
-  pub no_fault : Meets m d next s → IsNoFault world m s
+  pub no_fault : Meets m d next s → IsNoFaultBy task world m s
   no_fault p =
       let whole = split (nat_eq (length s.locals) m.max_locals) (paired_behind false s.locals) p.locals in
       let deep = split (not (nat_lt m.max_stack (depth_of s.stack))) (not (nat_lt m.max_stack (depth_of (stack_after d s.stack s.locals)))) p.stack in
@@ -117,7 +117,7 @@ module _ (world : World) (m : Method Act) (s : State) (act : Act) (d : Deed) (ne
         own_object = record { own = subst (λ t. EndsReady m t s) what p.own_object };
       }
 
-  met : (n : IsNoFault world m s) → task m n.act ≡ task_view d → Meets m d next s
+  met : (n : IsNoFaultBy task world m s) → task m n.act ≡ task_view d → Meets m d next s
   met n e =
       let ops : has_operands m.max_locals d s.stack s.locals ≡ true =
       has_them world m s d (subst (λ t. AllMeet world s.heap (needs_of t) s.stack) e n.operands.operands) (subst (λ t. MeetsRest world m t s) e n.operands.others) in
@@ -133,7 +133,7 @@ module _ (world : World) (m : Method Act) (s : State) (act : Act) (d : Deed) (ne
         own_object = subst (λ t. EndsReady m t s) e n.own_object.own;
       }
 
-  pub meets : IsNoFault world m s → Meets m d next s
+  pub meets : IsNoFaultBy task world m s → Meets m d next s
   meets n =
       let same : n.act ≡ act = cc (n.here, here) in
       met n (ap (task m) same ∙ sym what)

@@ -12,3 +12,4 @@ mod Writes
 mod Raised
 mod Chosen
 mod Entries
+mod Yet

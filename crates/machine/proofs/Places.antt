@@ -10,7 +10,6 @@ use Rattle.insn.specs.declared.instruction.Insn.{Insn}
 use Rattle.insn.specs.Instructions.{Instruction}
 use Rattle.insn.specs.Meanings.{Act, act}
 use Rattle.insn.specs.Offsets.{at_offset, next_offset, first_offset, has_offset, StartsRise}
-use Rattle.insn.specs.Supported.{as_supported}
 use Rattle.insn.specs.Views.{view, views}
 use Rattle.insn.proofs.Starts.{from_here, searched}
 use Rattle.machine.specs.Rising.{rises}
@@ -49,7 +48,7 @@ alike false x y o p e = e
 pub begins : (xs : List (ℕ × Insn)) (at : ℕ) → has_offset (views xs) at ≡ has_offset (code_of xs) at
 begins [] at = refl
 begins (x ∷ xs) at =
-    alike (nat_eq x.0 at) (view x.1) (as_supported (act (view x.1))) (at_offset (views xs) at) (at_offset (code_of xs) at) (begins xs at)
+    alike (nat_eq x.0 at) (view x.1) (act (view x.1)) (at_offset (views xs) at) (at_offset (code_of xs) at) (begins xs at)
 
 is_none : {A : Type 0} → (o : Option A) → is_some o ≡ false → o ≡ None
 is_none None e = refl
@@ -60,18 +59,18 @@ head [] = refl
 head (x ∷ xs) = refl
 
 found_here : (n : ℕ) (xs : List (ℕ × Insn)) (k at : ℕ) (d : ℕ × Insn) → StartsRise n (views xs) → k < length xs → (get_or xs k d).0 ≡ at
-    → (at_offset (code_of xs) at ≡ Some (as_supported (act (view (get_or xs k d).1)))) × (next_offset (code_of xs) at ≡ option_map (λ x. x.0) (slice_get xs (suc k)))
+    → (at_offset (code_of xs) at ≡ Some (act (view (get_or xs k d).1))) × (next_offset (code_of xs) at ≡ option_map (λ x. x.0) (slice_get xs (suc k)))
 found_here n [] k at d r lt e = absurd (omega (arith, lt))
 found_here n (x ∷ xs) zero at d r lt e =
     let here : nat_eq x.0 at ≡ true = grind (arith, nat_tests, e) in (
-      ap (λ b. if b then Some (as_supported (act (view x.1))) else at_offset (code_of xs) at) here,
+      ap (λ b. if b then Some (act (view x.1)) else at_offset (code_of xs) at) here,
       ap (λ b. if b then first_offset (code_of xs) else next_offset (code_of xs) at) here ∙ head xs,
     )
 found_here n (x ∷ xs) (suc k) at d r lt e =
     let behind : x.0 + 1 ≤ (get_or xs k d).0 = from_here (x.0 + 1) xs k d r.1 (omega (arith, lt)) in
     let apart : nat_eq x.0 at ≡ false = grind (arith, nat_tests, e, behind) in
     let later = found_here (x.0 + 1) xs k at d r.1 (omega (arith, lt)) e in (
-      ap (λ b. if b then Some (as_supported (act (view x.1))) else at_offset (code_of xs) at) apart ∙ later.0,
+      ap (λ b. if b then Some (act (view x.1)) else at_offset (code_of xs) at) apart ∙ later.0,
       ap (λ b. if b then first_offset (code_of xs) else next_offset (code_of xs) at) apart ∙ later.1,
     )
 
@@ -81,12 +80,12 @@ module _ (xs : List (ℕ × Insn)) (at : ℕ) (rising : rises 0 (views xs) ≡ t
 
   pub met : (k : ℕ) (d : ℕ × Insn) (a : Act) (next : Option ℕ) → k < length xs → IsBinarySearchResult (λ (x : ℕ × Insn). nat_cmp x.0 at) xs (Ok k)
       → a ≡ act (view (get_or xs k d).1) → next ≡ option_map (λ x. x.0) (slice_get xs (k + 1))
-      → (at_offset (code_of xs) at ≡ Some (as_supported a)) × (next_offset (code_of xs) at ≡ next)
+      → (at_offset (code_of xs) at ≡ Some a) × (next_offset (code_of xs) at ≡ next)
   met k d a next lt equal e f =
       let same : (get_or xs k d).0 ≡ at = ranked _ at _ (sym (equal d)) in
       let r = found_here 0 xs k at d (rises_starts 0 (views xs) rising) lt same in
       let behind : k + 1 ≡ suc k = omega arith in
-      (r.0 ∙ ap (λ b. Some (as_supported b)) (sym e), r.1 ∙ ap (λ n. option_map (λ (x : ℕ × Insn). x.0) (slice_get xs n)) (sym behind) ∙ sym f)
+      (r.0 ∙ ap (λ b. Some b) (sym e), r.1 ∙ ap (λ n. option_map (λ (x : ℕ × Insn). x.0) (slice_get xs n)) (sym behind) ∙ sym f)
 
   pub is_begin : (b : Bool) → (StartsRise 0 (views xs) → b ≡ has_offset (views xs) at) → b ≡ has_offset (code_of xs) at
   is_begin b exactly = exactly (rises_starts 0 (views xs) rising) ∙ begins xs at

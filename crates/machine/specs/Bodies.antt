@@ -10,7 +10,6 @@ use Rattle.classfile.specs.Views.{class_view, code_view}
 use Rattle.insn.specs.declared.instruction.Insn as insns
 use Rattle.insn.specs.Meanings.{Act}
 use Rattle.insn.specs.Offsets.{acts}
-use Rattle.insn.specs.Supported.{supported_acts}
 use Rattle.insn.specs.Views.{views}
 use Rattle.machine.specs.declared.body.ExceptionEntry.{ExceptionEntry as RawEntry}
 use Rattle.machine.specs.declared.body.Method.{Method as RawMethod}
@@ -24,9 +23,8 @@ pub record IsEntry (pool : List Entry) (h : Handler) (e : ExceptionEntry) : Type
   pub caught : caught_type pool h.catch_type ≡ Some e.caught
   pub is : e ≡ record { from = h.start_pc; to = h.end_pc; handler = h.handler_pc; caught = e.caught }
 
--- the instructions that are supported; the others count as Unsupported
 abbrev pub code_of : List (ℕ × insns.Insn) → List (ℕ × Act)
-code_of list = supported_acts (acts (views list))
+code_of list = acts (views list)
 
 abbrev pub method_view : RawMethod → Method Act
 method_view m =

@@ -11,7 +11,8 @@ use Rattle.insn.specs.Offsets.{at_offset, IsStart, next_offset, IsAmong}
 use Rattle.insn.specs.Meanings.{Act}
 use Rattle.machine.specs.Values.{Value, number, reference, Slot, holds, is_wide_value, units, depth_of, ArePaired, place_of}
 use Rattle.machine.specs.Heap.{made, this, object, Heap, IsBelow, FitsReference, IsReference, FitsArray, FitsArrayFor, IsReady, IsThis, HasNoThis}
-use Rattle.machine.specs.Tasks.{Need, of_kind, of_type, some_reference, some_array, some_array_for, own_or_of, Task, operates, reads, writes, increments, moves, creates, makes_array, initializes, calls_special, ends, stuck, needs_of, reply_units, task, falls, targets}
+use Rattle.machine.specs.Tasks as tables
+use Rattle.machine.specs.Tasks.{Need, of_kind, of_type, some_reference, some_array, some_array_for, own_or_of, Task, operates, reads, writes, increments, moves, creates, makes_array, initializes, calls_special, ends, stuck, needs_of, reply_units, Tasks, falls, targets}
 
 -- Before an instruction: its offset, the operand stack with its top first, the local variables, and the objects.
 pub record State : Type 0 where
@@ -118,14 +119,14 @@ EndsReady m _ s = Unit {0}
 -- ---- a state that is no fault, in five parts
 
 -- the operands and local variables are there, and of their types
-pub record HasOperands (world : World) (m : Method Act) (s : State) (act : Act) : Type 0 where
+pub record HasOperandsBy (task : Tasks) (world : World) (m : Method Act) (s : State) (act : Act) : Type 0 where
   pub operands : AllMeet world s.heap (needs_of (task m act)) s.stack
   pub others : MeetsRest world m (task m act) s
   pub all_locals : length s.locals ≡ m.max_locals
   pub paired : ArePaired s.locals
 
 -- the stack is never wider than max_stack
-pub record IsWithinStack (m : Method Act) (s : State) (act : Act) : Type 0 where
+pub record IsWithinStackBy (task : Tasks) (m : Method Act) (s : State) (act : Act) : Type 0 where
   pub before : depth_of s.stack ≤ m.max_stack
   pub after : HasRoom m (task m act) s
 
@@ -134,24 +135,44 @@ abbrev pub LeadsToStart : Method Act → ℤ → Type 0
 LeadsToStart m target = (at : ℕ) × (target ≡ pos at) × IsStart m.code at
 
 -- control stays on the starts of instructions: by branches, by going on, and where something is raised
-pub record StaysOnStarts (m : Method Act) (s : State) (act : Act) : Type 0 where
+pub record StaysOnStartsBy (task : Tasks) (m : Method Act) (s : State) (act : Act) : Type 0 where
   pub branches : (target : ℤ) → IsAmong target (targets s.at (task m act)) → LeadsToStart m target
   pub next : falls (task m act) ≡ true → (at : ℕ) × (next_offset m.code s.at ≡ Some at) × IsStart m.code at
   pub caught : (e : ExceptionEntry) → IsAmong e m.exceptions → covers e s.at ≡ true → IsStart m.code e.handler
 
 -- no object is used before its constructor returned
-pub record UsesReady (m : Method Act) (s : State) (act : Act) : Type 0 where
+pub record UsesReadyBy (task : Tasks) (m : Method Act) (s : State) (act : Act) : Type 0 where
   pub uses : AllUsable s.heap (needs_of (task m act)) s.stack
 
 -- no constructor returns before its own object is ready
-pub record LeavesReady (m : Method Act) (s : State) (act : Act) : Type 0 where
+pub record LeavesReadyBy (task : Tasks) (m : Method Act) (s : State) (act : Act) : Type 0 where
   pub own : EndsReady m (task m act) s
 
-pub record IsNoFault (world : World) (m : Method Act) (s : State) : Type 0 where
+pub record IsNoFaultBy (task : Tasks) (world : World) (m : Method Act) (s : State) : Type 0 where
   pub act : Act
   pub here : at_offset m.code s.at ≡ Some act
-  pub operands : HasOperands world m s act
-  pub stack : IsWithinStack m s act
-  pub control : StaysOnStarts m s act
-  pub objects : UsesReady m s act
-  pub own_object : LeavesReady m s act
+  pub operands : HasOperandsBy task world m s act
+  pub stack : IsWithinStackBy task m s act
+  pub control : StaysOnStartsBy task m s act
+  pub objects : UsesReadyBy task m s act
+  pub own_object : LeavesReadyBy task m s act
+
+-- ---- by the tasks of all instructions
+
+abbrev pub HasOperands : World → Method Act → State → Act → Type 0
+HasOperands = HasOperandsBy tables.task
+
+abbrev pub IsWithinStack : Method Act → State → Act → Type 0
+IsWithinStack = IsWithinStackBy tables.task
+
+abbrev pub StaysOnStarts : Method Act → State → Act → Type 0
+StaysOnStarts = StaysOnStartsBy tables.task
+
+abbrev pub UsesReady : Method Act → State → Act → Type 0
+UsesReady = UsesReadyBy tables.task
+
+abbrev pub LeavesReady : Method Act → State → Act → Type 0
+LeavesReady = LeavesReadyBy tables.task
+
+abbrev pub IsNoFault : World → Method Act → State → Type 0
+IsNoFault = IsNoFaultBy tables.task

@@ -12,9 +12,9 @@ use Rattle.machine.specs.declared.choosing.StepFault.{StepFault}
 use Rattle.machine.specs.declared.choosing.StepFault.TheVariants.{OutOfMemory, NotAChoice}
 use Rattle.machine.specs.Values.{Value, number, reference, Slot, empty, is_wide_slot, behind_lost, stored, kind_units}
 use Rattle.machine.specs.Heap.{Heap, IsBelow, IsFresh, with_fresh}
-use Rattle.machine.specs.Tasks.{falls}
-use Rattle.machine.specs.Demands.{State, IsNoFault}
-use Rattle.machine.specs.Steps.{Choice, Outcome, goes_on, ended, Happens, IsRaised, IsCaught, moved_with}
+use Rattle.machine.specs.Tasks.{Tasks, falls}
+use Rattle.machine.specs.Demands.{State, IsNoFaultBy}
+use Rattle.machine.specs.Steps.{Choice, Outcome, goes_on, ended, HappensBy, IsRaised, IsCaught, moved_with}
 use Rattle.machine.specs.Deeds.{task_view, stack_after}
 use Rattle.machine.specs.Views.{state_view}
 
@@ -129,9 +129,9 @@ Raises world m s address fresh entry (Err NotAChoice) =
 -- ---- steps
 
 -- what a step answers: a fault exactly at a fault; elsewhere what comes of the choice, and 54 exactly where nothing does
-abbrev pub Stepped : World → Method Act → State → Choice → Result RawOutcome StepFault → Type 0
-Stepped world m s choice (Ok (outcomes.Next t)) = Happens world m s choice (goes_on (state_view t))
-Stepped world m s choice (Ok outcomes.Ended) = Happens world m s choice ended
-Stepped world m s choice (Ok outcomes.Fault) = IsNoFault world m s → ⊥
-Stepped world m s choice (Err OutOfMemory) = Unit {0}
-Stepped world m s choice (Err NotAChoice) = IsNoFault world m s × ((o : Outcome) → Happens world m s choice o → ⊥)
+abbrev pub Stepped : Tasks → World → Method Act → State → Choice → Result RawOutcome StepFault → Type 0
+Stepped task world m s choice (Ok (outcomes.Next t)) = HappensBy task world m s choice (goes_on (state_view t))
+Stepped task world m s choice (Ok outcomes.Ended) = HappensBy task world m s choice ended
+Stepped task world m s choice (Ok outcomes.Fault) = IsNoFaultBy task world m s → ⊥
+Stepped task world m s choice (Err OutOfMemory) = Unit {0}
+Stepped task world m s choice (Err NotAChoice) = IsNoFaultBy task world m s × ((o : Outcome) → HappensBy task world m s choice o → ⊥)

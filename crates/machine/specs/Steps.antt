@@ -11,8 +11,9 @@ use Rattle.insn.specs.Offsets.{at_offset, next_offset, IsAmong}
 use Rattle.insn.specs.Meanings.{Act}
 use Rattle.machine.specs.Values.{Value, number, null, reference, holds, stored}
 use Rattle.machine.specs.Heap.{Status, ready, made, object, Heap, with_object, IsAddress, IsBelow, FitsReference, FitsField, IsFresh, with_fresh}
-use Rattle.machine.specs.Tasks.{Need, Reply, no_reply, gives_number, gives_null, gives_answer, Task, operates, reads, writes, increments, moves, takes_element, passes, creates, makes_array, initializes, calls_special, leaves, ends, task, falls, targets}
-use Rattle.machine.specs.Demands.{State, AreForm, IsNoFault}
+use Rattle.machine.specs.Tasks as tables
+use Rattle.machine.specs.Tasks.{Need, Reply, no_reply, gives_number, gives_null, gives_answer, Task, operates, reads, writes, increments, moves, takes_element, passes, creates, makes_array, initializes, calls_special, leaves, ends, Tasks, falls, targets}
+use Rattle.machine.specs.Demands.{State, AreForm, IsNoFaultBy}
 
 -- What is left open by an instruction is chosen. Objects that come into being meanwhile are made first, each at an address.
 pub data Choice : Type 0 where
@@ -98,7 +99,7 @@ IsBranch (target ∷ others) branch at = branch ≡ Some at
 abbrev pub GoesTo : Method Act → ℕ → Task → ℕ → Type 0
 GoesTo m from t at = IsAmong (pos at) (targets from t) ⊎ ((falls t ≡ true) × (next_offset m.code from ≡ Some at))
 
-pub record Steps (world : World) (m : Method Act) (s : State)
+pub record StepsBy (task : Tasks) (world : World) (m : Method Act) (s : State)
     (branch : Option ℕ) (answer : Option Value) (fresh : List (ℕ × ReferenceType)) (t : State) : Type 0 where
   pub act : Act
   pub here : at_offset m.code s.at ≡ Some act
@@ -114,7 +115,7 @@ IsLast (leaves needs) = Unit {0}
 IsLast ends = Unit {0}
 IsLast _ = ⊥
 
-pub record Ends (m : Method Act) (s : State) (branch : Option ℕ) (answer : Option Value) (fresh : List (ℕ × ReferenceType)) : Type 0 where
+pub record EndsBy (task : Tasks) (m : Method Act) (s : State) (branch : Option ℕ) (answer : Option Value) (fresh : List (ℕ × ReferenceType)) : Type 0 where
   pub act : Act
   pub here : at_offset m.code s.at ≡ Some act
   pub unused : IsFresh s.heap fresh
@@ -142,9 +143,22 @@ pub record IsCaught (world : World) (m : Method Act) (s : State)
   pub result : t ≡ moved_with s by_entry.handler (reference address ∷ []) (with_fresh s.heap fresh)
 
 -- what comes of a choice, at a state that is no fault
+abbrev pub HappensBy : Tasks → World → Method Act → State → Choice → Outcome → Type 0
+HappensBy task world m s (go branch answer fresh) (goes_on t) = IsNoFaultBy task world m s × StepsBy task world m s branch answer fresh t
+HappensBy task world m s (go branch answer fresh) ended = IsNoFaultBy task world m s × EndsBy task m s branch answer fresh
+HappensBy task world m s (raise address fresh (Some entry)) (goes_on t) = IsNoFaultBy task world m s × IsCaught world m s address fresh entry t
+HappensBy task world m s (raise address fresh None) ended = IsNoFaultBy task world m s × IsRaised world s address fresh
+HappensBy task world m s _ _ = ⊥
+
+-- by the tasks of all instructions
+abbrev pub Steps : World → Method Act → State → Option ℕ → Option Value → List (ℕ × ReferenceType) → State → Type 0
+Steps = StepsBy tables.task
+
 abbrev pub Happens : World → Method Act → State → Choice → Outcome → Type 0
-Happens world m s (go branch answer fresh) (goes_on t) = IsNoFault world m s × Steps world m s branch answer fresh t
-Happens world m s (go branch answer fresh) ended = IsNoFault world m s × Ends m s branch answer fresh
-Happens world m s (raise address fresh (Some entry)) (goes_on t) = IsNoFault world m s × IsCaught world m s address fresh entry t
-Happens world m s (raise address fresh None) ended = IsNoFault world m s × IsRaised world s address fresh
-Happens world m s _ _ = ⊥
+Happens = HappensBy tables.task
+
+-- what happens by the tasks that are there yet does happen
+abbrev pub HappensYet : Type 0
+HappensYet =
+    (world : World) (m : Method Act) (s : State) (choice : Choice) (outcome : Outcome)
+    → HappensBy tables.task_yet world m s choice outcome → Happens world m s choice outcome

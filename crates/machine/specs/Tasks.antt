@@ -16,6 +16,7 @@ use Rattle.insn.specs.Stacks.{computed_as, same_kind}
 use Rattle.insn.specs.Offsets.{led_to}
 use Rattle.insn.specs.Meanings as acts
 use Rattle.insn.specs.Meanings.{Act}
+use Rattle.insn.specs.Supported.{as_supported}
 use Rattle.machine.specs.Values.{kind_units, field_units}
 
 -- what an instruction needs of an operand
@@ -289,6 +290,14 @@ task m (acts.InstanceOf i) = instance_of (class_at m.constant_pool i)
 task m acts.Throw = throws (of_type (class_type throwable_name))
 task m acts.Monitor = operates (some_reference ∷ []) (Some 0) no_reply [] true
 task m acts.Unsupported = stuck
+
+-- what gives an instruction's task, in a method
+abbrev pub Tasks : Type 0
+Tasks = Method Act → Act → Task
+
+-- The tasks that are there yet: an instruction without one counts as one that has none for good.
+abbrev pub task_yet : Tasks
+task_yet m act = task m (as_supported act)
 
 -- ---- where it goes
 

@@ -3,9 +3,8 @@ ghost use Rattle.std.specs.Prelude.{◌≡◌, [], None, Some, true, option_map}
 ghost use Rattle.names.specs.Descriptors.{primitive};
 ghost use Rattle.names.specs.Types.{type_of};
 ghost use Rattle.pool.specs.Members.{constant_at};
-ghost use Rattle.insn.specs.Supported.{as_supported};
 ghost use Rattle.insn.specs.Views.{act_view};
-ghost use Rattle.machine.specs.Tasks.{operates, gives_number, task, return_number, return_nothing, load_wide_constant};
+ghost use Rattle.machine.specs.Tasks.{operates, gives_number, task_yet, return_number, return_nothing, load_wide_constant};
 ghost use Rattle.machine.specs.Deeds.{task_view};
 ghost use Rattle.machine.specs.Bodies.{method_view};
 
@@ -72,7 +71,7 @@ fn load_wide_constant(pool: &Pool<'_>, index: u16) -> Deed
 
 /// What an instruction of the method does.
 pub fn deed_of(act: Act<'_>, method: &Method<'_, '_>) -> Deed
-    ensures { task_view result ≡ task (method_view method.now) (as_supported (act_view act.entry)) }
+    ensures { task_view result ≡ task_yet (method_view method.now) (act_view act.entry) }
 {
     match act {
         Act::Nothing => Deed::Operates {

@@ -2,7 +2,6 @@
 ghost use Rattle.std.specs.Prelude.{◌≡◌, true, Some, None, map, option_map, slice_get, MatchOption};
 ghost use Rattle.classfile.specs.Methods.{covers};
 ghost use Rattle.insn.specs.Offsets.{at_offset, next_offset, has_offset};
-ghost use Rattle.insn.specs.Supported.{as_supported};
 ghost use Rattle.insn.specs.Views.{views, act_view};
 ghost use Rattle.machine.specs.Rising.{rises};
 ghost use Rattle.machine.specs.Bodies.{code_of, entry_view};
@@ -25,7 +24,7 @@ fn start_at(list: &[(u16, Insn<'_>)], number: usize) -> Option<u16>
 pub fn found_at<'a>(list: &[(u16, Insn<'a>)], at: u16) -> Option<(Act<'a>, Option<u16>)>
     requires { rises 0 (views list.now) ≡ true }
     ensures { MatchOption result (at_offset (code_of list.now) at ≡ None)
-        (λ x. (at_offset (code_of list.now) at ≡ Some (as_supported (act_view x.0))) × (next_offset (code_of list.now) at ≡ x.1)) }
+        (λ x. (at_offset (code_of list.now) at ≡ Some (act_view x.0)) × (next_offset (code_of list.now) at ≡ x.1)) }
 {
     match list.binary_search_by_key(&at, |(start, _)| *start) {
         Err(_) => None,

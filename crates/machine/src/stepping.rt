@@ -1,6 +1,7 @@
 //! A step of the machine.
 ghost use Rattle.hierarchy.specs.Class.{world_of};
 ghost use Rattle.machine.specs.Bodies.{method_view};
+ghost use Rattle.machine.specs.Tasks.{task_yet};
 ghost use Rattle.machine.specs.Happening.{Stepped};
 ghost use Rattle.machine.specs.Views.{state_view, choice_view};
 
@@ -29,7 +30,7 @@ pub fn step<'a, C: Classes>(
     state: &State<'a>,
     choice: &Choice<'a>,
 ) -> Result<Outcome<'a>, StepFault>
-    ensures { Stepped (world_of (C.content classes.now)) (method_view method.now) (state_view state.now) (choice_view choice.now) result }
+    ensures { Stepped task_yet (world_of (C.content classes.now)) (method_view method.now) (state_view state.now) (choice_view choice.now) result }
 {
     let Some((act, next)) = found_at(&method.list, state.at) else {
         return Ok(Outcome::Fault);

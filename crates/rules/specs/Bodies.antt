@@ -3,10 +3,8 @@ use Rattle.classfile.specs.Methods.{Method}
 use Rattle.classfile.specs.CodeMethods.{code_method_view}
 use Rattle.insn.specs.Meanings.{Act}
 use Rattle.insn.specs.Offsets.{acts}
-use Rattle.insn.specs.Supported.{supported_acts}
 use Rattle.insn.specs.Views.{views}
 use Rattle.rules.specs.declared.body.Body.{Body}
 
--- instructions without a rule yet count as unsupported
 abbrev pub method_view : Body → Method Act
-method_view b = code_method_view b.method (supported_acts (acts (views b.list.now)))
+method_view b = code_method_view b.method (acts (views b.list.now))

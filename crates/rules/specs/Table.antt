@@ -12,6 +12,7 @@ use Rattle.insn.specs.Stacks.{computed_as, same_kind}
 use Rattle.insn.specs.Offsets.{at_offset}
 use Rattle.insn.specs.Meanings as acts
 use Rattle.insn.specs.Meanings.{Act}
+use Rattle.insn.specs.Supported.{as_supported}
 use Rattle.frames.specs.VerificationType.{int, null}
 use Rattle.frames.specs.Slots.{number_type}
 use Rattle.rules.specs.Plans.{Want, number, assignable_to, any_reference, any_array, any_array_for, Plan, pops, loads, stores, counts, rearranges, loads_element, makes, returns, refuses, takes, gives, class_want, numbers}
@@ -89,6 +90,14 @@ plan m (acts.InstanceOf i) = instance_of (class_at m.constant_pool i)
 plan m acts.Throw = leaves_with (class_want throwable_name)
 plan m acts.Monitor = takes (any_reference ∷ [])
 plan m acts.Unsupported = refuses 60
+
+-- what gives an instruction's plan, in a method
+abbrev pub Plans : Type 0
+Plans = Method Act → Act → Plan
+
+-- The plans that are there yet: an instruction without one is refused as one that has none for good.
+abbrev pub plan_yet : Plans
+plan_yet m act = plan m (as_supported act)
 
 -- ---- the class of the object that a `new` makes
 

@@ -5,7 +5,6 @@ ghost use Rattle.classfile.specs.Methods.{method_of};
 ghost use Rattle.classfile.specs.MethodParts.{code_at};
 ghost use Rattle.classfile.specs.Views.{class_view};
 ghost use Rattle.insn.specs.Offsets.{acts};
-ghost use Rattle.insn.specs.Supported.{supported_acts};
 ghost use Rattle.insn.specs.Views.{views};
 ghost use Rattle.rules.specs.Bodies.{method_view};
 
@@ -35,7 +34,7 @@ impl<'e, 'c, 'a, C: Classes> Env<'e, 'c, 'a, C> {
     ) -> Env<'e, 'c, 'a, C>
         requires { IsSome (code_at (class_view formed.now.class.now) number) }
         // It judges by what the class file says of that method, with the instructions of the list.
-        ensures method { method_of (class_view formed.now.class.now) number (supported_acts (acts (views list.now))) ≡ Some (method_view result.body) }
+        ensures method { method_of (class_view formed.now.class.now) number (acts (views list.now)) ≡ Some (method_view result.body) }
         // It holds what it was made of.
         ensures here { IsAt formed.now.class.now number result.body.method }
         ensures list { result.body.list.now ≡ list.now }
@@ -51,5 +50,5 @@ impl<'e, 'c, 'a, C: Classes> Env<'e, 'c, 'a, C> {
 
 /// A body is judged by what its class file says of the method of its number, with the instructions of its list.
 pub fn body_is_told(body: &Body<'_, '_, '_>)
-    ensures { method_of (class_view body.now.method.class.now) body.now.method.number (supported_acts (acts (views body.now.list.now))) ≡ Some (method_view body.now) }
+    ensures { method_of (class_view body.now.method.class.now) body.now.method.number (acts (views body.now.list.now)) ≡ Some (method_view body.now) }
 {}

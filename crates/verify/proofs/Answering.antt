@@ -14,7 +14,7 @@ use Rattle.insn.specs.declared.fault.CodeFault.TheVariants as codes
 use Rattle.insn.specs.Code.{SpellsCode, FaultyCode, UnlessMemory}
 use Rattle.insn.specs.Meanings.{Act}
 use Rattle.insn.specs.Offsets.{IsStart, acts, StartsRise}
-use Rattle.insn.specs.Supported.{supported_acts}
+use Rattle.rules.specs.Table.{plan_yet}
 use Rattle.insn.proofs.CodeLaws.{starts_rise, one_code, code_or_fault}
 use Rattle.frames.specs.Conditions.{Reason}
 use Rattle.verify.specs.declared.verdict.Verdict.{Verdict}
@@ -32,7 +32,7 @@ use Rattle.verify.specs.Judged.{is_judged}
 use Rattle.verify.specs.Listed.{IsListed}
 use Rattle.verify.specs.Answers.{IsLeftOut, HasBadCode, HasVerdict, IsRefused, AnswersCode, Answers, HasRules, VerifiesTypeSafe, VerifiedIsSafe}
 use Rattle.verify.proofs.Decoded.{decoded_rise, decoded_begins}
-use Rattle.verify.proofs.Replaced.{code_is, none_is_replaced}
+use Rattle.verify.proofs.Replaced.{code_is, none_is_replaced, safe_yet}
 use Rattle.verify.proofs.Verdicts.{verified_is_type_safe, type_safe_is_verified}
 use Rattle.verify.proofs.OneMethod.{methods_are_safe}
 use Rattle.verify.proofs.MethodCode.{has_code, some_code, judged_alike}
@@ -77,7 +77,7 @@ module _ (classes : List ClassFact) (c : Class) (number : ℕ) where
 
   pub given : (body : CodeBody) (xs : List (ℕ × Instruction)) (method : Method Act) (r : Result Verdict VerifyFault)
       → code_at c number ≡ Some body → SpellsCode 0 body.code xs
-      → method_of c number (supported_acts (acts xs)) ≡ Some method → is_judged method ≡ true → Gives (verdict classes method) r
+      → method_of c number (acts xs) ≡ Some method → is_judged method ≡ true → Gives (verdict plan_yet classes method) r
       → AnswersCode classes c number r
   given body xs method (Ok Verified) has spelled says judged g =
       record { body = body; has_code = has; instructions = xs; spelled = spelled; method = method; says = says; judged = judged; told = g }
@@ -100,16 +100,16 @@ module _ (classes : List ClassFact) (c : Class) (number : ℕ) where
   -- what is verified is type-safe
   pub type_safe_in : WellFormed c → HasVerdict classes c number verified → IsTypeSafeIn classes c number
   type_safe_in formed v =
-      let code : v.method.code ≡ supported_acts (acts v.instructions) =
-      code_is c (supported_acts (acts v.instructions)) v.method number v.says in
-      let rise : StartsRise 0 (supported_acts (acts v.instructions)) =
+      let code : v.method.code ≡ acts v.instructions =
+      code_is c (acts v.instructions) v.method number v.says in
+      let rise : StartsRise 0 (acts v.instructions) =
       decoded_rise 0 v.instructions (starts_rise 0 v.body.code v.instructions v.spelled) in
-      let begins : IsStart (supported_acts (acts v.instructions)) 0 =
+      let begins : IsStart (acts v.instructions) 0 =
       decoded_begins v.body.code v.instructions v.spelled (some_code c formed number v.body v.has_code) in
       let safe : IsTypeSafe classes v.method =
-      verified_is_type_safe classes v.method (subst (StartsRise 0) (sym code) rise) (subst (λ z. IsStart z 0) (sym code) begins) v.told in
+      none_is_replaced classes v.method (verified_is_type_safe plan_yet classes v.method (subst (StartsRise 0) (sym code) rise) (subst (λ z. IsStart z 0) (sym code) begins) v.told) in
       let x = has_code c number v.body v.has_code in
-      let method = none_is_replaced classes c number (acts v.instructions) v.method rise v.says safe in (
+      (
         v.method,
         record {
           member = x.member;
@@ -119,7 +119,7 @@ module _ (classes : List ClassFact) (c : Class) (number : ℕ) where
           instructions =
               v.instructions;
           spelled = v.spelled;
-          method = method;
+          method = v.says;
         },
         safe,
       )
@@ -169,26 +169,23 @@ module _ (classes : List ClassFact) (c : Class) (number : ℕ) where
     code_there = code_is c (acts i.instructions) m number i.method
 
     same_method : (body : CodeBody) (xs : List (ℕ × Instruction)) (n : Method Act) → code_at c number ≡ Some body
-        → SpellsCode 0 body.code xs → method_of c number (supported_acts (acts xs)) ≡ Some n → n ≡ m
+        → SpellsCode 0 body.code xs → method_of c number (acts xs) ≡ Some n → n ≡ m
     same_method body xs n has spelled says =
         let same : i.instructions ≡ xs =
         one_code 0 body.code i.instructions xs (subst (λ z. SpellsCode 0 z.code i.instructions) (own_code body has) i.spelled) spelled
         in
-        let kept : supported_acts (acts i.instructions) ≡ acts i.instructions = ap supported_acts (sym code_there) ∙ rules ∙ code_there in
-        some_same n m (sym says ∙ ap (λ z. method_of c number (supported_acts (acts z))) (sym same) ∙ ap (method_of c number) kept
-        ∙ i.method)
+        some_same n m (sym says ∙ ap (λ z. method_of c number (acts z)) (sym same) ∙ i.method)
 
-    is_verified : verdict classes m ≡ verified
+    is_verified : verdict plan_yet classes m ≡ verified
     is_verified =
-        let kept : supported_acts (acts i.instructions) ≡ acts i.instructions = ap supported_acts (sym code_there) ∙ rules ∙ code_there in
-        let rise : StartsRise 0 (supported_acts (acts i.instructions)) =
+        let rise : StartsRise 0 (acts i.instructions) =
         decoded_rise 0 i.instructions (starts_rise 0 i.body.code i.instructions i.spelled) in
-        type_safe_is_verified classes m (subst (StartsRise 0) (kept ∙ sym code_there) rise) safe
+        type_safe_is_verified plan_yet classes m (subst (StartsRise 0) (sym code_there) rise) (safe_yet classes m rules safe)
 
     not_refused : (at : ℕ) (why : Reason) → HasVerdict classes c number (refused at why) → ⊥
     not_refused at why v =
         let e : refused at why ≡ verified =
-        sym v.told ∙ ap (verdict classes) (same_method v.body v.instructions v.method v.has_code v.spelled v.says) ∙ is_verified in
+        sym v.told ∙ ap (verdict plan_yet classes) (same_method v.body v.instructions v.method v.has_code v.spelled v.says) ∙ is_verified in
         cc
 
     refused_never : (at : ℕ) (why : RuleReason) → IsRefused classes c number at why → ⊥

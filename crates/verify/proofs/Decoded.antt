@@ -4,13 +4,12 @@ use Rattle.insn.specs.Instructions.{Instruction}
 use Rattle.insn.specs.Meanings.{act}
 use Rattle.insn.specs.Code.{SpellsCode}
 use Rattle.insn.specs.Offsets.{IsStart, acts, StartsRise}
-use Rattle.insn.specs.Supported.{as_supported, supported_acts}
 
-pub decoded_rise : (from : ℕ) (xs : List (ℕ × Instruction)) → StartsRise from xs → StartsRise from (supported_acts (acts xs))
+pub decoded_rise : (from : ℕ) (xs : List (ℕ × Instruction)) → StartsRise from xs → StartsRise from (acts xs)
 decoded_rise from [] r = tt
 decoded_rise from (x ∷ xs) r = (r.0, decoded_rise (x.0 + 1) xs r.1)
 
 pub decoded_begins : (bytes : List ℕ) (xs : List (ℕ × Instruction)) → SpellsCode 0 bytes xs → 0 < length bytes
-    → IsStart (supported_acts (acts xs)) 0
+    → IsStart (acts xs) 0
 decoded_begins bytes [] s lt = let e : length bytes ≡ 0 = ap length s in absurd (omega (arith, e, lt))
-decoded_begins bytes (x ∷ xs) s lt = record { what = as_supported (act x.1); here = rw (eq-eqb x.0 0 s.3) refl }
+decoded_begins bytes (x ∷ xs) s lt = record { what = act x.1; here = rw (eq-eqb x.0 0 s.3) refl }

@@ -9,14 +9,14 @@ use Rattle.frames.specs.FrameFact.{FrameFact}
 use Rattle.frames.specs.FrameAssignable.{frame_answer}
 use Rattle.frames.proofs.Frames.{frame_itself}
 use Rattle.rules.specs.Plans.{falls}
-use Rattle.rules.specs.Table.{plan}
+use Rattle.rules.specs.Table.{Plans}
 use Rattle.rules.specs.After.{after}
 use Rattle.verify.specs.TypeSafety.{Frames, Comes}
 use Rattle.verify.specs.Verdict.{verified, refused_or, answer_conditions, at_conditions, entry, entered, arrives, passes}
 use Rattle.verify.proofs.Reasons.{none_told, yes_none, IsFine, of_fine}
 use Rattle.verify.proofs.Passing.{AreApart, at_first, IsFineIn}
 
-module _ (classes : List ClassFact) (m : Method Act) (frames : Frames) (table : ℕ → FrameFact) where
+module _ (plan : Plans) (classes : List ClassFact) (m : Method Act) (frames : Frames) (table : ℕ → FrameFact) where
   same_frame : (a b : FrameFact) → Some a ≡ Some b → a ≡ b
   same_frame a b e = cc
 
@@ -47,7 +47,7 @@ module _ (classes : List ClassFact) (m : Method Act) (frames : Frames) (table : 
 
   -- each of these instructions is fine
   abbrev pub AreFine : List (ℕ × Act) → Type 0
-  AreFine cs = (at : ℕ) (act : Act) → at_offset cs at ≡ Some act → IsFineIn classes m frames table cs at act
+  AreFine cs = (at : ℕ) (act : Act) → at_offset cs at ≡ Some act → IsFineIn plan classes m frames table cs at act
 
   rest_fine : (c : ℕ × Act) (cs : List (ℕ × Act)) → at_offset cs c.0 ≡ None → AreFine (c ∷ cs) → AreFine cs
   rest_fine c cs apart x p act e =
@@ -66,18 +66,18 @@ module _ (classes : List ClassFact) (m : Method Act) (frames : Frames) (table : 
       clash act e = cc
 
   pub onward : (cs : List (ℕ × Act)) (b : Bool) (g : FrameFact) → ((p : ℕ) → first_offset cs ≡ Some p → (entry classes b g (at_offset frames p) ≡ None) × (table p ≡ entered g (at_offset frames p)))
-      → ((k : FrameFact) → ((p : ℕ) → first_offset cs ≡ Some p → table p ≡ k) → passes classes m frames cs k ≡ verified)
-      → arrives classes frames cs b g (passes classes m frames cs) ≡ verified
+      → ((k : FrameFact) → ((p : ℕ) → first_offset cs ≡ Some p → table p ≡ k) → passes plan classes m frames cs k ≡ verified)
+      → arrives classes frames cs b g (passes plan classes m frames cs) ≡ verified
   onward [] b g e rec = refl
   onward (c ∷ cs) b g e rec =
       let x = e c.0 refl in
-      ap (λ z. refused_or z c.0 (passes classes m frames (c ∷ cs) (entered g (at_offset frames c.0)))) x.0
+      ap (λ z. refused_or z c.0 (passes plan classes m frames (c ∷ cs) (entered g (at_offset frames c.0)))) x.0
       ∙ rec (entered g (at_offset frames c.0)) (λ p i. let j : c.0 ≡ p = cc in subst (λ z. table z ≡ entered g (at_offset frames c.0)) j x.1)
 
-  pub passes_all : (cs : List (ℕ × Act)) (f : FrameFact) → AreApart cs → AreFine cs → ((p : ℕ) → first_offset cs ≡ Some p → table p ≡ f) → passes classes m frames cs f ≡ verified
+  pub passes_all : (cs : List (ℕ × Act)) (f : FrameFact) → AreApart cs → AreFine cs → ((p : ℕ) → first_offset cs ≡ Some p → table p ≡ f) → passes plan classes m frames cs f ≡ verified
   passes_all [] f apart x head = refl
   passes_all (c ∷ cs) f apart x head =
-      ap (λ z. refused_or z c.0 (arrives classes frames cs (falls (plan m c.1)) (after m c.0 (plan m c.1) f) (passes classes m frames cs)))
+      ap (λ z. refused_or z c.0 (arrives classes frames cs (falls (plan m c.1)) (after m c.0 (plan m c.1) f) (passes plan classes m frames cs)))
       (none_told (at_conditions classes m frames c.0 (plan m c.1) (first_offset cs) f) (of_fine classes m frames c.0 (plan m c.1) (first_offset cs) f
       (subst (λ z. IsFine classes m frames c.0 (plan m c.1) z) there now.fine) (λ t. let z = now.next t in (z.0, sym behind ∙ z.1))))
       ∙ onward cs (falls (plan m c.1)) (after m c.0 (plan m c.1) f) (λ p i. at_next p i (falls (plan m c.1)) refl) (λ k n. passes_all cs k apart.1 (rest_fine c cs apart.0 x) n)
@@ -91,7 +91,7 @@ module _ (classes : List ClassFact) (m : Method Act) (frames : Frames) (table : 
       behind : next_offset (c ∷ cs) c.0 ≡ first_offset cs
       behind = rw (eq-eqb c.0 c.0 refl) refl
 
-      now : IsFineIn classes m frames table (c ∷ cs) c.0 c.1
+      now : IsFineIn plan classes m frames table (c ∷ cs) c.0 c.1
       now = x c.0 c.1 here
 
       own : (p : ℕ) → first_offset cs ≡ Some p → (k : FrameFact) → at_offset frames p ≡ Some k → table p ≡ k

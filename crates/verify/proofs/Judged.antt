@@ -11,6 +11,7 @@ use Rattle.frames.specs.VerificationType.{VerificationType}
 use Rattle.frames.specs.FrameFact.{FrameFact}
 use Rattle.frames.specs.Slots.{descriptor_type, in_locals, all_locals}
 use Rattle.frames.specs.Conditions.{reason}
+use Rattle.rules.specs.Table.{plan_yet}
 use Rattle.verify.specs.InitialFrames.{receiver_types, initial_types, is_uninitialized, initial_frame}
 use Rattle.verify.specs.Verdict.{refused, frames_of, entries_read, frames_declared, table_judged, code_judged, with_frames, verdict}
 use Rattle.verify.specs.Judged.{is_empty, is_judged}
@@ -70,13 +71,13 @@ module _ (m : Method Act) (judged : is_judged m ≡ true) where
     declares_none : frames_declared m ≡ Ok []
     declares_none = ap (λ (o : Option (List ℕ)). frames_of m (entries_read o)) (no_stack_map m judged)
 
-    pub too_narrow : nat_lt m.max_locals (length (in_locals (initial_types m))) ≡ true → verdict classes m ≡ refused 0 (reason 64)
+    pub too_narrow : nat_lt m.max_locals (length (in_locals (initial_types m))) ≡ true → verdict plan_yet classes m ≡ refused 0 (reason 64)
     too_narrow e = rw e refl
 
-    pub wide_enough : nat_lt m.max_locals (length (in_locals (initial_types m))) ≡ false → verdict classes m ≡ code_judged classes m []
+    pub wide_enough : nat_lt m.max_locals (length (in_locals (initial_types m))) ≡ false → verdict plan_yet classes m ≡ code_judged plan_yet classes m []
     wide_enough e =
-        rw e (ap (with_frames classes m) declares_none
-        ∙ ap (λ (es : List ExceptionEntry). table_judged classes m [] es (code_judged classes m [])) (no_exceptions m judged))
+        rw e (ap (with_frames plan_yet classes m) declares_none
+        ∙ ap (λ (es : List ExceptionEntry). table_judged classes m [] es (code_judged plan_yet classes m [])) (no_exceptions m judged))
 
   -- what is answered of the locals, by the parameters
   module _ (params : List FieldDescriptor) (same : m.type.params ≡ params) where

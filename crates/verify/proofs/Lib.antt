@@ -30,4 +30,5 @@ pub mod MethodCode
 pub mod Answering
 pub mod OneVerdict
 mod Examples
+mod NewMaps
 pub mod Named

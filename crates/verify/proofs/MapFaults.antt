@@ -16,7 +16,7 @@ use Rattle.frames.specs.StackMaps.{MapEntry, stack_map, MapFault}
 use Rattle.frames.specs.DeclaredFrames.{declared_frames}
 use Rattle.classfile.specs.Methods.{Method, ExceptionEntry}
 use Rattle.rules.specs.Plans.{falls}
-use Rattle.rules.specs.Table.{plan}
+use Rattle.rules.specs.Table.{Plans}
 use Rattle.rules.specs.After.{after}
 use Rattle.verify.specs.InitialFrames.{initial_types, initial_frame}
 use Rattle.verify.specs.TypeSafety.{Frames}
@@ -72,20 +72,20 @@ map_fault m why e = by (entries_read m.stack_map) refl e
 
 -- ---- no other step answers so
 
-module _ (classes : List ClassFact) (m : Method Act) (frames : Frames) (why : MapRefusal) where
+module _ (plan : Plans) (classes : List ClassFact) (m : Method Act) (frames : Frames) (why : MapRefusal) where
   reason_clash : (o : Option Reason) (at : ℕ) (rest : Verdict) → (rest ≡ map_refused why → ⊥) → refused_or o at rest ≡ map_refused why → ⊥
   reason_clash None at rest f e = f e
   reason_clash (Some w) at rest f e = cc
 
-  arrival_clash : (cs : List (ℕ × Act)) (b : Bool) (f : FrameFact) → ((g : FrameFact) → passes classes m frames cs g ≡ map_refused why → ⊥) → arrives classes frames cs b f (passes classes m frames cs) ≡ map_refused why → ⊥
+  arrival_clash : (cs : List (ℕ × Act)) (b : Bool) (f : FrameFact) → ((g : FrameFact) → passes plan classes m frames cs g ≡ map_refused why → ⊥) → arrives classes frames cs b f (passes plan classes m frames cs) ≡ map_refused why → ⊥
   arrival_clash [] b f rec e = cc
   arrival_clash (c ∷ cs) b f rec e =
-      reason_clash (entry classes b f (at_offset frames c.0)) c.0 (passes classes m frames (c ∷ cs) (entered f (at_offset frames c.0))) (rec (entered f (at_offset frames c.0))) e
+      reason_clash (entry classes b f (at_offset frames c.0)) c.0 (passes plan classes m frames (c ∷ cs) (entered f (at_offset frames c.0))) (rec (entered f (at_offset frames c.0))) e
 
-  pass_clash : (cs : List (ℕ × Act)) (f : FrameFact) → passes classes m frames cs f ≡ map_refused why → ⊥
+  pass_clash : (cs : List (ℕ × Act)) (f : FrameFact) → passes plan classes m frames cs f ≡ map_refused why → ⊥
   pass_clash [] f e = cc
   pass_clash (c ∷ cs) f e =
-      reason_clash (least (at_conditions classes m frames c.0 (plan m c.1) (first_offset cs) f)) c.0 (arrives classes frames cs (falls (plan m c.1)) (after m c.0 (plan m c.1) f) (passes classes m frames cs))
+      reason_clash (least (at_conditions classes m frames c.0 (plan m c.1) (first_offset cs) f)) c.0 (arrives classes frames cs (falls (plan m c.1)) (after m c.0 (plan m c.1) f) (passes plan classes m frames cs))
       (arrival_clash cs (falls (plan m c.1)) (after m c.0 (plan m c.1) f) (λ g. pass_clash cs g)) e
 
   table_clash : (es : List ExceptionEntry) (rest : Verdict) → (rest ≡ map_refused why → ⊥) → table_judged classes m frames es rest ≡ map_refused why → ⊥
@@ -93,14 +93,14 @@ module _ (classes : List ClassFact) (m : Method Act) (frames : Frames) (why : Ma
   table_clash (x ∷ es) rest f e = reason_clash (least (table_conditions classes m frames x)) 0 (table_judged classes m frames es rest) (table_clash es rest f) e
 
 pub map_refused_where : MapRefusedWhere
-map_refused_where classes m why v = by (nat_lt m.max_locals (length (in_locals (initial_types m)))) refl v
+map_refused_where plan classes m why v = by (nat_lt m.max_locals (length (in_locals (initial_types m)))) refl v
   where
-    on : (r : Result Frames MapRefusal) → frames_declared m ≡ r → with_frames classes m r ≡ map_refused why → IsMapFault m why
+    on : (r : Result Frames MapRefusal) → frames_declared m ≡ r → with_frames plan classes m r ≡ map_refused why → IsMapFault m why
     on (Ok frames) r w =
-        absurd (table_clash classes m frames why m.exceptions (code_judged classes m frames) (arrival_clash classes m frames why m.code true (initial_frame m) (λ g. pass_clash classes m frames why m.code g)) w)
+        absurd (table_clash plan classes m frames why m.exceptions (code_judged plan classes m frames) (arrival_clash plan classes m frames why m.code true (initial_frame m) (λ g. pass_clash plan classes m frames why m.code g)) w)
     on (Err other) r w = let same : other ≡ why = cc in map_fault m why (r ∙ ap (λ (z : MapRefusal). Err z) same)
 
-    by : (b : Bool) → nat_lt m.max_locals (length (in_locals (initial_types m))) ≡ b → (if b then refused 0 (reason 64) else with_frames classes m (frames_declared m)) ≡ map_refused why
+    by : (b : Bool) → nat_lt m.max_locals (length (in_locals (initial_types m))) ≡ b → (if b then refused 0 (reason 64) else with_frames plan classes m (frames_declared m)) ≡ map_refused why
         → (length (in_locals (initial_types m)) ≤ m.max_locals) × IsMapFault m why
     by true b w = cc
     by false b w = (ltb-false m.max_locals (length (in_locals (initial_types m))) b, on (frames_declared m) refl w)

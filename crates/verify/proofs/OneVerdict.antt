@@ -12,7 +12,7 @@ use Rattle.insn.specs.Faults.{code_fault_number}
 use Rattle.insn.specs.Code.{SpellsCode, FaultyCode}
 use Rattle.insn.specs.Meanings.{Act}
 use Rattle.insn.specs.Offsets.{acts}
-use Rattle.insn.specs.Supported.{supported_acts}
+use Rattle.rules.specs.Table.{plan_yet}
 use Rattle.insn.proofs.CodeLaws.{one_code, code_or_fault, one_fault}
 use Rattle.frames.specs.Conditions as conditions
 use Rattle.rules.specs.declared.reason.Reason.{Reason}
@@ -62,8 +62,8 @@ module _ (classes : List ClassFact) (c : Class) (number : ℕ) where
       let same : x.instructions ≡ y.instructions =
       one_code 0 y.body.code x.instructions y.instructions (subst (λ b. SpellsCode 0 b.code x.instructions) body x.spelled) y.spelled in
       let method : x.method ≡ y.method =
-      some_same x.method y.method (sym x.says ∙ ap (λ z. method_of c number (supported_acts (acts z))) same ∙ y.says) in
-      sym x.told ∙ ap (verdict classes) method ∙ y.told
+      some_same x.method y.method (sym x.says ∙ ap (λ z. method_of c number (acts z)) same ∙ y.says) in
+      sym x.told ∙ ap (verdict plan_yet classes) method ∙ y.told
 
   both_told : (at there : ℕ) (why other : Reason) → HasVerdict classes c number (refused at (reason_view why))
       → HasVerdict classes c number (refused there (reason_view other)) → Same at why there other
@@ -79,7 +79,7 @@ module _ (classes : List ClassFact) (c : Class) (number : ℕ) where
 
   left_out_or_told : (at : ℕ) (why : Reason) (v : verdicts.Verdict) → IsLeftOut c number at why → HasVerdict classes c number v → ⊥
   left_out_or_told at why v x y = true_false
-      (sym y.judged ∙ judged_alike c (supported_acts (acts y.instructions)) [] y.method x.method number y.says x.says ∙ x.left_out)
+      (sym y.judged ∙ judged_alike c (acts y.instructions) [] y.method x.method number y.says x.says ∙ x.left_out)
 
   left_out_or_bad : (at there : ℕ) (why other : Reason) → IsLeftOut c number at why → HasBadCode c number there other → ⊥
   left_out_or_bad at there why other x y = true_false

@@ -9,7 +9,7 @@ use Rattle.insn.specs.declared.opcode.Opcode.TheVariants.{Nop}
 use Rattle.insn.specs.declared.instruction.Operands.TheVariants.{Nothing}
 use Rattle.insn.specs.Meanings.{Act, act}
 use Rattle.insn.specs.Offsets.{first_offset, acts}
-use Rattle.insn.specs.Supported.{as_supported, supported_acts}
+use Rattle.insn.specs.Supported.{as_supported}
 use Rattle.insn.specs.Views.{view, views}
 use Rattle.frames.specs.declared.frame.Frame.{Frame}
 use Rattle.frames.specs.VerificationType.{VerificationType, type_of}
@@ -17,7 +17,7 @@ use Rattle.frames.specs.FrameFact.{FrameFact, frame_of}
 use Rattle.frames.specs.Slots.{is_wide}
 use Rattle.frames.specs.Conditions.{Reason, Conditions, least}
 use Rattle.rules.specs.Plans.{Plan, pops, loads, stores, counts, rearranges, loads_element, makes, constructs, calls_special, returns, refuses, falls}
-use Rattle.rules.specs.Table.{plan}
+use Rattle.rules.specs.Table.{plan, plan_yet}
 use Rattle.rules.specs.After.{top_first, stored_type, after}
 use Rattle.rules.specs.Rules.{conditions}
 use Rattle.rules.specs.Outcomes.{Done}
@@ -72,7 +72,7 @@ abbrev pub no_insn : ℕ × Insn
 no_insn = (0, record { opcode = Nop; operands = Nothing })
 
 abbrev pub coded : List (ℕ × Insn) → List (ℕ × Act)
-coded xs = supported_acts (acts (views xs))
+coded xs = acts (views xs)
 
 pub last_is : (xs : List (ℕ × Insn)) (i : ℕ) → i < length xs → is_none (first_offset (coded (drop (i + 1) xs))) ≡ nat_eq (i + 1) (length xs)
 last_is xs i lt = by (drop (i + 1) xs) (length-drop (i + 1) xs)
@@ -86,7 +86,7 @@ act_at xs i d = as_supported (act (view (get_or xs i d).1))
 
 module _ (classes : List ClassFact) (m : Method Act) where
   abbrev pub left : List (ℕ × Insn) → Bool → FrameFact → Verdict
-  left xs b f = arrives classes [] (coded xs) b f (passes classes m [] (coded xs))
+  left xs b f = arrives classes [] (coded xs) b f (passes plan_yet classes m [] (coded xs))
 
   -- nothing is left
   pub at_end : (xs : List (ℕ × Insn)) (i : ℕ) (b : Bool) (f : FrameFact) → length xs ≤ i → left (drop i xs) b f ≡ verified
@@ -96,7 +96,7 @@ module _ (classes : List ClassFact) (m : Method Act) where
       (same : v ≡ left (drop i xs) b f) where
     pub refused_in : (why : Reason) → entry classes b f None ≡ Some why → v ≡ refused (get_or xs i d).0 why
     refused_in why e = same ∙ ap (λ z. left z b f) (drop_more xs i d lt)
-        ∙ ap (λ z. refused_or z (get_or xs i d).0 (passes classes m [] (coded (get_or xs i d ∷ drop (i + 1) xs)) f)) e
+        ∙ ap (λ z. refused_or z (get_or xs i d).0 (passes plan_yet classes m [] (coded (get_or xs i d ∷ drop (i + 1) xs)) f)) e
 
     abbrev here : List (ℕ × Insn) → Option Reason
     here ys = least (at_conditions classes m [] (get_or xs i d).0 (plan m (act_at xs i d)) (first_offset (coded ys)) f)
@@ -105,7 +105,7 @@ module _ (classes : List ClassFact) (m : Method Act) where
         → v ≡ refused_or (here (drop (i + 1) xs)) (get_or xs i d).0
         (left (drop (i + 1) xs) (falls (plan m (act_at xs i d))) (after m (get_or xs i d).0 (plan m (act_at xs i d)) f))
     opened e = same ∙ ap (λ z. left z b f) (drop_more xs i d lt)
-        ∙ ap (λ z. refused_or z (get_or xs i d).0 (passes classes m [] (coded (get_or xs i d ∷ drop (i + 1) xs)) f)) e
+        ∙ ap (λ z. refused_or z (get_or xs i d).0 (passes plan_yet classes m [] (coded (get_or xs i d ∷ drop (i + 1) xs)) f)) e
 
     pub refused_at : (why : Reason) → entry classes b f None ≡ None → here (drop (i + 1) xs) ≡ Some why → v ≡ refused (get_or xs i d).0 why
     refused_at why e q =

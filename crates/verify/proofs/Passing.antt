@@ -8,7 +8,7 @@ use Rattle.frames.specs.FrameFact.{FrameFact}
 use Rattle.frames.specs.FrameAssignable.{frame_answer}
 use Rattle.frames.specs.Conditions.{least}
 use Rattle.rules.specs.Plans.{falls}
-use Rattle.rules.specs.Table.{plan}
+use Rattle.rules.specs.Table.{Plans}
 use Rattle.rules.specs.After.{after}
 use Rattle.verify.specs.TypeSafety.{Frames, Comes}
 use Rattle.verify.specs.Verdict.{verified, answer_conditions, at_conditions, entry, entered, arrives, passes}
@@ -39,7 +39,7 @@ at_next (c ∷ cs) p q e = by (λ k. at_next cs p q k) (nat_eq c.0 p) e
     by rec true k = later c cs q (at_first cs q k)
     by rec false k = later c cs q (rec k)
 
-module _ (classes : List ClassFact) (m : Method Act) (frames : Frames) where
+module _ (plan : Plans) (classes : List ClassFact) (m : Method Act) (frames : Frames) where
   -- what comes to a start, where the table has what goes on there
   pub comes_in : (table : ℕ → FrameFact) (q : ℕ) (f : FrameFact) (o : Option FrameFact) → at_offset frames q ≡ o → entry classes true f o ≡ None → table q ≡ entered f o → Comes classes frames table f q
   comes_in table q f None i e t = inl t
@@ -65,16 +65,16 @@ module _ (classes : List ClassFact) (m : Method Act) (frames : Frames) where
   came [] g = g
   came (c ∷ cs) g = entered g (at_offset frames c.0)
 
-  pub tail_of : (cs : List (ℕ × Act)) (b : Bool) (g : FrameFact) → arrives classes frames cs b g (passes classes m frames cs) ≡ verified → passes classes m frames cs (came cs g) ≡ verified
+  pub tail_of : (cs : List (ℕ × Act)) (b : Bool) (g : FrameFact) → arrives classes frames cs b g (passes plan classes m frames cs) ≡ verified → passes plan classes m frames cs (came cs g) ≡ verified
   tail_of [] b g e = refl
-  tail_of (c ∷ cs) b g e = (not_refused (entry classes b g (at_offset frames c.0)) c.0 (passes classes m frames (c ∷ cs) (entered g (at_offset frames c.0))) e).1
+  tail_of (c ∷ cs) b g e = (not_refused (entry classes b g (at_offset frames c.0)) c.0 (passes plan classes m frames (c ∷ cs) (entered g (at_offset frames c.0))) e).1
 
-  pub enters_of : (cs : List (ℕ × Act)) (b : Bool) (g : FrameFact) (q : ℕ) → arrives classes frames cs b g (passes classes m frames cs) ≡ verified → first_offset cs ≡ Some q
+  pub enters_of : (cs : List (ℕ × Act)) (b : Bool) (g : FrameFact) (q : ℕ) → arrives classes frames cs b g (passes plan classes m frames cs) ≡ verified → first_offset cs ≡ Some q
       → (entry classes b g (at_offset frames q) ≡ None) × (came cs g ≡ entered g (at_offset frames q))
   enters_of [] b g q e i = cc
   enters_of (c ∷ cs) b g q e i =
       let k : c.0 ≡ q = cc in (
-        subst (λ z. entry classes b g (at_offset frames z) ≡ None) k (not_refused (entry classes b g (at_offset frames c.0)) c.0 (passes classes m frames (c ∷ cs) (entered g (at_offset frames c.0))) e).0,
+        subst (λ z. entry classes b g (at_offset frames z) ≡ None) k (not_refused (entry classes b g (at_offset frames c.0)) c.0 (passes plan classes m frames (c ∷ cs) (entered g (at_offset frames c.0))) e).0,
         ap (λ z. entered g (at_offset frames z)) k,
       )
 
@@ -155,10 +155,10 @@ module _ (classes : List ClassFact) (m : Method Act) (frames : Frames) where
     pub wider_head : (p : ℕ) → first_offset (c ∷ cs) ≡ Some p → wider p ≡ f
     wider_head p e = let q : c.0 ≡ p = cc in rw (eq-eqb c.0 p q) refl
 
-  pub has_table : (cs : List (ℕ × Act)) (f : FrameFact) → AreApart cs → ((p : ℕ) (k : FrameFact) → first_offset cs ≡ Some p → at_offset frames p ≡ Some k → f ≡ k) → passes classes m frames cs f ≡ verified → HasTable cs f
+  pub has_table : (cs : List (ℕ × Act)) (f : FrameFact) → AreApart cs → ((p : ℕ) (k : FrameFact) → first_offset cs ≡ Some p → at_offset frames p ≡ Some k → f ≡ k) → passes plan classes m frames cs f ≡ verified → HasTable cs f
   has_table [] f apart own e = record { table = λ p. f; head = λ p i. refl; each = λ p act i. cc }
   has_table (c ∷ cs) f apart own e =
-      let x = not_refused (least (at_conditions classes m frames c.0 (plan m c.1) (first_offset cs) f)) c.0 (arrives classes frames cs (falls (plan m c.1)) (after m c.0 (plan m c.1) f) (passes classes m frames cs)) e in
+      let x = not_refused (least (at_conditions classes m frames c.0 (plan m c.1) (first_offset cs) f)) c.0 (arrives classes frames cs (falls (plan m c.1)) (after m c.0 (plan m c.1) f) (passes plan classes m frames cs)) e in
       let g = after m c.0 (plan m c.1) f in
       let on : IsEntered cs (falls (plan m c.1)) g = λ q i. enters_of cs (falls (plan m c.1)) g q x.1 i in
       let r = has_table cs (came cs g) apart.1 (λ p k i j. own_of cs g p k i j) (tail_of cs (falls (plan m c.1)) g x.1) in

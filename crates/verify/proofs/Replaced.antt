@@ -1,20 +1,18 @@
 -- Where a method is type-safe, none of its instructions counts as unsupported.
-use Rattle.std.proofs.Common.{◌≡◌, ℕ, Bool, true, false, nat_eq, List, [], ◌∷◌, Option, Some, None, refl, sym, ◌∙◌, ap, subst, if◌then◌else◌, eq-eqb, eqb-true, slice_get}
+use Rattle.std.proofs.Common.{◌≡◌, ℕ, Bool, true, false, List, [], ◌∷◌, Option, Some, None, refl, sym, ◌∙◌, ap, subst, if◌then◌else◌, slice_get}
 use Rattle.std.specs.Option.{option_and_then}
 use Rattle.names.specs.Descriptors.{MethodDescriptor}
 use Rattle.classfile.specs.Values.{CodeBody, Member, Class}
 use Rattle.classfile.specs.Methods.{Method, ExceptionEntry, code_of, method_with, method_from, method_of}
 use Rattle.hierarchy.specs.Class.{ClassFact}
 use Rattle.insn.specs.Meanings.{Act, Unsupported}
-use Rattle.insn.specs.Offsets.{at_offset}
-use Rattle.insn.specs.Supported.{is_supported, as_supported, supported_acts}
+use Rattle.insn.specs.Supported.{is_supported, as_supported}
 use Rattle.frames.specs.FrameFact.{FrameFact}
 use Rattle.rules.specs.Plans.{refuses}
-use Rattle.rules.specs.Table.{plan}
-use Rattle.verify.specs.TypeSafety.{Frames, IsTypeSafeAt}
+use Rattle.rules.specs.Table.{plan, plan_yet}
+use Rattle.verify.specs.TypeSafety.{Frames, IsTypeSafeAt, IsTypeSafeBy, IsTypeSafe}
 use Rattle.verify.specs.ClassMethods.{NoneIsReplaced}
-use Rattle.verify.proofs.Passing.{AreApart}
-use Rattle.verify.proofs.Premises.{rising_apart}
+use Rattle.verify.specs.Answers.{HasRules}
 
 -- ---- the code of a class's method
 
@@ -56,25 +54,35 @@ kept a f = by (is_supported a) f
     by true f = refl
     by false f = absurd (f refl)
 
-all_kept : (code : List (ℕ × Act)) → AreApart (supported_acts code)
-    → ((at : ℕ) (act : Act) → at_offset (supported_acts code) at ≡ Some act → act ≡ Unsupported → ⊥)
-    → supported_acts code ≡ code
-all_kept [] apart f = refl
-all_kept (x ∷ xs) apart f =
-    let head : as_supported x.1 ≡ x.1 = kept x.1 (λ e. f x.0 (as_supported x.1) (rw (eq-eqb x.0 x.0 refl) refl) e) in
-    let tail : supported_acts xs ≡ xs = all_kept xs apart.1 (λ at act i e. by at act i (nat_eq x.0 at) refl (λ j. f at act j e)) in
-    ap (λ (z : Act). (x.0, z) ∷ supported_acts xs) head ∙ ap (λ (z : List (ℕ × Act)). x ∷ z) tail
-  where
-    by : (at : ℕ) (act : Act) → at_offset (supported_acts xs) at ≡ Some act → (b : Bool) → nat_eq x.0 at ≡ b
-        → (at_offset (supported_acts (x ∷ xs)) at ≡ Some act → ⊥) → ⊥
-    by at act i true q k = let same : at_offset (supported_acts xs) at ≡ None =
-        subst (λ z. at_offset (supported_acts xs) z ≡ None) (eqb-true x.0 at q) apart.0 in cc
-    by at act i false q k = k (rw q i)
-
 pub none_is_replaced : NoneIsReplaced
-none_is_replaced classes c number code m rise is safe =
-    let e : m.code ≡ supported_acts code = code_is c (supported_acts code) m number is in
-    let same : supported_acts code ≡ code = all_kept code (rising_apart 0 (supported_acts code) rise)
-    (λ at act i u. unsupported_unsafe classes m safe.frames safe.table at
-    (subst (λ z. IsTypeSafeAt classes m safe.frames safe.table at (plan m z)) u (safe.each at act (ap (λ z. at_offset z at) e ∙ i)))) in
-    subst (λ z. method_of c number z ≡ Some m) same is
+none_is_replaced classes m safe = record {
+  begins = safe.begins;
+  enough = safe.enough;
+  frames = safe.frames;
+  declares = safe.declares;
+  entries = safe.entries;
+  table = safe.table;
+  first = safe.first;
+  at_declared = safe.at_declared;
+  each = λ at act i.
+      let here = safe.each at act i in
+      subst (λ z. IsTypeSafeAt classes m safe.frames safe.table at (plan m z))
+      (kept act (λ u. unsupported_unsafe classes m safe.frames safe.table at (subst (λ z. IsTypeSafeAt classes m safe.frames safe.table at (plan m z)) u here)))
+      here;
+}
+
+-- a method that is type-safe is so by the plans that are there yet, where its instructions have one
+pub safe_yet : (classes : List ClassFact) (m : Method Act) → HasRules m → IsTypeSafe classes m → IsTypeSafeBy plan_yet classes m
+safe_yet classes m rules safe = record {
+  begins = safe.begins;
+  enough = safe.enough;
+  frames = safe.frames;
+  declares = safe.declares;
+  entries = safe.entries;
+  table = safe.table;
+  first = safe.first;
+  at_declared = safe.at_declared;
+  each = λ at act i.
+      let same : act ≡ as_supported act = sym (ap (λ b. if b then act else Unsupported) (rules at act i)) in
+      subst (λ z. IsTypeSafeAt classes m safe.frames safe.table at (plan m z)) same (safe.each at act i);
+}

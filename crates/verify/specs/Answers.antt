@@ -9,11 +9,12 @@ use Rattle.insn.specs.Faults.{code_fault_number}
 use Rattle.insn.specs.Instructions.{Instruction}
 use Rattle.insn.specs.Code.{SpellsCode, FaultyCode}
 use Rattle.insn.specs.Meanings.{Act}
-use Rattle.insn.specs.Offsets.{acts}
-use Rattle.insn.specs.Supported.{supported_acts}
+use Rattle.insn.specs.Offsets.{at_offset, acts}
+use Rattle.insn.specs.Supported.{is_supported}
 use Rattle.rules.specs.declared.reason.Reason.{Reason}
 use Rattle.rules.specs.declared.reason.Reason.TheVariants.{NotSupported, BadCode}
 use Rattle.rules.specs.Reasons.{reason_view}
+use Rattle.rules.specs.Table.{plan_yet}
 use Rattle.verify.specs.declared.verdict.Verdict.{Verdict}
 use Rattle.verify.specs.declared.verdict.Verdict.TheVariants.{Verified, NoCode, Refused}
 use Rattle.verify.specs.declared.verdict.VerifyFault.{VerifyFault}
@@ -46,16 +47,16 @@ pub record HasBadCode (c : Class) (number : ℕ) (at : ℕ) (why : Reason) : Typ
   pub there : at ≡ place_of fault
   pub told : why ≡ BadCode (code_fault_number fault)
 
--- Its bytes are code, and this is the verdict, where instructions without a rule yet count as unsupported.
+-- Its bytes are code, and this is the verdict by the plans that are there yet.
 pub record HasVerdict (classes : List ClassFact) (c : Class) (number : ℕ) (v : verdicts.Verdict) : Type 0 where
   pub body : CodeBody
   pub has_code : code_at c number ≡ Some body
   pub instructions : List (ℕ × Instruction)
   pub spelled : SpellsCode 0 body.code instructions
   pub method : Method Act
-  pub says : method_of c number (supported_acts (acts instructions)) ≡ Some method
+  pub says : method_of c number (acts instructions) ≡ Some method
   pub judged : is_judged method ≡ true
-  pub told : verdict classes method ≡ v
+  pub told : verdict plan_yet classes method ≡ v
 
 abbrev pub IsRefused : List ClassFact → Class → ℕ → ℕ → Reason → Type 0
 IsRefused classes c number at why =
@@ -80,7 +81,7 @@ Answers classes c number (Err NotInHierarchy) = IsListed classes c → ⊥
 
 -- All its instructions have a rule.
 abbrev pub HasRules : Method Act → Type 0
-HasRules m = supported_acts m.code ≡ m.code
+HasRules m = (at : ℕ) (act : Act) → at_offset m.code at ≡ Some act → is_supported act ≡ true
 
 -- A method that is type-safe is verified, unless memory runs out, if it is one of those that are judged yet.
 abbrev pub VerifiesTypeSafe : List ClassFact → Class → ℕ → Result Verdict VerifyFault → Type 0

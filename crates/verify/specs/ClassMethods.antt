@@ -7,9 +7,9 @@ use Rattle.hierarchy.specs.Rules.{IsHierarchy}
 use Rattle.insn.specs.Instructions.{Instruction}
 use Rattle.insn.specs.Code.{SpellsCode}
 use Rattle.insn.specs.Meanings.{Act}
-use Rattle.insn.specs.Offsets.{acts, StartsRise}
-use Rattle.insn.specs.Supported.{supported_acts}
-use Rattle.verify.specs.TypeSafety.{IsTypeSafe}
+use Rattle.insn.specs.Offsets.{acts}
+use Rattle.rules.specs.Table.{plan_yet}
+use Rattle.verify.specs.TypeSafety.{IsTypeSafeBy, IsTypeSafe}
 use Rattle.verify.specs.Safety.{IsSafe}
 
 -- the class's method of this number has code, and this is what its instructions see of it
@@ -33,9 +33,6 @@ abbrev pub TypeSafeMethodsAreSafe : Type 0
 TypeSafeMethodsAreSafe =
     (classes : List ClassFact) → IsHierarchy classes → (c : Class) (number : ℕ) → IsTypeSafeIn classes c number → IsSafeIn classes c number
 
--- Where instructions without a rule yet count as unsupported and the method is type-safe, it has none, so it is the class's method.
+-- A method that is type-safe by the plans that are there yet is type-safe: it has no instruction without one.
 abbrev pub NoneIsReplaced : Type 0
-NoneIsReplaced =
-    (classes : List ClassFact) (c : Class) (number : ℕ) (code : List (ℕ × Act)) (m : Method Act)
-    → StartsRise 0 (supported_acts code) → method_of c number (supported_acts code) ≡ Some m → IsTypeSafe classes m
-    → method_of c number code ≡ Some m
+NoneIsReplaced = (classes : List ClassFact) (m : Method Act) → IsTypeSafeBy plan_yet classes m → IsTypeSafe classes m

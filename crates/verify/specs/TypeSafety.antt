@@ -15,7 +15,8 @@ use Rattle.frames.specs.Conditions.{NoneHolds}
 use Rattle.frames.specs.StackMaps.{MapEntry, IsMap}
 use Rattle.frames.specs.DeclaredFrames.{declared_frames}
 use Rattle.rules.specs.Plans.{Plan, falls, targets}
-use Rattle.rules.specs.Table.{plan}
+use Rattle.rules.specs.Table as tables
+use Rattle.rules.specs.Table.{Plans}
 use Rattle.rules.specs.After.{with_stack, after}
 use Rattle.rules.specs.Rules.{constructs_own, conditions}
 use Rattle.verify.specs.InitialFrames.{initial_types, initial_frame}
@@ -81,7 +82,8 @@ pub record IsTypeSafeAt (classes : List ClassFact) (m : Method Act) (frames : Fr
 
 -- ---- a method
 
-pub record IsTypeSafe (classes : List ClassFact) (m : Method Act) : Type 0 where
+-- by these plans
+pub record IsTypeSafeBy (plan : Plans) (classes : List ClassFact) (m : Method Act) : Type 0 where
   -- code is not empty, and begins at 0 (4.7.3)
   pub begins : IsStart m.code 0
   pub enough : length (in_locals (initial_types m)) ≤ m.max_locals
@@ -93,3 +95,6 @@ pub record IsTypeSafe (classes : List ClassFact) (m : Method Act) : Type 0 where
   pub first : Comes classes frames table (initial_frame m) 0
   pub at_declared : (at : ℕ) (f : FrameFact) → at_offset frames at ≡ Some f → table at ≡ f
   pub each : (at : ℕ) (act : Act) → at_offset m.code at ≡ Some act → IsTypeSafeAt classes m frames table at (plan m act)
+
+abbrev pub IsTypeSafe : List ClassFact → Method Act → Type 0
+IsTypeSafe = IsTypeSafeBy tables.plan

@@ -20,7 +20,7 @@ use Rattle.frames.specs.Conditions.{Reason, reason, Conditions, least, is_no, mi
 use Rattle.frames.specs.StackMaps.{MapEntry, stack_map}
 use Rattle.frames.specs.DeclaredFrames.{declared_frames}
 use Rattle.rules.specs.Plans.{Plan, falls, targets}
-use Rattle.rules.specs.Table.{plan}
+use Rattle.rules.specs.Table.{Plans}
 use Rattle.rules.specs.After.{after}
 use Rattle.rules.specs.Rules.{constructs_own, conditions}
 use Rattle.verify.specs.InitialFrames.{initial_types, initial_frame}
@@ -150,22 +150,22 @@ arrives classes frames (c ∷ cs) falls f goes_on =
     refused_or (entry classes falls f (at_offset frames c.0)) c.0 (goes_on (entered f (at_offset frames c.0)))
 
 -- from this instruction on, the frame before it being this one
-abbrev pub passes : List ClassFact → Method Act → Frames → List (ℕ × Act) → FrameFact → Verdict
-passes classes m frames [] f = verified
-passes classes m frames (c ∷ cs) f =
+abbrev pub passes : Plans → List ClassFact → Method Act → Frames → List (ℕ × Act) → FrameFact → Verdict
+passes plan classes m frames [] f = verified
+passes plan classes m frames (c ∷ cs) f =
     refused_or (least (at_conditions classes m frames c.0 (plan m c.1) (first_offset cs) f)) c.0
-    (arrives classes frames cs (falls (plan m c.1)) (after m c.0 (plan m c.1) f) (passes classes m frames cs))
+    (arrives classes frames cs (falls (plan m c.1)) (after m c.0 (plan m c.1) f) (passes plan classes m frames cs))
 
-abbrev pub code_judged : List ClassFact → Method Act → Frames → Verdict
-code_judged classes m frames = arrives classes frames m.code true (initial_frame m) (passes classes m frames m.code)
+abbrev pub code_judged : Plans → List ClassFact → Method Act → Frames → Verdict
+code_judged plan classes m frames = arrives classes frames m.code true (initial_frame m) (passes plan classes m frames m.code)
 
 -- ---- the method
 
-abbrev pub with_frames : List ClassFact → Method Act → Result Frames MapRefusal → Verdict
-with_frames classes m (Ok frames) = table_judged classes m frames m.exceptions (code_judged classes m frames)
-with_frames classes m (Err why) = map_refused why
+abbrev pub with_frames : Plans → List ClassFact → Method Act → Result Frames MapRefusal → Verdict
+with_frames plan classes m (Ok frames) = table_judged classes m frames m.exceptions (code_judged plan classes m frames)
+with_frames plan classes m (Err why) = map_refused why
 
-abbrev pub verdict : List ClassFact → Method Act → Verdict
-verdict classes m =
+abbrev pub verdict : Plans → List ClassFact → Method Act → Verdict
+verdict plan classes m =
     if nat_lt m.max_locals (length (in_locals (initial_types m))) then refused 0 (reason 64)
-    else with_frames classes m (frames_declared m)
+    else with_frames plan classes m (frames_declared m)

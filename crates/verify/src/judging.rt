@@ -1,9 +1,8 @@
 //! One pass over a method's code.
 ghost use Rattle.std.specs.Prelude.{◌≡◌, ℕ, Option, is_none, [], length};
 ghost use Rattle.insn.specs.Meanings.{act};
-ghost use Rattle.insn.specs.Supported.{as_supported};
 ghost use Rattle.insn.specs.Views.{view};
-ghost use Rattle.rules.specs.Table.{plan};
+ghost use Rattle.rules.specs.Table.{plan_yet};
 ghost use Rattle.rules.specs.After.{after};
 ghost use Rattle.rules.specs.Bodies.{method_view};
 ghost use Rattle.rules.specs.Outcomes.{Done};
@@ -32,7 +31,7 @@ fn judge<'a, C: Classes>(
     requires no_exceptions { (method_view body.now).exceptions ≡ [] }
     ensures { (next : Option ℕ) → is_none next ≡ last →
         let m = method_view body.now in let f = held frame.old in
-        let p = plan m (as_supported (act (view insn.now))) in
+        let p = plan_yet m (act (view insn.now)) in
         Done (at_conditions (C.content classes.now) m [] at p next f) (after m at p f) (held frame.new) result }
 {
     let end = check_end(falls(insn), last);
@@ -51,7 +50,7 @@ pub fn pass<'a, C: Classes>(
     requires initial { held frame.old ≡ initial_frame (method_view body.now) }
     requires locals { length (held frame.old).locals ≡ body.now.method.code.now.max_locals }
     requires no_exceptions { (method_view body.now).exceptions ≡ [] }
-    ensures { Gives (code_judged (C.content classes.now) (method_view body.now) []) result }
+    ensures { Gives (code_judged plan_yet (C.content classes.now) (method_view body.now) []) result }
 {
     let mut comes = true;
     let list = body.list;

@@ -26,7 +26,7 @@ pub fn map_refused_where()
     ensures { MapRefusedWhere }
 {}
 
-/// A method that is type-safe has no instruction without a rule.
+/// A method that is type-safe by the plans that are there yet is type-safe: it has no instruction without a rule.
 pub fn none_is_replaced()
     ensures { NoneIsReplaced }
 {}

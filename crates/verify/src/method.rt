@@ -6,6 +6,7 @@ ghost use Rattle.classfile.specs.CodeMethods.{code_method_view, types_of};
 ghost use Rattle.classfile.specs.Views.{class_view, code_view};
 ghost use Rattle.classfile.specs.WellFormed.{WellFormed};
 ghost use Rattle.rules.specs.Bodies.{method_view};
+ghost use Rattle.rules.specs.Table.{plan_yet};
 ghost use Rattle.verify.specs.declared.verdict.VerifyFault.TheVariants.{OutOfMemory};
 ghost use Rattle.verify.specs.Verdict.{verdict};
 ghost use Rattle.verify.specs.Steps.{Gives};
@@ -65,7 +66,7 @@ fn judge_body<'a, C: Classes>(
 ) -> Result<Verdict<'a>, VerifyFault>
     requires judged { is_judged (method_view body.now) ≡ true }
     requires parameters { (method_view body.now).type.params ≡ map type_of parameters.now }
-    ensures { Gives (verdict (C.content classes.now) (method_view body.now)) result }
+    ensures { Gives (verdict plan_yet (C.content classes.now) (method_view body.now)) result }
 {
     let max_locals = body.method.code.max_locals;
     let Some(locals) = initial_locals(alloc, parameters, max_locals)? else {

@@ -7,7 +7,6 @@ use Rattle.classfile.proofs.MethodLaws.{method_says}
 use Rattle.insn.specs.Code.{SpellsCode}
 use Rattle.insn.specs.Meanings.{Act}
 use Rattle.insn.specs.Offsets.{acts}
-use Rattle.insn.specs.Supported.{supported_acts}
 use Rattle.insn.specs.Views.{views}
 use Rattle.verify.proofs.MethodCode.{little_code}
 use Rattle.verify.proofs.Answering.{left_out, bad_code, given}
@@ -40,7 +39,7 @@ returns g c =
     let spelled : SpellsCode 0 (code_view m.code.now).code xs =
     subst (λ z. SpellsCode 0 (code_view m.code.now).code (views z)) (sym c.deref.ensures.value) c.in-Ok.ensures.found in
     given (g.C.Classes.content c.args.classes.now) (class_view m.class.now) m.number (code_view m.code.now) xs
-    (code_method_view {A = Act} m (supported_acts (acts xs))) c.judge_body.result c.requires.coded spelled
+    (code_method_view {A = Act} m (acts xs)) c.judge_body.result c.requires.coded spelled
     (method_says {A = Act} (class_view m.class.now) m.number (code_view m.code.now) m.is_static m.is_init
-    (option_map type_of m.result_type) m.is_method (supported_acts (acts xs))) (sym c.is_judged.ensures ∙ c.if-not-is_judged.false)
+    (option_map type_of m.result_type) m.is_method (acts xs)) (sym c.is_judged.ensures ∙ c.if-not-is_judged.false)
     c.judge_body.ensures
