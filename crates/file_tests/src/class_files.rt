@@ -4,7 +4,7 @@ use classfile::{
     one_class, one_fault, one_first_fault, one_spelling, tests_are_forms,
 };
 use layout::{MAX_CLASS_BYTES, ReadFault, WriteFault};
-use samples::K;
+use test_classes::K;
 use std::alloc::{AllocError, Global};
 use std::process::Abort;
 use std::test::*;

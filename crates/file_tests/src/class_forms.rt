@@ -3,7 +3,7 @@ use classfile::{
     ClassFile, CodeMethod, FormFault, FormRule, Formed, Member, Place, decode, form_check,
     method_is_told,
 };
-use samples::K;
+use test_classes::K;
 use std::alloc::{AllocError, Global};
 use std::process::Abort;
 use std::test::*;

@@ -4,7 +4,7 @@ use hierarchy::{
     Answer, Chains, Classes, HierarchyFault, Kind, MemberSummary, Summary, laws, summary_of,
 };
 use names::{CLONEABLE, OBJECT};
-use samples::K;
+use test_classes::K;
 use std::alloc::Global;
 use std::process::Abort;
 use std::test::Fail;

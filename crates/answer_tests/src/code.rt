@@ -1,7 +1,7 @@
 //! A method's code: what `show` and `verify` say of it.
 use crate::making::{O, answered};
 use answers::Command;
-use samples::K;
+use test_classes::K;
 use std::alloc::{AllocError, Global};
 use std::hash::RandomState;
 use std::process::Abort;

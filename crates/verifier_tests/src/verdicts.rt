@@ -2,7 +2,7 @@ use crate::making::{Given, STATIC, class, hasher, object, static_method};
 use classfile::{ExceptionHandler, Formed, decode, form_check};
 use hierarchy::{Chains, summary_of};
 use rules::Reason;
-use samples::K;
+use test_classes::K;
 use std::alloc::{AllocError, Global};
 use std::process::Abort;
 use std::test::Fail;

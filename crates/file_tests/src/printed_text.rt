@@ -6,7 +6,7 @@ use classfile::{Place, decode};
 use layout::ReadFault;
 use names::check_text;
 use printing::{Listing, Name, Print, Then, Word};
-use samples::K;
+use test_classes::K;
 use std::alloc::{AllocError, Global};
 use std::io::{self, Write};
 use std::process::Abort;

@@ -1,4 +1,4 @@
-//! `instructions`: a program for those who change the crate `insn`.
+//! `opcode_table`: a program for those who change the crate `insn`.
 //!
 //! Without words it prints the instruction set, a line for each opcode, to be laid beside the
 //! standard (`table`). Each word is a class file: the code of its methods is decoded, encoded again

@@ -4,7 +4,7 @@ use classfile::{ClassFile, ExceptionHandler, decode, form_check};
 use hierarchy::Chains;
 use machine::{Choice, Method, Outcome, RunType, Slot, State, StepFault, Value, laws, step};
 use names::{OBJECT, THROWABLE};
-use samples::K;
+use test_classes::K;
 use std::alloc::{AllocError, Global};
 use std::collections::BTreeMap;
 use std::process::Abort;

@@ -2,7 +2,7 @@
 use crate::making::{O, answered, reads};
 use answers::{AnswerFault, Command, answer, one_answer};
 use layout::{ReadFault, StreamFault};
-use samples::K;
+use test_classes::K;
 use std::alloc::{AllocError, Global};
 use std::hash::RandomState;
 use std::io::{self, Write};
