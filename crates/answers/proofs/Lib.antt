@@ -2,4 +2,3 @@ pub mod OneFile
 pub mod OneVerify
 pub mod OneAnswer
 pub mod Tellings
-pub mod Summaries

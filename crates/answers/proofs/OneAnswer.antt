@@ -2,7 +2,8 @@
 use Rattle.std.proofs.Common.{◌≡◌, ℕ, List, [], ◌∷◌, inl, inr, sym, ap, subst, ◌∙◌}
 use Rattle.classfile.specs.Values.{Class}
 use Rattle.answers.specs.Answers.{FileSays, CheckTells, ShowTells}
-use Rattle.answers.specs.Files.{Read, refusal_status}
+use Rattle.verify.specs.Files.{Read}
+use Rattle.answers.specs.Files.{refusal_status}
 use Rattle.answers.specs.Texts.{refusal_line}
 use Rattle.answers.specs.Laws.{OneAnswer}
 use Rattle.answers.specs.declared.command.Command.TheVariants.{Check, Show, Verify}

@@ -7,9 +7,9 @@ use Rattle.classfile.specs.FormLaws.{NoFaultInFormed, OneFirstFault}
 use Rattle.classfile.specs.WellFormed.{WellFormed, IsFirstFault}
 use Rattle.hierarchy.specs.Faults.{FaultsBreakRules, OneFault as OneHierarchyFault}
 use Rattle.verify.specs.OneVerdict.{OneReport}
-use Rattle.answers.specs.Files.{Read, IsFormed, IsRefused}
-use Rattle.answers.specs.declared.refusal.Refusal.{Refusal}
-use Rattle.answers.specs.declared.refusal.Refusal.TheVariants.{Unread, NoClass, Malformed}
+use Rattle.verify.specs.Files.{Read, IsFormed, IsRefused}
+use Rattle.verify.specs.declared.files.FileFault.{FileFault}
+use Rattle.verify.specs.declared.files.FileFault.TheVariants.{OutOfMemory, Unread, NoClass, Malformed}
 
 -- the laws of class files, of hierarchies and of reports that answers rest on
 pub record Laws : Type 0 where
@@ -28,24 +28,30 @@ one_formed laws (Err e) c d p q = absurd p
 one_formed laws (Ok bytes) c d p q = laws.one_class bytes c d p.0 q.0
 
 -- or it is refused
-pub not_refused : Laws → (read : Read) (c : Class) (r : Refusal) → IsFormed read c → IsRefused read r → ⊥
+pub not_refused : Laws → (read : Read) (c : Class) (r : FileFault) → IsFormed read c → IsRefused read r → ⊥
 not_refused laws (Err e) c r p q = p
+not_refused laws (Ok bytes) c OutOfMemory p q = q
 not_refused laws (Ok bytes) c (Unread e) p q = q
 not_refused laws (Ok bytes) c (NoClass e) p q = laws.not_both bytes c e p.0 q
 not_refused laws (Ok bytes) c (Malformed rule place) p (d, is, fault) =
     laws.not_formed d rule place (subst WellFormed (laws.one_class bytes c d p.0 is) p.1) fault
 
 -- for one reason
-pub one_refusal : Laws → (read : Read) (r s : Refusal) → IsRefused read r → IsRefused read s → r ≡ s
+pub one_refusal : Laws → (read : Read) (r s : FileFault) → IsRefused read r → IsRefused read s → r ≡ s
+one_refusal laws (Err e) OutOfMemory s p q = absurd p
+one_refusal laws (Err e) (Unread f) OutOfMemory p q = absurd q
 one_refusal laws (Err e) (Unread f) (Unread g) p q = ap Unread (sym p ∙ q)
 one_refusal laws (Err e) (Unread f) (NoClass g) p q = absurd q
 one_refusal laws (Err e) (Unread f) (Malformed rule place) p q = absurd q
 one_refusal laws (Err e) (NoClass f) s p q = absurd p
 one_refusal laws (Err e) (Malformed rule place) s p q = absurd p
+one_refusal laws (Ok bytes) OutOfMemory s p q = absurd p
 one_refusal laws (Ok bytes) (Unread f) s p q = absurd p
+one_refusal laws (Ok bytes) (NoClass f) OutOfMemory p q = absurd q
 one_refusal laws (Ok bytes) (NoClass f) (Unread g) p q = absurd q
 one_refusal laws (Ok bytes) (NoClass f) (NoClass g) p q = ap NoClass (laws.one_fault bytes f g p q)
 one_refusal laws (Ok bytes) (NoClass f) (Malformed rule place) p (c, is, fault) = absurd (laws.not_both bytes c f is p)
+one_refusal laws (Ok bytes) (Malformed rule place) OutOfMemory (c, is, fault) q = absurd q
 one_refusal laws (Ok bytes) (Malformed rule place) (Unread g) p q = absurd q
 one_refusal laws (Ok bytes) (Malformed rule place) (NoClass g) (c, is, fault) q = absurd (laws.not_both bytes c g is q)
 one_refusal laws (Ok bytes) (Malformed rule place) (Malformed also there) (c, is, fault) (d, are, other) =

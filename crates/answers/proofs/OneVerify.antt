@@ -1,5 +1,5 @@
 -- What is said for `verify` is one.
-use Rattle.std.proofs.Common.{◌≡◌, ◌≢◌, ℕ, zero, suc, ◌+◌, ◌<◌, List, [], ◌∷◌, ◌++◌, length, map, Option, Some, None, refl, sym, ◌∙◌, ap, subst, inl, inr, arith}
+use Rattle.std.proofs.Common.{◌≡◌, ℕ, zero, suc, ◌+◌, ◌<◌, List, [], ◌∷◌, ◌++◌, length, map, Option, Some, None, refl, sym, ◌∙◌, ap, subst, inl, inr, arith}
 use Rattle.std.specs.Prelude.{◌⊎◌, ◌||◌, Bool, true, false, if◌then◌else◌, slice_get, codes, decimal}
 use Rattle.std.specs.List.{flat_map, list_any}
 use Rattle.std.proofs.lemmas.Bool.{cases_order}
@@ -17,21 +17,16 @@ use Rattle.verify.specs.declared.report.MethodVerdict.{MethodVerdict}
 use Rattle.verify.specs.OneVerdict.{AreSameVerdict, IsSameLine}
 use Rattle.printing.specs.Faults.{at_text}
 use Rattle.printing.specs.Names.{name_text, spelled_text}
-use Rattle.answers.specs.Files.{Read, IsFormed, IsRefused, refusal_status}
-use Rattle.answers.specs.Verdicts.{class_refusal, known_refusal, fault_name, hierarchy_refusal, verdict_text, verdict_line, is_refusal, is_memory, AreFormed, IsFirstRefused, HierarchySays, KnownSays, VerifySays}
-use Rattle.answers.specs.declared.refusal.Refusal.{Refusal}
+use Rattle.verify.specs.declared.files.FileFault.{FileFault}
+use Rattle.verify.specs.Files.{Read, IsFormed, IsRefused, AreFormed, IsFirstRefused}
+use Rattle.answers.specs.Files.{refusal_status}
+use Rattle.answers.specs.Verdicts.{class_refusal, known_refusal, fault_name, hierarchy_refusal, verdict_text, verdict_line, is_refusal, HierarchySays, KnownSays, VerifySays}
 use Rattle.answers.proofs.OneFile.{Laws, one_formed, not_refused, one_refusal}
 
 some_same : {A : Type 0} (a b : A) → Some a ≡ Some b → a ≡ b
 some_same a b e = cc
 
 -- ---- of hierarchies
-
-not_memory : (f : HierarchyFault) → is_memory f ≡ false → f ≢ OutOfMemory
-not_memory f e is = true_false (sym (ap is_memory is) ∙ e)
-  where
-    true_false : true ≡ false → ⊥
-    true_false e = cc
 
 abbrev name_behind : Option (List ℕ) → List ℕ
 name_behind None = []
@@ -96,7 +91,7 @@ module _ (laws : Laws) where
   one_list (r ∷ reads) (c ∷ cs) (d ∷ ds) p q =
       ap (λ x. x ∷ cs) (one_formed laws r c d p.0 q.0) ∙ ap (λ x. d ∷ x) (one_list reads cs ds p.1 q.1)
 
-  one_first : (reads : List Read) (i j : ℕ) (r s : Refusal) → IsFirstRefused reads i r → IsFirstRefused reads j s → (i ≡ j) × (r ≡ s)
+  one_first : (reads : List Read) (i j : ℕ) (r s : FileFault) → IsFirstRefused reads i r → IsFirstRefused reads j s → (i ≡ j) × (r ≡ s)
   one_first reads i j r s p q = by (cases_order i j)
     where
       by : (i ≡ j) ⊎ ((i < j) ⊎ (j < i)) → (i ≡ j) × (r ≡ s)
@@ -113,7 +108,7 @@ module _ (laws : Laws) where
   formed_at (r ∷ reads) (c ∷ cs) zero read all e = (c, subst (λ x. IsFormed x c) (some_same r read e) all.0)
   formed_at (r ∷ reads) (c ∷ cs) (suc i) read all e = formed_at reads cs i read all.1 e
 
-  none_refused : (reads : List Read) (cs : List Class) (i : ℕ) (r : Refusal) → AreFormed reads cs → IsFirstRefused reads i r → ⊥
+  none_refused : (reads : List Read) (cs : List Class) (i : ℕ) (r : FileFault) → AreFormed reads cs → IsFirstRefused reads i r → ⊥
   none_refused reads cs i r all first =
       let formed = formed_at reads cs i first.read all first.here in
       not_refused laws first.read formed.0 r formed.1 first.refused
@@ -123,10 +118,10 @@ module _ (laws : Laws) where
   one_judged : (classes : List ClassFact) (c : Class) (text other : List ℕ) (status next : ℕ)
       → HierarchySays classes c text status → HierarchySays classes c other next → (text ≡ other) × (status ≡ next)
   one_judged classes c text other status next (inl (f, m, p, t, s)) (inl (g, n, q, u, v)) =
-      let same = laws.one_hierarchy_fault classes f g (not_memory f m) (not_memory g n) p q in
+      let same = laws.one_hierarchy_fault classes f g m n p q in
       (t ∙ same_refusal f g same.0 same.1 ∙ sym u, s ∙ sym v)
-  one_judged classes c text other status next (inl (f, m, p, t, s)) (inr (h, q)) = absurd (laws.not_hierarchy classes f (not_memory f m) p h)
-  one_judged classes c text other status next (inr (h, p)) (inl (g, n, q, u, v)) = absurd (laws.not_hierarchy classes g (not_memory g n) q h)
+  one_judged classes c text other status next (inl (f, m, p, t, s)) (inr (h, q)) = absurd (laws.not_hierarchy classes f m p h)
+  one_judged classes c text other status next (inr (h, p)) (inl (g, n, q, u, v)) = absurd (laws.not_hierarchy classes g n q h)
   one_judged classes c text other status next (inr (h, (rs, p, t, s))) (inr (k, (qs, q, u, v))) =
       let report = laws.one_report classes c rs qs p q in
       let same = same_lines rs qs report.all report.each in

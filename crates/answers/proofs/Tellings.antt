@@ -1,10 +1,12 @@
 -- An answer of what is told is an answer of what is said.
-use Rattle.std.proofs.Common.{◌≡◌, ℕ, List, Option, Result, Ok, Err, inl, inr}
+use Rattle.std.proofs.Common.{◌≡◌, ◌≢◌, ℕ, List, Option, Result, Ok, Err, refl, inl, inr}
 use Rattle.classfile.specs.Values.{Class}
 use Rattle.answers.specs.Answers.{Answered, FileSays}
-use Rattle.answers.specs.Files.{Read, IsFormed, IsRefused, refusal_status}
+use Rattle.verify.specs.declared.files.FileFault.{FileFault}
+use Rattle.verify.specs.declared.files.FileFault.TheVariants as faults
+use Rattle.verify.specs.Files.{Read, IsFormed, IsRefused, OrMemory}
+use Rattle.answers.specs.Files.{refusal_status}
 use Rattle.answers.specs.Texts.{refusal_line}
-use Rattle.answers.specs.declared.refusal.Refusal.{Refusal}
 use Rattle.answers.specs.declared.fault.AnswerFault.{AnswerFault}
 use Rattle.answers.specs.declared.fault.AnswerFault.TheVariants.{OutOfMemory, WriteFailed}
 
@@ -22,9 +24,16 @@ of_class Tells read c P formed tells old new r told =
     answered_more P (FileSays Tells read) (λ text status p. inl (c, formed, tells text status p)) old new r told
 
 -- of a file that is refused
-pub of_refusal : (Tells : Class → List ℕ → ℕ → Type 0) (read : Read) (refusal : Refusal) → IsRefused read refusal
+refused : (read : Read) (fault : FileFault) → OrMemory read fault → fault ≢ faults.OutOfMemory → IsRefused read fault
+refused read faults.OutOfMemory p no = absurd (no refl)
+refused read (faults.Unread e) p no = p
+refused read (faults.NoClass e) p no = p
+refused read (faults.Malformed rule place) p no = p
+
+pub of_refusal : (Tells : Class → List ℕ → ℕ → Type 0) (read : Read) (fault : FileFault) → OrMemory read fault
     → (old new : Option (List ℕ)) (r : Result ℕ AnswerFault)
-    → Answered (λ t s. (t ≡ refusal_line refusal) × (s ≡ refusal_status refusal)) old new r → Answered (FileSays Tells read) old new r
-of_refusal Tells read refusal refused old new r told =
-    answered_more (λ t s. (t ≡ refusal_line refusal) × (s ≡ refusal_status refusal)) (FileSays Tells read)
-    (λ text status p. inr (refusal, refused, p.0, p.1)) old new r told
+    → Answered (λ t s. (fault ≢ faults.OutOfMemory) × (t ≡ refusal_line fault) × (s ≡ refusal_status fault)) old new r
+    → Answered (FileSays Tells read) old new r
+of_refusal Tells read fault why old new r told =
+    answered_more (λ t s. (fault ≢ faults.OutOfMemory) × (t ≡ refusal_line fault) × (s ≡ refusal_status fault)) (FileSays Tells read)
+    (λ text status p. inr (fault, refused read fault why p.0, p.1, p.2)) old new r told

@@ -1,7 +1,7 @@
 -- What follows of the definition of answers alone: a command has one answer.
 use Rattle.std.specs.Prelude.{◌≡◌, ℕ, List}
 use Rattle.answers.specs.Answers.{Says}
-use Rattle.answers.specs.Files.{Read}
+use Rattle.verify.specs.Files.{Read}
 use Rattle.answers.specs.declared.command.Command.{Command}
 
 abbrev pub OneAnswer : Type 0

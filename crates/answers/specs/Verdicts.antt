@@ -1,5 +1,5 @@
 -- What `verify` says of a class and of the classes that it may refer to.
-use Rattle.std.specs.Prelude.{◌≡◌, ◌⊎◌, ℕ, ◌+◌, ◌<◌, Bool, true, false, if◌then◌else◌, List, [], ◌∷◌, ◌++◌, map, slice_get, codes, decimal, Some}
+use Rattle.std.specs.Prelude.{◌≡◌, ◌≢◌, ◌⊎◌, ℕ, ◌+◌, Bool, true, false, if◌then◌else◌, List, [], ◌∷◌, ◌++◌, map, codes, decimal}
 use Rattle.std.specs.List.{flat_map, list_any}
 use Rattle.classfile.specs.Values.{Class}
 use Rattle.hierarchy.specs.declared.fault.HierarchyFault.{HierarchyFault}
@@ -16,16 +16,17 @@ use Rattle.verify.specs.Reports.{IsReport}
 use Rattle.printing.specs.Faults.{at_text}
 use Rattle.printing.specs.Names.{name_text, spelled_text}
 use Rattle.answers.specs.Texts.{refusal_text}
-use Rattle.answers.specs.Files.{Read, IsFormed, IsRefused, refusal_status}
-use Rattle.answers.specs.declared.refusal.Refusal.{Refusal}
+use Rattle.verify.specs.declared.files.FileFault.{FileFault}
+use Rattle.verify.specs.Files.{Read, IsFormed, IsRefused, AreFormed, IsFirstRefused}
+use Rattle.answers.specs.Files.{refusal_status}
 
 -- ---- texts
 
-abbrev pub class_refusal : Refusal → List ℕ
+abbrev pub class_refusal : FileFault → List ℕ
 class_refusal r = codes "class refused " ++ (refusal_text r ++ codes "\n")
 
 -- of the known class of this number; they count from 1
-abbrev pub known_refusal : ℕ → Refusal → List ℕ
+abbrev pub known_refusal : ℕ → FileFault → List ℕ
 known_refusal number r = codes "known " ++ (decimal number ++ (codes " refused " ++ (refusal_text r ++ codes "\n")))
 
 -- the name of the class that has the fault, where it has one
@@ -59,34 +60,7 @@ is_refusal (Refused at why) = true
 abbrev pub report_status : List MethodVerdict → ℕ
 report_status rs = if list_any (λ r. is_refusal r.verdict) rs then 1 else 0
 
-abbrev pub is_memory : HierarchyFault → Bool
-is_memory OutOfMemory = true
-is_memory (ClassTwice name) = false
-is_memory (Cycle name) = false
-is_memory (SuperMissing name) = false
-is_memory NoObject = false
-is_memory (BadArrayInterface name) = false
-is_memory TooManyClasses = false
-is_memory (InterfaceSuper name) = false
-
 -- ---- what is said
-
--- the classes that the files are
-abbrev pub AreFormed : List Read → List Class → Type 0
-AreFormed [] [] = Unit {0}
-AreFormed (read ∷ reads) (c ∷ cs) = IsFormed read c × AreFormed reads cs
-AreFormed _ _ = ⊥
-
--- the first file that is refused
-pub record IsFirstRefused (reads : List Read) (i : ℕ) (r : Refusal) : Type 0 where
-  pub read : Read
-  pub here : slice_get reads i ≡ Some read
-  pub refused : IsRefused read r
-  pub earlier : (j : ℕ) → j < i → (other : Read) → slice_get reads j ≡ Some other → (c : Class) × IsFormed other c
-
--- the first is the summary of the class
-abbrev pub BeginWith : List ClassFact → Class → Type 0
-BeginWith classes c = (others : List ClassFact) × (classes ≡ summary_of c ∷ others)
 
 -- the verdicts on the methods of a class
 abbrev pub ReportSays : List ClassFact → Class → List ℕ → ℕ → Type 0
@@ -95,16 +69,16 @@ ReportSays classes c text status = (rs : List MethodVerdict) × IsReport classes
 -- Of a class and of the summaries of all: why they are no hierarchy, or the verdicts on its methods.
 abbrev pub HierarchySays : List ClassFact → Class → List ℕ → ℕ → Type 0
 HierarchySays classes c text status =
-    ((f : HierarchyFault) × (is_memory f ≡ false) × FaultOf classes f × (text ≡ hierarchy_refusal f) × (status ≡ 1))
+    ((f : HierarchyFault) × (f ≢ OutOfMemory) × FaultOf classes f × (text ≡ hierarchy_refusal f) × (status ≡ 1))
     ⊎ (IsHierarchy classes × ReportSays classes c text status)
 
 -- Of a class and the files of the known ones: the first of these that is refused, or what is said of all.
 abbrev pub KnownSays : Class → List Read → List ℕ → ℕ → Type 0
 KnownSays c known text status =
-    ((i : ℕ) × (r : Refusal) × IsFirstRefused known i r × (text ≡ known_refusal (i + 1) r) × (status ≡ refusal_status r))
+    ((i : ℕ) × (r : FileFault) × IsFirstRefused known i r × (text ≡ known_refusal (i + 1) r) × (status ≡ refusal_status r))
     ⊎ ((cs : List Class) × AreFormed known cs × HierarchySays (map summary_of (c ∷ cs)) c text status)
 
 abbrev pub VerifySays : Read → List Read → List ℕ → ℕ → Type 0
 VerifySays read known text status =
-    ((r : Refusal) × IsRefused read r × (text ≡ class_refusal r) × (status ≡ refusal_status r))
+    ((r : FileFault) × IsRefused read r × (text ≡ class_refusal r) × (status ≡ refusal_status r))
     ⊎ ((c : Class) × IsFormed read c × KnownSays c known text status)

@@ -3,12 +3,13 @@ ghost use Rattle.answers.specs.Answers.{Answered, CheckTells, FileSays};
 ghost use Rattle.answers.specs.Files.{read_view};
 
 use crate::fault::AnswerFault;
-use crate::forming::class_of;
+use crate::reads::file_read;
 use crate::telling::{refuse, tell};
 use layout::StreamFault;
 use printing::Word;
 use std::alloc::Global;
 use std::io::Write;
+use verify::class_file;
 
 /// Answers `check` of a file that was read so.
 pub fn check<W: Write>(
@@ -18,9 +19,8 @@ pub fn check<W: Write>(
 ) -> Result<u8, AnswerFault>
     ensures { Answered (FileSays CheckTells (read_view read.now)) (W.contents out.old) (W.contents out.new) result }
 {
-    match class_of(alloc, read) {
-        Ok(Ok(_)) => tell(&Word("ok\n"), 0, out),
-        Ok(Err(refusal)) => refuse(refusal, out),
-        Err(fault) => Err(fault),
+    match class_file(alloc, file_read(read)) {
+        Ok(_) => tell(&Word("ok\n"), 0, out),
+        Err(fault) => refuse(fault, out),
     }
 }

@@ -2,6 +2,7 @@
 ghost use Rattle.std.specs.Prelude.{◌≡◌};
 
 use printing::WriteFailed;
+use std::alloc::{AllocError, AllocFailed};
 use thiserror::Error;
 
 /// Why an answer was not written whole.
@@ -22,5 +23,25 @@ impl From<WriteFailed> for AnswerFault {
 
     fn from(_failed: WriteFailed) -> AnswerFault {
         AnswerFault::WriteFailed
+    }
+}
+
+impl From<AllocError> for AnswerFault {
+    ghost use Rattle.answers.specs.declared.fault.AnswerFault.TheVariants as faults;
+
+    ghost from_gives = { λ _ e. e ≡ faults.OutOfMemory };
+
+    fn from(_error: AllocError) -> AnswerFault {
+        AnswerFault::OutOfMemory
+    }
+}
+
+impl<T: Drop> From<AllocFailed<T>> for AnswerFault {
+    ghost use Rattle.answers.specs.declared.fault.AnswerFault.TheVariants as faults;
+
+    ghost from_gives = { λ _ e. e ≡ faults.OutOfMemory };
+
+    fn from(_failed: AllocFailed<T>) -> AnswerFault {
+        AnswerFault::OutOfMemory
     }
 }

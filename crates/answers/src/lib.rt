@@ -1,15 +1,15 @@
 //! What is answered of files, once they are read: a text and a status.
 //!
 //! `answer` (`answering`) answers each [`Command`], with a module for each: `checking`, `showing`, `verifying`. What is
-//! said is decided first (`forming`), and then written (`telling`, `refusal`, `verdicts`).
+//! said is decided by the verifier, of files as they were read (`reads`), and then written (`telling`, `refusal`, `verdicts`).
 #![tactic(auto)]
 
 mod answering;
 mod checking;
 mod command;
 mod fault;
-mod forming;
 mod laws;
+mod reads;
 mod refusal;
 mod showing;
 mod telling;

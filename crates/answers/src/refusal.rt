@@ -3,43 +3,38 @@ ghost use Rattle.std.specs.Prelude.{◌≡◌};
 ghost use Rattle.answers.specs.Texts.{refusal_text};
 ghost use Rattle.answers.specs.Files.{refusal_status};
 
-use classfile::{FormRule, Place};
 use layout::ReadFault;
-use printing::{Number, Print, Then, WriteFailed};
+use printing::{Number, Print, Then, Word, WriteFailed};
 use std::io::Write;
+use verify::FileFault;
 
-/// Why a file is no class that is well formed.
+/// Why a file is no class that is well formed, as it is written.
 #[derive(Clone, Copy)]
-pub enum Refusal {
-    /// The file could not be read.
-    Unread { fault: ReadFault },
-    /// The file is no class file.
-    NoClass { fault: ReadFault },
-    /// The class file is not well formed.
-    Malformed { rule: FormRule, place: Place },
-}
+pub struct Refusal(pub FileFault);
 
 impl Refusal {
     /// The status that the program ends with: 2 where the file could not be read, as far as that shows.
     pub fn status(&self) -> u8
-        ensures { result ≡ refusal_status self.now }
+        ensures { result ≡ refusal_status self.now.0 }
     {
-        match self {
-            Refusal::Unread {
-                fault: ReadFault::ReadFailed { .. },
-            } => 2,
-            Refusal::Unread { .. } | Refusal::NoClass { .. } | Refusal::Malformed { .. } => 1,
+        match self.0 {
+            FileFault::Unread(ReadFault::ReadFailed { .. }) => 2,
+            FileFault::OutOfMemory
+            | FileFault::Unread(_)
+            | FileFault::NoClass(_)
+            | FileFault::Malformed { .. } => 1,
         }
     }
 }
 
 impl Print for Refusal {
-    ghost text = { refusal_text };
+    ghost text = { λ t. refusal_text t.0 };
 
     fn put<W: Write>(&self, out: &mut W) -> Result<(), WriteFailed> {
-        match *self {
-            Refusal::Unread { fault } | Refusal::NoClass { fault } => fault.put(out),
-            Refusal::Malformed { rule, place } => {
+        match self.0 {
+            FileFault::OutOfMemory => Word("1").put(out),
+            FileFault::Unread(fault) | FileFault::NoClass(fault) => fault.put(out),
+            FileFault::Malformed { rule, place } => {
                 Then(Number(u64::from(rule.number())), place).put(out)
             }
         }

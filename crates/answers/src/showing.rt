@@ -3,12 +3,13 @@ ghost use Rattle.answers.specs.Answers.{Answered, ShowTells, FileSays};
 ghost use Rattle.answers.specs.Files.{read_view};
 
 use crate::fault::AnswerFault;
-use crate::forming::class_of;
+use crate::reads::file_read;
 use crate::telling::{refuse, tell};
 use layout::StreamFault;
 use printing::Listing;
 use std::alloc::Global;
 use std::io::Write;
+use verify::class_file;
 
 /// Answers `show` of a file that was read so.
 pub fn show<W: Write>(
@@ -18,12 +19,11 @@ pub fn show<W: Write>(
 ) -> Result<u8, AnswerFault>
     ensures { Answered (FileSays ShowTells (read_view read.now)) (W.contents out.old) (W.contents out.new) result }
 {
-    match class_of(alloc, read) {
-        Ok(Ok(class)) => {
+    match class_file(alloc, file_read(read)) {
+        Ok(class) => {
             let listing = Listing(&class);
             tell(&listing, u8::from(listing.is_refused()), out)
         }
-        Ok(Err(refusal)) => refuse(refusal, out),
-        Err(fault) => Err(fault),
+        Err(fault) => refuse(fault, out),
     }
 }

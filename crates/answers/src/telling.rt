@@ -1,5 +1,6 @@
 //! Writes what was decided.
-ghost use Rattle.std.specs.Prelude.{◌≡◌};
+ghost use Rattle.std.specs.Prelude.{◌≡◌, ◌≢◌};
+ghost use Rattle.verify.specs.declared.files.FileFault.TheVariants.{OutOfMemory};
 ghost use Rattle.answers.specs.Answers.{Answered};
 ghost use Rattle.answers.specs.Files.{refusal_status};
 ghost use Rattle.answers.specs.Texts.{refusal_line};
@@ -8,6 +9,7 @@ use crate::fault::AnswerFault;
 use crate::refusal::Refusal;
 use printing::{Print, Then, Word};
 use std::io::Write;
+use verify::FileFault;
 
 /// Writes a text, with which this status goes.
 pub fn tell<T: Print, W: Write>(text: &T, status: u8, out: &mut W) -> Result<u8, AnswerFault>
@@ -20,12 +22,13 @@ pub fn tell<T: Print, W: Write>(text: &T, status: u8, out: &mut W) -> Result<u8,
 }
 
 /// Writes why a file is refused.
-pub fn refuse<W: Write>(refusal: Refusal, out: &mut W) -> Result<u8, AnswerFault>
-    ensures { Answered (λ t s. (t ≡ refusal_line refusal) × (s ≡ refusal_status refusal)) (W.contents out.old) (W.contents out.new) result }
+pub fn refuse<W: Write>(fault: FileFault, out: &mut W) -> Result<u8, AnswerFault>
+    ensures { Answered (λ t s. (fault ≢ OutOfMemory) × (t ≡ refusal_line fault) × (s ≡ refusal_status fault)) (W.contents out.old) (W.contents out.new) result }
 {
-    tell(
-        &Then(Word("refused "), Then(refusal, Word("\n"))),
-        refusal.status(),
-        out,
-    )
+    if let FileFault::OutOfMemory = fault {
+        return Err(AnswerFault::OutOfMemory);
+    }
+    let refusal = Refusal(fault);
+    let line = Then(Word("refused "), Then(refusal, Word("\n")));
+    tell(&line, refusal.status(), out)
 }

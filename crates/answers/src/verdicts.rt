@@ -15,7 +15,7 @@ use verify::{MethodVerdict, Verdict};
 pub struct ClassRefusal(pub Refusal);
 
 impl Print for ClassRefusal {
-    ghost text = { λ t. class_refusal t.0 };
+    ghost text = { λ t. class_refusal t.0.0 };
 
     fn put<W: Write>(&self, out: &mut W) -> Result<(), WriteFailed> {
         Then(Word("class refused "), Then(self.0, Word("\n"))).put(out)
@@ -31,7 +31,7 @@ pub struct KnownRefusal {
 }
 
 impl Print for KnownRefusal {
-    ghost text = { λ t. known_refusal t.number t.refusal };
+    ghost text = { λ t. known_refusal t.number t.refusal.0 };
 
     fn put<W: Write>(&self, out: &mut W) -> Result<(), WriteFailed> {
         Then(
@@ -108,9 +108,9 @@ impl<'a> Print for VerdictText<'a> {
 
 /// The verdicts on the methods of a class.
 #[derive(Clone, Copy)]
-pub struct Report<'r, 'a>(pub &'r [MethodVerdict<'a>]);
+pub struct ReportText<'r, 'a>(pub &'r [MethodVerdict<'a>]);
 
-impl<'r, 'a> Lines<MethodVerdict<'a>> for Report<'r, 'a> {
+impl<'r, 'a> Lines<MethodVerdict<'a>> for ReportText<'r, 'a> {
     ghost line = { λ t r. verdict_line r };
 
     fn put_line<W: Write>(&self, item: &MethodVerdict<'a>, out: &mut W) -> Result<(), WriteFailed> {
@@ -131,7 +131,7 @@ impl<'r, 'a> Lines<MethodVerdict<'a>> for Report<'r, 'a> {
     }
 }
 
-impl<'r, 'a> Print for Report<'r, 'a> {
+impl<'r, 'a> Print for ReportText<'r, 'a> {
     ghost text = { λ t. flat_map verdict_line t.0.now };
 
     fn put<W: Write>(&self, out: &mut W) -> Result<(), WriteFailed> {
@@ -149,7 +149,7 @@ fn is_refusal(verdict: &Verdict<'_>) -> bool
     }
 }
 
-impl<'r, 'a> Report<'r, 'a> {
+impl<'r, 'a> ReportText<'r, 'a> {
     /// The status that goes with it: 1 where a method is refused.
     pub fn status(&self) -> u8
         ensures { result ≡ report_status self.now.0.now }

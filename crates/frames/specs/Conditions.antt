@@ -7,10 +7,13 @@ pub data Reason : Type 0 where
   reason : (number : ℕ) → Reason
   -- 77: a comparison needs a class that the hierarchy has not
   class_missing : (name : List ℕ) → Reason
+  -- 78 or 79, with the number of the fault of the stack map or of the code
+  with_fault : (number fault : ℕ) → Reason
 
 abbrev pub number_of : Reason → ℕ
 number_of (reason number) = number
 number_of (class_missing name) = 77
+number_of (with_fault number fault) = number
 
 abbrev pub Conditions : Type 0
 Conditions = List (Reason × Bool)

@@ -127,6 +127,19 @@ end_reads view old new (none, same) = ap (λ bytes. reading_from (length bytes) 
     nothing : (at : ℕ) → reading_from 0 at [] ≡ Ok []
     nothing at = refl
 
+-- where bytes are left, so is an instruction, or a fault
+no_front : (x : ℕ × Instruction) (r : Reading) → behind x r ≡ Ok [] → ⊥
+no_front x (Ok ys) e = cc
+no_front x (Err fault) e = cc
+
+pub some_left : (p : Place) → 0 < length p.rest → reading_at p ≡ Ok [] → ⊥
+unfolding reading_at
+some_left p more e = by (judged p.at (reads (instruction_at p.at) p.at p.rest)) refl
+  where
+    by : (r : Result (Instruction × Place) CodeFault) → judged p.at (reads (instruction_at p.at) p.at p.rest) ≡ r → ⊥
+    by (Ok x) is = no_front (p.at, x.0) (reading_from (length x.1.rest) x.1.at x.1.rest) (sym (one_step p.at p.rest (Ok x) more is) ∙ e)
+    by (Err fault) is = let none : Err fault ≡ (let r : Reading = Ok [] in r) = sym (one_step p.at p.rest (Err fault) more is) ∙ e in cc
+
 -- all of the code
 pub whole_reading : (code : List ℕ) → reading_of code ≡ reading_at (record { at = 0; rest = code })
 unfolding reading_of reading_at

@@ -34,6 +34,14 @@ reading_from (suc n) at (b ∷ bytes) = reading_behind (reading_from n) at (judg
 unfoldable pub reading_of : List ℕ → Reading
 reading_of code = reading_from (length code) 0 code
 
+-- the instructions of code; none where it has a fault
+abbrev pub or_none : Reading → List (ℕ × Instruction)
+or_none (Ok instructions) = instructions
+or_none (Err fault) = []
+
+abbrev pub instructions_in : List ℕ → List (ℕ × Instruction)
+instructions_in code = or_none (reading_of code)
+
 -- they say of each code the same
 pub record ReadingsAreSpellings : Type 0 where
   pub is : (code : List ℕ) → IsReading code (reading_of code)

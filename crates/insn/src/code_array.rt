@@ -29,6 +29,8 @@ impl<'a> Model for Instructions<'a> {
 }
 
 impl<'a> Instructions<'a> {
+    ghost use Rattle.std.specs.Prelude.{length, nat_eq};
+
     /// The instructions of this code, from its first byte on.
     pub fn new(code: &'a [u8]) -> Self
         ensures { result ≡ record { at = 0; rest = code.now } }
@@ -36,6 +38,13 @@ impl<'a> Instructions<'a> {
         Instructions {
             cursor: Cursor::new(code),
         }
+    }
+
+    /// Whether no byte is left.
+    pub fn is_at_end(&self) -> bool
+        ensures { result ≡ nat_eq (length self.now.rest) 0 }
+    {
+        self.cursor.rest().is_empty()
     }
 }
 

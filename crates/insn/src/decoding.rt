@@ -12,8 +12,8 @@ use crate::fault::CodeFault;
 use crate::instruction::Insn;
 use std::alloc::Global;
 
-/// How many instructions this code has; or the fault of the first that is none, 31 to 35.
-fn count(code: &[u8]) -> Result<usize, CodeFault>
+/// How many instructions this code has; or the fault of the first that is none, 31 to 35. Takes no memory.
+pub fn count_instructions(code: &[u8]) -> Result<usize, CodeFault>
     ensures found { IfOk result (λ n. (xs : List (ℕ × Instruction)) × SpellsCode 0 code.now xs × (length xs ≡ n)) }
     ensures fault { IfErr result (λ e. FaultyCode code.now e) }
 {
@@ -39,7 +39,7 @@ pub fn decode_code<'a>(alloc: Global, code: &'a [u8]) -> Result<Vec<(u16, Insn<'
     // Which fault it is.
     ensures fault { IfErr result (λ e. UnlessMemory e (FaultyCode code.now e)) }
 {
-    let mut list = Vec::with_capacity(alloc, count(code)?)?;
+    let mut list = Vec::with_capacity(alloc, count_instructions(code)?)?;
     for step in Instructions::new(code) {
         let (at, insn) = step?;
         list.push((at as u16, insn))?;

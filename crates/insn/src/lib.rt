@@ -38,7 +38,7 @@ mod table;
 mod writing;
 
 pub use code_array::Instructions;
-pub use decoding::decode_code;
+pub use decoding::{count_instructions, decode_code};
 pub use encoding::encode_code;
 pub use fault::CodeFault;
 pub use instruction::{Insn, Operands, is_start, mnemonic};

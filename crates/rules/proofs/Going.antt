@@ -1,5 +1,5 @@
 -- Where an instruction goes that is not refused: as its act says, whatever the method.
-use Rattle.std.proofs.Common.{◌≡◌, ℕ, Bool, true, false, List, Option, Some, None, refl, if◌then◌else◌}
+use Rattle.std.proofs.Common.{◌≡◌, ◌∙◌, ℕ, Bool, true, false, List, Option, Some, None, Ok, refl, sym, ap, subst, if◌then◌else◌}
 use Rattle.names.specs.Descriptors.{FieldDescriptor, primitive, class as class_descriptor, array as array_descriptor}
 use Rattle.classfile.specs.Methods.{Method}
 use Rattle.hierarchy.specs.Class.{ClassFact}
@@ -10,7 +10,8 @@ use Rattle.insn.specs.declared.operation.Kind.{Kind}
 use Rattle.insn.specs.Meanings as acts
 use Rattle.insn.specs.Meanings.{Act}
 use Rattle.insn.specs.Stacks.{same_kind, computed_as}
-use Rattle.frames.specs.FrameFact.{FrameFact}
+use Rattle.frames.specs.declared.frame.Frame.{Frame}
+use Rattle.frames.specs.FrameFact.{FrameFact, frame_of}
 use Rattle.frames.specs.Conditions.{least}
 use Rattle.rules.specs.Plans.{Plan, number, refuses, falls, offsets_of}
 use Rattle.rules.specs.Constants.{load_wide_constant}
@@ -18,6 +19,10 @@ use Rattle.rules.specs.Table.{plan, return_number, return_nothing, leaves_with}
 use Rattle.rules.specs.Rules.{conditions, constructs_own}
 use Rattle.insn.specs.Supported.{as_supported}
 use Rattle.rules.specs.Ways.{goes_on, branch_offsets}
+use Rattle.rules.specs.After.{after}
+use Rattle.rules.specs.Applied.{Applied, targets_of}
+use Rattle.rules.specs.declared.branching.BranchTargets.{BranchTargets}
+use Rattle.insn.specs.Offsets.{led_to}
 
 -- the plan goes where the act says
 pub record Goes (a : Act) (p : Plan) : Type 0 where
@@ -185,3 +190,27 @@ no_own m f acts.Unsupported = refl
 no_own m f (acts.LoadWideConstant i) = wide_own f (constant_at m.constant_pool i)
 no_own m f (acts.Return kind) = back_own f kind m.type.result
 no_own m f acts.ReturnVoid = nothing_own f m.type.result
+
+-- ---- what is applied
+
+pub applied : (cs : List ClassFact) (m : Method Act) (at : ℕ) (f w new : FrameFact) (a b : Act) (frame : Frame) (t : BranchTargets) (on : Bool)
+    → b ≡ a → w ≡ f
+    → (least (conditions cs m at (plan m (as_supported b)) w) ≡ None) × (new ≡ after m at (plan m (as_supported b)) w)
+    → frame_of frame ≡ new → targets_of t ≡ led_to at (branch_offsets a) → on ≡ goes_on a
+    → Applied cs m at (plan m (as_supported a)) f (Ok (record { frame = frame; targets = t; falls = on; own = false }))
+applied cs m at f w new a b frame t on act_is frame_is done held_is to goes_is =
+    let none : least (conditions cs m at (plan m (as_supported a)) f) ≡ None =
+    subst (λ x. least (conditions cs m at (plan m (as_supported x)) f) ≡ None) act_is
+    (subst (λ x. least (conditions cs m at (plan m (as_supported b)) x) ≡ None) frame_is done.0) in
+    let way = goes cs m at f a none in
+    record {
+      outcome = (
+        none,
+        record {
+          frame_is = held_is ∙ done.1 ∙ ap (after m at (plan m (as_supported b))) frame_is ∙ ap (λ x. after m at (plan m (as_supported x)) f) act_is;
+          targets_are = to ∙ ap (led_to at) way.branches_are;
+          falls_is = goes_is ∙ way.falls_is;
+          own_is = sym (no_own m f a);
+        },
+      );
+    }

@@ -1,17 +1,20 @@
 -- What `apply` answers.
-use Rattle.std.specs.Prelude.{◌≡◌, ◌⊎◌, ℕ, ℤ, List, [], ◌∷◌, Some, None, Result, MatchResult}
+use Rattle.std.specs.Prelude.{◌≡◌, ◌⊎◌, ℕ, ℤ, Bool, List, [], ◌∷◌, Some, None, Result, MatchResult}
 use Rattle.hierarchy.specs.Class.{ClassFact}
 use Rattle.classfile.specs.Methods.{Method}
 use Rattle.insn.specs.Meanings.{Act}
+use Rattle.insn.specs.Offsets.{led_to}
 use Rattle.insn.specs.Views.{targets_view}
 use Rattle.frames.specs.FrameFact.{FrameFact, frame_of}
 use Rattle.frames.specs.Conditions.{least}
 use Rattle.rules.specs.declared.branching.Branches.{Branches}
 use Rattle.rules.specs.declared.branching.Branches.TheVariants.{Nowhere, One, Switch}
+use Rattle.rules.specs.declared.branching.BranchTargets.{BranchTargets}
 use Rattle.rules.specs.declared.applying.After.{After}
 use Rattle.rules.specs.declared.applying.Refusal.{Refusal}
-use Rattle.rules.specs.declared.reason.Reason.TheVariants.{OutOfMemory}
-use Rattle.rules.specs.Plans.{Plan, falls, offsets_of}
+use Rattle.rules.specs.declared.reason.Reason.{Reason}
+use Rattle.rules.specs.declared.reason.Reason.TheVariants.{OutOfMemory, ClassMissing}
+use Rattle.rules.specs.Plans.{Plan, falls, targets}
 use Rattle.rules.specs.After.{after}
 use Rattle.rules.specs.Rules.{conditions, constructs_own}
 use Rattle.rules.specs.Reasons.{reason_view}
@@ -21,15 +24,24 @@ branches_view Nowhere = []
 branches_view (One offset) = offset ∷ []
 branches_view (Switch default where_to) = default ∷ targets_view where_to
 
+-- the offsets of instructions to which one branches
+abbrev pub targets_of : BranchTargets → List ℤ
+targets_of t = led_to t.at (branches_view t.branches)
+
 -- what is left where no condition holds
 pub record Leaves (m : Method Act) (at : ℕ) (p : Plan) (f : FrameFact) (a : After) : Type 0 where
   pub frame_is : frame_of a.frame ≡ after m at p f
-  pub branches_are : branches_view a.branches ≡ offsets_of p
+  pub targets_are : targets_of a.targets ≡ targets at p
   pub falls_is : a.falls ≡ falls p
   pub own_is : a.own ≡ constructs_own p f
+
+-- of a missing class it is said whether the own object is constructed
+abbrev pub TellsOwn : Plan → FrameFact → Reason → Bool → Type 0
+TellsOwn p f (ClassMissing name) own = own ≡ constructs_own p f
+TellsOwn p f _ own = Unit {0}
 
 -- After exactly where no condition holds; otherwise the least reason, or want of memory.
 pub record Applied (classes : List ClassFact) (m : Method Act) (at : ℕ) (p : Plan) (f : FrameFact) (r : Result After Refusal) : Type 0 where
   pub outcome : MatchResult r
       (λ a. (least (conditions classes m at p f) ≡ None) × Leaves m at p f a)
-      (λ e. (e.own ≡ constructs_own p f) × ((e.reason ≡ OutOfMemory) ⊎ (least (conditions classes m at p f) ≡ Some (reason_view e.reason))))
+      (λ e. TellsOwn p f e.reason e.own × ((e.reason ≡ OutOfMemory) ⊎ (least (conditions classes m at p f) ≡ Some (reason_view e.reason))))

@@ -1,6 +1,6 @@
 -- The program's reasons, and their numbers.
 use Rattle.std.specs.Prelude.{ℕ}
-use Rattle.frames.specs.Conditions.{Reason as Refusing, reason, class_missing}
+use Rattle.frames.specs.Conditions.{Reason as Refusing, reason, class_missing, with_fault}
 use Rattle.rules.specs.declared.reason.Reason.{Reason}
 use Rattle.rules.specs.declared.reason.Reason.TheVariants.{OutOfMemory, NotSupported, MissingOperand, WrongOperand, WrongLocal, LocalOutOfRange, StackOver, WrongConstant, NoFrameAtTarget, NotAssignableAtTarget, NotAssignable, NoFrame, FallsOff, BadException, HandlerNotAssignable, OwnObjectNotReady, ConstructorCovered, WrongReturn, ClassMissing, BadStackMap, BadCode, ProtectedMember}
 
@@ -28,7 +28,9 @@ reason_number (BadStackMap fault) = 78
 reason_number (BadCode fault) = 79
 reason_number ProtectedMember = 82
 
--- what a reason says, the missing class by its name
+-- what a reason says: the missing class by its name, and the fault of a stack map or of code by its number
 abbrev pub reason_view : Reason → Refusing
 reason_view (ClassMissing name) = class_missing name.now
+reason_view (BadStackMap fault) = with_fault 78 fault
+reason_view (BadCode fault) = with_fault 79 fault
 reason_view e = reason (reason_number e)

@@ -15,7 +15,7 @@ use Rattle.frames.specs.Assignable.{type_answer}
 use Rattle.frames.specs.FrameAssignable.{both}
 use Rattle.frames.specs.DeclaredFrames.{is_uninit_this}
 use Rattle.frames.specs.Slots.{number_type, to_reference, units_of}
-use Rattle.frames.specs.Conditions.{Reason, reason, class_missing, Conditions, is_no, missing_if}
+use Rattle.frames.specs.Conditions.{Reason, reason, class_missing, with_fault, Conditions, is_no, missing_if}
 use Rattle.rules.specs.Plans.{Want, number, assignable_to, any_reference, any_array, any_array_for, own_or_assignable_to, Plan, pops, loads, stores, counts, rearranges, loads_element, makes, constructs, calls_special, returns, refuses}
 use Rattle.rules.specs.Table.{class_made_at, object_array}
 use Rattle.rules.specs.After.{top_of, local_of, form_for, is_made_at, after}
@@ -140,6 +140,7 @@ family classes m at (refuses n) f = (reason n, true) ∷ []
 abbrev pub is_missing_class : Reason → Bool
 is_missing_class (reason n) = false
 is_missing_class (class_missing name) = true
+is_missing_class (with_fault n fault) = false
 
 -- the rule gives a frame, since nothing refuses it but a class that is missing
 abbrev pub gives_frame : Conditions → Bool

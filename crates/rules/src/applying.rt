@@ -8,7 +8,7 @@ ghost use Rattle.rules.specs.Table.{plan};
 ghost use Rattle.rules.specs.Bodies.{method_view};
 ghost use Rattle.rules.specs.Applied.{Applied};
 
-use crate::branching::Branches;
+use crate::branching::BranchTargets;
 use crate::environment::Env;
 use crate::reason::Reason;
 use crate::running::run;
@@ -24,8 +24,8 @@ use std::alloc::Global;
 pub struct After<'a> {
     /// The frame after it.
     pub frame: Frame<'a>,
-    /// Where it branches to.
-    pub branches: Branches<'a>,
+    /// Where it branches to: the offsets of instructions.
+    pub targets: BranchTargets<'a>,
     /// Whether it goes on to the next instruction.
     pub falls: bool,
     /// Whether it is an instance initialization method's call on the own object.
@@ -37,7 +37,7 @@ pub struct After<'a> {
 pub struct Refusal<'a> {
     /// The least reason.
     pub reason: Reason<'a>,
-    /// Whether it is an instance initialization method's call on the own object.
+    /// Of a reason 77: whether it is an instance initialization method's call on the own object. It says nothing of others.
     pub own: bool,
 }
 
@@ -51,17 +51,17 @@ pub fn apply<'a, C: Classes>(
     insn: &Insn<'a>,
     frame: &Frame<'a>,
 ) -> Result<After<'a>, Refusal<'a>>
-    requires { length frame.now.locals.items ≡ env.now.body.method.code.now.max_locals }
-    ensures { let m = method_view env.now.body in
+    requires { length frame.now.locals.items ≡ env.now.method.code.now.max_locals }
+    ensures { let m = method_view env.now.method in
         Applied (C.content env.now.classes.now) m at (plan m (as_supported (act (view insn.now)))) (frame_of frame.now) result }
 {
-    let Ok(mut working) = Working::from_frame(alloc, frame, env.body.method.code.max_locals) else {
+    let Ok(mut working) = Working::from_frame(alloc, frame, env.method.code.max_locals) else {
         return Err(Refusal {
             reason: Reason::OutOfMemory,
             own: false,
         });
     };
-    match run(&env.body, at, act(insn), &mut working, env.classes) {
+    match run(&env.method, at, act(insn), &mut working, env.classes) {
         Err(reason) => Err(Refusal { reason, own: false }),
         Ok(()) => match working.into_frame() {
             Err(_) => Err(Refusal {
@@ -70,7 +70,7 @@ pub fn apply<'a, C: Classes>(
             }),
             Ok(frame) => Ok(After {
                 frame,
-                branches: branches(insn),
+                targets: BranchTargets::new(at, branches(insn)),
                 falls: falls(insn),
                 own: false,
             }),

@@ -7,28 +7,28 @@ ghost use Rattle.rules.specs.Bodies.{method_view};
 ghost use Rattle.rules.specs.Held.{held};
 ghost use Rattle.rules.specs.Outcomes.{Done};
 
-use crate::body::Body;
 use crate::families::pops;
 use crate::reason::Reason;
 use crate::working::Working;
+use classfile::CodeMethod;
 use frames::VType;
 use hierarchy::Classes;
 use pool::Constant;
 
 /// `ldc2_w`
 pub fn load_wide_constant<'a, C: Classes>(
-    body: &Body<'_, '_, 'a>,
+    method: &CodeMethod<'_, 'a>,
     index: u16,
     frame: &mut Working<'a>,
     classes: &C,
 ) -> Result<(), Reason<'a>>
-    ensures { let m = method_view body.now in let f = held frame.old in
+    ensures { let m = method_view method.now in let f = held frame.old in
         let p = load_wide_constant (constant_at m.constant_pool index) in
         Done (conditions (C.content classes.now) m 0 p f) (after m 0 p f) (held frame.new) result }
 {
-    match body.method.class.constant_pool.get(index) {
-        Ok(Constant::Long { .. }) => pops(body, &[], Some(VType::Long), frame, classes),
-        Ok(Constant::Double { .. }) => pops(body, &[], Some(VType::Double), frame, classes),
+    match method.class.constant_pool.get(index) {
+        Ok(Constant::Long { .. }) => pops(method, &[], Some(VType::Long), frame, classes),
+        Ok(Constant::Double { .. }) => pops(method, &[], Some(VType::Double), frame, classes),
         Ok(Constant::Dynamic { .. }) => Err(Reason::NotSupported),
         Ok(_) | Err(_) => Err(Reason::WrongConstant),
     }

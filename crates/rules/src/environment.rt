@@ -3,13 +3,14 @@ ghost use Rattle.std.specs.Prelude.{◌≡◌, Some, IsSome};
 ghost use Rattle.classfile.specs.CodeMethods.{IsAt};
 ghost use Rattle.classfile.specs.Methods.{method_of};
 ghost use Rattle.classfile.specs.MethodParts.{code_at};
+ghost use Rattle.classfile.specs.Values.{CodeBody};
 ghost use Rattle.classfile.specs.Views.{class_view};
+ghost use Rattle.insn.specs.Code.{SpellsCode};
 ghost use Rattle.insn.specs.Offsets.{acts};
 ghost use Rattle.insn.specs.Views.{views};
 ghost use Rattle.rules.specs.Bodies.{method_view};
 
-use crate::body::Body;
-use classfile::Formed;
+use classfile::{CodeMethod, Formed};
 use hierarchy::Classes;
 use insn::Insn;
 
@@ -17,38 +18,37 @@ use insn::Insn;
 /// name.
 #[derive(Drop)]
 pub struct Env<'e, 'c, 'a, C: Classes> {
-    /// The method and its instructions.
-    pub body: Body<'e, 'c, 'a>,
+    /// The method, with its Code attribute (JVMS 4.6, 4.7.3).
+    pub method: CodeMethod<'c, 'a>,
+    /// The instructions of that code, each with the offset in bytes where it begins.
+    pub list: &'e [(u16, Insn<'a>)],
     /// The classes.
     pub classes: &'e C,
 }
 
 impl<'e, 'c, 'a, C: Classes> Env<'e, 'c, 'a, C> {
-    /// The environment of the method of this number, whose code this list is. The number, which counts from 0, is that
-    /// of a method with a Code attribute. Takes no memory.
+    /// The environment of the method of this number, whose code this list is, as [`decode_code`](insn::decode_code) answers it. The
+    /// number, which counts from 0, is that of a method with a Code attribute. Takes no memory.
     pub fn new(
         formed: &Formed<'c, 'a>,
         number: usize,
         list: &'e [(u16, Insn<'a>)],
         classes: &'e C,
     ) -> Env<'e, 'c, 'a, C>
-        requires { IsSome (code_at (class_view formed.now.class.now) number) }
+        requires coded { IsSome (code_at (class_view formed.now.class.now) number) }
+        requires listed { (body : CodeBody) → code_at (class_view formed.now.class.now) number ≡ Some body → SpellsCode 0 body.code (views list.now) }
         // It judges by what the class file says of that method, with the instructions of the list.
-        ensures method { method_of (class_view formed.now.class.now) number (acts (views list.now)) ≡ Some (method_view result.body) }
+        ensures method { method_of (class_view formed.now.class.now) number (acts (views list.now)) ≡ Some (method_view result.method) }
         // It holds what it was made of.
-        ensures here { IsAt formed.now.class.now number result.body.method }
-        ensures list { result.body.list.now ≡ list.now }
+        ensures here { IsAt formed.now.class.now number result.method }
+        ensures list { result.list.now ≡ list.now }
         ensures classes { result.classes.now ≡ classes.now }
     {
         let method = formed.method(number).unwrap();
         Env {
-            body: Body { method, list },
+            method,
+            list,
             classes,
         }
     }
 }
-
-/// A body is judged by what its class file says of the method of its number, with the instructions of its list.
-pub fn body_is_told(body: &Body<'_, '_, '_>)
-    ensures { method_of (class_view body.now.method.class.now) body.now.method.number (acts (views body.now.list.now)) ≡ Some (method_view body.now) }
-{}

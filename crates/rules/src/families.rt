@@ -12,11 +12,11 @@ ghost use Rattle.rules.specs.Held.{held};
 ghost use Rattle.rules.specs.Views.{want_view, pushed_types};
 ghost use Rattle.rules.specs.Outcomes.{Done, pushed, settled, result_kind};
 
-use crate::body::Body;
 use crate::operands::{accepts, take_numbers};
 use crate::reason::Reason;
 use crate::want::Want;
 use crate::working::Working;
+use classfile::CodeMethod;
 use frames::VType;
 use hierarchy::{Answer, Classes};
 use insn::{Kind, computed_as};
@@ -25,18 +25,18 @@ use names::{Base, FieldType};
 /// Pushes what an instruction gives, and judges what is left: 65, or 77 by the answer for its operands, which is not
 /// no.
 pub fn settle<'a>(
-    body: &Body<'_, '_, 'a>,
+    method: &CodeMethod<'_, 'a>,
     answer: Answer<'a>,
     gives: Option<VType<'a>>,
     frame: &mut Working<'a>,
 ) -> Result<(), Reason<'a>>
     ensures { let f = pushed (pushed_types gives.entry) (held frame.old) in
-        Done (settled (method_view body.now) (outcome_of answer.entry) f) f (held frame.new) result }
+        Done (settled (method_view method.now) (outcome_of answer.entry) f) f (held frame.new) result }
 {
     if let Some(t) = gives {
         frame.push(t)?;
     }
-    if frame.is_wider(body.method.code.max_stack) {
+    if frame.is_wider(method.code.max_stack) {
         return Err(Reason::StackOver);
     }
     match answer {
@@ -47,13 +47,13 @@ pub fn settle<'a>(
 
 /// Numbers of these kinds, the top first, to a result.
 pub fn pops<'a, C: Classes>(
-    body: &Body<'_, '_, 'a>,
+    method: &CodeMethod<'_, 'a>,
     kinds: &[Kind],
     gives: Option<VType<'a>>,
     frame: &mut Working<'a>,
     classes: &C,
 ) -> Result<(), Reason<'a>>
-    ensures { let m = method_view body.now in let f = held frame.old in
+    ensures { let m = method_view method.now in let f = held frame.old in
         let p = pops (numbers kinds.now) (pushed_types gives.entry) [] true in
         Done (conditions (C.content classes.now) m 0 p f) (after m 0 p f) (held frame.new) result }
 {
@@ -61,100 +61,100 @@ pub fn pops<'a, C: Classes>(
         None => Err(Reason::MissingOperand),
         Some(answer) => match answer {
             Answer::No => Err(Reason::WrongOperand),
-            _ => settle(body, answer, gives, frame),
+            _ => settle(method, answer, gives, frame),
         },
     }
 }
 
 /// A local variable onto the stack.
 pub fn loads<'a, C: Classes>(
-    body: &Body<'_, '_, 'a>,
+    method: &CodeMethod<'_, 'a>,
     want: Want,
     local: u16,
     width: usize,
     frame: &mut Working<'a>,
     classes: &C,
 ) -> Result<(), Reason<'a>>
-    requires locals { length (held frame.old).locals ≡ body.now.method.code.now.max_locals }
+    requires locals { length (held frame.old).locals ≡ method.now.code.now.max_locals }
     requires some { 1 ≤ width }
     requires few { width ≤ 2 }
-    ensures { let m = method_view body.now in let f = held frame.old in
+    ensures { let m = method_view method.now in let f = held frame.old in
         let p = loads (want_view want) local width in
         Done (conditions (C.content classes.now) m 0 p f) (after m 0 p f) (held frame.new) result }
 {
     let place = usize::from(local);
-    if usize::from(body.method.code.max_locals) < place + width {
+    if usize::from(method.code.max_locals) < place + width {
         return Err(Reason::LocalOutOfRange);
     }
     let t = frame.local(place);
     let answer = accepts(want, &t, classes);
     match answer {
         Answer::No => Err(Reason::WrongLocal),
-        _ => settle(body, answer, Some(t), frame),
+        _ => settle(method, answer, Some(t), frame),
     }
 }
 
 /// An int in a local variable that is changed.
 pub fn counts<'a, C: Classes>(
-    body: &Body<'_, '_, 'a>,
+    method: &CodeMethod<'_, 'a>,
     local: u16,
     frame: &mut Working<'a>,
     classes: &C,
 ) -> Result<(), Reason<'a>>
-    requires { length (held frame.old).locals ≡ body.now.method.code.now.max_locals }
-    ensures { let m = method_view body.now in let f = held frame.old in let p = counts local in
+    requires { length (held frame.old).locals ≡ method.now.code.now.max_locals }
+    ensures { let m = method_view method.now in let f = held frame.old in let p = counts local in
         Done (conditions (C.content classes.now) m 0 p f) (after m 0 p f) (held frame.new) result }
 {
     let place = usize::from(local);
-    if usize::from(body.method.code.max_locals) < place + 1 {
+    if usize::from(method.code.max_locals) < place + 1 {
         return Err(Reason::LocalOutOfRange);
     }
     let t = frame.local(place);
     let answer = accepts(Want::Number(Kind::Int), &t, classes);
     match answer {
         Answer::No => Err(Reason::WrongLocal),
-        _ => settle(body, answer, None, frame),
+        _ => settle(method, answer, None, frame),
     }
 }
 
 /// A return without a value, from a method without a result.
-pub fn returns<'a>(body: &Body<'_, '_, 'a>, frame: &mut Working<'a>) -> Result<(), Reason<'a>>
-    ensures { (classes : List ClassFact) → let m = method_view body.now in let f = held frame.old in
+pub fn returns<'a>(method: &CodeMethod<'_, 'a>, frame: &mut Working<'a>) -> Result<(), Reason<'a>>
+    ensures { (classes : List ClassFact) → let m = method_view method.now in let f = held frame.old in
         Done (conditions classes m 0 returns f) (after m 0 returns f) (held frame.new) result }
 {
-    if body.method.is_init && frame.flag() {
+    if method.is_init && frame.flag() {
         return Err(Reason::OwnObjectNotReady);
     }
-    settle(body, Answer::Yes, None, frame)
+    settle(method, Answer::Yes, None, frame)
 }
 
 /// A return without a value.
-pub fn return_nothing<'a>(body: &Body<'_, '_, 'a>, frame: &mut Working<'a>) -> Result<(), Reason<'a>>
-    ensures { (classes : List ClassFact) → let m = method_view body.now in let f = held frame.old in
+pub fn return_nothing<'a>(method: &CodeMethod<'_, 'a>, frame: &mut Working<'a>) -> Result<(), Reason<'a>>
+    ensures { (classes : List ClassFact) → let m = method_view method.now in let f = held frame.old in
         let p = return_nothing m.type.result in
         Done (conditions classes m 0 p f) (after m 0 p f) (held frame.new) result }
 {
-    match body.method.result_type {
-        None => returns(body, frame),
+    match method.result_type {
+        None => returns(method, frame),
         Some(_) => Err(Reason::WrongReturn),
     }
 }
 
 /// A return of a number.
 pub fn return_number<'a, C: Classes>(
-    body: &Body<'_, '_, 'a>,
+    method: &CodeMethod<'_, 'a>,
     kind: Kind,
     frame: &mut Working<'a>,
     classes: &C,
 ) -> Result<(), Reason<'a>>
-    ensures { let m = method_view body.now in let f = held frame.old in
+    ensures { let m = method_view method.now in let f = held frame.old in
         let p = return_number m.type.result kind in
         Done (conditions (C.content classes.now) m 0 p f) (after m 0 p f) (held frame.new) result }
 {
-    match number_of_result(body.method.result_type) {
+    match number_of_result(method.result_type) {
         None => Err(Reason::WrongReturn),
         Some(given) => if given == kind {
-            pops(body, &[kind], None, frame, classes)
+            pops(method, &[kind], None, frame, classes)
         } else {
             Err(Reason::WrongReturn)
         },

@@ -3,7 +3,6 @@
 //! [`run`], which changes the frame in place.
 //!
 //! - `reason`: why an instruction is refused.
-//! - `body`: the method whose instructions are judged.
 //! - `environment`: what an instruction is judged in.
 //! - `kinds`: kinds of numbers as types.
 //! - `operands`: what is asked of operands, and how deep the stack is.
@@ -27,7 +26,6 @@
 #![tactic(auto)]
 
 mod applying;
-mod body;
 mod branching;
 mod constants;
 mod environment;
@@ -45,10 +43,9 @@ mod ways;
 mod working;
 
 pub use applying::{After, Refusal, apply};
-pub use body::Body;
-pub use branching::Branches;
-pub use environment::{Env, body_is_told};
+pub use branching::{BranchTargets, Branches};
+pub use environment::Env;
 pub use reason::Reason;
 pub use running::run;
-pub use ways::{branches, falls};
+pub use ways::{branches, falls, goes_on};
 pub use working::Working;

@@ -9,7 +9,6 @@ ghost use Rattle.rules.specs.Bodies.{method_view};
 ghost use Rattle.rules.specs.Held.{held};
 ghost use Rattle.rules.specs.Outcomes.{Done};
 
-use crate::body::Body;
 use crate::constants::load_wide_constant;
 use crate::families::{counts, loads, pops, return_nothing, return_number};
 use crate::kinds::{kind_width, number_type};
@@ -18,6 +17,7 @@ use crate::stacks::rearranges;
 use crate::stores::stores;
 use crate::want::Want;
 use crate::working::Working;
+use classfile::CodeMethod;
 use hierarchy::Classes;
 use insn::Act;
 
@@ -27,23 +27,23 @@ use insn::Act;
 /// Refused is, by the least number that holds, what the rule refuses (60 to 66, 74, 76, 77); or 1 where memory ran out.
 /// Nothing is said of the frame then.
 pub fn run<'a, C: Classes>(
-    body: &Body<'_, '_, 'a>,
+    method: &CodeMethod<'_, 'a>,
     at: u16,
     act: Act<'a>,
     frame: &mut Working<'a>,
     classes: &C,
 ) -> Result<(), Reason<'a>>
-    requires { length (held frame.old).locals ≡ body.now.method.code.now.max_locals }
-    ensures { let m = method_view body.now in let f = held frame.old in
+    requires { length (held frame.old).locals ≡ method.now.code.now.max_locals }
+    ensures { let m = method_view method.now in let f = held frame.old in
         let p = plan m (as_supported (act_view act.entry)) in
         Done (conditions (C.content classes.now) m at p f) (after m at p f) (held frame.new) result }
 {
     match act {
-        Act::Nothing => pops(body, &[], None, frame, classes),
-        Act::Constant(kind) => pops(body, &[], Some(number_type(kind)), frame, classes),
-        Act::LoadWideConstant { index } => load_wide_constant(body, index, frame, classes),
+        Act::Nothing => pops(method, &[], None, frame, classes),
+        Act::Constant(kind) => pops(method, &[], Some(number_type(kind)), frame, classes),
+        Act::LoadWideConstant { index } => load_wide_constant(method, index, frame, classes),
         Act::Load { kind, local } => loads(
-            body,
+            method,
             Want::Number(kind),
             local,
             kind_width(kind),
@@ -51,21 +51,21 @@ pub fn run<'a, C: Classes>(
             classes,
         ),
         Act::Store { kind, local } => stores(
-            body,
+            method,
             Want::Number(kind),
             local,
             kind_width(kind),
             frame,
             classes,
         ),
-        Act::Increment { local } => counts(body, local, frame, classes),
+        Act::Increment { local } => counts(method, local, frame, classes),
         Act::Numeric(operator) => {
             let (taken, given) = operator.row();
-            pops(body, taken, Some(number_type(given)), frame, classes)
+            pops(method, taken, Some(number_type(given)), frame, classes)
         }
-        Act::Stack(operator) => rearranges(body, operator, frame),
-        Act::Return(kind) => return_number(body, kind, frame, classes),
-        Act::ReturnVoid => return_nothing(body, frame),
+        Act::Stack(operator) => rearranges(method, operator, frame),
+        Act::Return(kind) => return_number(method, kind, frame, classes),
+        Act::ReturnVoid => return_nothing(method, frame),
         _ => Err(Reason::NotSupported),
     }
 }

@@ -13,11 +13,11 @@ ghost use Rattle.rules.specs.Held.{held};
 ghost use Rattle.rules.specs.Views.{stack_of};
 ghost use Rattle.rules.specs.Outcomes.{Done, Pushes};
 
-use crate::body::Body;
 use crate::families::settle;
 use crate::reason::Reason;
 use crate::slots::is_wide;
 use crate::working::Working;
+use classfile::CodeMethod;
 use frames::VType;
 use hierarchy::Answer;
 use insn::{StackForm, StackOperator, StackPlace};
@@ -88,11 +88,11 @@ fn units_taken(forms: &[StackForm]) -> usize
 
 /// An instruction that moves what is on the stack.
 pub fn rearranges<'a>(
-    body: &Body<'_, '_, 'a>,
+    method: &CodeMethod<'_, 'a>,
     operator: StackOperator,
     frame: &mut Working<'a>,
 ) -> Result<(), Reason<'a>>
-    ensures { (classes : List ClassFact) → let m = method_view body.now in let f = held frame.old in
+    ensures { (classes : List ClassFact) → let m = method_view method.now in let f = held frame.old in
         let p = rearranges (stack_forms operator) in
         Done (conditions classes m 0 p f) (after m 0 p f) (held frame.new) result }
 {
@@ -104,7 +104,7 @@ pub fn rearranges<'a>(
         None => Err(Reason::WrongOperand),
         Some(form) => {
             frame.rearrange(form)?;
-            settle(body, Answer::Yes, None, frame)
+            settle(method, Answer::Yes, None, frame)
         }
     }
 }

@@ -10,28 +10,28 @@ ghost use Rattle.rules.specs.Held.{held};
 ghost use Rattle.rules.specs.Views.{want_view, locals_of, with_half_free};
 ghost use Rattle.rules.specs.Outcomes.{Done};
 
-use crate::body::Body;
 use crate::families::settle;
 use crate::operands::accepts;
 use crate::reason::Reason;
 use crate::want::Want;
 use crate::working::Working;
+use classfile::CodeMethod;
 use frames::VType;
 use hierarchy::{Answer, Classes};
 
 /// The top of the stack to a local variable.
 pub fn stores<'a, C: Classes>(
-    body: &Body<'_, '_, 'a>,
+    method: &CodeMethod<'_, 'a>,
     want: Want,
     local: u16,
     width: usize,
     frame: &mut Working<'a>,
     classes: &C,
 ) -> Result<(), Reason<'a>>
-    requires locals { length (held frame.old).locals ≡ body.now.method.code.now.max_locals }
+    requires locals { length (held frame.old).locals ≡ method.now.code.now.max_locals }
     requires some { 1 ≤ width }
     requires few { width ≤ 2 }
-    ensures { let m = method_view body.now in let f = held frame.old in
+    ensures { let m = method_view method.now in let f = held frame.old in
         let p = stores (want_view want) local width in
         Done (conditions (C.content classes.now) m 0 p f) (after m 0 p f) (held frame.new) result }
 {
@@ -43,11 +43,11 @@ pub fn stores<'a, C: Classes>(
         Answer::No => Err(Reason::WrongOperand),
         _ => {
             let place = usize::from(local);
-            if usize::from(body.method.code.max_locals) < place + width {
+            if usize::from(method.code.max_locals) < place + width {
                 return Err(Reason::LocalOutOfRange);
             }
             frame.store(t, place)?;
-            settle(body, answer, None, frame)
+            settle(method, answer, None, frame)
         }
     }
 }

@@ -12,8 +12,15 @@ use insn::{Act, Insn, act};
 pub fn falls(insn: &Insn<'_>) -> bool
     ensures { result ≡ goes_on (act (view insn.now)) }
 {
+    goes_on(&act(insn))
+}
+
+/// Whether an instruction that means this goes on to the next one, as [`falls`] says it of an instruction.
+pub fn goes_on(act: &Act<'_>) -> bool
+    ensures { result ≡ goes_on (act_view act.now) }
+{
     !matches!(
-        act(insn),
+        act,
         Act::Goto { .. }
             | Act::Switch { .. }
             | Act::Return(_)

@@ -1,8 +1,10 @@
 -- Code that was read: its offsets rise, and it begins at 0.
-use Rattle.std.proofs.Common.{◌≡◌, ℕ, ◌+◌, ◌<◌, List, [], ◌∷◌, length, refl, ap, arith, eq-eqb}
+use Rattle.std.proofs.Common.{◌≡◌, ℕ, ◌+◌, ◌<◌, List, [], ◌∷◌, length, Ok, refl, sym, ap, subst, arith, eq-eqb}
 use Rattle.insn.specs.Instructions.{Instruction}
 use Rattle.insn.specs.Meanings.{act}
 use Rattle.insn.specs.Code.{SpellsCode}
+use Rattle.insn.specs.Readings.{or_none, instructions_in}
+use Rattle.insn.proofs.Readings.{only_reading}
 use Rattle.insn.specs.Offsets.{IsStart, acts, StartsRise}
 
 pub decoded_rise : (from : ℕ) (xs : List (ℕ × Instruction)) → StartsRise from xs → StartsRise from (acts xs)
@@ -13,3 +15,7 @@ pub decoded_begins : (bytes : List ℕ) (xs : List (ℕ × Instruction)) → Spe
     → IsStart (acts xs) 0
 decoded_begins bytes [] s lt = let e : length bytes ≡ 0 = ap length s in absurd (omega (arith, e, lt))
 decoded_begins bytes (x ∷ xs) s lt = record { what = act x.1; here = rw (eq-eqb x.0 0 s.3) refl }
+
+-- what is read of code without a fault spells it
+pub read_spelled : (code : List ℕ) (xs : List (ℕ × Instruction)) → SpellsCode 0 code xs → SpellsCode 0 code (instructions_in code)
+read_spelled code xs s = subst (SpellsCode 0 code) (sym (ap or_none (only_reading code (Ok xs) s))) s

@@ -32,3 +32,4 @@ pub mod OneVerdict
 mod Examples
 mod NewMaps
 pub mod Named
+pub mod Formed

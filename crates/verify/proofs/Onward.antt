@@ -1,23 +1,24 @@
 -- The pass, from one instruction to the next.
-use Rattle.std.proofs.Common.{◌≡◌, ℕ, zero, suc, ◌+◌, ◌-◌, ◌<◌, ◌≤◌, Bool, true, false, is_none, nat_eq, List, [], ◌∷◌, ◌⊎◌, inl, inr, subst, Result, Ok, Err, Option, Some, None, length, get_or, drop, refl, sym, ◌∙◌, ap, arith, if◌then◌else◌, eq-eqb}
-use Rattle.std.proofs.lemmas.List.{drop_more, drop_all, length-map, length-drop}
+use Rattle.std.proofs.Common.{◌≡◌, ℕ, zero, suc, ◌+◌, ◌<◌, Bool, true, false, is_none, nat_eq, List, [], ◌∷◌, ◌⊎◌, inl, inr, subst, Result, Ok, Err, Option, Some, None, length, refl, sym, ◌∙◌, ap, arith, if◌then◌else◌}
+use Rattle.std.proofs.lemmas.List.{length-map, length-append}
 use Rattle.std.proofs.lemmas.Bool.Decides.{nat_tests}
 use Rattle.classfile.specs.Methods.{Method}
 use Rattle.hierarchy.specs.Class.{ClassFact}
-use Rattle.insn.specs.declared.instruction.Insn.{Insn}
-use Rattle.insn.specs.declared.opcode.Opcode.TheVariants.{Nop}
-use Rattle.insn.specs.declared.instruction.Operands.TheVariants.{Nothing}
-use Rattle.insn.specs.Meanings.{Act, act}
+use Rattle.layout.specs.Place.{Place}
+use Rattle.insn.specs.declared.fault.CodeFault.{CodeFault}
+use Rattle.insn.specs.Instructions.{Instruction}
+use Rattle.insn.specs.Code.{StepsThrough}
+use Rattle.insn.specs.Meanings.{Act}
 use Rattle.insn.specs.Offsets.{first_offset, acts}
-use Rattle.insn.specs.Supported.{as_supported}
-use Rattle.insn.specs.Views.{view, views}
-use Rattle.frames.specs.declared.frame.Frame.{Frame}
-use Rattle.frames.specs.VerificationType.{VerificationType, type_of}
-use Rattle.frames.specs.FrameFact.{FrameFact, frame_of}
+use Rattle.insn.specs.Readings.{Reading, behind}
+use Rattle.insn.proofs.CodeLaws.{has_bytes}
+use Rattle.insn.proofs.Readings.{reading_at, step_reads, stop_reads, end_reads, some_left}
+use Rattle.frames.specs.VerificationType.{VerificationType}
+use Rattle.frames.specs.FrameFact.{FrameFact}
 use Rattle.frames.specs.Slots.{is_wide}
 use Rattle.frames.specs.Conditions.{Reason, Conditions, least}
 use Rattle.rules.specs.Plans.{Plan, pops, loads, stores, counts, rearranges, loads_element, makes, constructs, calls_special, returns, refuses, falls}
-use Rattle.rules.specs.Table.{plan, plan_yet}
+use Rattle.rules.specs.Table.{plan_yet}
 use Rattle.rules.specs.After.{top_first, stored_type, after}
 use Rattle.rules.specs.Rules.{conditions}
 use Rattle.rules.specs.Outcomes.{Done}
@@ -59,106 +60,134 @@ after_length m at (calls_special type wants gives) f = refl
 after_length m at returns f = refl
 after_length m at (refuses n) f = refl
 
-raw_length : (f : Frame) → length (frame_of f).locals ≡ length f.locals.items
-raw_length f = length-map f.locals.items type_of
-
 pub keeps_length : (m : Method Act) (at : ℕ) (p : Plan) (old now : FrameFact) (n : ℕ) → length old.locals ≡ n → now ≡ after m at p old → length now.locals ≡ n
 keeps_length m at p old now n e q = ap (λ (z : FrameFact). length z.locals) q ∙ after_length m at p old ∙ e
 
 -- ---- the code that is left
 
--- read where nothing stands
-abbrev pub no_insn : ℕ × Insn
-no_insn = (0, record { opcode = Nop; operands = Nothing })
-
-abbrev pub coded : List (ℕ × Insn) → List (ℕ × Act)
-coded xs = acts (views xs)
-
-pub last_is : (xs : List (ℕ × Insn)) (i : ℕ) → i < length xs → is_none (first_offset (coded (drop (i + 1) xs))) ≡ nat_eq (i + 1) (length xs)
-last_is xs i lt = by (drop (i + 1) xs) (length-drop (i + 1) xs)
-  where
-    by : (ys : List (ℕ × Insn)) → length ys ≡ length xs - (i + 1) → is_none (first_offset (coded ys)) ≡ nat_eq (i + 1) (length xs)
-    by [] e = sym (let q : i + 1 ≡ length xs = omega (arith, e, lt) in eq-eqb (i + 1) (length xs) q)
-    by (y ∷ ys) e = sym (grind (arith, nat_tests, e))
-
-abbrev pub act_at : List (ℕ × Insn) → ℕ → ℕ × Insn → Act
-act_at xs i d = as_supported (act (view (get_or xs i d).1))
-
 module _ (classes : List ClassFact) (m : Method Act) where
-  abbrev pub left : List (ℕ × Insn) → Bool → FrameFact → Verdict
-  left xs b f = arrives classes [] (coded xs) b f (passes plan_yet classes m [] (coded xs))
+  abbrev pub left : List (ℕ × Act) → Bool → FrameFact → Verdict
+  left cs b f = arrives classes [] cs b f (passes plan_yet classes m [] cs)
 
-  -- nothing is left
-  pub at_end : (xs : List (ℕ × Insn)) (i : ℕ) (b : Bool) (f : FrameFact) → length xs ≤ i → left (drop i xs) b f ≡ verified
-  at_end xs i b f le = ap (λ z. left z b f) (drop_all i xs le)
+  module _ (c : ℕ × Act) (cs : List (ℕ × Act)) (b : Bool) (f : FrameFact) (v : Verdict) (same : v ≡ left (c ∷ cs) b f) where
+    pub refused_in : (why : Reason) → entry classes b f None ≡ Some why → v ≡ refused c.0 why
+    refused_in why e = same ∙ ap (λ z. refused_or z c.0 (passes plan_yet classes m [] (c ∷ cs) f)) e
 
-  module _ (xs : List (ℕ × Insn)) (i : ℕ) (d : ℕ × Insn) (lt : i < length xs) (b : Bool) (f : FrameFact) (v : Verdict)
-      (same : v ≡ left (drop i xs) b f) where
-    pub refused_in : (why : Reason) → entry classes b f None ≡ Some why → v ≡ refused (get_or xs i d).0 why
-    refused_in why e = same ∙ ap (λ z. left z b f) (drop_more xs i d lt)
-        ∙ ap (λ z. refused_or z (get_or xs i d).0 (passes plan_yet classes m [] (coded (get_or xs i d ∷ drop (i + 1) xs)) f)) e
-
-    abbrev here : List (ℕ × Insn) → Option Reason
-    here ys = least (at_conditions classes m [] (get_or xs i d).0 (plan m (act_at xs i d)) (first_offset (coded ys)) f)
+    abbrev here : Option Reason
+    here = least (at_conditions classes m [] c.0 (plan_yet m c.1) (first_offset cs) f)
 
     opened : entry classes b f None ≡ None
-        → v ≡ refused_or (here (drop (i + 1) xs)) (get_or xs i d).0
-        (left (drop (i + 1) xs) (falls (plan m (act_at xs i d))) (after m (get_or xs i d).0 (plan m (act_at xs i d)) f))
-    opened e = same ∙ ap (λ z. left z b f) (drop_more xs i d lt)
-        ∙ ap (λ z. refused_or z (get_or xs i d).0 (passes plan_yet classes m [] (coded (get_or xs i d ∷ drop (i + 1) xs)) f)) e
+        → v ≡ refused_or here c.0 (left cs (falls (plan_yet m c.1)) (after m c.0 (plan_yet m c.1) f))
+    opened e = same ∙ ap (λ z. refused_or z c.0 (passes plan_yet classes m [] (c ∷ cs) f)) e
 
-    pub refused_at : (why : Reason) → entry classes b f None ≡ None → here (drop (i + 1) xs) ≡ Some why → v ≡ refused (get_or xs i d).0 why
-    refused_at why e q =
+    pub refused_at : (why : Reason) → entry classes b f None ≡ None → here ≡ Some why → v ≡ refused c.0 why
+    refused_at why e q = opened e ∙ ap (λ z. refused_or z c.0 (left cs (falls (plan_yet m c.1)) (after m c.0 (plan_yet m c.1) f))) q
+
+    pub goes_on : (goes : Bool) (now : FrameFact) → entry classes b f None ≡ None → here ≡ None
+        → goes ≡ falls (plan_yet m c.1) → now ≡ after m c.0 (plan_yet m c.1) f → v ≡ left cs goes now
+    goes_on goes now e q k l =
         opened e
-        ∙ ap (λ z. refused_or z (get_or xs i d).0
-        (left (drop (i + 1) xs) (falls (plan m (act_at xs i d))) (after m (get_or xs i d).0 (plan m (act_at xs i d)) f))) q
+        ∙ ap (λ z. refused_or z c.0 (left cs (falls (plan_yet m c.1)) (after m c.0 (plan_yet m c.1) f))) q
+        ∙ ap (λ z. left cs z (after m c.0 (plan_yet m c.1) f)) (sym k)
+        ∙ ap (left cs goes) (sym l)
 
-    pub goes_on : (c : Bool) (now : FrameFact) → entry classes b f None ≡ None → here (drop (i + 1) xs) ≡ None
-        → c ≡ falls (plan m (act_at xs i d)) → now ≡ after m (get_or xs i d).0 (plan m (act_at xs i d)) f
-        → v ≡ left (drop (i + 1) xs) c now
-    goes_on c now e q k l =
-        opened e
-        ∙ ap (λ z. refused_or z (get_or xs i d).0
-        (left (drop (i + 1) xs) (falls (plan m (act_at xs i d))) (after m (get_or xs i d).0 (plan m (act_at xs i d)) f))) q
-        ∙ ap (λ z. left (drop (i + 1) xs) z (after m (get_or xs i d).0 (plan m (act_at xs i d)) f)) (sym k)
-        ∙ ap (left (drop (i + 1) xs) c) (sym l)
-
-    pub stops_in : (r : Result Unit RuleReason) (e : RuleReason) → r ≡ Err e → Enters classes b f None f r → (e ≡ OutOfMemory)
-        ⊎ (v ≡ refused (get_or xs i d).0 (reason_view e))
+    pub stops_in : (r : Result Unit RuleReason) (e : RuleReason) → r ≡ Err e → Enters classes b f None f r
+        → (e ≡ OutOfMemory) ⊎ (v ≡ refused c.0 (reason_view e))
     stops_in r e q x = by (subst (Enters classes b f None f) q x).outcome
       where
-        by : (e ≡ OutOfMemory) ⊎ (entry classes b f None ≡ Some (reason_view e)) → (e ≡ OutOfMemory)
-            ⊎ (v ≡ refused (get_or xs i d).0 (reason_view e))
+        by : (e ≡ OutOfMemory) ⊎ (entry classes b f None ≡ Some (reason_view e)) → (e ≡ OutOfMemory) ⊎ (v ≡ refused c.0 (reason_view e))
         by (inl p) = inl p
         by (inr p) = inr (refused_in (reason_view e) p)
 
     pub comes_in : (r : Result Unit RuleReason) (u : Unit {0}) → r ≡ Ok u → Enters classes b f None f r → entry classes b f None ≡ None
     comes_in r u q x = (subst (Enters classes b f None f) q x).outcome.0
 
-    abbrev pub at_here : List (ℕ × Insn) → Conditions
-    at_here ys = at_conditions classes m [] (get_or xs i d).0 (plan m (act_at xs i d)) (first_offset (coded ys)) f
+    abbrev pub at_here : Conditions
+    at_here = at_conditions classes m [] c.0 (plan_yet m c.1) (first_offset cs) f
 
     abbrev pub after_here : FrameFact
-    after_here = after m (get_or xs i d).0 (plan m (act_at xs i d)) f
+    after_here = after m c.0 (plan_yet m c.1) f
 
     pub stops_at : (g : FrameFact) (r : Result Unit RuleReason) (e : RuleReason) → entry classes b f None ≡ None → r ≡ Err e
-        → Done (at_here (drop (i + 1) xs)) after_here g r
-        → (e ≡ OutOfMemory) ⊎ (v ≡ refused (get_or xs i d).0 (reason_view e))
-    stops_at g r e came q x = by (subst (Done (at_here (drop (i + 1) xs)) after_here g) q x).outcome
+        → Done at_here after_here g r → (e ≡ OutOfMemory) ⊎ (v ≡ refused c.0 (reason_view e))
+    stops_at g r e came q x = by (subst (Done at_here after_here g) q x).outcome
       where
-        by : (e ≡ OutOfMemory) ⊎ (least (at_here (drop (i + 1) xs)) ≡ Some (reason_view e)) → (e ≡ OutOfMemory)
-            ⊎ (v ≡ refused (get_or xs i d).0 (reason_view e))
+        by : (e ≡ OutOfMemory) ⊎ (least at_here ≡ Some (reason_view e)) → (e ≡ OutOfMemory) ⊎ (v ≡ refused c.0 (reason_view e))
         by (inl p) = inl p
         by (inr p) = inr (refused_at (reason_view e) came p)
 
     -- what was not refused goes on with the frame after
-    pub goes_done : (g : FrameFact) (r : Result Unit RuleReason) (u : Unit {0}) (c : Bool) → entry classes b f None ≡ None → r ≡ Ok u
-        → Done (at_here (drop (i + 1) xs)) after_here g r
-        → c ≡ act_goes_on (act (view (get_or xs i d).1)) → v ≡ left (drop (i + 1) xs) c g
-    goes_done g r u c came q x k =
-        let done = subst (Done (at_here (drop (i + 1) xs)) after_here g) q x in
-        goes_on c g came done.outcome.0
-        (k ∙ goes_right classes m (get_or xs i d).0 f (act_goes_on (act (view (get_or xs i d).1))) (plan m (act_at xs i d))
-        (ways m (act (view (get_or xs i d).1)))
-        (rule_none (conditions classes m (get_or xs i d).0 (plan m (act_at xs i d)) f) _ done.outcome.0))
+    pub goes_done : (g : FrameFact) (r : Result Unit RuleReason) (u : Unit {0}) (goes : Bool) → entry classes b f None ≡ None → r ≡ Ok u
+        → Done at_here after_here g r → goes ≡ act_goes_on c.1 → v ≡ left cs goes g
+    goes_done g r u goes came q x k =
+        let done = subst (Done at_here after_here g) q x in
+        goes_on goes g came done.outcome.0
+        (k ∙ goes_right classes m c.0 f (act_goes_on c.1) (plan_yet m c.1) (ways m c.1)
+        (rule_none (conditions classes m c.0 (plan_yet m c.1) f) _ done.outcome.0))
         done.outcome.1
+
+-- ---- the bytes that are left
+
+-- they are these instructions, and with them the verdict is what it is; the offset and the bytes that are left are those of all
+pub record Remains (classes : List ClassFact) (m : Method Act) (size : ℕ) (p : Place) (comes : Bool) (f : FrameFact) (v : Verdict) : Type 0 where
+  pub instructions : List (ℕ × Instruction)
+  pub read : reading_at p ≡ Ok instructions
+  pub same : v ≡ left classes m (acts instructions) comes f
+  pub within : p.at + length p.rest ≡ size
+
+-- the instruction in front of the others
+pub record Steps (old new : Place) (x : ℕ × Instruction) (xs : List (ℕ × Instruction)) : Type 0 where
+  pub others : List (ℕ × Instruction)
+  pub read : reading_at new ≡ Ok others
+  pub all : xs ≡ x ∷ others
+
+pub steps : {X : Type 0} (view : X → ℕ × Instruction) (old new : Place) (step : Result X CodeFault) (x : X) (xs : List (ℕ × Instruction))
+    → reading_at old ≡ Ok xs → StepsThrough view old (Some step) new → step ≡ Ok x → Steps old new (view x) xs
+steps view old new step x xs read s is =
+    by (reading_at new) refl (sym (step_reads view old new x (subst (λ r. StepsThrough view old (Some r) new) is s)) ∙ read)
+  where
+    by : (r : Reading) → reading_at new ≡ r → behind (view x) r ≡ Ok xs → Steps old new (view x) xs
+    by (Ok ys) now e = let all : view x ∷ ys ≡ xs = cc in record { others = ys; read = now; all = sym all }
+    by (Err fault) now e = absurd cc
+
+-- code without a fault has none
+pub no_stop : {X : Type 0} (view : X → ℕ × Instruction) (old new : Place) (step : Result X CodeFault) (e : CodeFault) (xs : List (ℕ × Instruction))
+    → reading_at old ≡ Ok xs → StepsThrough view old (Some step) new → step ≡ Err e → ⊥
+no_stop view old new step e xs read s is =
+    let stopped = stop_reads view old new e (subst (λ r. StepsThrough view old (Some r) new) is s) in
+    absurd (let both : Ok xs ≡ (let r : Reading = Err e in r) = sym read ∙ stopped in cc)
+
+-- nothing is left
+pub at_end : {X : Type 0} (view : X → ℕ × Instruction) (old new : Place) (xs : List (ℕ × Instruction))
+    → reading_at old ≡ Ok xs → StepsThrough view old None new → xs ≡ []
+at_end view old new xs read s =
+    let both : Ok xs ≡ (let r : Reading = Ok [] in r) = sym read ∙ end_reads view old new s in cc
+
+-- a step takes bytes, and leaves the others
+pub step_within : {X : Type 0} (view : X → ℕ × Instruction) (old new : Place) (step : Result X CodeFault) (x : X)
+    → StepsThrough view old (Some step) new → step ≡ Ok x → (old.at ≡ (view x).0) × (new.at + length new.rest ≡ old.at + length old.rest) × (length new.rest < length old.rest)
+step_within view old new step x s is =
+    let (here, first, spelled, took) = subst (λ r. StepsThrough view old (Some r) new) is s in
+    let some = has_bytes old.at first (Ok (view x).1) spelled in
+    (
+      sym here,
+      omega (arith, took.at, ap length took.parts, length-append first new.rest),
+      omega (arith, some, ap length took.parts, length-append first new.rest),
+    )
+
+-- no instruction is left exactly where no byte is
+none_left : (bytes : List ℕ) → length bytes ≡ 0 → bytes ≡ []
+none_left [] e = refl
+none_left (b ∷ bytes) e = absurd (omega (arith, e))
+
+pub last_is : (p : Place) (xs : List (ℕ × Instruction)) → reading_at p ≡ Ok xs → is_none (first_offset (acts xs)) ≡ nat_eq (length p.rest) 0
+last_is p xs read = by xs (nat_eq (length p.rest) 0) refl read
+  where
+    by : (ys : List (ℕ × Instruction)) (b : Bool) → nat_eq (length p.rest) 0 ≡ b → reading_at p ≡ Ok ys → is_none (first_offset (acts ys)) ≡ b
+    by [] true e q = refl
+    by [] false e q = absurd (some_left p (let lt : 0 < length p.rest = grind (arith, nat_tests, e) in lt) q)
+    by (y ∷ ys) false e q = refl
+    by (y ∷ ys) true e q =
+        let none : length p.rest ≡ 0 = grind (arith, nat_tests, e) in
+        let both : Ok (y ∷ ys) ≡ (let r : Reading = Ok [] in r) = sym q ∙ end_reads {X = ℕ × Instruction} (λ x. x) p p (none_left p.rest none, refl) in
+        absurd cc

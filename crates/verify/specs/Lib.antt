@@ -11,3 +11,7 @@ pub mod Judged
 pub mod Answers
 pub mod Reports
 pub mod OneVerdict
+pub mod Files
+pub mod FileSteps
+pub mod Among
+pub mod AmongSteps

@@ -9,7 +9,7 @@ use Rattle.verify.specs.declared.report.MethodVerdict.{MethodVerdict}
 use Rattle.verify.specs.Answers.{Answers}
 use Rattle.verify.specs.Reports.{IsReport}
 
--- two verdicts say the same: of refusals the offset, the number, and the missing class by its name
+-- two verdicts say the same: of refusals the offset, the number, the missing class by its name, and the fault behind 78 and 79
 abbrev pub AreSameVerdict : Verdict → Verdict → Type 0
 AreSameVerdict Verified Verified = Unit {0}
 AreSameVerdict NoCode NoCode = Unit {0}

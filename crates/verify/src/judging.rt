@@ -1,12 +1,15 @@
 //! One pass over a method's code.
-ghost use Rattle.std.specs.Prelude.{◌≡◌, ℕ, Option, is_none, [], length};
-ghost use Rattle.insn.specs.Meanings.{act};
-ghost use Rattle.insn.specs.Views.{view};
+ghost use Rattle.std.specs.Prelude.{◌≡◌, ◌≤◌, ℕ, Option, is_none, List, [], length};
+ghost use Rattle.layout.specs.declared.limits.TheConstants.{MAX_CODE_BYTES};
+ghost use Rattle.insn.specs.Instructions.{Instruction};
+ghost use Rattle.insn.specs.Code.{SpellsCode};
+ghost use Rattle.insn.specs.Views.{act_view};
 ghost use Rattle.rules.specs.Table.{plan_yet};
 ghost use Rattle.rules.specs.After.{after};
 ghost use Rattle.rules.specs.Bodies.{method_view};
 ghost use Rattle.rules.specs.Outcomes.{Done};
 ghost use Rattle.rules.specs.Held.{held};
+ghost use Rattle.rules.specs.Ways.{goes_on};
 ghost use Rattle.verify.specs.InitialFrames.{initial_frame};
 ghost use Rattle.verify.specs.Verdict.{at_conditions, code_judged};
 ghost use Rattle.verify.specs.Steps.{Gives};
@@ -14,55 +17,64 @@ ghost use Rattle.verify.specs.Steps.{Gives};
 use crate::flow::{check_end, enter, first_reason};
 use crate::refusal::refuse;
 use crate::verdict::{Verdict, VerifyFault};
+use classfile::CodeMethod;
 use hierarchy::Classes;
-use insn::{Insn, act};
-use rules::{Body, Reason, Working, falls, run};
+use insn::{Act, Instructions, act};
+use rules::{Reason, Working, goes_on, run};
 
 /// Judges an instruction in the frame before it, which becomes the frame after. Of the frame at the next start nothing is asked.
 fn judge<'a, C: Classes>(
-    body: &Body<'_, '_, 'a>,
+    method: &CodeMethod<'_, 'a>,
     at: u16,
-    insn: &Insn<'a>,
+    act: Act<'a>,
+    falls: bool,
     last: bool,
     frame: &mut Working<'a>,
     classes: &C,
 ) -> Result<(), Reason<'a>>
-    requires locals { length (held frame.old).locals ≡ body.now.method.code.now.max_locals }
-    requires no_exceptions { (method_view body.now).exceptions ≡ [] }
+    requires locals { length (held frame.old).locals ≡ method.now.code.now.max_locals }
+    requires no_exceptions { (method_view method.now).exceptions ≡ [] }
+    requires falls { falls ≡ goes_on (act_view act) }
     ensures { (next : Option ℕ) → is_none next ≡ last →
-        let m = method_view body.now in let f = held frame.old in
-        let p = plan_yet m (act (view insn.now)) in
+        let m = method_view method.now in let f = held frame.old in
+        let p = plan_yet m (act_view act.entry) in
         Done (at_conditions (C.content classes.now) m [] at p next f) (after m at p f) (held frame.new) result }
 {
-    let end = check_end(falls(insn), last);
-    match run(body, at, act(insn), frame, classes) {
+    let end = check_end(falls, last);
+    match run(method, at, act, frame, classes) {
         Ok(()) => end,
         Err(reason) => Err(first_reason(reason, end)),
     }
 }
 
-/// Judges code, by one pass that carries one frame, the one with which the method begins.
+/// Judges code, by one pass over its bytes that carries one frame, the one with which the method begins.
 pub fn pass<'a, C: Classes>(
-    body: &Body<'_, '_, 'a>,
+    method: &CodeMethod<'_, 'a>,
     frame: &mut Working<'a>,
     classes: &C,
 ) -> Result<Verdict<'a>, VerifyFault>
-    requires initial { held frame.old ≡ initial_frame (method_view body.now) }
-    requires locals { length (held frame.old).locals ≡ body.now.method.code.now.max_locals }
-    requires no_exceptions { (method_view body.now).exceptions ≡ [] }
-    ensures { Gives (code_judged plan_yet (C.content classes.now) (method_view body.now) []) result }
+    requires initial { held frame.old ≡ initial_frame (method_view method.now) }
+    requires locals { length (held frame.old).locals ≡ method.now.code.now.max_locals }
+    requires no_exceptions { (method_view method.now).exceptions ≡ [] }
+    requires spelled { (xs : List (ℕ × Instruction)) × SpellsCode 0 method.now.code.now.code.now xs }
+    requires few { length method.now.code.now.code.now ≤ MAX_CODE_BYTES }
+    ensures { Gives (code_judged plan_yet (C.content classes.now) (method_view method.now) []) result }
 {
+    let mut code = Instructions::new(method.code.code);
     let mut comes = true;
-    let list = body.list;
-    for i in 0..list.len() {
-        let (at, insn) = list[i];
+    while let Some(step) = code.next() {
+        let Ok((at, insn)) = step else {
+            unreachable!();
+        };
+        let at = at as u16;
         if let Err(reason) = enter(comes) {
             return refuse(at, reason);
         }
-        if let Err(reason) = judge(body, at, &insn, i + 1 == list.len(), frame, classes) {
+        let act = act(&insn);
+        comes = goes_on(&act);
+        if let Err(reason) = judge(method, at, act, comes, code.is_at_end(), frame, classes) {
             return refuse(at, reason);
         }
-        comes = falls(&insn);
     }
     Ok(Verdict::Verified)
 }

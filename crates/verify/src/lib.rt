@@ -3,6 +3,9 @@
 //!
 //! - `method`: the verdict on a method.
 //! - `verdict`: what is answered.
+//! - `report`: the verdicts on the methods of a class.
+//! - `files`: from a file as it was read to a class that is well formed.
+//! - `among`: a class among the classes that it may refer to.
 //! - `listing`: whether a hierarchy has a class as it is.
 //! - `refusal`: verdicts that refuse.
 //! - `initial`: the frame with which a method begins.
@@ -12,6 +15,8 @@
 //! - `laws`: the verdict on a method is verified exactly where it is type-safe, there is one, and what a refusal says.
 #![tactic(auto)]
 
+mod among;
+mod files;
 mod flow;
 mod initial;
 mod judging;
@@ -23,11 +28,13 @@ mod report;
 mod theorem;
 mod verdict;
 
+pub use among::{AmongFault, verify_among};
+pub use files::{FileFault, FileRead, class_file};
 pub use laws::{
     map_refused_where, none_is_replaced, one_report, one_verdict, refused_where,
     type_safe_is_verified, verified_is_type_safe,
 };
 pub use method::verify_method;
-pub use report::{ClassRefusal, MethodVerdict, verify_class, verify_methods};
+pub use report::{ClassFault, MethodVerdict, Report, verify_class, verify_methods};
 pub use theorem::type_safe_is_safe;
 pub use verdict::{Verdict, VerifyFault};

@@ -1,10 +1,13 @@
 //! The verdict on a method.
-ghost use Rattle.std.specs.Prelude.{◌≡◌, ◌<◌, ℕ, true, [], map, length, Some, IfOk, IfErr};
+ghost use Rattle.std.specs.Prelude.{◌≡◌, ◌<◌, ◌≤◌, ℕ, true, List, [], map, length, Some, IfOk, IfErr};
+ghost use Rattle.layout.specs.declared.limits.TheConstants.{MAX_CODE_BYTES};
 ghost use Rattle.names.specs.Types.{type_of, method_of};
 ghost use Rattle.classfile.specs.MethodParts.{code_at};
 ghost use Rattle.classfile.specs.CodeMethods.{code_method_view, types_of};
 ghost use Rattle.classfile.specs.Views.{class_view, code_view};
 ghost use Rattle.classfile.specs.WellFormed.{WellFormed};
+ghost use Rattle.insn.specs.Instructions.{Instruction};
+ghost use Rattle.insn.specs.Code.{SpellsCode};
 ghost use Rattle.rules.specs.Bodies.{method_view};
 ghost use Rattle.rules.specs.Table.{plan_yet};
 ghost use Rattle.verify.specs.declared.verdict.VerifyFault.TheVariants.{OutOfMemory};
@@ -21,9 +24,9 @@ use crate::refusal::{has_stack_map, refuse, refuse_code};
 use crate::verdict::{Verdict, VerifyFault};
 use classfile::{CodeMethod, Formed};
 use hierarchy::Classes;
-use insn::decode_code;
+use insn::count_instructions;
 use names::{FieldType, MethodType, method_type};
-use rules::{Body, Reason, Working};
+use rules::{Reason, Working};
 use std::alloc::Global;
 
 /// Whether the method is one of those that are judged yet.
@@ -59,21 +62,23 @@ fn types_of<'a>(alloc: Global, method: &CodeMethod<'_, 'a>) -> Result<MethodType
 /// Judges a method by its parameters and its instructions: 64 where the parameters do not fit, and then by one pass.
 fn judge_body<'a, C: Classes>(
     alloc: Global,
-    body: &Body<'_, '_, 'a>,
+    method: &CodeMethod<'_, 'a>,
     parameters: &[FieldType<'a>],
     frame: &mut Working<'a>,
     classes: &C,
 ) -> Result<Verdict<'a>, VerifyFault>
-    requires judged { is_judged (method_view body.now) ≡ true }
-    requires parameters { (method_view body.now).type.params ≡ map type_of parameters.now }
-    ensures { Gives (verdict plan_yet (C.content classes.now) (method_view body.now)) result }
+    requires judged { is_judged (method_view method.now) ≡ true }
+    requires parameters { (method_view method.now).type.params ≡ map type_of parameters.now }
+    requires spelled { (xs : List (ℕ × Instruction)) × SpellsCode 0 method.now.code.now.code.now xs }
+    requires few { length method.now.code.now.code.now ≤ MAX_CODE_BYTES }
+    ensures { Gives (verdict plan_yet (C.content classes.now) (method_view method.now)) result }
 {
-    let max_locals = body.method.code.max_locals;
+    let max_locals = method.code.max_locals;
     let Some(locals) = initial_locals(alloc, parameters, max_locals)? else {
         return refuse(0, Reason::LocalOutOfRange);
     };
     frame.start(&locals, max_locals, false)?;
-    pass(body, frame, classes)
+    pass(method, frame, classes)
 }
 
 /// The verdict on a method with code.
@@ -93,16 +98,12 @@ fn verify_code<'a, C: Classes>(
             reason: Reason::NotSupported,
         });
     }
-    let list = match decode_code(alloc, method.code.code) {
-        Ok(list) => list,
+    match count_instructions(method.code.code) {
+        Ok(_) => {}
         Err(fault) => return refuse_code(fault),
-    };
+    }
     let types = types_of(alloc, &method)?;
-    let body = Body {
-        method,
-        list: &list,
-    };
-    judge_body(alloc, &body, &types.params, frame, classes)
+    judge_body(alloc, &method, &types.params, frame, classes)
 }
 
 /// The verdict on a method of a class that the hierarchy has as it is.

@@ -5,7 +5,7 @@ ghost use Rattle.classfile.specs.WellFormed.{WellFormed};
 ghost use Rattle.hierarchy.specs.Rules.{IsHierarchy};
 ghost use Rattle.verify.specs.declared.verdict.VerifyFault.TheVariants.{OutOfMemory};
 ghost use Rattle.verify.specs.Listed.{IsListed};
-ghost use Rattle.verify.specs.Reports.{IsReported, Reports, ReportsBytes};
+ghost use Rattle.verify.specs.Reports.{IsReported, IsReport, Reports, ReportsBytes};
 
 use crate::listing::is_listed;
 use crate::method::verify_listed;
@@ -28,9 +28,16 @@ pub struct MethodVerdict<'a> {
     pub verdict: Verdict<'a>,
 }
 
+/// What is answered of the methods of a class.
+#[derive(Debug, Drop)]
+pub struct Report<'a> {
+    /// Of each method, in the order of the file.
+    pub methods: Vec<MethodVerdict<'a>>,
+}
+
 /// Why there are no verdicts on the methods of a class.
 #[derive(Clone, Copy, Debug)]
-pub enum ClassRefusal {
+pub enum ClassFault {
     /// 1: memory ran out.
     OutOfMemory,
     /// The bytes are no class file: 2, 3, 7, 10 to 14 or 16.
@@ -70,24 +77,38 @@ fn report_on<'a, C: Classes>(
     }
 }
 
+/// The verdicts on the methods of a class that the hierarchy has as it is. One frame serves all of them.
+pub fn report_listed<'a, C: Classes>(
+    alloc: Global,
+    formed: &Formed<'_, 'a>,
+    classes: &C,
+) -> Result<Report<'a>, VerifyFault>
+    requires hierarchy { IsHierarchy (C.content classes.now) }
+    requires listed { IsListed (C.content classes.now) (class_view formed.now.class.now) }
+    ensures found { IfOk result (λ r. IsReport (C.content classes.now) (class_view formed.now.class.now) r.methods.items) }
+    ensures memory { IfErr result (λ e. e ≡ OutOfMemory) }
+{
+    let mut methods = Vec::new(alloc);
+    let mut frame = Working::new(alloc, 0, false);
+    for number in 0..formed.class().methods.len() {
+        methods.push(report_on(alloc, formed, number, &mut frame, classes)?)?;
+    }
+    Ok(Report { methods })
+}
+
 /// The verdicts on the methods of a class in a hierarchy, in the order of the file (JVMS 4.10.1), each as
 /// [`verify_method`](crate::verify_method) answers it; or 80, or 1. Whether the hierarchy has the class is looked up once.
 pub fn verify_methods<'a, C: Classes>(
     alloc: Global,
     formed: &Formed<'_, 'a>,
     classes: &C,
-) -> Result<Vec<MethodVerdict<'a>>, VerifyFault>
+) -> Result<Report<'a>, VerifyFault>
     ensures { Reports (C.content classes.now) (class_view formed.now.class.now) result }
 {
     if !is_listed(alloc, formed, classes)? {
         return Err(VerifyFault::NotInHierarchy);
     }
-    let mut report = Vec::new(alloc);
-    let mut frame = Working::new(alloc, 0, false);
-    for number in 0..formed.class().methods.len() {
-        report.push(report_on(alloc, formed, number, &mut frame, classes)?)?;
-    }
-    Ok(report)
+    report_listed(alloc, formed, classes)
 }
 
 /// The verdicts on the methods of the class that these bytes are, in a hierarchy (JVMS 4.10.1). Refused is, by the first that
@@ -96,24 +117,24 @@ pub fn verify_class<'a, C: Classes>(
     alloc: Global,
     bytes: &'a [u8],
     classes: &C,
-) -> Result<Vec<MethodVerdict<'a>>, ClassRefusal>
+) -> Result<Report<'a>, ClassFault>
     ensures { ReportsBytes (C.content classes.now) bytes.now result }
 {
     let class = match decode(alloc, bytes) {
         Ok(class) => class,
-        Err(ReadFault::OutOfMemory) => return Err(ClassRefusal::OutOfMemory),
-        Err(fault) => return Err(ClassRefusal::NoClass(fault)),
+        Err(ReadFault::OutOfMemory) => return Err(ClassFault::OutOfMemory),
+        Err(fault) => return Err(ClassFault::NoClass(fault)),
     };
     let formed = match form_check(alloc, &class) {
         Ok(formed) => formed,
-        Err(FormFault::OutOfMemory) => return Err(ClassRefusal::OutOfMemory),
+        Err(FormFault::OutOfMemory) => return Err(ClassFault::OutOfMemory),
         Err(FormFault::Broken { rule, place }) => {
-            return Err(ClassRefusal::Malformed { rule, place });
+            return Err(ClassFault::Malformed { rule, place });
         }
     };
     match verify_methods(alloc, &formed, classes) {
         Ok(report) => Ok(report),
-        Err(VerifyFault::OutOfMemory) => Err(ClassRefusal::OutOfMemory),
-        Err(VerifyFault::NotInHierarchy) => Err(ClassRefusal::NotInHierarchy),
+        Err(VerifyFault::OutOfMemory) => Err(ClassFault::OutOfMemory),
+        Err(VerifyFault::NotInHierarchy) => Err(ClassFault::NotInHierarchy),
     }
 }

@@ -1,22 +1,23 @@
-use Rattle.std.proofs.Common.{Ok, subst}
+use Rattle.std.proofs.Common.{◌∙◌, subst}
 use Rattle.classfile.specs.Views.{class_view}
-use Rattle.answers.specs.Answers.{Decides, CheckTells}
-use Rattle.answers.specs.Files.{IsFormed, IsRefused, read_view}
+use Rattle.verify.specs.Files.{IsFormed, OrMemory}
+use Rattle.answers.specs.Answers.{CheckTells}
+use Rattle.answers.specs.Files.{read_view}
 use Rattle.answers.proofs.Tellings.{of_class, of_refusal}
 use Rattle.answers.proofs.checking.check.Goals as goal
 
-pub returns-in-Ok-Ok : goal.returns-in-Ok-Ok
-returns-in-Ok-Ok g c =
+pub returns-in-Ok : goal.returns-in-Ok
+returns-in-Ok g c =
     let held = g.W.Write.contents in
     let read = read_view c.args.read.now in
-    let class = class_view c.in-Ok-Ok.field-0-0 in
-    let formed : IsFormed read class = subst (λ r. Decides read (Ok r)) c.in-Ok-Ok.field-0-is c.in-Ok-Ok.ensures in
+    let class = class_view c.in-Ok.field-0 in
+    let formed : IsFormed read class = subst (λ r. IsFormed r class) c.file_read.ensures c.in-Ok.ensures in
     of_class CheckTells read class (CheckTells class) formed (λ text status told. told)
     (held c.args.out.now) (held c.tell.new.out) c.tell.result c.tell.ensures
 
-pub returns-in-Ok-Err : goal.returns-in-Ok-Err
-returns-in-Ok-Err g c =
+pub returns-in-Err : goal.returns-in-Err
+returns-in-Err g c =
     let held = g.W.Write.contents in
     let read = read_view c.args.read.now in
-    let refused : IsRefused read c.in-Ok-Err.refusal = subst (λ r. Decides read (Ok r)) c.in-Ok-Err.field-0-is c.in-Ok-Err.ensures in
-    of_refusal CheckTells read c.in-Ok-Err.refusal refused (held c.args.out.now) (held c.refuse.new.out) c.refuse.result c.refuse.ensures
+    let why : OrMemory read c.in-Err.fault = subst (λ r. OrMemory r c.in-Err.fault) c.file_read.ensures c.in-Err.ensures in
+    of_refusal CheckTells read c.in-Err.fault why (held c.args.out.now) (held c.refuse.new.out) c.refuse.result c.refuse.ensures

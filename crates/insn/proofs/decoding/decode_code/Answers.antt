@@ -7,8 +7,8 @@ use Rattle.insn.specs.Views.{located, views}
 use Rattle.insn.proofs.CodeLaws.{SoFar, step_read, step_fault, code_step, code_whole, code_or_fault, starts_rise, within, unless_memory}
 use Rattle.insn.proofs.decoding.decode_code.Goals as goal
 
-pub returns-in_err-count-clause-only : goal.returns-in_err-count-clause-only
-returns-in_err-count-clause-only c = λ xs code. absurd (code_or_fault c.args.code.now xs c.in_err-count.field-0.0 code c.in_err-count.ensures.fault)
+pub returns-in_err-count_instructions-clause-only : goal.returns-in_err-count_instructions-clause-only
+returns-in_err-count_instructions-clause-only c = λ xs code. absurd (code_or_fault c.args.code.now xs c.in_err-count_instructions.field-0.0 code c.in_err-count_instructions.ensures.fault)
 
 pub loop-step-init : goal.loop-step-init
 loop-step-init c =

@@ -12,7 +12,7 @@ use Rattle.rules.proofs.families.return_nothing.Goals as goal
 
 pub returns-in-None : goal.returns-in-None
 returns-in-None c =
-    let m = method_view c.args.body.now in
+    let m = method_view c.args.method.now in
     let f = held c.args.frame.now in
     let e : return_nothing m.type.result ≡ returns = ap (λ (r : Option FieldType). return_nothing (option_map type_of r)) c.in-None.is in
     λ classes. subst (λ p. Done (conditions classes m 0 p f) (after m 0 p f) (held c.returns.new.frame) c.returns.result) (sym e) (c.returns.ensures classes)

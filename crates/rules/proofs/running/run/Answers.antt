@@ -15,7 +15,7 @@ use Rattle.rules.proofs.running.run.Goals as goal
 pub returns-in-Stack : goal.returns-in-Stack
 returns-in-Stack g c =
     let cs = g.C.Classes.content c.args.classes.now in
-    let m = method_view c.args.body.now in
+    let m = method_view c.args.method.now in
     let f = held c.args.frame.now in
     let e : plan m (as_supported (act_view c.args.act)) ≡ rearranges (stack_forms c.in-Stack.operator) = ap (λ a. plan m (as_supported (act_view a))) c.in-Stack.is in
     subst (λ p. Done (conditions cs m c.args.at p f) (after m c.args.at p f) (held c.rearranges.new.frame) c.rearranges.result) (sym e) (c.rearranges.ensures cs)
@@ -23,7 +23,7 @@ returns-in-Stack g c =
 pub returns-in-ReturnVoid : goal.returns-in-ReturnVoid
 returns-in-ReturnVoid g c =
     let cs = g.C.Classes.content c.args.classes.now in
-    let m = method_view c.args.body.now in
+    let m = method_view c.args.method.now in
     let f = held c.args.frame.now in
     let e : plan m (as_supported (act_view c.args.act)) ≡ return_nothing m.type.result = ap (λ a. plan m (as_supported (act_view a))) c.in-ReturnVoid.is in
     returned m c.args.at (plan m (as_supported (act_view c.args.act))) cs f (held c.return_nothing.new.frame) c.return_nothing.result e (c.return_nothing.ensures cs)

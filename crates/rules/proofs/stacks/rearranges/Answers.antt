@@ -15,7 +15,7 @@ pub returns-then-not-has_units : goal.returns-then-not-has_units
 returns-then-not-has_units c =
     let taken : c.units_taken.result ≡ units_taken (stack_forms c.args.operator) = c.units_taken.ensures ∙ ap units_taken c.forms-forms.ensures in
     let fewer : units_of (held c.args.frame.now).stack < c.units_taken.result = has_fewer (units_of (held c.args.frame.now).stack) c.units_taken.result c.has_units.result c.if-not-has_units.true c.has_units.ensures.1 in
-    λ classes. record { outcome = inr (moves_few classes (method_view c.args.body.now) (stack_forms c.args.operator) (held c.args.frame.now) (omega (arith, taken, fewer))) }
+    λ classes. record { outcome = inr (moves_few classes (method_view c.args.method.now) (stack_forms c.args.operator) (held c.args.frame.now) (omega (arith, taken, fewer))) }
 
 pub rearrange-requires : goal.rearrange-requires
 rearrange-requires c =

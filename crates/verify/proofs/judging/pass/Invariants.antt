@@ -1,15 +1,18 @@
-use Rattle.std.proofs.Common.{◌≡◌, [], drop, length}
+use Rattle.std.proofs.Common.{◌≡◌, [], length}
 use Rattle.rules.specs.Held.{held}
 use Rattle.rules.specs.Table.{plan_yet}
 use Rattle.rules.specs.Bodies.{method_view}
 use Rattle.verify.specs.Verdict.{code_judged}
-use Rattle.verify.proofs.Onward.{left}
+use Rattle.verify.proofs.Onward.{Remains}
 use Rattle.verify.proofs.judging.pass.Given as goal
 
-abbrev pub invariant-loop-i : goal.invariant-loop-i
-invariant-loop-i g l = record {
-  same :
-      code_judged plan_yet (g.C.Classes.content l.classes) (method_view l.body) []
-      ≡ left (g.C.Classes.content l.classes) (method_view l.body) (drop l.i l.list) l.comes (held l.frame);
-  locals : length (held l.frame).locals ≡ l.body.method.code.now.max_locals;
+abbrev pub invariant-loop-step : goal.invariant-loop-step
+invariant-loop-step g l = record {
+  left :
+      Remains (g.C.Classes.content l.classes) (method_view l.method) (length l.method.code.now.code.now) l.code l.comes (held l.frame)
+      (code_judged plan_yet (g.C.Classes.content l.classes) (method_view l.method) []);
+  locals : length (held l.frame).locals ≡ l.method.code.now.max_locals;
 }
+
+abbrev pub decreases-loop-step : goal.decreases-loop-step
+decreases-loop-step g l = length l.code.rest

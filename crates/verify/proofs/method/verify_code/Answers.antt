@@ -7,8 +7,10 @@ use Rattle.classfile.proofs.MethodLaws.{method_says}
 use Rattle.insn.specs.Code.{SpellsCode}
 use Rattle.insn.specs.Meanings.{Act}
 use Rattle.insn.specs.Offsets.{acts}
-use Rattle.insn.specs.Views.{views}
+use Rattle.insn.specs.Readings.{instructions_in}
 use Rattle.verify.proofs.MethodCode.{little_code}
+use Rattle.insn.proofs.CodeLaws.{unless_memory}
+use Rattle.verify.proofs.Decoded.{read_spelled}
 use Rattle.verify.proofs.Answering.{left_out, bad_code, given}
 use Rattle.verify.proofs.method.verify_code.Goals as goal
 
@@ -19,8 +21,8 @@ returns-then-not-is_judged g c =
     (method_says {A = Act} (class_view m.class.now) m.number (code_view m.code.now) m.is_static m.is_init
     (option_map type_of m.result_type) m.is_method []) (sym c.is_judged.ensures ∙ c.if-not-is_judged.true)
 
-pub decode_code-requires : goal.decode_code-requires
-decode_code-requires g c = let m = c.args.method in
+pub judge_body-requires-few : goal.judge_body-requires-few
+judge_body-requires-few g c = let m = c.args.method in
     little_code (class_view m.class.now) c.requires.formed m.number (code_view m.code.now) c.requires.coded
 
 pub returns-in-Err : goal.returns-in-Err
@@ -30,14 +32,14 @@ returns-in-Err g c =
     (code_view m.code.now) c.in-Err.fault c.refuse_code.result
     (method_says {A = Act} (class_view m.class.now) m.number (code_view m.code.now) m.is_static m.is_init
     (option_map type_of m.result_type) m.is_method []) (sym c.is_judged.ensures ∙ c.if-not-is_judged.false) c.requires.coded
-    c.in-Err.ensures.fault c.refuse_code.ensures
+    (unless_memory c.in-Err.fault c.in-Err.ensures.fault) c.refuse_code.ensures
 
 pub returns : goal.returns
 returns g c =
     let m = c.args.method in
-    let xs = views c.deref.result.now in
+    let xs = instructions_in m.code.now.code.now in
     let spelled : SpellsCode 0 (code_view m.code.now).code xs =
-    subst (λ z. SpellsCode 0 (code_view m.code.now).code (views z)) (sym c.deref.ensures.value) c.in-Ok.ensures.found in
+    read_spelled (code_view m.code.now).code c.in-Ok.ensures.found.0 c.in-Ok.ensures.found.1 in
     given (g.C.Classes.content c.args.classes.now) (class_view m.class.now) m.number (code_view m.code.now) xs
     (code_method_view {A = Act} m (acts xs)) c.judge_body.result c.requires.coded spelled
     (method_says {A = Act} (class_view m.class.now) m.number (code_view m.code.now) m.is_static m.is_init

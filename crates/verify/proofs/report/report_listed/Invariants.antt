@@ -4,9 +4,9 @@ use Rattle.std.specs.Prelude.{slice_get}
 use Rattle.classfile.specs.Views.{class_view}
 use Rattle.verify.specs.declared.report.MethodVerdict.{MethodVerdict}
 use Rattle.verify.specs.Reports.{IsReported}
-use Rattle.verify.proofs.report.verify_methods.Given as goal
+use Rattle.verify.proofs.report.report_listed.Given as goal
 
 abbrev pub invariant-loop-number : goal.invariant-loop-number
 invariant-loop-number g l =
-    (length l.report.items ≡ l.number)
-    × ((n : ℕ) (r : MethodVerdict) → slice_get l.report.items n ≡ Some r → IsReported (g.C.Classes.content l.classes) (class_view l.formed.class.now) n r)
+    (length l.methods.items ≡ l.number)
+    × ((n : ℕ) (r : MethodVerdict) → slice_get l.methods.items n ≡ Some r → IsReported (g.C.Classes.content l.classes) (class_view l.formed.class.now) n r)

@@ -2,7 +2,7 @@ use Rattle.std.proofs.Common.{◌++◌, ◌∷◌, [], refl, arith}
 use Rattle.std.proofs.lemmas.List.{length-append}
 use Rattle.insn.specs.Views.{located}
 use Rattle.insn.proofs.CodeLaws.{step_read, code_step, code_whole, shorter}
-use Rattle.insn.proofs.decoding.count.Goals as goal
+use Rattle.insn.proofs.decoding.count_instructions.Goals as goal
 
 pub loop-step-preserved : goal.loop-step-preserved
 loop-step-preserved c =

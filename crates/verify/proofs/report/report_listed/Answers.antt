@@ -4,13 +4,13 @@ use Rattle.std.proofs.lemmas.List.{length-append}
 use Rattle.classfile.specs.Views.{class_view}
 use Rattle.verify.specs.Reports.{IsReported}
 use Rattle.verify.proofs.Named.{one_more_item}
-use Rattle.verify.proofs.report.verify_methods.Goals as goal
+use Rattle.verify.proofs.report.report_listed.Goals as goal
 
 pub loop-number-preserved : goal.loop-number-preserved
 loop-number-preserved g c =
     let classes = g.C.Classes.content c.args.classes.now in
     let class = class_view c.args.formed.now.class.now in
-    let old = c.loop-number.report.items in
+    let old = c.loop-number.methods.items in
     let x = c.in_ok-report_on.field-0 in
     let is : c.push.new.self.items ≡ old ++ x ∷ [] = c.in_ok-push.ensures.items in
     let count : length old ≡ c.loop-number.number = c.loop-number.invariant.0 in

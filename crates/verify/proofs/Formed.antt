@@ -5,11 +5,10 @@ use Rattle.classfile.specs.Values.{Class}
 use Rattle.classfile.specs.WellFormed.{WellFormed}
 use Rattle.classfile.specs.declared.class_file.ClassFile.{ClassFile}
 use Rattle.classfile.specs.Views.{class_view}
-use Rattle.answers.specs.Answers.{Forms}
-use Rattle.answers.specs.Files.{Read, IsDecoded, IsFormed, IsRefused}
-use Rattle.answers.specs.declared.refusal.Refusal.{Refusal}
-use Rattle.answers.specs.declared.refusal.Refusal.TheVariants.{Unread, NoClass, Malformed}
-use Rattle.answers.specs.Verdicts.{AreFormed}
+use Rattle.verify.specs.declared.files.FileFault.{FileFault}
+use Rattle.verify.specs.declared.files.FileFault.TheVariants.{OutOfMemory, Unread, NoClass, Malformed}
+use Rattle.verify.specs.Files.{Read, IsDecoded, IsFormed, IsRefused, OrMemory, AreFormed}
+use Rattle.verify.specs.FileSteps.{Forms}
 
 some_same : {A : Type 0} (a b : A) → Some a ≡ Some b → a ≡ b
 some_same a b e = cc
@@ -23,11 +22,12 @@ decoded_formed (Ok bytes) c is formed = (is, formed)
 decoded_formed (Err e) c is formed = is
 
 -- a class that was decoded and breaks a rule
-pub refused_by : (read : Read) (class : ClassFile) (refusal : Refusal) → IsDecoded read (class_view class) → Forms class (Ok (Err refusal)) → IsRefused read refusal
+pub refused_by : (read : Read) (class : ClassFile) (fault : FileFault) → IsDecoded read (class_view class) → Forms class (Err fault) → OrMemory read fault
+refused_by (Ok bytes) class OutOfMemory is broken = tt
 refused_by (Ok bytes) class (Unread e) is broken = absurd broken
 refused_by (Ok bytes) class (NoClass e) is broken = absurd broken
 refused_by (Ok bytes) class (Malformed rule place) is broken = (class_view class, is, broken)
-refused_by (Err e) class refusal is broken = absurd is
+refused_by (Err e) class fault is broken = absurd is
 
 -- one file more
 pub one_more_formed : (reads : List Read) (cs : List Class) (read : Read) (c : Class) → AreFormed reads cs → IsFormed read c → AreFormed (reads ++ read ∷ []) (cs ++ c ∷ [])

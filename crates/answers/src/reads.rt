@@ -1,0 +1,35 @@
+//! Files as the program read them, for the verifier.
+ghost use Rattle.std.specs.Prelude.{◌≡◌, map, IfOk, IfErr};
+ghost use Rattle.verify.specs.Files.{read_of};
+ghost use Rattle.answers.specs.Files.{read_view};
+ghost use Rattle.answers.specs.declared.fault.AnswerFault.TheVariants.{OutOfMemory};
+
+use crate::fault::AnswerFault;
+use layout::StreamFault;
+use std::alloc::Global;
+use verify::FileRead;
+
+/// What was read of a file.
+pub fn file_read(read: &Result<Vec<u8>, StreamFault>) -> FileRead<'_>
+    ensures { read_of result ≡ read_view read.now }
+{
+    match read {
+        Ok(bytes) => FileRead::Bytes(bytes),
+        Err(fault) => FileRead::Unread(fault.why),
+    }
+}
+
+/// What was read of files.
+pub fn file_reads(
+    alloc: Global,
+    reads: &[Result<Vec<u8>, StreamFault>],
+) -> Result<Vec<FileRead<'_>>, AnswerFault>
+    ensures found { IfOk result (λ v. map read_of v.items ≡ map read_view reads.now) }
+    ensures memory { IfErr result (λ e. e ≡ OutOfMemory) }
+{
+    let mut files = Vec::with_capacity(alloc, reads.len())?;
+    for read in reads {
+        files.push(file_read(read))?;
+    }
+    Ok(files)
+}

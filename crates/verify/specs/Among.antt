@@ -1,0 +1,27 @@
+-- What is answered of a class among the classes that it may refer to (JVMS 4.10.1).
+use Rattle.std.specs.Prelude.{◌≡◌, ◌≢◌, ℕ, ◌+◌, List, [], ◌∷◌, map, Result, Ok, Err}
+use Rattle.classfile.specs.Values.{Class}
+use Rattle.hierarchy.specs.declared.fault.HierarchyFault.{HierarchyFault}
+use Rattle.hierarchy.specs.declared.fault.HierarchyFault.TheVariants as hierarchies
+use Rattle.hierarchy.specs.Rules.{IsHierarchy}
+use Rattle.hierarchy.specs.Faults.{FaultOf}
+use Rattle.hierarchy.specs.ClassSummary.{summary_of}
+use Rattle.verify.specs.declared.report.Report.{Report}
+use Rattle.verify.specs.declared.among.AmongFault.{AmongFault}
+use Rattle.verify.specs.declared.among.AmongFault.TheVariants.{OutOfMemory, Refused, KnownRefused, NoHierarchy}
+use Rattle.verify.specs.Files.{Read, IsFormed, IsRefused, AreFormed, IsFirstRefused}
+use Rattle.verify.specs.Reports.{IsReport}
+
+-- The first of these that applies: the class is refused; a known one is, by its number from 1 on, the first of those that are; they are
+-- no hierarchy; and otherwise the verdicts on the methods of the class.
+abbrev pub ReportsAmong : Read → List Read → Result Report AmongFault → Type 0
+ReportsAmong read known (Ok report) =
+    (c : Class) × (cs : List Class) × IsFormed read c × AreFormed known cs
+    × IsHierarchy (map summary_of (c ∷ cs)) × IsReport (map summary_of (c ∷ cs)) c report.methods.items
+ReportsAmong read known (Err OutOfMemory) = Unit {0}
+ReportsAmong read known (Err (Refused fault)) = IsRefused read fault
+ReportsAmong read known (Err (KnownRefused number fault)) =
+    (c : Class) × (i : ℕ) × IsFormed read c × (number ≡ i + 1) × IsFirstRefused known i fault
+ReportsAmong read known (Err (NoHierarchy fault)) =
+    (c : Class) × (cs : List Class) × IsFormed read c × AreFormed known cs
+    × (fault ≢ hierarchies.OutOfMemory) × FaultOf (map summary_of (c ∷ cs)) fault

@@ -1,0 +1,139 @@
+//! A class among the classes that it may refer to.
+ghost use Rattle.std.specs.Prelude.{◌≡◌, ◌∷◌, ◌++◌, [], map, IfOk, IfErr, OnOk, MatchResult};
+ghost use Rattle.classfile.specs.Views.{class_view};
+ghost use Rattle.hierarchy.specs.ClassSummary.{summary_of};
+ghost use Rattle.hierarchy.specs.Summary.{fact_of, facts_of};
+ghost use Rattle.verify.specs.Files.{read_of};
+ghost use Rattle.verify.specs.Among.{ReportsAmong};
+ghost use Rattle.verify.specs.AmongSteps.{Adds, BeginWith, ReportsSummaries, ReportsFormed};
+ghost use Rattle.verify.specs.declared.among.AmongFault.TheVariants.{OutOfMemory};
+
+use crate::files::{FileFault, FileRead, class_in, formed, summary_in};
+use crate::report::{Report, report_listed};
+use crate::verdict::VerifyFault;
+use classfile::Formed;
+use hierarchy::{Chains, HierarchyFault, Summary, summary_of};
+use std::alloc::{AllocError, AllocFailed, Global};
+use std::hash::BuildHasher;
+
+/// Why there are no verdicts on the methods of a class among the classes that it may refer to.
+#[derive(Clone, Copy, Debug)]
+pub enum AmongFault<'a> {
+    /// 1: memory ran out.
+    OutOfMemory,
+    /// The class is none that is well formed.
+    Refused(FileFault),
+    /// The known class of this number, which counts from 1, is none that is well formed; those before it are.
+    KnownRefused { number: usize, fault: FileFault },
+    /// The class and the known ones are no hierarchy: 40 to 46.
+    NoHierarchy(HierarchyFault<'a>),
+}
+
+/// Puts the summaries of the classes that these files are behind those that are there; or tells the first file that is refused.
+fn add_known<'a>(
+    alloc: Global,
+    known: &[FileRead<'a>],
+    summaries: &mut Vec<Summary<'a>>,
+) -> Result<(), AmongFault<'a>>
+    ensures { Adds (map read_of known.now) (facts_of summaries.old.items) (facts_of summaries.new.items) result }
+{
+    for (i, read) in known.iter().enumerate() {
+        match summary_in(alloc, *read) {
+            Ok(summary) => summaries.push(summary)?,
+            Err(FileFault::OutOfMemory) => return Err(AmongFault::OutOfMemory),
+            Err(fault) => {
+                let number = i + 1;
+                return Err(AmongFault::KnownRefused { number, fault });
+            }
+        }
+    }
+    Ok(())
+}
+
+/// The verdicts on the methods of the class whose summary is the first of these; or why they are no hierarchy.
+fn report_in<'a, S: BuildHasher + Drop>(
+    alloc: Global,
+    formed: &Formed<'_, 'a>,
+    summaries: &[Summary<'a>],
+    hasher: S,
+) -> Result<Report<'a>, AmongFault<'a>>
+    requires { BeginWith (facts_of summaries.now) (class_view formed.now.class.now) }
+    ensures { ReportsSummaries (facts_of summaries.now) (class_view formed.now.class.now) result }
+{
+    let chains = match Chains::new(alloc, summaries, hasher) {
+        Ok(chains) => chains,
+        Err(HierarchyFault::OutOfMemory) => return Err(AmongFault::OutOfMemory),
+        Err(fault) => return Err(AmongFault::NoHierarchy(fault)),
+    };
+    match report_listed(alloc, formed, &chains) {
+        Ok(report) => Ok(report),
+        Err(_) => Err(AmongFault::OutOfMemory),
+    }
+}
+
+/// The same of a class that is well formed, and of the files of the known ones.
+fn report_formed<'a, S: BuildHasher + Drop>(
+    alloc: Global,
+    formed: &Formed<'_, 'a>,
+    known: &[FileRead<'a>],
+    hasher: S,
+) -> Result<Report<'a>, AmongFault<'a>>
+    ensures { ReportsFormed (class_view formed.now.class.now) (map read_of known.now) result }
+{
+    let mut summaries = Vec::with_capacity(alloc, known.len())?;
+    summaries.push(summary_of(alloc, formed)?)?;
+    add_known(alloc, known, &mut summaries)?;
+    report_in(alloc, formed, &summaries, hasher)
+}
+
+/// The verdicts on the methods of a class, in the order of the file (JVMS 4.10.1), under the hierarchy of this class and the known ones.
+/// Each file was read so; a class that was not read is refused as one that is no class.
+///
+/// Refused is, by the first of these that holds: the class, for what its reading, [`decode`](classfile::decode) or
+/// [`form_check`](classfile::form_check) refuses; the first of the known ones that is refused for the same; what
+/// [`Chains::new`] refuses of their summaries, the class's own first (40 to 46). 1 where memory ran out.
+pub fn verify_among<'a, S: BuildHasher + Drop>(
+    alloc: Global,
+    class: FileRead<'a>,
+    known: &[FileRead<'a>],
+    hasher: S,
+) -> Result<Report<'a>, AmongFault<'a>>
+    ensures { ReportsAmong (read_of class.entry) (map read_of known.now) result }
+{
+    let class = match class_in(alloc, class) {
+        Ok(class) => class,
+        Err(fault) => return Err(refused(fault)),
+    };
+    match formed(alloc, &class) {
+        Ok(formed) => report_formed(alloc, &formed, known, hasher),
+        Err(fault) => Err(refused(fault)),
+    }
+}
+
+/// What is told where the class itself is refused.
+fn refused<'a>(fault: FileFault) -> AmongFault<'a> {
+    match fault {
+        FileFault::OutOfMemory => AmongFault::OutOfMemory,
+        _ => AmongFault::Refused(fault),
+    }
+}
+
+impl<'a> From<AllocError> for AmongFault<'a> {
+    ghost use Rattle.verify.specs.declared.among.AmongFault.TheVariants.{OutOfMemory};
+
+    ghost from_gives = { λ _ e. e ≡ OutOfMemory };
+
+    fn from(_error: AllocError) -> AmongFault<'a> {
+        AmongFault::OutOfMemory
+    }
+}
+
+impl<'a, T: Drop> From<AllocFailed<T>> for AmongFault<'a> {
+    ghost use Rattle.verify.specs.declared.among.AmongFault.TheVariants.{OutOfMemory};
+
+    ghost from_gives = { λ _ e. e ≡ OutOfMemory };
+
+    fn from(_failed: AllocFailed<T>) -> AmongFault<'a> {
+        AmongFault::OutOfMemory
+    }
+}

@@ -1,0 +1,105 @@
+//! From a file as it was read to a class that is well formed.
+ghost use Rattle.std.specs.Prelude.{◌≡◌, Ok, MatchResult};
+ghost use Rattle.classfile.specs.Views.{class_view};
+ghost use Rattle.verify.specs.Files.{read_of, IsDecoded, IsFormed, OrMemory};
+ghost use Rattle.verify.specs.FileSteps.{Forms, Summarises};
+
+use classfile::{ClassFile, FormFault, FormRule, Formed, Place, decode, form_check};
+use hierarchy::{Summary, summary_of};
+use layout::ReadFault;
+use std::alloc::{AllocError, Global};
+
+/// What was read of a file.
+#[derive(Clone, Copy, Debug)]
+pub enum FileRead<'a> {
+    /// All its bytes.
+    Bytes(&'a [u8]),
+    /// It could not be read, or not to its end.
+    Unread(ReadFault),
+}
+
+/// Why a file is no class that is well formed.
+#[derive(Clone, Copy, Debug)]
+pub enum FileFault {
+    /// 1: memory ran out.
+    OutOfMemory,
+    /// The file could not be read: 15, or what else is said of its reading.
+    Unread(ReadFault),
+    /// The bytes are no class file: 2, 3, 7, 10 to 14 or 16.
+    NoClass(ReadFault),
+    /// The class file is not well formed: 20 to 30, by the first rule that is broken and where.
+    Malformed { rule: FormRule, place: Place },
+}
+
+/// The class file that bytes are, as [`decode`] answers it.
+fn decoded<'a>(alloc: Global, bytes: &'a [u8]) -> Result<ClassFile<'a>, FileFault>
+    ensures { MatchResult result (λ c. IsDecoded (Ok bytes.now) (class_view c)) (OrMemory (Ok bytes.now)) }
+{
+    match decode(alloc, bytes) {
+        Ok(class) => Ok(class),
+        Err(ReadFault::OutOfMemory) => Err(FileFault::OutOfMemory),
+        Err(fault) => Err(FileFault::NoClass(fault)),
+    }
+}
+
+/// The class file that a file is, which was read so.
+pub fn class_in<'a>(
+    alloc: Global,
+    read: FileRead<'a>,
+) -> Result<ClassFile<'a>, FileFault>
+    ensures { MatchResult result (λ c. IsDecoded (read_of read.entry) (class_view c)) (OrMemory (read_of read.entry)) }
+{
+    match read {
+        FileRead::Bytes(bytes) => decoded(alloc, bytes),
+        FileRead::Unread(fault) => Err(FileFault::Unread(fault)),
+    }
+}
+
+/// The class file as one that is well formed, as [`form_check`] answers it.
+pub fn formed<'c, 'a>(
+    alloc: Global,
+    class: &'c ClassFile<'a>,
+) -> Result<Formed<'c, 'a>, FileFault>
+    ensures { Forms class.now result }
+{
+    match form_check(alloc, class) {
+        Ok(formed) => Ok(formed),
+        Err(FormFault::OutOfMemory) => Err(FileFault::OutOfMemory),
+        Err(FormFault::Broken { rule, place }) => Err(FileFault::Malformed { rule, place }),
+    }
+}
+
+/// The class file that a file is, which was read so and is well formed; or why it is none, by the first of these: it could not be read;
+/// what [`decode`] refuses (2, 3, 7, 10 to 14, 16); what [`form_check`] refuses (20 to 30). 1 where memory ran out.
+pub fn class_file<'a>(
+    alloc: Global,
+    read: FileRead<'a>,
+) -> Result<ClassFile<'a>, FileFault>
+    ensures { MatchResult result (λ c. IsFormed (read_of read.entry) (class_view c)) (OrMemory (read_of read.entry)) }
+{
+    let class = class_in(alloc, read)?;
+    formed(alloc, &class)?;
+    Ok(class)
+}
+
+/// The summary of the class that a file is, which was read so; or why it is no class that is well formed.
+pub fn summary_in<'a>(
+    alloc: Global,
+    read: FileRead<'a>,
+) -> Result<Summary<'a>, FileFault>
+    ensures { Summarises (read_of read.entry) result }
+{
+    let class = class_in(alloc, read)?;
+    let formed = formed(alloc, &class)?;
+    Ok(summary_of(alloc, &formed)?)
+}
+
+impl From<AllocError> for FileFault {
+    ghost use Rattle.verify.specs.declared.files.FileFault.TheVariants.{OutOfMemory};
+
+    ghost from_gives = { λ _ e. e ≡ OutOfMemory };
+
+    fn from(_error: AllocError) -> FileFault {
+        FileFault::OutOfMemory
+    }
+}
