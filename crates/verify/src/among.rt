@@ -1,9 +1,9 @@
 //! A class among the classes that it may refer to.
-ghost use Rattle.std.specs.Prelude.{◌≡◌, ◌∷◌, ◌++◌, [], map, IfOk, IfErr, OnOk, MatchResult};
+ghost use Rattle.std.specs.Prelude.{◌≡◌, ℕ, ◌+◌, List, Err, map};
 ghost use Rattle.classfile.specs.Views.{class_view};
-ghost use Rattle.hierarchy.specs.ClassSummary.{summary_of};
-ghost use Rattle.hierarchy.specs.Summary.{fact_of, facts_of};
-ghost use Rattle.verify.specs.Files.{read_of};
+ghost use Rattle.hierarchy.specs.Class.{ClassFact};
+ghost use Rattle.hierarchy.specs.Summary.{facts_of};
+ghost use Rattle.verify.specs.Files.{Read, read_of, OrMemory, IsRefused, IsFirstRefused};
 ghost use Rattle.verify.specs.Among.{ReportsAmong};
 ghost use Rattle.verify.specs.AmongSteps.{Adds, BeginWith, ReportsSummaries, ReportsFormed};
 ghost use Rattle.verify.specs.declared.among.AmongFault.TheVariants.{OutOfMemory};
@@ -29,6 +29,19 @@ pub enum AmongFault<'a> {
     NoHierarchy(HierarchyFault<'a>),
 }
 
+/// What is told where the known class of this number is refused.
+fn known_refused<'a>(number: usize, fault: FileFault) -> AmongFault<'a>
+    ensures { (known : List Read) (read : Read) (i : ℕ) (old new : List ClassFact)
+        → number ≡ i + 1 → OrMemory read fault → (IsRefused read fault → IsFirstRefused known i fault) → Adds known old new (Err result) }
+{
+    match fault {
+        FileFault::OutOfMemory => AmongFault::OutOfMemory,
+        FileFault::Unread(_) | FileFault::NoClass(_) | FileFault::Malformed { .. } => {
+            AmongFault::KnownRefused { number, fault }
+        }
+    }
+}
+
 /// Puts the summaries of the classes that these files are behind those that are there; or tells the first file that is refused.
 fn add_known<'a>(
     alloc: Global,
@@ -40,11 +53,7 @@ fn add_known<'a>(
     for (i, read) in known.iter().enumerate() {
         match summary_in(alloc, *read) {
             Ok(summary) => summaries.push(summary)?,
-            Err(FileFault::OutOfMemory) => return Err(AmongFault::OutOfMemory),
-            Err(fault) => {
-                let number = i + 1;
-                return Err(AmongFault::KnownRefused { number, fault });
-            }
+            Err(fault) => return Err(known_refused(i + 1, fault)),
         }
     }
     Ok(())
@@ -111,10 +120,14 @@ pub fn verify_among<'a, S: BuildHasher + Drop>(
 }
 
 /// What is told where the class itself is refused.
-fn refused<'a>(fault: FileFault) -> AmongFault<'a> {
+fn refused<'a>(fault: FileFault) -> AmongFault<'a>
+    ensures { (read : Read) (known : List Read) → OrMemory read fault → ReportsAmong read known (Err result) }
+{
     match fault {
         FileFault::OutOfMemory => AmongFault::OutOfMemory,
-        _ => AmongFault::Refused(fault),
+        FileFault::Unread(_) | FileFault::NoClass(_) | FileFault::Malformed { .. } => {
+            AmongFault::Refused(fault)
+        }
     }
 }
 

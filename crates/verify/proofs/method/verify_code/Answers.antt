@@ -21,8 +21,8 @@ returns-then-not-is_judged g c =
     (method_says {A = Act} (class_view m.class.now) m.number (code_view m.code.now) m.is_static m.is_init
     (option_map type_of m.result_type) m.is_method []) (sym c.is_judged.ensures ∙ c.if-not-is_judged.true)
 
-pub judge_body-requires-few : goal.judge_body-requires-few
-judge_body-requires-few g c = let m = c.args.method in
+pub judge_body-requires-clause-few : goal.judge_body-requires-clause-few
+judge_body-requires-clause-few g c = let m = c.args.method in
     little_code (class_view m.class.now) c.requires.formed m.number (code_view m.code.now) c.requires.coded
 
 pub returns-in-Err : goal.returns-in-Err
