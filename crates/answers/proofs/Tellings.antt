@@ -25,10 +25,10 @@ of_class Tells read c P formed tells old new r told =
 
 -- of a file that is refused
 refused : (read : Read) (fault : FileFault) → OrMemory read fault → fault ≢ faults.OutOfMemory → IsRefused read fault
-refused read faults.OutOfMemory p no = absurd (no refl)
-refused read (faults.Unread e) p no = p
-refused read (faults.NoClass e) p no = p
-refused read (faults.Malformed rule place) p no = p
+refused read faults.OutOfMemory p other = absurd (other refl)
+refused read (faults.Unread e) p other = p
+refused read (faults.NoClass e) p other = p
+refused read (faults.Malformed rule place) p other = p
 
 pub of_refusal : (Tells : Class → List ℕ → ℕ → Type 0) (read : Read) (fault : FileFault) → OrMemory read fault
     → (old new : Option (List ℕ)) (r : Result ℕ AnswerFault)

@@ -20,7 +20,7 @@ pub fn check<W: Write>(
     ensures { Answered (FileSays CheckTells (read_view read.now)) (W.contents out.old) (W.contents out.new) result }
 {
     match class_file(alloc, file_read(read)) {
-        Ok(_) => tell(&Word("ok\n"), 0, out),
+        Ok(_class) => tell(&Word("ok\n"), 0, out),
         Err(fault) => refuse(fault, out),
     }
 }

@@ -36,10 +36,10 @@ fn refuse<W: Write>(fault: AmongFault<'_>, out: &mut W) -> Result<u8, AnswerFaul
 }
 
 /// Answers `verify` of the file of a class and of the files of the classes that it may refer to, which were read so.
-pub fn verify<S: BuildHasher + Drop, W: Write>(
+pub fn verify<'a, S: BuildHasher + Drop, W: Write>(
     alloc: Global,
-    read: &Result<Vec<u8>, StreamFault>,
-    known: &[Result<Vec<u8>, StreamFault>],
+    read: &'a Result<Vec<u8>, StreamFault>,
+    known: &'a [Result<Vec<u8>, StreamFault>],
     hasher: S,
     out: &mut W,
 ) -> Result<u8, AnswerFault>

@@ -10,7 +10,7 @@ pub returns-in-Ok : goal.returns-in-Ok
 returns-in-Ok g c =
     let held = g.W.Write.contents in
     let read = read_view c.args.read.now in
-    let class = class_view c.in-Ok.field-0 in
+    let class = class_view c.in-Ok._class in
     let formed : IsFormed read class = subst (λ r. IsFormed r class) c.file_read.ensures c.in-Ok.ensures in
     of_class CheckTells read class (CheckTells class) formed (λ text status told. told)
     (held c.args.out.now) (held c.tell.new.out) c.tell.result c.tell.ensures

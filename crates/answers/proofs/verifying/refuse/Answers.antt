@@ -1,0 +1,28 @@
+use Rattle.std.proofs.Common.{◌≡◌, ◌≢◌, ◌∙◌, ◌+◌, inl, inr, Err, ap, sym, subst}
+use Rattle.hierarchy.specs.declared.fault.HierarchyFault.TheVariants.{OutOfMemory}
+use Rattle.verify.specs.declared.among.AmongFault.TheVariants.{KnownRefused, NoHierarchy}
+use Rattle.verify.specs.Among.{ReportsAmong}
+use Rattle.answers.specs.Verdicts.{known_refusal, hierarchy_refusal, VerifySays}
+use Rattle.answers.proofs.Tellings.{answered_more}
+use Rattle.answers.proofs.verifying.refuse.Goals as goal
+
+pub returns-in-KnownRefused : goal.returns-in-KnownRefused
+returns-in-KnownRefused g c = λ read known told.
+    let held = g.W.Write.contents in
+    let number = c.in-KnownRefused.number in
+    let fault = c.in-KnownRefused.fault in
+    let why : ReportsAmong read known (Err (KnownRefused number fault)) = subst (λ e. ReportsAmong read known (Err e)) c.in-KnownRefused.is told in
+    let (class, i, formed, counted, first) = why in
+    answered_more (λ t s. (t ≡ known_refusal number fault) × (s ≡ c.status-in-KnownRefused.result)) (VerifySays read known)
+    (λ text status p. inr (class, formed, inl (i, fault, first, p.0 ∙ ap (λ n. known_refusal n fault) counted, p.1 ∙ c.status-in-KnownRefused.ensures)))
+    (held c.args.out.now) (held c.tell-in-KnownRefused.new.out) c.tell-in-KnownRefused.result c.tell-in-KnownRefused.ensures
+
+pub returns-in-NoHierarchy : goal.returns-in-NoHierarchy
+returns-in-NoHierarchy g c = λ read known told.
+    let held = g.W.Write.contents in
+    let fault = c.in-NoHierarchy.fault in
+    let why : ReportsAmong read known (Err (NoHierarchy fault)) = subst (λ e. ReportsAmong read known (Err e)) c.in-NoHierarchy.is told in
+    let (class, cs, formed, all, other, is) = why in
+    answered_more (λ t s. (t ≡ hierarchy_refusal fault) × (s ≡ 1)) (VerifySays read known)
+    (λ text status p. inr (class, formed, inr (cs, all, inl (fault, other, is, p.0, p.1))))
+    (held c.args.out.now) (held c.tell-in-NoHierarchy.new.out) c.tell-in-NoHierarchy.result c.tell-in-NoHierarchy.ensures

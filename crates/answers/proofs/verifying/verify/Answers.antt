@@ -1,0 +1,37 @@
+use Rattle.std.proofs.Common.{◌≡◌, ◌∙◌, ◌∷◌, Ok, Err, map, inr, ap, sym, subst}
+use Rattle.std.specs.List.{flat_map}
+use Rattle.hierarchy.specs.ClassSummary.{summary_of}
+use Rattle.verify.specs.Files.{read_of}
+use Rattle.verify.specs.Among.{ReportsAmong}
+use Rattle.verify.specs.Reports.{IsReport}
+use Rattle.answers.specs.Files.{read_view}
+use Rattle.answers.specs.Verdicts.{verdict_line, VerifySays}
+use Rattle.answers.proofs.Tellings.{answered_more}
+use Rattle.answers.proofs.verifying.verify.Goals as goal
+
+pub returns-in-Ok-verify_among : goal.returns-in-Ok-verify_among
+returns-in-Ok-verify_among g c =
+    let held = g.W.Write.contents in
+    let read = read_view c.args.read.now in
+    let known = map read_view c.args.known.now in
+    let report = c.in-Ok-verify_among.report in
+    let same : map read_of c.deref.result.now ≡ known = ap (map read_of) c.deref.ensures.value ∙ c.in-Ok.ensures.found in
+    let told : ReportsAmong read known (Ok report) =
+    subst (λ r. ReportsAmong r known (Ok report)) c.file_read.ensures
+    (subst (λ k. ReportsAmong (read_of c.file_read.result) k (Ok report)) same c.in-Ok-verify_among.ensures) in
+    let (class, cs, formed, all, hierarchy, is) = told in
+    let rs = c.deref-in-Ok-verify_among.result.now in
+    let here : IsReport (map summary_of (class ∷ cs)) class rs = subst (IsReport (map summary_of (class ∷ cs)) class) (sym c.deref-in-Ok-verify_among.ensures.value) is in
+    answered_more (λ t s. (t ≡ flat_map verdict_line rs) × (s ≡ c.status.result)) (VerifySays read known)
+    (λ text status p. inr (class, formed, inr (cs, all, inr (hierarchy, (rs, here, p.0, p.1 ∙ c.status.ensures)))))
+    (held c.args.out.now) (held c.tell.new.out) c.tell.result c.tell.ensures
+
+pub returns : goal.returns
+returns g c =
+    let read = read_view c.args.read.now in
+    let known = map read_view c.args.known.now in
+    let fault = c.in-Err-verify_among.fault in
+    let same : map read_of c.deref.result.now ≡ known = ap (map read_of) c.deref.ensures.value ∙ c.in-Ok.ensures.found in
+    c.refuse.ensures read known
+    (subst (λ r. ReportsAmong r known (Err fault)) c.file_read.ensures
+    (subst (λ k. ReportsAmong (read_of c.file_read.result) k (Err fault)) same c.in-Err-verify_among.ensures))
