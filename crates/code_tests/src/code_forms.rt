@@ -1,7 +1,7 @@
 use insn::{
     CodeFault, Form, Insn, Instructions, Kind, LookupSwitch, Opcode, Operands, Pairs,
     StackOperator, StackPlace, TableSwitch, Targets, computed_as, decode_code, encode_code,
-    is_start, mnemonic, takes_array,
+    is_rising_start, is_start, mnemonic, takes_array,
 };
 use layout::MAX_CODE_BYTES;
 use names::Primitive;
@@ -279,7 +279,9 @@ fn starts_in_code(rt: HostRuntime) -> Result<(), Fail> {
         (5, false),
     ] {
         assert_eq!(rt; is_start(&list, at), start);
+        assert_eq!(rt; is_rising_start(&list, at), start);
     }
     assert!(rt; !is_start(&[], 0));
+    assert!(rt; is_start(&[list[1], list[0]], 0));
     Ok(())
 }
