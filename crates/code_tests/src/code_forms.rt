@@ -279,9 +279,24 @@ fn starts_in_code(rt: HostRuntime) -> Result<(), Fail> {
         (5, false),
     ] {
         assert_eq!(rt; is_start(&list, at), start);
-        assert_eq!(rt; is_rising_start(&list, at), start);
     }
     assert!(rt; !is_start(&[], 0));
-    assert!(rt; is_start(&[list[1], list[0]], 0));
     Ok(())
+}
+
+#[test]
+fn starts_by_halving(rt: HostRuntime) -> Result<(), Fail> {
+    let list = decode_code(rt.alloc(), &[0x03, 0x10, 7, 0x57, 0xB1])?;
+    assert!(rt; is_rising_start(&list, 3));
+    assert!(rt; !is_rising_start(&list, 2));
+    Ok(())
+}
+
+#[test]
+fn start_behind_a_later_one(rt: HostRuntime) {
+    let nop = Insn {
+        opcode: Opcode::Nop,
+        operands: Operands::Nothing,
+    };
+    assert!(rt; is_start(&[(3, nop), (0, nop)], 0));
 }
