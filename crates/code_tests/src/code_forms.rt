@@ -1,7 +1,7 @@
 use insn::{
     CodeFault, Form, Insn, Instructions, Kind, LookupSwitch, Opcode, Operands, Pairs,
     StackOperator, StackPlace, TableSwitch, Targets, computed_as, decode_code, encode_code,
-    is_start, mnemonic, takes_array,
+    is_rising_start, is_start, mnemonic, takes_array,
 };
 use layout::MAX_CODE_BYTES;
 use names::Primitive;
@@ -282,4 +282,21 @@ fn starts_in_code(rt: HostRuntime) -> Result<(), Fail> {
     }
     assert!(rt; !is_start(&[], 0));
     Ok(())
+}
+
+#[test]
+fn starts_by_halving(rt: HostRuntime) -> Result<(), Fail> {
+    let list = decode_code(rt.alloc(), &[0x03, 0x10, 7, 0x57, 0xB1])?;
+    assert!(rt; is_rising_start(&list, 3));
+    assert!(rt; !is_rising_start(&list, 2));
+    Ok(())
+}
+
+#[test]
+fn start_behind_a_later_one(rt: HostRuntime) {
+    let nop = Insn {
+        opcode: Opcode::Nop,
+        operands: Operands::Nothing,
+    };
+    assert!(rt; is_start(&[(3, nop), (0, nop)], 0));
 }

@@ -12,6 +12,7 @@ use Rattle.frames.specs.VerificationType.{VerificationType, uninit_this, uninit}
 use Rattle.frames.specs.FrameFact.{FrameFact}
 use Rattle.frames.specs.Slots.{to_reference, units_of, in_locals, all_locals}
 use Rattle.frames.specs.Conditions.{Reason, reason, Conditions, least}
+use Rattle.frames.specs.FrameReasons.{bad_index, wrong_kind, locals_over, stack_over, chop_too_many, not_a_start, not_a_new}
 use Rattle.frames.specs.StackMaps.{TypeInfo, top, integer, float, double, long, null, uninitialized_this, object, uninitialized, MapEntry, same, same_with_item, same_with_item_extended, chop, same_extended, append, full}
 
 -- ---- types
@@ -124,13 +125,13 @@ chops_more _ before = false
 module _ (pool : List Entry) (code : List (ℕ × Act)) (max_locals max_stack : ℕ) where
   abbrev pub entry_conditions : ℕ → MapEntry → List VerificationType → List VerificationType → List VerificationType → Conditions
   entry_conditions at e before locals stack =
-      (reason 8, any_info (names_nothing pool) (infos_of e))
-      ∷ (reason 9, any_info (names_no_class pool) (infos_of e))
-      ∷ (reason 49, nat_lt max_locals (length (in_locals locals)))
-      ∷ (reason 50, nat_lt max_stack (units_of stack))
-      ∷ (reason 51, chops_more e before)
-      ∷ (reason 52, not (has_offset code at))
-      ∷ (reason 53, any_info (is_made_nowhere code) (infos_of e))
+      (reason bad_index, any_info (names_nothing pool) (infos_of e))
+      ∷ (reason wrong_kind, any_info (names_no_class pool) (infos_of e))
+      ∷ (reason locals_over, nat_lt max_locals (length (in_locals locals)))
+      ∷ (reason stack_over, nat_lt max_stack (units_of stack))
+      ∷ (reason chop_too_many, chops_more e before)
+      ∷ (reason not_a_start, not (has_offset code at))
+      ∷ (reason not_a_new, any_info (is_made_nowhere code) (infos_of e))
       ∷ []
 
   abbrev pub frame_with : List VerificationType → List VerificationType → FrameFact

@@ -4,6 +4,7 @@ pub mod Assignable
 pub mod FrameAssignable
 pub mod Meaning
 pub mod Conditions
+pub mod FrameReasons
 pub mod Slots
 pub mod StackMaps
 pub mod DeclaredFrames

@@ -1,9 +1,10 @@
--- The program's table of opcodes: the row of an opcode stands at its number.
+-- The program's tables: the row of an opcode stands at its number, that of an operator at its place.
 use Rattle.std.proofs.Common.{◌≡◌, ℕ, ◌<◌, ◌≤◌, List, length, get_or, map, Option, Some, None, refl, sym, ap, ◌∙◌}
 use Rattle.std.specs.Prelude.{slice_get, slice_index_or, option_map, unwrap_or}
-use Rattle.std.proofs.lemmas.Option.{slice_get-map, slice_get_past, slice_get_read, unwrap_or-slice_get}
+use Rattle.std.proofs.lemmas.List.{length-map}
+use Rattle.std.proofs.lemmas.Option.{slice_get-map, slice_get_past, slice_get_read, slice_get_within, unwrap_or-slice_get}
 use Rattle.insn.specs.declared.opcode.Opcode.{Opcode}
-use Rattle.insn.specs.Opcodes.{Row, row, number, opcodes, opcode_of}
+use Rattle.insn.specs.Opcodes.{row, number, opcodes, opcode_of}
 use Rattle.insn.specs.Table.{TableRow, table_row, table_opcode}
 use Rattle.insn.proofs.Numbers.{by_number}
 
@@ -12,12 +13,22 @@ some_of f (Some x) d y e = cc
 some_of f None d y e = absurd cc
 
 -- where two lists of rows agree, what one has at a place is what the other has
+pub row_there : {R O A : Type 0} (view : R → A) (of : O → A) (all : List O) (o : O) (n : ℕ) (rows : List R) (d : R)
+    → map view rows ≡ map of all → slice_get all n ≡ Some o → view (slice_index_or rows n d) ≡ of o
+row_there {A = A} view of all o n rows d same found =
+    let mapped : slice_get (map view rows) n ≡ Some (of o) = ap (λ (xs : List A). slice_get xs n) same ∙ slice_get-map of all n ∙ ap (option_map of) found in
+    let there : option_map view (slice_get rows n) ≡ Some (of o) = sym (slice_get-map view rows n) ∙ mapped in
+    ap view (sym (unwrap_or-slice_get rows n d)) ∙ some_of view (slice_get rows n) d (of o) there
+
+-- and it has so many rows
+pub row_within : {R O A : Type 0} (view : R → A) (of : O → A) (all : List O) (o : O) (n : ℕ) (rows : List R)
+    → map view rows ≡ map of all → slice_get all n ≡ Some o → n < length rows
+row_within {A = A} view of all o n rows same found =
+    let many : length rows ≡ length all = sym (length-map rows view) ∙ ap (λ (xs : List A). length xs) same ∙ length-map all of in
+    rw many (slice_get_within all n o found)
+
 pub row_at : (rows : List TableRow) (n : ℕ) (o : Opcode) (d : TableRow) → map table_row rows ≡ map row opcodes → n ≡ number o → table_row (slice_index_or rows n d) ≡ row o
-row_at rows n o d same is =
-    let found : slice_get opcodes n ≡ Some o = ap opcode_of is ∙ by_number o in
-    let mapped : slice_get (map table_row rows) n ≡ Some (row o) = ap (λ (xs : List Row). slice_get xs n) same ∙ slice_get-map row opcodes n ∙ ap (option_map row) found in
-    let there : option_map table_row (slice_get rows n) ≡ Some (row o) = sym (slice_get-map table_row rows n) ∙ mapped in
-    ap table_row (sym (unwrap_or-slice_get rows n d)) ∙ some_of table_row (slice_get rows n) d (row o) there
+row_at rows n o d same is = row_there table_row row opcodes o n rows d same (ap opcode_of is ∙ by_number o)
 
 -- the rows have the opcodes in their order
 opcode_at : (rows : List TableRow) (n : ℕ) → map table_opcode rows ≡ opcodes → option_map table_opcode (slice_get rows n) ≡ opcode_of n

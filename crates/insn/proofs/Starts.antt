@@ -1,5 +1,7 @@
 -- Offsets in a list of instructions.
 use Rattle.std.proofs.Common.{◌≡◌, ℕ, ◌+◌, ◌<◌, ◌≤◌, zero, suc, Bool, true, false, eqb, List, [], ◌∷◌, length, get_or, Option, Some, if◌then◌else◌, Result, Ok, Err, refl, sym, ap, ◌∙◌, arith}
+use Rattle.std.specs.Prelude.{◌||◌}
+use Rattle.std.specs.List.{list_any}
 use Rattle.std.specs.Option.{is_some}
 use Rattle.std.specs.Result.{is_ok}
 use Rattle.std.specs.List.Sorted.{IsSearchInRange, IsBinarySearchResult, IsNonDecreasingBy}
@@ -55,12 +57,20 @@ module _ (xs : List (ℕ × Insn)) (at : ℕ) where
 
   -- what a binary search answers
   pub searched : (r : Result ℕ ℕ) → IsSearchInRange r (length xs) → IsBinarySearchResult (λ (x : ℕ × Insn). nat_cmp x.0 at) xs r
-      → (is_ok r ≡ true → has_offset (views xs) at ≡ true) × (StartsRise 0 (views xs) → is_ok r ≡ has_offset (views xs) at)
-  searched (Ok k) within equal = let found = start_at xs k at none within (ranked _ at _ (sym (equal none))) in (λ _. found, λ _. sym found)
-  searched (Err k) within parted = (
-    λ e. absurd cc,
-    λ r. sym (no_start xs at none (λ j lt same.
-        let below : j < k → ⊥ = λ h. absurd (omega (arith, same, ranked _ at _ (sym ((parted (rises r)).0 j none (omega arith) h)))) in
-        let above : k ≤ j → ⊥ = λ h. absurd (omega (arith, same, ranked _ at _ (sym ((parted (rises r)).1 j none h lt)))) in
-        grind (arith, below, above))),
-  )
+      → StartsRise 0 (views xs) → is_ok r ≡ has_offset (views xs) at
+  searched (Ok k) within equal r = sym (start_at xs k at none within (ranked _ at _ (sym (equal none))))
+  searched (Err k) within parted r =
+      sym (no_start xs at none (λ j lt same.
+      let below : j < k → ⊥ = λ h. absurd (omega (arith, same, ranked _ at _ (sym ((parted (rises r)).0 j none (omega arith) h)))) in
+      let above : k ≤ j → ⊥ = λ h. absurd (omega (arith, same, ranked _ at _ (sym ((parted (rises r)).1 j none h lt)))) in
+      grind (arith, below, above)))
+
+-- ---- one after the other
+
+either : {A : Type 0} → (b : Bool) (a : A) (o : Option A) (rest : Bool) → rest ≡ is_some o → (b || rest) ≡ is_some (if b then Some a else o)
+either true a o rest e = refl
+either false a o rest e = e
+
+pub looked : (xs : List (ℕ × Insn)) (at : ℕ) → list_any (λ x. eqb x.0 at) xs ≡ has_offset (views xs) at
+looked [] at = refl
+looked (x ∷ xs) at = either (eqb x.0 at) (view x.1) (at_offset (views xs) at) (list_any (λ x. eqb x.0 at) xs) (looked xs at)

@@ -1,6 +1,6 @@
 -- Instructions by their meaning: what numeric instructions take and give, what the instructions for the stack move, and
 -- which arrays element instructions take (JVMS 2.11, 6.5).
-use Rattle.std.specs.Prelude.{ℕ, Bool, true, false, List, [], ◌∷◌}
+use Rattle.std.specs.Prelude.{ℕ, Bool, true, false, if◌then◌else◌, List, [], ◌∷◌}
 use Rattle.names.specs.declared.base.Primitive.{Primitive}
 use Rattle.names.specs.declared.base.Primitive.TheVariants as primitives
 use Rattle.insn.specs.declared.operation.Kind.{Kind}
@@ -18,6 +18,10 @@ is_wide Int = false
 is_wide Float = false
 is_wide Long = true
 is_wide Double = true
+
+-- how many locals, and units of the stack's depth, it takes
+abbrev pub kind_units : Kind → ℕ
+kind_units kind = if is_wide kind then 2 else 1
 
 -- ---- numeric instructions
 
@@ -90,6 +94,17 @@ numeric_row Fcmpg = two Float Float Int
 numeric_row Dcmpl = two Double Double Int
 numeric_row Dcmpg = two Double Double Int
 
+-- the operators in their order
+abbrev pub numeric_operators : List NumericOperator
+numeric_operators =
+    Iadd ∷ Ladd ∷ Fadd ∷ Dadd ∷ Isub ∷ Lsub ∷ Fsub ∷ Dsub ∷
+    Imul ∷ Lmul ∷ Fmul ∷ Dmul ∷ Idiv ∷ Ldiv ∷ Fdiv ∷ Ddiv ∷
+    Irem ∷ Lrem ∷ Frem ∷ Drem ∷ Ineg ∷ Lneg ∷ Fneg ∷ Dneg ∷
+    Ishl ∷ Lshl ∷ Ishr ∷ Lshr ∷ Iushr ∷ Lushr ∷ Iand ∷ Land ∷
+    Ior ∷ Lor ∷ Ixor ∷ Lxor ∷ I2l ∷ I2f ∷ I2d ∷ L2i ∷
+    L2f ∷ L2d ∷ F2i ∷ F2l ∷ F2d ∷ D2i ∷ D2l ∷ D2f ∷
+    I2b ∷ I2c ∷ I2s ∷ Lcmp ∷ Fcmpl ∷ Fcmpg ∷ Dcmpl ∷ Dcmpg ∷ []
+
 -- ---- instructions for the stack
 
 -- the places taken, the top first, and the places that stand then, each by its number among those taken (JVMS 2.11.1,
@@ -117,6 +132,10 @@ stack_forms Dup2X2 =
     ∷ stack_form (Wide ∷ Wide ∷ []) (0 ∷ 1 ∷ 0 ∷ [])
     ∷ []
 stack_forms Swap = stack_form (Narrow ∷ Narrow ∷ []) (1 ∷ 0 ∷ []) ∷ []
+
+-- the operators in their order
+abbrev pub stack_operators : List StackOperator
+stack_operators = Pop ∷ Pop2 ∷ Dup ∷ DupX1 ∷ DupX2 ∷ Dup2 ∷ Dup2X1 ∷ Dup2X2 ∷ Swap ∷ []
 
 -- ---- arrays
 

@@ -1,12 +1,18 @@
--- The program's table of opcodes.
-use Rattle.std.specs.Prelude.{ℕ, List}
+-- The program's tables: of opcodes, of numeric operators, and of the operators that move what is on the stack.
+use Rattle.std.specs.Prelude.{ℕ, List, map}
 use denote.Ref.{Bor}
 use Rattle.insn.specs.declared.opcode.Opcode.{Opcode}
+use Rattle.insn.specs.declared.operation.Kind.{Kind}
 use Rattle.insn.specs.declared.operation.Meaning.{Meaning}
+use Rattle.insn.specs.declared.operation.NumericOperator.{NumericOperator}
+use Rattle.insn.specs.declared.stack.StackForm as forms
+use Rattle.insn.specs.declared.stack.StackOperator.{StackOperator}
 use Rattle.insn.specs.declared.table.Form.{Form}
+use Rattle.insn.specs.Acts.{NumericRow, StackForm}
 use Rattle.insn.specs.Opcodes.{Row, number}
+use Rattle.insn.specs.Views.{stack_form_view}
 
--- a row of the program's table
+-- a row of the table of opcodes
 abbrev pub TableRow : Type 0
 TableRow = Opcode × Bor (List ℕ) × Form × Meaning
 
@@ -15,3 +21,23 @@ table_row r = record { number = number r.0; mnemonic = r.1.now; form = r.2; mean
 
 abbrev pub table_opcode : TableRow → Opcode
 table_opcode r = r.0
+
+-- a row of the numeric operators
+abbrev pub NumericTableRow : Type 0
+NumericTableRow = NumericOperator × Bor (List Kind) × Kind
+
+abbrev pub numeric_table_row : NumericTableRow → NumericRow
+numeric_table_row r = record { taken = r.1.now; given = r.2 }
+
+abbrev pub numeric_table_operator : NumericTableRow → NumericOperator
+numeric_table_operator r = r.0
+
+-- a row of the operators that move what is on the stack
+abbrev pub StackTableRow : Type 0
+StackTableRow = StackOperator × Bor (List forms.StackForm)
+
+abbrev pub stack_table_row : StackTableRow → List StackForm
+stack_table_row r = map stack_form_view r.1.now
+
+abbrev pub stack_table_operator : StackTableRow → StackOperator
+stack_table_operator r = r.0

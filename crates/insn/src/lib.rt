@@ -41,7 +41,7 @@ pub use code_array::Instructions;
 pub use decoding::{count_instructions, decode_code};
 pub use encoding::encode_code;
 pub use fault::CodeFault;
-pub use instruction::{Insn, Operands, is_start, mnemonic};
+pub use instruction::{Insn, Operands, is_rising_start, is_start, mnemonic};
 pub use laws::{
     code_is_one_list, list_is_one_code, opcodes_have_numbers, read_is_written,
     readings_are_spellings, written_is_read,

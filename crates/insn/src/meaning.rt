@@ -1,7 +1,7 @@
 //! What an instruction means, from its opcode and its operands. No call takes memory.
 ghost use Rattle.std.specs.Prelude.{◌≡◌};
 ghost use Rattle.insn.specs.Code.{modified};
-ghost use Rattle.insn.specs.Meanings.{act, act_of, local_of, index_of, byte_of, offset_of, offsets_of, element_of};
+ghost use Rattle.insn.specs.Meanings.{Switch, act, act_of, local_of, index_of, byte_of, offset_of, offsets_of, element_of};
 ghost use Rattle.insn.specs.Views.{view, operands_view, act_view, targets_view};
 
 use crate::instruction::{Insn, Operands, modified};
@@ -22,9 +22,8 @@ pub fn act<'a>(insn: &Insn<'a>) -> Act<'a>
 fn act_of<'a>(meaning: Meaning, operands: Operands<'a>) -> Act<'a>
     ensures { act_view result ≡ act_of meaning (operands_view operands.entry) }
 {
-    let local = local_of(operands);
-    let index = index_of(operands);
-    let offset = offset_of(operands);
+    let parts = parts_of(operands);
+    let (local, index, byte, offset) = (parts.local, parts.index, parts.byte, parts.offset);
     match meaning {
         Meaning::Nothing => Act::Nothing,
         Meaning::Constant(kind) => Act::Constant(kind),
@@ -47,10 +46,7 @@ fn act_of<'a>(meaning: Meaning, operands: Operands<'a>) -> Act<'a>
         Meaning::IfReferences => Act::IfReferences { offset },
         Meaning::IfNull => Act::IfNull { offset },
         Meaning::Goto => Act::Goto { offset },
-        Meaning::Switch => Act::Switch {
-            default: offset,
-            targets: targets_of(operands),
-        },
+        Meaning::Switch => switch(parts),
         Meaning::Return(kind) => Act::Return(kind),
         Meaning::ReturnReference => Act::ReturnReference,
         Meaning::ReturnVoid => Act::ReturnVoid,
@@ -61,21 +57,18 @@ fn act_of<'a>(meaning: Meaning, operands: Operands<'a>) -> Act<'a>
         Meaning::InvokeVirtual => Act::InvokeVirtual { index },
         Meaning::InvokeSpecial => Act::InvokeSpecial { index },
         Meaning::InvokeStatic => Act::InvokeStatic { index },
-        Meaning::InvokeInterface => Act::InvokeInterface {
-            index,
-            count: byte_of(operands),
-        },
+        Meaning::InvokeInterface => Act::InvokeInterface { index, count: byte },
         Meaning::New => Act::New { index },
         Meaning::LoadElement(element) => Act::LoadElement(element),
         Meaning::StoreElement(element) => Act::StoreElement(element),
         Meaning::LoadReferenceElement => Act::LoadReferenceElement,
         Meaning::StoreReferenceElement => Act::StoreReferenceElement,
         Meaning::ArrayLength => Act::ArrayLength,
-        Meaning::NewArray => Act::NewArray(element_of(byte_of(operands))),
+        Meaning::NewArray => Act::NewArray(element_of(byte)),
         Meaning::NewReferenceArray => Act::NewReferenceArray { index },
         Meaning::NewMultiArray => Act::NewMultiArray {
             index,
-            dimensions: byte_of(operands),
+            dimensions: byte,
         },
         Meaning::CheckCast => Act::CheckCast { index },
         Meaning::InstanceOf => Act::InstanceOf { index },
@@ -85,128 +78,78 @@ fn act_of<'a>(meaning: Meaning, operands: Operands<'a>) -> Act<'a>
     }
 }
 
-/// The number of a local variable.
-fn local_of(operands: Operands<'_>) -> u16
-    ensures { result ≡ local_of (operands_view operands.entry) }
-{
-    match operands {
-        Operands::Local(local) => u16::from(local),
-        Operands::Increment { local, .. } => u16::from(local),
-        Operands::WideLocal { local, .. } => local,
-        Operands::WideIncrement { local, .. } => local,
-        Operands::Nothing
-        | Operands::Byte(_)
-        | Operands::Short(_)
-        | Operands::Constant(_)
-        | Operands::Index(_)
-        | Operands::Branch(_)
-        | Operands::WideBranch(_)
-        | Operands::InvokeInterface { .. }
-        | Operands::InvokeDynamic { .. }
-        | Operands::NewArray(_)
-        | Operands::MultiNewArray { .. }
-        | Operands::TableSwitch(_)
-        | Operands::LookupSwitch(_) => 0,
-    }
+/// What acts take of operands; what an instruction has not counts as 0.
+#[derive(Clone, Copy)]
+struct Parts<'a> {
+    /// The number of a local variable.
+    local: u16,
+    /// An index into the constant pool.
+    index: u16,
+    /// A count, a number of dimensions, or the number of an element type.
+    byte: u8,
+    /// Where a branch goes, and a switch for other keys.
+    offset: i32,
+    /// Where a switch goes.
+    targets: Targets<'a>,
 }
 
-/// An index into the constant pool.
-fn index_of(operands: Operands<'_>) -> u16
-    ensures { result ≡ index_of (operands_view operands.entry) }
+/// What acts take of these operands.
+fn parts_of<'a>(operands: Operands<'a>) -> Parts<'a>
+    ensures local { result.local ≡ local_of (operands_view operands.entry) }
+    ensures index { result.index ≡ index_of (operands_view operands.entry) }
+    ensures byte { result.byte ≡ byte_of (operands_view operands.entry) }
+    ensures offset { result.offset ≡ offset_of (operands_view operands.entry) }
+    ensures targets { targets_view result.targets ≡ offsets_of (operands_view operands.entry) }
 {
+    let mut parts = Parts {
+        local: 0,
+        index: 0,
+        byte: 0,
+        offset: 0,
+        targets: Targets::Offsets(&[]),
+    };
     match operands {
-        Operands::Constant(index) => u16::from(index),
-        Operands::Index(index) => index,
-        Operands::InvokeInterface { index, .. } => index,
-        Operands::InvokeDynamic { index } => index,
-        Operands::MultiNewArray { index, .. } => index,
-        Operands::Nothing
-        | Operands::Byte(_)
-        | Operands::Short(_)
-        | Operands::Local(_)
-        | Operands::Increment { .. }
-        | Operands::Branch(_)
-        | Operands::WideBranch(_)
-        | Operands::NewArray(_)
-        | Operands::TableSwitch(_)
-        | Operands::LookupSwitch(_)
-        | Operands::WideLocal { .. }
-        | Operands::WideIncrement { .. } => 0,
+        Operands::Nothing | Operands::Byte(_) | Operands::Short(_) => {}
+        Operands::Constant(index) => parts.index = u16::from(index),
+        Operands::Index(index) | Operands::InvokeDynamic { index } => parts.index = index,
+        Operands::Local(local) | Operands::Increment { local, .. } => {
+            parts.local = u16::from(local);
+        }
+        Operands::WideLocal { local, .. } | Operands::WideIncrement { local, .. } => {
+            parts.local = local;
+        }
+        Operands::Branch(offset) => parts.offset = i32::from(offset),
+        Operands::WideBranch(offset) => parts.offset = offset,
+        Operands::InvokeInterface { index, count } => {
+            parts.index = index;
+            parts.byte = count;
+        }
+        Operands::NewArray(element) => parts.byte = element,
+        Operands::MultiNewArray { index, dimensions } => {
+            parts.index = index;
+            parts.byte = dimensions;
+        }
+        Operands::TableSwitch(bytes) => {
+            let switch = TableSwitch::new(bytes);
+            parts.offset = switch.default;
+            parts.targets = Targets::Offsets(switch.offsets);
+        }
+        Operands::LookupSwitch(bytes) => {
+            let switch = LookupSwitch::new(bytes);
+            parts.offset = switch.default;
+            parts.targets = Targets::Pairs(switch.pairs);
+        }
     }
+    parts
 }
 
-/// A count, a number of dimensions, or the number of an element type.
-fn byte_of(operands: Operands<'_>) -> u8
-    ensures { result ≡ byte_of (operands_view operands.entry) }
+/// The act of a switch with these operands.
+fn switch<'a>(parts: Parts<'a>) -> Act<'a>
+    ensures { act_view result ≡ Switch parts.entry.offset (targets_view parts.entry.targets) }
 {
-    match operands {
-        Operands::InvokeInterface { count, .. } => count,
-        Operands::MultiNewArray { dimensions, .. } => dimensions,
-        Operands::NewArray(element) => element,
-        Operands::Nothing
-        | Operands::Byte(_)
-        | Operands::Short(_)
-        | Operands::Constant(_)
-        | Operands::Index(_)
-        | Operands::Local(_)
-        | Operands::Increment { .. }
-        | Operands::Branch(_)
-        | Operands::WideBranch(_)
-        | Operands::InvokeDynamic { .. }
-        | Operands::TableSwitch(_)
-        | Operands::LookupSwitch(_)
-        | Operands::WideLocal { .. }
-        | Operands::WideIncrement { .. } => 0,
-    }
-}
-
-/// Where a branch goes, and a switch for other keys.
-fn offset_of(operands: Operands<'_>) -> i32
-    ensures { result ≡ offset_of (operands_view operands.entry) }
-{
-    match operands {
-        Operands::Branch(offset) => i32::from(offset),
-        Operands::WideBranch(offset) => offset,
-        Operands::TableSwitch(bytes) => TableSwitch::new(bytes).default,
-        Operands::LookupSwitch(bytes) => LookupSwitch::new(bytes).default,
-        Operands::Nothing
-        | Operands::Byte(_)
-        | Operands::Short(_)
-        | Operands::Constant(_)
-        | Operands::Index(_)
-        | Operands::Local(_)
-        | Operands::Increment { .. }
-        | Operands::InvokeInterface { .. }
-        | Operands::InvokeDynamic { .. }
-        | Operands::NewArray(_)
-        | Operands::MultiNewArray { .. }
-        | Operands::WideLocal { .. }
-        | Operands::WideIncrement { .. } => 0,
-    }
-}
-
-/// Where a switch goes.
-fn targets_of<'a>(operands: Operands<'a>) -> Targets<'a>
-    ensures { targets_view result ≡ offsets_of (operands_view operands.entry) }
-{
-    match operands {
-        Operands::TableSwitch(bytes) => Targets::Offsets(TableSwitch::new(bytes).offsets),
-        Operands::LookupSwitch(bytes) => Targets::Pairs(LookupSwitch::new(bytes).pairs),
-        Operands::Nothing
-        | Operands::Byte(_)
-        | Operands::Short(_)
-        | Operands::Constant(_)
-        | Operands::Index(_)
-        | Operands::Local(_)
-        | Operands::Increment { .. }
-        | Operands::Branch(_)
-        | Operands::WideBranch(_)
-        | Operands::InvokeInterface { .. }
-        | Operands::InvokeDynamic { .. }
-        | Operands::NewArray(_)
-        | Operands::MultiNewArray { .. }
-        | Operands::WideLocal { .. }
-        | Operands::WideIncrement { .. } => Targets::Offsets(&[]),
+    Act::Switch {
+        default: parts.offset,
+        targets: parts.targets,
     }
 }
 

@@ -1,6 +1,6 @@
 //! The meaning of an instruction, without its form.
 ghost use Rattle.std.specs.Prelude.{◌≡◌};
-ghost use Rattle.insn.specs.Acts.{is_wide, takes_array, numeric_row};
+ghost use Rattle.insn.specs.Acts.{is_wide, kind_units, takes_array};
 ghost use Rattle.insn.specs.Stacks.{computed_as};
 
 use crate::stack::StackOperator;
@@ -23,6 +23,14 @@ impl Kind {
         ensures { result ≡ is_wide self }
     {
         matches!(self, Kind::Long | Kind::Double)
+    }
+
+    /// How many local variables, and units of the stack's depth, a number of the kind takes: 2 where
+    /// it is wide, otherwise 1 (JVMS 2.6.1, 2.6.2).
+    pub fn units(self) -> usize
+        ensures { result ≡ kind_units self }
+    {
+        if self.is_wide() { 2 } else { 1 }
     }
 }
 
@@ -174,73 +182,6 @@ pub enum NumericOperator {
     Dcmpl,
     /// `dcmpg`
     Dcmpg,
-}
-
-impl NumericOperator {
-    /// The kinds of the numbers taken, the top of the stack first, and the kind of the one given.
-    pub fn row(self) -> (&'static [Kind], Kind)
-        ensures taken { result.0.now ≡ (numeric_row self).taken }
-        ensures given { result.1 ≡ (numeric_row self).given }
-    {
-        match self {
-            NumericOperator::Iadd => (&[Kind::Int, Kind::Int], Kind::Int), // iadd = 96 (0x60)
-            NumericOperator::Ladd => (&[Kind::Long, Kind::Long], Kind::Long), // ladd = 97 (0x61)
-            NumericOperator::Fadd => (&[Kind::Float, Kind::Float], Kind::Float), // fadd = 98 (0x62)
-            NumericOperator::Dadd => (&[Kind::Double, Kind::Double], Kind::Double), // dadd = 99 (0x63)
-            NumericOperator::Isub => (&[Kind::Int, Kind::Int], Kind::Int), // isub = 100 (0x64)
-            NumericOperator::Lsub => (&[Kind::Long, Kind::Long], Kind::Long), // lsub = 101 (0x65)
-            NumericOperator::Fsub => (&[Kind::Float, Kind::Float], Kind::Float), // fsub = 102 (0x66)
-            NumericOperator::Dsub => (&[Kind::Double, Kind::Double], Kind::Double), // dsub = 103 (0x67)
-            NumericOperator::Imul => (&[Kind::Int, Kind::Int], Kind::Int), // imul = 104 (0x68)
-            NumericOperator::Lmul => (&[Kind::Long, Kind::Long], Kind::Long), // lmul = 105 (0x69)
-            NumericOperator::Fmul => (&[Kind::Float, Kind::Float], Kind::Float), // fmul = 106 (0x6a)
-            NumericOperator::Dmul => (&[Kind::Double, Kind::Double], Kind::Double), // dmul = 107 (0x6b)
-            NumericOperator::Idiv => (&[Kind::Int, Kind::Int], Kind::Int), // idiv = 108 (0x6c)
-            NumericOperator::Ldiv => (&[Kind::Long, Kind::Long], Kind::Long), // ldiv = 109 (0x6d)
-            NumericOperator::Fdiv => (&[Kind::Float, Kind::Float], Kind::Float), // fdiv = 110 (0x6e)
-            NumericOperator::Ddiv => (&[Kind::Double, Kind::Double], Kind::Double), // ddiv = 111 (0x6f)
-            NumericOperator::Irem => (&[Kind::Int, Kind::Int], Kind::Int), // irem = 112 (0x70)
-            NumericOperator::Lrem => (&[Kind::Long, Kind::Long], Kind::Long), // lrem = 113 (0x71)
-            NumericOperator::Frem => (&[Kind::Float, Kind::Float], Kind::Float), // frem = 114 (0x72)
-            NumericOperator::Drem => (&[Kind::Double, Kind::Double], Kind::Double), // drem = 115 (0x73)
-            NumericOperator::Ineg => (&[Kind::Int], Kind::Int), // ineg = 116 (0x74)
-            NumericOperator::Lneg => (&[Kind::Long], Kind::Long), // lneg = 117 (0x75)
-            NumericOperator::Fneg => (&[Kind::Float], Kind::Float), // fneg = 118 (0x76)
-            NumericOperator::Dneg => (&[Kind::Double], Kind::Double), // dneg = 119 (0x77)
-            NumericOperator::Ishl => (&[Kind::Int, Kind::Int], Kind::Int), // ishl = 120 (0x78)
-            NumericOperator::Lshl => (&[Kind::Int, Kind::Long], Kind::Long), // lshl = 121 (0x79)
-            NumericOperator::Ishr => (&[Kind::Int, Kind::Int], Kind::Int), // ishr = 122 (0x7a)
-            NumericOperator::Lshr => (&[Kind::Int, Kind::Long], Kind::Long), // lshr = 123 (0x7b)
-            NumericOperator::Iushr => (&[Kind::Int, Kind::Int], Kind::Int), // iushr = 124 (0x7c)
-            NumericOperator::Lushr => (&[Kind::Int, Kind::Long], Kind::Long), // lushr = 125 (0x7d)
-            NumericOperator::Iand => (&[Kind::Int, Kind::Int], Kind::Int), // iand = 126 (0x7e)
-            NumericOperator::Land => (&[Kind::Long, Kind::Long], Kind::Long), // land = 127 (0x7f)
-            NumericOperator::Ior => (&[Kind::Int, Kind::Int], Kind::Int), // ior = 128 (0x80)
-            NumericOperator::Lor => (&[Kind::Long, Kind::Long], Kind::Long), // lor = 129 (0x81)
-            NumericOperator::Ixor => (&[Kind::Int, Kind::Int], Kind::Int), // ixor = 130 (0x82)
-            NumericOperator::Lxor => (&[Kind::Long, Kind::Long], Kind::Long), // lxor = 131 (0x83)
-            NumericOperator::I2l => (&[Kind::Int], Kind::Long), // i2l = 133 (0x85)
-            NumericOperator::I2f => (&[Kind::Int], Kind::Float), // i2f = 134 (0x86)
-            NumericOperator::I2d => (&[Kind::Int], Kind::Double), // i2d = 135 (0x87)
-            NumericOperator::L2i => (&[Kind::Long], Kind::Int), // l2i = 136 (0x88)
-            NumericOperator::L2f => (&[Kind::Long], Kind::Float), // l2f = 137 (0x89)
-            NumericOperator::L2d => (&[Kind::Long], Kind::Double), // l2d = 138 (0x8a)
-            NumericOperator::F2i => (&[Kind::Float], Kind::Int), // f2i = 139 (0x8b)
-            NumericOperator::F2l => (&[Kind::Float], Kind::Long), // f2l = 140 (0x8c)
-            NumericOperator::F2d => (&[Kind::Float], Kind::Double), // f2d = 141 (0x8d)
-            NumericOperator::D2i => (&[Kind::Double], Kind::Int), // d2i = 142 (0x8e)
-            NumericOperator::D2l => (&[Kind::Double], Kind::Long), // d2l = 143 (0x8f)
-            NumericOperator::D2f => (&[Kind::Double], Kind::Float), // d2f = 144 (0x90)
-            NumericOperator::I2b => (&[Kind::Int], Kind::Int), // i2b = 145 (0x91)
-            NumericOperator::I2c => (&[Kind::Int], Kind::Int), // i2c = 146 (0x92)
-            NumericOperator::I2s => (&[Kind::Int], Kind::Int), // i2s = 147 (0x93)
-            NumericOperator::Lcmp => (&[Kind::Long, Kind::Long], Kind::Int), // lcmp = 148 (0x94)
-            NumericOperator::Fcmpl => (&[Kind::Float, Kind::Float], Kind::Int), // fcmpl = 149 (0x95)
-            NumericOperator::Fcmpg => (&[Kind::Float, Kind::Float], Kind::Int), // fcmpg = 150 (0x96)
-            NumericOperator::Dcmpl => (&[Kind::Double, Kind::Double], Kind::Int), // dcmpl = 151 (0x97)
-            NumericOperator::Dcmpg => (&[Kind::Double, Kind::Double], Kind::Int), // dcmpg = 152 (0x98)
-        }
-    }
 }
 
 /// The meaning of an instruction, without its form: `iload_0`, `iload 0` and `wide iload 0` are one

@@ -1,11 +1,14 @@
-//! The instruction set of the Java Virtual Machine: one row for each opcode (JVMS 6.5).
-ghost use Rattle.std.specs.Prelude.{◌≡◌, map};
+//! The instruction set of the Java Virtual Machine in rows (JVMS 6.5): one for each opcode, one for
+//! each operator that computes numbers, and one for each that moves what is on the stack.
+ghost use Rattle.std.specs.Prelude.{◌≡◌, Some, map, slice_get};
+ghost use Rattle.insn.specs.Acts.{numeric_row, numeric_operators, stack_forms, stack_operators};
 ghost use Rattle.insn.specs.Opcodes.{row, mnemonic, form, meaning, opcodes, opcode_of};
-ghost use Rattle.insn.specs.Table.{table_row, table_opcode};
+ghost use Rattle.insn.specs.Table.{table_row, table_opcode, numeric_table_row, numeric_table_operator, stack_table_row, stack_table_operator};
+ghost use Rattle.insn.specs.Views.{stack_form_view};
 
 use crate::opcode::Opcode;
 use crate::operation::{Kind, Meaning, NumericOperator};
-use crate::stack::StackOperator;
+use crate::stack::{StackForm, StackOperator, StackPlace};
 use names::Primitive;
 
 /// What stands behind an opcode (JVMS 6.5, "Format"). A number is signed (`s`) or unsigned (`u`),
@@ -306,5 +309,161 @@ impl Opcode {
         ensures { result ≡ meaning self }
     {
         self.row().3
+    }
+}
+
+/// A row of the numeric operators: the operator, the kinds of the numbers taken, the top of the
+/// stack first, and the kind of the one given.
+type NumericRow = (NumericOperator, &'static [Kind], Kind);
+
+/// The rows of a table that is written as `OPERATOR [TAKEN, TAKEN] -> GIVEN;`, one row a line.
+macro_rules! numeric_rows {
+    ($($operator:ident [$($taken:ident),*] -> $given:ident;)*) => {
+        [$((NumericOperator::$operator, &[$(Kind::$taken),*], Kind::$given)),*]
+    };
+}
+
+/// The rows in the order of the operators.
+static NUMERIC_ROWS: [NumericRow; 56] = numeric_rows! {
+    Iadd  [Int, Int]       -> Int;
+    Ladd  [Long, Long]     -> Long;
+    Fadd  [Float, Float]   -> Float;
+    Dadd  [Double, Double] -> Double;
+    Isub  [Int, Int]       -> Int;
+    Lsub  [Long, Long]     -> Long;
+    Fsub  [Float, Float]   -> Float;
+    Dsub  [Double, Double] -> Double;
+    Imul  [Int, Int]       -> Int;
+    Lmul  [Long, Long]     -> Long;
+    Fmul  [Float, Float]   -> Float;
+    Dmul  [Double, Double] -> Double;
+    Idiv  [Int, Int]       -> Int;
+    Ldiv  [Long, Long]     -> Long;
+    Fdiv  [Float, Float]   -> Float;
+    Ddiv  [Double, Double] -> Double;
+    Irem  [Int, Int]       -> Int;
+    Lrem  [Long, Long]     -> Long;
+    Frem  [Float, Float]   -> Float;
+    Drem  [Double, Double] -> Double;
+    Ineg  [Int]            -> Int;
+    Lneg  [Long]           -> Long;
+    Fneg  [Float]          -> Float;
+    Dneg  [Double]         -> Double;
+    Ishl  [Int, Int]       -> Int;
+    Lshl  [Int, Long]      -> Long;
+    Ishr  [Int, Int]       -> Int;
+    Lshr  [Int, Long]      -> Long;
+    Iushr [Int, Int]       -> Int;
+    Lushr [Int, Long]      -> Long;
+    Iand  [Int, Int]       -> Int;
+    Land  [Long, Long]     -> Long;
+    Ior   [Int, Int]       -> Int;
+    Lor   [Long, Long]     -> Long;
+    Ixor  [Int, Int]       -> Int;
+    Lxor  [Long, Long]     -> Long;
+    I2l   [Int]            -> Long;
+    I2f   [Int]            -> Float;
+    I2d   [Int]            -> Double;
+    L2i   [Long]           -> Int;
+    L2f   [Long]           -> Float;
+    L2d   [Long]           -> Double;
+    F2i   [Float]          -> Int;
+    F2l   [Float]          -> Long;
+    F2d   [Float]          -> Double;
+    D2i   [Double]         -> Int;
+    D2l   [Double]         -> Long;
+    D2f   [Double]         -> Float;
+    I2b   [Int]            -> Int;
+    I2c   [Int]            -> Int;
+    I2s   [Int]            -> Int;
+    Lcmp  [Long, Long]     -> Int;
+    Fcmpl [Float, Float]   -> Int;
+    Fcmpg [Float, Float]   -> Int;
+    Dcmpl [Double, Double] -> Int;
+    Dcmpg [Double, Double] -> Int;
+};
+
+/// The rows in the order of the operators.
+fn numeric_rows() -> &'static [NumericRow]
+    ensures all { map numeric_table_row result.now ≡ map numeric_row numeric_operators }
+    ensures order { map numeric_table_operator result.now ≡ numeric_operators }
+{
+    &NUMERIC_ROWS
+}
+
+impl NumericOperator {
+    /// Its place in the order of the operators.
+    fn place(self) -> usize
+        ensures { slice_get numeric_operators result ≡ Some self }
+    {
+        self as usize
+    }
+
+    /// The kinds of the numbers taken, the top of the stack first, and the kind of the one given.
+    pub fn row(self) -> (&'static [Kind], Kind)
+        ensures taken { result.0.now ≡ (numeric_row self).taken }
+        ensures given { result.1 ≡ (numeric_row self).given }
+    {
+        let (_, taken, given) = numeric_rows()[self.place()];
+        (taken, given)
+    }
+}
+
+/// A row of the operators that move what is on the stack: the operator, and its forms.
+type StackRow = (StackOperator, &'static [StackForm]);
+
+/// The rows of a table that is written as `OPERATOR [TAKEN, TAKEN] -> [LEFT, LEFT];`, a form behind
+/// the other with `|` between them.
+macro_rules! stack_rows {
+    ($($operator:ident $([$($taken:ident),*] -> [$($left:literal),*])|+;)*) => {
+        [$((
+            StackOperator::$operator,
+            &[$(StackForm { takes: &[$(StackPlace::$taken),*], leaves: &[$($left),*] }),+],
+        )),*]
+    };
+}
+
+/// The rows in the order of the operators.
+static STACK_ROWS: [StackRow; 9] = stack_rows! {
+    Pop    [Narrow]                         -> [];
+    Pop2   [Narrow, Narrow]                 -> []
+         | [Wide]                           -> [];
+    Dup    [Narrow]                         -> [0, 0];
+    DupX1  [Narrow, Narrow]                 -> [0, 1, 0];
+    DupX2  [Narrow, Narrow, Narrow]         -> [0, 1, 2, 0]
+         | [Narrow, Wide]                   -> [0, 1, 0];
+    Dup2   [Narrow, Narrow]                 -> [0, 1, 0, 1]
+         | [Wide]                           -> [0, 0];
+    Dup2X1 [Narrow, Narrow, Narrow]         -> [0, 1, 2, 0, 1]
+         | [Wide, Narrow]                   -> [0, 1, 0];
+    Dup2X2 [Narrow, Narrow, Narrow, Narrow] -> [0, 1, 2, 3, 0, 1]
+         | [Wide, Narrow, Narrow]           -> [0, 1, 2, 0]
+         | [Narrow, Narrow, Wide]           -> [0, 1, 2, 0, 1]
+         | [Wide, Wide]                     -> [0, 1, 0];
+    Swap   [Narrow, Narrow]                 -> [1, 0];
+};
+
+/// The rows in the order of the operators.
+fn stack_rows() -> &'static [StackRow]
+    ensures all { map stack_table_row result.now ≡ map stack_forms stack_operators }
+    ensures order { map stack_table_operator result.now ≡ stack_operators }
+{
+    &STACK_ROWS
+}
+
+impl StackOperator {
+    /// Its place in the order of the operators.
+    fn place(self) -> usize
+        ensures { slice_get stack_operators result ≡ Some self }
+    {
+        self as usize
+    }
+
+    /// The forms of this instruction (JVMS 6.5), of which at most one fits what is on the stack.
+    pub fn forms(self) -> &'static [StackForm]
+        ensures { map stack_form_view result.now ≡ stack_forms self }
+    {
+        let (_, forms) = stack_rows()[self.place()];
+        forms
     }
 }

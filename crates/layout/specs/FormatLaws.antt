@@ -1,5 +1,5 @@
--- Laws of formats: reading answers a value exactly where bytes in front spell it, and otherwise the first fault. Then lemmas
--- for lists of parts, bodies of attributes and numbers.
+-- Words of the code's own steps: nothing that a reader must believe rests on them. Reading answers a value exactly where bytes in front
+-- spell it, and otherwise the first fault; then lemmas for lists of parts, bodies of attributes and numbers.
 use Rattle.std.proofs.Common.{◌≡◌, ℕ, ◌+◌, ◌-◌, ◌*◌, ◌^◌, ◌/◌, ◌%◌, ◌<◌, ◌≤◌, Bool, true, false, cond, ltb, eqb, suc, List, [], ◌∷◌, ◌++◌, length, take, drop, Result, Ok, Err, refl, sym, ap, subst, ◌∙◌, append_assoc, arith, inl, inr, ◌⊎◌}
 use Rattle.std.proofs.lemmas.Bool.{eq-eqb, ltb-false, ltb-true, le-ltb, lt-ltb}
 use Rattle.std.proofs.lemmas.List.{take_at, drop_at, take-append-drop, length-append, length-take, length-drop, append-nil}

@@ -1,5 +1,5 @@
--- Laws of formats with the pieces that their values are written as: `Writes f pieces` says that f spells exactly the values
--- whose pieces are plain, each by its pieces, and is put together part by part as the format is. Then lemmas for writing.
+-- Words of the code's own steps: of them a reader must believe `Writes` with `Made`, `counted`, and `Either` with `name_of`; the others are
+-- lemmas. `Writes f pieces` says that f spells exactly the values whose pieces are plain, each by its pieces, part by part as the format is.
 use Rattle.std.proofs.Common.{get_or, map, ◌≡◌, ℕ, ◌+◌, ◌-◌, ◌^◌, ◌<◌, ◌≤◌, Bool, true, false, cond, ◌||◌, Option, Some, None, ltb, eqb, zero, suc, List, [], ◌∷◌, ◌++◌, length, take, drop, Result, Ok, Err, refl, sym, ap, subst, ◌∙◌, append_assoc, arith}
 use Rattle.std.specs.List.{flat_map}
 use Rattle.std.specs.Prelude.{MatchResult}

@@ -19,7 +19,7 @@ use Rattle.machine.specs.declared.objects.RunType.{RunType}
 use Rattle.machine.specs.declared.objects.RunType.TheVariants as types
 use Rattle.machine.specs.declared.objects.Object.{Object as RawObject}
 use Rattle.machine.specs.Heap.{Status, ready, made, this, Object, object, Heap, IsAddress, IsRunTimeType, IsFresh, with_fresh, with_object, HasNoThis}
-use Rattle.machine.specs.Decided.{is_own, is_this}
+use Rattle.machine.specs.private.Decided.{is_own, is_this}
 use Rattle.machine.specs.Views.{heap_view, object_view, run_type_view, fresh_view}
 
 -- ---- an own object

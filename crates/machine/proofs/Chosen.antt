@@ -6,7 +6,7 @@ use Rattle.names.specs.ReferenceTypes.{ReferenceType}
 use Rattle.hierarchy.specs.World.{World}
 use Rattle.classfile.specs.Methods.{Method}
 use Rattle.insn.specs.declared.operation.Kind.{Kind}
-use Rattle.insn.specs.Acts.{stack_forms}
+use Rattle.insn.specs.Acts.{stack_forms, kind_units}
 use Rattle.insn.specs.Meanings.{Act}
 use Rattle.insn.specs.Offsets.{at_offset, next_offset, IsAmong}
 use Rattle.machine.specs.declared.deed.Deed.{Deed}
@@ -15,15 +15,16 @@ use Rattle.machine.specs.declared.choosing.Outcome.{Outcome as RawOutcome}
 use Rattle.machine.specs.declared.choosing.Outcome.TheVariants as outcomes
 use Rattle.machine.specs.declared.choosing.StepFault.{StepFault}
 use Rattle.machine.specs.declared.choosing.StepFault.TheVariants.{OutOfMemory, NotAChoice}
-use Rattle.machine.specs.Values.{Value, number, Slot, kind_units, stored}
+use Rattle.machine.specs.Values.{Value, number, Slot, stored}
 use Rattle.machine.specs.Heap.{Heap, with_fresh}
 use Rattle.machine.specs.Tasks.{falls, targets, Tasks}
 use Rattle.machine.specs.Demands.{State, IsNoFaultBy}
 use Rattle.machine.specs.Steps.{go, raise, Outcome, goes_on, ended, Replies, Does, IsBranch, StepsBy, IsLast, EndsBy, HappensBy}
-use Rattle.machine.specs.Decided.{has_kinds, is_number, form_for}
-use Rattle.machine.specs.Deeds.{reply_view, task_view, given, held, rearranged_by}
-use Rattle.machine.specs.Demanded.{has_operands, Meets}
-use Rattle.machine.specs.Happening.{is_last, state_after, IsAsked, GoesOn, Stays, Goes, Raises, Stepped}
+use Rattle.machine.specs.private.Decided.{has_kinds, is_number, form_for}
+use Rattle.machine.specs.private.Deeds.{reply_view, task_view, given, held, rearranged_by}
+use Rattle.machine.specs.private.Demanded.{has_operands, Meets}
+use Rattle.machine.specs.private.Happening.{is_last, state_after, IsAsked, GoesOn, Stays, Goes, Raises}
+use Rattle.machine.specs.Stepped.{Stepped}
 use Rattle.machine.specs.Views.{state_view}
 use Rattle.machine.proofs.Faults.{split, some_is, form_chosen, number_is, held_number, kinds_beneath, no_targets}
 use Rattle.machine.proofs.Deciding.{no_fault}

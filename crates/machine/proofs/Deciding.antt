@@ -11,9 +11,9 @@ use Rattle.machine.specs.declared.deed.Deed.{Deed}
 use Rattle.machine.specs.Values.{depth_of}
 use Rattle.machine.specs.Tasks.{needs_of, falls, targets, Tasks}
 use Rattle.machine.specs.Demands.{State, AllMeet, MeetsRest, HasRoom, AllUsable, EndsReady, LeadsToStart, IsNoFaultBy}
-use Rattle.machine.specs.Decided.{paired_behind}
-use Rattle.machine.specs.Deeds.{task_view, stack_after}
-use Rattle.machine.specs.Demanded.{has_operands, leads, all_lead, Meets}
+use Rattle.machine.specs.private.Decided.{paired_behind}
+use Rattle.machine.specs.private.Deeds.{task_view, stack_after}
+use Rattle.machine.specs.private.Demanded.{has_operands, leads, all_lead, Meets}
 use Rattle.machine.proofs.Faults.{split, join, not_true, not_false, some_is, paired_is, is_paired, operands_meet, rest_meets, has_them, usable, room, within, no_targets}
 
 -- ---- starts

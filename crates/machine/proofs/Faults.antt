@@ -10,19 +10,19 @@ use Rattle.insn.specs.declared.operation.Kind.TheVariants.{Int, Long, Float, Dou
 use Rattle.insn.specs.declared.stack.StackPlace.{StackPlace}
 use Rattle.insn.specs.declared.stack.StackPlace.TheVariants.{Narrow, Wide}
 use Rattle.insn.specs.declared.stack.StackOperator.{StackOperator}
-use Rattle.insn.specs.Acts.{StackForm, stack_forms}
+use Rattle.insn.specs.Acts.{StackForm, stack_forms, kind_units}
 use Rattle.insn.specs.Meanings.{Act}
 use Rattle.insn.specs.Offsets.{IsAmong}
 use Rattle.insn.specs.Stacks.{same_kind, beneath, rearranged}
 use Rattle.machine.specs.declared.deed.Deed.{Deed}
 use Rattle.machine.specs.declared.deed.Deed.TheVariants.{Operates, Reads, Writes, Increments, Moves, Leaves, Ends, Stuck}
-use Rattle.machine.specs.Values.{Value, number, null, reference, Slot, empty, second, holds, is_wide_value, units, kind_units, depth_of, ArePairedBehind, place_of}
+use Rattle.machine.specs.Values.{Value, number, null, reference, Slot, empty, second, holds, is_wide_value, units, depth_of, ArePairedBehind, place_of}
 use Rattle.machine.specs.Heap.{Heap}
 use Rattle.machine.specs.Tasks.{of_kind, needs_of_kinds, needs_of, reply_units, targets}
 use Rattle.machine.specs.Demands.{State, AllMeet, AreForm, HasLocal, MeetsRest, HasRoom, AllUsable}
-use Rattle.machine.specs.Decided.{is_number, has_kinds, holds_number, same_place, are_form, form_for, paired_behind}
-use Rattle.machine.specs.Deeds.{reply_view, task_view, given, held, rearranged_by, stack_after}
-use Rattle.machine.specs.Demanded.{has_operands}
+use Rattle.machine.specs.private.Decided.{is_number, has_kinds, holds_number, same_place, are_form, form_for, paired_behind}
+use Rattle.machine.specs.private.Deeds.{reply_view, task_view, given, held, rearranged_by, stack_after}
+use Rattle.machine.specs.private.Demanded.{has_operands}
 use Rattle.machine.proofs.Apart.{table_apart, one_form}
 
 -- ---- tests

@@ -1,5 +1,5 @@
 -- Instructions by their places in the list, and by their offsets.
-use Rattle.std.specs.Prelude.{nat_le, nat_eq, ◌&&◌}
+use Rattle.std.specs.Prelude.{nat_eq}
 use Rattle.std.proofs.Common.{◌≡◌, ℕ, ◌+◌, ◌<◌, ◌≤◌, zero, suc, Bool, true, false, List, [], ◌∷◌, length, get_or, slice_get, option_map, Option, Some, None, if◌then◌else◌, Ok, Err, refl, sym, ap, ◌∙◌, arith}
 use Rattle.std.specs.Option.{is_some}
 use Rattle.std.specs.List.Sorted.{IsSearchInRange, IsBinarySearchResult}
@@ -7,36 +7,11 @@ use Rattle.std.specs.Ordering.{nat_cmp}
 use Rattle.std.proofs.lemmas.Cmp.{ranked}
 use Rattle.std.proofs.lemmas.Bool.Decides.{nat_tests}
 use Rattle.insn.specs.declared.instruction.Insn.{Insn}
-use Rattle.insn.specs.Instructions.{Instruction}
 use Rattle.insn.specs.Meanings.{Act, act}
 use Rattle.insn.specs.Offsets.{at_offset, next_offset, first_offset, has_offset, StartsRise}
 use Rattle.insn.specs.Views.{view, views}
 use Rattle.insn.proofs.Starts.{from_here, searched}
-use Rattle.machine.specs.Rising.{rises}
 use Rattle.machine.specs.Bodies.{code_of}
-
--- ---- rising offsets
-
-split : (a b : Bool) → (a && b) ≡ true → (a ≡ true) × (b ≡ true)
-split true b e = (refl, e)
-split false b e = cc
-
-join : (a b : Bool) → a ≡ true → b ≡ true → (a && b) ≡ true
-join true b e f = f
-join false b e f = cc
-
-pub rises_starts : (n : ℕ) (xs : List (ℕ × Instruction)) → rises n xs ≡ true → StartsRise n xs
-rises_starts n [] e = tt
-rises_starts n (x ∷ xs) e =
-    let parts = split (nat_le n x.0) (rises (x.0 + 1) xs) e in
-    let le : n ≤ x.0 = grind (arith, nat_tests, parts.0) in
-    (le, rises_starts (x.0 + 1) xs parts.1)
-
-pub starts_rise : (n : ℕ) (xs : List (ℕ × Instruction)) → StartsRise n xs → rises n xs ≡ true
-starts_rise n [] r = refl
-starts_rise n (x ∷ xs) r =
-    let le : nat_le n x.0 ≡ true = grind (arith, nat_tests, r.0) in
-    join (nat_le n x.0) (rises (x.0 + 1) xs) le (starts_rise (x.0 + 1) xs r.1)
 
 -- ---- what stands at an offset
 
@@ -74,18 +49,15 @@ found_here n (x ∷ xs) (suc k) at d r lt e =
       ap (λ b. if b then first_offset (code_of xs) else next_offset (code_of xs) at) apart ∙ later.1,
     )
 
-module _ (xs : List (ℕ × Insn)) (at : ℕ) (rising : rises 0 (views xs) ≡ true) where
+module _ (xs : List (ℕ × Insn)) (at : ℕ) (rising : StartsRise 0 (views xs)) where
   pub missed : (k : ℕ) → IsSearchInRange (Err k) (length xs) → IsBinarySearchResult (λ (x : ℕ × Insn). nat_cmp x.0 at) xs (Err k) → at_offset (code_of xs) at ≡ None
-  missed k within r = is_none (at_offset (code_of xs) at) (sym (begins xs at) ∙ sym ((searched xs at (Err k) within r).1 (rises_starts 0 (views xs) rising)))
+  missed k within r = is_none (at_offset (code_of xs) at) (sym (begins xs at) ∙ sym (searched xs at (Err k) within r rising))
 
   pub met : (k : ℕ) (d : ℕ × Insn) (a : Act) (next : Option ℕ) → k < length xs → IsBinarySearchResult (λ (x : ℕ × Insn). nat_cmp x.0 at) xs (Ok k)
       → a ≡ act (view (get_or xs k d).1) → next ≡ option_map (λ x. x.0) (slice_get xs (k + 1))
       → (at_offset (code_of xs) at ≡ Some a) × (next_offset (code_of xs) at ≡ next)
   met k d a next lt equal e f =
       let same : (get_or xs k d).0 ≡ at = ranked _ at _ (sym (equal d)) in
-      let r = found_here 0 xs k at d (rises_starts 0 (views xs) rising) lt same in
+      let r = found_here 0 xs k at d rising lt same in
       let behind : k + 1 ≡ suc k = omega arith in
       (r.0 ∙ ap (λ b. Some b) (sym e), r.1 ∙ ap (λ n. option_map (λ (x : ℕ × Insn). x.0) (slice_get xs n)) (sym behind) ∙ sym f)
-
-  pub is_begin : (b : Bool) → (StartsRise 0 (views xs) → b ≡ has_offset (views xs) at) → b ≡ has_offset (code_of xs) at
-  is_begin b exactly = exactly (rises_starts 0 (views xs) rising) ∙ begins xs at

@@ -20,7 +20,7 @@ use Rattle.machine.specs.Heap.{Object, object, ready, Heap, IsBelow, IsFresh, wi
 use Rattle.machine.specs.Demands.{State}
 use Rattle.machine.specs.Steps.{IsRaised, IsCaught, moved_with}
 use Rattle.machine.specs.Bodies.{entry_view}
-use Rattle.machine.specs.Happening.{Catches, CatchesBy, Raises}
+use Rattle.machine.specs.private.Happening.{Catches, CatchesBy, Raises}
 use Rattle.machine.specs.Views.{state_view}
 
 -- an address has one object

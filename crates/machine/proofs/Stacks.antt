@@ -8,7 +8,7 @@ use Rattle.insn.specs.Views.{stack_form_view}
 use Rattle.machine.specs.declared.items.Value.{Value as RawValue}
 use Rattle.machine.specs.declared.items.Slot.{Slot as RawSlot}
 use Rattle.machine.specs.Values.{Value, depth_of, units, is_wide_value, is_wide_slot}
-use Rattle.machine.specs.Decided.{are_form, form_for, is_behind, paired_behind}
+use Rattle.machine.specs.private.Decided.{are_form, form_for, is_behind, paired_behind}
 use Rattle.machine.specs.Views.{value_view, slot_view, stack_of, locals_of}
 
 -- ---- forms

@@ -16,7 +16,7 @@ use Rattle.hierarchy.specs.declared.answer.Answer.TheVariants.{Yes, No, Missing}
 use Rattle.hierarchy.specs.Answer.{Outcome, yes, no, missing, outcome_of, subclass_answer, SubclassAnswer}
 use Rattle.hierarchy.proofs.Subclass.{one_answer}
 use Rattle.machine.specs.Heap.{IsInterface, IsBelowType}
-use Rattle.machine.specs.Decided.{is_yes, is_true, is_above_all, class_below, is_above_arrays, same_primitive, type_below}
+use Rattle.machine.specs.private.Decided.{is_yes, is_true, is_above_all, class_below, is_above_arrays, same_primitive, type_below}
 
 either : (a b : Bool) → (a || b) ≡ true → (a ≡ true) ⊎ (b ≡ true)
 either true b e = inl refl

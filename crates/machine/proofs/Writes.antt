@@ -3,11 +3,11 @@ use Rattle.std.proofs.Common.{◌≡◌, ℕ, zero, suc, ◌+◌, ◌<◌, ◌�
 use Rattle.std.proofs.lemmas.List.{length-map, map-set}
 use Rattle.insn.specs.declared.operation.Kind.{Kind}
 use Rattle.insn.specs.declared.operation.Kind.TheVariants.{Int, Long, Float, Double}
-use Rattle.insn.specs.Acts.{is_wide}
+use Rattle.insn.specs.Acts.{is_wide, kind_units}
 use Rattle.machine.specs.declared.items.Slot.{Slot as RawSlot}
 use Rattle.machine.specs.declared.items.Slot.TheVariants as raw
-use Rattle.machine.specs.Values.{Value, Slot, empty, second, holds, is_wide_value, is_wide_slot, kind_units, behind_lost, second_first, stored}
-use Rattle.machine.specs.Happening.{with_before, with_behind}
+use Rattle.machine.specs.Values.{Value, Slot, empty, second, holds, is_wide_value, is_wide_slot, behind_lost, second_first, stored}
+use Rattle.machine.specs.private.Happening.{with_before, with_behind}
 use Rattle.machine.specs.Views.{slot_view, locals_of}
 
 pub before_first : (xs : List RawSlot) → locals_of xs ≡ with_before 0 (locals_of xs)

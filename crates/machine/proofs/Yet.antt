@@ -1,5 +1,5 @@
 -- What happens by the tasks that are there yet does happen.
-use Rattle.std.proofs.Common.{◌≡◌, ℕ, ℤ, Bool, true, false, List, Option, Some, None, refl, sym, subst, if◌then◌else◌}
+use Rattle.std.proofs.Common.{◌≡◌, ℕ, ℤ, Bool, true, false, List, Option, Some, None, refl, subst, if◌then◌else◌}
 use Rattle.names.specs.ReferenceTypes.{ReferenceType}
 use Rattle.hierarchy.specs.World.{World}
 use Rattle.classfile.specs.Methods.{Method}
@@ -10,7 +10,7 @@ use Rattle.machine.specs.Values.{Value}
 use Rattle.machine.specs.Heap.{with_fresh}
 use Rattle.machine.specs.Tasks.{needs_of, falls, targets, task, task_yet}
 use Rattle.machine.specs.Demands.{State, AllMeet, MeetsRest, HasRoom, AllUsable, EndsReady, LeadsToStart, IsNoFaultBy, IsNoFault}
-use Rattle.machine.specs.Steps.{Choice, go, raise, Outcome, goes_on, ended, IsBranch, GoesTo, Does, IsLast, StepsBy, Steps, EndsBy, HappensYet}
+use Rattle.machine.specs.Steps.{go, raise, goes_on, ended, IsBranch, GoesTo, Does, IsLast, StepsBy, Steps, EndsBy, HappensYet}
 
 kept : (a : Act) → (as_supported a ≡ Unsupported → ⊥) → as_supported a ≡ a
 kept a f = by (is_supported a) f

@@ -6,9 +6,6 @@ pub mod Steps
 pub mod Runs
 pub mod Breadth
 pub mod Views
-pub mod Decided
-pub mod Rising
-pub mod Deeds
 pub mod Bodies
-pub mod Demanded
-pub mod Happening
+pub mod Stepped
+pub mod private

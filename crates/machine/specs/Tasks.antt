@@ -11,13 +11,13 @@ use Rattle.pool.specs.Members.{constant_at, class_at, FieldConstant, field_at, M
 use Rattle.classfile.specs.Methods.{Method, is_own_field}
 use Rattle.insn.specs.declared.operation.Kind.{Kind}
 use Rattle.insn.specs.declared.operation.Kind.TheVariants as kinds
-use Rattle.insn.specs.Acts.{numeric_row, StackForm, stack_forms}
+use Rattle.insn.specs.Acts.{kind_units, numeric_row, StackForm, stack_forms}
 use Rattle.insn.specs.Stacks.{computed_as, same_kind}
 use Rattle.insn.specs.Offsets.{led_to}
 use Rattle.insn.specs.Meanings as acts
 use Rattle.insn.specs.Meanings.{Act}
 use Rattle.insn.specs.Supported.{as_supported}
-use Rattle.machine.specs.Values.{kind_units, field_units}
+use Rattle.machine.specs.Values.{field_units}
 
 -- what an instruction needs of an operand
 pub data Need : Type 0 where
@@ -239,56 +239,100 @@ abbrev pub return_nothing : Option FieldDescriptor → Task
 return_nothing None = ends
 return_nothing (Some t) = stuck
 
--- ---- the table
+-- ---- the table: each case stands below the mnemonics of its instructions (JVMS 6.5)
 
 abbrev pub objects : ReferenceType
 objects = array_type (class object_name)
 
 abbrev pub task : Method Act → Act → Task
+-- nop
 task m acts.Nothing = takes []
+-- iconst_<i>, lconst_<l>, fconst_<f>, dconst_<d>, bipush, sipush
 task m (acts.Constant kind) = gives (gives_number kind)
+-- aconst_null
 task m acts.ConstantNull = gives gives_null
+-- ldc, ldc_w
 task m (acts.LoadConstant i) = load_constant (constant_at m.constant_pool i)
+-- ldc2_w
 task m (acts.LoadWideConstant i) = load_wide_constant (constant_at m.constant_pool i)
+-- iload, iload_<n>, lload, lload_<n>, fload, fload_<n>, dload, dload_<n>
 task m (acts.Load kind n) = reads (of_kind kind) n
+-- aload, aload_<n>
 task m (acts.LoadReference n) = reads some_reference n
+-- istore, istore_<n>, lstore, lstore_<n>, fstore, fstore_<n>, dstore, dstore_<n>
 task m (acts.Store kind n) = writes (of_kind kind) n (kind_units kind)
+-- astore, astore_<n>
 task m (acts.StoreReference n) = writes some_reference n 1
+-- iinc
 task m (acts.Increment n) = increments n
+-- iadd, ladd, fadd, dadd, and so sub, mul, div, rem, neg; ishl, lshl, ishr, lshr, iushr, lushr; iand, land, ior, lor, ixor, lxor;
+-- i2l, i2f, i2d, l2i, l2f, l2d, f2i, f2l, f2d, d2i, d2l, d2f, i2b, i2c, i2s; lcmp, fcmp<op>, dcmp<op>
 task m (acts.Numeric operator) =
     operates (needs_of_kinds (numeric_row operator).taken) None (gives_number (numeric_row operator).given) [] true
+-- pop, pop2, dup, dup_x1, dup_x2, dup2, dup2_x1, dup2_x2, swap
 task m (acts.Stack operator) = moves (stack_forms operator)
+-- if<cond>: ifeq, ifne, iflt, ifge, ifgt, ifle
 task m (acts.IfInt offset) = branches (of_kind kinds.Int ∷ []) offset
+-- if_icmp<cond>: if_icmpeq, if_icmpne, if_icmplt, if_icmpge, if_icmpgt, if_icmple
 task m (acts.IfInts offset) = branches (of_kind kinds.Int ∷ of_kind kinds.Int ∷ []) offset
+-- if_acmp<cond>: if_acmpeq, if_acmpne
 task m (acts.IfReferences offset) = branches (some_reference ∷ some_reference ∷ []) offset
+-- ifnull, ifnonnull
 task m (acts.IfNull offset) = branches (some_reference ∷ []) offset
+-- goto, goto_w
 task m (acts.Goto offset) = operates [] None no_reply (offset ∷ []) false
+-- tableswitch, lookupswitch
 task m (acts.Switch default offsets) = operates (of_kind kinds.Int ∷ []) None no_reply (default ∷ offsets) false
+-- ireturn, lreturn, freturn, dreturn
 task m (acts.Return kind) = return_number m.type.result kind
+-- areturn
 task m acts.ReturnReference = return_reference m.type.result
+-- return
 task m acts.ReturnVoid = return_nothing m.type.result
+-- getstatic
 task m (acts.GetStatic i) = get_static (field_at m.constant_pool i)
+-- putstatic
 task m (acts.PutStatic i) = put_static (field_at m.constant_pool i)
+-- getfield
 task m (acts.GetField i) = get_field (field_at m.constant_pool i)
+-- putfield
 task m (acts.PutField i) = put_field m (field_at m.constant_pool i)
+-- invokevirtual
 task m (acts.InvokeVirtual i) = invoke_virtual (method_at m.constant_pool i)
+-- invokespecial
 task m (acts.InvokeSpecial i) = invoke_special m.major_version m.class (method_at m.constant_pool i)
+-- invokestatic
 task m (acts.InvokeStatic i) = invoke_static m.major_version (method_at m.constant_pool i)
+-- invokeinterface
 task m (acts.InvokeInterface i count) = invoke_interface count (method_at m.constant_pool i)
+-- new
 task m (acts.New i) = new_object (class_at m.constant_pool i)
+-- iaload, laload, faload, daload, baload, caload, saload
 task m (acts.LoadElement p) = operates (of_kind kinds.Int ∷ some_array_for p ∷ []) (Some 1) (gives_answer (primitive p)) [] true
+-- iastore, lastore, fastore, dastore, bastore, castore, sastore
 task m (acts.StoreElement p) = operates (of_kind (computed_as p) ∷ of_kind kinds.Int ∷ some_array_for p ∷ []) (Some 2) no_reply [] true
+-- aaload
 task m acts.LoadReferenceElement = takes_element
+-- aastore
 task m acts.StoreReferenceElement =
     operates (of_type (class_type object_name) ∷ of_kind kinds.Int ∷ of_type objects ∷ []) (Some 2) no_reply [] true
+-- arraylength
 task m acts.ArrayLength = operates (some_array ∷ []) (Some 0) (gives_number kinds.Int) [] true
+-- newarray
 task m (acts.NewArray element) = new_array element
+-- anewarray
 task m (acts.NewReferenceArray i) = new_reference_array (class_at m.constant_pool i)
+-- multianewarray
 task m (acts.NewMultiArray i n) = new_multi_array n (class_at m.constant_pool i)
+-- checkcast
 task m (acts.CheckCast i) = check_cast (class_at m.constant_pool i)
+-- instanceof
 task m (acts.InstanceOf i) = instance_of (class_at m.constant_pool i)
+-- athrow
 task m acts.Throw = throws (of_type (class_type throwable_name))
+-- monitorenter, monitorexit
 task m acts.Monitor = operates (some_reference ∷ []) (Some 0) no_reply [] true
+-- jsr, jsr_w, ret, invokedynamic
 task m acts.Unsupported = stuck
 
 -- what gives an instruction's task, in a method

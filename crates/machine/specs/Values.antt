@@ -4,7 +4,7 @@ use Rattle.names.specs.Descriptors.{FieldDescriptor, primitive, class, array}
 use Rattle.insn.specs.declared.operation.Kind.{Kind}
 use Rattle.insn.specs.declared.stack.StackPlace.{StackPlace}
 use Rattle.insn.specs.declared.stack.StackPlace.TheVariants.{Narrow, Wide}
-use Rattle.insn.specs.Acts.{is_wide}
+use Rattle.insn.specs.Acts.{is_wide, kind_units}
 use Rattle.insn.specs.Stacks.{computed_as}
 
 pub data Value : Type 0 where
@@ -25,15 +25,11 @@ is_wide_value null = false
 is_wide_value (reference address) = false
 
 abbrev pub units : Bool → ℕ
-units true = 2
-units false = 1
+units wide = if wide then 2 else 1
 
 abbrev pub depth_of : List Value → ℕ
 depth_of [] = 0
 depth_of (v ∷ vs) = units (is_wide_value v) + depth_of vs
-
-abbrev pub kind_units : Kind → ℕ
-kind_units kind = units (is_wide kind)
 
 abbrev pub field_units : FieldDescriptor → ℕ
 field_units (primitive p) = kind_units (computed_as p)

@@ -4,7 +4,7 @@ ghost use Rattle.names.specs.Descriptors.{base_of, dimensioned};
 ghost use Rattle.names.specs.ReferenceTypes.{descriptor_of};
 ghost use Rattle.hierarchy.specs.Class.{world_of};
 ghost use Rattle.machine.specs.Heap.{IsBelow};
-ghost use Rattle.machine.specs.Decided.{is_above_all, is_above_arrays, class_below, same_primitive, type_below};
+ghost use Rattle.machine.specs.private.Decided.{is_above_all, is_above_arrays, class_below, same_primitive, type_below};
 ghost use Rattle.machine.specs.Views.{run_type_view};
 
 use crate::objects::RunType;

@@ -1,7 +1,8 @@
 //! The method that runs.
-ghost use Rattle.std.specs.Prelude.{◌≡◌, true};
+ghost use Rattle.std.specs.Prelude.{◌≡◌};
+ghost use Rattle.insn.specs.Offsets.{StartsRise};
 ghost use Rattle.insn.specs.Views.{views};
-ghost use Rattle.machine.specs.Rising.{rises};
+ghost use Rattle.machine.specs.private.Rising.{StartsRise-prop};
 
 use crate::objects::RunType;
 use classfile::{ClassFile, CodeAttr};
@@ -32,7 +33,7 @@ pub struct Method<'c, 'a> {
     pub(crate) result_type: Option<FieldType<'a>>,
     pub(crate) list: Vec<(u16, Insn<'a>)>,
     pub(crate) exceptions: Vec<ExceptionEntry<'a>>,
-    pub ghost rising: { rises 0 (views list.items) ≡ true },
+    pub ghost rising: { StartsRise 0 (views list.items) } by { StartsRise-prop 0 (views list.items) },
 }
 
 impl<'c, 'a> Method<'c, 'a> {

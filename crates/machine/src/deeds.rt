@@ -5,7 +5,7 @@ ghost use Rattle.names.specs.Types.{type_of};
 ghost use Rattle.pool.specs.Members.{constant_at};
 ghost use Rattle.insn.specs.Views.{act_view};
 ghost use Rattle.machine.specs.Tasks.{operates, gives_number, task_yet, return_number, return_nothing, load_wide_constant};
-ghost use Rattle.machine.specs.Deeds.{task_view};
+ghost use Rattle.machine.specs.private.Deeds.{task_view};
 ghost use Rattle.machine.specs.Bodies.{method_view};
 
 use crate::body::Method;

@@ -1,11 +1,10 @@
 //! What a state owes to its instruction.
 ghost use Rattle.std.specs.Prelude.{◌≡◌, ◌↔◌, IsTrue, option_map};
-ghost use Rattle.machine.specs.Deeds.{task_view, stack_after};
+ghost use Rattle.machine.specs.private.Deeds.{task_view, stack_after};
 ghost use Rattle.machine.specs.Demands.{EndsReady};
-ghost use Rattle.machine.specs.Demanded.{has_operands, are_whole, are_within, stays, Meets};
+ghost use Rattle.machine.specs.private.Demanded.{has_operands, are_whole, are_within, stays, Meets};
 ghost use Rattle.machine.specs.Bodies.{method_view};
 ghost use Rattle.machine.specs.Tasks.{falls};
-ghost use Rattle.machine.specs.Values.{kind_units};
 ghost use Rattle.machine.specs.Views.{stack_of, locals_of, state_view};
 
 use crate::body::Method;
@@ -17,12 +16,6 @@ use crate::snapshot::State;
 use crate::starts::all_lead;
 use insn::Kind;
 
-fn kind_units(kind: Kind) -> usize
-    ensures { result ≡ kind_units kind }
-{
-    if kind.is_wide() { 2 } else { 1 }
-}
-
 // Whether the operands and local variables are there, and of their kinds.
 fn has_operands(limit: u16, deed: Deed, stack: &[Value], locals: &[Slot]) -> bool
     ensures { result ≡ has_operands limit deed (stack_of stack.now) (locals_of locals.now) }
@@ -31,7 +24,7 @@ fn has_operands(limit: u16, deed: Deed, stack: &[Value], locals: &[Slot]) -> boo
         Deed::Operates { needs, .. } => has_kinds(needs, stack),
         Deed::Reads { kind, local } => holds_number(kind, locals, local),
         Deed::Writes { kind, local } => {
-            has_kinds(&[kind], stack) && usize::from(local) + kind_units(kind) <= usize::from(limit)
+            has_kinds(&[kind], stack) && usize::from(local) + kind.units() <= usize::from(limit)
         }
         Deed::Increments { local } => holds_number(Kind::Int, locals, local),
         Deed::Moves(operator) => form_for(operator.forms(), stack).is_some(),

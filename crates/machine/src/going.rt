@@ -1,8 +1,8 @@
 //! An instruction is done.
 ghost use Rattle.std.specs.Prelude.{◌≡◌, None, length, option_map, if◌then◌else◌};
 ghost use Rattle.machine.specs.Tasks.{falls};
-ghost use Rattle.machine.specs.Deeds.{task_view, stack_after};
-ghost use Rattle.machine.specs.Happening.{is_last, HasPlace, Goes};
+ghost use Rattle.machine.specs.private.Deeds.{task_view, stack_after};
+ghost use Rattle.machine.specs.private.Happening.{is_last, HasPlace, Goes};
 ghost use Rattle.machine.specs.Views.{value_view, stack_of, fresh_view, state_view};
 
 use crate::choosing::{Outcome, StepFault};

@@ -6,7 +6,7 @@ ghost use Rattle.names.specs.ReferenceTypes.{ReferenceType};
 ghost use Rattle.machine.specs.declared.choosing.StepFault.TheVariants.{OutOfMemory, NotAChoice};
 ghost use Rattle.machine.specs.declared.objects.RunType.TheVariants.{Array};
 ghost use Rattle.machine.specs.Heap.{object, ready, HasNoThis, IsAddress, IsRunTimeType, IsFresh, with_fresh};
-ghost use Rattle.machine.specs.Decided.{is_this};
+ghost use Rattle.machine.specs.private.Decided.{is_this};
 ghost use Rattle.machine.specs.Views.{heap_view, object_view, run_type_view, fresh_view};
 
 use crate::choosing::StepFault;

@@ -1,7 +1,7 @@
 //! Values, and what a local variable holds (JVMS 2.6).
 ghost use Rattle.std.specs.Prelude.{◌≡◌};
 ghost use Rattle.machine.specs.Values.{number as number_of, is_wide_value, is_wide_slot, place_of};
-ghost use Rattle.machine.specs.Decided.{is_number, is_second};
+ghost use Rattle.machine.specs.private.Decided.{is_number, is_second};
 ghost use Rattle.machine.specs.Views.{value_view, slot_view};
 
 use insn::{Kind, StackPlace};

@@ -21,7 +21,8 @@
 //! - `specs/Steps.antt`: what comes of an instruction and a choice.
 //! - `specs/Runs.antt`: initial states and runs.
 //! - `specs/Views.antt`, `specs/Bodies.antt`: what the program's values stand for.
-//! - `specs/Happening.antt`: what the calls answer.
+//! - `specs/Stepped.antt`: what `step` answers.
+//! - `specs/private/`: words of the code's own steps; nothing that a reader must believe rests on them.
 #![tactic(auto)]
 
 mod below;

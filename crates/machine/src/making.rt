@@ -23,7 +23,6 @@ use pool::Pool;
 use std::alloc::{AllocError, Global};
 
 /// The method of a number by its parts. The offsets of its instructions rise.
-#[tactic(auto, using(crate::proofs::Places::starts_rise))]
 pub(crate) fn assembled<'c, 'a>(
     class: &'c ClassFile<'a>,
     number: usize,

@@ -2,7 +2,7 @@
 ghost use Rattle.std.specs.Prelude.{◌≡◌, ◌≤◌, ◌↔◌, IsTrue, nat_lt, option_map, map, slice_get, false};
 ghost use Rattle.insn.specs.Views.{stack_form_view};
 ghost use Rattle.machine.specs.Values.{depth_of, units, is_wide_value};
-ghost use Rattle.machine.specs.Decided.{has_kinds, holds_number, same_place, are_form, form_for, is_behind, paired_behind};
+ghost use Rattle.machine.specs.private.Decided.{has_kinds, holds_number, same_place, are_form, form_for, is_behind, paired_behind};
 ghost use Rattle.machine.specs.Views.{value_view, slot_view, stack_of, locals_of};
 
 use crate::items::{Slot, Value, is_number, is_second, is_wide_slot, is_wide_value, place_of};

@@ -6,7 +6,7 @@ ghost use Rattle.hierarchy.specs.Class.{world_of};
 ghost use Rattle.machine.specs.Values.{reference};
 ghost use Rattle.machine.specs.Heap.{object, ready, IsBelow};
 ghost use Rattle.machine.specs.Bodies.{method_view};
-ghost use Rattle.machine.specs.Happening.{CatchesBy, Raises};
+ghost use Rattle.machine.specs.private.Happening.{CatchesBy, Raises};
 ghost use Rattle.machine.specs.Views.{stack_of, run_type_view, heap_view, fresh_view, state_view};
 
 use crate::below::is_below;

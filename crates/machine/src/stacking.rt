@@ -2,7 +2,7 @@
 ghost use Rattle.std.specs.Prelude.{◌≡◌, ◌++◌, IfOk, OnOk, drop, slice_get, option_to_list, option_map};
 ghost use Rattle.insn.specs.Stacks.{chosen, rearranged};
 ghost use Rattle.insn.specs.Views.{stack_form_view};
-ghost use Rattle.machine.specs.Deeds.{held, given, stack_after};
+ghost use Rattle.machine.specs.private.Deeds.{held, given, stack_after};
 ghost use Rattle.machine.specs.Views.{value_view, stack_of, locals_of};
 
 use crate::deed::Deed;

@@ -1,14 +1,13 @@
 //! Where instructions begin.
-ghost use Rattle.std.specs.Prelude.{◌≡◌, true, Some, None, map, option_map, slice_get, MatchOption};
+ghost use Rattle.std.specs.Prelude.{◌≡◌, Some, None, map, option_map, slice_get, MatchOption};
 ghost use Rattle.classfile.specs.Methods.{covers};
-ghost use Rattle.insn.specs.Offsets.{at_offset, next_offset, has_offset};
+ghost use Rattle.insn.specs.Offsets.{StartsRise, at_offset, next_offset, has_offset};
 ghost use Rattle.insn.specs.Views.{views, act_view};
-ghost use Rattle.machine.specs.Rising.{rises};
 ghost use Rattle.machine.specs.Bodies.{code_of, entry_view};
-ghost use Rattle.machine.specs.Demanded.{leads, all_lead};
+ghost use Rattle.machine.specs.private.Demanded.{leads, all_lead};
 
 use crate::body::ExceptionEntry;
-use insn::{Act, Insn, act, is_start};
+use insn::{Act, Insn, act, is_rising_start};
 
 // Where the instruction of this number begins, if there is one.
 fn start_at(list: &[(u16, Insn<'_>)], number: usize) -> Option<u16>
@@ -22,7 +21,7 @@ fn start_at(list: &[(u16, Insn<'_>)], number: usize) -> Option<u16>
 
 /// What the instruction at an offset does, and where the next one begins, if one begins there.
 pub fn found_at<'a>(list: &[(u16, Insn<'a>)], at: u16) -> Option<(Act<'a>, Option<u16>)>
-    requires { rises 0 (views list.now) ≡ true }
+    requires { StartsRise 0 (views list.now) }
     ensures { MatchOption result (at_offset (code_of list.now) at ≡ None)
         (λ x. (at_offset (code_of list.now) at ≡ Some (act_view x.0)) × (next_offset (code_of list.now) at ≡ x.1)) }
 {
@@ -36,10 +35,10 @@ pub fn found_at<'a>(list: &[(u16, Insn<'a>)], at: u16) -> Option<(Act<'a>, Optio
 }
 
 fn has_offset(list: &[(u16, Insn<'_>)], at: u16) -> bool
-    requires { rises 0 (views list.now) ≡ true }
+    requires { StartsRise 0 (views list.now) }
     ensures { result ≡ has_offset (code_of list.now) at }
 {
-    is_start(list, at)
+    is_rising_start(list, at)
 }
 
 /// Whether the entry covers the instruction at an offset.
@@ -50,7 +49,7 @@ pub fn covers(entry: &ExceptionEntry<'_>, at: u16) -> bool
 }
 
 fn leads(entry: &ExceptionEntry<'_>, at: u16, list: &[(u16, Insn<'_>)]) -> bool
-    requires { rises 0 (views list.now) ≡ true }
+    requires { StartsRise 0 (views list.now) }
     ensures { result ≡ leads (code_of list.now) at (entry_view entry.now) }
 {
     !covers(entry, at) || has_offset(list, entry.handler)
@@ -58,7 +57,7 @@ fn leads(entry: &ExceptionEntry<'_>, at: u16, list: &[(u16, Insn<'_>)]) -> bool
 
 /// Whether an instruction begins at the handler of each entry that covers the one at an offset.
 pub fn all_lead(entries: &[ExceptionEntry<'_>], at: u16, list: &[(u16, Insn<'_>)]) -> bool
-    requires { rises 0 (views list.now) ≡ true }
+    requires { StartsRise 0 (views list.now) }
     ensures { result ≡ all_lead (code_of list.now) at (map entry_view entries.now) }
 {
     for entry in entries {

@@ -2,7 +2,7 @@
 ghost use Rattle.hierarchy.specs.Class.{world_of};
 ghost use Rattle.machine.specs.Bodies.{method_view};
 ghost use Rattle.machine.specs.Tasks.{task_yet};
-ghost use Rattle.machine.specs.Happening.{Stepped};
+ghost use Rattle.machine.specs.Stepped.{Stepped};
 ghost use Rattle.machine.specs.Views.{state_view, choice_view};
 
 use crate::body::Method;

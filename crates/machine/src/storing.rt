@@ -1,7 +1,8 @@
 //! The local variables after an instruction.
 ghost use Rattle.std.specs.Prelude.{◌≡◌, ◌+◌, ◌<◌, ◌≤◌, length, IfOk};
-ghost use Rattle.machine.specs.Values.{stored, kind_units, number};
-ghost use Rattle.machine.specs.Happening.{with_before, with_behind, locals_after, HasPlace};
+ghost use Rattle.insn.specs.Acts.{kind_units};
+ghost use Rattle.machine.specs.Values.{stored, number};
+ghost use Rattle.machine.specs.private.Happening.{with_before, with_behind, locals_after, HasPlace};
 ghost use Rattle.machine.specs.Views.{value_view, locals_of};
 
 use crate::deed::Deed;

@@ -1,4 +1,4 @@
--- Laws of the pool's formats: each spells exactly the entries whose pieces are plain, each by its pieces.
+-- Words of the code's own steps: nothing that a reader must believe rests on them. Each format of the pool spells exactly the entries whose pieces are plain.
 use Rattle.std.proofs.Common.{◌≡◌, ℕ, ◌+◌, ◌-◌, zero, suc, Bool, true, false, cond, List, [], ◌∷◌, ◌++◌, length, refl, sym, ap, subst, ◌∙◌, arith, Option, Some, None}
 use Rattle.std.proofs.lemmas.Bool.{eqb-true, eqb-false, ne_eqb}
 use Rattle.std.proofs.lemmas.List.{append-nil}

@@ -1,4 +1,4 @@
--- Plans of instructions that name constants (JVMS 4.10.1.9). A constant that an instruction may not name is refused 66.
+-- Plans of instructions that name constants (JVMS 4.10.1.9). A constant that an instruction may not name is refused by wrong_constant (66).
 use Rattle.std.specs.Prelude.{ℕ, Bool, true, false, not, ◌&&◌, ◌||◌, nat_lt, nat_eq, bytes_eq, if◌then◌else◌, List, [], ◌∷◌, Option, Some, None}
 use Rattle.names.specs.declared.base.Primitive.{Primitive}
 use Rattle.names.specs.Descriptors.{primitive, method_width}
@@ -12,6 +12,7 @@ use Rattle.insn.specs.declared.operation.Kind.TheVariants as kinds
 use Rattle.insn.specs.Meanings.{Act}
 use Rattle.frames.specs.VerificationType.{int, float, long, double, class, array}
 use Rattle.frames.specs.Slots.{to_reference, descriptor_type}
+use Rattle.rules.specs.ReasonNumbers.{not_supported, wrong_constant}
 use Rattle.rules.specs.Plans.{Want, number, own_or_assignable_to, Plan, pops, makes, constructs, calls_special, refuses, takes, gives, class_want, assignable_to, sizes, want_of, arguments_on, result_types, where_allowed}
 
 -- ---- ldc, ldc_w and ldc2_w; dynamic constants are not supported
@@ -23,28 +24,28 @@ load_constant (Some (entries.String text)) = gives (class string_name)
 load_constant (Some (entries.Class name)) = gives (class class_name)
 load_constant (Some (entries.MethodType descriptor)) = gives (class method_type_name)
 load_constant (Some (entries.MethodHandle kind target)) = gives (class method_handle_name)
-load_constant (Some (entries.Dynamic bootstrap name)) = refuses 60
-load_constant _ = refuses 66
+load_constant (Some (entries.Dynamic bootstrap name)) = refuses not_supported
+load_constant _ = refuses wrong_constant
 
 abbrev pub load_wide_constant : Option Entry → Plan
 load_wide_constant (Some (entries.Long high low)) = gives long
 load_wide_constant (Some (entries.Double high low)) = gives double
-load_wide_constant (Some (entries.Dynamic bootstrap name)) = refuses 60
-load_wide_constant _ = refuses 66
+load_wide_constant (Some (entries.Dynamic bootstrap name)) = refuses not_supported
+load_wide_constant _ = refuses wrong_constant
 
 -- ---- fields
 
 abbrev pub get_static : Option FieldConstant → Plan
 get_static (Some f) = gives (descriptor_type f.type)
-get_static None = refuses 66
+get_static None = refuses wrong_constant
 
 abbrev pub put_static : Option FieldConstant → Plan
 put_static (Some f) = takes (want_of f.type ∷ [])
-put_static None = refuses 66
+put_static None = refuses wrong_constant
 
 abbrev pub get_field : Option FieldConstant → Plan
 get_field (Some f) = pops (class_want f.class ∷ []) (descriptor_type f.type ∷ []) [] true
-get_field None = refuses 66
+get_field None = refuses wrong_constant
 
 -- an instance initialization method may set fields that its class declares in its own object, before that is initialized
 abbrev pub target_of : Method Act → FieldConstant → Want
@@ -52,7 +53,7 @@ target_of m f = if m.is_init && is_own_field m f then own_or_assignable_to f.cla
 
 abbrev pub put_field : Method Act → Option FieldConstant → Plan
 put_field m (Some f) = takes (want_of f.type ∷ target_of m f ∷ [])
-put_field m None = refuses 66
+put_field m None = refuses wrong_constant
 
 -- ---- calls
 
@@ -75,12 +76,12 @@ static_call c = pops (arguments_on c.type.params []) (result_types c.type.result
 
 abbrev pub invoke_static : ℕ → Option MethodConstant → Plan
 invoke_static major (Some c) = where_allowed (is_class_type c.class && (not (is_init_name c) && may_name major c.interface)) (static_call c)
-invoke_static major None = refuses 66
+invoke_static major None = refuses wrong_constant
 
 -- the class may be an array
 abbrev pub invoke_virtual : Option MethodConstant → Plan
 invoke_virtual (Some c) = where_allowed (not c.interface && (not (is_init_name c) && has_room_for_receiver c)) (call_on c.class c)
-invoke_virtual None = refuses 66
+invoke_virtual None = refuses wrong_constant
 
 -- the count is the width of the arguments and the receiver
 abbrev pub may_invoke_interface : ℕ → MethodConstant → Bool
@@ -89,12 +90,12 @@ may_invoke_interface count c =
 
 abbrev pub invoke_interface : ℕ → Option MethodConstant → Plan
 invoke_interface count (Some c) = where_allowed (may_invoke_interface count c) (call_on c.class c)
-invoke_interface count None = refuses 66
+invoke_interface count None = refuses wrong_constant
 
 abbrev pub constructor_call : MethodConstant → ReferenceType → Plan
 constructor_call c (class_type name) =
     where_allowed (not c.interface && has_room_for_receiver c) (constructs name (arguments_on c.type.params []))
-constructor_call c (array_type component) = refuses 66
+constructor_call c (array_type component) = refuses wrong_constant
 
 abbrev pub special_call : ℕ → List ℕ → MethodConstant → Plan
 special_call major me c =
@@ -103,31 +104,31 @@ special_call major me c =
 
 abbrev pub invoke_special : ℕ → List ℕ → Option MethodConstant → Plan
 invoke_special major me (Some c) = if is_init_name c then constructor_call c c.class else special_call major me c
-invoke_special major me None = refuses 66
+invoke_special major me None = refuses wrong_constant
 
 -- ---- objects and arrays
 
 abbrev pub new_object : Option ReferenceType → Plan
 new_object (Some (class_type name)) = makes name
-new_object _ = refuses 66
+new_object _ = refuses wrong_constant
 
 abbrev pub new_array : Option Primitive → Plan
 new_array (Some p) = pops (number kinds.Int ∷ []) (array (primitive p) ∷ []) [] true
-new_array None = refuses 66
+new_array None = refuses wrong_constant
 
 -- an array of elements of a type
 abbrev pub new_reference_array : Option ReferenceType → Plan
 new_reference_array (Some t) = where_allowed (nat_lt (dimensions_of t) 255) (pops (number kinds.Int ∷ []) (array (descriptor_of t) ∷ []) [] true)
-new_reference_array None = refuses 66
+new_reference_array None = refuses wrong_constant
 
 abbrev pub new_multi_array : ℕ → Option ReferenceType → Plan
 new_multi_array n (Some t) = where_allowed (nat_lt 0 n && not (nat_lt (dimensions_of t) n)) (pops (sizes n) (to_reference t ∷ []) [] true)
-new_multi_array n None = refuses 66
+new_multi_array n None = refuses wrong_constant
 
 abbrev pub check_cast : Option ReferenceType → Plan
 check_cast (Some t) = pops (class_want object_name ∷ []) (to_reference t ∷ []) [] true
-check_cast None = refuses 66
+check_cast None = refuses wrong_constant
 
 abbrev pub instance_of : Option ReferenceType → Plan
 instance_of (Some t) = pops (class_want object_name ∷ []) (int ∷ []) [] true
-instance_of None = refuses 66
+instance_of None = refuses wrong_constant

@@ -1,3 +1,4 @@
+pub mod ReasonNumbers
 pub mod Plans
 pub mod Constants
 pub mod Table

@@ -11,6 +11,7 @@ use Rattle.frames.specs.declared.vtype.VType.{VType}
 use Rattle.frames.specs.VerificationType.{VerificationType}
 use Rattle.frames.specs.FrameFact.{FrameFact}
 use Rattle.frames.specs.Conditions.{Conditions, reason, least, missing_if}
+use Rattle.rules.specs.ReasonNumbers.{stack_over}
 use Rattle.rules.specs.declared.reason.Reason.{Reason}
 use Rattle.rules.specs.declared.reason.Reason.TheVariants.{OutOfMemory}
 use Rattle.rules.specs.Plans.{Want}
@@ -40,7 +41,7 @@ pushed types f = with_stack f (types ++ f.stack)
 
 -- what is left to judge of a frame: its depth, and a class that is missing
 abbrev pub settled : Method Act → Outcome → FrameFact → Conditions
-settled m answer f = (reason 65, is_too_wide m f) ∷ missing_if answer ∷ []
+settled m answer f = (reason stack_over, is_too_wide m f) ∷ missing_if answer ∷ []
 
 -- the kind of number that a result of the type is
 abbrev pub result_kind : Option FieldDescriptor → Option Kind

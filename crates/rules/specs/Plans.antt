@@ -10,6 +10,7 @@ use Rattle.insn.specs.Stacks.{computed_as}
 use Rattle.insn.specs.Offsets.{led_to}
 use Rattle.frames.specs.VerificationType.{VerificationType}
 use Rattle.frames.specs.Slots.{descriptor_type}
+use Rattle.rules.specs.ReasonNumbers.{wrong_constant}
 
 -- what is asked of the type of an operand or local variable
 pub data Want : Type 0 where
@@ -40,7 +41,7 @@ pub data Plan : Type 0 where
   calls_special : (class : ReferenceType) (wants : List Want) (gives : List VerificationType) → Plan
   -- return
   returns : Plan
-  -- there is no rule: the number says why
+  -- there is no rule: the reason of this number says why
   refuses : (number : ℕ) → Plan
 
 -- ---- words for tables
@@ -79,7 +80,7 @@ result_types (Some t) = descriptor_type t ∷ []
 
 -- a plan where a test holds, and otherwise the constant is refused
 abbrev pub where_allowed : Bool → Plan → Plan
-where_allowed allowed plan = if allowed then plan else refuses 66
+where_allowed allowed plan = if allowed then plan else refuses wrong_constant
 
 -- ---- where it goes
 

@@ -3,30 +3,31 @@ use Rattle.std.specs.Prelude.{ℕ}
 use Rattle.frames.specs.Conditions.{Reason as Refusing, reason, class_missing, with_fault}
 use Rattle.rules.specs.declared.reason.Reason.{Reason}
 use Rattle.rules.specs.declared.reason.Reason.TheVariants.{OutOfMemory, NotSupported, MissingOperand, WrongOperand, WrongLocal, LocalOutOfRange, StackOver, WrongConstant, NoFrameAtTarget, NotAssignableAtTarget, NotAssignable, NoFrame, FallsOff, BadException, HandlerNotAssignable, OwnObjectNotReady, ConstructorCovered, WrongReturn, ClassMissing, BadStackMap, BadCode, ProtectedMember}
+use Rattle.rules.specs.ReasonNumbers.{out_of_memory, not_supported, missing_operand, wrong_operand, wrong_local, local_out_of_range, stack_over, wrong_constant, no_frame_at_target, not_assignable_at_target, not_assignable, no_frame, falls_off, bad_exception, handler_not_assignable, own_object_not_ready, constructor_covered, wrong_return, absent_class, bad_stack_map, bad_code, protected_member}
 
 abbrev pub reason_number : Reason → ℕ
-reason_number OutOfMemory = 1
-reason_number NotSupported = 60
-reason_number MissingOperand = 61
-reason_number WrongOperand = 62
-reason_number WrongLocal = 63
-reason_number LocalOutOfRange = 64
-reason_number StackOver = 65
-reason_number WrongConstant = 66
-reason_number NoFrameAtTarget = 67
-reason_number NotAssignableAtTarget = 68
-reason_number NotAssignable = 69
-reason_number NoFrame = 70
-reason_number FallsOff = 71
-reason_number BadException = 72
-reason_number HandlerNotAssignable = 73
-reason_number OwnObjectNotReady = 74
-reason_number ConstructorCovered = 75
-reason_number WrongReturn = 76
-reason_number (ClassMissing name) = 77
-reason_number (BadStackMap fault) = 78
-reason_number (BadCode fault) = 79
-reason_number ProtectedMember = 82
+reason_number OutOfMemory = out_of_memory
+reason_number NotSupported = not_supported
+reason_number MissingOperand = missing_operand
+reason_number WrongOperand = wrong_operand
+reason_number WrongLocal = wrong_local
+reason_number LocalOutOfRange = local_out_of_range
+reason_number StackOver = stack_over
+reason_number WrongConstant = wrong_constant
+reason_number NoFrameAtTarget = no_frame_at_target
+reason_number NotAssignableAtTarget = not_assignable_at_target
+reason_number NotAssignable = not_assignable
+reason_number NoFrame = no_frame
+reason_number FallsOff = falls_off
+reason_number BadException = bad_exception
+reason_number HandlerNotAssignable = handler_not_assignable
+reason_number OwnObjectNotReady = own_object_not_ready
+reason_number ConstructorCovered = constructor_covered
+reason_number WrongReturn = wrong_return
+reason_number (ClassMissing name) = absent_class
+reason_number (BadStackMap fault) = bad_stack_map
+reason_number (BadCode fault) = bad_code
+reason_number ProtectedMember = protected_member
 
 -- what a reason says: the missing class by its name, and the fault of a stack map or of code by its number
 abbrev pub reason_view : Reason → Refusing

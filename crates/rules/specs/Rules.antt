@@ -16,6 +16,7 @@ use Rattle.frames.specs.FrameAssignable.{both}
 use Rattle.frames.specs.DeclaredFrames.{is_uninit_this}
 use Rattle.frames.specs.Slots.{number_type, to_reference, units_of}
 use Rattle.frames.specs.Conditions.{Reason, reason, class_missing, with_fault, Conditions, is_no, missing_if}
+use Rattle.rules.specs.ReasonNumbers.{missing_operand, wrong_operand, wrong_local, local_out_of_range, stack_over, wrong_constant, own_object_not_ready}
 use Rattle.rules.specs.Plans.{Want, number, assignable_to, any_reference, any_array, any_array_for, own_or_assignable_to, Plan, pops, loads, stores, counts, rearranges, loads_element, makes, constructs, calls_special, returns, refuses}
 use Rattle.rules.specs.Table.{class_made_at, object_array}
 use Rattle.rules.specs.After.{top_of, local_of, form_for, is_made_at, after}
@@ -72,7 +73,7 @@ operands classes (w ∷ ws) (t ∷ ts) = both (accepts classes w t) (operands cl
 
 abbrev pub operand_conditions : List ClassFact → List Want → List VerificationType → Conditions
 operand_conditions classes wants ts =
-    (reason 61, is_short wants ts) ∷ (reason 62, is_no (operands classes wants ts)) ∷ missing_if (operands classes wants ts) ∷ []
+    (reason missing_operand, is_short wants ts) ∷ (reason wrong_operand, is_no (operands classes wants ts)) ∷ missing_if (operands classes wants ts) ∷ []
 
 -- ---- local variables
 
@@ -86,8 +87,8 @@ local_answer classes m want n width f = if is_outside m n width then yes else ac
 
 abbrev pub local_conditions : List ClassFact → Method Act → Want → ℕ → ℕ → FrameFact → Conditions
 local_conditions classes m want n width f =
-    (reason 63, is_no (local_answer classes m want n width f))
-    ∷ (reason 64, is_outside m n width)
+    (reason wrong_local, is_no (local_answer classes m want n width f))
+    ∷ (reason local_out_of_range, is_outside m n width)
     ∷ missing_if (local_answer classes m want n width f)
     ∷ []
 
@@ -112,27 +113,27 @@ constructs_own _ f = false
 
 abbrev pub special_conditions : List ClassFact → Outcome → List Want → List VerificationType → Conditions
 special_conditions classes own wants ts =
-    if is_no own then (reason 66, true) ∷ []
-    else (reason 61, is_short wants ts) ∷ (reason 62, is_no (operands classes wants ts)) ∷ missing_if (both (operands classes wants ts) own) ∷ []
+    if is_no own then (reason wrong_constant, true) ∷ []
+    else (reason missing_operand, is_short wants ts) ∷ (reason wrong_operand, is_no (operands classes wants ts)) ∷ missing_if (both (operands classes wants ts) own) ∷ []
 
 -- ---- the conditions of each family, the depth of the stack aside
 
 abbrev pub family : List ClassFact → Method Act → ℕ → Plan → FrameFact → Conditions
 family classes m at (pops wants gives offsets on) f = operand_conditions classes wants f.stack
 family classes m at (loads want n width) f = local_conditions classes m want n width f
-family classes m at (stores want n width) f = (reason 64, is_outside m n width) ∷ operand_conditions classes (want ∷ []) f.stack
+family classes m at (stores want n width) f = (reason local_out_of_range, is_outside m n width) ∷ operand_conditions classes (want ∷ []) f.stack
 family classes m at (counts n) f = local_conditions classes m (number kinds.Int) n 1 f
 family classes m at (rearranges forms) f =
-    (reason 61, nat_lt (units_of f.stack) (units_taken forms)) ∷ (reason 62, is_none (form_for forms f.stack)) ∷ []
+    (reason missing_operand, nat_lt (units_of f.stack) (units_taken forms)) ∷ (reason wrong_operand, is_none (form_for forms f.stack)) ∷ []
 family classes m at loads_element f = operand_conditions classes (number kinds.Int ∷ object_array ∷ []) f.stack
-family classes m at (makes name) f = (reason 62, is_on_stack at f.stack) ∷ []
+family classes m at (makes name) f = (reason wrong_operand, is_on_stack at f.stack) ∷ []
 family classes m at (constructs name wants) f =
-    (reason 61, is_short (any_reference ∷ wants) f.stack)
-    ∷ (reason 62, not (may_construct m name (top_of (beneath wants f.stack))))
+    (reason missing_operand, is_short (any_reference ∷ wants) f.stack)
+    ∷ (reason wrong_operand, not (may_construct m name (top_of (beneath wants f.stack))))
     ∷ operand_conditions classes wants f.stack
 family classes m at (calls_special type wants gives) f =
     special_conditions classes (type_answer classes (class m.class) (to_reference type)) wants f.stack
-family classes m at returns f = (reason 74, m.is_init && f.flag) ∷ []
+family classes m at returns f = (reason own_object_not_ready, m.is_init && f.flag) ∷ []
 family classes m at (refuses n) f = (reason n, true) ∷ []
 
 -- ---- all conditions
@@ -150,7 +151,7 @@ gives_frame (c ∷ cs) = (is_missing_class c.0 || not c.1) && gives_frame cs
 abbrev pub is_too_wide : Method Act → FrameFact → Bool
 is_too_wide m f = nat_lt m.max_stack (units_of f.stack)
 
--- The reasons against an instruction, in no order. 65 is that the stack afterwards is wider than max_stack.
+-- The reasons against an instruction, in no order. stack_over is that the stack afterwards is wider than max_stack.
 abbrev pub conditions : List ClassFact → Method Act → ℕ → Plan → FrameFact → Conditions
 conditions classes m at p f =
-    (reason 65, gives_frame (family classes m at p f) && is_too_wide m (after m at p f)) ∷ family classes m at p f
+    (reason stack_over, gives_frame (family classes m at p f) && is_too_wide m (after m at p f)) ∷ family classes m at p f

@@ -2,7 +2,6 @@
 ghost use Rattle.std.specs.Prelude.{◌≡◌};
 ghost use Rattle.frames.specs.Slots.{number_type};
 ghost use Rattle.frames.specs.VerificationType.{type_of};
-ghost use Rattle.rules.specs.Table.{kind_width};
 
 use frames::VType;
 use insn::Kind;
@@ -17,11 +16,4 @@ pub fn number_type<'a>(kind: Kind) -> VType<'a>
         Kind::Float => VType::Float,
         Kind::Double => VType::Double,
     }
-}
-
-/// How many locals, and units of the stack, a number of the kind takes.
-pub fn kind_width(kind: Kind) -> usize
-    ensures { result ≡ kind_width kind }
-{
-    if kind.is_wide() { 2 } else { 1 }
 }

@@ -11,7 +11,7 @@ ghost use Rattle.rules.specs.Outcomes.{Done};
 
 use crate::constants::load_wide_constant;
 use crate::families::{counts, loads, pops, return_nothing, return_number};
-use crate::kinds::{kind_width, number_type};
+use crate::kinds::number_type;
 use crate::reason::Reason;
 use crate::stacks::rearranges;
 use crate::stores::stores;
@@ -46,7 +46,7 @@ pub fn run<'a, C: Classes>(
             method,
             Want::Number(kind),
             local,
-            kind_width(kind),
+            kind.units(),
             frame,
             classes,
         ),
@@ -54,7 +54,7 @@ pub fn run<'a, C: Classes>(
             method,
             Want::Number(kind),
             local,
-            kind_width(kind),
+            kind.units(),
             frame,
             classes,
         ),

@@ -9,7 +9,7 @@ use Rattle.pool.specs.Members.{constant_at, class_at, FieldConstant, field_at, M
 use Rattle.classfile.specs.Methods.{Method, is_own_field}
 use Rattle.insn.specs.declared.operation.Kind.{Kind}
 use Rattle.insn.specs.declared.operation.Kind.TheVariants as kinds
-use Rattle.insn.specs.Acts.{numeric_row}
+use Rattle.insn.specs.Acts.{numeric_row, kind_units}
 use Rattle.insn.specs.Stacks.{computed_as, same_kind}
 use Rattle.insn.specs.Meanings as acts
 use Rattle.insn.specs.Meanings.{Act}
@@ -19,7 +19,6 @@ use Rattle.rules.specs.Plans as rules
 use Rattle.rules.specs.Plans.{Want, Plan}
 use Rattle.rules.specs.Constants as constants
 use Rattle.rules.specs.Table as table
-use Rattle.machine.specs.Values.{kind_units}
 use Rattle.machine.specs.Tasks as tasks
 use Rattle.machine.specs.Tasks.{Need, Reply, Task}
 use Rattle.machine.proofs.Apart.{AllApart, table_apart}
@@ -230,12 +229,6 @@ return_nothing_agree : (t : Option FieldDescriptor) → Agrees (table.return_not
 return_nothing_agree None = tt
 return_nothing_agree (Some t) = tt
 
-widths : (k : Kind) → table.kind_width k ≡ kind_units k
-widths kinds.Int = refl
-widths kinds.Float = refl
-widths kinds.Long = refl
-widths kinds.Double = refl
-
 -- ---- all instructions
 
 pub agree : (m : Method Act) (a : Act) → Agrees (table.plan m a) (tasks.task m a)
@@ -246,7 +239,7 @@ agree m (acts.LoadConstant i) = load_constant_agree (constant_at m.constant_pool
 agree m (acts.LoadWideConstant i) = load_wide_constant_agree (constant_at m.constant_pool i)
 agree m (acts.Load k n) = (refl, refl)
 agree m (acts.LoadReference n) = (tt, refl)
-agree m (acts.Store k n) = (refl, refl, widths k, refl)
+agree m (acts.Store k n) = (refl, refl, refl, refl)
 agree m (acts.StoreReference n) = (tt, refl, refl, refl)
 agree m (acts.Increment n) = refl
 agree m (acts.Numeric op) = record { needs = numbers (numeric_row op).taken; reply = refl; offsets = refl; falls = refl }

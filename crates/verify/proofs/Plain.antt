@@ -20,7 +20,8 @@ use Rattle.rules.specs.Plans as rules
 use Rattle.rules.specs.Plans.{Want, Plan}
 use Rattle.rules.specs.After.{popped, after}
 use Rattle.rules.specs.Rules.{is_reference, is_array, is_array_for, own_or_answer, accepts, is_short, operands, operand_conditions, family, is_missing_class, gives_frame, conditions}
-use Rattle.machine.specs.Values.{Value, number, null, reference, is_wide_value, depth_of, kind_units, field_units}
+use Rattle.insn.specs.Acts.{kind_units}
+use Rattle.machine.specs.Values.{Value, number, null, reference, is_wide_value, depth_of, field_units}
 use Rattle.machine.specs.Heap.{Heap, IsBelow, FitsReference, FitsField, AllFit, IsReference, IsArray, FitsArray, IsArrayFor, FitsArrayFor, IsThis}
 use Rattle.machine.specs.Tasks as tasks
 use Rattle.machine.specs.Tasks.{Need, Reply, reply_units}

@@ -1,5 +1,5 @@
 -- Where a method is type-safe, none of its instructions counts as unsupported.
-use Rattle.std.proofs.Common.{◌≡◌, ℕ, Bool, true, false, List, [], ◌∷◌, Option, Some, None, refl, sym, ◌∙◌, ap, subst, if◌then◌else◌, slice_get}
+use Rattle.std.proofs.Common.{◌≡◌, ℕ, Bool, true, false, List, Option, Some, None, refl, sym, ap, subst, if◌then◌else◌, slice_get}
 use Rattle.std.specs.Option.{option_and_then}
 use Rattle.names.specs.Descriptors.{MethodDescriptor}
 use Rattle.classfile.specs.Values.{CodeBody, Member, Class}

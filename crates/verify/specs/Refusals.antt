@@ -9,6 +9,7 @@ use Rattle.frames.specs.Slots.{in_locals}
 use Rattle.frames.specs.Conditions.{Reason, reason, NoneHolds, least}
 use Rattle.frames.specs.StackMaps.{MapEntry, MapFault}
 use Rattle.frames.specs.DeclaredFrames.{declared_frames}
+use Rattle.rules.specs.ReasonNumbers.{local_out_of_range}
 use Rattle.rules.specs.Plans.{falls}
 use Rattle.rules.specs.Table.{Plans}
 use Rattle.rules.specs.After.{after}
@@ -62,7 +63,7 @@ pub record BreaksTable (classes : List ClassFact) (m : Method Act) (frames : Fra
 pub record HasNoRoom (m : Method Act) (at : ℕ) (why : Reason) : Type 0 where
   pub at_zero : at ≡ 0
   pub narrow : m.max_locals < length (in_locals (initial_types m))
-  pub told : why ≡ reason 64
+  pub told : why ≡ reason local_out_of_range
 
 -- All entries of the exception table are sound.
 pub record BreaksCode (plan : Plans) (classes : List ClassFact) (m : Method Act) (frames : Frames) (at : ℕ) (why : Reason) : Type 0 where

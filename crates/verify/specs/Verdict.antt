@@ -19,6 +19,7 @@ use Rattle.frames.specs.FrameAssignable.{frame_answer}
 use Rattle.frames.specs.Conditions.{Reason, reason, Conditions, least, is_no, missing_if}
 use Rattle.frames.specs.StackMaps.{MapEntry, stack_map}
 use Rattle.frames.specs.DeclaredFrames.{declared_frames}
+use Rattle.rules.specs.ReasonNumbers.{local_out_of_range, no_frame_at_target, not_assignable_at_target, not_assignable, no_frame, falls_off, bad_exception, handler_not_assignable, constructor_covered}
 use Rattle.rules.specs.Plans.{Plan, falls, targets}
 use Rattle.rules.specs.Table.{Plans}
 use Rattle.rules.specs.After.{after}
@@ -77,12 +78,12 @@ is_end m to = has_offset m.code to || nat_eq to m.code_length
 
 abbrev pub table_conditions : List ClassFact → Method Act → Frames → ExceptionEntry → Conditions
 table_conditions classes m frames e =
-    (reason 72, not (nat_lt e.from e.to))
-    ∷ (reason 72, not (has_offset m.code e.from))
-    ∷ (reason 72, not (is_end m e.to))
-    ∷ (reason 72, not (has_offset m.code e.handler))
-    ∷ (reason 72, not (has_offset frames e.handler))
-    ∷ answer_conditions 72 (type_answer classes (to_reference e.caught) (class throwable_name))
+    (reason bad_exception, not (nat_lt e.from e.to))
+    ∷ (reason bad_exception, not (has_offset m.code e.from))
+    ∷ (reason bad_exception, not (is_end m e.to))
+    ∷ (reason bad_exception, not (has_offset m.code e.handler))
+    ∷ (reason bad_exception, not (has_offset frames e.handler))
+    ∷ answer_conditions bad_exception (type_answer classes (to_reference e.caught) (class throwable_name))
 
 -- the first entry that is refused says why
 abbrev pub table_judged : List ClassFact → Method Act → Frames → List ExceptionEntry → Verdict → Verdict
@@ -98,8 +99,8 @@ declared_at frames (negsuc n) = None
 
 -- the frame after comes to a target
 abbrev pub one_target : List ClassFact → Option FrameFact → FrameFact → Conditions
-one_target classes None f = (reason 67, true) ∷ []
-one_target classes (Some declared) f = answer_conditions 68 (frame_answer classes f declared)
+one_target classes None f = (reason no_frame_at_target, true) ∷ []
+one_target classes (Some declared) f = answer_conditions not_assignable_at_target (frame_answer classes f declared)
 
 abbrev pub target_conditions : List ClassFact → Frames → FrameFact → List ℤ → Conditions
 target_conditions classes frames f [] = []
@@ -108,8 +109,8 @@ target_conditions classes frames f (target ∷ others) =
 
 -- the frame before comes to a handler, at which a frame is declared: otherwise the exception table was refused
 abbrev pub one_handler : List ClassFact → Option FrameFact → FrameFact → Conditions
-one_handler classes None f = (reason 73, true) ∷ []
-one_handler classes (Some declared) f = answer_conditions 73 (frame_answer classes f declared)
+one_handler classes None f = (reason handler_not_assignable, true) ∷ []
+one_handler classes (Some declared) f = answer_conditions handler_not_assignable (frame_answer classes f declared)
 
 abbrev pub handler_conditions : List ClassFact → Frames → ℕ → FrameFact → List ExceptionEntry → Conditions
 handler_conditions classes frames at f [] = []
@@ -127,14 +128,14 @@ at_conditions classes m frames at p next f =
     conditions classes m at p f
     ++ (target_conditions classes frames (after m at p f) (targets at p)
     ++ (handler_conditions classes frames at f m.exceptions
-    ++ ((reason 71, falls p && is_none next) ∷ (reason 75, constructs_own p f && is_covered m.exceptions at) ∷ [])))
+    ++ ((reason falls_off, falls p && is_none next) ∷ (reason constructor_covered, constructs_own p f && is_covered m.exceptions at) ∷ [])))
 
 -- ---- the frame that comes to a start, where the instruction in front falls through, and the one that goes on
 
 abbrev pub entry : List ClassFact → (falls : Bool) → FrameFact → Option FrameFact → Option Reason
 entry classes true f None = None
-entry classes true f (Some declared) = least (answer_conditions 69 (frame_answer classes f declared))
-entry classes false f None = Some (reason 70)
+entry classes true f (Some declared) = least (answer_conditions not_assignable (frame_answer classes f declared))
+entry classes false f None = Some (reason no_frame)
 entry classes false f (Some declared) = None
 
 abbrev pub entered : FrameFact → Option FrameFact → FrameFact
@@ -167,5 +168,5 @@ with_frames plan classes m (Err why) = map_refused why
 
 abbrev pub verdict : Plans → List ClassFact → Method Act → Verdict
 verdict plan classes m =
-    if nat_lt m.max_locals (length (in_locals (initial_types m))) then refused 0 (reason 64)
+    if nat_lt m.max_locals (length (in_locals (initial_types m))) then refused 0 (reason local_out_of_range)
     else with_frames plan classes m (frames_declared m)

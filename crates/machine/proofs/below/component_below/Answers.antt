@@ -1,6 +1,6 @@
 use Rattle.std.proofs.Common.{◌≡◌, ◌<◌, ◌∙◌, arith, sym, subst}
 use Rattle.names.specs.Descriptors.{base_of, dimensioned}
-use Rattle.machine.specs.Decided.{type_below}
+use Rattle.machine.specs.private.Decided.{type_below}
 use Rattle.machine.proofs.Types.{fewer, as_many, more_than_primitive, more_than_class}
 use Rattle.machine.proofs.below.component_below.Goals as goal
 

@@ -1,5 +1,5 @@
 use Rattle.std.proofs.Common.{◌≡◌, false, drop}
-use Rattle.machine.specs.Decided.{paired_behind}
+use Rattle.machine.specs.private.Decided.{paired_behind}
 use Rattle.machine.specs.Views.{locals_of}
 use Rattle.machine.proofs.operands.are_paired.Given as goal
 

@@ -1,6 +1,6 @@
 use Rattle.std.proofs.Common.{◌≡◌, drop, map}
 use Rattle.insn.specs.Views.{stack_form_view}
-use Rattle.machine.specs.Decided.{form_for}
+use Rattle.machine.specs.private.Decided.{form_for}
 use Rattle.machine.specs.Views.{stack_of}
 use Rattle.machine.proofs.operands.form_for.Given as goal
 

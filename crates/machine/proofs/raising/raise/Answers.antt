@@ -1,7 +1,7 @@
 use Rattle.std.proofs.Common.{rules, sym, subst}
 use Rattle.hierarchy.specs.Class.{world_of}
 use Rattle.machine.specs.Bodies.{method_view}
-use Rattle.machine.specs.Happening.{Raises}
+use Rattle.machine.specs.private.Happening.{Raises}
 use Rattle.machine.specs.Views.{heap_view, fresh_view, state_view, run_type_view}
 use Rattle.machine.proofs.Raised.{caught_raises}
 use Rattle.machine.proofs.raising.raise.Goals as goal

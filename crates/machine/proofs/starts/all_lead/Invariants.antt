@@ -1,5 +1,5 @@
 use Rattle.std.proofs.Common.{◌≡◌, drop, map}
-use Rattle.machine.specs.Demanded.{all_lead}
+use Rattle.machine.specs.private.Demanded.{all_lead}
 use Rattle.machine.specs.Bodies.{code_of, entry_view}
 use Rattle.machine.proofs.starts.all_lead.Given as goal
 

@@ -1,5 +1,6 @@
-use Rattle.machine.proofs.Places.{is_begin}
+use Rattle.std.proofs.Common.{◌∙◌}
+use Rattle.machine.proofs.Places.{begins}
 use Rattle.machine.proofs.starts.has_offset.Goals as goal
 
 pub returns : goal.returns
-returns c = is_begin c.args.list.now c.args.at c.requires c.is_start.result c.is_start.ensures.exactly
+returns c = c.is_rising_start.ensures ∙ begins c.args.list.now c.args.at

@@ -5,7 +5,7 @@ use Rattle.insn.specs.Offsets.{at_offset, next_offset}
 use Rattle.insn.specs.Views.{act_view}
 use Rattle.machine.specs.Bodies.{code_of, method_view}
 use Rattle.machine.specs.Tasks.{task_yet}
-use Rattle.machine.specs.Happening.{Goes, Raises}
+use Rattle.machine.specs.private.Happening.{Goes, Raises}
 use Rattle.machine.specs.Views.{value_view, fresh_view, state_view}
 use Rattle.machine.proofs.Deciding.{meets}
 use Rattle.machine.proofs.Chosen.{go_steps, raise_steps}

@@ -1,5 +1,5 @@
 use Rattle.std.proofs.Common.{◌≡◌, ◌-◌, ◌∙◌, suc, sym, ap, arith}
-use Rattle.machine.specs.Happening.{with_before}
+use Rattle.machine.specs.private.Happening.{with_before}
 use Rattle.machine.specs.Views.{locals_of}
 use Rattle.machine.proofs.Writes.{before_first, before_wide, before_narrow}
 use Rattle.machine.proofs.storing.free_before.Goals as goal

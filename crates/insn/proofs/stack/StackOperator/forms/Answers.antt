@@ -1,5 +1,7 @@
-use Rattle.std.proofs.Common.{rules}
+use Rattle.insn.specs.Acts.{stack_forms, stack_operators}
+use Rattle.insn.specs.Table.{stack_table_row}
+use Rattle.insn.proofs.Rows.{row_there}
 use Rattle.insn.proofs.stack.StackOperator.forms.Goals as goal
 
-pub returns-in-Swap : goal.returns-in-Swap
-returns-in-Swap c = search rules
+pub returns : goal.returns
+returns c = row_there stack_table_row stack_forms stack_operators c.args.self c.place.result c.stack_rows.result.now _ c.stack_rows.ensures.all c.place.ensures

@@ -1,18 +1,19 @@
+-- Words of the code's own steps: nothing that a reader must believe rests on them.
 -- When a state meets the demands of an instruction, in four tests that compute and one demand on its objects.
 use Rattle.std.specs.Prelude.{◌≡◌, ℕ, ◌+◌, Bool, true, false, not, ◌&&◌, ◌||◌, nat_eq, nat_le, nat_lt, List, [], ◌∷◌, length, slice_get, Option}
 use Rattle.std.specs.Option.{is_some}
 use Rattle.classfile.specs.Methods.{Method, ExceptionEntry, covers}
 use Rattle.insn.specs.declared.operation.Kind.TheVariants as kinds
-use Rattle.insn.specs.Acts.{stack_forms}
+use Rattle.insn.specs.Acts.{stack_forms, kind_units}
 use Rattle.insn.specs.Meanings.{Act}
 use Rattle.insn.specs.Offsets.{has_offset}
 use Rattle.machine.specs.declared.deed.Deed.{Deed}
 use Rattle.machine.specs.declared.deed.Deed.TheVariants.{Operates, Reads, Writes, Increments, Moves, Leaves, Ends, Stuck}
-use Rattle.machine.specs.Values.{Value, Slot, kind_units, depth_of}
+use Rattle.machine.specs.Values.{Value, Slot, depth_of}
 use Rattle.machine.specs.Tasks.{falls}
 use Rattle.machine.specs.Demands.{State, EndsReady}
-use Rattle.machine.specs.Decided.{has_kinds, holds_number, form_for, paired_behind}
-use Rattle.machine.specs.Deeds.{task_view, stack_after}
+use Rattle.machine.specs.private.Decided.{has_kinds, holds_number, form_for, paired_behind}
+use Rattle.machine.specs.private.Deeds.{task_view, stack_after}
 
 abbrev pub has_operands : ℕ → Deed → List Value → List Slot → Bool
 has_operands limit (Operates needs reply) vs ls = has_kinds needs.now vs

@@ -1,3 +1,4 @@
+-- Words of the code's own steps: nothing that a reader must believe rests on them.
 -- What the machine demands, as tests that compute.
 use Rattle.std.specs.Prelude.{ℕ, Bool, true, false, not, ◌&&◌, ◌||◌, if◌then◌else◌, bytes_eq, List, [], ◌∷◌, Option, Some, None}
 use Rattle.names.specs.declared.base.Primitive.{Primitive}

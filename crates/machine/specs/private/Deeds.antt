@@ -1,13 +1,14 @@
+-- Words of the code's own steps: nothing that a reader must believe rests on them.
 -- What the instructions do that are supported, as the program keeps it, and the stack after each.
 use Rattle.std.specs.Prelude.{true, List, [], ◌∷◌, ◌++◌, Option, Some, None, slice_get, length, drop}
 use Rattle.insn.specs.declared.operation.Kind.{Kind}
-use Rattle.insn.specs.Acts.{StackForm, stack_forms}
+use Rattle.insn.specs.Acts.{StackForm, stack_forms, kind_units}
 use Rattle.insn.specs.Stacks.{rearranged}
 use Rattle.machine.specs.declared.deed.Deed.{Deed}
 use Rattle.machine.specs.declared.deed.Deed.TheVariants.{Operates, Reads, Writes, Increments, Moves, Leaves, Ends, Stuck}
-use Rattle.machine.specs.Values.{Value, number, Slot, holds, kind_units}
+use Rattle.machine.specs.Values.{Value, number, Slot, holds}
 use Rattle.machine.specs.Tasks.{of_kind, Reply, no_reply, gives_number, Task, operates, reads, writes, increments, moves, leaves, ends, stuck, needs_of_kinds}
-use Rattle.machine.specs.Decided.{form_for}
+use Rattle.machine.specs.private.Decided.{form_for}
 
 abbrev pub reply_view : Option Kind → Reply
 reply_view None = no_reply

@@ -1,3 +1,4 @@
+-- Words of the code's own steps: nothing that a reader must believe rests on them.
 -- What the calls answer that go on and that raise, by what is done and where the next instruction begins.
 use Rattle.std.specs.Prelude.{◌≡◌, ℕ, zero, suc, ◌+◌, ◌≤◌, Bool, true, false, List, [], ◌∷◌, slice_get, Option, Some, None, Result, Ok, Err, if◌then◌else◌}
 use Rattle.names.specs.ReferenceTypes.{ReferenceType}
@@ -10,12 +11,13 @@ use Rattle.machine.specs.declared.choosing.Outcome.{Outcome as RawOutcome}
 use Rattle.machine.specs.declared.choosing.Outcome.TheVariants as outcomes
 use Rattle.machine.specs.declared.choosing.StepFault.{StepFault}
 use Rattle.machine.specs.declared.choosing.StepFault.TheVariants.{OutOfMemory, NotAChoice}
-use Rattle.machine.specs.Values.{Value, number, reference, Slot, empty, is_wide_slot, behind_lost, stored, kind_units}
+use Rattle.insn.specs.Acts.{kind_units}
+use Rattle.machine.specs.Values.{Value, number, reference, Slot, empty, is_wide_slot, behind_lost, stored}
 use Rattle.machine.specs.Heap.{Heap, IsBelow, IsFresh, with_fresh}
-use Rattle.machine.specs.Tasks.{Tasks, falls}
-use Rattle.machine.specs.Demands.{State, IsNoFaultBy}
-use Rattle.machine.specs.Steps.{Choice, Outcome, goes_on, ended, HappensBy, IsRaised, IsCaught, moved_with}
-use Rattle.machine.specs.Deeds.{task_view, stack_after}
+use Rattle.machine.specs.Tasks.{falls}
+use Rattle.machine.specs.Demands.{State}
+use Rattle.machine.specs.Steps.{IsRaised, IsCaught, moved_with}
+use Rattle.machine.specs.private.Deeds.{task_view, stack_after}
 use Rattle.machine.specs.Views.{state_view}
 
 -- ---- stores
@@ -125,13 +127,3 @@ Raises world m s address fresh entry (Ok outcomes.Fault) = ⊥
 Raises world m s address fresh entry (Err OutOfMemory) = Unit {0}
 Raises world m s address fresh entry (Err NotAChoice) =
     (entry ≡ None → IsRaised world s address fresh → ⊥) × ((t : State) → CaughtBy world m s address fresh entry t → ⊥)
-
--- ---- steps
-
--- what a step answers: a fault exactly at a fault; elsewhere what comes of the choice, and 54 exactly where nothing does
-abbrev pub Stepped : Tasks → World → Method Act → State → Choice → Result RawOutcome StepFault → Type 0
-Stepped task world m s choice (Ok (outcomes.Next t)) = HappensBy task world m s choice (goes_on (state_view t))
-Stepped task world m s choice (Ok outcomes.Ended) = HappensBy task world m s choice ended
-Stepped task world m s choice (Ok outcomes.Fault) = IsNoFaultBy task world m s → ⊥
-Stepped task world m s choice (Err OutOfMemory) = Unit {0}
-Stepped task world m s choice (Err NotAChoice) = IsNoFaultBy task world m s × ((o : Outcome) → HappensBy task world m s choice o → ⊥)

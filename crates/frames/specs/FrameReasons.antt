@@ -1,0 +1,31 @@
+-- The reasons by which an entry of a stack map is refused (JVMS 4.7.4, 4.10.1): each name stands for the number by which the reason
+-- is told.
+use Rattle.std.specs.Prelude.{ℕ}
+
+-- the index of a class names nothing
+abbrev pub bad_index : ℕ
+bad_index = 8
+
+-- it names another constant than a class
+abbrev pub wrong_kind : ℕ
+wrong_kind = 9
+
+-- the locals take more units than max_locals
+abbrev pub locals_over : ℕ
+locals_over = 49
+
+-- the stack takes more units than max_stack
+abbrev pub stack_over : ℕ
+stack_over = 50
+
+-- more locals are taken away than there are
+abbrev pub chop_too_many : ℕ
+chop_too_many = 51
+
+-- no instruction begins at the offset of the frame
+abbrev pub not_a_start : ℕ
+not_a_start = 52
+
+-- no `new` stands at the offset of an object that is not initialized
+abbrev pub not_a_new : ℕ
+not_a_new = 53

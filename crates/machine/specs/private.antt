@@ -1,0 +1,6 @@
+-- Words of the code's own steps, which its private contracts use: nothing that a reader must believe rests on them.
+pub mod Decided
+pub mod Deeds
+pub mod Demanded
+pub mod Happening
+pub mod Rising
