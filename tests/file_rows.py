@@ -38,6 +38,7 @@ def with_constant(index, constant):
 
 
 def with_method(method):
+    """K with another method."""
     return replace(K, methods=[method])
 
 
@@ -47,6 +48,7 @@ def with_code(**parts):
 
 
 def native(name, descriptor, flags=NATIVE | STATIC):
+    """A method without code, by the indices of its name and descriptor."""
     return member(flags, name, descriptor)
 
 
@@ -61,6 +63,7 @@ def with_native(name, descriptor, flags=NATIVE | STATIC):
 
 
 def told(number, place):
+    """The line of `check`."""
     return "ok" if number is None else f"refused {number} {place}"
 
 
@@ -75,7 +78,15 @@ def layouts():
     yield "another magic", replace(K, magic=0xCAFEBABF).data(), "refused 10"
     for length in (12, 14):
         yield f"a Code of 13 bytes that says {length}", with_code(length=length).data(), "refused 12 at 76"
-    for major, minor, line in ((50, 0, "refused 11 50.0"), (51, 7, "ok"), (55, 7, "ok"), (56, 0, "ok"), (56, 7, "refused 11 56.7"), (60, 0, "ok"), (61, 0, "refused 11 61.0")):
+    for major, minor, line in (
+        (50, 0, "refused 11 50.0"),
+        (51, 7, "ok"),
+        (55, 7, "ok"),
+        (56, 0, "ok"),
+        (56, 7, "refused 11 56.7"),
+        (60, 0, "ok"),
+        (61, 0, "refused 11 61.0"),
+    ):
         yield f"version {major}.{minor}", replace(K, major=major, minor=minor).data(), line
 
 
@@ -134,13 +145,20 @@ def descriptors():
     for text in ("", "I", "(", "(V)V", "(I", "([)V", "()", "()VV", "()II", "(La;)[V"):
         yield f"a method {text}", with_native("m", text).data(), "refused 23 method 1"
     # 4.3.3: 255 units with the receiver; a long and a double take two
-    for text, of_class, of_instances in (("I" * 254, None, None), ("I" * 255, None, 23), ("I" * 256, 23, 23), ("J" * 127 + "I", None, 23), ("J" * 128, 23, 23)):
+    for text, of_class, of_instances in (
+        ("I" * 254, None, None),
+        ("I" * 255, None, 23),
+        ("I" * 256, 23, 23),
+        ("J" * 127 + "I", None, 23),
+        ("J" * 128, 23, 23),
+    ):
         yield f"a static method ({text})V", with_native("m", f"({text})V").data(), told(of_class, "method 1")
         yield f"a method of instances ({text})V", with_native("m", f"({text})V", NATIVE).data(), told(of_instances, "method 1")
 
 
 def rules():
     """Classes that break a rule for well-formed ones (4.1, 4.4 to 4.7)."""
+    with_int = with_constants(utf8("I"))
     for what, broken, line in (
         ("an index past the pool", with_constant(1, class_info(9)), "refused 20 pool 1"),
         ("the second index of a Long", with_constants(class_info(10), long(0)), "refused 20 pool 8"),
@@ -163,8 +181,8 @@ def rules():
         ("code of 65,536 bytes", with_code(code=bytes(65536)), "refused 29 method 0"),
         ("two Codes", with_method(member(0x0009, 5, 6, *[code_attribute(7, RETURN)] * 2)), "refused 30 method 0"),
         ("a method twice", replace(K, methods=[F, native(2, 6), native(5, 6)]), "refused 25 method 2"),
-        ("a field twice", replace(with_constants(utf8("I")), fields=[member(0, 2, 8), member(0, 5, 8), member(1, 2, 8)]), "refused 25 field 2"),
-        ("a final volatile field", replace(with_constants(utf8("I")), fields=[member(0x0050, 5, 8)]), "refused 24 field 0"),
+        ("a field twice", replace(with_int, fields=[member(0, 2, 8), member(0, 5, 8), member(1, 2, 8)]), "refused 25 field 2"),
+        ("a final volatile field", replace(with_int, fields=[member(0x0050, 5, 8)]), "refused 24 field 0"),
     ):
         yield what, broken.data(), line
     for count, line in ((0, "ok"), (1, "ok"), (2, "refused 30 method 0")):

@@ -1,10 +1,30 @@
 """Methods and lists of classes, and what `classck verify` says of each: JVMS 4.10.1 and 5.3.5."""
 from dataclasses import replace
 
-from assembler import NATIVE, OBJECT, STATIC, ClassFile, attribute, class_info, code_attribute, code_of, integer, long, member, name_and_type, named, reference, u2, utf8
+from assembler import (
+    NATIVE,
+    OBJECT,
+    STATIC,
+    ClassFile,
+    attribute,
+    class_info,
+    code_attribute,
+    code_of,
+    integer,
+    long,
+    member,
+    name_and_type,
+    named,
+    reference,
+    u2,
+    utf8,
+)
 from file_rows import K
 
-# Static methods `f` of a class whose constants are those of `method_of`: the descriptor, max_stack and max_locals, the code, and the verdict.
+CLONEABLE = "java/lang/Cloneable"
+OBJECT_CLASS = named(OBJECT, above=None).data()
+
+# Static methods `f` of a class with the constants of `class_of`: descriptor, max_stack and max_locals; code; verdict.
 VERDICTS = """
 ()V  0 0 | return | verified
 ()V  1 0 | iconst_0; pop; return | verified
@@ -86,6 +106,7 @@ def class_of(descriptor, method, *more):
 
 
 def method_of(descriptor, stack, variables, code):
+    """That class with a static method that has this code."""
     return class_of(descriptor, member(STATIC, 5, 6, code_attribute(7, code_of(code), int(stack), int(variables))))
 
 
@@ -110,9 +131,6 @@ def left_out():
         yield what, [class_of("()V", method, utf8("StackMapTable")), OBJECT_CLASS], f"method f ()V {verdict}"
 
 
-OBJECT_CLASS = named(OBJECT, above=None).data()
-
-
 def hierarchies():
     """Lists of classes, of which the first is verified."""
     k, cut = K.data(), OBJECT_CLASS[:45]
@@ -127,8 +145,8 @@ def hierarchies():
         ("X below A and B, which are below each other", [k, x, a, b], "hierarchy refused 41 A"),
         ("X below A, and A and B below themselves", [k, x, *own], "hierarchy refused 41 B"),
         ("A below B, which is missing", [k, OBJECT_CLASS, a], "hierarchy refused 42 A"),
-        ("Cloneable as a class", [k, OBJECT_CLASS, named("java/lang/Cloneable").data()], "hierarchy refused 44 java/lang/Cloneable"),
-        ("Cloneable as an interface", [k, OBJECT_CLASS, named("java/lang/Cloneable", flags=0x0601).data()], "method f ()V verified"),
+        ("Cloneable as a class", [k, OBJECT_CLASS, named(CLONEABLE).data()], f"hierarchy refused 44 {CLONEABLE}"),
+        ("Cloneable as an interface", [k, OBJECT_CLASS, named(CLONEABLE, flags=0x0601).data()], "method f ()V verified"),
         ("K that is cut", [k[:96], OBJECT_CLASS], "class refused 2 at 95"),
         ("K with a broken rule", [replace(K, flags=0x0221).data(), OBJECT_CLASS], "class refused 24 class"),
         ("a known class that is cut", [k, OBJECT_CLASS, cut], "known 2 refused 2 at 44"),
