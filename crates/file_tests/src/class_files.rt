@@ -66,24 +66,33 @@ fn has_method(class: &ClassFile<'_>) -> bool {
     }
 }
 
-/// Whether the class is written as these bytes; want of memory aside.
-fn is_written(alloc: Global, class: &ClassFile<'_>, want: &[u8]) -> bool {
+/// Whether the class is written as these bytes; or memory ran out, where it may.
+fn is_written(alloc: Global, class: &ClassFile<'_>, want: &[u8], may_fail: bool) -> bool {
     match encode(alloc, class) {
         Ok(bytes) => bytes.as_slice() == want,
-        Err(_) => false,
+        Err(fault) => may_fail && matches!(fault, WriteFault::OutOfMemory),
     }
 }
 
-fn is_read_and_written(alloc: Global) -> bool {
+/// Whether the class is read and written; or memory ran out, where it may.
+fn is_read(alloc: Global, may_fail: bool) -> bool {
     match decode(alloc, &MAPPED) {
-        Ok(class) => is_head(&class) && has_method(&class) && is_written(alloc, &class, &MAPPED),
-        Err(_) => false,
+        Ok(class) => {
+            is_head(&class) && has_method(&class) && is_written(alloc, &class, &MAPPED, may_fail)
+        }
+        Err(fault) => may_fail && matches!(fault, ReadFault::OutOfMemory),
     }
 }
 
 #[test]
 fn a_class_both_ways(rt: HostRuntime) {
-    assert!(rt; is_read_and_written(rt.alloc()));
+    assert!(rt; is_read(rt.alloc(), false));
+}
+
+/// Where memory runs out each call answers 1, and otherwise as ever.
+#[test]
+fn memory_runs_out(rt: HostRuntime) {
+    assert!(rt; is_read(rt.alloc(), true));
 }
 
 /// Why K with this version and so many interfaces is not written, if it is not.
@@ -140,25 +149,4 @@ fn is_raw_written(alloc: Global, of_method: bool) -> Option<bool> {
 fn a_raw_code_attribute(rt: HostRuntime) {
     assert!(rt; is_raw_written(rt.alloc(), false) == Some(true));
     assert!(rt; is_raw_written(rt.alloc(), true) == Some(false));
-}
-
-/// The class is written as these bytes, or memory runs out.
-fn is_written_or_memory(alloc: Global, class: &ClassFile<'_>, want: &[u8]) -> bool {
-    match encode(alloc, class) {
-        Ok(bytes) => bytes.as_slice() == want,
-        Err(fault) => matches!(fault, WriteFault::OutOfMemory),
-    }
-}
-
-fn is_right_or_memory(alloc: Global) -> bool {
-    match decode(alloc, &MAPPED) {
-        Ok(class) => is_written_or_memory(alloc, &class, &MAPPED),
-        Err(fault) => matches!(fault, ReadFault::OutOfMemory),
-    }
-}
-
-/// Where memory runs out each call answers 1, and otherwise as ever.
-#[test]
-fn memory_runs_out(rt: HostRuntime) {
-    assert!(rt; is_right_or_memory(rt.alloc()));
 }

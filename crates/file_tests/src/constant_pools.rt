@@ -16,35 +16,47 @@ fn laws_are_called() {
     found_where_it_stands();
 }
 
-/// Whether the pool is written as these bytes by `Part`.
-fn is_put(alloc: Global, pool: &Pool<'_>, want: &[u8]) -> bool {
-    let mut bytes = Vec::new(alloc);
-    pool.put(&mut bytes).is_ok() && bytes.as_slice() == want
+/// Whether the pool is written by `Part`; or memory ran out, where it may, and nothing is written.
+fn is_put(alloc: Global, pool: &Pool<'_>, may_fail: bool) -> bool {
+    let mut out = Vec::new(alloc);
+    match pool.put(&mut out) {
+        Ok(()) => out.as_slice() == ALL.as_slice(),
+        Err(fault) => may_fail && matches!(fault, WriteFault::OutOfMemory) && out.is_empty(),
+    }
 }
 
-/// Whether the pool is written as these bytes where an output takes them.
-fn is_put_out(alloc: Global, pool: &Pool<'_>, want: &[u8]) -> bool {
+/// Whether the pool of these constants is written where an output takes it.
+fn is_put_out(alloc: Global, constants: Vec<Constant<'_>>) -> bool {
     let mut out = Output::new(alloc);
-    let answer = put_pool(&mut out, pool);
+    let answer = put_pool(&mut out, &Pool::new(constants));
     match out.delivered(answer) {
-        Ok(bytes) => bytes.as_slice() == want,
+        Ok(bytes) => bytes.as_slice() == ALL.as_slice(),
         Err(_) => false,
     }
 }
 
-fn is_read_and_written(alloc: Global) -> bool {
+/// Whether the pool is read and written; or memory ran out, where it may, and nothing is read.
+fn is_read(alloc: Global, may_fail: bool) -> bool {
     let mut cursor = Cursor::new(&ALL);
-    let Ok(pool) = Pool::take(alloc, &mut cursor) else {
-        return false;
-    };
-    let is_put = is_put(alloc, &pool, &ALL);
-    let again = Pool::new(pool.into_constants());
-    cursor.at() == 85 && is_put && again.constants().len() == 19 && is_put_out(alloc, &again, &ALL)
+    match Pool::take(alloc, &mut cursor) {
+        Ok(pool) => {
+            cursor.at() == 85 && pool.constants().len() == 19 && is_put(alloc, &pool, may_fail)
+        }
+        Err(fault) => may_fail && matches!(fault, ReadFault::OutOfMemory) && cursor.at() == 0,
+    }
+}
+
+fn is_read_and_put_out(alloc: Global) -> bool {
+    match Pool::take(alloc, &mut Cursor::new(&ALL)) {
+        Ok(pool) => is_put_out(alloc, pool.into_constants()),
+        Err(_) => false,
+    }
 }
 
 #[test]
 fn both_ways(rt: HostRuntime) {
-    assert!(rt; is_read_and_written(rt.alloc()));
+    assert!(rt; is_read(rt.alloc(), false));
+    assert!(rt; is_read_and_put_out(rt.alloc()));
 }
 
 /// Why no pool stands behind eight bytes, as in a class file, if none does; and where the cursor then is.
@@ -163,25 +175,7 @@ fn nested_faults(rt: HostRuntime) {
     assert!(rt; fault.number() == 9 && is_shown(rt.alloc(), &fault, "refused 9 index 1"));
 }
 
-/// The pool is written in 85 bytes, or memory runs out and nothing is written.
-fn is_put_or_memory(alloc: Global, pool: &Pool<'_>) -> bool {
-    let mut out = Vec::new(alloc);
-    match pool.put(&mut out) {
-        Ok(()) => out.len() == 85,
-        Err(fault) => matches!(fault, WriteFault::OutOfMemory) && out.is_empty(),
-    }
-}
-
-/// The pool is read, or memory runs out and nothing is read.
-fn is_read_or_memory(alloc: Global) -> bool {
-    let mut cursor = Cursor::new(&ALL);
-    match Pool::take(alloc, &mut cursor) {
-        Ok(pool) => is_put_or_memory(alloc, &pool),
-        Err(fault) => matches!(fault, ReadFault::OutOfMemory) && cursor.at() == 0,
-    }
-}
-
 #[test]
 fn want_of_memory(rt: HostRuntime) {
-    assert!(rt; is_read_or_memory(rt.alloc()));
+    assert!(rt; is_read(rt.alloc(), true));
 }

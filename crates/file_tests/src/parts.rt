@@ -48,36 +48,34 @@ fn cursor(rt: HostRuntime) {
     assert!(rt; Cursor::starting(40, &bytes).at() == 40);
 }
 
-/// Whether the numbers are written as these bytes; want of memory aside.
-fn are_written(alloc: Global, numbers: &[u16], want: &[u8]) -> bool {
+/// Whether the number is written; or memory ran out, where it may, and nothing is written.
+fn is_put(alloc: Global, number: u16, want: &[u8], may_fail: bool) -> bool {
     let mut out = Vec::new(alloc);
-    for number in numbers {
-        if number.put(&mut out).is_err() {
-            return false;
-        }
+    match number.put(&mut out) {
+        Ok(()) => out.as_slice() == want,
+        Err(fault) => may_fail && matches!(fault, WriteFault::OutOfMemory) && out.is_empty(),
     }
-    out.as_slice() == want
 }
 
-/// Whether two numbers are read of five bytes, a third is cut, and they are written as they were.
-fn are_read(alloc: Global) -> bool {
-    let mut cursor = Cursor::new(&[1, 2, 3, 4, 5]);
-    match many::<u16>(alloc, &mut cursor, 2) {
-        Ok(numbers) => {
-            matches!(numbers.as_slice(), [0x0102, 0x0304])
-                && matches!(
-                    u16::take(alloc, &mut cursor),
-                    Err(ReadFault::EndsEarly { at: 4 })
-                )
-                && are_written(alloc, &numbers, &[1, 2, 3, 4])
-        }
-        Err(_) => false,
+/// Whether two numbers are read of five bytes; or memory ran out, where it may.
+fn are_read(alloc: Global, may_fail: bool) -> bool {
+    match many::<u16>(alloc, &mut Cursor::new(&[1, 2, 3, 4, 5]), 2) {
+        Ok(numbers) => matches!(numbers.as_slice(), [0x0102, 0x0304]),
+        Err(fault) => may_fail && matches!(fault, ReadFault::OutOfMemory),
     }
 }
 
 #[test]
 fn parts(rt: HostRuntime) {
-    assert!(rt; are_read(rt.alloc()));
+    assert!(rt; are_read(rt.alloc(), false));
+    assert!(rt; is_put(rt.alloc(), 0x0304, &[3, 4], false));
+    let mut cursor = Cursor::starting(4, &[5]);
+    assert!(rt;
+        matches!(
+            u16::take(rt.alloc(), &mut cursor),
+            Err(ReadFault::EndsEarly { at: 4 })
+        )
+    );
 }
 
 /// What is answered of an attribute at 4, whose body is one byte.
@@ -114,24 +112,24 @@ fn put_held(out: &mut Output, bytes: &[u8]) -> Result<(), WriteFault> {
     out.end(mark)
 }
 
-/// Whether these bytes are delivered.
-fn is_delivered(out: Output, answer: Result<(), WriteFault>, want: &[u8]) -> bool {
+/// Whether these bytes are delivered; or memory ran out, where it may.
+fn is_delivered(out: Output, answer: Result<(), WriteFault>, want: &[u8], may_fail: bool) -> bool {
     match out.delivered(answer) {
         Ok(bytes) => bytes.as_slice() == want,
-        Err(_) => false,
+        Err(fault) => may_fail && matches!(fault, WriteFault::OutOfMemory),
     }
 }
 
-fn delivers_numbers(alloc: Global) -> bool {
+fn delivers_numbers(alloc: Global, may_fail: bool) -> bool {
     let mut out = Output::new(alloc);
     let answer = put_numbers(&mut out);
-    is_delivered(out, answer, &[9, 0, 0, 0, 1, 0, 3])
+    is_delivered(out, answer, &[9, 0, 0, 0, 1, 0, 3], may_fail)
 }
 
 fn delivers_held(alloc: Global) -> bool {
     let mut out = Output::new(alloc);
     let answer = put_held(&mut out, b"ab");
-    is_delivered(out, answer, &[0, 0, 0, 2, 0x61, 0x62])
+    is_delivered(out, answer, &[0, 0, 0, 2, 0x61, 0x62], false)
 }
 
 /// 17 goes before 18.
@@ -144,7 +142,7 @@ fn is_refused(alloc: Global, count: usize) -> Option<WriteFault> {
 
 #[test]
 fn output(rt: HostRuntime) {
-    assert!(rt; delivers_numbers(rt.alloc()));
+    assert!(rt; delivers_numbers(rt.alloc(), false));
     assert!(rt; delivers_held(rt.alloc()));
     assert!(rt; matches!(is_refused(rt.alloc(), 65_536), Some(WriteFault::DoesNotFit)));
     assert!(rt; matches!(is_refused(rt.alloc(), 1), Some(WriteFault::HasNoSpelling)));
@@ -171,36 +169,9 @@ fn numbers_and_texts(rt: HostRuntime) {
     assert!(rt; is_shown(rt.alloc(), &tag, "refused 7 at 10 tag 2"));
 }
 
-/// A number is written in its two bytes, or memory runs out and nothing is written.
-fn is_put_or_memory(alloc: Global) -> bool {
-    let mut bytes = Vec::new(alloc);
-    match 7u16.put(&mut bytes) {
-        Ok(()) => bytes.len() == 2,
-        Err(fault) => matches!(fault, WriteFault::OutOfMemory) && bytes.is_empty(),
-    }
-}
-
-/// An output delivers the four bytes of a number, or memory runs out.
-fn is_delivered_or_memory(alloc: Global) -> bool {
-    let mut out = Output::new(alloc);
-    let answer = out.put_u4(1);
-    match out.delivered(answer) {
-        Ok(bytes) => bytes.len() == 4,
-        Err(fault) => matches!(fault, WriteFault::OutOfMemory),
-    }
-}
-
-/// Numbers are read, or memory runs out.
-fn are_read_or_memory(alloc: Global) -> bool {
-    match many::<u16>(alloc, &mut Cursor::new(&[0, 1, 0, 2]), 2) {
-        Ok(numbers) => numbers.len() == 2,
-        Err(fault) => matches!(fault, ReadFault::OutOfMemory),
-    }
-}
-
 #[test]
 fn want_of_memory(rt: HostRuntime) {
-    assert!(rt; are_read_or_memory(rt.alloc()));
-    assert!(rt; is_put_or_memory(rt.alloc()));
-    assert!(rt; is_delivered_or_memory(rt.alloc()));
+    assert!(rt; are_read(rt.alloc(), true));
+    assert!(rt; is_put(rt.alloc(), 7, &[0, 7], true));
+    assert!(rt; delivers_numbers(rt.alloc(), true));
 }

@@ -1,5 +1,5 @@
 use names::{
-    Base, FieldType, MethodType, NameFault, Primitive, Text, check_text, field_answers, field_type,
+    Base, FieldType, MethodType, NameFault, Text, check_text, field_answers, field_type,
     is_class_name, is_field_name, is_method_name, method_answers, method_type, names_by_units,
     one_field_type, one_method_type, one_unit_list, result_type, spell, text_answers, units,
 };
@@ -22,19 +22,23 @@ const UNITS: [u16; 3] = [0, 0xD83D, 0xDE00];
 
 const SPELLING: [u8; 8] = [0xC0, 0x80, 0xED, 0xA0, 0xBD, 0xED, 0xB8, 0x80];
 
-fn is_spelled(alloc: Global) -> bool {
-    match spell(alloc, &UNITS) {
-        Ok(bytes) => bytes.as_slice() == SPELLING.as_slice(),
-        Err(_) => false,
+/// Whether the bytes are these; or memory ran out, where it may.
+fn are_bytes(answer: Result<Vec<u8>, NameFault>, want: &[u8], may_fail: bool) -> bool {
+    match answer {
+        Ok(bytes) => bytes.as_slice() == want,
+        Err(fault) => may_fail && matches!(fault, NameFault::OutOfMemory),
     }
 }
 
-fn has_units(alloc: Global, text: Text<'_>) -> bool {
+/// Whether the text has these units; or memory ran out, where it may.
+fn has_units(alloc: Global, text: Text<'_>, want: &[u16], may_fail: bool) -> bool {
     match units(alloc, text) {
-        Ok(found) => found.as_slice() == UNITS.as_slice(),
-        Err(_) => false,
+        Ok(units) => units.as_slice() == want,
+        Err(fault) => may_fail && matches!(fault, NameFault::OutOfMemory),
     }
 }
+
+const METHOD: &[u8] = b"(IJ[Ljava/lang/String;)V";
 
 fn has_measures(text: Text<'_>) -> bool {
     text.bytes() == SPELLING.as_slice()
@@ -43,16 +47,21 @@ fn has_measures(text: Text<'_>) -> bool {
         && !text.is_empty()
 }
 
-fn is_text(alloc: Global) -> bool {
+/// Whether the spelling is read and written; or memory ran out, where it may.
+fn is_text(alloc: Global, may_fail: bool) -> bool {
     match check_text(&SPELLING) {
-        Ok(text) => has_measures(text) && has_units(alloc, text),
+        Ok(text) => {
+            has_measures(text)
+                && has_units(alloc, text, &UNITS, may_fail)
+                && are_bytes(spell(alloc, &UNITS), &SPELLING, may_fail)
+        }
         Err(_) => false,
     }
 }
 
 #[test]
 fn a_text_both_ways(rt: HostRuntime) {
-    assert!(rt; is_text(rt.alloc()) && is_spelled(rt.alloc()));
+    assert!(rt; is_text(rt.alloc(), false));
     assert!(rt; matches!(check_text(&[0xF0, 0x9F]), Err(NameFault::BadText { at: 0 })));
 }
 
@@ -80,34 +89,28 @@ fn has_widths(method: &MethodType<'_>) -> bool {
     method.params.len() == 3 && method.width(false) == 4 && method.width(true) == 5
 }
 
-/// Whether the bytes of a descriptor are these; want of memory aside.
-fn are_bytes(answer: Result<Vec<u8>, NameFault>, want: &[u8]) -> bool {
-    match answer {
-        Ok(bytes) => bytes.as_slice() == want,
-        Err(_) => false,
-    }
-}
-
-fn is_method(alloc: Global, descriptor: &[u8]) -> bool {
+/// Whether it is the descriptor of a method, with such parameters, and written as it is; or memory ran out, where it may.
+fn is_method(alloc: Global, descriptor: &[u8], may_fail: bool) -> bool {
     let Ok(text) = check_text(descriptor) else {
         return false;
     };
     match method_type(alloc, text, false) {
-        Ok(method) => { has_widths(&method) && are_bytes(method.text(alloc), descriptor) }
-        Err(_) => false,
+        Ok(method) => { has_widths(&method) && are_bytes(method.text(alloc), descriptor, may_fail) }
+        Err(fault) => may_fail && matches!(fault, NameFault::OutOfMemory),
     }
 }
 
-fn is_array(alloc: Global, field: &FieldType<'_>, want: &[u8]) -> bool {
-    field.dims == 2 && field.width() == 1 && are_bytes(field.text(alloc), want)
-}
-
-fn is_field(alloc: Global, descriptor: &[u8]) -> bool {
+/// The same of a field whose type is an array of two dimensions.
+fn is_array(alloc: Global, descriptor: &[u8], may_fail: bool) -> bool {
     let Ok(text) = check_text(descriptor) else {
         return false;
     };
     match field_type(text) {
-        Ok(field) => is_array(alloc, &field, descriptor),
+        Ok(field) => {
+            field.dims == 2
+                && field.width() == 1
+                && are_bytes(field.text(alloc), descriptor, may_fail)
+        }
         Err(_) => false,
     }
 }
@@ -122,8 +125,8 @@ fn result<'a>(descriptor: &'a [u8]) -> Option<FieldType<'a>> {
 
 #[test]
 fn descriptors_both_ways(rt: HostRuntime) {
-    assert!(rt; is_method(rt.alloc(), b"(IJ[Ljava/lang/String;)V"));
-    assert!(rt; is_field(rt.alloc(), b"[[J"));
+    assert!(rt; is_method(rt.alloc(), METHOD, false));
+    assert!(rt; is_array(rt.alloc(), b"[[J", false));
     let base = Base::Class(b"d)e");
     assert!(rt; result(b"(I[La(b)c;J)[[Ld)e;") == Some(FieldType { dims: 2, base }));
     assert!(rt; result(b"()II").is_none());
@@ -208,53 +211,10 @@ fn numbers(rt: HostRuntime) {
     }
 }
 
-/// The units are spelled as these bytes, or memory runs out.
-fn is_spelled_or_memory(alloc: Global, units: &[u16], want: &[u8]) -> bool {
-    match spell(alloc, units) {
-        Ok(bytes) => bytes.as_slice() == want,
-        Err(fault) => matches!(fault, NameFault::OutOfMemory),
-    }
-}
-
-/// The text has so many units, or memory runs out.
-fn has_units_or_memory(alloc: Global, text: Text<'_>, want: usize) -> bool {
-    match units(alloc, text) {
-        Ok(units) => units.len() == want,
-        Err(fault) => matches!(fault, NameFault::OutOfMemory),
-    }
-}
-
-/// The bytes of a descriptor are these, or memory ran out.
-fn are_bytes_or_memory(answer: Result<Vec<u8>, NameFault>, want: &[u8]) -> bool {
-    match answer {
-        Ok(bytes) => bytes.as_slice() == want,
-        Err(fault) => matches!(fault, NameFault::OutOfMemory),
-    }
-}
-
-/// The text is a method's descriptor and written again as it is, or memory runs out.
-fn is_method_or_memory(alloc: Global, text: Text<'_>) -> bool {
-    match method_type(alloc, text, false) {
-        Ok(method) => are_bytes_or_memory(method.text(alloc), text.bytes()),
-        Err(fault) => matches!(fault, NameFault::OutOfMemory),
-    }
-}
-
-/// The text of a method's descriptor is read, or memory runs out.
-fn is_read_or_memory(alloc: Global, descriptor: &[u8], length: usize) -> bool {
-    match check_text(descriptor) {
-        Ok(text) => has_units_or_memory(alloc, text, length) && is_method_or_memory(alloc, text),
-        Err(_) => false,
-    }
-}
-
 /// Each call that takes memory answers 1 where there is none, and as ever otherwise.
 #[test]
 fn want_of_memory(rt: HostRuntime) {
-    let alloc = rt.alloc();
-    assert!(rt; is_spelled_or_memory(alloc, &UNITS, &SPELLING));
-    assert!(rt; is_read_or_memory(alloc, b"(I[[JLa/B;)V", 12));
-    let base = Base::Primitive(Primitive::Int);
-    let array = FieldType { dims: 2, base };
-    assert!(rt; are_bytes_or_memory(array.text(alloc), b"[[I"));
+    assert!(rt; is_text(rt.alloc(), true));
+    assert!(rt; is_method(rt.alloc(), METHOD, true));
+    assert!(rt; is_array(rt.alloc(), b"[[J", true));
 }
