@@ -1,106 +1,75 @@
-use crate::code_forms::decoded;
-use insn::{Insn, Opcode, Operands, encode_code};
-use layout::WriteFault;
-use std::alloc::Global;
-use std::process::Abort;
+use insn::{Insn, Opcode, Operands, decode_code, encode_code};
+use layout::{MAX_CODE_BYTES, WriteFault};
+use std::alloc::{AllocError, Global};
 use std::test::*;
 
-#[test]
-fn a_switch_is_written_with_its_padding(rt: HostRuntime) -> Result<(), Fail> {
-    let code = [
-        0x03u8, 0xAA, 1, 2, 0, 0, 0, 0x13, 0, 0, 0, 0, 0, 0, 0, 0, 0, 0, 0, 0x13, 0xB1,
-    ];
-    let list = [
-        Insn {
-            opcode: Opcode::Iconst0,
-            operands: Operands::Nothing,
-        },
-        Insn {
-            opcode: Opcode::Tableswitch,
-            operands: Operands::TableSwitch(&code[2..20]),
-        },
-        Insn {
-            opcode: Opcode::Return,
-            operands: Operands::Nothing,
-        },
-    ];
-    let bytes = encode_code(rt.alloc(), &list)?;
-    assert_eq!(rt; bytes.as_slice(), code.as_slice());
-    Ok(())
-}
-
-/// The instructions that the code is read as.
-fn read<'a>(rt: &impl Abort, alloc: Global, code: &'a [u8]) -> Result<Vec<Insn<'a>>, Fail> {
-    let read = decoded(rt, alloc, code)?;
+/// The instructions that the code is read as, none if it is at fault.
+fn read<'a>(alloc: Global, code: &'a [u8]) -> Result<Vec<Insn<'a>>, AllocError> {
     let mut list = Vec::new(alloc);
-    for (_, insn) in &read {
-        list.push(*insn)?;
+    if let Ok(read) = decode_code(alloc, &code[..code.len().min(MAX_CODE_BYTES)]) {
+        for (_, insn) in &read {
+            list.push(*insn)?;
+        }
     }
     Ok(list)
 }
 
-/// That the code is written as it is read.
-fn check_again(rt: &impl Abort, alloc: Global, code: &[u8]) -> Result<(), Fail> {
-    let list = read(rt, alloc, code)?;
-    let bytes = encode_code(alloc, &list)?;
-    assert_eq!(rt; bytes.as_slice(), code);
-    Ok(())
+/// Whether the instructions are written as this code.
+fn is_written(alloc: Global, list: &[Insn<'_>], code: &[u8]) -> bool {
+    match encode_code(alloc, list) {
+        Ok(bytes) => bytes.as_slice() == code,
+        Err(_) => false,
+    }
 }
 
+/// An instruction of each form that is read by its own rule: operands of all sizes, both switches, and `wide`.
 #[test]
 fn what_is_read_is_written(rt: HostRuntime) -> Result<(), Fail> {
     let code = [
         0x10u8, 0x80, 0x11, 0xFF, 0x7F, 0x12, 9, 0x13, 1, 2, 0x15, 3, 0x84, 1, 0xFF, 0xA7, 0xFF,
         0xF0, 0xC8, 0xFF, 0xFF, 0xFF, 0xFE, 0xB9, 0, 1, 2, 0, 0xBA, 0, 1, 0, 0, 0xBC, 10, 0xC5, 0,
         1, 2, 0xAB, 0, 0, 0, 12, 0, 0, 0, 1, 0x80, 0, 0, 0, 0, 0, 0, 4, 0xC4, 0x15, 1, 0, 0xC4,
-        0x84, 0, 2, 0xFF, 0xFE,
+        0x84, 0, 2, 0xFF, 0xFE, 0xAA, 7, 0, 0, 0, 19, 0, 0, 0, 0, 0, 0, 0, 0, 0, 0, 0, 4,
     ];
-    check_again(&rt, rt.alloc(), &code)
+    let list = read(rt.alloc(), &code)?;
+    assert!(rt; list.len() == 16);
+    assert!(rt; is_written(rt.alloc(), &list, &code));
+    Ok(())
 }
 
-/// That the instructions are not written, since no bytes spell them.
-fn check_unspelled(rt: &impl Abort, alloc: Global, list: &[Insn<'_>]) {
-    let fault = encode_code(alloc, list).err();
-    assert!(rt; fault == Some(WriteFault::HasNoSpelling));
+/// Whether the instruction alone is not written, since no bytes spell it.
+fn is_unspelled(alloc: Global, opcode: Opcode, operands: Operands<'_>) -> bool {
+    let list = [Insn { opcode, operands }];
+    matches!(encode_code(alloc, &list), Err(WriteFault::HasNoSpelling))
+}
+
+/// `wide` before an instruction with this local variable, and before one with an increment.
+fn wide<'a>(opcode: Opcode) -> [Operands<'a>; 2] {
+    let local = Operands::WideLocal { opcode, local: 1 };
+    let increment = Operands::WideIncrement {
+        opcode,
+        local: 1,
+        by: 1,
+    };
+    [local, increment]
 }
 
 #[test]
 fn what_no_bytes_spell(rt: HostRuntime) {
-    let wrong = [
-        (Opcode::Nop, Operands::Byte(1)),
-        (Opcode::Iload, Operands::Nothing),
-        (Opcode::Iload, Operands::Constant(1)),
-        (
-            Opcode::Iload,
-            Operands::WideLocal {
-                opcode: Opcode::Iload,
-                local: 1,
-            },
-        ),
-        (
-            Opcode::Wide,
-            Operands::WideLocal {
-                opcode: Opcode::Nop,
-                local: 1,
-            },
-        ),
-        (
-            Opcode::Wide,
-            Operands::WideIncrement {
-                opcode: Opcode::Iload,
-                local: 1,
-                by: 1,
-            },
-        ),
-    ];
-    for (opcode, operands) in wrong {
-        check_unspelled(&rt, rt.alloc(), &[Insn { opcode, operands }]);
-    }
+    let alloc = rt.alloc();
+    assert!(rt; is_unspelled(alloc, Opcode::Nop, Operands::Byte(1)));
+    assert!(rt; is_unspelled(alloc, Opcode::Iload, Operands::Nothing));
+    assert!(rt; is_unspelled(alloc, Opcode::Iload, Operands::Constant(1)));
+    let [load, no_increment] = wide(Opcode::Iload);
+    assert!(rt; is_unspelled(alloc, Opcode::Iload, load));
+    assert!(rt; is_unspelled(alloc, Opcode::Wide, no_increment));
+    let [nop, _] = wide(Opcode::Nop);
+    assert!(rt; is_unspelled(alloc, Opcode::Wide, nop));
 }
 
 #[test]
-fn switches_that_no_bytes_spell(rt: HostRuntime) {
-    let tables: [&[u8]; 5] = [
+fn tables_that_no_bytes_spell(rt: HostRuntime) {
+    let rows: [&[u8]; 5] = [
         // no padding
         &[0; 16],
         // no offsets
@@ -112,14 +81,15 @@ fn switches_that_no_bytes_spell(rt: HostRuntime) {
             0, 0, 0, 0, 0, 0, 0, 0x80, 0, 0, 0, 0x7F, 0xFF, 0xFF, 0xFF, 0, 0, 0, 0,
         ],
     ];
-    for bytes in tables {
-        let switch = Insn {
-            opcode: Opcode::Tableswitch,
-            operands: Operands::TableSwitch(bytes),
-        };
-        check_unspelled(&rt, rt.alloc(), &[switch]);
+    for bytes in rows {
+        let operands = Operands::TableSwitch(bytes);
+        assert!(rt; is_unspelled(rt.alloc(), Opcode::Tableswitch, operands));
     }
-    let pairs: [&[u8]; 8] = [
+}
+
+#[test]
+fn pairs_that_no_bytes_spell(rt: HostRuntime) {
+    let rows: [&[u8]; 8] = [
         // no padding
         &[0; 8],
         // no numbers, or no count
@@ -134,70 +104,66 @@ fn switches_that_no_bytes_spell(rt: HostRuntime) {
             0, 0, 0, 0, 0, 0, 0, 0, 0, 0, 2, 0, 0, 0, 1, 0, 0, 0, 0, 0, 0, 0, 1, 0, 0, 0, 0,
         ],
     ];
-    for bytes in pairs {
-        let switch = Insn {
-            opcode: Opcode::Lookupswitch,
-            operands: Operands::LookupSwitch(bytes),
-        };
-        check_unspelled(&rt, rt.alloc(), &[switch]);
+    for bytes in rows {
+        let operands = Operands::LookupSwitch(bytes);
+        assert!(rt; is_unspelled(rt.alloc(), Opcode::Lookupswitch, operands));
     }
 }
 
-/// That the instructions are written in so many bytes.
-fn check_length(
-    rt: &impl Abort,
-    alloc: Global,
-    list: &[Insn<'_>],
-    want: usize,
-) -> Result<(), Fail> {
+const NOP: Insn<'static> = Insn {
+    opcode: Opcode::Nop,
+    operands: Operands::Nothing,
+};
+
+/// A switch without pairs, as it stands where the padding has three bytes.
+const SWITCH: Insn<'static> = Insn {
+    opcode: Opcode::Lookupswitch,
+    operands: Operands::LookupSwitch(&[0, 0, 0, 0, 0, 0, 12, 0, 0, 0, 0]),
+};
+
+/// In how many bytes the instructions are written, or why they are not.
+fn length(alloc: Global, list: &[Insn<'_>]) -> Result<usize, WriteFault> {
     let bytes = encode_code(alloc, list)?;
-    assert_eq!(rt; bytes.len(), want);
-    Ok(())
+    Ok(bytes.len())
 }
 
 #[test]
-fn padding_by_the_offset(rt: HostRuntime) -> Result<(), Fail> {
-    let nop = Insn {
-        opcode: Opcode::Nop,
-        operands: Operands::Nothing,
-    };
-    let switch = Insn {
-        opcode: Opcode::Lookupswitch,
-        operands: Operands::LookupSwitch(&[0, 0, 0, 0, 0, 0, 12, 0, 0, 0, 0]),
-    };
-    check_length(&rt, rt.alloc(), &[switch], 12)?;
-    check_length(&rt, rt.alloc(), &[nop, nop, nop, nop, switch], 16)?;
-    check_unspelled(&rt, rt.alloc(), &[nop, switch]);
-    Ok(())
+fn padding_by_the_offset(rt: HostRuntime) {
+    assert!(rt; matches!(length(rt.alloc(), &[SWITCH]), Ok(12)));
+    assert!(rt; matches!(length(rt.alloc(), &[NOP, NOP, NOP, NOP, SWITCH]), Ok(16)));
+    assert!(rt;
+        matches!(
+            length(rt.alloc(), &[NOP, SWITCH]),
+            Err(WriteFault::HasNoSpelling)
+        )
+    );
 }
 
 #[test]
 fn no_more_than_a_method_may_have(rt: HostRuntime) -> Result<(), Fail> {
     let mut list = Vec::new(rt.alloc());
-    for _ in 0..65535 {
-        list.push(Insn {
-            opcode: Opcode::Nop,
-            operands: Operands::Nothing,
-        })?;
-    }
-    check_length(&rt, rt.alloc(), &list, 65535)?;
+    list.resize(MAX_CODE_BYTES, NOP)?;
+    assert!(rt; matches!(length(rt.alloc(), &list), Ok(65_535)));
     list.push(Insn {
         opcode: Opcode::Iload,
         operands: Operands::Nothing,
     })?;
-    let answer = encode_code(rt.alloc(), &list);
-    assert!(rt; matches!(answer, Err(WriteFault::DoesNotFit)));
+    assert!(rt; matches!(length(rt.alloc(), &list), Err(WriteFault::DoesNotFit)));
     Ok(())
 }
 
-#[test]
-fn want_of_memory_in_writing(rt: HostRuntime) {
+fn is_written_or_memory(alloc: Global) -> bool {
     let list = [Insn {
         opcode: Opcode::Sipush,
         operands: Operands::Short(-2),
     }];
-    match encode_code(rt.alloc(), &list) {
-        Ok(bytes) => assert_eq!(rt; bytes.as_slice(), [0x11u8, 0xFF, 0xFE].as_slice()),
-        Err(e) => assert!(rt; matches!(e, WriteFault::OutOfMemory)),
+    match encode_code(alloc, &list) {
+        Ok(bytes) => bytes.as_slice() == [0x11, 0xFF, 0xFE].as_slice(),
+        Err(fault) => matches!(fault, WriteFault::OutOfMemory),
     }
+}
+
+#[test]
+fn want_of_memory_in_writing(rt: HostRuntime) {
+    assert!(rt; is_written_or_memory(rt.alloc()));
 }

@@ -1,48 +1,22 @@
 use classfile::{
-    Attribute, ClassFile, CodeAttr, Member, NestedAttribute, class_or_fault, decode, encode,
+    Attribute, ClassFile, CodeAttr, NestedAttribute, class_or_fault, decode, encode,
     formed_has_names, formed_or_faulty, least_rule_is_told, no_fault_in_class, no_fault_in_formed,
     one_class, one_fault, one_first_fault, one_spelling, tests_are_forms,
 };
-use layout::{MAX_CLASS_BYTES, ReadFault, WriteFault};
-use test_classes::K;
+use layout::{ReadFault, WriteFault};
 use std::alloc::{AllocError, Global};
-use std::process::Abort;
 use std::test::*;
+use test_classes::K;
 
-/// The text `StackMapTable` as a constant.
-const STACK_MAP_TABLE: &[u8] = b"\x01\x00\x0DStackMapTable";
-
-/// K with the byte at this place changed.
-pub fn changed(rt: &impl Abort, alloc: Global, place: usize, byte: u8) -> Result<Vec<u8>, Fail> {
-    let mut bytes = K.to_vec(alloc)?;
-    assert!(rt; place < bytes.len());
-    bytes[place] = byte;
-    Ok(bytes)
-}
-
-/// K with this code, of at most 200 bytes, instead of its own.
-pub fn with_code(rt: &impl Abort, alloc: Global, code: &[u8]) -> Result<Vec<u8>, AllocError> {
-    assert!(rt; code.len() <= 200);
-    let length = u8::try_from(code.len()).expect(rt, "a small length");
-    let mut bytes = K[..81].to_vec(alloc)?;
-    bytes.push(length.wrapping_add(12))?;
-    bytes.extend_from_slice(&K[82..89])?;
-    bytes.push(length)?;
-    bytes.extend_from_slice(code)?;
-    bytes.extend_from_slice(&K[91..])?;
-    Ok(bytes)
-}
-
-/// The Code of a method that has one attribute.
-fn code_of<'c, 'a>(rt: &impl Abort, method: &'c Member<'a>) -> &'c CodeAttr<'a> {
-    let [attribute] = method.attributes.as_slice() else {
-        panic!(rt; "one attribute");
-    };
-    match attribute {
-        Attribute::Code { code, .. } => code,
-        Attribute::Raw { .. } => panic!(rt; "a Code attribute"),
-    }
-}
+/// The class with a StackMapTable of no frames in its Code attribute.
+const MAPPED: [u8; 121] = [
+    0xCA, 0xFE, 0xBA, 0xBE, 0, 0, 0, 0x34, 0, 9, 7, 0, 2, 1, 0, 1, 0x4B, 7, 0, 4, 1, 0, 0x10, 0x6A,
+    0x61, 0x76, 0x61, 0x2F, 0x6C, 0x61, 0x6E, 0x67, 0x2F, 0x4F, 0x62, 0x6A, 0x65, 0x63, 0x74, 1, 0,
+    1, 0x66, 1, 0, 3, 0x28, 0x29, 0x56, 1, 0, 4, 0x43, 0x6F, 0x64, 0x65, 1, 0, 0x0D, 0x53, 0x74,
+    0x61, 0x63, 0x6B, 0x4D, 0x61, 0x70, 0x54, 0x61, 0x62, 0x6C, 0x65, 0, 0x21, 0, 1, 0, 3, 0, 0, 0,
+    0, 0, 1, 0, 9, 0, 5, 0, 6, 0, 1, 0, 7, 0, 0, 0, 0x15, 0, 0, 0, 0, 0, 0, 0, 1, 0xB1, 0, 0, 0, 1,
+    0, 8, 0, 0, 0, 2, 0, 0, 0, 0,
+];
 
 #[test]
 fn laws_are_called() {
@@ -59,201 +33,120 @@ fn laws_are_called() {
     formed_has_names();
 }
 
-/// The class's one method.
-fn one_method<'c, 'a>(rt: &impl Abort, class: &'c ClassFile<'a>) -> &'c Member<'a> {
-    let [method] = class.methods.as_slice() else {
-        panic!(rt; "one method");
-    };
-    method
+fn is_head(class: &ClassFile<'_>) -> bool {
+    matches!(
+        (
+            class.minor_version,
+            class.major_version,
+            class.access_flags,
+            class.this_class,
+            class.super_class
+        ),
+        (0, 52, 0x21, 1, 3)
+    ) && class.constant_pool.constants().len() == 8
 }
 
-fn check_head(rt: &impl Abort, class: &ClassFile<'_>) {
-    assert_eq!(rt; (class.minor_version, class.major_version), (0, 52));
-    assert_eq!(rt; class.constant_pool.constants().len(), 7);
-    assert_eq!(rt;
-        (class.access_flags, class.this_class, class.super_class),
-        (0x21, 1, 3)
-    );
+fn is_code(code: &CodeAttr<'_>) -> bool {
+    code.max_stack == 0
+        && code.max_locals == 0
+        && code.code == [0xB1].as_slice()
+        && matches!(
+            code.attributes.as_slice(),
+            [NestedAttribute::StackMapTable {
+                name: 8,
+                body: [0, 0]
+            }]
+        )
 }
 
-fn check_code(rt: &impl Abort, code: &CodeAttr<'_>) {
-    assert_eq!(rt; (code.max_stack, code.max_locals), (0, 0));
-    assert!(rt; code.code == [0xB1].as_slice());
-}
-
-/// That the class is written as these bytes.
-fn check_written(
-    rt: &impl Abort,
-    alloc: Global,
-    class: &ClassFile<'_>,
-    want: &[u8],
-) -> Result<(), Fail> {
-    let bytes = encode(alloc, class)?;
-    assert!(rt; bytes.as_slice() == want);
-    Ok(())
-}
-
-#[test]
-fn a_class_both_ways(rt: HostRuntime) -> Result<(), Fail> {
-    let class = decode(rt.alloc(), &K)?;
-    check_head(&rt, &class);
-    check_code(&rt, code_of(&rt, one_method(&rt, &class)));
-    check_written(&rt, rt.alloc(), &class, &K)
-}
-
-/// That the bytes are no class file, for this fault.
-fn check_read_fault(rt: &impl Abort, alloc: Global, bytes: &[u8], want: ReadFault) {
-    let fault = decode(alloc, bytes).err();
-    assert!(rt; fault == Some(want));
-}
-
-#[test]
-fn cut_and_longer(rt: HostRuntime) -> Result<(), Fail> {
-    let alloc = rt.alloc();
-    check_read_fault(&rt, alloc, &K[..96], ReadFault::EndsEarly { at: 95 });
-    let mut longer = K.to_vec(alloc)?;
-    longer.push(0)?;
-    check_read_fault(&rt, alloc, &longer, ReadFault::BytesAfter { at: 97 });
-    longer.resize(MAX_CLASS_BYTES + 1, 0)?;
-    check_read_fault(&rt, alloc, &longer, ReadFault::TooLong { at: 0 });
-    Ok(())
-}
-
-/// That K with the byte at this place changed is no class file, for this fault.
-fn check_changed(
-    rt: &impl Abort,
-    alloc: Global,
-    place: usize,
-    byte: u8,
-    want: ReadFault,
-) -> Result<(), Fail> {
-    let bytes = changed(rt, alloc, place, byte)?;
-    check_read_fault(rt, alloc, &bytes, want);
-    Ok(())
-}
-
-#[test]
-fn lengths_of_attributes(rt: HostRuntime) -> Result<(), Fail> {
-    for length in [0x0E, 0x0C] {
-        let fault = ReadFault::AttributeLength { at: 76 };
-        check_changed(&rt, rt.alloc(), 81, length, fault)?;
+fn has_method(class: &ClassFile<'_>) -> bool {
+    match class.methods.as_slice() {
+        [method] => matches!(method.code(), Some(code) if is_code(code)),
+        _ => false,
     }
-    Ok(())
 }
 
-#[test]
-fn tags_and_versions(rt: HostRuntime) -> Result<(), Fail> {
-    let tag = ReadFault::BadTag { at: 10, tag: 2 };
-    check_changed(&rt, rt.alloc(), 10, 2, tag)?;
-    let old = ReadFault::BadVersion {
-        major: 50,
-        minor: 0,
-    };
-    check_changed(&rt, rt.alloc(), 7, 0x32, old)
-}
-
-/// The class with a StackMapTable of no frames in its Code attribute.
-fn with_stack_map(alloc: Global) -> Result<Vec<u8>, AllocError> {
-    let mut bytes = K[..9].to_vec(alloc)?;
-    bytes.push(9)?;
-    bytes.extend_from_slice(&K[10..56])?;
-    bytes.extend_from_slice(STACK_MAP_TABLE)?;
-    bytes.extend_from_slice(&K[56..81])?;
-    bytes.push(0x15)?;
-    bytes.extend_from_slice(&K[82..93])?;
-    bytes.extend_from_slice(&[0, 1, 0, 8, 0, 0, 0, 2, 0, 0])?;
-    bytes.extend_from_slice(&[0, 0])?;
-    Ok(bytes)
-}
-
-fn check_stack_map(rt: &impl Abort, code: &CodeAttr<'_>) {
-    let [NestedAttribute::StackMapTable { name: 8, body }] = code.attributes.as_slice() else {
-        panic!(rt; "one StackMapTable");
-    };
-    assert!(rt; *body == [0, 0].as_slice());
-}
-
-#[test]
-fn a_stack_map_is_kept(rt: HostRuntime) -> Result<(), Fail> {
-    let bytes = with_stack_map(rt.alloc())?;
-    let class = decode(rt.alloc(), &bytes)?;
-    check_stack_map(&rt, code_of(&rt, one_method(&rt, &class)));
-    check_written(&rt, rt.alloc(), &class, &bytes)
-}
-
-/// That the class is not written, for this fault.
-fn check_write_fault(rt: &impl Abort, alloc: Global, class: &ClassFile<'_>, want: WriteFault) {
-    let fault = encode(alloc, class).err();
-    assert!(rt; fault == Some(want));
-}
-
-/// 17 goes before 18: the class has too many interfaces, and a version that no class has.
-#[test]
-fn refused_to_write(rt: HostRuntime) -> Result<(), Fail> {
-    let alloc = rt.alloc();
-    let mut class = decode(alloc, &K)?;
-    class.major_version = 50;
-    check_write_fault(&rt, alloc, &class, WriteFault::HasNoSpelling);
-    class.interfaces.resize(65_536, 0)?;
-    check_write_fault(&rt, alloc, &class, WriteFault::DoesNotFit);
-    class.major_version = 51;
-    check_write_fault(&rt, alloc, &class, WriteFault::DoesNotFit);
-    Ok(())
-}
-
-/// Attributes of which one is named `Code`, with a body that is none.
-fn raw_code(alloc: Global) -> Result<Vec<Attribute<'static>>, AllocError> {
-    let mut attributes = Vec::new(alloc);
-    attributes.push(Attribute::Raw {
-        name: 7,
-        body: &[1, 2],
-    })?;
-    Ok(attributes)
-}
-
-/// K with such attributes of the class.
-fn with_raw_code(alloc: Global) -> Result<ClassFile<'static>, Fail> {
-    let mut class = decode(alloc, &K)?;
-    class.attributes = raw_code(alloc)?;
-    Ok(class)
-}
-
-/// A second method `f` with such attributes.
-fn raw_method(alloc: Global) -> Result<Member<'static>, AllocError> {
-    Ok(Member {
-        access_flags: 9,
-        name: 5,
-        descriptor: 6,
-        attributes: raw_code(alloc)?,
-    })
-}
-
-/// A Code attribute may not be written raw where it would be read by field.
-#[test]
-fn a_raw_code_attribute(rt: HostRuntime) -> Result<(), Fail> {
-    let mut class = with_raw_code(rt.alloc())?;
-    assert!(rt; encode(rt.alloc(), &class).is_ok());
-    class.methods.push(raw_method(rt.alloc())?)?;
-    check_write_fault(&rt, rt.alloc(), &class, WriteFault::HasNoSpelling);
-    Ok(())
-}
-
-/// That the class is written as these bytes, or memory runs out.
-fn check_written_or_memory(rt: &impl Abort, alloc: Global, class: &ClassFile<'_>, want: &[u8]) {
+/// Whether the class is written as these bytes; or memory ran out, where it may.
+fn is_written(alloc: Global, class: &ClassFile<'_>, want: &[u8], may_fail: bool) -> bool {
     match encode(alloc, class) {
-        Ok(bytes) => assert!(rt; bytes.as_slice() == want),
-        Err(fault) => assert!(rt; matches!(fault, WriteFault::OutOfMemory)),
+        Ok(bytes) => bytes.as_slice() == want,
+        Err(fault) => may_fail && matches!(fault, WriteFault::OutOfMemory),
     }
+}
+
+/// Whether the class is read and written; or memory ran out, where it may.
+fn is_read(alloc: Global, may_fail: bool) -> bool {
+    match decode(alloc, &MAPPED) {
+        Ok(class) => {
+            is_head(&class) && has_method(&class) && is_written(alloc, &class, &MAPPED, may_fail)
+        }
+        Err(fault) => may_fail && matches!(fault, ReadFault::OutOfMemory),
+    }
+}
+
+#[test]
+fn a_class_both_ways(rt: HostRuntime) {
+    assert!(rt; is_read(rt.alloc(), false));
 }
 
 /// Where memory runs out each call answers 1, and otherwise as ever.
 #[test]
 fn memory_runs_out(rt: HostRuntime) {
-    let Ok(bytes) = with_stack_map(rt.alloc()) else {
-        return;
+    assert!(rt; is_read(rt.alloc(), true));
+}
+
+/// Why K with this version and so many interfaces is not written, if it is not.
+fn write_fault(alloc: Global, major: u16, interfaces: usize) -> Option<WriteFault> {
+    let mut class = decode(alloc, &K).ok()?;
+    class.major_version = major;
+    class.interfaces.resize(interfaces, 0).ok()?;
+    encode(alloc, &class).err()
+}
+
+/// 17 goes before 18: a class with too many interfaces, and a version that no class has.
+#[test]
+fn refused_to_write(rt: HostRuntime) {
+    let alloc = rt.alloc();
+    assert!(rt; write_fault(alloc, 50, 0) == Some(WriteFault::HasNoSpelling));
+    assert!(rt; write_fault(alloc, 50, 65_536) == Some(WriteFault::DoesNotFit));
+    assert!(rt; write_fault(alloc, 51, 65_536) == Some(WriteFault::DoesNotFit));
+}
+
+/// Attributes of which one is named `Code`, with a body that is none.
+fn raw_code(alloc: Global) -> Result<Vec<Attribute<'static>>, AllocError> {
+    let raw = Attribute::Raw {
+        name: 7,
+        body: &[1, 2],
     };
-    match decode(rt.alloc(), &bytes) {
-        Ok(class) => check_written_or_memory(&rt, rt.alloc(), &class, &bytes),
-        Err(fault) => assert!(rt; matches!(fault, ReadFault::OutOfMemory)),
+    let mut attributes = Vec::new(alloc);
+    attributes.push(raw)?;
+    Ok(attributes)
+}
+
+/// K with such attributes of the class, or of its method.
+fn with_raw_code(alloc: Global, of_method: bool) -> Option<ClassFile<'static>> {
+    let mut class = decode(alloc, &K).ok()?;
+    let attributes = raw_code(alloc).ok()?;
+    match class.methods.first_mut() {
+        Some(method) if of_method => method.attributes = attributes,
+        _ => class.attributes = attributes,
     }
+    Some(class)
+}
+
+/// Whether that class is written, or no bytes spell it; nothing where memory runs out.
+fn is_raw_written(alloc: Global, of_method: bool) -> Option<bool> {
+    let class = with_raw_code(alloc, of_method)?;
+    match encode(alloc, &class) {
+        Ok(_) => Some(true),
+        Err(WriteFault::HasNoSpelling) => Some(false),
+        Err(_) => None,
+    }
+}
+
+/// A Code attribute may not be written raw where it would be read by field.
+#[test]
+fn a_raw_code_attribute(rt: HostRuntime) {
+    assert!(rt; is_raw_written(rt.alloc(), false) == Some(true));
+    assert!(rt; is_raw_written(rt.alloc(), true) == Some(false));
 }

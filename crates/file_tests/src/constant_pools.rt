@@ -1,8 +1,7 @@
-use crate::parts::check_text;
+use crate::parts::is_shown;
 use layout::{Cursor, Output, Part, ReadFault, WriteFault};
 use pool::{Constant, Pool, PoolFault, found_where_it_stands, put_pool};
-use std::alloc::Global;
-use std::process::Abort;
+use std::alloc::{AllocError, Global};
 use std::test::*;
 
 /// Every kind of constant, the Long at 11 and 12 and the Double at 13 and 14.
@@ -17,163 +16,166 @@ fn laws_are_called() {
     found_where_it_stands();
 }
 
-/// That the pool is written as these bytes by `Part`.
-fn check_part(rt: &impl Abort, alloc: Global, pool: &Pool<'_>, want: &[u8]) -> Result<(), Fail> {
-    let mut bytes = Vec::new(alloc);
-    pool.put(&mut bytes)?;
-    assert_eq!(rt; bytes.as_slice(), want);
-    Ok(())
+/// Whether the pool is written by `Part`; or memory ran out, where it may, and nothing is written.
+fn is_put(alloc: Global, pool: &Pool<'_>, may_fail: bool) -> bool {
+    let mut out = Vec::new(alloc);
+    match pool.put(&mut out) {
+        Ok(()) => out.as_slice() == ALL.as_slice(),
+        Err(fault) => may_fail && matches!(fault, WriteFault::OutOfMemory) && out.is_empty(),
+    }
 }
 
-/// That the pool is written as these bytes where an output takes them.
-fn check_output(rt: &impl Abort, alloc: Global, pool: &Pool<'_>, want: &[u8]) -> Result<(), Fail> {
+/// Whether the pool of these constants is written where an output takes it.
+fn is_put_out(alloc: Global, constants: Vec<Constant<'_>>) -> bool {
     let mut out = Output::new(alloc);
-    let answer = put_pool(&mut out, pool);
-    let bytes = out.delivered(answer)?;
-    assert_eq!(rt; bytes.as_slice(), want);
-    Ok(())
+    let answer = put_pool(&mut out, &Pool::new(constants));
+    match out.delivered(answer) {
+        Ok(bytes) => bytes.as_slice() == ALL.as_slice(),
+        Err(_) => false,
+    }
 }
 
-fn check_constants(rt: &impl Abort, pool: &Pool<'_>) -> Result<(), Fail> {
-    assert!(rt; matches!(pool.get(11)?, Constant::Long { high: 1, low: 2 }));
-    assert_eq!(rt; pool.constants().len(), 19);
-    Ok(())
+/// Whether the pool is read and written; or memory ran out, where it may, and nothing is read.
+fn is_read(alloc: Global, may_fail: bool) -> bool {
+    let mut cursor = Cursor::new(&ALL);
+    match Pool::take(alloc, &mut cursor) {
+        Ok(pool) => {
+            cursor.at() == 85 && pool.constants().len() == 19 && is_put(alloc, &pool, may_fail)
+        }
+        Err(fault) => may_fail && matches!(fault, ReadFault::OutOfMemory) && cursor.at() == 0,
+    }
+}
+
+fn is_read_and_put_out(alloc: Global) -> bool {
+    match Pool::take(alloc, &mut Cursor::new(&ALL)) {
+        Ok(pool) => is_put_out(alloc, pool.into_constants()),
+        Err(_) => false,
+    }
 }
 
 #[test]
-fn both_ways(rt: HostRuntime) -> Result<(), Fail> {
-    let mut cursor = Cursor::new(&ALL);
-    let pool = Pool::take(rt.alloc(), &mut cursor)?;
-    assert_eq!(rt; cursor.at(), 85);
-    check_constants(&rt, &pool)?;
-    check_part(&rt, rt.alloc(), &pool, &ALL)?;
-    let again = Pool::new(pool.into_constants());
-    check_output(&rt, rt.alloc(), &again, &ALL)
+fn both_ways(rt: HostRuntime) {
+    assert!(rt; is_read(rt.alloc(), false));
+    assert!(rt; is_read_and_put_out(rt.alloc()));
 }
 
-/// That no pool stands behind eight bytes, as in a class file, for this fault, and nothing is read.
-fn check_refused(rt: &impl Abort, alloc: Global, bytes: &[u8], want: ReadFault) {
+/// Why no pool stands behind eight bytes, as in a class file, if none does; and where the cursor then is.
+fn read_fault(alloc: Global, bytes: &[u8]) -> (Option<ReadFault>, usize) {
     let mut cursor = Cursor::starting(8, bytes);
     let fault = Pool::take(alloc, &mut cursor).err();
-    assert!(rt; fault == Some(want));
-    assert_eq!(rt; cursor.at(), 8);
+    (fault, cursor.at())
+}
+
+/// Whether a Long of one slot, which no bytes spell, is not written.
+fn is_unspelled(alloc: Global) -> bool {
+    let mut constants = Vec::new(alloc);
+    let mut out = Vec::new(alloc);
+    constants.push(Constant::Long { high: 0, low: 0 }).is_ok()
+        && out.push(7).is_ok()
+        && matches!(
+            Pool::new(constants).put(&mut out),
+            Err(WriteFault::HasNoSpelling)
+        )
+        && matches!(out.as_slice(), [7])
 }
 
 #[test]
 fn refused(rt: HostRuntime) {
-    let rows: [(&[u8], ReadFault); 6] = [
-        (&[0, 2, 2], ReadFault::BadTag { at: 10, tag: 2 }),
-        (&[0, 2, 5], ReadFault::BadTag { at: 10, tag: 5 }),
-        (&[0, 2, 15, 10], ReadFault::BadTag { at: 11, tag: 10 }),
-        (&[0, 2, 1, 0, 1, 0], ReadFault::BadText { at: 13 }),
-        (&[0, 0], ReadFault::BadPoolCount { at: 8 }),
-        (&[0, 2, 9, 0, 1, 0], ReadFault::EndsEarly { at: 13 }),
-    ];
-    for (bytes, want) in rows {
-        check_refused(&rt, rt.alloc(), bytes, want);
+    let fault = Some(ReadFault::BadTag { at: 11, tag: 10 });
+    assert!(rt; read_fault(rt.alloc(), &[0, 2, 15, 10]) == (fault, 8));
+    assert!(rt; is_unspelled(rt.alloc()));
+}
+
+fn has_names(pool: &Pool<'_>) -> bool {
+    matches!(pool.text(3), Ok(text) if text.bytes() == b"f".as_slice())
+        && matches!(pool.class_name(2), Ok(name) if name.bytes() == b"A".as_slice())
+}
+
+fn has_name_and_type(pool: &Pool<'_>) -> bool {
+    match pool.name_and_type(5) {
+        Ok(named) => {
+            named.name.bytes() == b"f".as_slice() && named.descriptor.bytes() == b"I".as_slice()
+        }
+        Err(_) => false,
     }
 }
 
-#[test]
-fn unspelled(rt: HostRuntime) -> Result<(), Fail> {
-    let long = Constant::Long { high: 0, low: 0 };
-    let pool = Pool::new(vec![in rt.alloc(); long]?);
-    let mut out = vec![in rt.alloc(); 7u8]?;
-    assert!(rt; matches!(pool.put(&mut out), Err(WriteFault::HasNoSpelling)));
-    assert_eq!(rt; out.as_slice(), [7u8].as_slice());
-    Ok(())
-}
-
-fn check_names(rt: &impl Abort, pool: &Pool<'_>) -> Result<(), Fail> {
-    assert_eq!(rt; pool.text(3)?.bytes(), b"f".as_slice());
-    assert_eq!(rt; pool.class_name(2)?.bytes(), b"A".as_slice());
-    Ok(())
-}
-
-fn check_name_and_type(rt: &impl Abort, pool: &Pool<'_>) -> Result<(), Fail> {
-    let named = pool.name_and_type(5)?;
-    assert_eq!(rt; named.name.bytes(), b"f".as_slice());
-    assert_eq!(rt; named.descriptor.bytes(), b"I".as_slice());
-    Ok(())
-}
-
-fn check_references(rt: &impl Abort, pool: &Pool<'_>) -> Result<(), Fail> {
-    assert_eq!(rt; pool.field_ref(6)?.class.bytes(), b"A".as_slice());
-    assert!(rt; !pool.method_ref(7)?.interface);
-    assert!(rt; pool.method_ref(8)?.interface);
-    Ok(())
+fn has_references(pool: &Pool<'_>) -> bool {
+    matches!(pool.field_ref(6), Ok(field) if field.class.bytes() == b"A".as_slice())
+        && matches!(pool.method_ref(7), Ok(method) if !method.interface)
+        && matches!(pool.method_ref(8), Ok(method) if method.interface)
 }
 
 /// That no constant stands at the index.
-fn check_index(rt: &impl Abort, pool: &Pool<'_>, index: u16) {
-    assert!(rt; pool.get(index).err() == Some(PoolFault::BadIndex { index }));
+fn is_bad(pool: &Pool<'_>, index: u16) -> bool {
+    matches!(pool.get(index), Err(PoolFault::BadIndex { index: at }) if at == index)
 }
 
-/// That a text is no class, and a method no field.
-fn check_kinds(rt: &impl Abort, pool: &Pool<'_>) {
-    assert!(rt; pool.class_name(1).err() == Some(PoolFault::WrongKind { index: 1 }));
-    assert!(rt; pool.field_ref(7).err() == Some(PoolFault::WrongKind { index: 7 }));
+fn has_faults(pool: &Pool<'_>) -> bool {
+    is_bad(pool, 0)
+        && is_bad(pool, 12)
+        && is_bad(pool, 20)
+        && matches!(pool.class_name(1), Err(PoolFault::WrongKind { index: 1 }))
+        && matches!(pool.field_ref(7), Err(PoolFault::WrongKind { index: 7 }))
+}
+
+fn looks_up(alloc: Global) -> bool {
+    match Pool::take(alloc, &mut Cursor::new(&ALL)) {
+        Ok(pool) => {
+            matches!(pool.get(11), Ok(Constant::Long { high: 1, low: 2 }))
+                && has_names(&pool)
+                && has_name_and_type(&pool)
+                && has_references(&pool)
+                && has_faults(&pool)
+        }
+        Err(_) => false,
+    }
 }
 
 #[test]
-fn look_ups(rt: HostRuntime) -> Result<(), Fail> {
-    let pool = Pool::take(rt.alloc(), &mut Cursor::new(&ALL))?;
-    check_names(&rt, &pool)?;
-    check_name_and_type(&rt, &pool)?;
-    check_references(&rt, &pool)?;
-    for index in [0, 12, 20] {
-        check_index(&rt, &pool, index);
-    }
-    check_kinds(&rt, &pool);
-    Ok(())
+fn look_ups(rt: HostRuntime) {
+    assert!(rt; looks_up(rt.alloc()));
 }
 
 /// A field and a name and type that name no such constants.
-fn broken(alloc: Global) -> Result<Pool<'static>, Fail> {
-    let constants = vec![in alloc;
+fn broken(alloc: Global) -> Result<Vec<Constant<'static>>, AllocError> {
+    let constants = [
         Constant::Class { name: 9 },
         Constant::Fieldref {
             class: 1,
-            name_and_type: 1
+            name_and_type: 1,
         },
         Constant::NameAndType {
             name: 1,
-            descriptor: 0
+            descriptor: 0,
         },
-    ]?;
-    Ok(Pool::new(constants))
+    ];
+    constants.to_vec(alloc)
+}
+
+/// What is answered of them is that of the first index at fault.
+fn are_broken(alloc: Global) -> bool {
+    match broken(alloc) {
+        Ok(constants) => {
+            let pool = Pool::new(constants);
+            matches!(pool.field_ref(2), Err(PoolFault::BadIndex { index: 9 }))
+                && matches!(
+                    pool.name_and_type(3),
+                    Err(PoolFault::WrongKind { index: 1 })
+                )
+        }
+        Err(_) => false,
+    }
 }
 
 #[test]
-fn nested_faults(rt: HostRuntime) -> Result<(), Fail> {
-    let pool = broken(rt.alloc())?;
-    assert!(rt; pool.field_ref(2).err() == Some(PoolFault::BadIndex { index: 9 }));
+fn nested_faults(rt: HostRuntime) {
+    assert!(rt; are_broken(rt.alloc()));
     let fault = PoolFault::WrongKind { index: 1 };
-    assert!(rt; pool.name_and_type(3).err() == Some(fault));
-    assert_eq!(rt; fault.number(), 9);
-    check_text(&rt, rt.alloc(), &fault, "refused 9 index 1")
-}
-
-/// That the pool is written in 85 bytes, or memory runs out and nothing is written.
-fn check_put_or_memory(rt: &impl Abort, alloc: Global, pool: &Pool<'_>) {
-    let mut out = Vec::new(alloc);
-    match pool.put(&mut out) {
-        Ok(()) => assert_eq!(rt; out.len(), 85),
-        Err(e) => {
-            assert!(rt; matches!(e, WriteFault::OutOfMemory));
-            assert_eq!(rt; out.len(), 0);
-        }
-    }
+    assert!(rt; fault.number() == 9 && is_shown(rt.alloc(), &fault, "refused 9 index 1"));
 }
 
 #[test]
 fn want_of_memory(rt: HostRuntime) {
-    let mut cursor = Cursor::new(&ALL);
-    match Pool::take(rt.alloc(), &mut cursor) {
-        Ok(pool) => check_put_or_memory(&rt, rt.alloc(), &pool),
-        Err(e) => {
-            assert!(rt; matches!(e, ReadFault::OutOfMemory));
-            assert_eq!(rt; cursor.at(), 0);
-        }
-    }
+    assert!(rt; is_read(rt.alloc(), true));
 }

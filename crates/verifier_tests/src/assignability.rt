@@ -1,168 +1,10 @@
-use crate::making::{frame, hasher, object, summary};
-use frames::{VType, assignable, frame_assignable, laws};
+use crate::making::{hasher, object, summary};
+use frames::{Frame, VType, assignable, frame_assignable, laws};
 use hierarchy::{Answer, Chains, Classes, Summary};
 use names::{Base, OBJECT, Primitive};
 use std::alloc::{AllocError, Global};
 use std::process::Abort;
-use std::test::Fail;
-
-fn array<'a>(dims: u8, base: Base<'a>) -> VType<'a> {
-    VType::Array { dims, base }
-}
-
-fn setting<'a>(alloc: Global) -> [Summary<'a>; 3] {
-    [
-        object(alloc),
-        summary(alloc, b"A", Some(OBJECT), false),
-        summary(alloc, b"I", Some(OBJECT), true),
-    ]
-}
-
-/// A type, where another is wanted, and what is answered.
-fn type_rows<'a>() -> [(VType<'a>, VType<'a>, Answer<'a>); 11] {
-    let a = VType::Class(b"A");
-    let b = VType::Class(b"B");
-    let i = VType::Class(b"I");
-    let object = VType::Class(OBJECT);
-    let objects = array(1, Base::Class(OBJECT));
-    let bs = array(1, Base::Class(b"B"));
-    [
-        (a, i, Answer::Yes),
-        (i, a, Answer::No),
-        (a, b, Answer::Missing(b"B")),
-        (b, a, Answer::Missing(b"B")),
-        (b, object, Answer::Yes),
-        (bs, objects, Answer::Yes),
-        (bs, array(1, Base::Class(b"A")), Answer::Missing(b"B")),
-        (
-            array(2, Base::Primitive(Primitive::Int)),
-            objects,
-            Answer::Yes,
-        ),
-        (
-            array(1, Base::Primitive(Primitive::Int)),
-            objects,
-            Answer::No,
-        ),
-        (VType::Uninit(0), VType::Top, Answer::Yes),
-        (VType::Uninit(0), a, Answer::No),
-    ]
-}
-
-fn compare_types<C: Classes>(rt: &impl Abort, classes: &C) {
-    for (from, to, want) in type_rows() {
-        assert_eq!(rt; assignable(&from, &to, classes), want);
-    }
-}
-
-/// Two stacks, where the second is wanted, and what is answered.
-#[derive(Clone, Copy)]
-struct StackRow<'s, 'a> {
-    from: &'s [VType<'a>],
-    to: &'s [VType<'a>],
-    want: Answer<'a>,
-}
-
-/// Two lists of local variables with the flags of their frames, where the second is wanted, and what is answered.
-#[derive(Clone, Copy)]
-struct LocalRow<'s, 'a> {
-    from: (&'s [VType<'a>], bool),
-    to: (&'s [VType<'a>], bool),
-    want: Answer<'a>,
-}
-
-fn check_stacks<C: Classes>(
-    rt: &impl Abort,
-    alloc: Global,
-    classes: &C,
-    row: &StackRow,
-) -> Result<(), AllocError> {
-    let from = frame(alloc, &[], row.from, false)?;
-    let to = frame(alloc, &[], row.to, false)?;
-    assert_eq!(rt; frame_assignable(&from, &to, classes), row.want);
-    Ok(())
-}
-
-fn check_locals<C: Classes>(
-    rt: &impl Abort,
-    alloc: Global,
-    classes: &C,
-    row: &LocalRow,
-) -> Result<(), AllocError> {
-    let from = frame(alloc, row.from.0, &[], row.from.1)?;
-    let to = frame(alloc, row.to.0, &[], row.to.1)?;
-    assert_eq!(rt; frame_assignable(&from, &to, classes), row.want);
-    Ok(())
-}
-
-fn compare_stacks<C: Classes>(
-    rt: &impl Abort,
-    alloc: Global,
-    classes: &C,
-) -> Result<(), AllocError> {
-    let a = VType::Class(b"A");
-    let b = VType::Class(b"B");
-    let rows = [
-        StackRow {
-            from: &[VType::Int],
-            to: &[a],
-            want: Answer::No,
-        },
-        StackRow {
-            from: &[VType::Null],
-            to: &[a],
-            want: Answer::Yes,
-        },
-        StackRow {
-            from: &[VType::Long],
-            to: &[VType::Top],
-            want: Answer::No,
-        },
-        StackRow {
-            from: &[a, VType::Int],
-            to: &[b, a],
-            want: Answer::No,
-        },
-        StackRow {
-            from: &[a, a],
-            to: &[a, b],
-            want: Answer::Missing(b"B"),
-        },
-    ];
-    for row in rows {
-        check_stacks(rt, alloc, classes, &row)?;
-    }
-    Ok(())
-}
-
-fn compare_locals<C: Classes>(
-    rt: &impl Abort,
-    alloc: Global,
-    classes: &C,
-) -> Result<(), AllocError> {
-    let a = VType::Class(b"A");
-    let rows = [
-        LocalRow {
-            from: (&[VType::Long, VType::Top], false),
-            to: (&[VType::Top, VType::Top], false),
-            want: Answer::Yes,
-        },
-        LocalRow {
-            from: (&[a], true),
-            to: (&[a], false),
-            want: Answer::No,
-        },
-        LocalRow {
-            from: (&[a], false),
-            to: (&[a], true),
-            want: Answer::Yes,
-        },
-    ];
-    for row in rows {
-        check_locals(rt, alloc, classes, &row)?;
-    }
-    Ok(())
-}
+use std::test::*;
 
 #[test]
 fn laws_are_called() {
@@ -172,21 +14,132 @@ fn laws_are_called() {
     laws::frames_to_themselves();
 }
 
-#[test]
-fn types(rt: HostRuntime) -> Result<(), Fail> {
-    let alloc = rt.alloc();
-    let list = setting(alloc);
-    let classes = Chains::new(alloc, &list, hasher()).expect(&rt, "a hierarchy");
-    compare_types(&rt, &classes);
-    Ok(())
+const A: VType<'static> = VType::Class(b"A");
+
+const B: VType<'static> = VType::Class(b"B");
+
+const I: VType<'static> = VType::Class(b"I");
+
+fn array<'a>(dims: u8, base: Base<'a>) -> VType<'a> {
+    VType::Array { dims, base }
+}
+
+/// A class A and an interface I; there is no class B.
+fn setting<'a>(alloc: Global) -> [Summary<'a>; 3] {
+    [
+        object(alloc),
+        summary(alloc, b"A", Some(OBJECT), false),
+        summary(alloc, b"I", Some(OBJECT), true),
+    ]
+}
+
+/// A type, where another is wanted, and what is answered.
+fn class_rows<'a>() -> [(VType<'a>, VType<'a>, Answer<'a>); 7] {
+    [
+        (A, I, Answer::Yes),
+        (I, A, Answer::No),
+        (A, B, Answer::Missing(b"B")),
+        (B, A, Answer::Missing(b"B")),
+        (B, VType::Class(OBJECT), Answer::Yes),
+        (VType::Uninit(0), VType::Top, Answer::Yes),
+        (VType::Uninit(0), A, Answer::No),
+    ]
+}
+
+/// The same of arrays.
+fn array_rows<'a>() -> [(VType<'a>, VType<'a>, Answer<'a>); 4] {
+    let objects = array(1, Base::Class(OBJECT));
+    let bs = array(1, Base::Class(b"B"));
+    let ints = Base::Primitive(Primitive::Int);
+    [
+        (bs, objects, Answer::Yes),
+        (bs, array(1, Base::Class(b"A")), Answer::Missing(b"B")),
+        (array(2, ints), objects, Answer::Yes),
+        (array(1, ints), objects, Answer::No),
+    ]
+}
+
+fn check_types<C: Classes>(rt: &impl Abort, classes: &C) {
+    for (from, to, want) in class_rows() {
+        assert!(rt; assignable(&from, &to, classes) == want);
+    }
+    for (from, to, want) in array_rows() {
+        assert!(rt; assignable(&from, &to, classes) == want);
+    }
 }
 
 #[test]
-fn frames(rt: HostRuntime) -> Result<(), Fail> {
+fn types(rt: HostRuntime) {
+    let list = setting(rt.alloc());
+    match Chains::new(rt.alloc(), &list, hasher()) {
+        Ok(classes) => check_types(&rt, &classes),
+        Err(_) => panic!(rt; "a hierarchy"),
+    }
+}
+
+/// The types of a frame's local variables or stack, those of a wanted one, and what is answered.
+type Row<'s, 'a> = (&'s [VType<'a>], &'s [VType<'a>], Answer<'a>);
+
+fn frame<'a>(
+    alloc: Global,
+    locals: &[VType<'a>],
+    stack: &[VType<'a>],
+    flag: bool,
+) -> Result<Frame<'a>, AllocError> {
+    Ok(Frame {
+        locals: locals.to_vec(alloc)?,
+        stack: stack.to_vec(alloc)?,
+        flag,
+    })
+}
+
+/// Whether this is answered of two frames, of which the second is wanted; want of memory aside.
+fn is_answered<'a, C: Classes>(
+    from: Result<Frame<'a>, AllocError>,
+    to: Result<Frame<'a>, AllocError>,
+    classes: &C,
+    want: Answer<'a>,
+) -> bool {
+    match (from, to) {
+        (Ok(from), Ok(to)) => frame_assignable(&from, &to, classes) == want,
+        _ => false,
+    }
+}
+
+fn check_stacks<C: Classes>(rt: &impl Abort, alloc: Global, classes: &C) {
+    let rows: [Row<'_, '_>; 5] = [
+        (&[VType::Int], &[A], Answer::No),
+        (&[VType::Null], &[A], Answer::Yes),
+        (&[VType::Long], &[VType::Top], Answer::No),
+        (&[A, VType::Int], &[B, A], Answer::No),
+        (&[A, A], &[A, B], Answer::Missing(b"B")),
+    ];
+    for (from, to, want) in rows {
+        let (from, to) = (frame(alloc, &[], from, false), frame(alloc, &[], to, false));
+        assert!(rt; is_answered(from, to, classes, want));
+    }
+}
+
+/// Local variables; then frames with and without the flag that tells of an uninitialized `this`.
+fn check_locals<C: Classes>(rt: &impl Abort, alloc: Global, classes: &C) {
+    let long = frame(alloc, &[VType::Long, VType::Top], &[], false);
+    let unknown = frame(alloc, &[VType::Top, VType::Top], &[], false);
+    assert!(rt; is_answered(long, unknown, classes, Answer::Yes));
+    for (from, to, want) in [(true, false, Answer::No), (false, true, Answer::Yes)] {
+        let (from, to) = (frame(alloc, &[A], &[], from), frame(alloc, &[A], &[], to));
+        assert!(rt; is_answered(from, to, classes, want));
+    }
+}
+
+#[test]
+fn frames(rt: HostRuntime) {
     let alloc = rt.alloc();
     let list = setting(alloc);
-    let classes = Chains::new(alloc, &list, hasher()).expect(&rt, "a hierarchy");
-    compare_stacks(&rt, alloc, &classes)?;
-    compare_locals(&rt, alloc, &classes)?;
-    Ok(())
+    match Chains::new(alloc, &list, hasher()) {
+        Ok(classes) => {
+            check_stacks(&rt, alloc, &classes);
+            check_locals(&rt, alloc, &classes);
+        }
+        Err(_) => panic!(rt; "a hierarchy"),
+    }
 }

@@ -6,7 +6,7 @@
 //! | `assignability` | `frames`: one type or frame where another is wanted |
 //! | `instruction_rules` | `rules`: single instructions |
 //! | `machine_steps` | `machine`: single steps |
-//! | `verdicts`, `worked_methods` | `verify`: verdicts, and the worked methods through each call |
+//! | `verdicts` | `verify`: verdicts and reports |
 //! | `making` | what several of them stand on |
 //!
 //! A test with `memory` in its name passes also where any one allocation fails; `tests/allocations` runs those so.
@@ -24,5 +24,3 @@ mod making;
 mod superclasses;
 #[cfg(test)]
 mod verdicts;
-#[cfg(test)]
-mod worked_methods;

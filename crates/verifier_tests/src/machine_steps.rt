@@ -1,20 +1,18 @@
-//! Steps of methods that are put together by hand.
-use crate::making::{Given, class, hasher, machine_method, object, static_method, summary};
-use classfile::{ClassFile, ExceptionHandler, decode, form_check};
+//! Steps of methods of two bytes of code.
+use crate::making::{CATCHING, catching, hasher, object, summary};
+use classfile::{ClassFile, Formed, decode, form_check};
 use hierarchy::Chains;
-use machine::{Choice, Method, Outcome, RunType, Slot, State, StepFault, Value, laws, step};
+use machine::{Choice, Method, Outcome, RunType, Slot, State, Value, laws, step};
 use names::{OBJECT, THROWABLE};
-use test_classes::K;
 use std::alloc::{AllocError, Global};
 use std::collections::BTreeMap;
-use std::process::Abort;
-use std::test::Fail;
+use std::test::*;
 
-/// What comes of a step.
-type Stepped<'a> = Result<Outcome<'a>, StepFault>;
+/// What comes of a step, or the number of what is refused.
+type Stepped<'a> = Result<Outcome<'a>, u8>;
 
-/// The index of the Class constant of `java/lang/Object`.
-const OBJECT_INDEX: u16 = 3;
+/// The number of want of memory.
+const OUT_OF_MEMORY: u8 = 1;
 
 #[test]
 fn laws_are_called() {
@@ -23,77 +21,81 @@ fn laws_are_called() {
     laws::world_breadth();
 }
 
-fn state<'a>(alloc: Global, locals: &[Slot], stack: &[Value]) -> Result<State<'a>, AllocError> {
+/// The state at offset 0 with these local variables and this stack.
+fn state<'a>(alloc: Global, locals: [Slot; 2], stack: &[Value]) -> Result<State<'a>, AllocError> {
     Ok(State {
         at: 0,
-        stack: stack.iter().copied().collect(alloc)?,
-        locals: locals.iter().copied().collect(alloc)?,
+        stack: stack.to_vec(alloc)?,
+        locals: locals.to_vec(alloc)?,
         heap: BTreeMap::new(alloc),
     })
 }
 
 /// What comes of a step of the method, where there are `java/lang/Object` and `java/lang/Throwable`.
-fn step_in_world<'a>(
+fn step_of_method<'a>(
     alloc: Global,
     method: &Method<'_, 'a>,
     start: &State<'a>,
     choice: &Choice<'a>,
-) -> Result<Stepped<'a>, AllocError> {
+) -> Stepped<'a> {
     let list = [
         object(alloc),
         summary(alloc, THROWABLE, Some(OBJECT), false),
     ];
     match Chains::new(alloc, &list, hasher()) {
-        Ok(classes) => Ok(step(alloc, method, &classes, start, choice)),
-        Err(_) => Err(AllocError),
+        Ok(classes) => match step(alloc, method, &classes, start, choice) {
+            Ok(outcome) => Ok(outcome),
+            Err(fault) => Err(fault.number()),
+        },
+        Err(fault) => Err(fault.number()),
     }
 }
 
-/// What comes of the first instruction of the class's one method.
+/// The one method of the class as the machine takes it; or the number of what is wrong with its code, 0 if it has none.
+fn machine_method<'c, 'a>(alloc: Global, formed: &Formed<'c, 'a>) -> Result<Method<'c, 'a>, u8> {
+    if formed.class().methods.len() != 1 {
+        return Err(0);
+    }
+    if formed.class().methods[0].code().is_none() {
+        return Err(0);
+    }
+    match Method::new(alloc, formed, 0) {
+        Ok(method) => Ok(method),
+        Err(fault) => Err(fault.number()),
+    }
+}
+
+/// The same, of the one method of the class.
 fn step_of_class<'a>(
-    rt: &impl Abort,
     alloc: Global,
     class: &ClassFile<'a>,
     start: &State<'a>,
     choice: &Choice<'a>,
-) -> Result<Stepped<'a>, AllocError> {
-    let Ok(formed) = form_check(alloc, class) else {
-        return Err(AllocError);
-    };
-    match machine_method(rt, alloc, &formed) {
-        Ok(method) => step_in_world(alloc, &method, start, choice),
-        Err(_) => Err(AllocError),
+) -> Stepped<'a> {
+    match form_check(alloc, class) {
+        Ok(formed) => {
+            let method = machine_method(alloc, &formed)?;
+            step_of_method(alloc, &method, start, choice)
+        }
+        Err(fault) => Err(fault.number()),
     }
 }
 
-/// A method of two local variables and four units of stack, which catches all that its first byte raises.
-fn catching<'a>(bytes: &'a [u8]) -> Given<'a> {
-    let mut given = static_method(b"()V", 4, 2, bytes);
-    given.catches = Some(ExceptionHandler {
-        start_pc: 0,
-        end_pc: 1,
-        handler_pc: 1,
-        catch_type: OBJECT_INDEX,
-    });
-    given
-}
-
-/// What comes of the code's first instruction, in a method that is `catching`.
-fn run<'a>(
-    rt: &impl Abort,
+/// The same, of the class that these bytes are.
+fn step_of<'a>(
     alloc: Global,
     bytes: &'a [u8],
-    locals: &[Slot; 2],
-    stack: &[Value],
+    start: &State<'a>,
     choice: &Choice<'a>,
-) -> Result<Stepped<'a>, AllocError> {
-    let class = class(rt, alloc, catching(bytes))?;
-    let start = state(alloc, locals, stack)?;
-    step_of_class(rt, alloc, &class, &start, choice)
+) -> Stepped<'a> {
+    match decode(alloc, bytes) {
+        Ok(class) => step_of_class(alloc, &class, start, choice),
+        Err(fault) => Err(fault.number()),
+    }
 }
 
 /// The choice to go on, to the place of this number where there is a branch, with nothing new.
-pub fn go<'a>(alloc: Global, branch: Option<u16>) -> Choice<'a> {
+fn go<'a>(alloc: Global, branch: Option<u16>) -> Choice<'a> {
     Choice::Go {
         branch,
         answer: None,
@@ -101,168 +103,151 @@ pub fn go<'a>(alloc: Global, branch: Option<u16>) -> Choice<'a> {
     }
 }
 
+/// The choice to raise a new `java/lang/Throwable`, which is handled by the item of this number.
 fn raise<'a>(alloc: Global, entry: Option<u16>) -> Result<Choice<'a>, AllocError> {
-    let mut fresh = Vec::new(alloc);
-    fresh.push((7, RunType::Class(THROWABLE)))?;
     Ok(Choice::Raise {
         address: 7,
-        fresh,
+        fresh: vec![in alloc; (7, RunType::Class(THROWABLE))]?,
         entry,
     })
 }
 
 const EMPTY: [Slot; 2] = [Slot::Empty, Slot::Empty];
 
-fn next<'a>(rt: &impl Abort, outcome: Stepped<'a>) -> State<'a> {
-    match outcome {
-        Ok(Outcome::Next(state)) => state,
-        _ => panic!(rt; "no next state"),
+/// Whether the step leads to the next byte, with these local variables and this stack.
+fn leads_to(stepped: Stepped<'_>, locals: [Slot; 2], stack: &[Value]) -> bool {
+    match stepped {
+        Ok(Outcome::Next(state)) => {
+            state.at == 1
+                && state.locals.as_slice() == locals.as_slice()
+                && state.stack.as_slice() == stack
+        }
+        _ => false,
     }
 }
 
-/// The state behind the code's first instruction, which goes on.
-fn after<'a>(
-    rt: &impl Abort,
-    alloc: Global,
-    bytes: &'a [u8],
-    locals: &[Slot; 2],
-    stack: &[Value],
-) -> Result<State<'a>, AllocError> {
-    let stepped = run(rt, alloc, bytes, locals, stack, &go(alloc, None))?;
-    Ok(next(rt, stepped))
-}
-
-/// What comes of the code's first instruction from empty local variables, where none is chosen to be raised.
+/// What comes of the first of these bytes, from these local variables and this stack.
 fn went<'a>(
-    rt: &impl Abort,
     alloc: Global,
     bytes: &'a [u8],
+    locals: [Slot; 2],
     stack: &[Value],
-) -> Result<Stepped<'a>, AllocError> {
-    run(rt, alloc, bytes, &EMPTY, stack, &go(alloc, None))
-}
-
-#[test]
-fn numbers_are_computed(rt: HostRuntime) -> Result<(), Fail> {
-    let stack = [Value::Null, Value::Int, Value::Int];
-    let after = after(&rt, rt.alloc(), &[0x60, 0x00], &EMPTY, &stack)?;
-    assert_eq!(rt; after.at, 1);
-    assert_eq!(rt;
-        after.stack.as_slice(),
-        [Value::Null, Value::Int].as_slice()
-    );
-    Ok(())
-}
-
-#[test]
-fn half_of_a_long_is_overwritten(rt: HostRuntime) -> Result<(), Fail> {
-    let locals = [Slot::Value(Value::Long), Slot::Second];
-    let after = after(&rt, rt.alloc(), &[0x3C, 0x00], &locals, &[Value::Int])?;
-    assert_eq!(rt;
-        after.locals.as_slice(),
-        [Slot::Empty, Slot::Value(Value::Int)].as_slice()
-    );
-    Ok(())
-}
-
-#[test]
-fn methods_end(rt: HostRuntime) -> Result<(), Fail> {
-    let ended = went(&rt, rt.alloc(), &[0xB1, 0x00], &[])?;
-    assert!(rt; matches!(ended, Ok(Outcome::Ended)));
-    Ok(())
-}
-
-fn check_fault(
-    rt: &impl Abort,
-    alloc: Global,
-    bytes: &[u8],
-    stack: &[Value],
-) -> Result<(), AllocError> {
-    let fault = went(rt, alloc, bytes, stack)?;
-    assert!(rt; matches!(fault, Ok(Outcome::Fault)));
-    Ok(())
-}
-
-#[test]
-fn missing_operands_are_faults(rt: HostRuntime) -> Result<(), Fail> {
-    check_fault(&rt, rt.alloc(), &[0x60, 0x00], &[Value::Int])?;
-    // An instruction that is not supported.
-    check_fault(&rt, rt.alloc(), &[0x01, 0x00], &[])?;
-    Ok(())
-}
-
-#[test]
-fn branches_are_no_choice(rt: HostRuntime) -> Result<(), Fail> {
-    let alloc = rt.alloc();
-    match run(&rt, alloc, &[0x00, 0x00], &EMPTY, &[], &go(alloc, Some(1)))? {
-        Err(fault) => assert_eq!(rt; fault.number(), 54),
-        Ok(_) => panic!(rt; "a branch"),
+    choice: &Choice<'a>,
+) -> Stepped<'a> {
+    match state(alloc, locals, stack) {
+        Ok(start) => step_of(alloc, bytes, &start, choice),
+        Err(_) => Err(OUT_OF_MEMORY),
     }
-    Ok(())
 }
 
-/// What comes of a `nop` that raises, which is handled by the item of this number.
-fn raised<'a>(
-    rt: &impl Abort,
+/// Whether the instruction leads from these local variables and this stack to those.
+fn leads(
     alloc: Global,
-    stack: &[Value],
-    entry: Option<u16>,
-) -> Result<Stepped<'a>, AllocError> {
-    let choice = raise(alloc, entry)?;
-    run(rt, alloc, &[0x00, 0x00], &EMPTY, stack, &choice)
-}
-
-fn check_caught(rt: &impl Abort, alloc: Global) -> Result<(), AllocError> {
-    let stepped = raised(rt, alloc, &[Value::Int], Some(0))?;
-    let caught = next(rt, stepped);
-    assert_eq!(rt; caught.at, 1);
-    assert_eq!(rt; caught.stack.as_slice(), [Value::Ref(7)].as_slice());
-    Ok(())
-}
-
-fn check_uncaught(rt: &impl Abort, alloc: Global) -> Result<(), AllocError> {
-    let uncaught = raised(rt, alloc, &[], None)?;
-    assert!(rt; matches!(uncaught, Ok(Outcome::Ended)));
-    Ok(())
+    code: u8,
+    before: ([Slot; 2], &[Value]),
+    after: ([Slot; 2], &[Value]),
+) -> bool {
+    let bytes = catching([code, 0x00]);
+    let stepped = went(alloc, &bytes, before.0, before.1, &go(alloc, None));
+    leads_to(stepped, after.0, after.1)
 }
 
 #[test]
-fn exceptions_are_caught_or_not(rt: HostRuntime) -> Result<(), Fail> {
-    check_caught(&rt, rt.alloc())?;
-    check_uncaught(&rt, rt.alloc())?;
-    Ok(())
+fn numbers_and_locals(rt: HostRuntime) {
+    let ints = [Value::Null, Value::Int, Value::Int];
+    assert!(rt; leads(rt.alloc(), 0x60, (EMPTY, &ints), (EMPTY, &ints[..2])));
+    // Half of a long is overwritten.
+    let long = [Slot::Value(Value::Long), Slot::Second];
+    let int = [Slot::Empty, Slot::Value(Value::Int)];
+    assert!(rt; leads(rt.alloc(), 0x3C, (long, &[Value::Int]), (int, &[])));
+}
+
+/// What comes of an instruction from empty local variables and an `int` on the stack: whether it ends the method, is a
+/// fault, or is refused for a number.
+fn outcome(alloc: Global, code: u8, choice: &Choice<'_>) -> (bool, bool, u8) {
+    match went(alloc, &catching([code, 0x00]), EMPTY, &[Value::Int], choice) {
+        Ok(outcome) => (
+            matches!(outcome, Outcome::Ended),
+            matches!(outcome, Outcome::Fault),
+            0,
+        ),
+        Err(number) => (false, false, number),
+    }
+}
+
+/// A `return` ends the method; an instruction that misses an operand, and one that is not supported, is a fault; a branch
+/// is no choice for `nop`.
+#[test]
+fn ends_and_faults(rt: HostRuntime) {
+    let alloc = rt.alloc();
+    let on = go(alloc, None);
+    assert!(rt; matches!(outcome(alloc, 0xB1, &on), (true, false, 0)));
+    assert!(rt; matches!(outcome(alloc, 0x60, &on), (false, true, 0)));
+    assert!(rt; matches!(outcome(alloc, 0x01, &on), (false, true, 0)));
+    assert!(rt;
+        matches!(
+            outcome(alloc, 0x00, &go(alloc, Some(1))),
+            (false, false, 54)
+        )
+    );
+}
+
+/// Whether the first of these bytes leads by this choice to the next, with the thrown object alone on the stack.
+fn catches<'a>(alloc: Global, bytes: &'a [u8], choice: &Choice<'a>) -> bool {
+    let stepped = went(alloc, bytes, EMPTY, &[Value::Int], choice);
+    leads_to(stepped, EMPTY, &[Value::Ref(7)])
+}
+
+/// A `nop` may raise what an item of the exception table handles.
+fn is_caught(alloc: Global) -> bool {
+    match raise(alloc, Some(0)) {
+        Ok(choice) => catches(alloc, &CATCHING, &choice),
+        Err(_) => false,
+    }
+}
+
+/// It may raise what none handles.
+fn is_uncaught(alloc: Global) -> bool {
+    match raise(alloc, None) {
+        Ok(choice) => matches!(outcome(alloc, 0x00, &choice), (true, false, 0)),
+        Err(_) => false,
+    }
+}
+
+#[test]
+fn exceptions_are_caught_or_not(rt: HostRuntime) {
+    assert!(rt; is_caught(rt.alloc()));
+    assert!(rt; is_uncaught(rt.alloc()));
+}
+
+/// With memory enough no instruction is answered that it ran out, whatever else.
+#[test]
+fn each_step_answers(rt: HostRuntime) {
+    let on = go(rt.alloc(), None);
+    for code in [
+        0x00, 0x03, 0x09, 0x1B, 0x3C, 0x57, 0x5C, 0x79, 0xA7, 0xAC, 0xB1,
+    ] {
+        assert!(rt; !matches!(outcome(rt.alloc(), code, &on), (_, _, OUT_OF_MEMORY)));
+    }
+}
+
+/// The next state has another `int` on the stack; or memory ran out.
+fn is_next_or_memory(stepped: Stepped<'_>) -> bool {
+    match stepped {
+        Ok(Outcome::Next(state)) => state.at == 1 && state.stack.len() == 2,
+        Ok(_) => false,
+        Err(number) => number == OUT_OF_MEMORY,
+    }
+}
+
+fn steps_or_memory(alloc: Global) -> bool {
+    let bytes = catching([0x04, 0xAC]);
+    let stepped = went(alloc, &bytes, EMPTY, &[Value::Int], &go(alloc, None));
+    is_next_or_memory(stepped)
 }
 
 /// Where memory runs out a step answers 1, and otherwise the next state.
 #[test]
 fn memory_runs_out_for_a_step(rt: HostRuntime) {
-    match went(&rt, rt.alloc(), &[0x04, 0xAC], &[]) {
-        Ok(Ok(Outcome::Next(state))) => assert!(rt; state.at == 1 && state.stack.len() == 1),
-        Ok(Ok(_)) => panic!(rt; "another outcome"),
-        Ok(Err(fault)) => assert_eq!(rt; fault.number(), 1),
-        Err(_) => {}
-    }
-}
-
-/// What comes of the first instruction of K.
-fn step_of_k<'a>(rt: &impl Abort, alloc: Global) -> Result<Stepped<'a>, AllocError> {
-    let start = state(alloc, &[], &[])?;
-    match decode(alloc, &K) {
-        Ok(class) => step_of_class(rt, alloc, &class, &start, &go(alloc, None)),
-        Err(_) => Err(AllocError),
-    }
-}
-
-/// Whether the method of K ends; want of memory aside.
-fn ends(rt: &impl Abort, alloc: Global) -> Result<bool, AllocError> {
-    match step_of_k(rt, alloc)? {
-        Ok(outcome) => Ok(matches!(outcome, Outcome::Ended)),
-        Err(_) => Err(AllocError),
-    }
-}
-
-#[test]
-fn a_method_of_a_class_ends(rt: HostRuntime) -> Result<(), Fail> {
-    assert!(rt; ends(&rt, rt.alloc())?);
-    Ok(())
+    assert!(rt; steps_or_memory(rt.alloc()));
 }

@@ -1,21 +1,12 @@
-use crate::making::{hasher, summary};
+use crate::making::{hasher, object, summary};
 use classfile::{ClassFile, decode, form_check};
 use hierarchy::{
     Answer, Chains, Classes, HierarchyFault, Kind, MemberSummary, Summary, laws, summary_of,
 };
-use names::{CLONEABLE, OBJECT};
-use test_classes::K;
+use names::OBJECT;
 use std::alloc::Global;
-use std::process::Abort;
-use std::test::Fail;
-
-// Why a list is refused, or none.
-fn refusal<'a>(alloc: Global, classes: &[Summary<'a>]) -> Option<HierarchyFault<'a>> {
-    match Chains::new(alloc, classes, hasher()) {
-        Ok(_) => None,
-        Err(fault) => Some(fault),
-    }
-}
+use std::test::*;
+use test_classes::K;
 
 #[test]
 fn laws_are_called() {
@@ -31,194 +22,117 @@ fn laws_are_called() {
 /// Classes A and C below it, and an interface.
 fn setting<'a>(alloc: Global) -> [Summary<'a>; 4] {
     [
-        summary(alloc, OBJECT, None, false),
+        object(alloc),
         summary(alloc, b"A", Some(OBJECT), false),
         summary(alloc, b"I", Some(OBJECT), true),
         summary(alloc, b"C", Some(b"A"), false),
     ]
 }
 
-#[test]
-fn answers(rt: HostRuntime) -> Result<(), Fail> {
-    let alloc = rt.alloc();
+fn finds<C: Classes>(classes: &C) -> bool {
+    classes.find(b"A").is_some()
+        && classes.find(b"B").is_none()
+        && matches!(classes.is_interface(b"I"), Some(true))
+        && classes.is_interface(b"B").is_none()
+}
+
+fn compares<C: Classes>(classes: &C) -> bool {
+    matches!(classes.is_subclass(b"C", OBJECT), Answer::Yes)
+        && matches!(classes.is_subclass(b"A", b"C"), Answer::No)
+        && matches!(classes.is_subclass(b"B", b"B"), Answer::Yes)
+        && matches!(classes.is_subclass(b"B", b"A"), Answer::Missing(name) if name == b"B".as_slice())
+}
+
+fn is_hierarchy(alloc: Global) -> bool {
     let list = setting(alloc);
-    let chains = Chains::new(alloc, &list, hasher()).expect(&rt, "a hierarchy");
-    ask(&rt, &chains);
-    Ok(())
+    match Chains::new(alloc, &list, hasher()) {
+        Ok(classes) => finds(&classes) && compares(&classes),
+        Err(_) => false,
+    }
 }
 
-fn check_interface<C: Classes>(rt: &impl Abort, classes: &C, name: &[u8], want: Option<bool>) {
-    assert_eq!(rt; classes.is_interface(name), want);
+#[test]
+fn answers(rt: HostRuntime) {
+    assert!(rt; is_hierarchy(rt.alloc()));
 }
 
-fn check_subclass<C: Classes>(
-    rt: &impl Abort,
-    classes: &C,
-    class: &[u8],
-    ancestor: &[u8],
-    want: Answer<'_>,
-) {
-    assert_eq!(rt; classes.is_subclass(class, ancestor), want);
+/// Why a list is refused, or none.
+fn refusal<'a>(alloc: Global, classes: &[Summary<'a>]) -> Option<HierarchyFault<'a>> {
+    Chains::new(alloc, classes, hasher()).err()
 }
 
-fn ask<C: Classes>(rt: &impl Abort, classes: &C) {
-    assert!(rt; classes.find(b"A").is_some());
-    assert!(rt; classes.find(b"B").is_none());
-    check_interface(rt, classes, b"I", Some(true));
-    check_interface(rt, classes, b"B", None);
-    check_subclass(rt, classes, b"C", OBJECT, Answer::Yes);
-    check_subclass(rt, classes, b"A", b"C", Answer::No);
-    check_subclass(rt, classes, b"B", b"B", Answer::Yes);
-    check_subclass(rt, classes, b"B", b"A", Answer::Missing(b"B"));
-}
-
-fn classes_twice(alloc: Global) -> Option<HierarchyFault<'static>> {
+/// Whether an interface below another class than `java/lang/Object`, which is no class file, is refused for that.
+fn is_refused(alloc: Global) -> bool {
     let list = [
-        summary(alloc, OBJECT, None, false),
-        summary(alloc, b"A", Some(OBJECT), false),
-        summary(alloc, b"B", Some(OBJECT), false),
-        summary(alloc, b"B", Some(OBJECT), false),
-        summary(alloc, b"A", Some(OBJECT), false),
-    ];
-    refusal(alloc, &list)
-}
-
-fn cycle_of_two(alloc: Global) -> Option<HierarchyFault<'static>> {
-    let list = [
-        summary(alloc, b"X", Some(b"A"), false),
-        summary(alloc, b"A", Some(b"B"), false),
-        summary(alloc, b"B", Some(b"A"), false),
-    ];
-    refusal(alloc, &list)
-}
-
-fn cycles_of_one(alloc: Global) -> Option<HierarchyFault<'static>> {
-    let list = [
-        summary(alloc, b"X", Some(b"A"), false),
-        summary(alloc, b"B", Some(b"B"), false),
-        summary(alloc, b"A", Some(b"A"), false),
-    ];
-    refusal(alloc, &list)
-}
-
-fn missing_superclass(alloc: Global) -> Option<HierarchyFault<'static>> {
-    let list = [
-        summary(alloc, OBJECT, None, false),
-        summary(alloc, b"A", Some(b"B"), false),
-    ];
-    refusal(alloc, &list)
-}
-
-fn array_interface_as_class(alloc: Global) -> Option<HierarchyFault<'static>> {
-    let list = [
-        summary(alloc, OBJECT, None, false),
-        summary(alloc, CLONEABLE, Some(OBJECT), false),
-    ];
-    refusal(alloc, &list)
-}
-
-fn interface_below_a_class(alloc: Global) -> Option<HierarchyFault<'static>> {
-    let list = [
-        summary(alloc, OBJECT, None, false),
+        object(alloc),
         summary(alloc, b"A", Some(OBJECT), false),
         summary(alloc, b"I", Some(b"A"), true),
     ];
-    refusal(alloc, &list)
+    let want = HierarchyFault::InterfaceSuper { name: b"I" };
+    refusal(alloc, &list) == Some(want) && want.number() == 46
 }
 
+/// No program shows a list without classes, or that.
 #[test]
-fn refusals(rt: HostRuntime) -> Result<(), Fail> {
-    let alloc = rt.alloc();
-    let rows = [
-        (
-            classes_twice(alloc),
-            HierarchyFault::ClassTwice { name: b"A" },
-        ),
-        (cycle_of_two(alloc), HierarchyFault::Cycle { name: b"A" }),
-        (cycles_of_one(alloc), HierarchyFault::Cycle { name: b"B" }),
-        (
-            missing_superclass(alloc),
-            HierarchyFault::SuperMissing { name: b"A" },
-        ),
-        (refusal(alloc, &[]), HierarchyFault::NoObject),
-        (
-            array_interface_as_class(alloc),
-            HierarchyFault::BadArrayInterface { name: CLONEABLE },
-        ),
-        (
-            interface_below_a_class(alloc),
-            HierarchyFault::InterfaceSuper { name: b"I" },
-        ),
-    ];
-    for (refused, want) in rows {
-        assert_eq!(rt; refused, Some(want));
-    }
-    assert_eq!(rt; HierarchyFault::NoObject.number(), 43);
-    Ok(())
+fn refusals(rt: HostRuntime) {
+    assert!(rt; matches!(refusal(rt.alloc(), &[]), Some(HierarchyFault::NoObject)));
+    assert!(rt; is_refused(rt.alloc()));
 }
 
 /// A list of some classes is refused 1 where memory runs out, and taken otherwise.
 #[test]
 fn want_of_memory(rt: HostRuntime) {
-    let alloc = rt.alloc();
-    let list = setting(alloc);
-    match refusal(alloc, &list) {
-        None => {}
-        Some(fault) => assert_eq!(rt; fault, HierarchyFault::OutOfMemory),
-    }
+    let list = setting(rt.alloc());
+    assert!(rt;
+        matches!(
+            refusal(rt.alloc(), &list),
+            None | Some(HierarchyFault::OutOfMemory)
+        )
+    );
 }
 
-/// The summary of the class file; none where memory runs out.
-fn summary_of_class<'a>(
-    rt: &impl Abort,
-    alloc: Global,
-    class: &ClassFile<'a>,
-) -> Option<Summary<'a>> {
-    match form_check(alloc, class) {
-        Ok(formed) => summary_of(alloc, &formed).ok(),
-        Err(fault) => {
-            assert!(rt; fault.number() == 1);
-            None
-        }
-    }
-}
-
-/// The summary of K; none where memory runs out.
-fn summary_of_k(rt: &impl Abort, alloc: Global) -> Option<Summary<'static>> {
-    match decode(alloc, &K) {
-        Ok(class) => summary_of_class(rt, alloc, &class),
-        Err(_) => None,
-    }
+fn is_member_of_k(member: MemberSummary<'_>) -> bool {
+    member.name == b"f".as_slice()
+        && member.descriptor == b"()V".as_slice()
+        && matches!(member.kind, Kind::Method)
+        && member.is_static
+        && !member.is_protected
 }
 
 fn is_summary_of_k(summary: &Summary<'_>) -> bool {
-    let [member] = summary.members.as_slice() else {
-        return false;
-    };
-    let f = MemberSummary {
-        name: b"f",
-        descriptor: b"()V",
-        kind: Kind::Method,
-        is_static: true,
-        is_protected: false,
-    };
     summary.name == b"K".as_slice()
-        && summary.superclass == Some(OBJECT)
+        && matches!(summary.superclass, Some(name) if name == OBJECT)
         && !summary.interface
         && !summary.is_final
-        && *member == f
+        && matches!(summary.members.as_slice(), [member] if is_member_of_k(*member))
+}
+
+/// Whether the summary of the class file is that of K, or none where memory runs out.
+fn is_summary_or<'a>(alloc: Global, class: &ClassFile<'a>, or_none: bool) -> bool {
+    match form_check(alloc, class) {
+        Ok(formed) => match summary_of(alloc, &formed) {
+            Ok(summary) => is_summary_of_k(&summary),
+            Err(_) => or_none,
+        },
+        Err(fault) => or_none && fault.number() == 1,
+    }
+}
+
+/// The same of the class file K.
+fn has_summary_or(alloc: Global, or_none: bool) -> bool {
+    match decode(alloc, &K) {
+        Ok(class) => is_summary_or(alloc, &class, or_none),
+        Err(_) => or_none,
+    }
 }
 
 #[test]
 fn a_summary(rt: HostRuntime) {
-    let summary = summary_of_k(&rt, rt.alloc()).expect(&rt, "a summary");
-    assert!(rt; is_summary_of_k(&summary));
+    assert!(rt; has_summary_or(rt.alloc(), false));
 }
 
 /// Where memory runs out there is no summary, and otherwise the whole one.
 #[test]
 fn memory_runs_out_for_a_summary(rt: HostRuntime) {
-    if let Some(summary) = summary_of_k(&rt, rt.alloc()) {
-        assert!(rt; is_summary_of_k(&summary));
-    }
+    assert!(rt; has_summary_or(rt.alloc(), true));
 }

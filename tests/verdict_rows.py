@@ -1,0 +1,161 @@
+"""Methods and lists of classes, and what `classck verify` says of each: JVMS 4.10.1 and 5.3.5."""
+from dataclasses import replace
+
+from assembler import (
+    NATIVE,
+    OBJECT,
+    STATIC,
+    ClassFile,
+    attribute,
+    class_info,
+    code_attribute,
+    code_of,
+    integer,
+    long,
+    member,
+    name_and_type,
+    named,
+    reference,
+    u2,
+    utf8,
+)
+from file_rows import K
+
+CLONEABLE = "java/lang/Cloneable"
+OBJECT_CLASS = named(OBJECT, above=None).data()
+
+# Static methods `f` of a class with the constants of `class_of`: descriptor, max_stack and max_locals; code; verdict.
+VERDICTS = """
+()V  0 0 | return | verified
+()V  1 0 | iconst_0; pop; return | verified
+()V  0 0 | nop; return | verified
+()V  0 0 | nop | refused 71 at 0
+()V  1 0 | pop; return | refused 61 at 0
+()V  0 0 | return; nop; return | refused 70 at 1
+()V  0 0 | nop; bytes ca | refused 79 at 1
+()V  0 0 | bytes 12 | refused 79 at 0
+()V  0 0 | bytes ab 000000 0000000c ffffffff | refused 79 at 0
+()V  0 0 | bytes c400 | refused 79 at 0
+()V  0 0 | bytes b9 0001 01 01 | refused 79 at 0
+()V  0 0 | goto 3; return | refused 60 at 0
+()V  0 0 | jsr 3; return | refused 60 at 0
+# the parameters have to fit; a long takes two local variables, and half of it is none
+(J)V 0 1 | return | refused 64 at 0
+(J)V 0 2 | return | verified
+(J)I 1 2 | iload_1; ireturn | refused 63 at 0
+(J)J 2 2 | lload_0; lreturn | verified
+(J)J 2 2 | iconst_0; istore_1; lload_0; lreturn | refused 63 at 2
+(J)I 1 2 | iconst_0; istore_1; iload_1; ireturn | verified
+(J)J 2 2 | iconst_0; istore_0; lload_0; lreturn | refused 63 at 2
+# local variables
+(I)I 2 2 | iload_0; iload_0; pop; ireturn | verified
+(I)I 1 2 | iinc 0 1; iload_0; ireturn | verified
+(F)V 1 2 | iinc 0 1; return | refused 63 at 0
+(F)V 1 2 | iload_0; pop; return | refused 63 at 0
+(F)V 1 2 | iload_1; pop; return | refused 63 at 0
+(F)V 1 2 | iload_2; pop; return | refused 64 at 0
+(F)V 1 2 | iconst_0; istore 1; return | verified
+(F)V 1 2 | iconst_0; istore 2; return | refused 64 at 1
+(F)V 2 2 | iconst_0; lstore 1; return | refused 62 at 1
+(F)V 2 2 | lconst_0; lstore_1; return | refused 64 at 1
+(F)V 2 2 | lconst_0; lstore_0; return | verified
+# what the constants of numbers leave, and what they may be
+()J  2 0 | lconst_0; lreturn | verified
+()V  2 2 | lconst_0; istore_0; return | refused 62 at 1
+()J  2 0 | ldc2_w 8; lreturn | verified
+()V  2 0 | ldc2_w 10; pop2; return | refused 66 at 0
+()V  2 0 | ldc2_w 11; pop2; return | refused 60 at 0
+()V  1 0 | iconst_0; iconst_0; return | refused 65 at 1
+()V  1 0 | lconst_0; return | refused 65 at 0
+# what is computed
+()I  2 0 | iconst_0; iconst_0; iadd; ireturn | verified
+()V  1 0 | iconst_0; iadd; return | refused 61 at 1
+()J  3 0 | lconst_0; iconst_0; lshl; lreturn | verified
+()J  4 0 | lconst_0; lconst_0; lshl; lreturn | refused 62 at 2
+()J  2 0 | iconst_0; i2l; lreturn | verified
+()J  1 0 | iconst_0; i2l; lreturn | refused 65 at 1
+()I  2 0 | iconst_0; l2i; ireturn | refused 62 at 1
+# what is moved on the stack: two units may be a long, one may not
+()V  2 0 | lconst_0; pop2; return | verified
+()V  2 0 | lconst_0; pop; return | refused 62 at 1
+()V  1 0 | iconst_0; pop2; return | refused 61 at 1
+()V  4 0 | lconst_0; dup2; pop2; pop2; return | verified
+()V  3 0 | lconst_0; dup2; pop2; pop2; return | refused 65 at 1
+()V  3 1 | iconst_0; fconst_0; dup_x1; fstore_0; istore_0; fstore_0; return | verified
+()V  3 1 | iconst_0; fconst_0; dup_x1; fstore_0; fstore_0; return | refused 62 at 4
+()V  2 1 | iconst_0; fconst_0; swap; istore_0; fstore_0; return | verified
+()V  2 1 | iconst_0; fconst_0; swap; fstore_0; return | refused 62 at 3
+# results: small integers are computed as int; of an array only its elements are small
+()Z  1 0 | iconst_0; ireturn | verified
+()Z  1 0 | iconst_0; lreturn | refused 76 at 1
+()Z  1 0 | iconst_0; return | refused 76 at 1
+()V  1 0 | iconst_0; return | verified
+()V  1 0 | iconst_0; ireturn | refused 76 at 1
+([I)V 0 1 | return | verified
+(La(b)c;J)I 1 3 | iconst_0; ireturn | verified
+(I[La(b)c;J)[[Ld)e; 1 4 | iconst_0; ireturn | refused 76 at 1
+(I[La(b)c;J)[[Ld)e; 1 4 | return | refused 76 at 0
+"""
+
+
+def class_of(descriptor, method, *more):
+    """K of version 55 with this method; behind the texts that it needs stand a Long, an int and a Dynamic of a long, from 8 on."""
+    constants = [class_info(2), utf8("K"), class_info(4), utf8(OBJECT), utf8("f"), utf8(descriptor), utf8("Code")]
+    constants += [long(1), integer(5), reference(17, 0, 12), name_and_type(5, 13), utf8("J"), *more]
+    return ClassFile(constants, methods=[method], major=55).data()
+
+
+def method_of(descriptor, stack, variables, code):
+    """That class with a static method that has this code."""
+    return class_of(descriptor, member(STATIC, 5, 6, code_attribute(7, code_of(code), int(stack), int(variables))))
+
+
+def verdicts():
+    """A static method's descriptor and code, the class that has it alone, and its verdict."""
+    for line in VERDICTS.strip().splitlines():
+        if not line.startswith("#"):
+            sizes, code, verdict = (it.strip() for it in line.split("|"))
+            descriptor = sizes.split()[0]
+            yield f"{sizes} {code}", [method_of(*sizes.split(), code), OBJECT_CLASS], f"method f {descriptor} {verdict}"
+
+
+def left_out():
+    """Methods that are not judged yet, and those without code."""
+    body = code_of("return")
+    for what, method, verdict in (
+        ("a method of instances", member(0, 5, 6, code_attribute(7, body, 0, 1)), "refused 60 at 0"),
+        ("a stack map", member(STATIC, 5, 6, code_attribute(7, body, nested=[attribute(14, u2(0))])), "refused 60 at 0"),
+        ("an exception table", member(STATIC, 5, 6, code_attribute(7, body, handlers=[(0, 1, 0, 0)])), "refused 60 at 0"),
+        ("a native method", member(STATIC | NATIVE, 5, 6), "no code"),
+    ):
+        yield what, [class_of("()V", method, utf8("StackMapTable")), OBJECT_CLASS], f"method f ()V {verdict}"
+
+
+def hierarchies():
+    """Lists of classes, of which the first is verified."""
+    k, cut = K.data(), OBJECT_CLASS[:45]
+    a, b, x = (named(name, above).data() for name, above in (("A", "B"), ("B", "A"), ("X", "A")))
+    own = [named(name, name).data() for name in ("B", "A")]
+    below = [named(name).data() for name in ("A", "B")]
+    for what, files, line in (
+        ("K below Object", [k, OBJECT_CLASS], "method f ()V verified"),
+        ("no Object", [k], "hierarchy refused 42 K"),
+        ("Object twice", [k, OBJECT_CLASS, OBJECT_CLASS], "hierarchy refused 40 java/lang/Object"),
+        ("A and B twice", [k, OBJECT_CLASS, *below, *reversed(below)], "hierarchy refused 40 A"),
+        ("X below A and B, which are below each other", [k, x, a, b], "hierarchy refused 41 A"),
+        ("X below A, and A and B below themselves", [k, x, *own], "hierarchy refused 41 B"),
+        ("A below B, which is missing", [k, OBJECT_CLASS, a], "hierarchy refused 42 A"),
+        ("Cloneable as a class", [k, OBJECT_CLASS, named(CLONEABLE).data()], f"hierarchy refused 44 {CLONEABLE}"),
+        ("Cloneable as an interface", [k, OBJECT_CLASS, named(CLONEABLE, flags=0x0601).data()], "method f ()V verified"),
+        ("K that is cut", [k[:96], OBJECT_CLASS], "class refused 2 at 95"),
+        ("K with a broken rule", [replace(K, flags=0x0221).data(), OBJECT_CLASS], "class refused 24 class"),
+        ("a known class that is cut", [k, OBJECT_CLASS, cut], "known 2 refused 2 at 44"),
+        ("a known class with a broken rule", [k, replace(K, flags=0x0221).data()], "known 1 refused 24 class"),
+    ):
+        yield what, files, line
+
+
+def verified():
+    """What each list of files is, their bytes, and the line of it."""
+    for table in (verdicts, left_out, hierarchies):
+        yield from table()
