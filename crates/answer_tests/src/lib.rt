@@ -3,18 +3,12 @@
 //! | File | What it tests |
 //! |---|---|
 //! | `files` | what each command answers of files, read or not |
-//! | `code` | a method's code: what `show` and `verify` say of it |
 //! | `lines` | what a line asks for, and what the program complains of |
-//! | `making` | what the first two stand on |
 //!
 //! A test with `memory` in its name passes also where any one allocation fails; `tests/allocations` runs those so.
 #![tactic(auto)]
 
 #[cfg(test)]
-mod code;
-#[cfg(test)]
 mod files;
 #[cfg(test)]
 mod lines;
-#[cfg(test)]
-mod making;

@@ -2,35 +2,51 @@
 use answers::Command;
 use clap::error::ErrorKind;
 use command_line::{LineFault, MainFault, complaint, request};
+use std::alloc::Global;
 use std::test::*;
 
-#[test]
-fn a_line(rt: HostRuntime) -> Result<(), Fail> {
-    let words = ["classck", "check", "--", "-a"];
-    let asked = request(rt.alloc(), &words).expect(&rt, "a request");
-    assert_eq!(rt; asked.files.len(), 1);
-    assert_eq!(rt; asked.files[0].as_str(), "-a");
-    Ok(())
+/// Whether the words ask for this, of so many files, of which the last is named so.
+fn asks(alloc: Global, words: &[&str], command: Command, files: usize, last: &str) -> bool {
+    match request(alloc, words) {
+        Ok(asked) => {
+            asked.command == command
+                && asked.files.len() == files
+                && matches!(asked.files.as_slice(), [.., file] if file.as_str() == last)
+        }
+        Err(_) => false,
+    }
 }
 
-#[test]
-fn no_line(rt: HostRuntime) {
-    let words = ["classck", "check"];
-    match request(rt.alloc(), &words) {
-        Err(LineFault::NoRequest(error)) => {
-            assert!(rt; error.kind() == ErrorKind::MissingRequiredArgument)
-        }
-        _ => panic!(rt; "a request"),
+/// Whether the words ask for nothing, since one is missing.
+fn misses(alloc: Global, words: &[&str]) -> bool {
+    match request(alloc, words) {
+        Err(LineFault::NoRequest(error)) => error.kind() == ErrorKind::MissingRequiredArgument,
+        _ => false,
     }
 }
 
 #[test]
-fn a_line_of_known_classes(rt: HostRuntime) {
-    let words = ["classck", "verify", "K", "O", "P"];
-    let asked = request(rt.alloc(), &words).expect(&rt, "a request");
+fn lines(rt: HostRuntime) {
+    let alloc = rt.alloc();
     assert!(rt;
-        asked.command == Command::Verify && asked.files.len() == 3 && asked.files[2].as_str() == "P"
+        asks(
+            alloc,
+            &["classck", "check", "--", "-a"],
+            Command::Check,
+            1,
+            "-a"
+        )
     );
+    assert!(rt;
+        asks(
+            alloc,
+            &["classck", "verify", "K", "O", "P"],
+            Command::Verify,
+            3,
+            "P"
+        )
+    );
+    assert!(rt; misses(alloc, &["classck", "check"]));
 }
 
 /// Each complaint, in the order of the enum.
@@ -43,7 +59,7 @@ fn complaints(rt: HostRuntime) {
         MainFault::Memory,
         MainFault::NotWritten,
     ] {
-        complaint(&fault, &mut out).expect(&rt, "a line");
+        assert!(rt; complaint(&fault, &mut out).is_ok());
     }
     assert!(rt;
         out.as_slice()
@@ -52,11 +68,14 @@ fn complaints(rt: HostRuntime) {
 }
 
 /// Where memory runs out a line is refused 1, and otherwise read as ever.
+fn is_read_or_memory(alloc: Global) -> bool {
+    match request(alloc, &["classck", "check", "a"]) {
+        Ok(asked) => asked.files.len() == 1,
+        Err(fault) => matches!(fault, LineFault::OutOfMemory),
+    }
+}
+
 #[test]
 fn memory_runs_out_for_a_line(rt: HostRuntime) {
-    let words = ["classck", "check", "a"];
-    match request(rt.alloc(), &words) {
-        Ok(asked) => assert_eq!(rt; asked.files.len(), 1),
-        Err(fault) => assert!(rt; matches!(fault, LineFault::OutOfMemory)),
-    }
+    assert!(rt; is_read_or_memory(rt.alloc()));
 }
