@@ -4,7 +4,8 @@ use classfile::{ClassFile, Formed, decode, form_check};
 use frames::{Frame, VType};
 use hierarchy::{Chains, Classes};
 use insn::{Insn, decode_code};
-use rules::{After, Branches, Env, apply, body_is_told, branches, falls};
+use layout::MAX_CODE_BYTES;
+use rules::{After, Branches, Env, apply, branches, falls};
 use std::alloc::{AllocError, Global};
 use std::test::*;
 
@@ -33,16 +34,23 @@ fn frame<'a>(alloc: Global, stack: &[VType<'a>], flag: bool) -> Result<Frame<'a>
     })
 }
 
+/// The same class file with this byte as the method's code.
+fn with(code: u8) -> [u8; 102] {
+    let mut bytes = INIT;
+    bytes[95] = code;
+    bytes
+}
+
 /// What the rule says of the first instruction.
 fn apply_first<'a, C: Classes>(
     alloc: Global,
     env: &Env<'_, '_, 'a, C>,
     frame: &Frame<'a>,
 ) -> Judged<'a> {
-    let [(_, first), ..] = env.body.list else {
+    let [(_, first), ..] = env.list else {
         return Err(0);
     };
-    if frame.locals.len() != usize::from(env.body.method.code.max_locals) {
+    if frame.locals.len() != usize::from(env.method.code.max_locals) {
         return Err(0);
     }
     match apply(alloc, env, 0, first, frame) {
@@ -51,56 +59,54 @@ fn apply_first<'a, C: Classes>(
     }
 }
 
-/// The same in the class's one method, and whether that is told as it is.
+/// The same in the class's first method, where these are the classes.
 fn judge_among<'a, C: Classes>(
     alloc: Global,
     formed: &Formed<'_, 'a>,
-    list: &[(u16, Insn<'a>)],
     classes: &C,
     frame: &Frame<'a>,
 ) -> Judged<'a> {
-    if formed.class().methods.len() != 1 {
+    if formed.class().methods.is_empty() {
         return Err(0);
     }
-    if formed.class().methods[0].code().is_none() {
+    let Some(method) = formed.method(0) else {
+        return Err(0);
+    };
+    if method.code.code.len() > MAX_CODE_BYTES {
         return Err(0);
     }
-    let env = Env::new(formed, 0, list, classes);
-    body_is_told(&env.body);
-    apply_first(alloc, &env, frame)
-}
-
-/// The same, where `java/lang/Object` is the one class.
-fn judge_of<'a>(
-    alloc: Global,
-    formed: &Formed<'_, 'a>,
-    list: &[(u16, Insn<'a>)],
-    frame: &Frame<'a>,
-) -> Judged<'a> {
-    let alone = [object(alloc)];
-    match Chains::new(alloc, &alone, hasher()) {
-        Ok(classes) => judge_among(alloc, formed, list, &classes, frame),
+    match decode_code(alloc, method.code.code) {
+        Ok(list) => apply_first(alloc, &Env::new(formed, 0, &list, classes), frame),
         Err(_) => Err(OUT_OF_MEMORY),
     }
 }
 
-/// The same, of the first instruction of this code.
-fn judge_code<'a>(
-    alloc: Global,
-    class: &ClassFile<'a>,
-    code: &'a [u8; 1],
-    frame: &Frame<'a>,
-) -> Judged<'a> {
-    match (form_check(alloc, class), decode_code(alloc, code)) {
-        (Ok(formed), Ok(list)) => judge_of(alloc, &formed, &list, frame),
-        _ => Err(OUT_OF_MEMORY),
+/// The same, where `java/lang/Object` is the one class.
+fn judge_of<'a>(alloc: Global, formed: &Formed<'_, 'a>, frame: &Frame<'a>) -> Judged<'a> {
+    let alone = [object(alloc)];
+    match Chains::new(alloc, &alone, hasher()) {
+        Ok(classes) => judge_among(alloc, formed, &classes, frame),
+        Err(_) => Err(OUT_OF_MEMORY),
     }
 }
 
-/// What the rule says of this instruction in `<init>`, before which these types stand on the stack.
-fn judge<'a>(alloc: Global, code: &'a [u8; 1], stack: &[VType<'a>], flag: bool) -> Judged<'a> {
-    match (decode(alloc, &INIT), frame(alloc, stack, flag)) {
-        (Ok(class), Ok(before)) => judge_code(alloc, &class, code, &before),
+/// The same of a class file.
+fn judge_class<'a>(alloc: Global, class: &ClassFile<'a>, frame: &Frame<'a>) -> Judged<'a> {
+    match form_check(alloc, class) {
+        Ok(formed) => judge_of(alloc, &formed, frame),
+        Err(_) => Err(OUT_OF_MEMORY),
+    }
+}
+
+/// What the rule says of the instruction in `<init>` of this class file, before which these types stand on the stack.
+fn judge<'a>(
+    alloc: Global,
+    bytes: &'a [u8; 102],
+    stack: &[VType<'a>],
+    flag: bool,
+) -> Judged<'a> {
+    match (decode(alloc, bytes), frame(alloc, stack, flag)) {
+        (Ok(class), Ok(before)) => judge_class(alloc, &class, &before),
         _ => Err(OUT_OF_MEMORY),
     }
 }
@@ -111,7 +117,6 @@ fn leaves(judged: Judged<'_>, stack: &[VType<'_>]) -> bool {
         Ok(after) => {
             after.falls
                 && !after.own
-                && matches!(after.branches, Branches::Nowhere)
                 && after.frame.stack.as_slice() == stack
         }
         Err(_) => false,
@@ -121,16 +126,17 @@ fn leaves(judged: Judged<'_>, stack: &[VType<'_>]) -> bool {
 #[test]
 fn stacks(rt: HostRuntime) {
     let alloc = rt.alloc();
-    let swapped = judge(alloc, &[0x5F], &[VType::Int, VType::Null], false);
+    let (swap, dup_x1, iadd) = (with(0x5F), with(0x5A), with(0x60));
+    let swapped = judge(alloc, &swap, &[VType::Int, VType::Null], false);
     assert!(rt; leaves(swapped, &[VType::Null, VType::Int]));
-    let moved = judge(alloc, &[0x5A], &[VType::Null, VType::Float], false);
+    let moved = judge(alloc, &dup_x1, &[VType::Null, VType::Float], false);
     assert!(rt; leaves(moved, &[VType::Float, VType::Null, VType::Float]));
-    assert!(rt; matches!(judge(alloc, &[0x60], &[VType::Int], false), Err(61)));
+    assert!(rt; matches!(judge(alloc, &iadd, &[VType::Int], false), Err(61)));
 }
 
 /// Whether a `return` is taken, and does not go on; otherwise the number of the reason.
 fn ends(alloc: Global, flag: bool) -> Result<bool, u8> {
-    let after = judge(alloc, &[0xB1], &[], flag)?;
+    let after = judge(alloc, &INIT, &[], flag)?;
     Ok(!after.falls)
 }
 
@@ -169,19 +175,11 @@ fn ways(rt: HostRuntime) {
 /// With memory enough no instruction is answered that it ran out, whatever else.
 #[test]
 fn each_rule_answers(rt: HostRuntime) {
-    for code in [
-        [0x00],
-        [0x03],
-        [0x09],
-        [0x1B],
-        [0x57],
-        [0x5C],
-        [0x79],
-        [0xAC],
-    ] {
+    for code in [0x00, 0x03, 0x09, 0x1B, 0x57, 0x5C, 0x79, 0xAC] {
+        let bytes = with(code);
         assert!(rt;
             !matches!(
-                judge(rt.alloc(), &code, &[VType::Int], false),
+                judge(rt.alloc(), &bytes, &[VType::Int], false),
                 Err(OUT_OF_MEMORY)
             )
         );
@@ -189,7 +187,8 @@ fn each_rule_answers(rt: HostRuntime) {
 }
 
 fn is_judged_or_memory(alloc: Global) -> bool {
-    match judge(alloc, &[0x03], &[], false) {
+    let iconst_0 = with(0x03);
+    match judge(alloc, &iconst_0, &[], false) {
         Ok(after) => after.frame.stack.len() == 1,
         Err(number) => number == OUT_OF_MEMORY,
     }

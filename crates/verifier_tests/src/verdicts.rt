@@ -6,7 +6,7 @@ use std::alloc::{AllocError, Global};
 use std::test::*;
 use test_classes::K;
 use verify::{
-    ClassRefusal, MethodVerdict, Verdict, VerifyFault, map_refused_where, none_is_replaced,
+    ClassFault, MethodVerdict, Report, Verdict, VerifyFault, map_refused_where, none_is_replaced,
     one_report, one_verdict, refused_where, type_safe_is_safe, type_safe_is_verified,
     verified_is_type_safe, verify_class, verify_method,
 };
@@ -76,7 +76,7 @@ fn report_among<'a>(
     alloc: Global,
     bytes: &'a [u8],
     formed: &Formed<'_, '_>,
-) -> Result<Vec<MethodVerdict<'a>>, AllocError> {
+) -> Result<Report<'a>, AllocError> {
     let list = [object(alloc), summary_of(alloc, formed)?];
     let Ok(classes) = Chains::new(alloc, &list, hasher()) else {
         return Err(AllocError);
@@ -88,7 +88,7 @@ fn report_among<'a>(
 }
 
 /// The same, where they are a class.
-fn report<'a>(alloc: Global, bytes: &'a [u8]) -> Result<Vec<MethodVerdict<'a>>, AllocError> {
+fn report<'a>(alloc: Global, bytes: &'a [u8]) -> Result<Report<'a>, AllocError> {
     let Ok(class) = decode(alloc, bytes) else {
         return Err(AllocError);
     };
@@ -107,7 +107,7 @@ fn is_verdict_of_k(verdict: &MethodVerdict<'_>) -> bool {
 /// Whether the report is that of K, or there is none where memory runs out.
 fn is_report_or(alloc: Global, or_none: bool) -> bool {
     match report(alloc, &K) {
-        Ok(report) => matches!(report.as_slice(), [verdict] if is_verdict_of_k(verdict)),
+        Ok(report) => matches!(report.methods.as_slice(), [verdict] if is_verdict_of_k(verdict)),
         Err(_) => or_none,
     }
 }
@@ -129,7 +129,7 @@ fn is_unlisted(alloc: Global, bytes: &[u8]) -> bool {
     match Chains::new(alloc, &list, hasher()) {
         Ok(classes) => matches!(
             verify_class(alloc, bytes, &classes),
-            Err(ClassRefusal::NotInHierarchy)
+            Err(ClassFault::NotInHierarchy)
         ),
         Err(_) => false,
     }
