@@ -14,7 +14,11 @@ use verify::{Report, Verdict, verify_methods};
 /// The file of this number, empty where there is none.
 fn file<'a>(bytes: &'a [u8], ends: &[u32], number: usize) -> &'a [u8] {
     let end = end(ends, number);
-    let start = if number == 0 { 0 } else { end_before(ends, number) };
+    let start = if number == 0 {
+        0
+    } else {
+        end_before(ends, number)
+    };
     bytes.get(start..end).unwrap_or(&[])
 }
 

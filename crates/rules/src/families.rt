@@ -129,7 +129,10 @@ pub fn returns<'a>(method: &CodeMethod<'_, 'a>, frame: &mut Working<'a>) -> Resu
 }
 
 /// A return without a value.
-pub fn return_nothing<'a>(method: &CodeMethod<'_, 'a>, frame: &mut Working<'a>) -> Result<(), Reason<'a>>
+pub fn return_nothing<'a>(
+    method: &CodeMethod<'_, 'a>,
+    frame: &mut Working<'a>,
+) -> Result<(), Reason<'a>>
     ensures { (classes : List ClassFact) → let m = method_view method.now in let f = held frame.old in
         let p = return_nothing m.type.result in
         Done (conditions classes m 0 p f) (after m 0 p f) (held frame.new) result }

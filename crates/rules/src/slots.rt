@@ -46,11 +46,7 @@ pub fn store<'a>(t: VType<'a>, place: usize, locals: &mut [VType<'a>])
 }
 
 /// Makes the locals reach this place, with top.
-pub fn reach<'a>(
-    place: usize,
-    limit: usize,
-    locals: &mut Vec<VType<'a>>,
-) -> Result<(), AllocError>
+pub fn reach<'a>(place: usize, limit: usize, locals: &mut Vec<VType<'a>>) -> Result<(), AllocError>
     requires { place < limit }
     ensures all { OnOk result (locals.new.items ≡ locals.old.items ++ replicate (place + 1 - length locals.old.items) Top) }
     ensures err { OnErr result (locals.new.items ≡ locals.old.items) }

@@ -22,7 +22,6 @@ use frames::VType;
 use hierarchy::Answer;
 use insn::{StackForm, StackOperator, StackPlace};
 
-
 fn is_narrow(t: &VType<'_>) -> bool
     ensures { result ≡ is_narrow (type_of t.now) }
 {

@@ -99,12 +99,7 @@ fn judge_class<'a>(alloc: Global, class: &ClassFile<'a>, frame: &Frame<'a>) -> J
 }
 
 /// What the rule says of the instruction in `<init>` of this class file, before which these types stand on the stack.
-fn judge<'a>(
-    alloc: Global,
-    bytes: &'a [u8; 102],
-    stack: &[VType<'a>],
-    flag: bool,
-) -> Judged<'a> {
+fn judge<'a>(alloc: Global, bytes: &'a [u8; 102], stack: &[VType<'a>], flag: bool) -> Judged<'a> {
     match (decode(alloc, bytes), frame(alloc, stack, flag)) {
         (Ok(class), Ok(before)) => judge_class(alloc, &class, &before),
         _ => Err(OUT_OF_MEMORY),
@@ -114,11 +109,7 @@ fn judge<'a>(
 /// Whether these types then stand on the stack, and it goes on.
 fn leaves(judged: Judged<'_>, stack: &[VType<'_>]) -> bool {
     match judged {
-        Ok(after) => {
-            after.falls
-                && !after.own
-                && after.frame.stack.as_slice() == stack
-        }
+        Ok(after) => { after.falls && !after.own && after.frame.stack.as_slice() == stack }
         Err(_) => false,
     }
 }

@@ -108,8 +108,7 @@ module _ (classes : List ClassFact) (c : Class) (number : ℕ) where
       decoded_begins v.body.code v.instructions v.spelled (some_code c formed number v.body v.has_code) in
       let safe : IsTypeSafe classes v.method =
       none_is_replaced classes v.method (verified_is_type_safe plan_yet classes v.method (subst (StartsRise 0) (sym code) rise) (subst (λ z. IsStart z 0) (sym code) begins) v.told) in
-      let x = has_code c number v.body v.has_code in
-      (
+      let x = has_code c number v.body v.has_code in (
         v.method,
         record {
           member = x.member;

@@ -7,7 +7,7 @@ use Rattle.classfile.specs.declared.class_file.ClassFile.{ClassFile}
 use Rattle.classfile.specs.Views.{class_view}
 use Rattle.verify.specs.declared.files.FileFault.{FileFault}
 use Rattle.verify.specs.declared.files.FileFault.TheVariants.{OutOfMemory, Unread, NoClass, Malformed}
-use Rattle.verify.specs.Files.{Read, IsDecoded, IsFormed, IsRefused, OrMemory, AreFormed}
+use Rattle.verify.specs.Files.{Read, IsDecoded, IsFormed, OrMemory, AreFormed}
 use Rattle.verify.specs.FileSteps.{Forms}
 use Rattle.hierarchy.specs.Class.{ClassFact}
 use Rattle.hierarchy.specs.Rules.{IsHierarchy}

@@ -26,7 +26,7 @@ use Rattle.rules.specs.Ways.{goes_on as act_goes_on}
 use Rattle.rules.specs.Reasons.{reason_view}
 use Rattle.rules.specs.declared.reason.Reason.{Reason as RuleReason}
 use Rattle.rules.specs.declared.reason.Reason.TheVariants.{OutOfMemory}
-use Rattle.verify.specs.Verdict.{Verdict, verified, refused, refused_or, at_conditions, entry, arrives, passes}
+use Rattle.verify.specs.Verdict.{Verdict, refused, refused_or, at_conditions, entry, arrives, passes}
 use Rattle.verify.specs.Steps.{Enters}
 use Rattle.verify.proofs.Merging.{rule_none}
 use Rattle.verify.proofs.Ends.{ways, goes_right}
@@ -168,8 +168,7 @@ pub step_within : {X : Type 0} (view : X → ℕ × Instruction) (old new : Plac
     → StepsThrough view old (Some step) new → step ≡ Ok x → (old.at ≡ (view x).0) × (new.at + length new.rest ≡ old.at + length old.rest) × (length new.rest < length old.rest)
 step_within view old new step x s is =
     let (here, first, spelled, took) = subst (λ r. StepsThrough view old (Some r) new) is s in
-    let some = has_bytes old.at first (Ok (view x).1) spelled in
-    (
+    let some = has_bytes old.at first (Ok (view x).1) spelled in (
       sym here,
       omega (arith, took.at, ap length took.parts, length-append first new.rest),
       omega (arith, some, ap length took.parts, length-append first new.rest),

@@ -1,5 +1,5 @@
 -- Words of the code's own steps from classes to verdicts: nothing that a reader must believe rests on them.
-use Rattle.std.specs.Prelude.{◌≡◌, ◌≢◌, ℕ, ◌+◌, List, [], ◌∷◌, ◌++◌, map, Result, Ok, Err}
+use Rattle.std.specs.Prelude.{◌≡◌, ◌≢◌, ℕ, ◌+◌, List, ◌∷◌, ◌++◌, map, Result, Ok, Err}
 use Rattle.classfile.specs.Values.{Class}
 use Rattle.hierarchy.specs.Class.{ClassFact}
 use Rattle.hierarchy.specs.declared.fault.HierarchyFault.TheVariants as hierarchies

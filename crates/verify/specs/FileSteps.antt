@@ -1,6 +1,5 @@
 -- Words of the code's own steps from a file to a class: nothing that a reader must believe rests on them.
-use Rattle.std.specs.Prelude.{◌≡◌, ℕ, List, Result, Ok, Err}
-use Rattle.layout.specs.declared.fault.ReadFault.{ReadFault}
+use Rattle.std.specs.Prelude.{◌≡◌, Result, Ok, Err}
 use Rattle.classfile.specs.declared.class_file.ClassFile.{ClassFile}
 use Rattle.classfile.specs.declared.form.Formed.{Formed}
 use Rattle.classfile.specs.Values.{Class}

@@ -43,10 +43,7 @@ fn decoded<'a>(alloc: Global, bytes: &'a [u8]) -> Result<ClassFile<'a>, FileFaul
 }
 
 /// The class file that a file is, which was read so.
-pub fn class_in<'a>(
-    alloc: Global,
-    read: FileRead<'a>,
-) -> Result<ClassFile<'a>, FileFault>
+pub fn class_in<'a>(alloc: Global, read: FileRead<'a>) -> Result<ClassFile<'a>, FileFault>
     ensures { MatchResult result (λ c. IsDecoded (read_of read.entry) (class_view c)) (OrMemory (read_of read.entry)) }
 {
     match read {
@@ -56,10 +53,7 @@ pub fn class_in<'a>(
 }
 
 /// The class file as one that is well formed, as [`form_check`] answers it.
-pub fn formed<'c, 'a>(
-    alloc: Global,
-    class: &'c ClassFile<'a>,
-) -> Result<Formed<'c, 'a>, FileFault>
+pub fn formed<'c, 'a>(alloc: Global, class: &'c ClassFile<'a>) -> Result<Formed<'c, 'a>, FileFault>
     ensures { Forms class.now result }
 {
     match form_check(alloc, class) {
@@ -71,10 +65,7 @@ pub fn formed<'c, 'a>(
 
 /// The class file that a file is, which was read so and is well formed; or why it is none, by the first of these: it could not be read;
 /// what [`decode`] refuses (2, 3, 7, 10 to 14, 16); what [`form_check`] refuses (20 to 30). 1 where memory ran out.
-pub fn class_file<'a>(
-    alloc: Global,
-    read: FileRead<'a>,
-) -> Result<ClassFile<'a>, FileFault>
+pub fn class_file<'a>(alloc: Global, read: FileRead<'a>) -> Result<ClassFile<'a>, FileFault>
     ensures { MatchResult result (λ c. IsFormed (read_of read.entry) (class_view c)) (OrMemory (read_of read.entry)) }
 {
     let class = class_in(alloc, read)?;
@@ -83,10 +74,7 @@ pub fn class_file<'a>(
 }
 
 /// The summary of the class that a file is, which was read so; or why it is no class that is well formed.
-pub fn summary_in<'a>(
-    alloc: Global,
-    read: FileRead<'a>,
-) -> Result<Summary<'a>, FileFault>
+pub fn summary_in<'a>(alloc: Global, read: FileRead<'a>) -> Result<Summary<'a>, FileFault>
     ensures { Summarises (read_of read.entry) result }
 {
     let class = class_in(alloc, read)?;

@@ -1,4 +1,4 @@
-use Rattle.std.proofs.Common.{◌∙◌, subst}
+use Rattle.std.proofs.Common.{subst}
 use Rattle.classfile.specs.Views.{class_view}
 use Rattle.verify.specs.Files.{IsFormed, OrMemory}
 use Rattle.answers.specs.Answers.{CheckTells}

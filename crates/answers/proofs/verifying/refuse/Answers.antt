@@ -1,5 +1,4 @@
-use Rattle.std.proofs.Common.{◌≡◌, ◌≢◌, ◌∙◌, ◌+◌, inl, inr, Err, ap, sym, subst}
-use Rattle.hierarchy.specs.declared.fault.HierarchyFault.TheVariants.{OutOfMemory}
+use Rattle.std.proofs.Common.{◌≡◌, ◌∙◌, inl, inr, Err, ap, subst}
 use Rattle.verify.specs.declared.among.AmongFault.TheVariants.{KnownRefused, NoHierarchy}
 use Rattle.verify.specs.Among.{ReportsAmong}
 use Rattle.answers.specs.Verdicts.{known_refusal, hierarchy_refusal, VerifySays}

@@ -1,7 +1,7 @@
 use Rattle.std.proofs.Common.{◌≡◌, ◌∙◌, ◌++◌, ◌∷◌, [], map, ap}
 use Rattle.classfile.specs.Views.{class_view}
 use Rattle.hierarchy.specs.ClassSummary.{summary_of}
-use Rattle.hierarchy.specs.Summary.{fact_of, facts_of}
+use Rattle.hierarchy.specs.Summary.{facts_of}
 use Rattle.verify.specs.Files.{read_of}
 use Rattle.verify.proofs.Formed.{reports_formed}
 use Rattle.verify.proofs.among.report_formed.Goals as goal
@@ -23,5 +23,5 @@ returns g c =
     let (cs, all, more) = c.in_ok-add_known.ensures in
     let facts : facts_of c.deref.result.now ≡ map summary_of (class ∷ cs) =
     ap facts_of c.deref.ensures.value ∙ more
-        ∙ ap (λ fs. fs ++ map summary_of cs) (ap facts_of c.in_ok-push.ensures.items ∙ ap (λ xs. facts_of (xs ++ s ∷ [])) c.in_ok-summaries.ensures.items ∙ ap (λ f. f ∷ []) c.in_ok-summary_of.ensures) in
+    ∙ ap (λ fs. fs ++ map summary_of cs) (ap facts_of c.in_ok-push.ensures.items ∙ ap (λ xs. facts_of (xs ++ s ∷ [])) c.in_ok-summaries.ensures.items ∙ ap (λ f. f ∷ []) c.in_ok-summary_of.ensures) in
     reports_formed class (map read_of c.args.known.now) cs (facts_of c.deref.result.now) c.report_in.result all facts c.report_in.ensures
