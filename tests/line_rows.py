@@ -1,0 +1,26 @@
+"""Command lines, and what the program says of each: its texts are those of docs/REFUSALS.md and the README, and for a wrong line
+the first that `clap` has."""
+from assembler import named
+from file_rows import K
+from verdict_rows import OBJECT_CLASS
+
+# The files that stand in the folder in which the program runs.
+FILES = {"K": K.data(), "O": OBJECT_CLASS, "A": named("A").data(), "-a": K.data()}
+MISSING = "error: the following required arguments were not provided:"
+
+# The words behind the program's name, the first line that is printed, and the status.
+LINES = [
+    ("check K", "ok", 0),
+    ("check -- -a", "ok", 0),
+    ("verify K O A", "method f ()V verified", 0),
+    ("verify K A", "hierarchy refused 42 K", 1),
+    ("check missing", "file 1 cannot be opened", 2),
+    ("verify K O missing A", "file 3 cannot be opened", 2),
+    # a folder is opened, and not read
+    ("check .", "refused 15 at 0", 2),
+    ("check", MISSING, 2),
+    ("verify", MISSING, 2),
+    ("", "error: 'classck' requires a subcommand but one was not provided", 2),
+    ("check K O", "error: unexpected argument 'O' found", 2),
+    ("judge K", "error: unrecognized subcommand 'judge'", 2),
+]
