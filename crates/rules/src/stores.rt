@@ -16,7 +16,6 @@ use crate::reason::Reason;
 use crate::want::Want;
 use crate::working::Working;
 use classfile::CodeMethod;
-use frames::VType;
 use hierarchy::{Answer, Classes};
 
 /// The top of the stack to a local variable.

@@ -10,7 +10,6 @@ ghost use Rattle.verify.specs.declared.among.AmongFault.TheVariants.{OutOfMemory
 
 use crate::files::{FileFault, FileRead, class_in, formed, summary_in};
 use crate::report::{Report, report_listed};
-use crate::verdict::VerifyFault;
 use classfile::Formed;
 use hierarchy::{Chains, HierarchyFault, Summary, summary_of};
 use std::alloc::{AllocError, AllocFailed, Global};
