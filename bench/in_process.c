@@ -73,10 +73,9 @@ int main(void) {
     Verdicts verdicts = {0, 0, 0, 0};
     in_process_verify(bytes, length, ends, count, &verdicts);
     t[5] = now();
-    double form = t[2] - t[1];
     printf("%zu %zu %u %u %u\n", count, length, decoded, formed, listed);
     printf("%llu %llu %llu %llu %llu\n", (unsigned long long)instructions, (unsigned long long)verdicts.verified,
            (unsigned long long)verdicts.no_code, (unsigned long long)verdicts.not_supported, (unsigned long long)verdicts.refused);
-    printf("%f %f %f %f %f\n", t[1] - t[0], form, t[3] - t[2], t[4] - t[3], t[5] - t[4] - (t[4] - t[3]) - form);
+    printf("%f %f %f %f %f\n", t[1] - t[0], t[2] - t[1], t[3] - t[2], t[4] - t[3], t[5] - t[4]);
     return 0;
 }
