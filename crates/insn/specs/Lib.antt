@@ -15,3 +15,4 @@ pub mod Offsets
 pub mod Stacks
 pub mod Supported
 pub mod Switches
+pub mod Branching

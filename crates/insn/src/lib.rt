@@ -6,6 +6,7 @@
 //! [`decode_code`] and [`encode_code`]; [`Instructions`] reads one after the other and takes no memory,
 //! and [`act`] tells what an instruction means without its form.
 //!
+//! - `branching`: where an instruction branches to
 //! - `code_array`: a method's code, one instruction after the other
 //! - `decoding`: all of a method's code
 //! - `encoding`: code from its instructions
@@ -22,6 +23,7 @@
 //! - `writing`: one instruction, written
 #![tactic(auto)]
 
+mod branching;
 mod code_array;
 mod decoding;
 mod encoding;
@@ -37,6 +39,7 @@ mod switch;
 mod table;
 mod writing;
 
+pub use branching::{BranchTargets, Branches};
 pub use code_array::Instructions;
 pub use decoding::{count_instructions, decode_code};
 pub use encoding::encode_code;

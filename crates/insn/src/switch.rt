@@ -112,7 +112,7 @@ impl<'a> Targets<'a> {
 }
 
 /// The offsets of a switch, one by one.
-#[derive(Drop)]
+#[derive(Clone, Copy, Debug)]
 pub struct Offsets<'a> {
     targets: Targets<'a>,
 }

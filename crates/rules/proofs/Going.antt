@@ -20,8 +20,9 @@ use Rattle.rules.specs.Rules.{conditions, constructs_own}
 use Rattle.insn.specs.Supported.{as_supported}
 use Rattle.rules.specs.Ways.{goes_on, branch_offsets}
 use Rattle.rules.specs.After.{after}
-use Rattle.rules.specs.Applied.{Applied, targets_of}
-use Rattle.rules.specs.declared.branching.BranchTargets.{BranchTargets}
+use Rattle.rules.specs.Applied.{Applied}
+use Rattle.insn.specs.Branching.{targets_of}
+use Rattle.insn.specs.declared.branching.BranchTargets.{BranchTargets}
 use Rattle.insn.specs.Offsets.{led_to}
 
 -- the plan goes where the act says
@@ -81,12 +82,12 @@ module _ (cs : List ClassFact) (m : Method Act) (at : ℕ) (f : FrameFact) where
   goes (acts.LoadConstant i) e = cc
   goes (acts.LoadReference n) e = cc
   goes (acts.StoreReference n) e = cc
-  goes (acts.IfInt offset) e = cc
-  goes (acts.IfInts offset) e = cc
-  goes (acts.IfReferences offset) e = cc
-  goes (acts.IfNull offset) e = cc
-  goes (acts.Goto offset) e = cc
-  goes (acts.Switch default offsets) e = cc
+  goes (acts.IfInt offset) e = same (acts.IfInt offset) (plan m (as_supported (acts.IfInt offset))) refl refl
+  goes (acts.IfInts offset) e = same (acts.IfInts offset) (plan m (as_supported (acts.IfInts offset))) refl refl
+  goes (acts.IfReferences offset) e = same (acts.IfReferences offset) (plan m (as_supported (acts.IfReferences offset))) refl refl
+  goes (acts.IfNull offset) e = same (acts.IfNull offset) (plan m (as_supported (acts.IfNull offset))) refl refl
+  goes (acts.Goto offset) e = same (acts.Goto offset) (plan m (as_supported (acts.Goto offset))) refl refl
+  goes (acts.Switch default offsets) e = same (acts.Switch default offsets) (plan m (as_supported (acts.Switch default offsets))) refl refl
   goes acts.ReturnReference e = cc
   goes (acts.GetStatic i) e = cc
   goes (acts.PutStatic i) e = cc

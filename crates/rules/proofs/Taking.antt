@@ -5,7 +5,6 @@ use Rattle.std.proofs.lemmas.List.{drop_more, drop_all, map-append, reverse-appe
 use Rattle.std.proofs.lemmas.Bool.{cases_lt, false≢true}
 use Rattle.hierarchy.specs.Class.{ClassFact}
 use Rattle.hierarchy.specs.Answer.{Outcome, yes, no, missing}
-use Rattle.insn.specs.declared.operation.Kind.{Kind}
 use Rattle.insn.specs.Stacks.{beneath}
 use Rattle.frames.specs.declared.vtype.VType.{VType}
 use Rattle.frames.specs.VerificationType.{VerificationType, type_of}
@@ -13,7 +12,7 @@ use Rattle.frames.specs.FrameAssignable.{both}
 use Rattle.frames.specs.Slots.{units_of}
 use Rattle.frames.specs.FrameFact.{FrameFact}
 use Rattle.rules.specs.After.{with_stack}
-use Rattle.rules.specs.Plans.{Want, number, numbers}
+use Rattle.rules.specs.Plans.{Want}
 use Rattle.rules.specs.Rules.{is_short, operands, accepts}
 use Rattle.rules.specs.Outcomes.{Took, TookOff, pushed}
 use Rattle.rules.specs.Views.{stack_of}
@@ -45,25 +44,27 @@ pub record Rest (cs : List ClassFact) (wants : List Want) (ts : List Verificatio
 pub rest_more : (cs : List ClassFact) (wants : List Want) (ts : List VerificationType) (a : Outcome) (w : Want) (ws : List Want) (t : VerificationType) (us : List VerificationType) → Rest cs wants ts a (w ∷ ws) (t ∷ us) → Rest cs wants ts (both a (accepts cs w t)) ws us
 rest_more cs wants ts a w ws t us r = record { short_is = r.short_is; left_is = r.left_is; answer_is = r.answer_is ∙ sym (both_together a (accepts cs w t) (operands cs ws us)) }
 
-module _ (cs : List ClassFact) (kinds : List Kind) (i : ℕ) (d : Kind) (wants : List Want) (ts : List VerificationType) (a : Outcome) where
-  pub rest_step : (b : Outcome) (was now : List VerificationType) (t : VerificationType) → i < length kinds → was ≡ t ∷ now → b ≡ both a (accepts cs (number (get_or kinds i d)) t) → Rest cs wants ts a (numbers (drop i kinds)) was → Rest cs wants ts b (numbers (drop (i + 1) kinds)) now
+module _ {A : Type 0} (asked : A → Want) (cs : List ClassFact) (all : List A) (i : ℕ) (d : A) (wants : List Want) (ts : List VerificationType) (a : Outcome) where
+  pub rest_step : (b : Outcome) (was now : List VerificationType) (t : VerificationType) → i < length all → was ≡ t ∷ now → b ≡ both a (accepts cs (asked (get_or all i d)) t) → Rest cs wants ts a (map asked (drop i all)) was → Rest cs wants ts b (map asked (drop (i + 1) all)) now
   rest_step b was now t lt s answer r =
-      let k = get_or kinds i d in
-      let e : drop i kinds ≡ k ∷ drop (i + 1) kinds = drop_more kinds i d lt in
-      subst (λ z. Rest cs wants ts z (numbers (drop (i + 1) kinds)) now) (sym answer)
-      (rest_more cs wants ts a (number k) (numbers (drop (i + 1) kinds)) t now
-      (subst (λ z. Rest cs wants ts a (number k ∷ numbers (drop (i + 1) kinds)) z) s (subst (λ z. Rest cs wants ts a (numbers z) was) e r)))
+      let k = get_or all i d in
+      let e : drop i all ≡ k ∷ drop (i + 1) all = drop_more all i d lt in
+      subst (λ z. Rest cs wants ts z (map asked (drop (i + 1) all)) now) (sym answer)
+      (rest_more cs wants ts a (asked k) (map asked (drop (i + 1) all)) t now
+      (subst (λ z. Rest cs wants ts a (asked k ∷ map asked (drop (i + 1) all)) z) s (subst (λ z. Rest cs wants ts a (map asked z) was) e r)))
 
-  pub rest_none : (was : List VerificationType) → i < length kinds → was ≡ [] → Rest cs wants ts a (numbers (drop i kinds)) was → is_short wants ts ≡ true
-  rest_none was lt none r =
-      let e : drop i kinds ≡ get_or kinds i d ∷ drop (i + 1) kinds = drop_more kinds i d lt in
-      r.short_is ∙ ap (λ z. is_short (numbers z) was) e ∙ ap (is_short (number (get_or kinds i d) ∷ numbers (drop (i + 1) kinds))) none
+pub rest_none : {A : Type 0} (asked : A → Want) (cs : List ClassFact) (all : List A) (i : ℕ) (wants : List Want) (ts : List VerificationType) (a : Outcome) (was : List VerificationType) → i < length all → was ≡ [] → Rest cs wants ts a (map asked (drop i all)) was → is_short wants ts ≡ true
+rest_none asked cs [] i wants ts a was lt none r = absurd (omega (arith, lt))
+rest_none asked cs (d ∷ ds) i wants ts a was lt none r =
+    let left = drop (i + 1) (d ∷ ds) in
+    let e : drop i (d ∷ ds) ≡ get_or (d ∷ ds) i d ∷ left = drop_more (d ∷ ds) i d lt in
+    r.short_is ∙ ap (λ z. is_short (map asked z) was) e ∙ ap (is_short (asked (get_or (d ∷ ds) i d) ∷ map asked left)) none
 
 pub rest_end : (cs : List ClassFact) (wants : List Want) (ts : List VerificationType) (a : Outcome) (us : List VerificationType) → Rest cs wants ts a [] us → Took cs wants ts a us
 rest_end cs wants ts a us r = record { enough = r.short_is; answer_is = r.answer_is ∙ both_yes a; left_is = sym r.left_is }
 
-pub rest_all : (cs : List ClassFact) (kinds : List Kind) (i : ℕ) (wants : List Want) (ts : List VerificationType) (a : Outcome) (us : List VerificationType) → length kinds ≤ i → Rest cs wants ts a (numbers (drop i kinds)) us → Took cs wants ts a us
-rest_all cs kinds i wants ts a us le r = rest_end cs wants ts a us (subst (λ z. Rest cs wants ts a (numbers z) us) (drop_all i kinds le) r)
+rest_all : {A : Type 0} (asked : A → Want) (cs : List ClassFact) (all : List A) (i : ℕ) (wants : List Want) (ts : List VerificationType) (a : Outcome) (us : List VerificationType) → length all ≤ i → Rest cs wants ts a (map asked (drop i all)) us → Took cs wants ts a us
+rest_all asked cs all i wants ts a us le r = rest_end cs wants ts a us (subst (λ z. Rest cs wants ts a (map asked z) us) (drop_all i all le) r)
 
 -- ---- units
 
@@ -86,9 +87,9 @@ pub record RestOff (cs : List ClassFact) (wants : List Want) (f : FrameFact) (a 
   pub rest : Rest cs wants f.stack a ws g.stack
   pub others : g ≡ with_stack f g.stack
 
-pub off_end : (cs : List ClassFact) (kinds : List Kind) (i : ℕ) (wants : List Want) (f : FrameFact) (a : Outcome) (g : FrameFact) → length kinds ≤ i → RestOff cs wants f a (numbers (drop i kinds)) g → TookOff cs wants f a g
-off_end cs kinds i wants f a g le r =
-    let t : Took cs wants f.stack a g.stack = rest_all cs kinds i wants f.stack a g.stack le r.rest in
+pub off_end : {A : Type 0} (asked : A → Want) (cs : List ClassFact) (all : List A) (i : ℕ) (wants : List Want) (f : FrameFact) (a : Outcome) (g : FrameFact) → length all ≤ i → RestOff cs wants f a (map asked (drop i all)) g → TookOff cs wants f a g
+off_end asked cs all i wants f a g le r =
+    let t : Took cs wants f.stack a g.stack = rest_all asked cs all i wants f.stack a g.stack le r.rest in
     record { enough = t.enough; answer_is = t.answer_is; left_is = r.others ∙ ap (with_stack f) t.left_is }
 
 pub others_kept : (f was now : FrameFact) (t : VerificationType) → was ≡ pushed (t ∷ []) now → was ≡ with_stack f was.stack → with_stack now now.stack ≡ with_stack f now.stack

@@ -3,13 +3,9 @@ use Rattle.std.specs.Prelude.{◌≡◌, ◌⊎◌, ℕ, ℤ, Bool, List, [], �
 use Rattle.hierarchy.specs.Class.{ClassFact}
 use Rattle.classfile.specs.Methods.{Method}
 use Rattle.insn.specs.Meanings.{Act}
-use Rattle.insn.specs.Offsets.{led_to}
-use Rattle.insn.specs.Views.{targets_view}
+use Rattle.insn.specs.Branching.{targets_of}
 use Rattle.frames.specs.FrameFact.{FrameFact, frame_of}
 use Rattle.frames.specs.Conditions.{least}
-use Rattle.rules.specs.declared.branching.Branches.{Branches}
-use Rattle.rules.specs.declared.branching.Branches.TheVariants.{Nowhere, One, Switch}
-use Rattle.rules.specs.declared.branching.BranchTargets.{BranchTargets}
 use Rattle.rules.specs.declared.applying.After.{After}
 use Rattle.rules.specs.declared.applying.Refusal.{Refusal}
 use Rattle.rules.specs.declared.reason.Reason.{Reason}
@@ -18,15 +14,6 @@ use Rattle.rules.specs.Plans.{Plan, falls, targets}
 use Rattle.rules.specs.After.{after}
 use Rattle.rules.specs.Rules.{conditions, constructs_own}
 use Rattle.rules.specs.Reasons.{reason_view}
-
-abbrev pub branches_view : Branches → List ℤ
-branches_view Nowhere = []
-branches_view (One offset) = offset ∷ []
-branches_view (Switch default where_to) = default ∷ targets_view where_to
-
--- the offsets of instructions to which one branches
-abbrev pub targets_of : BranchTargets → List ℤ
-targets_of t = led_to t.at (branches_view t.branches)
 
 -- what is left where no condition holds
 pub record Leaves (m : Method Act) (at : ℕ) (p : Plan) (f : FrameFact) (a : After) : Type 0 where

@@ -1,5 +1,5 @@
 -- What the rule of an instruction asks of the frame before it and does to it, family by family (JVMS 4.10.1.9).
-use Rattle.std.specs.Prelude.{ℕ, zero, suc, ℤ, Bool, true, false, if◌then◌else◌, List, [], ◌∷◌, Option, Some, None}
+use Rattle.std.specs.Prelude.{ℕ, zero, suc, ℤ, Bool, true, false, if◌then◌else◌, List, [], ◌∷◌, map, Option, Some, None}
 use Rattle.names.specs.declared.base.Primitive.{Primitive}
 use Rattle.names.specs.Descriptors.{FieldDescriptor, primitive, class as class_descriptor, array as array_descriptor}
 use Rattle.names.specs.ReferenceTypes.{ReferenceType, class_type, array_type}
@@ -56,8 +56,7 @@ abbrev pub class_want : List ℕ → Want
 class_want name = assignable_to (class_type name)
 
 abbrev pub numbers : List Kind → List Want
-numbers [] = []
-numbers (kind ∷ kinds) = number kind ∷ numbers kinds
+numbers kinds = map number kinds
 
 abbrev pub sizes : ℕ → List Want
 sizes zero = []

@@ -4,8 +4,8 @@ use Rattle.frames.specs.declared.vtype.VType.{VType}
 use Rattle.frames.specs.VerificationType.{VerificationType, type_of, top}
 use Rattle.frames.specs.Slots.{is_wide}
 use Rattle.rules.specs.declared.want.Want.{Want as RawWant}
-use Rattle.rules.specs.declared.want.Want.TheVariants.{Number}
-use Rattle.rules.specs.Plans.{Want, number}
+use Rattle.rules.specs.declared.want.Want.TheVariants.{Number, Reference}
+use Rattle.rules.specs.Plans.{Want, number, any_reference}
 
 -- a stack with its top last, as the program keeps it, with its top first
 abbrev pub stack_of : List VType → List VerificationType
@@ -21,6 +21,7 @@ pushed_types (Some t) = type_of t ∷ []
 
 abbrev pub want_view : RawWant → Want
 want_view (Number kind) = number kind
+want_view Reference = any_reference
 
 -- locals in which a long or double just before a place is top, since its second half is gone
 abbrev pub with_half_free : ℕ → List VerificationType → List VerificationType

@@ -8,7 +8,6 @@ ghost use Rattle.rules.specs.Table.{plan};
 ghost use Rattle.rules.specs.Bodies.{method_view};
 ghost use Rattle.rules.specs.Applied.{Applied};
 
-use crate::branching::BranchTargets;
 use crate::environment::Env;
 use crate::reason::Reason;
 use crate::running::run;
@@ -16,7 +15,7 @@ use crate::ways::{branches, falls};
 use crate::working::Working;
 use frames::Frame;
 use hierarchy::Classes;
-use insn::{Insn, act};
+use insn::{BranchTargets, Insn, act};
 use std::alloc::Global;
 
 /// What an instruction leaves that is not refused.

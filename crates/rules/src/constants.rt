@@ -7,7 +7,7 @@ ghost use Rattle.rules.specs.Bodies.{method_view};
 ghost use Rattle.rules.specs.Held.{held};
 ghost use Rattle.rules.specs.Outcomes.{Done};
 
-use crate::families::pops;
+use crate::families::gives;
 use crate::reason::Reason;
 use crate::working::Working;
 use classfile::CodeMethod;
@@ -27,8 +27,8 @@ pub fn load_wide_constant<'a, C: Classes>(
         Done (conditions (C.content classes.now) m 0 p f) (after m 0 p f) (held frame.new) result }
 {
     match method.class.constant_pool.get(index) {
-        Ok(Constant::Long { .. }) => pops(method, &[], Some(VType::Long), frame, classes),
-        Ok(Constant::Double { .. }) => pops(method, &[], Some(VType::Double), frame, classes),
+        Ok(Constant::Long { .. }) => gives(method, Some(VType::Long), frame, classes),
+        Ok(Constant::Double { .. }) => gives(method, Some(VType::Double), frame, classes),
         Ok(Constant::Dynamic { .. }) => Err(Reason::NotSupported),
         Ok(_) | Err(_) => Err(Reason::WrongConstant),
     }

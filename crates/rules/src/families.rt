@@ -1,9 +1,9 @@
 //! Families of rules: operands to a result, loads, increments and returns.
-ghost use Rattle.std.specs.Prelude.{◌≡◌, ◌≤◌, List, [], true, length, option_map};
+ghost use Rattle.std.specs.Prelude.{◌≡◌, ◌≤◌, List, [], true, length, map, option_map};
 ghost use Rattle.names.specs.Types.{type_of};
 ghost use Rattle.hierarchy.specs.Class.{ClassFact};
 ghost use Rattle.hierarchy.specs.Answer.{outcome_of};
-ghost use Rattle.rules.specs.Plans.{numbers, pops, loads, counts, returns};
+ghost use Rattle.rules.specs.Plans.{pops, loads, counts, returns};
 ghost use Rattle.rules.specs.Table.{return_number, return_nothing};
 ghost use Rattle.rules.specs.After.{after};
 ghost use Rattle.rules.specs.Rules.{conditions};
@@ -12,9 +12,9 @@ ghost use Rattle.rules.specs.Held.{held};
 ghost use Rattle.rules.specs.Views.{want_view, pushed_types};
 ghost use Rattle.rules.specs.Outcomes.{Done, pushed, settled, result_kind};
 
-use crate::operands::{accepts, take_numbers};
+use crate::operands::{accepts, take};
 use crate::reason::Reason;
-use crate::want::Want;
+use crate::want::{Ask, Want};
 use crate::working::Working;
 use classfile::CodeMethod;
 use frames::VType;
@@ -45,19 +45,34 @@ pub fn settle<'a>(
     }
 }
 
-/// Numbers of these kinds, the top first, to a result.
-pub fn pops<'a, C: Classes>(
+/// Nothing to a result.
+pub fn gives<'a, C: Classes>(
     method: &CodeMethod<'_, 'a>,
-    kinds: &[Kind],
     gives: Option<VType<'a>>,
     frame: &mut Working<'a>,
     classes: &C,
 ) -> Result<(), Reason<'a>>
     ensures { let m = method_view method.now in let f = held frame.old in
-        let p = pops (numbers kinds.now) (pushed_types gives.entry) [] true in
+        let p = pops [] (pushed_types gives.entry) [] true in
         Done (conditions (C.content classes.now) m 0 p f) (after m 0 p f) (held frame.new) result }
 {
-    match take_numbers(kinds, frame, classes) {
+    let nothing: &[Want] = &[];
+    pops(method, nothing, gives, frame, classes)
+}
+
+/// What is asked of operands, the top first, to a result.
+pub fn pops<'a, A: Ask, C: Classes>(
+    method: &CodeMethod<'_, 'a>,
+    asked: &[A],
+    gives: Option<VType<'a>>,
+    frame: &mut Working<'a>,
+    classes: &C,
+) -> Result<(), Reason<'a>>
+    ensures { let m = method_view method.now in let f = held frame.old in
+        let p = pops (map A.asked asked.now) (pushed_types gives.entry) [] true in
+        Done (conditions (C.content classes.now) m 0 p f) (after m 0 p f) (held frame.new) result }
+{
+    match take(asked, frame, classes) {
         None => Err(Reason::MissingOperand),
         Some(answer) => match answer {
             Answer::No => Err(Reason::WrongOperand),

@@ -12,7 +12,7 @@
 //! - `constants`: instructions that load constants.
 //! - `want`: what is asked of an operand.
 //! - `running`: the rule of an instruction, on a frame in place.
-//! - `branching`, `ways`: where an instruction goes.
+//! - `ways`: where an instruction goes.
 //! - `applying`: the rule of an instruction, on a copy of the frame.
 //!
 //! Definitions:
@@ -26,7 +26,6 @@
 #![tactic(auto)]
 
 mod applying;
-mod branching;
 mod constants;
 mod environment;
 mod families;
@@ -43,7 +42,6 @@ mod ways;
 mod working;
 
 pub use applying::{After, Refusal, apply};
-pub use branching::{BranchTargets, Branches};
 pub use environment::Env;
 pub use reason::Reason;
 pub use running::run;

@@ -10,7 +10,7 @@ ghost use Rattle.rules.specs.Held.{held};
 ghost use Rattle.rules.specs.Outcomes.{Done};
 
 use crate::constants::load_wide_constant;
-use crate::families::{counts, loads, pops, return_nothing, return_number};
+use crate::families::{counts, gives, loads, pops, return_nothing, return_number};
 use crate::kinds::number_type;
 use crate::reason::Reason;
 use crate::stacks::rearranges;
@@ -19,7 +19,7 @@ use crate::want::Want;
 use crate::working::Working;
 use classfile::CodeMethod;
 use hierarchy::Classes;
-use insn::Act;
+use insn::{Act, Kind};
 
 /// Runs the instruction at an offset on a frame, in place, by its rule (JVMS 4.10.1.9). The frame has max_locals
 /// locals.
@@ -39,8 +39,8 @@ pub fn run<'a, C: Classes>(
         Done (conditions (C.content classes.now) m at p f) (after m at p f) (held frame.new) result }
 {
     match act {
-        Act::Nothing => pops(method, &[], None, frame, classes),
-        Act::Constant(kind) => pops(method, &[], Some(number_type(kind)), frame, classes),
+        Act::Nothing | Act::Goto { .. } => gives(method, None, frame, classes),
+        Act::Constant(kind) => gives(method, Some(number_type(kind)), frame, classes),
         Act::LoadWideConstant { index } => load_wide_constant(method, index, frame, classes),
         Act::Load { kind, local } => loads(
             method,
@@ -64,6 +64,16 @@ pub fn run<'a, C: Classes>(
             pops(method, taken, Some(number_type(given)), frame, classes)
         }
         Act::Stack(operator) => rearranges(method, operator, frame),
+        Act::IfInt { .. } | Act::Switch { .. } => pops(method, &[Kind::Int], None, frame, classes),
+        Act::IfInts { .. } => pops(method, &[Kind::Int, Kind::Int], None, frame, classes),
+        Act::IfReferences { .. } => pops(
+            method,
+            &[Want::Reference, Want::Reference],
+            None,
+            frame,
+            classes,
+        ),
+        Act::IfNull { .. } => pops(method, &[Want::Reference], None, frame, classes),
         Act::Return(kind) => return_number(method, kind, frame, classes),
         Act::ReturnVoid => return_nothing(method, frame),
         _ => Err(Reason::NotSupported),

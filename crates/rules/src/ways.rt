@@ -3,10 +3,9 @@ ghost use Rattle.std.specs.Prelude.{◌≡◌};
 ghost use Rattle.insn.specs.Meanings.{act};
 ghost use Rattle.insn.specs.Views.{view, act_view};
 ghost use Rattle.rules.specs.Ways.{goes_on, branch_offsets};
-ghost use Rattle.rules.specs.Applied.{branches_view};
+ghost use Rattle.insn.specs.Branching.{branches_view};
 
-use crate::branching::Branches;
-use insn::{Act, Insn, act};
+use insn::{Act, Branches, Insn, act};
 
 /// Whether an instruction goes on to the next one, where it is not refused (JVMS 4.10.1.6). Takes no memory.
 pub fn falls(insn: &Insn<'_>) -> bool
