@@ -17,16 +17,16 @@ use Rattle.machine.specs.declared.choosing.StepFault.{StepFault}
 use Rattle.machine.specs.declared.choosing.StepFault.TheVariants.{OutOfMemory, NotAChoice}
 use Rattle.machine.specs.Values.{Value, number, Slot, stored}
 use Rattle.machine.specs.Heap.{Heap, with_fresh}
-use Rattle.machine.specs.Tasks.{falls, targets, Tasks}
+use Rattle.machine.specs.Tasks.{targets, Tasks}
 use Rattle.machine.specs.Demands.{State, IsNoFaultBy}
-use Rattle.machine.specs.Steps.{go, raise, Outcome, goes_on, ended, Replies, Does, IsBranch, StepsBy, IsLast, EndsBy, HappensBy}
+use Rattle.machine.specs.Steps.{go, raise, Outcome, goes_on, ended, Replies, Does, IsBranch, GoesTo, StepsBy, IsLast, EndsBy, HappensBy}
 use Rattle.machine.specs.private.Decided.{has_kinds, is_number, form_for}
-use Rattle.machine.specs.private.Deeds.{reply_view, task_view, given, held, rearranged_by}
+use Rattle.machine.specs.private.Deeds.{needs_view, reply_view, task_view, given, held, rearranged_by}
 use Rattle.machine.specs.private.Demanded.{has_operands, Meets}
-use Rattle.machine.specs.private.Happening.{is_last, state_after, IsAsked, GoesOn, Stays, Goes, Raises}
+use Rattle.machine.specs.private.Happening.{is_last, state_after, IsAsked, MayGo, GoesWay, GoesOn, Stays, Goes, Raises}
 use Rattle.machine.specs.Stepped.{Stepped}
 use Rattle.machine.specs.Views.{state_view}
-use Rattle.machine.proofs.Faults.{split, some_is, form_chosen, number_is, held_number, kinds_beneath, no_targets}
+use Rattle.machine.proofs.Faults.{split, some_is, form_chosen, number_is, held_number, beneath_all}
 use Rattle.machine.proofs.Deciding.{no_fault}
 
 pub nowhere : (task : Tasks) (world : World) (m : Method Act) (s : State) → at_offset m.code s.at ≡ None → IsNoFaultBy task world m s → ⊥
@@ -53,12 +53,26 @@ top_number : (kind : Kind) (vs : List Value) → has_kinds (kind ∷ []) vs ≡ 
 top_number kind [] e = absurd cc
 top_number kind (v ∷ vs) e = (v, vs, refl, number_is kind v (split (is_number kind v) true e).0)
 
-module _ (world : World) (m : Method Act) (s : State) (fresh : List (ℕ × ReferenceType)) (at : ℕ) where
+-- without targets, and where it does not fall, it goes nowhere
+no_going : {next branch : Option ℕ} {to : ℕ} → MayGo [] false next branch to → ⊥
+no_going g = elim g.where_to [ inl a ↦ a | inr e ↦ false≢true e.0 ]
+
+pub last_stays : (d : Deed) (next : Option ℕ) (from : ℕ) (branch : Option ℕ) (to : ℕ) → is_last d ≡ true → GoesWay d next from branch to → ⊥
+last_stays (Operates needs reply branches on) next from branch to e g = absurd cc
+last_stays (Reads kind local) next from branch to e g = absurd cc
+last_stays (Writes kind local) next from branch to e g = absurd cc
+last_stays (Increments local) next from branch to e g = absurd cc
+last_stays (Moves operator) next from branch to e g = absurd cc
+last_stays (Leaves kind) next from branch to e g = no_going g
+last_stays Ends next from branch to e g = no_going g
+last_stays Stuck next from branch to e g = no_going g
+
+module _ (world : World) (m : Method Act) (s : State) (next branch : Option ℕ) (from to : ℕ) (fresh : List (ℕ × ReferenceType)) (at : ℕ) where
   abbrev state : List Value → List Slot → State
   state stack locals = record { at = at; stack = stack; locals = locals; heap = with_fresh s.heap fresh }
 
-  does : (d : Deed) → has_operands m.max_locals d s.stack s.locals ≡ true → falls (task_view d) ≡ true → Does world (task_view d) (with_new s fresh) None at (state_after d s at fresh)
-  does (Operates needs reply) e f = (tt, (given reply, replies world (with_fresh s.heap fresh) reply, ap (λ z. state (given reply ++ z) s.locals) (sym (kinds_beneath needs.now s.stack))))
+  does : (d : Deed) → has_operands m.max_locals d s.stack s.locals ≡ true → GoesWay d next from branch to → Does world (task_view d) (with_new s fresh) None at (state_after d s at fresh)
+  does (Operates needs reply branches on) e f = (tt, (given reply, replies world (with_fresh s.heap fresh) reply, ap (λ z. state (given reply ++ z) s.locals) (sym (beneath_all (needs_view needs) s.stack))))
   does (Reads kind local) e f =
       let h = held_number kind (slice_get s.locals local) e in
       (h.0, h.1, refl, ap (λ z. state (held z ++ s.stack) s.locals) h.1)
@@ -70,12 +84,12 @@ module _ (world : World) (m : Method Act) (s : State) (fresh : List (ℕ × Refe
       let found = some_is (form_for (stack_forms operator) s.stack) e in
       let c = form_chosen (stack_forms operator) s.stack found.0 found.1 in
       (found.0, c.0, c.1, refl, ap (λ z. state (rearranged_by z s.stack) s.locals) found.1)
-  does (Leaves kind) e f = absurd cc
-  does Ends e f = absurd cc
-  does Stuck e f = absurd cc
+  does (Leaves kind) e f = absurd (no_going f)
+  does Ends e f = absurd (no_going f)
+  does Stuck e f = absurd (no_going f)
 
   answer_none : (d : Deed) (answer : Option Value) (t : State) → Does world (task_view d) (with_new s fresh) answer at t → answer ≡ None
-  answer_none (Operates needs reply) answer t p = reply_none world (with_fresh s.heap fresh) reply answer p.1.0 p.1.1
+  answer_none (Operates needs reply branches on) answer t p = reply_none world (with_fresh s.heap fresh) reply answer p.1.0 p.1.1
   answer_none (Reads kind local) answer t p = p.2
   answer_none (Writes kind local) answer t p = p.3
   answer_none (Increments local) answer t p = p.0
@@ -85,7 +99,7 @@ module _ (world : World) (m : Method Act) (s : State) (fresh : List (ℕ × Refe
   answer_none Stuck answer t p = absurd p
 
 last_is : (d : Deed) → is_last d ≡ true → IsLast (task_view d)
-last_is (Operates needs reply) e = absurd cc
+last_is (Operates needs reply branches on) e = absurd cc
 last_is (Reads kind local) e = absurd cc
 last_is (Writes kind local) e = absurd cc
 last_is (Increments local) e = absurd cc
@@ -95,7 +109,7 @@ last_is Ends e = tt
 last_is Stuck e = absurd cc
 
 is_the_last : (d : Deed) → IsLast (task_view d) → is_last d ≡ true
-is_the_last (Operates needs reply) e = absurd e
+is_the_last (Operates needs reply branches on) e = absurd e
 is_the_last (Reads kind local) e = absurd e
 is_the_last (Writes kind local) e = absurd e
 is_the_last (Increments local) e = absurd e
@@ -116,38 +130,37 @@ module _ (task : Tasks) (world : World) (m : Method Act) (s : State) (act : Act)
       ap (task m) same ∙ sym what
 
   module _ (branch : Option ℕ) (answer : Option Value) (fresh : List (ℕ × ReferenceType)) where
-    stepped : (t : State) → IsAsked s branch answer fresh → GoesOn d next s fresh t → StepsBy task world m s branch answer fresh t
+    stepped : (t : State) → IsAsked s answer fresh → GoesOn d next s branch fresh t → StepsBy task world m s branch answer fresh t
     stepped t asked g = record {
       act = act;
       here = here;
       unused = asked.unused;
-      to = g.at;
-      branches = subst (λ z. IsBranch (targets s.at z) branch g.at) what (subst (λ z. IsBranch z branch g.at) (sym (no_targets s.at d)) asked.no_branch);
-      goes = inr (sym (ap falls what) ∙ g.goes, after ∙ g.here);
-      does = subst (λ z. Does world z (with_new s fresh) answer g.at t) what
-          (subst (λ z. Does world (task_view d) (with_new s fresh) z g.at t) (sym asked.no_answer)
-          (subst (λ z. Does world (task_view d) (with_new s fresh) None g.at z) (sym g.result) (does world m s fresh g.at d p.operands g.goes)));
+      to = g.to;
+      branches = subst (λ z. IsBranch (targets s.at z) branch g.to) what g.way.by;
+      goes = subst (λ z. GoesTo m s.at z g.to) what (elim g.way.where_to [ inl a ↦ inl a | inr e ↦ inr (e.0, after ∙ e.1) ]);
+      does = subst (λ z. Does world z (with_new s fresh) answer g.to t) what
+          (subst (λ z. Does world (task_view d) (with_new s fresh) z g.to t) (sym asked.no_answer)
+          (subst (λ z. Does world (task_view d) (with_new s fresh) None g.to z) (sym g.result) (does world m s next branch s.at g.to fresh g.to d p.operands g.way)));
     }
 
-    asked_by : (t : State) → StepsBy task world m s branch answer fresh t → IsAsked s branch answer fresh
-    asked_by t w =
-        let e = same_task w.act w.here in
-        record {
-          no_branch = subst (λ z. IsBranch z branch w.to) (no_targets s.at d) (subst (λ z. IsBranch (targets s.at z) branch w.to) e w.branches);
-          no_answer = answer_none world m s fresh w.to d answer t (subst (λ z. Does world z (with_new s fresh) answer w.to t) e w.does);
-          unused = w.unused;
-        }
+    asked_by : (t : State) → StepsBy task world m s branch answer fresh t → IsAsked s answer fresh
+    asked_by t w = record {
+      no_answer =
+          answer_none world m s next branch s.at w.to fresh w.to d answer t
+          (subst (λ z. Does world z (with_new s fresh) answer w.to t) (same_task w.act w.here) w.does);
+      unused = w.unused;
+    }
 
-    no_way : (t : State) → StepsBy task world m s branch answer fresh t → Stays d next → ⊥
+    no_way : (t : State) → StepsBy task world m s branch answer fresh t → Stays d next s.at branch → ⊥
     no_way t w n =
         let e = same_task w.act w.here in
-        elim w.goes [
-          | inl a ↦ subst (λ z. IsAmong (pos w.to) z) (no_targets s.at d) (subst (λ z. IsAmong (pos w.to) (targets s.at z)) e a)
-          | inr g ↦ n.goes (sym (ap falls e) ∙ g.0) w.to (sym after ∙ g.1)
-        ]
+        n.goes w.to (record {
+          by = subst (λ z. IsBranch (targets s.at z) branch w.to) e w.branches;
+          where_to = elim (subst (λ z. GoesTo m s.at z w.to) e w.goes) [ inl a ↦ inl a | inr g ↦ inr (g.0, sym after ∙ g.1) ];
+        })
 
-    no_end : EndsBy task m s branch answer fresh → Stays d next → ⊥
-    no_end w n = false≢true (sym n.ends ∙ is_the_last d (subst IsLast (same_task w.act w.here) w.last))
+    no_end : EndsBy task m s branch answer fresh → Stays d next s.at branch → ⊥
+    no_end w n = n.ends (is_the_last d (subst IsLast (same_task w.act w.here) w.last), w.no_branch)
 
     pub go_steps : (r : Result RawOutcome StepFault) → Goes d next s branch answer fresh r → Stepped task world m s (go branch answer fresh) r
     go_steps (Ok (outcomes.Next t)) g = (fine, stepped (state_view t) g.0 g.1)
@@ -157,9 +170,9 @@ module _ (task : Tasks) (world : World) (m : Method Act) (s : State) (act : Act)
         act = act;
         here = here;
         unused = g.0.unused;
-        no_branch = g.0.no_branch;
+        no_branch = g.1.1;
         no_answer = g.0.no_answer;
-        last = subst IsLast what (last_is d g.1);
+        last = subst IsLast what (last_is d g.1.0);
       },
     )
     go_steps (Ok outcomes.Fault) g = absurd g
@@ -168,7 +181,7 @@ module _ (task : Tasks) (world : World) (m : Method Act) (s : State) (act : Act)
       where
         none : (o : Outcome) → HappensBy task world m s (go branch answer fresh) o → ⊥
         none (goes_on t) h = no_way t h.1 (g (asked_by t h.1))
-        none ended h = no_end h.1 (g (record { no_branch = h.1.no_branch; no_answer = h.1.no_answer; unused = h.1.unused }))
+        none ended h = no_end h.1 (g (record { no_answer = h.1.no_answer; unused = h.1.unused }))
 
   pub raise_steps : (address : ℕ) (fresh : List (ℕ × ReferenceType)) (entry : Option ℕ) (r : Result RawOutcome StepFault) → Raises world m s address fresh entry r → Stepped task world m s (raise address fresh entry) r
   raise_steps address fresh None (Ok (outcomes.Next t)) g = absurd g

@@ -1,5 +1,5 @@
 -- A state meets the tests exactly where it is no fault.
-use Rattle.std.specs.Prelude.{not, nat_lt, nat_eq, ◌||◌}
+use Rattle.std.specs.Prelude.{not, nat_lt, nat_eq, ◌||◌, ◌&&◌, pos, negsuc}
 use Rattle.std.proofs.Common.{◌≡◌, ℕ, ℤ, ◌≤◌, Bool, true, false, List, [], ◌∷◌, length, Option, Some, if◌then◌else◌, refl, sym, ap, ◌∙◌, subst, arith, inl, inr}
 use Rattle.std.specs.Option.{is_some}
 use Rattle.std.proofs.lemmas.Bool.Decides.{nat_tests}
@@ -13,8 +13,8 @@ use Rattle.machine.specs.Tasks.{needs_of, falls, targets, Tasks}
 use Rattle.machine.specs.Demands.{State, AllMeet, MeetsRest, HasRoom, AllUsable, EndsReady, LeadsToStart, IsNoFaultBy}
 use Rattle.machine.specs.private.Decided.{paired_behind}
 use Rattle.machine.specs.private.Deeds.{task_view, stack_after}
-use Rattle.machine.specs.private.Demanded.{has_operands, leads, all_lead, Meets}
-use Rattle.machine.proofs.Faults.{split, join, not_true, not_false, some_is, paired_is, is_paired, operands_meet, rest_meets, has_them, usable, room, within, no_targets}
+use Rattle.machine.specs.private.Demanded.{has_operands, begins, all_begin, leads, all_lead, Meets}
+use Rattle.machine.proofs.Faults.{split, join, not_true, not_false, some_is, paired_is, is_paired, operands_meet, rest_meets, has_them, usable, room, within}
 
 -- ---- starts
 
@@ -66,6 +66,24 @@ module _ (code : List (ℕ × Act)) (at : ℕ) where
       (leads_there (covers x at) (has_offset code x.handler) (λ c. offset_of code x.handler (f x (inl refl) c)))
       (led xs (λ e a. f e (inr a)))
 
+-- ---- branches
+
+begins_at : (m : Method Act) (target : ℤ) → begins m.code target ≡ true → LeadsToStart m target
+begins_at m (pos at) e = (at, refl, start_of m.code at e)
+begins_at m (negsuc n) e = cc
+
+start_begins : (m : Method Act) (target : ℤ) → LeadsToStart m target → begins m.code target ≡ true
+start_begins m target l = subst (λ z. begins m.code z ≡ true) (sym l.1) (offset_of m.code l.0 l.2)
+
+begun : (m : Method Act) (ts : List ℤ) → all_begin m.code ts ≡ true → (target : ℤ) → IsAmong target ts → LeadsToStart m target
+begun m [] e target a = absurd a
+begun m (t ∷ ts) e target (inl a) = subst (LeadsToStart m) (sym a) (begins_at m t (split (begins m.code t) (all_begin m.code ts) e).0)
+begun m (t ∷ ts) e target (inr a) = begun m ts (split (begins m.code t) (all_begin m.code ts) e).1 target a
+
+begin_all : (m : Method Act) (ts : List ℤ) → ((target : ℤ) → IsAmong target ts → LeadsToStart m target) → all_begin m.code ts ≡ true
+begin_all m [] f = refl
+begin_all m (t ∷ ts) f = join (begins m.code t) (all_begin m.code ts) (start_begins m t (f t (inl refl))) (begin_all m ts (λ target a. f target (inr a)))
+
 -- ---- both ways
 
 not_over : (limit n : ℕ) → not (nat_lt limit n) ≡ true → n ≤ limit
@@ -88,11 +106,15 @@ module _ (task : Tasks) (world : World) (m : Method Act) (s : State) (act : Act)
   abbrev on : Bool
   on = not (falls (task_view d)) || is_some next
 
+  abbrev ways_begin : Bool
+  ways_begin = all_begin m.code (targets s.at (task_view d))
+
   pub no_fault : Meets m d next s → IsNoFaultBy task world m s
   no_fault p =
       let whole = split (nat_eq (length s.locals) m.max_locals) (paired_behind false s.locals) p.locals in
       let deep = split (not (nat_lt m.max_stack (depth_of s.stack))) (not (nat_lt m.max_stack (depth_of (stack_after d s.stack s.locals)))) p.stack in
-      let ways = split on (all_lead m.code s.at m.exceptions) p.control in
+      let ways = split on (ways_begin && all_lead m.code s.at m.exceptions) p.control in
+      let others = split ways_begin (all_lead m.code s.at m.exceptions) ways.1 in
       record {
         act = act;
         here = here;
@@ -107,11 +129,11 @@ module _ (task : Tasks) (world : World) (m : Method Act) (s : State) (act : Act)
           after = subst (λ t. HasRoom m t s) what (room m s d (not_over m.max_stack (depth_of (stack_after d s.stack s.locals)) deep.1));
         };
         control = record {
-          branches = subst (λ t. (target : ℤ) → IsAmong target (targets s.at t) → LeadsToStart m target) what (λ target a. absurd (subst (IsAmong target) (no_targets s.at d) a));
+          branches = subst (λ t. (target : ℤ) → IsAmong target (targets s.at t) → LeadsToStart m target) what (begun m (targets s.at (task_view d)) others.0);
           next = λ f.
               let n = some_is next (goes (falls (task_view d)) (is_some next) ways.0 (ap falls what ∙ f)) in
               (n.0, after ∙ n.1, start_of m.code n.0 (next_begins m.code s.at n.0 (after ∙ n.1)));
-          caught = lead m.code s.at m.exceptions ways.1;
+          caught = lead m.code s.at m.exceptions others.1;
         };
         objects = record { uses = subst (λ t. AllUsable s.heap (needs_of t) s.stack) what (usable world m s d) };
         own_object = record { own = subst (λ t. EndsReady m t s) what p.own_object };
@@ -127,9 +149,11 @@ module _ (task : Tasks) (world : World) (m : Method Act) (s : State) (act : Act)
         stack = join (not (nat_lt m.max_stack (depth_of s.stack))) (not (nat_lt m.max_stack (depth_of (stack_after d s.stack s.locals))))
             (over_not m.max_stack (depth_of s.stack) n.stack.before)
             (over_not m.max_stack (depth_of (stack_after d s.stack s.locals)) (within m s d (subst (λ t. HasRoom m t s) e n.stack.after) ops n.stack.before));
-        control = join on (all_lead m.code s.at m.exceptions)
+        control = join on (ways_begin && all_lead m.code s.at m.exceptions)
             (leads_there (falls (task_view d)) (is_some next) (λ f. let r = n.control.next (ap falls e ∙ f) in ap is_some (sym after ∙ r.1)))
-            (led m.code s.at m.exceptions n.control.caught);
+            (join ways_begin (all_lead m.code s.at m.exceptions)
+            (begin_all m (targets s.at (task_view d)) (subst (λ t. (target : ℤ) → IsAmong target (targets s.at t) → LeadsToStart m target) e n.control.branches))
+            (led m.code s.at m.exceptions n.control.caught));
         own_object = subst (λ t. EndsReady m t s) e n.own_object.own;
       }
 

@@ -1,6 +1,6 @@
 -- A state is no fault exactly where it meets the tests.
 use Rattle.std.specs.Prelude.{not, nat_le, ◌&&◌}
-use Rattle.std.proofs.Common.{◌≡◌, ℕ, ◌+◌, ◌≤◌, Bool, true, false, List, [], ◌∷◌, ◌++◌, length, drop, slice_get, Option, Some, None, if◌then◌else◌, refl, sym, ap, ◌∙◌, subst, arith, inl, inr}
+use Rattle.std.proofs.Common.{◌≡◌, ℕ, zero, suc, ◌+◌, ◌≤◌, Bool, true, false, List, [], ◌∷◌, ◌++◌, length, drop, replicate, slice_get, Option, Some, None, if◌then◌else◌, refl, sym, ap, ◌∙◌, subst, arith, inl, inr}
 use Rattle.std.specs.Option.{is_some}
 use Rattle.std.proofs.lemmas.Bool.Decides.{nat_tests}
 use Rattle.hierarchy.specs.World.{World}
@@ -14,14 +14,16 @@ use Rattle.insn.specs.Acts.{StackForm, stack_forms, kind_units}
 use Rattle.insn.specs.Meanings.{Act}
 use Rattle.insn.specs.Offsets.{IsAmong}
 use Rattle.insn.specs.Stacks.{same_kind, beneath, rearranged}
+use Rattle.machine.specs.declared.deed.Needs.{Needs}
+use Rattle.machine.specs.declared.deed.Needs.TheVariants.{Numbers, References}
 use Rattle.machine.specs.declared.deed.Deed.{Deed}
 use Rattle.machine.specs.declared.deed.Deed.TheVariants.{Operates, Reads, Writes, Increments, Moves, Leaves, Ends, Stuck}
 use Rattle.machine.specs.Values.{Value, number, null, reference, Slot, empty, second, holds, is_wide_value, units, depth_of, ArePairedBehind, place_of}
-use Rattle.machine.specs.Heap.{Heap}
-use Rattle.machine.specs.Tasks.{of_kind, needs_of_kinds, needs_of, reply_units, targets}
+use Rattle.machine.specs.Heap.{Heap, IsReference}
+use Rattle.machine.specs.Tasks.{Need, of_kind, some_reference, needs_of_kinds, needs_of, reply_units}
 use Rattle.machine.specs.Demands.{State, AllMeet, AreForm, HasLocal, MeetsRest, HasRoom, AllUsable}
-use Rattle.machine.specs.private.Decided.{is_number, has_kinds, holds_number, same_place, are_form, form_for, paired_behind}
-use Rattle.machine.specs.private.Deeds.{reply_view, task_view, given, held, rearranged_by, stack_after}
+use Rattle.machine.specs.private.Decided.{is_number, has_kinds, is_reference, has_references, has_needs, holds_number, same_place, are_form, form_for, paired_behind}
+use Rattle.machine.specs.private.Deeds.{needs_view, reply_view, task_view, given, held, rearranged_by, stack_after}
 use Rattle.machine.specs.private.Demanded.{has_operands}
 use Rattle.machine.proofs.Apart.{table_apart, one_form}
 
@@ -77,10 +79,47 @@ module _ (world : World) (heap : Heap) where
   meet_kinds (k ∷ ks) [] e = absurd e
   meet_kinds (k ∷ ks) (v ∷ vs) e = join (is_number k v) (has_kinds ks vs) (is_the_number k v e.0) (meet_kinds ks vs e.1)
 
+  references_meet : (n : ℕ) (vs : List Value) → has_references n vs ≡ true → AllMeet world heap (replicate n some_reference) vs
+  references_meet zero vs e = tt
+  references_meet (suc n) [] e = absurd cc
+  references_meet (suc n) (v ∷ vs) e = let p = split (is_reference v) (has_references n vs) e in (a_reference v p.0, references_meet n vs p.1)
+    where
+      a_reference : (v : Value) → is_reference v ≡ true → IsReference v
+      a_reference (number k) e = absurd cc
+      a_reference null e = tt
+      a_reference (reference a) e = tt
+
+  meet_references : (n : ℕ) (vs : List Value) → AllMeet world heap (replicate n some_reference) vs → has_references n vs ≡ true
+  meet_references zero vs e = refl
+  meet_references (suc n) [] e = absurd e
+  meet_references (suc n) (v ∷ vs) e = join (is_reference v) (has_references n vs) (is_one v e.0) (meet_references n vs e.1)
+    where
+      is_one : (v : Value) → IsReference v → is_reference v ≡ true
+      is_one (number k) e = absurd e
+      is_one null e = refl
+      is_one (reference a) e = refl
+
+  needs_meet : (needs : Needs) (vs : List Value) → has_needs needs vs ≡ true → AllMeet world heap (needs_view needs) vs
+  needs_meet (Numbers kinds) vs e = kinds_meet kinds.now vs e
+  needs_meet (References count) vs e = references_meet count vs e
+
+  meet_needs : (needs : Needs) (vs : List Value) → AllMeet world heap (needs_view needs) vs → has_needs needs vs ≡ true
+  meet_needs (Numbers kinds) vs e = meet_kinds kinds.now vs e
+  meet_needs (References count) vs e = meet_references count vs e
+
 kinds_usable : (heap : Heap) (ks : List Kind) (vs : List Value) → AllUsable heap (needs_of_kinds ks) vs
 kinds_usable heap [] vs = tt
 kinds_usable heap (k ∷ ks) [] = tt
 kinds_usable heap (k ∷ ks) (v ∷ vs) = (tt, kinds_usable heap ks vs)
+
+references_usable : (heap : Heap) (n : ℕ) (vs : List Value) → AllUsable heap (replicate n some_reference) vs
+references_usable heap zero vs = tt
+references_usable heap (suc n) [] = tt
+references_usable heap (suc n) (v ∷ vs) = (tt, references_usable heap n vs)
+
+needs_usable : (heap : Heap) (needs : Needs) (vs : List Value) → AllUsable heap (needs_view needs) vs
+needs_usable heap (Numbers kinds) vs = kinds_usable heap kinds.now vs
+needs_usable heap (References count) vs = references_usable heap count vs
 
 pub held_number : (k : Kind) (o : Option Slot) → holds_number k o ≡ true → (v : Value) × (o ≡ Some (holds v)) × (v ≡ number k)
 held_number k None e = absurd cc
@@ -176,7 +215,7 @@ is_paired false (holds v ∷ ss) e = is_paired (is_wide_value v) ss e
 
 module _ (world : World) (m : Method Act) (s : State) where
   pub operands_meet : (d : Deed) → has_operands m.max_locals d s.stack s.locals ≡ true → AllMeet world s.heap (needs_of (task_view d)) s.stack
-  operands_meet (Operates needs reply) e = kinds_meet world s.heap needs.now s.stack e
+  operands_meet (Operates needs reply branches falls) e = needs_meet world s.heap needs s.stack e
   operands_meet (Reads kind local) e = tt
   operands_meet (Writes kind local) e = kinds_meet world s.heap (kind ∷ []) s.stack (split (has_kinds (kind ∷ []) s.stack) (nat_le (local + kind_units kind) m.max_locals) e).0
   operands_meet (Increments local) e = tt
@@ -189,7 +228,7 @@ module _ (world : World) (m : Method Act) (s : State) where
   local_met kind local e = let h = held_number kind (slice_get s.locals local) e in record { value = h.0; here = h.1; meets = h.2 }
 
   pub rest_meets : (d : Deed) → has_operands m.max_locals d s.stack s.locals ≡ true → MeetsRest world m (task_view d) s
-  rest_meets (Operates needs reply) e = tt
+  rest_meets (Operates needs reply branches falls) e = tt
   rest_meets (Reads kind local) e = local_met kind local e
   rest_meets (Writes kind local) e =
       let le : nat_le (local + kind_units kind) m.max_locals ≡ true = (split (has_kinds (kind ∷ []) s.stack) (nat_le (local + kind_units kind) m.max_locals) e).1 in
@@ -207,7 +246,7 @@ module _ (world : World) (m : Method Act) (s : State) where
   le_test a b le = grind (arith, nat_tests)
 
   pub has_them : (d : Deed) → AllMeet world s.heap (needs_of (task_view d)) s.stack → MeetsRest world m (task_view d) s → has_operands m.max_locals d s.stack s.locals ≡ true
-  has_them (Operates needs reply) a r = meet_kinds world s.heap needs.now s.stack a
+  has_them (Operates needs reply branches falls) a r = meet_needs world s.heap needs s.stack a
   has_them (Reads kind local) a r = number_held kind (slice_get s.locals local) r.value r.here r.meets
   has_them (Writes kind local) a r = join (has_kinds (kind ∷ []) s.stack) (nat_le (local + kind_units kind) m.max_locals) (meet_kinds world s.heap (kind ∷ []) s.stack a) (le_test (local + kind_units kind) m.max_locals r)
   has_them (Increments local) a r = number_held Int (slice_get s.locals local) r.value r.here r.meets
@@ -217,7 +256,7 @@ module _ (world : World) (m : Method Act) (s : State) where
   has_them Stuck a r = absurd r
 
   pub usable : (d : Deed) → AllUsable s.heap (needs_of (task_view d)) s.stack
-  usable (Operates needs reply) = kinds_usable s.heap needs.now s.stack
+  usable (Operates needs reply branches falls) = needs_usable s.heap needs s.stack
   usable (Reads kind local) = tt
   usable (Writes kind local) = kinds_usable s.heap (kind ∷ []) s.stack
   usable (Increments local) = tt
@@ -232,13 +271,13 @@ given_depth : (r : Option Kind) (vs : List Value) → depth_of (given r ++ vs) �
 given_depth None vs = omega arith
 given_depth (Some kind) vs = refl
 
-pub kinds_beneath : (ks : List Kind) (vs : List Value) → beneath (needs_of_kinds ks) vs ≡ drop (length ks) vs
-kinds_beneath [] vs = refl
-kinds_beneath (k ∷ ks) [] = refl
-kinds_beneath (k ∷ ks) (v ∷ vs) = kinds_beneath ks vs
+pub beneath_all : {A : Type 0} (ns : List A) (vs : List Value) → beneath ns vs ≡ drop (length ns) vs
+beneath_all [] vs = refl
+beneath_all (n ∷ ns) [] = refl
+beneath_all (n ∷ ns) (v ∷ vs) = beneath_all ns vs
 
-after_depth : (needs : List Kind) (r : Option Kind) (vs : List Value) → depth_of (given r ++ drop (length needs) vs) ≡ reply_units (reply_view r) + depth_of (beneath (needs_of_kinds needs) vs)
-after_depth needs r vs = given_depth r (drop (length needs) vs) ∙ ap (λ z. reply_units (reply_view r) + depth_of z) (sym (kinds_beneath needs vs))
+after_depth : (needs : List Need) (r : Option Kind) (vs : List Value) → depth_of (given r ++ drop (length needs) vs) ≡ reply_units (reply_view r) + depth_of (beneath needs vs)
+after_depth needs r vs = given_depth r (drop (length needs) vs) ∙ ap (λ z. reply_units (reply_view r) + depth_of z) (sym (beneath_all needs vs))
 
 held_depth : (o : Option Slot) (v : Value) (vs : List Value) → o ≡ Some (holds v) → depth_of (held o ++ vs) ≡ units (is_wide_value v) + depth_of vs
 held_depth o v vs e = ap (λ z. depth_of (held z ++ vs)) e
@@ -252,7 +291,7 @@ moved_depth operator vs f e = ap (λ z. depth_of (rearranged_by z vs)) e
 
 module _ (m : Method Act) (s : State) where
   pub room : (d : Deed) → depth_of (stack_after d s.stack s.locals) ≤ m.max_stack → HasRoom m (task_view d) s
-  room (Operates needs reply) le = omega (arith, after_depth needs.now reply s.stack, le)
+  room (Operates needs reply branches falls) le = omega (arith, after_depth (needs_view needs) reply s.stack, le)
   room (Reads kind local) le = λ v here. omega (arith, held_depth (slice_get s.locals local) v s.stack here, le)
   room (Writes kind local) le = tt
   room (Increments local) le = tt
@@ -262,7 +301,7 @@ module _ (m : Method Act) (s : State) where
   room Stuck le = tt
 
   pub within : (d : Deed) → HasRoom m (task_view d) s → has_operands m.max_locals d s.stack s.locals ≡ true → depth_of s.stack ≤ m.max_stack → depth_of (stack_after d s.stack s.locals) ≤ m.max_stack
-  within (Operates needs reply) r e le = omega (arith, after_depth needs.now reply s.stack, r)
+  within (Operates needs reply branches falls) r e le = omega (arith, after_depth (needs_view needs) reply s.stack, r)
   within (Reads kind local) r e le =
       let h = held_number kind (slice_get s.locals local) e in
       omega (arith, held_depth (slice_get s.locals local) h.0 s.stack h.1, r h.0 h.1)
@@ -275,15 +314,3 @@ module _ (m : Method Act) (s : State) where
   within (Leaves kind) r e le = le
   within Ends r e le = le
   within Stuck r e le = le
-
--- ---- control
-
-pub no_targets : (at : ℕ) (d : Deed) → targets at (task_view d) ≡ []
-no_targets at (Operates needs reply) = refl
-no_targets at (Reads kind local) = refl
-no_targets at (Writes kind local) = refl
-no_targets at (Increments local) = refl
-no_targets at (Moves operator) = refl
-no_targets at (Leaves kind) = refl
-no_targets at Ends = refl
-no_targets at Stuck = refl

@@ -1,13 +1,39 @@
 //! What an instruction does, of those that are supported.
-use insn::{Kind, StackOperator};
+ghost use Rattle.std.specs.Prelude.{◌≡◌, length};
+ghost use Rattle.machine.specs.private.Deeds.{needs_view};
+
+use insn::{Branches, Kind, StackOperator};
+
+/// What is taken from the stack, the first of it from the top.
+#[derive(Clone, Copy, Debug)]
+pub enum Needs {
+    /// Numbers of these kinds.
+    Numbers(&'static [Kind]),
+    /// So many references.
+    References(usize),
+}
+
+impl Needs {
+    /// How many operands they are.
+    pub fn count(self) -> usize
+        ensures { result ≡ length (needs_view self) }
+    {
+        match self {
+            Needs::Numbers(kinds) => kinds.len(),
+            Needs::References(count) => count,
+        }
+    }
+}
 
 /// What an instruction does (JVMS 6.5).
 #[derive(Clone, Copy, Debug)]
-pub enum Deed {
-    /// Numbers of these kinds are taken, the first of them from the top, and one may be given.
+pub enum Deed<'a> {
+    /// Operands are taken, and a number may be given; then it goes to where it branches, or on.
     Operates {
-        needs: &'static [Kind],
+        needs: Needs,
         reply: Option<Kind>,
+        branches: Branches<'a>,
+        falls: bool,
     },
     /// A number is read from a local variable.
     Reads {

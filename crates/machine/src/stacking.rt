@@ -80,15 +80,15 @@ fn rearranged(alloc: Global, form: StackForm, stack: &[Value]) -> Result<Vec<Val
 /// The stack after what an instruction does, where its operands are there.
 pub fn stack_after(
     alloc: Global,
-    deed: Deed,
+    deed: Deed<'_>,
     stack: &[Value],
     locals: &[Slot],
 ) -> Result<Vec<Value>, AllocError>
-    ensures { IfOk result (λ v. stack_of v.items ≡ stack_after deed (stack_of stack.now) (locals_of locals.now)) }
+    ensures { IfOk result (λ v. stack_of v.items ≡ stack_after deed.entry (stack_of stack.now) (locals_of locals.now)) }
 {
     match deed {
-        Deed::Operates { needs, reply } => {
-            with_item(alloc, given(reply), beneath(needs.len(), stack))
+        Deed::Operates { needs, reply, .. } => {
+            with_item(alloc, given(reply), beneath(needs.count(), stack))
         }
         Deed::Reads { local, .. } => with_item(alloc, held(locals, local), stack),
         Deed::Writes { .. } => with_item(alloc, None, beneath(1, stack)),

@@ -2,12 +2,13 @@
 ghost use Rattle.std.specs.Prelude.{◌≡◌, Some, None, map, option_map, slice_get, MatchOption};
 ghost use Rattle.classfile.specs.Methods.{covers};
 ghost use Rattle.insn.specs.Offsets.{StartsRise, at_offset, next_offset, has_offset};
+ghost use Rattle.insn.specs.Branching.{targets_of};
 ghost use Rattle.insn.specs.Views.{views, act_view};
 ghost use Rattle.machine.specs.Bodies.{code_of, entry_view};
-ghost use Rattle.machine.specs.private.Demanded.{leads, all_lead};
+ghost use Rattle.machine.specs.private.Demanded.{begins, all_begin, leads, all_lead};
 
 use crate::body::ExceptionEntry;
-use insn::{Act, Insn, act, is_rising_start};
+use insn::{Act, BranchTargets, Insn, act, is_rising_start};
 
 // Where the instruction of this number begins, if there is one.
 fn start_at(list: &[(u16, Insn<'_>)], number: usize) -> Option<u16>
@@ -53,6 +54,30 @@ fn leads(entry: &ExceptionEntry<'_>, at: u16, list: &[(u16, Insn<'_>)]) -> bool
     ensures { result ≡ leads (code_of list.now) at (entry_view entry.now) }
 {
     !covers(entry, at) || has_offset(list, entry.handler)
+}
+
+// Whether an instruction begins where a branch leads.
+fn begins(list: &[(u16, Insn<'_>)], target: i64) -> bool
+    requires { StartsRise 0 (views list.now) }
+    ensures { result ≡ begins (code_of list.now) target }
+{
+    match u16::try_from(target) {
+        Ok(at) => has_offset(list, at),
+        Err(_) => false,
+    }
+}
+
+/// Whether an instruction begins at each of these targets.
+pub fn all_begin(targets: BranchTargets<'_>, list: &[(u16, Insn<'_>)]) -> bool
+    requires { StartsRise 0 (views list.now) }
+    ensures { result ≡ all_begin (code_of list.now) (targets_of targets.entry) }
+{
+    for target in targets {
+        if !begins(list, target) {
+            return false;
+        }
+    }
+    true
 }
 
 /// Whether an instruction begins at the handler of each entry that covers the one at an offset.

@@ -1,10 +1,11 @@
 -- Words of the code's own steps: nothing that a reader must believe rests on them.
 -- What the calls answer that go on and that raise, by what is done and where the next instruction begins.
-use Rattle.std.specs.Prelude.{◌≡◌, ℕ, zero, suc, ◌+◌, ◌≤◌, Bool, true, false, List, [], ◌∷◌, slice_get, Option, Some, None, Result, Ok, Err, if◌then◌else◌}
+use Rattle.std.specs.Prelude.{◌≡◌, ◌⊎◌, ℕ, zero, suc, ◌+◌, ◌≤◌, ℤ, pos, Bool, true, false, List, [], ◌∷◌, slice_get, Option, Some, None, Result, Ok, Err, if◌then◌else◌}
 use Rattle.names.specs.ReferenceTypes.{ReferenceType}
 use Rattle.hierarchy.specs.World.{World}
 use Rattle.classfile.specs.Methods.{Method, ExceptionEntry, covers}
 use Rattle.insn.specs.Meanings.{Act}
+use Rattle.insn.specs.Offsets.{IsAmong}
 use Rattle.machine.specs.declared.deed.Deed.{Deed}
 use Rattle.machine.specs.declared.deed.Deed.TheVariants.{Operates, Reads, Writes, Increments, Moves, Leaves, Ends, Stuck}
 use Rattle.machine.specs.declared.choosing.Outcome.{Outcome as RawOutcome}
@@ -14,9 +15,9 @@ use Rattle.machine.specs.declared.choosing.StepFault.TheVariants.{OutOfMemory, N
 use Rattle.insn.specs.Acts.{kind_units}
 use Rattle.machine.specs.Values.{Value, number, reference, Slot, empty, is_wide_slot, behind_lost, stored}
 use Rattle.machine.specs.Heap.{Heap, IsBelow, IsFresh, with_fresh}
-use Rattle.machine.specs.Tasks.{falls}
+use Rattle.machine.specs.Tasks.{falls, targets}
 use Rattle.machine.specs.Demands.{State}
-use Rattle.machine.specs.Steps.{IsRaised, IsCaught, moved_with}
+use Rattle.machine.specs.Steps.{IsBranch, IsRaised, IsCaught, moved_with}
 use Rattle.machine.specs.private.Deeds.{task_view, stack_after}
 use Rattle.machine.specs.Views.{state_view}
 
@@ -36,7 +37,7 @@ with_behind zero (s ∷ ss) = s ∷ behind_lost (is_wide_slot s) ss
 with_behind (suc n) (s ∷ ss) = s ∷ with_behind n ss
 
 abbrev pub locals_after : Deed → List Slot → List Slot
-locals_after (Operates needs reply) ls = ls
+locals_after (Operates needs reply branches falls) ls = ls
 locals_after (Reads kind local) ls = ls
 locals_after (Writes kind local) ls = stored (number kind) local ls
 locals_after (Increments local) ls = ls
@@ -47,7 +48,7 @@ locals_after Stuck ls = ls
 
 -- so many local variables are enough for what is written
 abbrev pub HasPlace : Deed → ℕ → Type 0
-HasPlace (Operates needs reply) n = Unit {0}
+HasPlace (Operates needs reply branches falls) n = Unit {0}
 HasPlace (Reads kind local) n = Unit {0}
 HasPlace (Writes kind local) n = local + kind_units kind ≤ n
 HasPlace (Increments local) n = Unit {0}
@@ -59,7 +60,7 @@ HasPlace Stuck n = Unit {0}
 -- ---- going on
 
 abbrev pub is_last : Deed → Bool
-is_last (Operates needs reply) = false
+is_last (Operates needs reply branches falls) = false
 is_last (Reads kind local) = false
 is_last (Writes kind local) = false
 is_last (Increments local) = false
@@ -73,29 +74,39 @@ state_after d s at fresh =
     record { at = at; stack = stack_after d s.stack s.locals; locals = locals_after d s.locals; heap = with_fresh s.heap fresh }
 
 -- a choice that may be made: nothing is asked, and the new objects are new
-pub record IsAsked (s : State) (branch : Option ℕ) (answer : Option Value) (fresh : List (ℕ × ReferenceType)) : Type 0 where
-  pub no_branch : branch ≡ None
+pub record IsAsked (s : State) (answer : Option Value) (fresh : List (ℕ × ReferenceType)) : Type 0 where
   pub no_answer : answer ≡ None
   pub unused : IsFresh s.heap fresh
 
--- it goes on to the next start
-pub record GoesOn (d : Deed) (next : Option ℕ) (s : State) (fresh : List (ℕ × ReferenceType)) (t : State) : Type 0 where
-  pub goes : falls (task_view d) ≡ true
-  pub at : ℕ
-  pub here : next ≡ Some at
-  pub result : t ≡ state_after d s at fresh
+-- an instruction with these targets goes to an offset by its branch, where that is the next start
+pub record MayGo (targets : List ℤ) (falls : Bool) (next branch : Option ℕ) (to : ℕ) : Type 0 where
+  pub by : IsBranch targets branch to
+  pub where_to : IsAmong (pos to) targets ⊎ ((falls ≡ true) × (next ≡ Some to))
+
+abbrev pub GoesWay : Deed → Option ℕ → ℕ → Option ℕ → ℕ → Type 0
+GoesWay d next from branch to = MayGo (targets from (task_view d)) (falls (task_view d)) next branch to
+
+-- it goes to an offset
+pub record GoesOn (d : Deed) (next : Option ℕ) (s : State) (branch : Option ℕ) (fresh : List (ℕ × ReferenceType)) (t : State) : Type 0 where
+  pub to : ℕ
+  pub way : GoesWay d next s.at branch to
+  pub result : t ≡ state_after d s to fresh
+
+-- it ends, by no branch
+abbrev pub EndsSo : Deed → Option ℕ → Type 0
+EndsSo d branch = (is_last d ≡ true) × (branch ≡ None)
 
 -- neither does it go on nor end
-pub record Stays (d : Deed) (next : Option ℕ) : Type 0 where
-  pub goes : falls (task_view d) ≡ true → (at : ℕ) → next ≡ Some at → ⊥
-  pub ends : is_last d ≡ false
+pub record Stays (d : Deed) (next : Option ℕ) (from : ℕ) (branch : Option ℕ) : Type 0 where
+  pub goes : (to : ℕ) → GoesWay d next from branch to → ⊥
+  pub ends : EndsSo d branch → ⊥
 
 abbrev pub Goes : Deed → Option ℕ → State → Option ℕ → Option Value → List (ℕ × ReferenceType) → Result RawOutcome StepFault → Type 0
-Goes d next s branch answer fresh (Ok (outcomes.Next t)) = IsAsked s branch answer fresh × GoesOn d next s fresh (state_view t)
-Goes d next s branch answer fresh (Ok outcomes.Ended) = IsAsked s branch answer fresh × (is_last d ≡ true)
+Goes d next s branch answer fresh (Ok (outcomes.Next t)) = IsAsked s answer fresh × GoesOn d next s branch fresh (state_view t)
+Goes d next s branch answer fresh (Ok outcomes.Ended) = IsAsked s answer fresh × EndsSo d branch
 Goes d next s branch answer fresh (Ok outcomes.Fault) = ⊥
 Goes d next s branch answer fresh (Err OutOfMemory) = Unit {0}
-Goes d next s branch answer fresh (Err NotAChoice) = IsAsked s branch answer fresh → Stays d next
+Goes d next s branch answer fresh (Err NotAChoice) = IsAsked s answer fresh → Stays d next s.at branch
 
 -- ---- raising
 
