@@ -1,6 +1,6 @@
 -- What comes of a choice is what the calls answer that go on and that raise.
 use Rattle.std.specs.Prelude.{pos, nat_le}
-use Rattle.std.proofs.Common.{◌≡◌, ℕ, ◌+◌, true, List, [], ◌∷◌, ◌++◌, drop, slice_get, Option, Some, None, Result, Ok, Err, refl, sym, ap, ◌∙◌, subst, inl, inr}
+use Rattle.std.proofs.Common.{◌≡◌, ℕ, ◌+◌, true, false, List, [], ◌∷◌, ◌++◌, drop, slice_get, Option, Some, None, Result, Ok, Err, refl, sym, ap, ◌∙◌, subst, inl, inr}
 use Rattle.std.proofs.lemmas.Bool.{false≢true}
 use Rattle.names.specs.ReferenceTypes.{ReferenceType}
 use Rattle.hierarchy.specs.World.{World}

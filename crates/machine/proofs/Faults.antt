@@ -1,6 +1,6 @@
 -- A state is no fault exactly where it meets the tests.
 use Rattle.std.specs.Prelude.{not, nat_le, ◌&&◌}
-use Rattle.std.proofs.Common.{◌≡◌, ℕ, zero, suc, ◌+◌, ◌≤◌, Bool, true, false, List, [], ◌∷◌, ◌++◌, length, drop, replicate, slice_get, Option, Some, None, if◌then◌else◌, refl, sym, ap, ◌∙◌, subst, arith, inl, inr}
+use Rattle.std.proofs.Common.{◌≡◌, ℕ, ◌+◌, ◌≤◌, Bool, true, false, List, [], ◌∷◌, ◌++◌, length, drop, map, slice_get, Option, Some, None, if◌then◌else◌, refl, sym, ap, ◌∙◌, subst, arith, inl, inr}
 use Rattle.std.specs.Option.{is_some}
 use Rattle.std.proofs.lemmas.Bool.Decides.{nat_tests}
 use Rattle.hierarchy.specs.World.{World}
@@ -15,15 +15,17 @@ use Rattle.insn.specs.Meanings.{Act}
 use Rattle.insn.specs.Offsets.{IsAmong}
 use Rattle.insn.specs.Stacks.{same_kind, beneath, rearranged}
 use Rattle.machine.specs.declared.deed.Needs.{Needs}
-use Rattle.machine.specs.declared.deed.Needs.TheVariants.{Numbers, References}
+use Rattle.machine.specs.declared.deed.Needs.TheVariants.{Numbers, Operands}
+use Rattle.machine.specs.declared.deed.Need.{Need as RawNeed}
+use Rattle.machine.specs.declared.deed.Need.TheVariants.{Number, Reference}
 use Rattle.machine.specs.declared.deed.Deed.{Deed}
 use Rattle.machine.specs.declared.deed.Deed.TheVariants.{Operates, Reads, Writes, Increments, Moves, Leaves, Ends, Stuck}
 use Rattle.machine.specs.Values.{Value, number, null, reference, Slot, empty, second, holds, is_wide_value, units, depth_of, ArePairedBehind, place_of}
-use Rattle.machine.specs.Heap.{Heap, IsReference}
-use Rattle.machine.specs.Tasks.{Need, of_kind, some_reference, needs_of_kinds, needs_of, reply_units}
-use Rattle.machine.specs.Demands.{State, AllMeet, AreForm, HasLocal, MeetsRest, HasRoom, AllUsable}
-use Rattle.machine.specs.private.Decided.{is_number, has_kinds, is_reference, has_references, has_needs, holds_number, same_place, are_form, form_for, paired_behind}
-use Rattle.machine.specs.private.Deeds.{needs_view, reply_view, task_view, given, held, rearranged_by, stack_after}
+use Rattle.machine.specs.Heap.{Heap}
+use Rattle.machine.specs.Tasks.{Need, of_kind, needs_of_kinds, needs_of, reply_units}
+use Rattle.machine.specs.Demands.{State, Meets, IsUsable, AllMeet, AreForm, HasLocal, MeetsRest, HasRoom, AllUsable}
+use Rattle.machine.specs.private.Decided.{is_number, has_kinds, meets, has_all, has_needs, holds_number, same_place, are_form, form_for, paired_behind}
+use Rattle.machine.specs.private.Deeds.{need_view, needs_view, reply_view, task_view, given, held, rearranged_by, stack_after}
 use Rattle.machine.specs.private.Demanded.{has_operands}
 use Rattle.machine.proofs.Apart.{table_apart, one_form}
 
@@ -79,47 +81,53 @@ module _ (world : World) (heap : Heap) where
   meet_kinds (k ∷ ks) [] e = absurd e
   meet_kinds (k ∷ ks) (v ∷ vs) e = join (is_number k v) (has_kinds ks vs) (is_the_number k v e.0) (meet_kinds ks vs e.1)
 
-  references_meet : (n : ℕ) (vs : List Value) → has_references n vs ≡ true → AllMeet world heap (replicate n some_reference) vs
-  references_meet zero vs e = tt
-  references_meet (suc n) [] e = absurd cc
-  references_meet (suc n) (v ∷ vs) e = let p = split (is_reference v) (has_references n vs) e in (a_reference v p.0, references_meet n vs p.1)
-    where
-      a_reference : (v : Value) → is_reference v ≡ true → IsReference v
-      a_reference (number k) e = absurd cc
-      a_reference null e = tt
-      a_reference (reference a) e = tt
+  need_met : (n : RawNeed) (v : Value) → meets n v ≡ true → Meets world heap (need_view n) v
+  need_met (Number kind) v e = number_is kind v e
+  need_met Reference (number k) e = absurd cc
+  need_met Reference null e = tt
+  need_met Reference (reference a) e = tt
 
-  meet_references : (n : ℕ) (vs : List Value) → AllMeet world heap (replicate n some_reference) vs → has_references n vs ≡ true
-  meet_references zero vs e = refl
-  meet_references (suc n) [] e = absurd e
-  meet_references (suc n) (v ∷ vs) e = join (is_reference v) (has_references n vs) (is_one v e.0) (meet_references n vs e.1)
-    where
-      is_one : (v : Value) → IsReference v → is_reference v ≡ true
-      is_one (number k) e = absurd e
-      is_one null e = refl
-      is_one (reference a) e = refl
+  met_need : (n : RawNeed) (v : Value) → Meets world heap (need_view n) v → meets n v ≡ true
+  met_need (Number kind) v e = is_the_number kind v e
+  met_need Reference (number k) e = absurd e
+  met_need Reference null e = refl
+  met_need Reference (reference a) e = refl
+
+  listed_meet : (ns : List RawNeed) (vs : List Value) → has_all ns vs ≡ true → AllMeet world heap (map need_view ns) vs
+  listed_meet [] vs e = tt
+  listed_meet (n ∷ ns) [] e = absurd cc
+  listed_meet (n ∷ ns) (v ∷ vs) e = let p = split (meets n v) (has_all ns vs) e in (need_met n v p.0, listed_meet ns vs p.1)
+
+  meet_listed : (ns : List RawNeed) (vs : List Value) → AllMeet world heap (map need_view ns) vs → has_all ns vs ≡ true
+  meet_listed [] vs e = refl
+  meet_listed (n ∷ ns) [] e = absurd e
+  meet_listed (n ∷ ns) (v ∷ vs) e = join (meets n v) (has_all ns vs) (met_need n v e.0) (meet_listed ns vs e.1)
 
   needs_meet : (needs : Needs) (vs : List Value) → has_needs needs vs ≡ true → AllMeet world heap (needs_view needs) vs
   needs_meet (Numbers kinds) vs e = kinds_meet kinds.now vs e
-  needs_meet (References count) vs e = references_meet count vs e
+  needs_meet (Operands needs) vs e = listed_meet needs.now vs e
 
   meet_needs : (needs : Needs) (vs : List Value) → AllMeet world heap (needs_view needs) vs → has_needs needs vs ≡ true
   meet_needs (Numbers kinds) vs e = meet_kinds kinds.now vs e
-  meet_needs (References count) vs e = meet_references count vs e
+  meet_needs (Operands needs) vs e = meet_listed needs.now vs e
 
 kinds_usable : (heap : Heap) (ks : List Kind) (vs : List Value) → AllUsable heap (needs_of_kinds ks) vs
 kinds_usable heap [] vs = tt
 kinds_usable heap (k ∷ ks) [] = tt
 kinds_usable heap (k ∷ ks) (v ∷ vs) = (tt, kinds_usable heap ks vs)
 
-references_usable : (heap : Heap) (n : ℕ) (vs : List Value) → AllUsable heap (replicate n some_reference) vs
-references_usable heap zero vs = tt
-references_usable heap (suc n) [] = tt
-references_usable heap (suc n) (v ∷ vs) = (tt, references_usable heap n vs)
+need_usable : (heap : Heap) (n : RawNeed) (v : Value) → IsUsable heap (need_view n) v
+need_usable heap (Number kind) v = tt
+need_usable heap Reference v = tt
+
+listed_usable : (heap : Heap) (ns : List RawNeed) (vs : List Value) → AllUsable heap (map need_view ns) vs
+listed_usable heap [] vs = tt
+listed_usable heap (n ∷ ns) [] = tt
+listed_usable heap (n ∷ ns) (v ∷ vs) = (need_usable heap n v, listed_usable heap ns vs)
 
 needs_usable : (heap : Heap) (needs : Needs) (vs : List Value) → AllUsable heap (needs_view needs) vs
 needs_usable heap (Numbers kinds) vs = kinds_usable heap kinds.now vs
-needs_usable heap (References count) vs = references_usable heap count vs
+needs_usable heap (Operands needs) vs = listed_usable heap needs.now vs
 
 pub held_number : (k : Kind) (o : Option Slot) → holds_number k o ≡ true → (v : Value) × (o ≡ Some (holds v)) × (v ≡ number k)
 held_number k None e = absurd cc

@@ -13,3 +13,4 @@ mod Raised
 mod Chosen
 mod Entries
 mod Yet
+pub mod Targets

@@ -1,5 +1,5 @@
 -- What an instruction takes, gives and does in the machine (JVMS 2.11, 6.5), family by family.
-use Rattle.std.specs.Prelude.{ℕ, zero, suc, ℤ, Bool, true, false, not, ◌&&◌, ◌||◌, nat_lt, nat_eq, bytes_eq, if◌then◌else◌, List, [], ◌∷◌, length, Option, Some, None}
+use Rattle.std.specs.Prelude.{ℕ, zero, suc, ℤ, Bool, true, false, not, ◌&&◌, ◌||◌, nat_lt, nat_eq, bytes_eq, if◌then◌else◌, List, [], ◌∷◌, map, length, Option, Some, None}
 use Rattle.names.specs.declared.base.Primitive.{Primitive}
 use Rattle.names.specs.declared.base.Primitive.TheVariants as primitives
 use Rattle.names.specs.Descriptors.{FieldDescriptor, primitive, class, array, method_width}
@@ -69,8 +69,7 @@ need_of (class name) = of_type (class_type name)
 need_of (array component) = of_type (array_type component)
 
 abbrev pub needs_of_kinds : List Kind → List Need
-needs_of_kinds [] = []
-needs_of_kinds (kind ∷ kinds) = of_kind kind ∷ needs_of_kinds kinds
+needs_of_kinds kinds = map of_kind kinds
 
 -- arguments on what stands beneath them, the last one on top
 abbrev pub arguments_on : List FieldDescriptor → List Need → List Need

@@ -4,13 +4,22 @@ ghost use Rattle.machine.specs.private.Deeds.{needs_view};
 
 use insn::{Branches, Kind, StackOperator};
 
+/// What an instruction needs of an operand.
+#[derive(Clone, Copy, Debug)]
+pub enum Need {
+    /// A number of the kind.
+    Number(Kind),
+    /// A reference, whatever object it is to, or null.
+    Reference,
+}
+
 /// What is taken from the stack, the first of it from the top.
 #[derive(Clone, Copy, Debug)]
 pub enum Needs {
     /// Numbers of these kinds.
     Numbers(&'static [Kind]),
-    /// So many references.
-    References(usize),
+    /// Operands that meet these needs.
+    Operands(&'static [Need]),
 }
 
 impl Needs {
@@ -20,7 +29,7 @@ impl Needs {
     {
         match self {
             Needs::Numbers(kinds) => kinds.len(),
-            Needs::References(count) => count,
+            Needs::Operands(needs) => needs.len(),
         }
     }
 }

@@ -10,7 +10,7 @@ ghost use Rattle.machine.specs.private.Deeds.{needs_view, reply_view, task_view}
 ghost use Rattle.machine.specs.Bodies.{method_view};
 
 use crate::body::Method;
-use crate::deed::{Deed, Needs};
+use crate::deed::{Deed, Need, Needs};
 use insn::{Act, Branches, Kind, computed_as};
 use names::{Base, FieldType, Primitive};
 use pool::{Constant, Pool};
@@ -29,16 +29,16 @@ fn leave<'a>(primitive_type: Primitive, kind: Kind) -> Deed<'a>
 fn return_number<'a>(result_type: Option<FieldType<'_>>, kind: Kind) -> Deed<'a>
     ensures { task_view result ≡ return_number (option_map type_of result_type.entry) kind }
 {
-    match result_type {
-        None => Deed::Stuck,
-        Some(t) => match t.dims {
-            0 => match t.base {
-                Base::Primitive(primitive) => leave(primitive, kind),
-                Base::Class(_) => Deed::Stuck,
-            },
-            _ => Deed::Stuck,
-        },
+    let Some(t) = result_type else {
+        return Deed::Stuck;
+    };
+    if t.dims != 0 {
+        return Deed::Stuck;
     }
+    let Base::Primitive(primitive) = t.base else {
+        return Deed::Stuck;
+    };
+    leave(primitive, kind)
 }
 
 fn return_nothing<'a>(result_type: Option<FieldType<'_>>) -> Deed<'a>
@@ -91,11 +91,15 @@ fn branches_if<'a>(needs: Needs, offset: i32) -> Deed<'a>
 fn load_wide_constant<'a>(pool: &Pool<'_>, index: u16) -> Deed<'a>
     ensures { task_view result ≡ load_wide_constant (constant_at pool.now index) }
 {
-    match pool.get(index) {
-        Ok(Constant::Long { .. }) => gives(Kind::Long),
-        Ok(Constant::Double { .. }) => gives(Kind::Double),
-        Ok(_) | Err(_) => Deed::Stuck,
-    }
+    let Ok(constant) = pool.get(index) else {
+        return Deed::Stuck;
+    };
+    let kind = match constant {
+        Constant::Long { .. } => Kind::Long,
+        Constant::Double { .. } => Kind::Double,
+        _ => return Deed::Stuck,
+    };
+    gives(kind)
 }
 
 /// What an instruction of the method does.
@@ -116,8 +120,8 @@ pub fn deed_of<'a>(act: Act<'a>, method: &Method<'_, '_>) -> Deed<'a>
         Act::Stack(operator) => Deed::Moves(operator),
         Act::IfInt { offset } => branches_if(Needs::Numbers(&[Kind::Int]), offset),
         Act::IfInts { offset } => branches_if(Needs::Numbers(&[Kind::Int, Kind::Int]), offset),
-        Act::IfReferences { offset } => branches_if(Needs::References(2), offset),
-        Act::IfNull { offset } => branches_if(Needs::References(1), offset),
+        Act::IfReferences { offset } => branches_if(Needs::Operands(&[Need::Reference, Need::Reference]), offset),
+        Act::IfNull { offset } => branches_if(Needs::Operands(&[Need::Reference]), offset),
         Act::Goto { offset } => branches(Needs::Numbers(&[]), Branches::One(offset), false),
         Act::Switch { default, targets } => branches(
             Needs::Numbers(&[Kind::Int]),

@@ -110,7 +110,7 @@ pub fn meets(
     state: &State<'_>,
     after: &[Value],
 ) -> bool
-    requires { let s = state_view state.now in stack_of after.now ≡ stack_after deed.entry s.stack s.locals }
+    requires { let s = state_view state.now in stack_of after.now ≡ stack_after deed s.stack s.locals }
     ensures { IsTrue result ↔ Meets (method_view method.now) deed.entry next (state_view state.now) }
 {
     let code = method.code;

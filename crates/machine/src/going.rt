@@ -79,8 +79,8 @@ pub fn go<'a>(
     answer: Option<Value>,
     fresh: &[(u32, RunType<'a>)],
 ) -> Result<Outcome<'a>, StepFault>
-    requires place { HasPlace deed.entry (length state.now.locals.items) }
-    requires after { let s = state_view state.now in stack_of stack.items ≡ stack_after deed.entry s.stack s.locals }
+    requires place { HasPlace deed (length state.now.locals.items) }
+    requires after { let s = state_view state.now in stack_of stack.items ≡ stack_after deed s.stack s.locals }
     ensures { Goes deed.entry next (state_view state.now) branch (option_map value_view answer) (fresh_view fresh.now) result }
 {
     if answer.is_some() {

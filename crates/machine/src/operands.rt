@@ -2,10 +2,10 @@
 ghost use Rattle.std.specs.Prelude.{◌≡◌, ◌≤◌, ◌↔◌, IsTrue, nat_lt, option_map, map, slice_get, false};
 ghost use Rattle.insn.specs.Views.{stack_form_view};
 ghost use Rattle.machine.specs.Values.{depth_of, units, is_wide_value};
-ghost use Rattle.machine.specs.private.Decided.{has_kinds, is_reference, has_references, has_needs, holds_number, same_place, are_form, form_for, is_behind, paired_behind};
+ghost use Rattle.machine.specs.private.Decided.{has_kinds, meets, has_all, has_needs, holds_number, same_place, are_form, form_for, is_behind, paired_behind};
 ghost use Rattle.machine.specs.Views.{value_view, slot_view, stack_of, locals_of};
 
-use crate::deed::Needs;
+use crate::deed::{Need, Needs};
 use crate::items::{Slot, Value, is_number, is_second, is_wide_slot, is_wide_value, place_of};
 use insn::{Kind, StackForm, StackPlace};
 
@@ -22,25 +22,28 @@ pub fn has_kinds(kinds: &[Kind], stack: &[Value]) -> bool
     }
 }
 
-fn is_reference(value: Value) -> bool
-    ensures { result ≡ is_reference (value_view value) }
+fn meets(need: Need, value: Value) -> bool
+    ensures { result ≡ meets need (value_view value) }
 {
-    match value {
-        Value::Null | Value::Ref(_) => true,
-        Value::Int | Value::Float | Value::Long | Value::Double => false,
+    match need {
+        Need::Number(kind) => is_number(value, kind),
+        Need::Reference => match value {
+            Value::Null | Value::Ref(_) => true,
+            Value::Int | Value::Float | Value::Long | Value::Double => false,
+        },
     }
 }
 
-/// Whether so many references are on top of the stack.
-fn has_references(count: usize, stack: &[Value]) -> bool
-    ensures { result ≡ has_references count (stack_of stack.now) }
+/// Whether operands that meet these needs are on top of the stack, the first of them on top.
+fn has_operands(needs: &[Need], stack: &[Value]) -> bool
+    ensures { result ≡ has_all needs.now (stack_of stack.now) }
 {
-    if count == 0 {
-        return true;
-    }
-    match stack {
-        [] => false,
-        [stack @ .., top] => is_reference(*top) && has_references(count - 1, stack),
+    match needs {
+        [] => true,
+        [need, needs @ ..] => match stack {
+            [] => false,
+            [stack @ .., top] => meets(*need, *top) && has_operands(needs, stack),
+        },
     }
 }
 
@@ -50,7 +53,7 @@ pub fn has_needs(needs: Needs, stack: &[Value]) -> bool
 {
     match needs {
         Needs::Numbers(kinds) => has_kinds(kinds, stack),
-        Needs::References(count) => has_references(count, stack),
+        Needs::Operands(needs) => has_operands(needs, stack),
     }
 }
 

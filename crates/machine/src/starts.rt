@@ -61,10 +61,16 @@ fn begins(list: &[(u16, Insn<'_>)], target: i64) -> bool
     requires { StartsRise 0 (views list.now) }
     ensures { result ≡ begins (code_of list.now) target }
 {
-    match u16::try_from(target) {
-        Ok(at) => has_offset(list, at),
-        Err(_) => false,
+    if target < 0 {
+        return false;
     }
+    let Some((last, _)) = list.last() else {
+        return false;
+    };
+    if i64::from(*last) < target {
+        return false;
+    }
+    has_offset(list, target as u16)
 }
 
 /// Whether an instruction begins at each of these targets.

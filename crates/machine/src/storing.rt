@@ -71,7 +71,7 @@ fn store(kind: Kind, local: u16, slots: &mut [Slot])
 
 /// The local variables after what an instruction does.
 pub fn locals_after(alloc: Global, deed: Deed<'_>, locals: &[Slot]) -> Result<Vec<Slot>, AllocError>
-    requires { HasPlace deed.entry (length locals.now) }
+    requires { HasPlace deed (length locals.now) }
     ensures { IfOk result (λ v. locals_of v.items ≡ locals_after deed.entry (locals_of locals.now)) }
 {
     let mut after = Vec::new(alloc);

@@ -1,6 +1,6 @@
 -- Words of the code's own steps: nothing that a reader must believe rests on them.
 -- What the machine demands, as tests that compute.
-use Rattle.std.specs.Prelude.{ℕ, zero, suc, Bool, true, false, not, ◌&&◌, ◌||◌, if◌then◌else◌, bytes_eq, List, [], ◌∷◌, Option, Some, None}
+use Rattle.std.specs.Prelude.{ℕ, Bool, true, false, not, ◌&&◌, ◌||◌, if◌then◌else◌, bytes_eq, List, [], ◌∷◌, Option, Some, None}
 use Rattle.names.specs.declared.base.Primitive.{Primitive}
 use Rattle.names.specs.declared.base.Primitive.TheVariants.{Byte, Char, Double as DoubleType, Float as FloatType, Int as IntType, Long as LongType, Short, Boolean}
 use Rattle.names.specs.Descriptors.{FieldDescriptor, primitive, class, array}
@@ -13,7 +13,9 @@ use Rattle.insn.specs.declared.stack.StackPlace.TheVariants.{Narrow, Wide}
 use Rattle.insn.specs.Acts.{StackForm}
 use Rattle.insn.specs.Stacks.{same_kind}
 use Rattle.machine.specs.declared.deed.Needs.{Needs}
-use Rattle.machine.specs.declared.deed.Needs.TheVariants.{Numbers, References}
+use Rattle.machine.specs.declared.deed.Needs.TheVariants.{Numbers, Operands}
+use Rattle.machine.specs.declared.deed.Need.{Need}
+use Rattle.machine.specs.declared.deed.Need.TheVariants.{Number, Reference}
 use Rattle.machine.specs.Heap.{Status, ready, made, this, Object}
 use Rattle.machine.specs.Values.{Value, number, null, reference, Slot, empty, second, holds, is_wide_slot, place_of}
 
@@ -35,16 +37,20 @@ is_reference (number kind) = false
 is_reference null = true
 is_reference (reference a) = true
 
--- so many references are on top
-abbrev pub has_references : ℕ → List Value → Bool
-has_references zero vs = true
-has_references (suc n) [] = false
-has_references (suc n) (v ∷ vs) = is_reference v && has_references n vs
+abbrev pub meets : Need → Value → Bool
+meets (Number kind) v = is_number kind v
+meets Reference v = is_reference v
+
+-- operands that meet these needs are on top
+abbrev pub has_all : List Need → List Value → Bool
+has_all [] vs = true
+has_all (n ∷ ns) [] = false
+has_all (n ∷ ns) (v ∷ vs) = meets n v && has_all ns vs
 
 -- what is needed is on top
 abbrev pub has_needs : Needs → List Value → Bool
 has_needs (Numbers kinds) vs = has_kinds kinds.now vs
-has_needs (References count) vs = has_references count vs
+has_needs (Operands needs) vs = has_all needs.now vs
 
 -- a local variable that holds a number of the kind
 abbrev pub holds_number : Kind → Option Slot → Bool

@@ -1,21 +1,27 @@
 -- Words of the code's own steps: nothing that a reader must believe rests on them.
 -- What the instructions do that are supported, as the program keeps it, and the stack after each.
-use Rattle.std.specs.Prelude.{true, List, [], ◌∷◌, ◌++◌, Option, Some, None, slice_get, length, drop, replicate}
+use Rattle.std.specs.Prelude.{true, List, [], ◌∷◌, ◌++◌, Option, Some, None, map, slice_get, length, drop}
 use Rattle.insn.specs.declared.operation.Kind.{Kind}
 use Rattle.insn.specs.Acts.{StackForm, stack_forms, kind_units}
 use Rattle.insn.specs.Stacks.{rearranged}
 use Rattle.insn.specs.Branching.{branches_view}
 use Rattle.machine.specs.declared.deed.Needs.{Needs}
-use Rattle.machine.specs.declared.deed.Needs.TheVariants.{Numbers, References}
+use Rattle.machine.specs.declared.deed.Needs.TheVariants.{Numbers, Operands}
+use Rattle.machine.specs.declared.deed.Need.{Need as RawNeed}
+use Rattle.machine.specs.declared.deed.Need.TheVariants.{Number, Reference}
 use Rattle.machine.specs.declared.deed.Deed.{Deed}
 use Rattle.machine.specs.declared.deed.Deed.TheVariants.{Operates, Reads, Writes, Increments, Moves, Leaves, Ends, Stuck}
 use Rattle.machine.specs.Values.{Value, number, Slot, holds}
 use Rattle.machine.specs.Tasks.{Need, of_kind, some_reference, Reply, no_reply, gives_number, Task, operates, reads, writes, increments, moves, leaves, ends, stuck, needs_of_kinds}
 use Rattle.machine.specs.private.Decided.{form_for}
 
+abbrev pub need_view : RawNeed → Need
+need_view (Number kind) = of_kind kind
+need_view Reference = some_reference
+
 abbrev pub needs_view : Needs → List Need
 needs_view (Numbers kinds) = needs_of_kinds kinds.now
-needs_view (References count) = replicate count some_reference
+needs_view (Operands needs) = map need_view needs.now
 
 abbrev pub reply_view : Option Kind → Reply
 reply_view None = no_reply
