@@ -37,7 +37,9 @@ VERDICTS = """
 ()V  0 0 | bytes ab 000000 0000000c ffffffff | refused 79 at 0
 ()V  0 0 | bytes c400 | refused 79 at 0
 ()V  0 0 | bytes b9 0001 01 01 | refused 79 at 0
-()V  0 0 | goto 3; return | refused 60 at 0
+()V  0 0 | goto 3; return | refused 67 at 0
+()V  0 0 | bytes a80003; return | refused 60 at 0
+()V  0 0 | goto 1; return | refused 67 at 0
 ()V  0 0 | jsr 3; return | refused 60 at 0
 # the parameters have to fit; a long takes two local variables, and half of it is none
 (J)V 0 1 | return | refused 64 at 0
@@ -97,6 +99,88 @@ VERDICTS = """
 (I[La(b)c;J)[[Ld)e; 1 4 | return | refused 76 at 0
 """
 
+# The same with a StackMapTable's body in front of the verdict.
+MAPPED = """
+()V 0 0 | return | 0000 | verified
+# loops and branches
+()V 1 1 | iconst_0; istore_0; iinc 0 1; iload_0; ifne -4; return | 0001 fc000201 | verified
+()V 1 1 | iconst_0; istore_0; iinc 0 1; iload_0; ifne -4; return | 0001 02 | refused 63 at 2
+()V 1 1 | iconst_0; istore_0; iinc 0 1; iload_0; ifne -4; return | 0000 | refused 67 at 6
+()V 1 0 | iconst_0; return | 0001 01 | refused 69 at 1
+()V 0 0 | return; nop; return | 0000 | refused 70 at 1
+()V 0 0 | return; nop; return | 0001 01 | verified
+()V 0 0 | goto 3; return | 0001 03 | verified
+()V 0 0 | goto 3; nop | 0001 03 | refused 71 at 3
+()V 0 0 | goto 3; return | 0000 | refused 67 at 0
+()V 0 0 | goto 4; nop; return | 0001 04 | refused 70 at 3
+()V 0 0 | goto 4; nop; return | 0002 0300 | verified
+()V 0 0 | goto -1; return | 0001 03 | refused 67 at 0
+()V 0 0 | nop; goto -1 | 0001 00 | verified
+()V 0 0 | bytes c800000005; return | 0001 05 | verified
+()V 0 0 | bytes c87fffffff; return | 0001 05 | refused 67 at 0
+()V 2 0 | lconst_0; goto 3; iconst_0; pop; return | 0001 4400 | refused 68 at 1
+()V 2 0 | lconst_0; goto 3; pop2; return | 0001 4404 | verified
+()V 1 0 | iconst_0; goto 3; pop; return | 0001 4401 | verified
+()V 1 0 | iconst_0; goto 3; pop; return | 0001 04 | refused 68 at 1
+()V 1 0 | ifeq 3; return | 0001 03 | refused 61 at 0
+()V 1 0 | fconst_0; ifeq 3; return | 0001 04 | refused 62 at 1
+()V 2 0 | iconst_0; iconst_1; if_icmplt 3; return | 0001 05 | verified
+()V 2 0 | iconst_0; if_icmplt 3; return | 0001 04 | refused 61 at 1
+()V 2 0 | iconst_0; fconst_0; if_icmplt 3; return | 0001 05 | refused 62 at 2
+()V 1 0 | iconst_0; ifnull 3; return | 0001 04 | refused 62 at 1
+# references come by the map alone: null, a class, an array, and an object that is not initialized
+()V 1 0 | return; ifnull 3; return | 0002 410502 | verified
+()V 1 0 | return; ifnull 3; return | 0002 4107000102 | verified
+()V 2 0 | return; if_acmpeq 3; return | 0002 ff00010000000205070001 02 | verified
+()V 2 0 | return; if_acmpeq 3; return | 0002 ff000100000002050102 | refused 62 at 1
+()V 2 0 | return; if_acmpeq 3; return | 0002 410502 | refused 61 at 1
+()V 1 0 | return; ifnonnull 3; return | 0002 410102 | refused 62 at 1
+# the least number of an instruction
+()V 1 0 | ifeq 3 | 0000 | refused 61 at 0
+()V 1 0 | iconst_0; ifeq 3 | 0000 | refused 67 at 1
+()V 1 0 | iconst_0; goto 3; pop; goto -1 | 0002 440100 | refused 68 at 5
+# switches: the default's frame is compared as well
+()V 1 0 | iconst_0; bytes aa 0000 00000013 00000000 00000000 00000013; return | 0001 14 | verified
+()V 1 0 | iconst_0; bytes aa 0000 00000013 00000000 00000000 00000012; return | 0001 14 | refused 67 at 1
+()V 1 0 | iconst_0; bytes aa 0000 00000012 00000000 00000000 00000013; return | 0001 14 | refused 67 at 1
+()V 1 0 | iconst_0; bytes ab 0000 00000013 00000001 ffffffff 00000013; return | 0001 14 | verified
+()V 1 0 | bytes ab 000000 00000014 00000001 ffffffff 00000014; return | 0001 14 | refused 61 at 0
+()V 1 0 | lconst_0; bytes aa 0000 00000013 00000000 00000000 00000013; return | 0001 14 | refused 65 at 0
+()V 2 0 | lconst_0; bytes aa 0000 00000013 00000000 00000000 00000013; return | 0001 14 | refused 62 at 1
+# what the entries say: append, chop, full, and an item of the stack
+(IJ)V 0 4 | nop; nop; nop; return | 0003 fc00000100 | refused 78 at 0
+(IJ)V 0 4 | nop; nop; nop; return | 0003 fc000000 fa0000 00 | verified
+(IJ)V 0 4 | nop; nop; nop; return | 0003 f90000 fc000001 00 | refused 69 at 1
+(IJ)V 0 4 | nop; nop; nop; return | 0002 ff0000000201040000 00 | verified
+(IJ)V 0 4 | nop; nop; nop; return | 0002 ff0000000201030000 00 | refused 69 at 0
+(IJ)V 1 4 | nop; nop; nop; return | 0001 4001 | refused 69 at 0
+(IJ)V 0 4 | nop; return | 0001 fb0000 | verified
+(IJ)V 0 4 | nop; return | 0001 fb0001 | verified
+()V 1 0 | nop; iconst_0; pop; return | 0001 f7000201 | verified
+()V 1 0 | nop; iconst_0; pop; return | 0001 f7000202 | refused 69 at 2
+# a map that is refused: by its bytes, and by an entry
+()V 0 0 | nop; return | 00 | refused 78 at 0
+()V 0 0 | nop; return | 0001 | refused 78 at 0
+()V 0 0 | nop; return | 0001 80 | refused 78 at 0
+()V 0 0 | nop; return | 0001 4009 | refused 78 at 0
+()V 0 0 | nop; return | 0001 00 00 | refused 78 at 0
+()V 0 0 | nop; return | 0001 fc000001 | refused 78 at 0
+()V 0 1 | nop; return | 0001 fc000004 | refused 78 at 0
+()V 0 0 | nop; return | 0001 4001 | refused 78 at 0
+()V 1 0 | nop; return | 0001 4004 | refused 78 at 0
+()V 0 0 | nop; return | 0001 fa0000 | refused 78 at 0
+()V 0 0 | bytes 1105 00; return | 0001 01 | refused 78 at 0
+()V 0 0 | nop; return | 0001 05 | refused 78 at 0
+()V 1 0 | nop; return | 0001 40080000 | refused 78 at 0
+()V 1 0 | nop; return | 0001 40070000 | refused 78 at 0
+()V 1 0 | nop; return | 0001 40070002 | refused 78 at 0
+()V 0 0 | return; new 3; pop; return | 0001 01 | refused 60 at 1
+# the parameters go before the map, and the map before the code
+(J)V 0 1 | return | 00 | refused 64 at 0
+()V 0 0 | pop | 0001 | refused 78 at 0
+()V 0 0 | nop; bytes ca | 0001 | refused 79 at 1
+"""
+
 
 def class_of(descriptor, method, *more):
     """K of version 55 with this method; behind the texts that it needs stand a Long, an int and a Dynamic of a long, from 8 on."""
@@ -119,12 +203,23 @@ def verdicts():
             yield f"{sizes} {code}", [method_of(*sizes.split(), code), OBJECT_CLASS], f"method f {descriptor} {verdict}"
 
 
+def mapped_verdicts():
+    """The same with a stack map."""
+    for line in MAPPED.strip().splitlines():
+        if not line.startswith("#"):
+            sizes, code, body, verdict = (it.strip() for it in line.split("|"))
+            descriptor, stack, variables = sizes.split()
+            nested = [attribute(14, bytes.fromhex(body))]
+            method = member(STATIC, 5, 6, code_attribute(7, code_of(code), int(stack), int(variables), nested=nested))
+            files = [class_of(descriptor, method, utf8("StackMapTable")), OBJECT_CLASS]
+            yield f"{sizes} {code} with {body}", files, f"method f {descriptor} {verdict}"
+
+
 def left_out():
     """Methods that are not judged yet, and those without code."""
     body = code_of("return")
     for what, method, verdict in (
         ("a method of instances", member(0, 5, 6, code_attribute(7, body, 0, 1)), "refused 60 at 0"),
-        ("a stack map", member(STATIC, 5, 6, code_attribute(7, body, nested=[attribute(14, u2(0))])), "refused 60 at 0"),
         ("an exception table", member(STATIC, 5, 6, code_attribute(7, body, handlers=[(0, 1, 0, 0)])), "refused 60 at 0"),
         ("a native method", member(STATIC | NATIVE, 5, 6), "no code"),
     ):
@@ -157,5 +252,5 @@ def hierarchies():
 
 def verified():
     """What each list of files is, their bytes, and the line of it."""
-    for table in (verdicts, left_out, hierarchies):
+    for table in (verdicts, mapped_verdicts, left_out, hierarchies):
         yield from table()

@@ -45,5 +45,5 @@ pub use applying::{After, Refusal, apply};
 pub use environment::Env;
 pub use reason::Reason;
 pub use running::run;
-pub use ways::{branches, falls, goes_on};
+pub use ways::{branches, branches_by, falls, goes_on};
 pub use working::Working;

@@ -34,7 +34,14 @@ pub fn goes_on(act: &Act<'_>) -> bool
 pub fn branches<'a>(insn: &Insn<'a>) -> Branches<'a>
     ensures { branches_view result ≡ branch_offsets (act (view insn.now)) }
 {
-    match act(insn) {
+    branches_by(&act(insn))
+}
+
+/// Where an instruction that means this branches to.
+pub fn branches_by<'a>(act: &Act<'a>) -> Branches<'a>
+    ensures { branches_view result ≡ branch_offsets (act_view act.now) }
+{
+    match *act {
         Act::IfInt { offset }
         | Act::IfInts { offset }
         | Act::IfReferences { offset }

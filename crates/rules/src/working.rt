@@ -1,9 +1,13 @@
 //! The frame that instructions are run on.
-ghost use Rattle.rules.specs.Working.{IsCounted};
+ghost use Rattle.std.specs.Prelude.{◌≡◌, ◌≤◌, length, OnOk};
+ghost use Rattle.frames.specs.DeclaredTables.{declared_view};
+ghost use Rattle.rules.specs.Views.{stack_of};
+ghost use Rattle.rules.specs.Working.{IsCounted, held_locals};
 
 use crate::moves::{rearrange, wides};
 use crate::slots::{is_wide, reach, store};
-use frames::{Frame, VType};
+use frames::{Declared, Frame, VType};
+use hierarchy::{Answer, Classes};
 use insn::StackForm;
 use std::alloc::{AllocError, Global};
 
@@ -33,6 +37,9 @@ impl<'a> Working<'a> {
     ghost use Rattle.rules.specs.Views.{stack_of};
     ghost use Rattle.rules.specs.Working.{held_frame, empty_frame, with_locals};
     ghost use Rattle.rules.specs.Held.{held};
+    ghost use Rattle.hierarchy.specs.Answer.{outcome_of};
+    ghost use Rattle.frames.specs.FrameAssignable.{frame_answer};
+    ghost use Rattle.frames.specs.DeclaredTables.{declared_view};
 
     /// With all locals top, and nothing on the stack.
     pub fn new(alloc: Global, max_locals: u16, flag: bool) -> Working<'a>
@@ -129,6 +136,30 @@ impl<'a> Working<'a> {
         Ok(())
     }
 
+    /// Whether this frame may stand where one is declared (JVMS 4.10.1.4).
+    pub fn answer_for<C: Classes>(&self, declared: &Declared<'_, 'a>, classes: &C) -> Answer<'a>
+        requires { length (declared_view declared.now).locals ≡ length (held self.now).locals }
+        ensures { outcome_of result ≡ frame_answer (C.content classes.now) (held self.now) (declared_view declared.now) }
+    {
+        declared.assignable_from(&self.locals, &self.stack, self.flag, classes)
+    }
+
+    /// Becomes a declared frame, in the memory that it has. Nothing is said of the locals and the stack where memory ran out.
+    pub fn take_on(&mut self, declared: &Declared<'_, 'a>) -> Result<(), AllocError>
+        requires { length (declared_view declared.now).locals ≡ length (held self.old).locals }
+        ensures { OnOk result (held self.new ≡ declared_view declared.now) }
+    {
+        if let Err(error) = write(declared, &mut self.locals, &mut self.stack) {
+            self.locals.clear();
+            self.stack.clear();
+            self.wides = 0;
+            return Err(error);
+        }
+        self.wides = wides(&self.stack);
+        self.flag = declared.flag();
+        Ok(())
+    }
+
     /// Stores a type to a local variable. A long or double makes the next one top; where the one before held a long or
     /// double, that becomes top.
     pub fn store(&mut self, t: VType<'a>, place: usize) -> Result<(), AllocError>
@@ -198,4 +229,17 @@ impl<'a> Working<'a> {
             flag,
         })
     }
+}
+
+/// Writes the locals and the stack of a declared frame.
+fn write<'a>(
+    declared: &Declared<'_, 'a>,
+    locals: &mut Vec<VType<'a>>,
+    stack: &mut Vec<VType<'a>>,
+) -> Result<(), AllocError>
+    ensures { let d = declared_view declared.now in
+        OnOk result ((held_locals locals.new.items (length d.locals) ≡ d.locals) × (length locals.new.items ≤ length d.locals) × (stack_of stack.new.items ≡ d.stack)) }
+{
+    declared.write_locals(locals)?;
+    declared.write_stack(stack)
 }

@@ -25,12 +25,12 @@ use Rattle.rules.specs.declared.reason.Reason.{Reason as RuleReason}
 use Rattle.rules.specs.declared.reason.Reason.TheVariants.{NotSupported}
 use Rattle.rules.specs.Reasons.{reason_view}
 use Rattle.verify.specs.TypeSafety.{IsTypeSafe}
-use Rattle.verify.specs.Verdict.{verified, refused, verdict}
+use Rattle.verify.specs.Verdict.{verified, told_of, verdict}
 use Rattle.verify.specs.ClassMethods.{IsMethod, IsTypeSafeIn}
 use Rattle.verify.specs.Steps.{RefusesCode, Gives}
 use Rattle.verify.specs.Judged.{is_judged}
 use Rattle.verify.specs.Listed.{IsListed}
-use Rattle.verify.specs.Answers.{IsLeftOut, HasBadCode, HasVerdict, IsRefused, AnswersCode, Answers, HasRules, VerifiesTypeSafe, VerifiedIsSafe}
+use Rattle.verify.specs.Answers.{IsLeftOut, HasBadCode, HasVerdict, HasRefusal, IsRefused, AnswersCode, Answers, HasRules, VerifiesTypeSafe, VerifiedIsSafe}
 use Rattle.verify.proofs.Decoded.{decoded_rise, decoded_begins}
 use Rattle.verify.proofs.Replaced.{code_is, none_is_replaced, safe_yet}
 use Rattle.verify.proofs.Verdicts.{verified_is_type_safe, type_safe_is_verified}
@@ -84,14 +84,8 @@ module _ (classes : List ClassFact) (c : Class) (number : ℕ) where
   given body xs method (Ok NoCode) has spelled says judged g = g
   given body xs method (Ok (Refused at why)) has spelled says judged g =
       inr (inr (record {
-        body = body;
-        has_code = has;
-        instructions = xs;
-        spelled = spelled;
-        method = method;
-        says = says;
-        judged =
-            judged;
+        refusal = verdict plan_yet classes method;
+        judged = record { body = body; has_code = has; instructions = xs; spelled = spelled; method = method; says = says; judged = judged; told = refl };
         told = g;
       }))
   given body xs method (Err OutOfMemory) has spelled says judged g = tt
@@ -181,16 +175,20 @@ module _ (classes : List ClassFact) (c : Class) (number : ℕ) where
         decoded_rise 0 i.instructions (starts_rise 0 i.body.code i.instructions i.spelled) in
         type_safe_is_verified plan_yet classes m (subst (StartsRise 0) (sym code_there) rise) (safe_yet classes m rules safe)
 
-    not_refused : (at : ℕ) (why : Reason) → HasVerdict classes c number (refused at why) → ⊥
-    not_refused at why v =
-        let e : refused at why ≡ verified =
+    not_refused : (at : ℕ) (why : RuleReason) → HasRefusal classes c number at why → ⊥
+    not_refused at why x =
+        let v = x.judged in
+        let e : x.refusal ≡ verified =
         sym v.told ∙ ap (verdict plan_yet classes) (same_method v.body v.instructions v.method v.has_code v.spelled v.says) ∙ is_verified in
-        cc
+        none_told_of (at, reason_view why) (sym (ap told_of e) ∙ x.told)
+      where
+        none_told_of : (x : ℕ × Reason) → None ≡ Some x → ⊥
+        none_told_of x e = cc
 
     refused_never : (at : ℕ) (why : RuleReason) → IsRefused classes c number at why → ⊥
     refused_never at why (inl x) = not_left_out at why x
     refused_never at why (inr (inl x)) = not_faulty at why x
-    refused_never at why (inr (inr x)) = not_refused at (reason_view why) x
+    refused_never at why (inr (inr x)) = not_refused at why x
 
     verifies : IsListed classes c → (r : Result Verdict VerifyFault) → Answers classes c number r
         → MatchResult r (λ v. v ≡ Verified) (λ e. e ≡ OutOfMemory)

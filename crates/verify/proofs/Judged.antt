@@ -1,5 +1,5 @@
 -- The verdict on a method that is judged.
-use Rattle.std.proofs.Common.{◌≡◌, ℕ, Bool, true, false, not, ◌&&◌, is_none, nat_eq, nat_lt, List, [], ◌∷◌, ◌++◌, map, length, Option, Some, None, Ok, refl, sym, ◌∙◌, ap, subst, arith}
+use Rattle.std.proofs.Common.{◌≡◌, ℕ, Bool, true, false, not, ◌&&◌, is_none, nat_eq, nat_lt, List, [], ◌∷◌, ◌++◌, map, length, Option, Some, None, Ok, Err, refl, sym, ◌∙◌, ap, subst, arith}
 use Rattle.std.specs.Prelude.{MatchOption}
 use Rattle.std.proofs.lemmas.Bool.Decides.{nat_tests}
 use Rattle.std.specs.Option.{is_some}
@@ -10,10 +10,12 @@ use Rattle.insn.specs.Meanings.{Act}
 use Rattle.frames.specs.VerificationType.{VerificationType}
 use Rattle.frames.specs.FrameFact.{FrameFact}
 use Rattle.frames.specs.Slots.{descriptor_type, in_locals, all_locals}
-use Rattle.frames.specs.Conditions.{reason}
+use Rattle.frames.specs.Conditions.{reason, with_fault}
+use Rattle.rules.specs.ReasonNumbers.{bad_stack_map}
 use Rattle.rules.specs.Table.{plan_yet}
 use Rattle.verify.specs.InitialFrames.{receiver_types, initial_types, is_uninitialized, initial_frame}
-use Rattle.verify.specs.Verdict.{refused, frames_of, entries_read, frames_declared, table_judged, code_judged, with_frames, verdict}
+use Rattle.verify.specs.TypeSafety.{Frames}
+use Rattle.verify.specs.Verdict.{refused, MapRefusal, map_fault_number, told_of, frames_of, entries_read, frames_declared, table_judged, code_judged, with_frames, verdict}
 use Rattle.verify.specs.Judged.{is_empty, is_judged}
 
 left_of : (a b : Bool) → a && b ≡ true → a ≡ true
@@ -36,22 +38,12 @@ module _ {A : Type 0} (m : Method A) (judged : is_judged m ≡ true) where
   pub is_static : m.is_static ≡ true
   is_static = left_of m.is_static _ judged
 
-  pub no_stack_map : m.stack_map ≡ None
-  no_stack_map = none_of m.stack_map
-      (left_of (is_none m.stack_map) (is_empty m.exceptions) (right_of (not m.is_init) _ (right_of m.is_static _ judged)))
-
   pub no_exceptions : m.exceptions ≡ []
-  no_exceptions = empty_of m.exceptions
-      (right_of (is_none m.stack_map) (is_empty m.exceptions) (right_of (not m.is_init) _ (right_of m.is_static _ judged)))
+  no_exceptions = empty_of m.exceptions (right_of (not m.is_init) _ (right_of m.is_static _ judged))
 
-some_none : {A : Type 0} (o : Option A) → is_some o ≡ false → is_none o ≡ true
-some_none None e = refl
-some_none (Some x) e = cc
-
--- by its four properties
-pub judged_by : {A : Type 0} (m : Method A) (b : Bool) → m.is_static ≡ true → m.is_init ≡ false → is_some m.stack_map ≡ false
-    → is_empty m.exceptions ≡ b → b ≡ is_judged m
-judged_by m b s i o e = let none : is_none m.stack_map ≡ true = some_none m.stack_map o in rw (s, i, none, e) refl
+-- by its three properties
+pub judged_by : {A : Type 0} (m : Method A) (b : Bool) → m.is_static ≡ true → m.is_init ≡ false → is_empty m.exceptions ≡ b → b ≡ is_judged m
+judged_by m b s i e = rw (s, i, e) refl
 
 pub empty_by : {X Y : Type 0} (f : X → Y) (xs : List X) (n : ℕ) → n ≡ length xs → is_empty (map f xs) ≡ nat_eq n 0
 empty_by f [] n e = rw e refl
@@ -67,17 +59,23 @@ module _ (m : Method Act) (judged : is_judged m ≡ true) where
   pub flag_unset : is_uninitialized (receiver_of m) ≡ false
   flag_unset = ap is_uninitialized nobody
 
-  module _ (classes : List ClassFact) where
-    declares_none : frames_declared m ≡ Ok []
-    declares_none = ap (λ (o : Option (List ℕ)). frames_of m (entries_read o)) (no_stack_map m judged)
+  -- without a stack map no frame is declared
+  pub declares_none : m.stack_map ≡ None → frames_declared m ≡ Ok []
+  declares_none n = ap (λ (o : Option (List ℕ)). frames_of m (entries_read o)) n
 
+  module _ (classes : List ClassFact) where
     pub too_narrow : nat_lt m.max_locals (length (in_locals (initial_types m))) ≡ true → verdict plan_yet classes m ≡ refused 0 (reason 64)
     too_narrow e = rw e refl
 
-    pub wide_enough : nat_lt m.max_locals (length (in_locals (initial_types m))) ≡ false → verdict plan_yet classes m ≡ code_judged plan_yet classes m []
-    wide_enough e =
-        rw e (ap (with_frames plan_yet classes m) declares_none
-        ∙ ap (λ (es : List ExceptionEntry). table_judged classes m [] es (code_judged plan_yet classes m [])) (no_exceptions m judged))
+    module _ (wide : nat_lt m.max_locals (length (in_locals (initial_types m))) ≡ false) where
+      pub with_declared : (frames : Frames) → frames_declared m ≡ Ok frames → verdict plan_yet classes m ≡ code_judged plan_yet classes m frames
+      with_declared frames d =
+          rw wide (ap (with_frames plan_yet classes m) d
+          ∙ ap (λ (es : List ExceptionEntry). table_judged classes m frames es (code_judged plan_yet classes m frames)) (no_exceptions m judged))
+
+      pub map_told : (why : MapRefusal) → frames_declared m ≡ Err why
+          → told_of (verdict plan_yet classes m) ≡ Some (0, with_fault bad_stack_map (map_fault_number why))
+      map_told why d = ap told_of (rw wide (ap (with_frames plan_yet classes m) d))
 
   -- what is answered of the locals, by the parameters
   module _ (params : List FieldDescriptor) (same : m.type.params ≡ params) where
@@ -87,13 +85,6 @@ module _ (m : Method Act) (judged : is_judged m ≡ true) where
     pub room_as : (b : Bool) → nat_lt m.max_locals (length (in_locals (map descriptor_type params))) ≡ b
         → nat_lt m.max_locals (length (in_locals (initial_types m))) ≡ b
     room_as b e = ap (λ (ts : List VerificationType). nat_lt m.max_locals (length (in_locals ts))) (sym types_are) ∙ e
-
-    pub initial_as : (f : FrameFact) → f.locals ≡ all_locals m.max_locals (map descriptor_type params) → f.stack ≡ [] → f.flag ≡ false
-        → f ≡ initial_frame m
-    initial_as f l s b =
-        let locals = l ∙ ap (all_locals m.max_locals) types_are in
-        let flag = b ∙ sym flag_unset in
-        λ i. record { locals = locals i; stack = s i; flag = flag i }
 
 pub when_none : {X : Type 0} (A : Type 0) (B : X → Type 0) (o : Option X) → o ≡ None → MatchOption o A B → A
 when_none A B None e h = h

@@ -18,9 +18,11 @@ pub mod Premises
 pub mod Verdicts
 pub mod Refusing
 pub mod MapFaults
+pub mod MapReading
 pub mod Decoded
 pub mod Replaced
 pub mod Merging
+pub mod Going
 pub mod Ends
 pub mod Onward
 pub mod Parameters

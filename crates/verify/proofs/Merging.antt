@@ -52,7 +52,7 @@ pub view_number : (e : Reason) → number_of (reason_view e) ≡ reason_number e
 view_number OutOfMemory = refl
 view_number _ = refl
 
-number_some : (e : Reason) → 1 ≤ reason_number e
+pub number_some : (e : Reason) → 1 ≤ reason_number e
 number_some OutOfMemory = omega arith
 number_some _ = omega arith
 

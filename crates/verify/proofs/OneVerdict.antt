@@ -21,9 +21,9 @@ use Rattle.rules.specs.Reasons.{reason_number, reason_view}
 use Rattle.verify.specs.declared.verdict.Verdict.TheVariants.{Verified, NoCode, Refused}
 use Rattle.verify.specs.declared.report.MethodVerdict.{MethodVerdict}
 use Rattle.verify.specs.Verdict as verdicts
-use Rattle.verify.specs.Verdict.{verified, refused, verdict}
+use Rattle.verify.specs.Verdict.{verified, told_of, verdict}
 use Rattle.verify.specs.Steps.{place_of}
-use Rattle.verify.specs.Answers.{IsLeftOut, HasBadCode, HasVerdict, IsRefused}
+use Rattle.verify.specs.Answers.{IsLeftOut, HasBadCode, HasVerdict, HasRefusal, IsRefused}
 use Rattle.verify.specs.Reports.{IsReported}
 use Rattle.verify.specs.OneVerdict.{AreSameVerdict, OneVerdict, IsSameLine, OneReport}
 use Rattle.verify.proofs.Merging.{view_number}
@@ -38,14 +38,8 @@ true_false e = cc
 none_some : {A : Type 0} (a : A) → None ≡ Some a → ⊥
 none_some a e = cc
 
-same_place : (at there : ℕ) (why other : conditions.Reason) → refused at why ≡ refused there other → at ≡ there
-same_place at there why other e = cc
-
-same_reason : (at there : ℕ) (why other : conditions.Reason) → refused at why ≡ refused there other → why ≡ other
-same_reason at there why other e = cc
-
-not_verified : (at : ℕ) (why : conditions.Reason) → verified ≡ refused at why → ⊥
-not_verified at why e = cc
+same_told : (at there : ℕ) (why other : conditions.Reason) → Some (at, why) ≡ Some (there, other) → (at ≡ there) × (why ≡ other)
+same_told at there why other e = let same : (let x : ℕ × conditions.Reason = (at, why) in x) ≡ (there, other) = some_same _ _ e in (ap (λ x. x.0) same, ap (λ x. x.1) same)
 
 module _ (classes : List ClassFact) (c : Class) (number : ℕ) where
   abbrev Same : ℕ → Reason → ℕ → Reason → Type 0
@@ -65,14 +59,14 @@ module _ (classes : List ClassFact) (c : Class) (number : ℕ) where
       some_same x.method y.method (sym x.says ∙ ap (λ z. method_of c number (acts z)) same ∙ y.says) in
       sym x.told ∙ ap (verdict plan_yet classes) method ∙ y.told
 
-  both_told : (at there : ℕ) (why other : Reason) → HasVerdict classes c number (refused at (reason_view why))
-      → HasVerdict classes c number (refused there (reason_view other)) → Same at why there other
+  both_told : (at there : ℕ) (why other : Reason) → HasRefusal classes c number at why → HasRefusal classes c number there other
+      → Same at why there other
   both_told at there why other x y =
-      let e = one_told (refused at (reason_view why)) (refused there (reason_view other)) x y in
-      let view = same_reason at there (reason_view why) (reason_view other) e in (
-        same_place at there (reason_view why) (reason_view other) e,
-        sym (view_number why) ∙ ap conditions.number_of view ∙ view_number other,
-        view,
+      let e = one_told x.refusal y.refusal x.judged y.judged in
+      let same = same_told at there (reason_view why) (reason_view other) (sym x.told ∙ ap told_of e ∙ y.told) in (
+        same.0,
+        sym (view_number why) ∙ ap conditions.number_of same.1 ∙ view_number other,
+        same.1,
       )
 
   -- ---- a method that is left out is not judged, and code that is faulty spells nothing
@@ -104,18 +98,18 @@ module _ (classes : List ClassFact) (c : Class) (number : ℕ) where
       → Same at why there other
   both_refused at there why other (inl x) (inl y) = by_reason at there why other (x.at_zero ∙ sym y.at_zero) (x.told ∙ sym y.told)
   both_refused at there why other (inl x) (inr (inl y)) = absurd (left_out_or_bad at there why other x y)
-  both_refused at there why other (inl x) (inr (inr y)) = absurd (left_out_or_told at why (refused there (reason_view other)) x y)
+  both_refused at there why other (inl x) (inr (inr y)) = absurd (left_out_or_told at why y.refusal x y.judged)
   both_refused at there why other (inr (inl x)) (inl y) = absurd (left_out_or_bad there at other why y x)
   both_refused at there why other (inr (inl x)) (inr (inl y)) = both_bad at there why other x y
-  both_refused at there why other (inr (inl x)) (inr (inr y)) = absurd (bad_or_told at why (refused there (reason_view other)) x y)
-  both_refused at there why other (inr (inr x)) (inl y) = absurd (left_out_or_told there other (refused at (reason_view why)) y x)
-  both_refused at there why other (inr (inr x)) (inr (inl y)) = absurd (bad_or_told there other (refused at (reason_view why)) y x)
+  both_refused at there why other (inr (inl x)) (inr (inr y)) = absurd (bad_or_told at why y.refusal x y.judged)
+  both_refused at there why other (inr (inr x)) (inl y) = absurd (left_out_or_told there other x.refusal y x.judged)
+  both_refused at there why other (inr (inr x)) (inr (inl y)) = absurd (bad_or_told there other x.refusal y x.judged)
   both_refused at there why other (inr (inr x)) (inr (inr y)) = both_told at there why other x y
 
   not_both : (at : ℕ) (why : Reason) → HasVerdict classes c number verified → IsRefused classes c number at why → ⊥
   not_both at why x (inl y) = left_out_or_told at why verified y x
   not_both at why x (inr (inl y)) = bad_or_told at why verified y x
-  not_both at why x (inr (inr y)) = not_verified at (reason_view why) (one_told verified (refused at (reason_view why)) x y)
+  not_both at why x (inr (inr y)) = none_some (at, reason_view why) (ap told_of (one_told verified y.refusal x y.judged) ∙ y.told)
 
   -- ---- a method without code is not refused
 
@@ -131,7 +125,7 @@ module _ (classes : List ClassFact) (c : Class) (number : ℕ) where
   refused_code : (at : ℕ) (why : Reason) → code_at c number ≡ None → IsRefused classes c number at why → ⊥
   refused_code at why none (inl x) = no_method x.method (slice_get c.methods number) none x.says
   refused_code at why none (inr (inl x)) = none_some x.body (sym none ∙ x.has_code)
-  refused_code at why none (inr (inr x)) = none_some x.body (sym none ∙ x.has_code)
+  refused_code at why none (inr (inr x)) = none_some x.judged.body (sym none ∙ x.judged.has_code)
 
 pub one_verdict : OneVerdict
 one_verdict classes c number Verified Verified p q = tt

@@ -9,7 +9,7 @@ use Rattle.insn.specs.declared.fault.CodeFault.{CodeFault}
 use Rattle.insn.specs.Instructions.{Instruction}
 use Rattle.insn.specs.Code.{StepsThrough}
 use Rattle.insn.specs.Meanings.{Act}
-use Rattle.insn.specs.Offsets.{first_offset, acts}
+use Rattle.insn.specs.Offsets.{at_offset, first_offset, acts}
 use Rattle.insn.specs.Readings.{Reading, behind}
 use Rattle.insn.proofs.CodeLaws.{has_bytes}
 use Rattle.insn.proofs.Readings.{reading_at, step_reads, stop_reads, end_reads, some_left}
@@ -26,10 +26,12 @@ use Rattle.rules.specs.Ways.{goes_on as act_goes_on}
 use Rattle.rules.specs.Reasons.{reason_view}
 use Rattle.rules.specs.declared.reason.Reason.{Reason as RuleReason}
 use Rattle.rules.specs.declared.reason.Reason.TheVariants.{OutOfMemory}
-use Rattle.verify.specs.Verdict.{Verdict, refused, refused_or, at_conditions, entry, arrives, passes}
+use Rattle.verify.specs.TypeSafety.{Frames}
+use Rattle.verify.specs.Verdict.{Verdict, refused, told_of, refused_or, at_conditions, entry, entered, arrives, passes}
 use Rattle.verify.specs.Steps.{Enters}
 use Rattle.verify.proofs.Merging.{rule_none}
-use Rattle.verify.proofs.Ends.{ways, goes_right}
+use Rattle.verify.proofs.Going.{ways}
+use Rattle.verify.proofs.Ends.{goes_right}
 
 -- ---- the number of locals stays
 
@@ -65,74 +67,68 @@ keeps_length m at p old now n e q = ap (λ (z : FrameFact). length z.locals) q �
 
 -- ---- the code that is left
 
-module _ (classes : List ClassFact) (m : Method Act) where
+module _ (classes : List ClassFact) (m : Method Act) (frames : Frames) where
   abbrev pub left : List (ℕ × Act) → Bool → FrameFact → Verdict
-  left cs b f = arrives classes [] cs b f (passes plan_yet classes m [] cs)
+  left cs b f = arrives classes frames cs b f (passes plan_yet classes m frames cs)
 
   module _ (c : ℕ × Act) (cs : List (ℕ × Act)) (b : Bool) (f : FrameFact) (v : Verdict) (same : v ≡ left (c ∷ cs) b f) where
-    pub refused_in : (why : Reason) → entry classes b f None ≡ Some why → v ≡ refused c.0 why
-    refused_in why e = same ∙ ap (λ z. refused_or z c.0 (passes plan_yet classes m [] (c ∷ cs) f)) e
+    abbrev declared : Option FrameFact
+    declared = at_offset frames c.0
 
-    abbrev here : Option Reason
-    here = least (at_conditions classes m [] c.0 (plan_yet m c.1) (first_offset cs) f)
+    refused_in : (why : Reason) → entry classes b f declared ≡ Some why → v ≡ refused c.0 why
+    refused_in why e = same ∙ ap (λ z. refused_or z c.0 (passes plan_yet classes m frames (c ∷ cs) (entered f declared))) e
 
-    opened : entry classes b f None ≡ None
-        → v ≡ refused_or here c.0 (left cs (falls (plan_yet m c.1)) (after m c.0 (plan_yet m c.1) f))
-    opened e = same ∙ ap (λ z. refused_or z c.0 (passes plan_yet classes m [] (c ∷ cs) f)) e
-
-    pub refused_at : (why : Reason) → entry classes b f None ≡ None → here ≡ Some why → v ≡ refused c.0 why
-    refused_at why e q = opened e ∙ ap (λ z. refused_or z c.0 (left cs (falls (plan_yet m c.1)) (after m c.0 (plan_yet m c.1) f))) q
-
-    pub goes_on : (goes : Bool) (now : FrameFact) → entry classes b f None ≡ None → here ≡ None
-        → goes ≡ falls (plan_yet m c.1) → now ≡ after m c.0 (plan_yet m c.1) f → v ≡ left cs goes now
-    goes_on goes now e q k l =
-        opened e
-        ∙ ap (λ z. refused_or z c.0 (left cs (falls (plan_yet m c.1)) (after m c.0 (plan_yet m c.1) f))) q
-        ∙ ap (λ z. left cs z (after m c.0 (plan_yet m c.1) f)) (sym k)
-        ∙ ap (left cs goes) (sym l)
-
-    pub stops_in : (r : Result Unit RuleReason) (e : RuleReason) → r ≡ Err e → Enters classes b f None f r
-        → (e ≡ OutOfMemory) ⊎ (v ≡ refused c.0 (reason_view e))
-    stops_in r e q x = by (subst (Enters classes b f None f) q x).outcome
+    -- against the frame that comes in
+    pub stops_in : (g : FrameFact) (r : Result Unit RuleReason) (e : RuleReason) → r ≡ Err e → Enters classes b f declared g r
+        → (e ≡ OutOfMemory) ⊎ (told_of v ≡ Some (c.0, reason_view e))
+    stops_in g r e q x = by (subst (Enters classes b f declared g) q x).outcome
       where
-        by : (e ≡ OutOfMemory) ⊎ (entry classes b f None ≡ Some (reason_view e)) → (e ≡ OutOfMemory) ⊎ (v ≡ refused c.0 (reason_view e))
+        by : (e ≡ OutOfMemory) ⊎ (entry classes b f declared ≡ Some (reason_view e)) → (e ≡ OutOfMemory) ⊎ (told_of v ≡ Some (c.0, reason_view e))
         by (inl p) = inl p
-        by (inr p) = inr (refused_in (reason_view e) p)
+        by (inr p) = inr (ap told_of (refused_in (reason_view e) p))
 
-    pub comes_in : (r : Result Unit RuleReason) (u : Unit {0}) → r ≡ Ok u → Enters classes b f None f r → entry classes b f None ≡ None
-    comes_in r u q x = (subst (Enters classes b f None f) q x).outcome.0
+    -- a frame comes in, and this one goes on
+    module _ (g : FrameFact) (r : Result Unit RuleReason) (u : Unit {0}) (ok : r ≡ Ok u) (enters : Enters classes b f declared g r) where
+      abbrev pub at_here : Conditions
+      at_here = at_conditions classes m frames c.0 (plan_yet m c.1) (first_offset cs) g
 
-    abbrev pub at_here : Conditions
-    at_here = at_conditions classes m [] c.0 (plan_yet m c.1) (first_offset cs) f
+      abbrev pub after_here : FrameFact
+      after_here = after m c.0 (plan_yet m c.1) g
 
-    abbrev pub after_here : FrameFact
-    after_here = after m c.0 (plan_yet m c.1) f
+      abbrev on : Verdict
+      on = left cs (falls (plan_yet m c.1)) after_here
 
-    pub stops_at : (g : FrameFact) (r : Result Unit RuleReason) (e : RuleReason) → entry classes b f None ≡ None → r ≡ Err e
-        → Done at_here after_here g r → (e ≡ OutOfMemory) ⊎ (v ≡ refused c.0 (reason_view e))
-    stops_at g r e came q x = by (subst (Done at_here after_here g) q x).outcome
-      where
-        by : (e ≡ OutOfMemory) ⊎ (least at_here ≡ Some (reason_view e)) → (e ≡ OutOfMemory) ⊎ (v ≡ refused c.0 (reason_view e))
-        by (inl p) = inl p
-        by (inr p) = inr (refused_at (reason_view e) came p)
+      opened : v ≡ refused_or (least at_here) c.0 on
+      opened =
+          let came = (subst (Enters classes b f declared g) ok enters).outcome in
+          same ∙ ap (λ z. refused_or z c.0 (passes plan_yet classes m frames (c ∷ cs) (entered f declared))) came.0
+          ∙ ap (passes plan_yet classes m frames (c ∷ cs)) (sym came.1)
 
-    -- what was not refused goes on with the frame after
-    pub goes_done : (g : FrameFact) (r : Result Unit RuleReason) (u : Unit {0}) (goes : Bool) → entry classes b f None ≡ None → r ≡ Ok u
-        → Done at_here after_here g r → goes ≡ act_goes_on c.1 → v ≡ left cs goes g
-    goes_done g r u goes came q x k =
-        let done = subst (Done at_here after_here g) q x in
-        goes_on goes g came done.outcome.0
-        (k ∙ goes_right classes m c.0 f (act_goes_on c.1) (plan_yet m c.1) (ways m c.1)
-        (rule_none (conditions classes m c.0 (plan_yet m c.1) f) _ done.outcome.0))
-        done.outcome.1
+      pub stops_at : (now : FrameFact) (r : Result Unit RuleReason) (e : RuleReason) → r ≡ Err e → Done at_here after_here now r
+          → (e ≡ OutOfMemory) ⊎ (told_of v ≡ Some (c.0, reason_view e))
+      stops_at now r e q x = by (subst (Done at_here after_here now) q x).outcome
+        where
+          by : (e ≡ OutOfMemory) ⊎ (least at_here ≡ Some (reason_view e)) → (e ≡ OutOfMemory) ⊎ (told_of v ≡ Some (c.0, reason_view e))
+          by (inl p) = inl p
+          by (inr p) = inr (ap told_of (opened ∙ ap (λ z. refused_or z c.0 on) p))
+
+      -- what was not refused goes on with the frame after
+      pub goes_done : (now : FrameFact) (r : Result Unit RuleReason) (u : Unit {0}) (goes : Bool) → r ≡ Ok u
+          → Done at_here after_here now r → goes ≡ act_goes_on c.1 → v ≡ left cs goes now
+      goes_done now r u goes q x k =
+          let done = (subst (Done at_here after_here now) q x).outcome in
+          let falls_as : goes ≡ falls (plan_yet m c.1) =
+          k ∙ goes_right classes m frames c.0 g c.1 (plan_yet m c.1) (ways m c.1)
+          (rule_none (conditions classes m c.0 (plan_yet m c.1) g) _ done.0) in
+          opened ∙ ap (λ z. refused_or z c.0 on) done.0 ∙ ap (λ z. left cs z after_here) (sym falls_as) ∙ ap (left cs goes) (sym done.1)
 
 -- ---- the bytes that are left
 
 -- they are these instructions, and with them the verdict is what it is; the offset and the bytes that are left are those of all
-pub record Remains (classes : List ClassFact) (m : Method Act) (size : ℕ) (p : Place) (comes : Bool) (f : FrameFact) (v : Verdict) : Type 0 where
+pub record Remains (classes : List ClassFact) (m : Method Act) (frames : Frames) (size : ℕ) (p : Place) (comes : Bool) (f : FrameFact) (v : Verdict) : Type 0 where
   pub instructions : List (ℕ × Instruction)
   pub read : reading_at p ≡ Ok instructions
-  pub same : v ≡ left classes m (acts instructions) comes f
+  pub same : v ≡ left classes m frames (acts instructions) comes f
   pub within : p.at + length p.rest ≡ size
 
 -- the instruction in front of the others

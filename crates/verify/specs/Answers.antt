@@ -21,7 +21,7 @@ use Rattle.verify.specs.declared.verdict.VerifyFault.{VerifyFault}
 use Rattle.verify.specs.declared.verdict.VerifyFault.TheVariants.{OutOfMemory, NotInHierarchy}
 use Rattle.verify.specs.TypeSafety.{IsTypeSafe}
 use Rattle.verify.specs.Verdict as verdicts
-use Rattle.verify.specs.Verdict.{verified, refused, verdict}
+use Rattle.verify.specs.Verdict.{verified, told_of, verdict}
 use Rattle.verify.specs.ClassMethods.{IsMethod, IsTypeSafeIn, IsSafeIn}
 use Rattle.verify.specs.Steps.{place_of}
 use Rattle.verify.specs.Judged.{is_judged}
@@ -58,9 +58,15 @@ pub record HasVerdict (classes : List ClassFact) (c : Class) (number : ℕ) (v :
   pub judged : is_judged method ≡ true
   pub told : verdict plan_yet classes method ≡ v
 
+-- The verdict refuses it, there and for this reason.
+pub record HasRefusal (classes : List ClassFact) (c : Class) (number : ℕ) (at : ℕ) (why : Reason) : Type 0 where
+  pub refusal : verdicts.Verdict
+  pub judged : HasVerdict classes c number refusal
+  pub told : told_of refusal ≡ Some (at, reason_view why)
+
 abbrev pub IsRefused : List ClassFact → Class → ℕ → ℕ → Reason → Type 0
 IsRefused classes c number at why =
-    IsLeftOut c number at why ⊎ (HasBadCode c number at why ⊎ HasVerdict classes c number (refused at (reason_view why)))
+    IsLeftOut c number at why ⊎ (HasBadCode c number at why ⊎ HasRefusal classes c number at why)
 
 -- a method with a Code attribute
 abbrev pub AnswersCode : List ClassFact → Class → ℕ → Result Verdict VerifyFault → Type 0

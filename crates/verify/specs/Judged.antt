@@ -1,11 +1,11 @@
 -- What is judged of methods yet.
-use Rattle.std.specs.Prelude.{Bool, true, false, not, ◌&&◌, is_none, List, [], ◌∷◌}
+use Rattle.std.specs.Prelude.{Bool, true, false, not, ◌&&◌, List, [], ◌∷◌}
 use Rattle.classfile.specs.Methods.{Method}
 
 abbrev pub is_empty : {A : Type 0} → List A → Bool
 is_empty [] = true
 is_empty (x ∷ xs) = false
 
--- Static methods that have neither a stack map nor an exception table. No other is judged yet.
+-- Static methods that have no exception table. No other is judged yet.
 abbrev pub is_judged : {A : Type 0} → Method A → Bool
-is_judged m = m.is_static && (not m.is_init && (is_none m.stack_map && is_empty m.exceptions))
+is_judged m = m.is_static && (not m.is_init && is_empty m.exceptions)

@@ -5,6 +5,8 @@ use Rattle.insn.specs.declared.fault.CodeFault.{CodeFault}
 use Rattle.insn.specs.declared.fault.CodeFault.TheVariants as codes
 use Rattle.insn.specs.Faults.{code_fault_number}
 use Rattle.frames.specs.FrameFact.{FrameFact}
+use Rattle.frames.specs.declared.declared_frames.DeclaredFrames.{DeclaredFrames}
+use Rattle.frames.specs.DeclaredTables.{frames_in}
 use Rattle.frames.specs.Conditions.{Conditions, least}
 use Rattle.rules.specs.declared.reason.Reason.{Reason}
 use Rattle.rules.specs.declared.reason.Reason.TheVariants.{OutOfMemory, BadCode}
@@ -14,7 +16,8 @@ use Rattle.verify.specs.declared.verdict.Verdict.TheVariants.{Verified, NoCode, 
 use Rattle.verify.specs.declared.verdict.VerifyFault.{VerifyFault}
 use Rattle.verify.specs.declared.verdict.VerifyFault.TheVariants as faults
 use Rattle.verify.specs.Verdict as verdicts
-use Rattle.verify.specs.Verdict.{verified, refused, entry, entered}
+use Rattle.verify.specs.Verdict.{verified, MapRefusal, map_fault_number, told_of, entry, entered}
+use Rattle.verify.specs.TypeSafety.{Frames}
 
 abbrev pub verify_fault_number : VerifyFault → ℕ
 verify_fault_number faults.OutOfMemory = 1
@@ -30,6 +33,11 @@ pub record Enters (classes : List ClassFact) (falls : Bool) (f : FrameFact) (dec
   pub outcome : MatchResult r
       (λ _. (entry classes falls f declared ≡ None) × (now ≡ entered f declared))
       (λ e. (e ≡ OutOfMemory) ⊎ (entry classes falls f declared ≡ Some (reason_view e)))
+
+-- the frames that a stack map declares, or the number of the fault for which it is refused
+abbrev pub TellsFrames : Result Frames MapRefusal → Result DeclaredFrames ℕ → Type 0
+TellsFrames answer (Ok t) = answer ≡ Ok (frames_in t)
+TellsFrames answer (Err number) = (why : MapRefusal) × (answer ≡ Err why) × (number ≡ map_fault_number why)
 
 -- where the instruction begins that is at fault
 abbrev pub place_of : CodeFault → ℕ
@@ -50,6 +58,6 @@ pub record RefusesCode (fault : CodeFault) (r : Result Verdict VerifyFault) : Ty
 abbrev pub Gives : verdicts.Verdict → Result Verdict VerifyFault → Type 0
 Gives v (Ok Verified) = v ≡ verified
 Gives v (Ok NoCode) = ⊥
-Gives v (Ok (Refused at reason)) = v ≡ refused at (reason_view reason)
+Gives v (Ok (Refused at reason)) = told_of v ≡ Some (at, reason_view reason)
 Gives v (Err faults.OutOfMemory) = Unit {0}
 Gives v (Err faults.NotInHierarchy) = ⊥

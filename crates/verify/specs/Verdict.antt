@@ -4,6 +4,7 @@ use Rattle.std.specs.Prelude.{ℕ, ℤ, pos, negsuc, Bool, true, false, not, ◌
 use Rattle.names.specs.StandardNames.{throwable_name}
 use Rattle.layout.specs.Place.{Place}
 use Rattle.layout.specs.Format.{reads}
+use Rattle.layout.specs.Refusals.{read_fault_number}
 use Rattle.layout.specs.declared.fault.ReadFault.{ReadFault}
 use Rattle.layout.specs.declared.fault.ReadFault.TheVariants.{AttributeLength}
 use Rattle.classfile.specs.Methods.{Method, ExceptionEntry, covers}
@@ -16,10 +17,10 @@ use Rattle.frames.specs.FrameFact.{FrameFact}
 use Rattle.frames.specs.Slots.{to_reference, in_locals}
 use Rattle.frames.specs.Assignable.{type_answer}
 use Rattle.frames.specs.FrameAssignable.{frame_answer}
-use Rattle.frames.specs.Conditions.{Reason, reason, Conditions, least, is_no, missing_if}
+use Rattle.frames.specs.Conditions.{Reason, reason, with_fault, number_of, Conditions, least, is_no, missing_if}
 use Rattle.frames.specs.StackMaps.{MapEntry, stack_map}
 use Rattle.frames.specs.DeclaredFrames.{declared_frames}
-use Rattle.rules.specs.ReasonNumbers.{local_out_of_range, no_frame_at_target, not_assignable_at_target, not_assignable, no_frame, falls_off, bad_exception, handler_not_assignable, constructor_covered}
+use Rattle.rules.specs.ReasonNumbers.{local_out_of_range, no_frame_at_target, not_assignable_at_target, not_assignable, no_frame, falls_off, bad_exception, handler_not_assignable, constructor_covered, bad_stack_map}
 use Rattle.rules.specs.Plans.{Plan, falls, targets}
 use Rattle.rules.specs.Table.{Plans}
 use Rattle.rules.specs.After.{after}
@@ -39,6 +40,17 @@ pub data Verdict : Type 0 where
   refused : (at : ℕ) (why : Reason) → Verdict
   -- 78 at 0
   map_refused : (why : MapRefusal) → Verdict
+
+-- the number of the fault for which a stack map is refused
+abbrev pub map_fault_number : MapRefusal → ℕ
+map_fault_number (unreadable fault) = read_fault_number fault
+map_fault_number (undeclared why) = number_of why
+
+-- the offset and the reason that are told of a refusal
+abbrev pub told_of : Verdict → Option (ℕ × Reason)
+told_of verified = None
+told_of (refused at why) = Some (at, why)
+told_of (map_refused why) = Some (0, with_fault bad_stack_map (map_fault_number why))
 
 -- refused where there is a reason, and otherwise as the rest says
 abbrev pub refused_or : Option Reason → ℕ → Verdict → Verdict

@@ -1,17 +1,49 @@
 //! From one instruction to the next.
-ghost use Rattle.std.specs.Prelude.{◌≡◌, ◌++◌, ◌&&◌, [], ◌∷◌, List, Err, None};
-ghost use Rattle.hierarchy.specs.Class.{ClassFact};
-ghost use Rattle.frames.specs.FrameFact.{FrameFact};
+ghost use Rattle.std.specs.Prelude.{◌≡◌, ◌++◌, ◌&&◌, [], ◌∷◌, option_map, length, IfSome, OnOk, Err};
+ghost use Rattle.hierarchy.specs.Answer.{outcome_of};
 ghost use Rattle.frames.specs.Conditions.{Conditions, reason};
+ghost use Rattle.frames.specs.DeclaredTables.{declared_view};
+ghost use Rattle.rules.specs.Held.{held};
+ghost use Rattle.rules.specs.Reasons.{reason_number, reason_view};
+ghost use Rattle.verify.specs.Verdict.{answer_conditions};
 ghost use Rattle.verify.specs.Steps.{Judges, Enters};
 
-use rules::Reason;
+use frames::Declared;
+use hierarchy::{Answer, Classes};
+use rules::{Reason, Working};
 
-/// A frame comes in, as none is declared: 70 where the instruction in front does not fall through.
-pub fn enter<'a>(falls: bool) -> Result<(), Reason<'a>>
-    ensures { (classes : List ClassFact) (f : FrameFact) → Enters classes falls f None f result }
+/// This reason where a comparison answers no, and 77 where it needs a class that is missing.
+pub fn check_answer<'a>(answer: Answer<'a>, reason: Reason<'a>) -> Result<(), Reason<'a>>
+    requires { reason_view reason ≡ reason (reason_number reason) }
+    ensures { Judges (answer_conditions (reason_number reason.entry) (outcome_of answer.entry)) result }
 {
-    if falls { Ok(()) } else { Err(Reason::NoFrame) }
+    match answer {
+        Answer::Yes => Ok(()),
+        Answer::No => Err(reason),
+        Answer::Missing(name) => Err(Reason::ClassMissing(name)),
+    }
+}
+
+/// The frame that comes to a start, where this one may be declared, becomes the one that goes on: 69 and 77 by their
+/// comparison, and 70 where none comes and none is declared.
+pub fn enter<'a, C: Classes>(
+    comes: bool,
+    declared: Option<Declared<'_, 'a>>,
+    frame: &mut Working<'a>,
+    classes: &C,
+) -> Result<(), Reason<'a>>
+    requires { IfSome declared (λ d. length (declared_view d).locals ≡ length (held frame.old).locals) }
+    ensures entered { Enters (C.content classes.now) comes (held frame.old) (option_map declared_view declared.entry) (held frame.new) result }
+    ensures locals { OnOk result (length (held frame.new).locals ≡ length (held frame.old).locals) }
+{
+    let Some(declared) = declared else {
+        return if comes { Ok(()) } else { Err(Reason::NoFrame) };
+    };
+    if comes {
+        check_answer(frame.answer_for(&declared, classes), Reason::NotAssignable)?;
+    }
+    frame.take_on(&declared)?;
+    Ok(())
 }
 
 /// 71 where the last instruction falls through.
@@ -36,5 +68,18 @@ pub fn first_reason<'a>(one: Reason<'a>, other: Result<(), Reason<'a>>) -> Reaso
         } else {
             one
         },
+    }
+}
+
+/// What two lists of conditions say together.
+pub fn together<'a>(
+    one: Result<(), Reason<'a>>,
+    other: Result<(), Reason<'a>>,
+) -> Result<(), Reason<'a>>
+    ensures { (cs ds : Conditions) → Judges cs one.entry → Judges ds other.entry → Judges (cs ++ ds) result }
+{
+    match one {
+        Ok(()) => other,
+        Err(reason) => Err(first_reason(reason, other)),
     }
 }

@@ -33,6 +33,20 @@ fn parameter_type<'a>(parameter: &FieldType<'a>) -> VType<'a>
     }
 }
 
+/// The types of what parameters hold.
+pub fn parameter_types<'a>(
+    alloc: Global,
+    parameters: &[FieldType<'a>],
+) -> Result<Vec<VType<'a>>, AllocError>
+    ensures { IfOk result (λ v. map type_of v.items ≡ map descriptor_type (map descriptor_of parameters.now)) }
+{
+    let mut types = Vec::with_capacity(alloc, parameters.len())?;
+    for parameter in parameters {
+        types.push(parameter_type(parameter))?;
+    }
+    Ok(types)
+}
+
 /// A type as a local, a long or double being followed by top.
 fn put_local<'a>(t: VType<'a>, locals: &mut Vec<VType<'a>>) -> Result<(), AllocError>
     ensures { OnOk result (map type_of locals.new.items ≡ map type_of locals.old.items ++ in_locals (type_of t.entry ∷ [])) }

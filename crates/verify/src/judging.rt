@@ -4,6 +4,7 @@ ghost use Rattle.layout.specs.declared.limits.TheConstants.{MAX_CODE_BYTES};
 ghost use Rattle.insn.specs.Instructions.{Instruction};
 ghost use Rattle.insn.specs.Code.{SpellsCode};
 ghost use Rattle.insn.specs.Views.{act_view};
+ghost use Rattle.frames.specs.DeclaredTables.{frames_in, locals_in};
 ghost use Rattle.rules.specs.Table.{plan_yet};
 ghost use Rattle.rules.specs.After.{after};
 ghost use Rattle.rules.specs.Bodies.{method_view};
@@ -14,13 +15,15 @@ ghost use Rattle.verify.specs.InitialFrames.{initial_frame};
 ghost use Rattle.verify.specs.Verdict.{at_conditions, code_judged};
 ghost use Rattle.verify.specs.Steps.{Gives};
 
-use crate::flow::{check_end, enter, first_reason};
+use crate::branching::check_targets;
+use crate::flow::{check_end, enter, first_reason, together};
 use crate::refusal::refuse;
 use crate::verdict::{Verdict, VerifyFault};
 use classfile::CodeMethod;
+use frames::DeclaredFrames;
 use hierarchy::Classes;
 use insn::{Act, Instructions, act};
-use rules::{Reason, Working, goes_on, run};
+use rules::{Reason, Working, branches_by, goes_on, run};
 
 /// Judges an instruction in the frame before it, which becomes the frame after. Of the frame at the next start nothing is asked.
 fn judge<'a, C: Classes>(
@@ -29,20 +32,23 @@ fn judge<'a, C: Classes>(
     act: Act<'a>,
     falls: bool,
     last: bool,
+    frames: &DeclaredFrames<'a>,
     frame: &mut Working<'a>,
     classes: &C,
 ) -> Result<(), Reason<'a>>
     requires locals { length (held frame.old).locals ≡ method.now.code.now.max_locals }
+    requires declared { locals_in frames.now ≡ method.now.code.now.max_locals }
     requires no_exceptions { (method_view method.now).exceptions ≡ [] }
     requires falls { falls ≡ goes_on (act_view act) }
     ensures { (next : Option ℕ) → is_none next ≡ last →
         let m = method_view method.now in let f = held frame.old in
         let p = plan_yet m (act_view act.entry) in
-        Done (at_conditions (C.content classes.now) m [] at p next f) (after m at p f) (held frame.new) result }
+        Done (at_conditions (C.content classes.now) m (frames_in frames.now) at p next f) (after m at p f) (held frame.new) result }
 {
     let end = check_end(falls, last);
+    let branches = branches_by(&act);
     match run(method, at, act, frame, classes) {
-        Ok(()) => end,
+        Ok(()) => together(check_targets(at, branches, frame, frames, classes), end),
         Err(reason) => Err(first_reason(reason, end)),
     }
 }
@@ -50,15 +56,17 @@ fn judge<'a, C: Classes>(
 /// Judges code, by one pass over its bytes that carries one frame, the one with which the method begins.
 pub fn pass<'a, C: Classes>(
     method: &CodeMethod<'_, 'a>,
+    frames: &DeclaredFrames<'a>,
     frame: &mut Working<'a>,
     classes: &C,
 ) -> Result<Verdict<'a>, VerifyFault>
     requires initial { held frame.old ≡ initial_frame (method_view method.now) }
     requires locals { length (held frame.old).locals ≡ method.now.code.now.max_locals }
+    requires declared { locals_in frames.now ≡ method.now.code.now.max_locals }
     requires no_exceptions { (method_view method.now).exceptions ≡ [] }
     requires spelled { (xs : List (ℕ × Instruction)) × SpellsCode 0 method.now.code.now.code.now xs }
     requires few { length method.now.code.now.code.now ≤ MAX_CODE_BYTES }
-    ensures { Gives (code_judged plan_yet (C.content classes.now) (method_view method.now) []) result }
+    ensures { Gives (code_judged plan_yet (C.content classes.now) (method_view method.now) (frames_in frames.now)) result }
 {
     let mut code = Instructions::new(method.code.code);
     let mut comes = true;
@@ -67,12 +75,13 @@ pub fn pass<'a, C: Classes>(
             unreachable!();
         };
         let at = at as u16;
-        if let Err(reason) = enter(comes) {
+        if let Err(reason) = enter(comes, frames.find(u32::from(at)), frame, classes) {
             return refuse(at, reason);
         }
         let act = act(&insn);
         comes = goes_on(&act);
-        if let Err(reason) = judge(method, at, act, comes, code.is_at_end(), frame, classes) {
+        let last = code.is_at_end();
+        if let Err(reason) = judge(method, at, act, comes, last, frames, frame, classes) {
             return refuse(at, reason);
         }
     }

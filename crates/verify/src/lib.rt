@@ -10,12 +10,14 @@
 //! - `refusal`: verdicts that refuse.
 //! - `initial`: the frame with which a method begins.
 //! - `judging`: one pass over a method's code, against the verdict in specs/Verdict.antt.
-//! - `flow`: from one instruction to the next.
+//! - `flow`, `branching`: from one instruction to the next, and to its targets.
+//! - `stack_maps`: the frames that a stack map declares.
 //! - `theorem`: type-safe methods are safe.
 //! - `laws`: the verdict on a method is verified exactly where it is type-safe, there is one, and what a refusal says.
 #![tactic(auto)]
 
 mod among;
+mod branching;
 mod files;
 mod flow;
 mod initial;
@@ -25,6 +27,7 @@ mod listing;
 mod method;
 mod refusal;
 mod report;
+mod stack_maps;
 mod theorem;
 mod verdict;
 

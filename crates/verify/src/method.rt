@@ -20,7 +20,8 @@ ghost use Rattle.verify.specs.Answers.{AnswersCode, Answers, VerifiesTypeSafe, V
 use crate::initial::initial_locals;
 use crate::judging::pass;
 use crate::listing::is_listed;
-use crate::refusal::{has_stack_map, refuse, refuse_code};
+use crate::refusal::{refuse, refuse_code};
+use crate::stack_maps::declared_frames;
 use crate::verdict::{Verdict, VerifyFault};
 use classfile::{CodeMethod, Formed};
 use hierarchy::Classes;
@@ -41,9 +42,6 @@ fn is_judged(method: &CodeMethod<'_, '_>) -> bool
     if method.is_init {
         return false;
     }
-    if has_stack_map(method.code) {
-        return false;
-    }
     method.code.exception_table.is_empty()
 }
 
@@ -59,7 +57,8 @@ fn types_of<'a>(alloc: Global, method: &CodeMethod<'_, 'a>) -> Result<MethodType
     }
 }
 
-/// Judges a method by its parameters and its instructions: 64 where the parameters do not fit, and then by one pass.
+/// Judges a method by its parameters, its stack map and its instructions: 64 where the parameters do not fit, 78 where the map is refused,
+/// and then by one pass.
 fn judge_body<'a, C: Classes>(
     alloc: Global,
     method: &CodeMethod<'_, 'a>,
@@ -77,8 +76,13 @@ fn judge_body<'a, C: Classes>(
     let Some(locals) = initial_locals(alloc, parameters, max_locals)? else {
         return refuse(0, Reason::LocalOutOfRange);
     };
-    frame.start(&locals, max_locals, false)?;
-    pass(method, frame, classes)
+    match declared_frames(alloc, method, parameters)? {
+        Err(fault) => refuse(0, Reason::BadStackMap { fault }),
+        Ok(frames) => {
+            frame.start(&locals, max_locals, false)?;
+            pass(method, &frames, frame, classes)
+        }
+    }
 }
 
 /// The verdict on a method with code.
@@ -129,11 +133,13 @@ pub fn verify_listed<'a, C: Classes>(
 ///
 /// A method without a Code attribute has none. The first of these steps that refuses says why and where:
 ///
-/// - 60 at 0: the method is not static, is an `<init>`, or has a StackMapTable or an exception table;
+/// - 60 at 0: the method is not static, is an `<init>`, or has an exception table;
 /// - 79 where the first instruction at fault begins, with the number of its fault (31 to 35);
 /// - 64 at 0: the parameters do not fit into max_locals;
-/// - 70 at an instruction to which no frame comes, 71 where the last one goes on, and otherwise what an instruction's rule
-///   refuses (60 to 66, 74, 76, 77): at the first instruction that is refused, the least number that holds there.
+/// - 78 at 0, with the number of its fault: the stack map is refused, by its bytes (2, 12, 47, 48) or by an entry (8, 9, 49 to 53);
+/// - at the first instruction that is refused: 69 or 77 where the frame that comes in is not assignable to the one that is declared
+///   there, 70 where none comes and none is declared; then the least number that holds of what its rule refuses (60 to 66, 74, 76, 77), 67
+///   and 68 for its targets, and 71 where the last one goes on.
 ///
 /// Before all that, 80 where the hierarchy has no class with exactly this class's summary; and 1 where memory ran out.
 pub fn verify_method<'a, C: Classes>(

@@ -1,12 +1,11 @@
 //! Verdicts that refuse.
-ghost use Rattle.std.specs.Prelude.{◌≡◌, ◌⊎◌, map};
-ghost use Rattle.std.specs.Option.{is_some};
+ghost use Rattle.std.specs.Prelude.{◌≡◌, ◌⊎◌, map, Some, option_map};
 ghost use Rattle.classfile.specs.Methods.{stack_map_of};
 ghost use Rattle.classfile.specs.Views.{nested_view};
 ghost use Rattle.rules.specs.declared.reason.Reason.TheVariants.{OutOfMemory};
 ghost use Rattle.rules.specs.Reasons.{reason_view};
 ghost use Rattle.verify.specs.Verdict as verdicts;
-ghost use Rattle.verify.specs.Verdict.{refused};
+ghost use Rattle.verify.specs.Verdict.{told_of};
 ghost use Rattle.verify.specs.Steps.{Gives, RefusesCode};
 
 use crate::verdict::{Verdict, VerifyFault};
@@ -16,7 +15,7 @@ use rules::Reason;
 
 /// The verdict that a reason gives.
 pub fn refuse<'a>(at: u16, reason: Reason<'a>) -> Result<Verdict<'a>, VerifyFault>
-    ensures { (v : verdicts.Verdict) → (reason.entry ≡ OutOfMemory) ⊎ (v ≡ refused at (reason_view reason.entry)) → Gives v result }
+    ensures { (v : verdicts.Verdict) → (reason.entry ≡ OutOfMemory) ⊎ (told_of v ≡ Some (at, reason_view reason.entry)) → Gives v result }
 {
     match reason {
         Reason::OutOfMemory => Err(VerifyFault::OutOfMemory),
@@ -47,14 +46,14 @@ pub fn refuse_code<'a>(fault: CodeFault) -> Result<Verdict<'a>, VerifyFault>
     })
 }
 
-/// Whether a Code attribute has a StackMapTable.
-pub fn has_stack_map(code: &CodeAttr<'_>) -> bool
-    ensures { result ≡ is_some (stack_map_of (map nested_view code.now.attributes.items)) }
+/// The body of a Code attribute's StackMapTable, if it has one.
+pub fn stack_map<'a>(code: &CodeAttr<'a>) -> Option<&'a [u8]>
+    ensures { option_map (λ b. b.now) result ≡ stack_map_of (map nested_view code.now.attributes.items) }
 {
     for attribute in &code.attributes {
-        if let NestedAttribute::StackMapTable { .. } = attribute {
-            return true;
+        if let NestedAttribute::StackMapTable { body, .. } = attribute {
+            return Some(*body);
         }
     }
-    false
+    None
 }

@@ -1,20 +1,49 @@
-use Rattle.std.proofs.Common.{refl}
+use Rattle.std.proofs.Common.{◌≡◌, ◌⊎◌, ◌∷◌, [], ◌++◌, ◌&&◌, Ok, Err, None, ℤ, List, sym, ap, subst, ◌∙◌}
+use Rattle.frames.specs.Conditions.{reason, Conditions}
+use Rattle.frames.specs.DeclaredTables.{frames_in}
+use Rattle.insn.specs.Offsets.{led_to}
 use Rattle.insn.specs.Views.{act_view}
+use Rattle.rules.specs.After.{after}
+use Rattle.rules.specs.Rules.{conditions}
 use Rattle.rules.specs.Held.{held}
 use Rattle.rules.specs.Bodies.{method_view}
-use Rattle.verify.proofs.Ends.{judged_ok, judged_err}
+use Rattle.rules.specs.Outcomes.{Done}
+use Rattle.rules.specs.Table.{plan_yet}
+use Rattle.rules.specs.Ways.{goes_on, branch_offsets}
+use Rattle.verify.specs.Verdict.{target_conditions}
+use Rattle.verify.specs.Steps.{Judges}
+use Rattle.verify.proofs.Going.{ways}
+use Rattle.verify.proofs.Ends.{done_ways, refused_end}
 use Rattle.verify.proofs.judging.judge.Goals as goal
 
 pub returns-in-Ok : goal.returns-in-Ok
 returns-in-Ok g c = λ next e.
-    judged_ok (g.C.Classes.content c.args.classes.now) (method_view c.args.method.now) c.args.at (held c.args.frame.now)
-    (held c.run.new.frame) (act_view c.args.act) (act_view c.args.act) refl
-    c.args.falls c.args.last c.requires.falls c.requires.no_exceptions next e c.run.result c.run.ensures c.in-Ok.field-0
-    c.check_end-end.result c.in-Ok.is c.check_end-end.ensures
+    let classes = g.C.Classes.content c.args.classes.now in
+    let m = method_view c.args.method.now in
+    let a = act_view c.args.act in
+    let p = plan_yet m a in
+    let f = held c.args.frame.now in
+    let now = held c.run.new.frame in
+    let frames = frames_in c.args.frames.now in
+    let ran = (subst (Done (conditions classes m c.args.at p f) (after m c.args.at p f) now) c.in-Ok.is c.run.ensures).outcome in
+    let targets : Judges (target_conditions classes frames now (led_to c.args.at (branch_offsets a))) c.check_targets.result =
+    subst (λ (z : List ℤ). Judges (target_conditions classes frames now (led_to c.args.at z)) c.check_targets.result) c.branches_by-branches.ensures c.check_targets.ensures in
+    let end : Judges ((reason 71, goes_on a && c.args.last) ∷ []) c.check_end-end.result =
+    subst (λ z. Judges ((reason 71, z && c.args.last) ∷ []) c.check_end-end.result) c.requires.falls c.check_end-end.ensures in
+    done_ways classes m frames c.args.at f a p (ways m a) c.args.last next c.requires.no_exceptions e now c.together.result ran.0 ran.1
+    (c.together.ensures (target_conditions classes frames now (led_to c.args.at (branch_offsets a))) ((reason 71, goes_on a && c.args.last) ∷ []) targets end)
 
 pub returns-in-Err : goal.returns-in-Err
 returns-in-Err g c = λ next e.
-    judged_err (g.C.Classes.content c.args.classes.now) (method_view c.args.method.now) c.args.at (held c.args.frame.now)
-    (held c.run.new.frame) (act_view c.args.act) (act_view c.args.act) refl
-    c.args.falls c.args.last c.requires.falls c.requires.no_exceptions next e c.run.result c.run.ensures c.in-Err.reason
-    c.first_reason.result c.check_end-end.result c.in-Err.is c.check_end-end.ensures c.first_reason.ensures
+    let classes = g.C.Classes.content c.args.classes.now in
+    let m = method_view c.args.method.now in
+    let a = act_view c.args.act in
+    let p = plan_yet m a in
+    let f = held c.args.frame.now in
+    let now = held c.run.new.frame in
+    let frames = frames_in c.args.frames.now in
+    let ran = (subst (Done (conditions classes m c.args.at p f) (after m c.args.at p f) now) c.in-Err.is c.run.ensures).outcome in
+    let end : Judges ((reason 71, goes_on a && c.args.last) ∷ []) c.check_end-end.result =
+    subst (λ z. Judges ((reason 71, z && c.args.last) ∷ []) c.check_end-end.result) c.requires.falls c.check_end-end.ensures in
+    refused_end classes m frames c.args.at f a p (ways m a) c.args.last next c.requires.no_exceptions e now c.in-Err.reason c.first_reason.result ran
+    (λ cs j. c.first_reason.ensures cs ((reason 71, goes_on a && c.args.last) ∷ []) j end)

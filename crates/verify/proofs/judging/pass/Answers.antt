@@ -1,8 +1,8 @@
-use Rattle.std.proofs.Common.{◌≡◌, ℕ, ◌+◌, true, [], ◌∷◌, Ok, length, sym, ◌∙◌, ap, subst, arith}
+use Rattle.std.proofs.Common.{◌≡◌, ℕ, ◌+◌, true, ◌∷◌, Ok, length, sym, ◌∙◌, ap, subst, arith}
 use Rattle.layout.specs.Place.{Place}
 use Rattle.insn.specs.declared.instruction.Insn.{Insn}
 use Rattle.insn.specs.Meanings.{Act, act}
-use Rattle.insn.specs.Offsets.{acts, first_offset}
+use Rattle.insn.specs.Offsets.{acts, at_offset, first_offset}
 use Rattle.insn.specs.Readings.{or_none, instructions_in}
 use Rattle.insn.specs.Views.{view, located}
 use Rattle.insn.proofs.Readings.{reading_at, whole_reading, only_reading}
@@ -12,21 +12,24 @@ use Rattle.rules.specs.Held.{held}
 use Rattle.rules.specs.Outcomes.{Done}
 use Rattle.rules.specs.Table.{plan_yet}
 use Rattle.rules.specs.Ways.{goes_on}
+use Rattle.frames.specs.DeclaredTables.{frames_in}
+use Rattle.verify.specs.Steps.{Enters}
 use Rattle.verify.specs.Verdict.{at_conditions, code_judged}
-use Rattle.verify.proofs.Onward.{left, steps, no_stop, at_end, step_within, last_is, keeps_length, stops_in, comes_in, stops_at, goes_done}
+use Rattle.verify.proofs.Onward.{left, steps, no_stop, at_end, step_within, last_is, keeps_length, stops_in, stops_at, goes_done}
 use Rattle.verify.proofs.judging.pass.Goals as goal
 
 pub loop-step-init : goal.loop-step-init
 loop-step-init g c =
     let classes = g.C.Classes.content c.args.classes.now in
     let m = method_view c.args.method.now in
+    let frames = frames_in c.args.frames.now in
     let code = c.args.method.now.code.now.code.now in
     let only = only_reading code (Ok c.requires.spelled.0) c.requires.spelled.1 in
     record {
       left = record {
         instructions = instructions_in code;
         read = ap reading_at c.new-code.ensures ∙ sym (whole_reading code) ∙ only ∙ ap Ok (sym (ap or_none only));
-        same = ap (left classes m (acts (instructions_in code)) true) (sym c.requires.initial);
+        same = ap (left classes m frames (acts (instructions_in code)) true) (sym c.requires.initial);
         within = let all = ap (λ (p : Place). p.at + length p.rest) c.new-code.ensures in omega (arith, all);
       };
       locals = c.requires.locals;
@@ -41,71 +44,81 @@ pub returns-in-Err : goal.returns-in-Err
 returns-in-Err g c =
     let classes = g.C.Classes.content c.args.classes.now in
     let m = method_view c.args.method.now in
+    let frames = frames_in c.args.frames.now in
     let f = held c.loop-step.frame in
-    let v = code_judged plan_yet classes m [] in
+    let v = code_judged plan_yet classes m frames in
     let comes = c.loop-step.comes in
     let now = c.loop-step.invariant.left in
     let x : ℕ × Insn = (c.in-Ok.at, c.in-Ok.insn) in
     let one = steps located c.loop-step.code c.next.new.self c.in-Some.step x now.instructions now.read c.in-Some.ensures.steps c.in-Ok.is in
-    let same : v ≡ left classes m (acts (located x ∷ one.others)) comes f = now.same ∙ ap (λ xs. left classes m (acts xs) comes f) one.all in
+    let same : v ≡ left classes m frames (acts (located x ∷ one.others)) comes f = now.same ∙ ap (λ xs. left classes m frames (acts xs) comes f) one.all in
+    let came = subst (λ o. Enters classes comes f o (held c.enter.new.frame) c.enter.result) c.find.ensures.frame c.enter.ensures.entered in
     c.refuse.ensures v
-    (stops_in classes m (x.0, act (view x.1)) (acts one.others) comes f v same c.enter.result c.in-Err.reason c.in-Err.is (c.enter.ensures classes f))
+    (stops_in classes m frames (x.0, act (view x.1)) (acts one.others) comes f v same (held c.enter.new.frame) c.enter.result c.in-Err.reason c.in-Err.is came)
 
 pub returns-in-Err-judge : goal.returns-in-Err-judge
 returns-in-Err-judge g c =
     let classes = g.C.Classes.content c.args.classes.now in
     let m = method_view c.args.method.now in
+    let frames = frames_in c.args.frames.now in
     let f = held c.loop-step.frame in
-    let v = code_judged plan_yet classes m [] in
+    let v = code_judged plan_yet classes m frames in
     let comes = c.loop-step.comes in
     let now = c.loop-step.invariant.left in
     let x : ℕ × Insn = (c.in-Ok.at, c.in-Ok.insn) in
     let one = steps located c.loop-step.code c.next.new.self c.in-Some.step x now.instructions now.read c.in-Some.ensures.steps c.in-Ok.is in
-    let same : v ≡ left classes m (acts (located x ∷ one.others)) comes f = now.same ∙ ap (λ xs. left classes m (acts xs) comes f) one.all in
+    let same : v ≡ left classes m frames (acts (located x ∷ one.others)) comes f = now.same ∙ ap (λ xs. left classes m frames (acts xs) comes f) one.all in
     let a : ℕ × Act = (x.0, act (view x.1)) in
-    let came = comes_in classes m a (acts one.others) comes f v same c.enter.result c.in_default-enter.field-0 c.in_default-enter.is (c.enter.ensures classes f) in
+    let g1 = held c.enter.new.frame in
+    let came = subst (λ o. Enters classes comes f o g1 c.enter.result) c.find.ensures.frame c.enter.ensures.entered in
     let next = first_offset (acts one.others) in
     let done =
-    subst (λ b. Done (at_conditions classes m [] x.0 (plan_yet m b) next f) (after m x.0 (plan_yet m b) f) (held c.judge.new.frame) c.judge.result) c.act-act.ensures
-    (c.judge.ensures next (last_is c.next.new.self one.others one.read ∙ sym c.is_at_end.ensures)) in
+    subst (λ b. Done (at_conditions classes m frames x.0 (plan_yet m b) next g1) (after m x.0 (plan_yet m b) g1) (held c.judge.new.frame) c.judge.result) c.act-act.ensures
+    (c.judge.ensures next (last_is c.next.new.self one.others one.read ∙ sym c.is_at_end-last.ensures)) in
     c.refuse-in-Err-judge.ensures v
-    (stops_at classes m a (acts one.others) comes f v same (held c.judge.new.frame) c.judge.result c.in-Err-judge.reason came c.in-Err-judge.is done)
+    (stops_at classes m frames a (acts one.others) comes f v same g1 c.enter.result c.in_default-enter.field-0 c.in_default-enter.is came
+    (held c.judge.new.frame) c.judge.result c.in-Err-judge.reason c.in-Err-judge.is done)
 
 pub loop-step-preserved : goal.loop-step-preserved
 loop-step-preserved g c =
     let classes = g.C.Classes.content c.args.classes.now in
     let m = method_view c.args.method.now in
+    let frames = frames_in c.args.frames.now in
     let f = held c.loop-step.frame in
-    let v = code_judged plan_yet classes m [] in
+    let v = code_judged plan_yet classes m frames in
     let comes = c.loop-step.comes in
     let now = c.loop-step.invariant.left in
     let x : ℕ × Insn = (c.in-Ok.at, c.in-Ok.insn) in
     let one = steps located c.loop-step.code c.next.new.self c.in-Some.step x now.instructions now.read c.in-Some.ensures.steps c.in-Ok.is in
-    let same : v ≡ left classes m (acts (located x ∷ one.others)) comes f = now.same ∙ ap (λ xs. left classes m (acts xs) comes f) one.all in
+    let same : v ≡ left classes m frames (acts (located x ∷ one.others)) comes f = now.same ∙ ap (λ xs. left classes m frames (acts xs) comes f) one.all in
     let a : ℕ × Act = (x.0, act (view x.1)) in
-    let came = comes_in classes m a (acts one.others) comes f v same c.enter.result c.in_default-enter.field-0 c.in_default-enter.is (c.enter.ensures classes f) in
+    let g1 = held c.enter.new.frame in
+    let came = subst (λ o. Enters classes comes f o g1 c.enter.result) c.find.ensures.frame c.enter.ensures.entered in
     let next = first_offset (acts one.others) in
     let done =
-    subst (λ b. Done (at_conditions classes m [] x.0 (plan_yet m b) next f) (after m x.0 (plan_yet m b) f) (held c.judge.new.frame) c.judge.result) c.act-act.ensures
-    (c.judge.ensures next (last_is c.next.new.self one.others one.read ∙ sym c.is_at_end.ensures)) in
-    let well = subst (Done (at_conditions classes m [] x.0 (plan_yet m a.1) next f) (after m x.0 (plan_yet m a.1) f) (held c.judge.new.frame)) c.in_default-judge.is done in
+    subst (λ b. Done (at_conditions classes m frames x.0 (plan_yet m b) next g1) (after m x.0 (plan_yet m b) g1) (held c.judge.new.frame) c.judge.result) c.act-act.ensures
+    (c.judge.ensures next (last_is c.next.new.self one.others one.read ∙ sym c.is_at_end-last.ensures)) in
+    let well = subst (Done (at_conditions classes m frames x.0 (plan_yet m a.1) next g1) (after m x.0 (plan_yet m a.1) g1) (held c.judge.new.frame)) c.in_default-judge.is done in
     record {
       left = record {
         instructions = one.others;
         read = one.read;
         same =
-            goes_done classes m a (acts one.others) comes f v same (held c.judge.new.frame) c.judge.result c.in_default-judge.field-0 c.goes_on-comes.result came
+            goes_done classes m frames a (acts one.others) comes f v same g1 c.enter.result c.in_default-enter.field-0 c.in_default-enter.is came
+            (held c.judge.new.frame) c.judge.result c.in_default-judge.field-0 c.goes_on-comes.result
             c.in_default-judge.is done (c.goes_on-comes.ensures ∙ ap goes_on c.act-act.ensures);
         within = (step_within located c.loop-step.code c.next.new.self c.in-Some.step x c.in-Some.ensures.steps c.in-Ok.is).1 ∙ now.within;
       };
       locals =
-          keeps_length m x.0 (plan_yet m a.1) f (held c.judge.new.frame) c.args.method.now.code.now.max_locals c.loop-step.invariant.locals well.outcome.1;
+          keeps_length m x.0 (plan_yet m a.1) g1 (held c.judge.new.frame) c.args.method.now.code.now.max_locals
+          (c.in_default-enter.ensures.locals ∙ c.loop-step.invariant.locals) well.outcome.1;
     }
 
 pub returns : goal.returns
 returns g c =
     let classes = g.C.Classes.content c.args.classes.now in
     let m = method_view c.args.method.now in
+    let frames = frames_in c.args.frames.now in
     let now = c.loop-step.invariant.left in
-    now.same ∙ ap (λ xs. left classes m (acts xs) c.loop-step.comes (held c.loop-step.frame))
+    now.same ∙ ap (λ xs. left classes m frames (acts xs) c.loop-step.comes (held c.loop-step.frame))
     (at_end located c.loop-step.code c.next.new.self now.instructions now.read c.in_default.ensures.steps)
