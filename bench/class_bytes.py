@@ -1,7 +1,7 @@
 """Class files made by hand, without Java: what the measurements of hostile files are made of."""
 import struct
 
-POOL = 7  # the first index behind the fixed entries
+POOL = 8  # the first index behind the fixed entries
 
 
 def utf8(text):
@@ -9,13 +9,24 @@ def utf8(text):
 
 
 def class_file(methods, names=()):
-    """A class K under java/lang/Object with these methods. Index 5 is `()V`, 6 `Code`, and from 7 on come the names."""
-    pool = b"\x07\x00\x02" + utf8(b"K") + b"\x07\x00\x04" + utf8(b"java/lang/Object") + utf8(b"()V") + utf8(b"Code")
+    """A class K under java/lang/Object with these methods. Index 5 is `()V`, 6 `Code`, 7 `StackMapTable`, and from 8 on come the names."""
+    pool = b"\x07\x00\x02" + utf8(b"K") + b"\x07\x00\x04" + utf8(b"java/lang/Object") + utf8(b"()V") + utf8(b"Code") + utf8(b"StackMapTable")
     head = b"\xca\xfe\xba\xbe" + struct.pack(">HHH", 0, 52, POOL + len(names)) + pool + b"".join(map(utf8, names))
     return head + struct.pack(">HHHHHH", 0x21, 1, 3, 0, 0, len(methods)) + b"".join(methods) + bytes(2)
 
 
-def method(name, code, max_stack, max_locals):
-    """A static method ()V of this code, whose name is the entry of this index."""
-    body = struct.pack(">HHI", max_stack, max_locals, len(code)) + code + bytes(4)
+def full_frame(delta, locals_given):
+    """An entry of a stack map that gives all locals, by the bytes of their types, each of one byte, and nothing on the stack."""
+    return b"\xff" + struct.pack(">HH", delta, len(locals_given)) + locals_given + bytes(2)
+
+
+def stack_map(entries):
+    return struct.pack(">H", len(entries)) + b"".join(entries)
+
+
+def method(name, code, max_stack, max_locals, body_of_map=None):
+    """A static method ()V of this code, whose name is the entry of this index, with this body of a StackMapTable if one is given."""
+    nested = [] if body_of_map is None else [struct.pack(">HI", 7, len(body_of_map)) + body_of_map]
+    behind = bytes(2) + struct.pack(">H", len(nested)) + b"".join(nested)
+    body = struct.pack(">HHI", max_stack, max_locals, len(code)) + code + behind
     return struct.pack(">HHHHHI", 9, name, 5, 1, 6, len(body)) + body

@@ -24,6 +24,7 @@ pub mod Replaced
 pub mod Merging
 pub mod Going
 pub mod Ends
+pub mod Repeated
 pub mod Onward
 pub mod Parameters
 pub mod Summaries
@@ -32,6 +33,7 @@ pub mod MethodCode
 pub mod Answering
 pub mod OneVerdict
 mod Examples
+mod BranchExamples
 mod NewMaps
 pub mod Named
 pub mod Formed

@@ -15,3 +15,6 @@ pub mod Files
 pub mod FileSteps
 pub mod Among
 pub mod AmongSteps
+pub mod Turns
+pub mod PlaceSets
+pub mod Targets

@@ -1,62 +1,102 @@
 //! Where an instruction branches to.
-ghost use Rattle.std.specs.Prelude.{◌≡◌, ℤ, pos, length, option_map, MatchOption, IfSome};
+ghost use Rattle.std.specs.Prelude.{◌≡◌, length, IfSome, MatchOption};
 ghost use Rattle.insn.specs.Branching.{branches_view, targets_of};
 ghost use Rattle.insn.specs.Offsets.{led_to};
 ghost use Rattle.frames.specs.DeclaredTables.{frames_in, locals_in, declared_view};
 ghost use Rattle.rules.specs.Held.{held};
-ghost use Rattle.verify.specs.Verdict.{declared_at, one_target, target_conditions};
+ghost use Rattle.verify.specs.Verdict.{declared_at, target_conditions};
 ghost use Rattle.verify.specs.Steps.{Judges};
+ghost use Rattle.verify.specs.Targets.{IsPlace, Compares};
 
 use crate::flow::{check_answer, together};
+use crate::place_set::PlaceSet;
 use frames::{Declared, DeclaredFrames};
 use hierarchy::Classes;
 use insn::{BranchTargets, Branches};
 use rules::{Reason, Working};
 
-/// The frame that is declared at a target.
-fn declared_at<'n, 'a>(frames: &'n DeclaredFrames<'a>, target: i64) -> Option<Declared<'n, 'a>>
-    ensures frame { option_map declared_view result ≡ declared_at (frames_in frames.now) target }
-    ensures locals { IfSome result (λ d. length (declared_view d).locals ≡ locals_in frames.now) }
+/// The frame that is declared at a target, with its place among all.
+fn declared_at<'n, 'a>(
+    frames: &'n DeclaredFrames<'a>,
+    target: i64,
+) -> Option<(usize, Declared<'n, 'a>)>
+    ensures frame { MatchOption result (declared_at (frames_in frames.now) target ≡ None) (λ x. IsPlace (frames_in frames.now) target x.0 (declared_view x.1)) }
+    ensures locals { IfSome result (λ x. length (declared_view x.1).locals ≡ locals_in frames.now) }
 {
-    match u32::try_from(target) {
-        Ok(at) => frames.find(at),
-        Err(_) => None,
-    }
+    let Ok(at) = u32::try_from(target) else {
+        return None;
+    };
+    let place = frames.place(at)?;
+    let (_at, declared) = frames.get(place)?;
+    Some((place, declared))
 }
 
-/// The frame after an instruction comes to a target: 67 where none is declared there, 68 and 77 by their comparison.
+/// The frame after an instruction comes to a target: 67 where none is declared there, 68 and 77 by their comparison. A frame that was
+/// compared before is not compared again.
 fn check_target<'a, C: Classes>(
     target: i64,
     frame: &Working<'a>,
     frames: &DeclaredFrames<'a>,
+    seen: &mut PlaceSet,
+    classes: &C,
+) -> Option<Result<(), Reason<'a>>>
+    requires { length (held frame.now).locals ≡ locals_in frames.now }
+    ensures { Compares (C.content classes.now) (frames_in frames.now) (held frame.now) target seen.old seen.new result }
+{
+    let Some((place, declared)) = declared_at(frames, target) else {
+        return Some(Err(Reason::NoFrameAtTarget));
+    };
+    if !seen.put(place) {
+        return None;
+    }
+    Some(check_answer(
+        frame.answer_for(&declared, classes),
+        Reason::NotAssignableAtTarget,
+    ))
+}
+
+/// The frame after an instruction comes to each of these targets.
+fn check_all<'a, C: Classes>(
+    targets: BranchTargets<'a>,
+    frame: &Working<'a>,
+    frames: &DeclaredFrames<'a>,
+    seen: &mut PlaceSet,
     classes: &C,
 ) -> Result<(), Reason<'a>>
     requires { length (held frame.now).locals ≡ locals_in frames.now }
-    ensures { Judges (one_target (C.content classes.now) (declared_at (frames_in frames.now) target) (held frame.now)) result }
+    ensures { Judges (target_conditions (C.content classes.now) (frames_in frames.now) (held frame.now) (targets_of targets.entry)) result }
 {
-    let Some(declared) = declared_at(frames, target) else {
-        return Err(Reason::NoFrameAtTarget);
-    };
-    check_answer(
-        frame.answer_for(&declared, classes),
-        Reason::NotAssignableAtTarget,
-    )
+    seen.clear();
+    let mut so_far = Ok(());
+    for target in targets {
+        if let Some(answer) = check_target(target, frame, frames, seen, classes) {
+            so_far = together(so_far, answer);
+        }
+    }
+    so_far
 }
 
-/// The frame after an instruction at this offset comes to all its targets, the default of a switch first.
+/// The frame after an instruction at this offset comes to all its targets, the default of a switch first. Equal targets are compared
+/// once.
 pub fn check_targets<'a, C: Classes>(
     at: u16,
     branches: Branches<'a>,
     frame: &Working<'a>,
     frames: &DeclaredFrames<'a>,
+    seen: &mut PlaceSet,
     classes: &C,
 ) -> Result<(), Reason<'a>>
     requires { length (held frame.now).locals ≡ locals_in frames.now }
     ensures { Judges (target_conditions (C.content classes.now) (frames_in frames.now) (held frame.now) (led_to at (branches_view branches.entry))) result }
 {
-    let mut so_far = Ok(());
-    for target in BranchTargets::new(at, branches) {
-        so_far = together(so_far, check_target(target, frame, frames, classes));
+    if let Branches::Nowhere = branches {
+        return Ok(());
     }
-    so_far
+    check_all(
+        BranchTargets::new(at, branches),
+        frame,
+        frames,
+        seen,
+        classes,
+    )
 }

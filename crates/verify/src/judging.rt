@@ -17,6 +17,7 @@ ghost use Rattle.verify.specs.Steps.{Gives};
 
 use crate::branching::check_targets;
 use crate::flow::{check_end, enter, first_reason, together};
+use crate::place_set::PlaceSet;
 use crate::refusal::refuse;
 use crate::verdict::{Verdict, VerifyFault};
 use classfile::CodeMethod;
@@ -33,6 +34,7 @@ fn judge<'a, C: Classes>(
     falls: bool,
     last: bool,
     frames: &DeclaredFrames<'a>,
+    seen: &mut PlaceSet,
     frame: &mut Working<'a>,
     classes: &C,
 ) -> Result<(), Reason<'a>>
@@ -48,7 +50,7 @@ fn judge<'a, C: Classes>(
     let end = check_end(falls, last);
     let branches = branches_by(&act);
     match run(method, at, act, frame, classes) {
-        Ok(()) => together(check_targets(at, branches, frame, frames, classes), end),
+        Ok(()) => together(check_targets(at, branches, frame, frames, seen, classes), end),
         Err(reason) => Err(first_reason(reason, end)),
     }
 }
@@ -57,6 +59,7 @@ fn judge<'a, C: Classes>(
 pub fn pass<'a, C: Classes>(
     method: &CodeMethod<'_, 'a>,
     frames: &DeclaredFrames<'a>,
+    seen: &mut PlaceSet,
     frame: &mut Working<'a>,
     classes: &C,
 ) -> Result<Verdict<'a>, VerifyFault>
@@ -81,7 +84,7 @@ pub fn pass<'a, C: Classes>(
         let act = act(&insn);
         comes = goes_on(&act);
         let last = code.is_at_end();
-        if let Err(reason) = judge(method, at, act, comes, last, frames, frame, classes) {
+        if let Err(reason) = judge(method, at, act, comes, last, frames, seen, frame, classes) {
             return refuse(at, reason);
         }
     }

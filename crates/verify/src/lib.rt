@@ -11,6 +11,7 @@
 //! - `initial`: the frame with which a method begins.
 //! - `judging`: one pass over a method's code, against the verdict in specs/Verdict.antt.
 //! - `flow`, `branching`: from one instruction to the next, and to its targets.
+//! - `place_set`: which declared frames were compared.
 //! - `stack_maps`: the frames that a stack map declares.
 //! - `theorem`: type-safe methods are safe.
 //! - `laws`: the verdict on a method is verified exactly where it is type-safe, there is one, and what a refusal says.
@@ -26,6 +27,7 @@ mod laws;
 mod listing;
 mod method;
 mod refusal;
+mod place_set;
 mod report;
 mod stack_maps;
 mod theorem;

@@ -20,6 +20,7 @@ ghost use Rattle.verify.specs.Answers.{AnswersCode, Answers, VerifiesTypeSafe, V
 use crate::initial::initial_locals;
 use crate::judging::pass;
 use crate::listing::is_listed;
+use crate::place_set::PlaceSet;
 use crate::refusal::{refuse, refuse_code};
 use crate::stack_maps::declared_frames;
 use crate::verdict::{Verdict, VerifyFault};
@@ -80,7 +81,9 @@ fn judge_body<'a, C: Classes>(
         Err(fault) => refuse(0, Reason::BadStackMap { fault }),
         Ok(frames) => {
             frame.start(&locals, max_locals, false)?;
-            pass(method, &frames, frame, classes)
+            let mut seen = PlaceSet::new(alloc);
+            seen.start(frames.len())?;
+            pass(method, &frames, &mut seen, frame, classes)
         }
     }
 }

@@ -1,0 +1,7 @@
+-- What a set of places counts: its turns.
+use Rattle.std.specs.Prelude.{◌≤◌, ℕ, List, get_or}
+
+-- no place was put in later than now, and there was a turn
+pub record ArePast (turns : List ℕ) (turn : ℕ) : Type 0 where
+  pub some : 1 ≤ turn
+  pub each : (i : ℕ) → get_or turns i 0 ≤ turn
