@@ -8,3 +8,11 @@ pub mod FrameReasons
 pub mod Slots
 pub mod StackMaps
 pub mod DeclaredFrames
+pub mod MapViews
+pub mod MapLaws
+pub mod HeldFrames
+pub mod Chains
+pub mod Rising
+pub mod DeclaredViews
+pub mod Judging
+pub mod DeclaredTables

@@ -1,0 +1,124 @@
+//! The frames of a whole stack map.
+ghost use Rattle.std.specs.Prelude.{◌≡◌, ◌<◌, ◌≤◌, map, length, [], IfOk};
+ghost use Rattle.frames.specs.VerificationType.{type_of};
+ghost use Rattle.frames.specs.MapViews.{entry_of};
+ghost use Rattle.frames.specs.DeclaredFrames.{delta_of, declared_frames};
+ghost use Rattle.frames.specs.DeclaredViews.{locals_at};
+ghost use Rattle.frames.specs.Judging.{Declares, AreDeclared};
+ghost use Rattle.frames.specs.DeclaredTables.{IsDeclared, locals_in};
+
+use crate::after::{FrameTops, frame_after};
+use crate::chain::Chains;
+use crate::declared_frames::DeclaredFrames;
+use crate::frame_fault::FrameFault;
+use crate::refusing::{Limits, judge};
+use crate::stack_map::MapEntry;
+use crate::starts::Starts;
+use crate::vtype::VType;
+use pool::Pool;
+use std::alloc::{AllocError, Global};
+
+fn delta(entry: &MapEntry) -> u16
+    ensures { result ≡ delta_of (entry_of entry.now) }
+{
+    match entry {
+        MapEntry::Same(delta) => u16::from(*delta),
+        MapEntry::SameWithItem(delta, _) => u16::from(*delta),
+        MapEntry::SameWithItemExtended(delta, _) => *delta,
+        MapEntry::Chop(_, delta) => *delta,
+        MapEntry::SameExtended(delta) => *delta,
+        MapEntry::Append(delta, _) => *delta,
+        MapEntry::Full(delta, _, _) => *delta,
+    }
+}
+
+// The frame of an entry, whose offset is its delta behind the first offset behind the entry in front; or its least fault.
+fn declare_one<'a, S: Starts>(
+    chains: &mut Chains<'a>,
+    before: usize,
+    behind: u32,
+    entry: &MapEntry,
+    limits: Limits,
+    pool: &Pool<'a>,
+    starts: &S,
+) -> Result<Result<FrameTops, FrameFault>, AllocError>
+    requires few { behind ≤ 65536 }
+    requires inside { before ≤ length chains.old.links.items }
+    ensures small { IfOk result (λ r. IfOk r (λ f. f.at < 65536)) }
+    ensures declares { IfOk result (Declares pool.now (S.code starts.now) limits.max_locals limits.max_stack chains.old.links.items chains.new.links.items behind before (entry_of entry.now)) }
+{
+    let at = behind + u32::from(delta(entry));
+    let frame = frame_after(chains, before, at, entry, pool)?;
+    match judge(chains, before, entry, frame, limits, pool, starts) {
+        Some(fault) => Ok(Err(fault)),
+        None => Ok(Ok(frame)),
+    }
+}
+
+// Puts the frames of entries behind the others, of which there are none; or tells the least fault of the first entry that
+// is refused.
+fn declare_all<'a, S: Starts>(
+    chains: &mut Chains<'a>,
+    frames: &mut Vec<FrameTops>,
+    first: usize,
+    entries: &[MapEntry],
+    limits: Limits,
+    pool: &Pool<'a>,
+    starts: &S,
+) -> Result<Result<(), FrameFault>, AllocError>
+    requires empty { frames.old.items ≡ [] }
+    requires inside { first ≤ length chains.old.links.items }
+    ensures { IfOk result (AreDeclared (declared_frames pool.now (S.code starts.now) limits.max_locals limits.max_stack (locals_at chains.old.links.items first) (map entry_of entries.now)) limits.max_locals chains.new.links.items frames.new.items) }
+{
+    let mut before = first;
+    let mut behind = 0;
+    for entry in entries {
+        match declare_one(chains, before, behind, entry, limits, pool, starts)? {
+            Err(fault) => return Ok(Err(fault)),
+            Ok(frame) => {
+                frames.push(frame)?;
+                before = frame.locals;
+                behind = frame.at + 1;
+            }
+        }
+    }
+    Ok(Ok(()))
+}
+
+/// The frames that the entries of a stack map declare, by rising offsets (JVMS 4.7.4); or, of the first entry that is
+/// refused, the fault of the least number.
+///
+/// `initial` has the types of the receiver and of the parameters, a long or double being one of them. Locals and stacks
+/// are counted in units. The memory that is taken is a small multiple of the entries.
+pub fn declare<'a, S: Starts>(
+    alloc: Global,
+    entries: &[MapEntry],
+    pool: &Pool<'a>,
+    starts: &S,
+    initial: &[VType<'a>],
+    max_locals: u16,
+    max_stack: u16,
+) -> Result<Result<DeclaredFrames<'a>, FrameFault>, AllocError>
+    ensures declared { IfOk result (IsDeclared (declared_frames pool.now (S.code starts.now) max_locals max_stack (map type_of initial.now) (map entry_of entries.now))) }
+    ensures locals { IfOk result (λ r. IfOk r (λ t. locals_in t ≡ max_locals)) }
+{
+    let mut chains: Chains<'a> = Chains::new(alloc);
+    let mut frames = Vec::new(alloc);
+    let limits = Limits {
+        max_locals,
+        max_stack,
+    };
+    let first = chains.push_all(initial, 0)?;
+    match declare_all(
+        &mut chains,
+        &mut frames,
+        first,
+        entries,
+        limits,
+        pool,
+        starts,
+    )? {
+        Err(fault) => Ok(Err(fault)),
+        Ok(()) => Ok(Ok(DeclaredFrames::new(chains, frames, max_locals))),
+    }
+}
