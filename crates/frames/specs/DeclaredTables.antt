@@ -1,5 +1,6 @@
 -- The frames that a table of declared frames holds.
 use Rattle.std.specs.Prelude.{◌≡◌, ℕ, List, Result, Ok, Err}
+use Rattle.insn.specs.Offsets.{StartsRise}
 use Rattle.frames.specs.FrameFact.{FrameFact}
 use Rattle.frames.specs.Conditions.{Reason, reason}
 use Rattle.frames.specs.FrameReasons.{frame_fault_number}
@@ -23,3 +24,8 @@ declared_view d = fact_of d.chains.now.links.items d.max_locals d.tops
 abbrev pub IsDeclared : Result (List (ℕ × FrameFact)) Reason → Result DeclaredFrames FrameFault → Type 0
 IsDeclared answer (Ok t) = answer ≡ Ok (frames_in t)
 IsDeclared answer (Err fault) = answer ≡ Err (reason (frame_fault_number fault))
+
+-- their offsets rise
+pub frames_rise : (t : DeclaredFrames) → StartsRise 0 (frames_in t)
+unfolding frames_in
+frames_rise t = t.rises

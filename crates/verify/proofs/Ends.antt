@@ -49,11 +49,11 @@ lesser_late r (Some s) p q = by (nat_lt (number_of s) (number_of r))
 
 late_least : (cs : Conditions) → AreLate cs → IsLate (least cs)
 late_least [] p = tt
-late_least (c ∷ cs) p = by c.1
+late_least (c ∷ cs) p = by c.1 (late_least cs p.1)
   where
-    by : (b : Bool) → IsLate (if b then Some (lesser c.0 (least cs)) else least cs)
-    by true = lesser_late c.0 (least cs) p.0 (late_least cs p.1)
-    by false = late_least cs p.1
+    by : (b : Bool) → IsLate (least cs) → IsLate (if b then Some (lesser c.0 (least cs)) else least cs)
+    by true l = lesser_late c.0 (least cs) p.0 l
+    by false l = l
 
 first_early : (n : ℕ) (o : Option Reason) → n < 67 → IsLate o → lesser (reason n) o ≡ reason n
 first_early n None lt p = refl

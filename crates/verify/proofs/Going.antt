@@ -111,16 +111,16 @@ no_rule a p n e lt = record { early = inr (n, e, lt); calm = inl (ap offsets_of 
 wide : (i : ℕ) (c : Option Entry) → IsWay (acts.LoadWideConstant i) (load_wide_constant c)
 wide i None = no_rule (acts.LoadWideConstant i) (load_wide_constant None) 66 refl (omega arith)
 wide i (Some (entries.Utf8 text)) = no_rule (acts.LoadWideConstant i) (load_wide_constant (Some (entries.Utf8 text))) 66 refl (omega arith)
-wide i (Some (entries.Integer bits)) = no_rule (acts.LoadWideConstant i) (load_wide_constant (Some (entries.Integer bits))) 66 refl (omega arith)
-wide i (Some (entries.Float bits)) = no_rule (acts.LoadWideConstant i) (load_wide_constant (Some (entries.Float bits))) 66 refl (omega arith)
-wide i (Some (entries.Long high low)) = nowhere (acts.LoadWideConstant i) (load_wide_constant (Some (entries.Long high low))) refl refl refl
-wide i (Some (entries.Double high low)) = nowhere (acts.LoadWideConstant i) (load_wide_constant (Some (entries.Double high low))) refl refl refl
-wide i (Some (entries.Class name)) = no_rule (acts.LoadWideConstant i) (load_wide_constant (Some (entries.Class name))) 66 refl (omega arith)
+wide i (Some (entries.Integer b)) = no_rule (acts.LoadWideConstant i) (load_wide_constant (Some (entries.Integer b))) 66 refl (omega arith)
+wide i (Some (entries.Float b)) = no_rule (acts.LoadWideConstant i) (load_wide_constant (Some (entries.Float b))) 66 refl (omega arith)
+wide i (Some (entries.Long h l)) = nowhere (acts.LoadWideConstant i) (load_wide_constant (Some (entries.Long h l))) refl refl refl
+wide i (Some (entries.Double h l)) = nowhere (acts.LoadWideConstant i) (load_wide_constant (Some (entries.Double h l))) refl refl refl
+wide i (Some (entries.Class n)) = no_rule (acts.LoadWideConstant i) (load_wide_constant (Some (entries.Class n))) 66 refl (omega arith)
 wide i (Some (entries.String text)) = no_rule (acts.LoadWideConstant i) (load_wide_constant (Some (entries.String text))) 66 refl (omega arith)
-wide i (Some (entries.Fieldref class name_and_type)) = no_rule (acts.LoadWideConstant i) (load_wide_constant (Some (entries.Fieldref class name_and_type))) 66 refl (omega arith)
-wide i (Some (entries.Methodref class name_and_type)) = no_rule (acts.LoadWideConstant i) (load_wide_constant (Some (entries.Methodref class name_and_type))) 66 refl (omega arith)
-wide i (Some (entries.InterfaceMethodref class name_and_type)) = no_rule (acts.LoadWideConstant i) (load_wide_constant (Some (entries.InterfaceMethodref class name_and_type))) 66 refl (omega arith)
-wide i (Some (entries.NameAndType name descriptor)) = no_rule (acts.LoadWideConstant i) (load_wide_constant (Some (entries.NameAndType name descriptor))) 66 refl (omega arith)
+wide i (Some (entries.Fieldref c n)) = no_rule (acts.LoadWideConstant i) (load_wide_constant (Some (entries.Fieldref c n))) 66 refl (omega arith)
+wide i (Some (entries.Methodref c n)) = no_rule (acts.LoadWideConstant i) (load_wide_constant (Some (entries.Methodref c n))) 66 refl (omega arith)
+wide i (Some (entries.InterfaceMethodref c n)) = no_rule (acts.LoadWideConstant i) (load_wide_constant (Some (entries.InterfaceMethodref c n))) 66 refl (omega arith)
+wide i (Some (entries.NameAndType n d)) = no_rule (acts.LoadWideConstant i) (load_wide_constant (Some (entries.NameAndType n d))) 66 refl (omega arith)
 wide i (Some (entries.MethodHandle kind reference)) = no_rule (acts.LoadWideConstant i) (load_wide_constant (Some (entries.MethodHandle kind reference))) 66 refl (omega arith)
 wide i (Some (entries.MethodType descriptor)) = no_rule (acts.LoadWideConstant i) (load_wide_constant (Some (entries.MethodType descriptor))) 66 refl (omega arith)
 wide i (Some (entries.Dynamic bootstrap name)) = no_rule (acts.LoadWideConstant i) (load_wide_constant (Some (entries.Dynamic bootstrap name))) 60 refl (omega arith)
@@ -159,9 +159,9 @@ ways m (acts.Stack operator) = straight m (acts.Stack operator) refl refl refl
 ways m (acts.LoadWideConstant i) = wide i (constant_at m.constant_pool i)
 ways m (acts.IfInt offset) = branches (acts.IfInt offset) (number kinds.Int ∷ []) (offset ∷ []) true refl refl (int_decided, tt)
 ways m (acts.IfInts offset) =
-    branches (acts.IfInts offset) (number kinds.Int ∷ number kinds.Int ∷ []) (offset ∷ []) true refl refl (int_decided, int_decided, tt)
+    branches (acts.IfInts offset) (number kinds.Int ∷ number kinds.Int ∷ []) (offset ∷ []) true refl refl (int_decided, (int_decided, tt))
 ways m (acts.IfReferences offset) =
-    branches (acts.IfReferences offset) (any_reference ∷ any_reference ∷ []) (offset ∷ []) true refl refl (reference_decided, reference_decided, tt)
+    branches (acts.IfReferences offset) (any_reference ∷ any_reference ∷ []) (offset ∷ []) true refl refl (reference_decided, (reference_decided, tt))
 ways m (acts.IfNull offset) = branches (acts.IfNull offset) (any_reference ∷ []) (offset ∷ []) true refl refl (reference_decided, tt)
 ways m (acts.Goto offset) = branches (acts.Goto offset) [] (offset ∷ []) false refl refl tt
 ways m (acts.Switch default offsets) =

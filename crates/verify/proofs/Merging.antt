@@ -1,5 +1,5 @@
 -- The least reason of two lists of conditions.
-use Rattle.std.proofs.Common.{◌≡◌, ◌⊎◌, ◌<◌, ◌≤◌, Bool, true, false, nat_lt, [], ◌∷◌, ◌++◌, Option, Some, None, Ok, Err, refl, sym, ◌∙◌, ap, arith, inl, inr, if◌then◌else◌}
+use Rattle.std.proofs.Common.{◌≡◌, ◌⊎◌, ◌<◌, ◌≤◌, Bool, true, false, nat_lt, [], ◌∷◌, ◌++◌, Option, Some, None, Result, Ok, Err, refl, sym, ◌∙◌, ap, arith, inl, inr, if◌then◌else◌}
 use Rattle.std.proofs.lemmas.Bool.Decides.{nat_tests}
 use Rattle.frames.specs.Conditions as conditions
 use Rattle.frames.specs.Conditions.{Conditions, number_of, lesser, least}
@@ -75,6 +75,14 @@ module _ (cs ds : Conditions) where
       by : (x ≡ OutOfMemory) ⊎ (least cs ≡ Some (reason_view x)) → (x ≡ OutOfMemory) ⊎ (least (cs ++ ds) ≡ Some (reason_view x))
       by (inl p) = inl p
       by (inr p) = inr (both_least cs ds (Some (reason_view x)) None p b.outcome)
+
+  pub judges_behind : (u : Unit {0}) (r : Result Unit Reason) → Judges cs (Ok u) → Judges ds r → Judges (cs ++ ds) r
+  judges_behind u (Ok v) a b = record { outcome = both_least cs ds None None a.outcome b.outcome }
+  judges_behind u (Err y) a b = record { outcome = by b.outcome }
+    where
+      by : (y ≡ OutOfMemory) ⊎ (least ds ≡ Some (reason_view y)) → (y ≡ OutOfMemory) ⊎ (least (cs ++ ds) ≡ Some (reason_view y))
+      by (inl p) = inl p
+      by (inr p) = inr (both_least cs ds None (Some (reason_view y)) a.outcome p)
 
   pub judges_less : (x y : Reason) → reason_number y < reason_number x → Judges cs (Err x) → Judges ds (Err y) → Judges (cs ++ ds) (Err y)
   judges_less x y lt a b = record { outcome = by a.outcome b.outcome }

@@ -1,5 +1,5 @@
 -- Conditions that were judged before add nothing.
-use Rattle.std.proofs.Common.{◌≡◌, ◌⊎◌, ℕ, ◌<◌, Bool, true, false, nat_lt, ℤ, List, [], ◌∷◌, ◌++◌, slice_get, Option, Some, None, Result, Ok, Err, refl, sym, ◌∙◌, ap, subst, arith, inl, inr, if◌then◌else◌}
+use Rattle.std.proofs.Common.{◌≡◌, ◌⊎◌, ℕ, zero, suc, ◌+◌, ◌<◌, Bool, true, false, nat_lt, ℤ, pos, negsuc, get_or, length, List, [], ◌∷◌, ◌++◌, slice_get, Option, Some, None, Result, Ok, Err, refl, sym, ◌∙◌, ap, subst, arith, inl, inr, if◌then◌else◌}
 use Rattle.std.proofs.lemmas.Bool.Decides.{nat_tests}
 use Rattle.std.proofs.lemmas.List.{append_assoc, append-nil}
 use Rattle.hierarchy.specs.Class.{ClassFact}
@@ -15,6 +15,9 @@ use Rattle.verify.specs.TypeSafety.{Frames}
 use Rattle.verify.specs.Verdict.{declared_at, one_target, target_conditions}
 use Rattle.verify.specs.Steps.{Judges}
 use Rattle.verify.specs.Targets.{IsPlace, WasSeen, Compares}
+use Rattle.std.specs.Prelude.{int_lt}
+use Rattle.insn.specs.Offsets.{StartsRise}
+use Rattle.machine.proofs.Targets.{past_last}
 use Rattle.verify.proofs.Merging.{merge, least_append}
 
 -- the second adds nothing to the first
@@ -98,8 +101,8 @@ module _ (classes : List ClassFact) (frames : Frames) (f : FrameFact) where
     held_on : (o : Option (Result Unit Reason)) → Compares classes frames f target old now o → Seen (s.done ++ here) now
     held_on o c = record { held = λ place at g h e. by place at g e (c.seen place h) }
       where
-        same : (at there : ℕ) (g k : FrameFact) → Some (at, g) ≡ Some (there, k) → g ≡ k
-        same at there g k e = cc
+        same : (x y : ℕ × FrameFact) → Some x ≡ Some y → x ≡ y
+        same x y e = cc
 
         by : (place at : ℕ) (g : FrameFact) → slice_get frames place ≡ Some (at, g) → (has old place ≡ true) ⊎ ((k : FrameFact) × IsPlace frames target place k)
             → Holds (least (s.done ++ here)) (least (of_frame g))
@@ -107,7 +110,7 @@ module _ (classes : List ClassFact) (frames : Frames) (f : FrameFact) where
             subst (λ z. Holds z (least (of_frame g))) (sym (least_append s.done here))
             (holds_more (least s.done) (least (of_frame g)) (least here) (s.held.held place at g h e))
         by place at g e (inr x) =
-            let is : g ≡ x.0 = same at x.1.at g x.0 (sym e ∙ x.1.here) in
+            let is : g ≡ x.0 = ap (λ (z : ℕ × FrameFact). z.1) (same (at, g) (x.1.at, x.0) (sym e ∙ x.1.here)) in
             let there : here ≡ of_frame g = ap (λ z. one_target classes z f) (x.1.declared ∙ ap (λ (z : FrameFact). Some z) (sym is)) in
             subst (λ z. Holds z (least (of_frame g))) (sym (least_append s.done here))
             (subst (λ z. Holds (merge (least s.done) (least here)) (least z)) there (holds_last (least s.done) (least here)))
@@ -137,3 +140,22 @@ module _ (classes : List ClassFact) (frames : Frames) (f : FrameFact) where
 
   pub judged_all : (all : List ℤ) (seen : PlaceSet) (r : Result Unit Reason) → Judged all [] seen r → Judges (target_conditions classes frames f all) r
   judged_all all seen r s = subst (λ z. Judges z r) (sym (append-nil s.done) ∙ s.parts) s.judged
+
+-- the last of a list, where its length counts it
+pub got : {A : Type 0} (xs : List A) (i : ℕ) (x : A) → slice_get xs i ≡ Some x → get_or xs i x ≡ x
+got [] i x e = refl
+got (y ∷ ys) zero x e = some_same y x e
+  where
+    some_same : {A : Type 0} (a b : A) → Some a ≡ Some b → a ≡ b
+    some_same a b e = cc
+got (y ∷ ys) (suc i) x e = got ys i x e
+
+-- no frame is declared behind the last
+pub none_behind : (frames : Frames) (i at : ℕ) (f : FrameFact) (target : ℤ) → StartsRise 0 frames → i + 1 ≡ length frames → slice_get frames i ≡ Some (at, f)
+    → int_lt (pos at) target ≡ true → declared_at frames target ≡ None
+none_behind frames i at f (pos to) rises last here lt =
+    let less : at < to = grind (arith, nat_tests, lt) in
+    let same : get_or frames i (at, f) ≡ (at, f) = got frames i (at, f) here in
+    let there = ap (λ (z : ℕ × FrameFact). z.0) same in
+    (past_last 0 frames i (at, f) to rises last (omega (arith, less, there))).1
+none_behind frames i at f (negsuc n) rises last here lt = refl

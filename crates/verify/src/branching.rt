@@ -1,5 +1,5 @@
 //! Where an instruction branches to.
-ghost use Rattle.std.specs.Prelude.{◌≡◌, length, IfSome, MatchOption};
+ghost use Rattle.std.specs.Prelude.{◌≡◌, pos, ◌≤ℤ◌, ◌<ℤ◌, true, false, length, None, IfSome, MatchOption};
 ghost use Rattle.insn.specs.Branching.{branches_view, targets_of};
 ghost use Rattle.insn.specs.Offsets.{led_to};
 ghost use Rattle.frames.specs.DeclaredTables.{frames_in, locals_in, declared_view};
@@ -15,6 +15,25 @@ use hierarchy::Classes;
 use insn::{BranchTargets, Branches};
 use rules::{Reason, Working};
 
+/// Whether a target is behind the last frame that is declared.
+fn is_behind(frames: &DeclaredFrames<'_>, target: i64) -> bool
+    requires { pos 0 ≤ℤ target }
+    ensures all { result ≡ true → declared_at (frames_in frames.now) target ≡ None }
+    ensures small { result ≡ false → target <ℤ pos 4294967296 }
+{
+    let count = frames.len();
+    if count == 0 {
+        return true;
+    }
+    let Some((last, _)) = frames.get(count - 1) else {
+        return true;
+    };
+    if i64::from(last) < target {
+        return true;
+    }
+    false
+}
+
 /// The frame that is declared at a target, with its place among all.
 fn declared_at<'n, 'a>(
     frames: &'n DeclaredFrames<'a>,
@@ -23,10 +42,10 @@ fn declared_at<'n, 'a>(
     ensures frame { MatchOption result (declared_at (frames_in frames.now) target ≡ None) (λ x. IsPlace (frames_in frames.now) target x.0 (declared_view x.1)) }
     ensures locals { IfSome result (λ x. length (declared_view x.1).locals ≡ locals_in frames.now) }
 {
-    let Ok(at) = u32::try_from(target) else {
+    if target < 0 || is_behind(frames, target) {
         return None;
-    };
-    let place = frames.place(at)?;
+    }
+    let place = frames.place(target as u32)?;
     let (_at, declared) = frames.get(place)?;
     Some((place, declared))
 }

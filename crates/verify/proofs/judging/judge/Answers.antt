@@ -12,9 +12,20 @@ use Rattle.rules.specs.Table.{plan_yet}
 use Rattle.rules.specs.Ways.{goes_on, branch_offsets}
 use Rattle.verify.specs.Verdict.{target_conditions}
 use Rattle.verify.specs.Steps.{Judges}
+use Rattle.verify.proofs.Onward.{keeps_length}
 use Rattle.verify.proofs.Going.{ways}
 use Rattle.verify.proofs.Ends.{done_ways, refused_end}
 use Rattle.verify.proofs.judging.judge.Goals as goal
+
+pub check_targets-requires : goal.check_targets-requires
+check_targets-requires g c =
+    let classes = g.C.Classes.content c.args.classes.now in
+    let m = method_view c.args.method.now in
+    let p = plan_yet m (act_view c.args.act) in
+    let f = held c.args.frame.now in
+    let now = held c.run.new.frame in
+    let ran = (subst (Done (conditions classes m c.args.at p f) (after m c.args.at p f) now) c.in-Ok.is c.run.ensures).outcome in
+    keeps_length m c.args.at p f now c.args.method.now.code.now.max_locals c.requires.locals ran.1 ∙ sym c.requires.declared
 
 pub returns-in-Ok : goal.returns-in-Ok
 returns-in-Ok g c = λ next e.

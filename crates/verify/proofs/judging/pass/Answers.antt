@@ -52,7 +52,7 @@ returns-in-Err g c =
     let x : ℕ × Insn = (c.in-Ok.at, c.in-Ok.insn) in
     let one = steps located c.loop-step.code c.next.new.self c.in-Some.step x now.instructions now.read c.in-Some.ensures.steps c.in-Ok.is in
     let same : v ≡ left classes m frames (acts (located x ∷ one.others)) comes f = now.same ∙ ap (λ xs. left classes m frames (acts xs) comes f) one.all in
-    let came = subst (λ o. Enters classes comes f o (held c.enter.new.frame) c.enter.result) c.find.ensures.frame c.enter.ensures.entered in
+    let came = subst (λ o. Enters classes comes f o (held c.enter.new.frame) c.enter.result) (c.find.ensures.frame ∙ ap (at_offset frames) c.from.ensures) c.enter.ensures.entered in
     c.refuse.ensures v
     (stops_in classes m frames (x.0, act (view x.1)) (acts one.others) comes f v same (held c.enter.new.frame) c.enter.result c.in-Err.reason c.in-Err.is came)
 
@@ -70,7 +70,7 @@ returns-in-Err-judge g c =
     let same : v ≡ left classes m frames (acts (located x ∷ one.others)) comes f = now.same ∙ ap (λ xs. left classes m frames (acts xs) comes f) one.all in
     let a : ℕ × Act = (x.0, act (view x.1)) in
     let g1 = held c.enter.new.frame in
-    let came = subst (λ o. Enters classes comes f o g1 c.enter.result) c.find.ensures.frame c.enter.ensures.entered in
+    let came = subst (λ o. Enters classes comes f o g1 c.enter.result) (c.find.ensures.frame ∙ ap (at_offset frames) c.from.ensures) c.enter.ensures.entered in
     let next = first_offset (acts one.others) in
     let done =
     subst (λ b. Done (at_conditions classes m frames x.0 (plan_yet m b) next g1) (after m x.0 (plan_yet m b) g1) (held c.judge.new.frame) c.judge.result) c.act-act.ensures
@@ -93,7 +93,7 @@ loop-step-preserved g c =
     let same : v ≡ left classes m frames (acts (located x ∷ one.others)) comes f = now.same ∙ ap (λ xs. left classes m frames (acts xs) comes f) one.all in
     let a : ℕ × Act = (x.0, act (view x.1)) in
     let g1 = held c.enter.new.frame in
-    let came = subst (λ o. Enters classes comes f o g1 c.enter.result) c.find.ensures.frame c.enter.ensures.entered in
+    let came = subst (λ o. Enters classes comes f o g1 c.enter.result) (c.find.ensures.frame ∙ ap (at_offset frames) c.from.ensures) c.enter.ensures.entered in
     let next = first_offset (acts one.others) in
     let done =
     subst (λ b. Done (at_conditions classes m frames x.0 (plan_yet m b) next g1) (after m x.0 (plan_yet m b) g1) (held c.judge.new.frame) c.judge.result) c.act-act.ensures
