@@ -15,7 +15,7 @@ use Rattle.rules.specs.ReasonNumbers.{bad_stack_map}
 use Rattle.rules.specs.Table.{plan_yet}
 use Rattle.verify.specs.InitialFrames.{receiver_types, initial_types, is_uninitialized, initial_frame}
 use Rattle.verify.specs.TypeSafety.{Frames}
-use Rattle.verify.specs.Verdict.{refused, MapRefusal, map_fault_number, told_of, frames_of, entries_read, frames_declared, table_judged, code_judged, with_frames, verdict}
+use Rattle.verify.specs.Verdict.{refused, map_refused, MapRefusal, map_fault_number, told_of, frames_of, entries_read, frames_declared, table_judged, code_judged, with_frames, verdict}
 use Rattle.verify.specs.Judged.{is_empty, is_judged}
 
 left_of : (a b : Bool) → a && b ≡ true → a ≡ true
@@ -75,7 +75,7 @@ module _ (m : Method Act) (judged : is_judged m ≡ true) where
 
       pub map_told : (why : MapRefusal) → frames_declared m ≡ Err why
           → told_of (verdict plan_yet classes m) ≡ Some (0, with_fault bad_stack_map (map_fault_number why))
-      map_told why d = ap told_of (rw wide (ap (with_frames plan_yet classes m) d))
+      map_told why d = let e : verdict plan_yet classes m ≡ map_refused why = rw wide (ap (with_frames plan_yet classes m) d) in ap told_of e
 
   -- what is answered of the locals, by the parameters
   module _ (params : List FieldDescriptor) (same : m.type.params ≡ params) where

@@ -1,19 +1,52 @@
 -- What a stack map's bytes are read as, by what they spell and by their fault.
-use Rattle.std.proofs.Common.{◌≡◌, ℕ, ◌<◌, false, nat_eq, List, ◌++◌, length, Some, Ok, Err, refl, sym, ◌∙◌, ap, subst, arith, inl, inr}
+use Rattle.std.proofs.Common.{◌≡◌, ℕ, ◌+◌, ◌<◌, Bool, false, nat_eq, if◌then◌else◌, List, ◌++◌, length, Some, Result, Ok, Err, refl, sym, ◌∙◌, ap, subst, arith, inl, inr}
 use Rattle.std.proofs.lemmas.Bool.Decides.{nat_tests}
 use Rattle.layout.specs.Format.{reads}
 use Rattle.layout.specs.FormatLaws.{spelled_reads, fault_reads}
 use Rattle.layout.specs.declared.fault.ReadFault.{ReadFault}
-use Rattle.layout.specs.declared.fault.ReadFault.TheVariants.{AttributeLength}
-use Rattle.frames.specs.StackMaps.{stack_map, MapFault, HasMore}
-use Rattle.verify.specs.Verdict.{all_entries, entries_read}
+use Rattle.layout.specs.declared.fault.ReadFault.TheVariants.{OutOfMemory, AttributeLength}
+use Rattle.layout.specs.Faults.{UnlessMemory}
+use Rattle.frames.specs.StackMaps.{MapEntry, IsMap, stack_map, MapFault, HasMore}
+use Rattle.frames.specs.VerificationType.{VerificationType}
+use Rattle.frames.specs.Conditions.{Reason}
+use Rattle.frames.specs.DeclaredFrames.{declared_frames}
+use Rattle.classfile.specs.Methods.{Method}
+use Rattle.insn.specs.Meanings.{Act}
+use Rattle.verify.specs.InitialFrames.{initial_types}
+use Rattle.verify.specs.TypeSafety.{Frames}
+use Rattle.verify.proofs.Premises.{entries_there}
+use Rattle.verify.specs.Verdict.{unreadable, all_entries, entries_read, or_undeclared, frames_of, frames_declared}
 
 more_there : (body : List ℕ) (at : ℕ) → HasMore body at → entries_read (Some body) ≡ Err (AttributeLength at)
 more_there body at h =
     let read = spelled_reads stack_map 0 h.front h.others h.entries h.spelled in
     let some : nat_eq (length h.others) 0 ≡ false = grind (arith, nat_tests, h.some) in
-    subst (λ z. entries_read (Some z) ≡ Err (AttributeLength at)) (sym h.parts) (ap all_entries read ∙ rw some (ap (λ z. Err (AttributeLength z)) h.place))
+    let place : 0 + length h.front ≡ at = omega (arith, h.place) in
+    subst (λ z. entries_read (Some z) ≡ Err (AttributeLength at)) (sym h.parts)
+    (ap all_entries read
+    ∙ ap (λ (b : Bool). let r : Result (List MapEntry) ReadFault = if b then Ok h.entries else Err (AttributeLength (0 + length h.front)) in r) some
+    ∙ ap (λ (n : ℕ). let r : Result (List MapEntry) ReadFault = Err (AttributeLength n) in r) place)
 
 pub fault_there : (body : List ℕ) (fault : ReadFault) → MapFault body fault → entries_read (Some body) ≡ Err fault
 fault_there body fault (inl f) = ap all_entries (fault_reads stack_map 0 body fault f)
 fault_there body fault (inr x) = more_there body x.0 x.2 ∙ ap (λ (z : ReadFault). Err z) (sym x.1)
+
+-- ---- the frames that a method's stack map declares
+
+module _ (m : Method Act) (body : List ℕ) (here : m.stack_map ≡ Some body) where
+  read_here : frames_declared m ≡ frames_of m (entries_read (Some body))
+  read_here = ap (λ o. frames_of m (entries_read o)) here
+
+  pub unreadable_map : (fault : ReadFault) → MapFault body fault → frames_declared m ≡ Err (unreadable fault)
+  unreadable_map fault f = read_here ∙ ap (frames_of m) (fault_there body fault f)
+
+  pub readable_map : (entries : List MapEntry) (initial : List VerificationType) (r : Result Frames Reason) → IsMap body entries → initial ≡ initial_types m
+      → declared_frames m.constant_pool m.code m.max_locals m.max_stack initial entries ≡ r → frames_declared m ≡ or_undeclared r
+  readable_map entries initial r spelled same declared =
+      read_here ∙ ap (frames_of m) (entries_there (Some body) entries spelled)
+      ∙ ap (λ ts. or_undeclared (declared_frames m.constant_pool m.code m.max_locals m.max_stack ts entries)) (sym same)
+      ∙ ap or_undeclared declared
+
+pub fault_told : (e : ReadFault) (P : Type 0) → (e ≡ OutOfMemory → ⊥) → UnlessMemory e P → P
+fault_told OutOfMemory P f u = absurd (f refl)
+fault_told _ P f u = u

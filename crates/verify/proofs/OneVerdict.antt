@@ -38,8 +38,8 @@ true_false e = cc
 none_some : {A : Type 0} (a : A) → None ≡ Some a → ⊥
 none_some a e = cc
 
-same_told : (at there : ℕ) (why other : conditions.Reason) → Some (at, why) ≡ Some (there, other) → (at ≡ there) × (why ≡ other)
-same_told at there why other e = let same : (let x : ℕ × conditions.Reason = (at, why) in x) ≡ (there, other) = some_same _ _ e in (ap (λ x. x.0) same, ap (λ x. x.1) same)
+same_told : (x y : ℕ × conditions.Reason) → Some x ≡ Some y → (x.0 ≡ y.0) × (x.1 ≡ y.1)
+same_told x y e = let same = some_same x y e in (ap (λ z. z.0) same, ap (λ z. z.1) same)
 
 module _ (classes : List ClassFact) (c : Class) (number : ℕ) where
   abbrev Same : ℕ → Reason → ℕ → Reason → Type 0
@@ -63,7 +63,7 @@ module _ (classes : List ClassFact) (c : Class) (number : ℕ) where
       → Same at why there other
   both_told at there why other x y =
       let e = one_told x.refusal y.refusal x.judged y.judged in
-      let same = same_told at there (reason_view why) (reason_view other) (sym x.told ∙ ap told_of e ∙ y.told) in (
+      let same = same_told (at, reason_view why) (there, reason_view other) (sym x.told ∙ ap told_of e ∙ y.told) in (
         same.0,
         sym (view_number why) ∙ ap conditions.number_of same.1 ∙ view_number other,
         same.1,

@@ -82,7 +82,7 @@ entries_spelled (Some body) entries e = by (reads stack_map 0 body) refl e
     by (Err fault) r h = cc
     by (Ok x) r h = whole x r (nat_eq (length x.1.rest) 0) refl h
 
-entries_there : (o : Option (List ℕ)) (entries : List MapEntry) → HasEntries o entries → entries_read o ≡ Ok entries
+pub entries_there : (o : Option (List ℕ)) (entries : List MapEntry) → HasEntries o entries → entries_read o ≡ Ok entries
 entries_there None entries e = ap (λ (z : List MapEntry). Ok z) (sym e)
 entries_there (Some body) entries s =
     ap (λ z. all_entries (reads stack_map 0 z)) (sym (append-nil body)) ∙ ap all_entries (spelled_reads stack_map 0 body [] entries s)

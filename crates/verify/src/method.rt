@@ -77,15 +77,15 @@ fn judge_body<'a, C: Classes>(
     let Some(locals) = initial_locals(alloc, parameters, max_locals)? else {
         return refuse(0, Reason::LocalOutOfRange);
     };
-    match declared_frames(alloc, method, parameters)? {
-        Err(fault) => refuse(0, Reason::BadStackMap { fault }),
-        Ok(frames) => {
-            frame.start(&locals, max_locals, false)?;
-            let mut seen = PlaceSet::new(alloc);
-            seen.start(frames.len())?;
-            pass(method, &frames, &mut seen, frame, classes)
-        }
-    }
+    let declared = declared_frames(alloc, method, parameters)?;
+    let frames = match declared {
+        Ok(frames) => frames,
+        Err(fault) => return refuse(0, Reason::BadStackMap { fault }),
+    };
+    let mut seen = PlaceSet::new(alloc);
+    seen.start(frames.len())?;
+    frame.start(&locals, max_locals, false)?;
+    pass(method, &frames, &mut seen, frame, classes)
 }
 
 /// The verdict on a method with code.

@@ -1,7 +1,10 @@
 //! The frames that the stack map of a method declares.
-ghost use Rattle.std.specs.Prelude.{◌≡◌, ℕ, true, map, Result, Ok, Err, IfOk, IfErr};
+ghost use Rattle.std.specs.Prelude.{◌≡◌, ◌≢◌, ◌≤◌, true, map, length, IfOk, IfErr};
 ghost use Rattle.names.specs.Types.{type_of};
-ghost use Rattle.frames.specs.DeclaredTables.{frames_in, locals_in};
+ghost use Rattle.layout.specs.declared.limits.TheConstants.{MAX_CODE_BYTES};
+ghost use Rattle.layout.specs.declared.fault.ReadFault.TheVariants as reading;
+ghost use Rattle.layout.specs.Refusals.{read_fault_number};
+ghost use Rattle.frames.specs.DeclaredTables.{locals_in};
 ghost use Rattle.rules.specs.Bodies.{method_view};
 ghost use Rattle.verify.specs.declared.verdict.VerifyFault.TheVariants.{OutOfMemory};
 ghost use Rattle.verify.specs.Verdict.{frames_declared};
@@ -12,10 +15,21 @@ use crate::initial::parameter_types;
 use crate::refusal::stack_map;
 use crate::verdict::VerifyFault;
 use classfile::CodeMethod;
-use frames::DeclaredFrames;
+use frames::{CodeStarts, DeclaredFrames, declare, read_map};
 use layout::ReadFault;
 use names::FieldType;
 use std::alloc::Global;
+
+/// The number of a fault in a stack map's bytes.
+fn fault_number(fault: ReadFault) -> Result<u8, VerifyFault>
+    ensures told { IfOk result (λ n. (fault ≢ reading.OutOfMemory) × (n ≡ read_fault_number fault)) }
+    ensures memory { IfErr result (λ e. e ≡ OutOfMemory) }
+{
+    match fault {
+        ReadFault::OutOfMemory => Err(VerifyFault::OutOfMemory),
+        _ => Ok(fault.number()),
+    }
+}
 
 /// The frames that a method's stack map declares (JVMS 4.7.4), none where it has no map; or the number of the fault for which the map is
 /// refused.
@@ -26,9 +40,31 @@ pub fn declared_frames<'a>(
 ) -> Result<Result<DeclaredFrames<'a>, u8>, VerifyFault>
     requires judged { is_judged (method_view method.now) ≡ true }
     requires parameters { (method_view method.now).type.params ≡ map type_of parameters.now }
+    requires few { length method.now.code.now.code.now ≤ MAX_CODE_BYTES }
     ensures told { IfOk result (TellsFrames (frames_declared (method_view method.now))) }
     ensures locals { IfOk result (λ r. IfOk r (λ t. locals_in t ≡ method.now.code.now.max_locals)) }
     ensures memory { IfErr result (λ e. e ≡ OutOfMemory) }
 {
-    Ok(Ok(DeclaredFrames::none(alloc, method.code.max_locals)))
+    let Some(body) = stack_map(method.code) else {
+        return Ok(Ok(DeclaredFrames::none(alloc, method.code.max_locals)));
+    };
+    let map = match read_map(alloc, body) {
+        Ok(map) => map,
+        Err(fault) => return Ok(Err(fault_number(fault)?)),
+    };
+    let types = parameter_types(alloc, parameters)?;
+    let starts = CodeStarts::new(alloc, method.code.code)?;
+    let declared = declare(
+        alloc,
+        map.entries(),
+        &method.class.constant_pool,
+        &starts,
+        &types,
+        method.code.max_locals,
+        method.code.max_stack,
+    )?;
+    match declared {
+        Ok(frames) => Ok(Ok(frames)),
+        Err(fault) => Ok(Err(fault.number())),
+    }
 }

@@ -47,4 +47,4 @@ pub returns : goal.returns
 returns g c =
     let classes = g.C.Classes.content c.args.classes.now in
     judged_all classes (frames_in c.args.frames.now) (held c.args.frame.now) (targets_of c.args.targets) c.loop-target.seen c.loop-target.so_far
-    (subst (λ ts. Judged classes (frames_in c.args.frames.now) (held c.args.frame.now) (targets_of c.args.targets) ts c.loop-target.seen c.loop-target.so_far) c.in-None.ensures.steps c.loop-target.invariant)
+    (subst (λ ts. Judged classes (frames_in c.args.frames.now) (held c.args.frame.now) (targets_of c.args.targets) ts c.loop-target.seen c.loop-target.so_far) c.in-None.ensures.steps.0 c.loop-target.invariant)

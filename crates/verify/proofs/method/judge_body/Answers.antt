@@ -28,17 +28,17 @@ returns-in-Err g c =
     let fits : nat_lt c.args.method.now.code.now.max_locals (length (in_locals types)) ≡ false =
     (when_some _ _ c.in_ok-locals.field-0 c.in-Some.locals c.in-Some.is c.in_ok-locals.ensures).0 in
     let wide = room_as m c.requires.judged (map descriptor_of c.args.parameters.now) c.requires.parameters false fits in
-    let told = subst (TellsFrames (frames_declared m)) c.in-Err.is c.in_ok-declared_frames.ensures.told in
+    let told = subst (TellsFrames (frames_declared m)) c.in-Err.is c.in_ok-declared.ensures.told in
     c.refuse-in-Err.ensures (verdict plan_yet classes m)
     (inr (map_told m c.requires.judged classes wide told.0 told.1 ∙ ap (λ n. Some (0, with_fault bad_stack_map n)) (sym told.2)))
 
-pub returns-in-Ok : goal.returns-in-Ok
-returns-in-Ok g c =
+pub returns : goal.returns
+returns g c =
     let classes = g.C.Classes.content c.args.classes.now in
     let m = method_view c.args.method.now in
     let types = map descriptor_type (map descriptor_of c.args.parameters.now) in
     let fits : nat_lt c.args.method.now.code.now.max_locals (length (in_locals types)) ≡ false =
     (when_some _ _ c.in_ok-locals.field-0 c.in-Some.locals c.in-Some.is c.in_ok-locals.ensures).0 in
     let wide = room_as m c.requires.judged (map descriptor_of c.args.parameters.now) c.requires.parameters false fits in
-    let told = subst (TellsFrames (frames_declared m)) c.in-Ok.is c.in_ok-declared_frames.ensures.told in
+    let told = subst (TellsFrames (frames_declared m)) c.in-Ok.is c.in_ok-declared.ensures.told in
     subst (λ z. Gives z c.pass.result) (sym (with_declared m c.requires.judged classes wide (frames_in c.in-Ok.frames) told)) c.pass.ensures
