@@ -1,5 +1,5 @@
 //! Single instructions of an instance initialization method.
-use crate::making::{hasher, object};
+use crate::making::{OUT_OF_MEMORY, hasher, object};
 use classfile::{ClassFile, Formed, decode, form_check};
 use frames::{Frame, VType};
 use hierarchy::{Chains, Classes};
@@ -11,9 +11,6 @@ use std::test::*;
 
 /// What an instruction leaves, or the number of the reason for which it is refused.
 type Judged<'a> = Result<After<'a>, u8>;
-
-/// The number of want of memory.
-const OUT_OF_MEMORY: u8 = 1;
 
 /// The class file of K with a method `<init>` of two local variables, with room for four units on the stack.
 const INIT: [u8; 102] = [

@@ -1,4 +1,4 @@
-use crate::making::{hasher, object, summary};
+use crate::making::{K, hasher, object, summary};
 use classfile::{ClassFile, decode, form_check};
 use hierarchy::{
     Answer, Chains, Classes, HierarchyFault, Kind, MemberSummary, Summary, laws, summary_of,
@@ -6,7 +6,6 @@ use hierarchy::{
 use names::OBJECT;
 use std::alloc::Global;
 use std::test::*;
-use test_classes::K;
 
 #[test]
 fn laws_are_called() {

@@ -1,4 +1,4 @@
-use crate::parts::is_shown;
+use crate::making::{are_written, is_shown};
 use layout::{Cursor, Output, Part, ReadFault, WriteFault};
 use pool::{Constant, Pool, PoolFault, found_where_it_stands, put_pool};
 use std::alloc::{AllocError, Global};
@@ -29,10 +29,7 @@ fn is_put(alloc: Global, pool: &Pool<'_>, may_fail: bool) -> bool {
 fn is_put_out(alloc: Global, constants: Vec<Constant<'_>>) -> bool {
     let mut out = Output::new(alloc);
     let answer = put_pool(&mut out, &Pool::new(constants));
-    match out.delivered(answer) {
-        Ok(bytes) => bytes.as_slice() == ALL.as_slice(),
-        Err(_) => false,
-    }
+    are_written(out.delivered(answer), &ALL, false)
 }
 
 /// Whether the pool is read and written; or memory ran out, where it may, and nothing is read.

@@ -1,8 +1,19 @@
-//! What several tests stand on: class files of one method, and what is known of classes.
+//! What the tests of several files stand on: class files of one method, what is known of classes, and what is written and shown.
 use hierarchy::Summary;
+use layout::WriteFault;
 use names::OBJECT;
 use std::alloc::Global;
+use std::fmt::Display;
 use std::hash::{BuildHasherDefault, FoldHasher};
+
+/// The class file of a class K with one static method, `f`, which returns.
+pub const K: [u8; 97] = [
+    0xCA, 0xFE, 0xBA, 0xBE, 0, 0, 0, 0x34, 0, 8, 7, 0, 2, 1, 0, 1, 0x4B, 7, 0, 4, 1, 0, 0x10, 0x6A,
+    0x61, 0x76, 0x61, 0x2F, 0x6C, 0x61, 0x6E, 0x67, 0x2F, 0x4F, 0x62, 0x6A, 0x65, 0x63, 0x74, 1, 0,
+    1, 0x66, 1, 0, 3, 0x28, 0x29, 0x56, 1, 0, 4, 0x43, 0x6F, 0x64, 0x65, 0, 0x21, 0, 1, 0, 3, 0, 0,
+    0, 0, 0, 1, 0, 9, 0, 5, 0, 6, 0, 1, 0, 7, 0, 0, 0, 0x0D, 0, 0, 0, 0, 0, 0, 0, 1, 0xB1, 0, 0, 0,
+    0, 0, 0,
+];
 
 /// The class file of K, whose method `f` has two local variables, room for four units on the stack, and two bytes of
 /// code, `nop` and `nop`, of which all that the first raises is handled at the second.
@@ -46,4 +57,23 @@ pub fn object<'a>(alloc: Global) -> Summary<'a> {
 /// What a hierarchy hashes the names of its classes by.
 pub fn hasher() -> BuildHasherDefault<FoldHasher> {
     BuildHasherDefault::new()
+}
+
+/// The number of want of memory.
+pub const OUT_OF_MEMORY: u8 = 1;
+
+/// Whether these bytes are written; or memory ran out, where it may.
+pub fn are_written(written: Result<Vec<u8>, WriteFault>, want: &[u8], may_fail: bool) -> bool {
+    match written {
+        Ok(bytes) => bytes.as_slice() == want,
+        Err(fault) => may_fail && matches!(fault, WriteFault::OutOfMemory),
+    }
+}
+
+/// Whether the thing is displayed as this text; want of memory aside.
+pub fn is_shown<T: Display>(alloc: Global, shown: &T, want: &str) -> bool {
+    match format!(in alloc; "{shown}") {
+        Ok(text) => text.as_str() == want,
+        Err(_) => false,
+    }
 }

@@ -1,6 +1,6 @@
+use crate::making::{are_written, is_shown};
 use layout::{Cursor, Output, Part, ReadFault, StreamFault, WriteFault, many, whole};
 use std::alloc::Global;
-use std::fmt::Display;
 use std::test::*;
 
 /// What is read of the first seven of nine bytes.
@@ -112,24 +112,16 @@ fn put_held(out: &mut Output, bytes: &[u8]) -> Result<(), WriteFault> {
     out.end(mark)
 }
 
-/// Whether these bytes are delivered; or memory ran out, where it may.
-fn is_delivered(out: Output, answer: Result<(), WriteFault>, want: &[u8], may_fail: bool) -> bool {
-    match out.delivered(answer) {
-        Ok(bytes) => bytes.as_slice() == want,
-        Err(fault) => may_fail && matches!(fault, WriteFault::OutOfMemory),
-    }
-}
-
 fn delivers_numbers(alloc: Global, may_fail: bool) -> bool {
     let mut out = Output::new(alloc);
     let answer = put_numbers(&mut out);
-    is_delivered(out, answer, &[9, 0, 0, 0, 1, 0, 3], may_fail)
+    are_written(out.delivered(answer), &[9, 0, 0, 0, 1, 0, 3], may_fail)
 }
 
 fn delivers_held(alloc: Global) -> bool {
     let mut out = Output::new(alloc);
     let answer = put_held(&mut out, b"ab");
-    is_delivered(out, answer, &[0, 0, 0, 2, 0x61, 0x62], false)
+    are_written(out.delivered(answer), &[0, 0, 0, 2, 0x61, 0x62], false)
 }
 
 /// 17 goes before 18.
@@ -146,14 +138,6 @@ fn output(rt: HostRuntime) {
     assert!(rt; delivers_held(rt.alloc()));
     assert!(rt; matches!(is_refused(rt.alloc(), 65_536), Some(WriteFault::DoesNotFit)));
     assert!(rt; matches!(is_refused(rt.alloc(), 1), Some(WriteFault::HasNoSpelling)));
-}
-
-/// Whether the thing is displayed as this text; want of memory aside.
-pub fn is_shown<T: Display>(alloc: Global, shown: &T, want: &str) -> bool {
-    match format!(in alloc; "{shown}") {
-        Ok(text) => text.as_str() == want,
-        Err(_) => false,
-    }
 }
 
 #[test]
