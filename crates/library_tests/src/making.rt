@@ -1,8 +1,9 @@
-//! What the tests of several files stand on: class files of one method, what is known of classes, and what is written and shown.
+//! What the tests of several files stand on: class files of one method, what is known of classes, frames, and what is written and shown.
+use frames::{Frame, VType};
 use hierarchy::Summary;
-use layout::WriteFault;
+use layout::{Part, WriteFault};
 use names::OBJECT;
-use std::alloc::Global;
+use std::alloc::{AllocError, Global};
 use std::fmt::Display;
 use std::hash::{BuildHasherDefault, FoldHasher};
 
@@ -54,6 +55,30 @@ pub fn object<'a>(alloc: Global) -> Summary<'a> {
     summary(alloc, OBJECT, None, false)
 }
 
+/// What is known of `java/lang/Object`, of a class A and a class C below it, and of an interface I; there is no class B.
+pub fn setting<'a>(alloc: Global) -> [Summary<'a>; 4] {
+    [
+        object(alloc),
+        summary(alloc, b"A", Some(OBJECT), false),
+        summary(alloc, b"I", Some(OBJECT), true),
+        summary(alloc, b"C", Some(b"A"), false),
+    ]
+}
+
+/// The frame of these types in local variables and on the stack, with the flag that tells of an uninitialized `this`.
+pub fn frame<'a>(
+    alloc: Global,
+    locals: &[VType<'a>],
+    stack: &[VType<'a>],
+    flag: bool,
+) -> Result<Frame<'a>, AllocError> {
+    Ok(Frame {
+        locals: locals.to_vec(alloc)?,
+        stack: stack.to_vec(alloc)?,
+        flag,
+    })
+}
+
 /// What a hierarchy hashes the names of its classes by.
 pub fn hasher() -> BuildHasherDefault<FoldHasher> {
     BuildHasherDefault::new()
@@ -67,6 +92,15 @@ pub fn are_written(written: Result<Vec<u8>, WriteFault>, want: &[u8], may_fail: 
     match written {
         Ok(bytes) => bytes.as_slice() == want,
         Err(fault) => may_fail && matches!(fault, WriteFault::OutOfMemory),
+    }
+}
+
+/// Whether the part is written as these bytes; or memory ran out, where it may, and nothing is written.
+pub fn is_put<'a, P: Part<'a>>(alloc: Global, part: &P, want: &[u8], may_fail: bool) -> bool {
+    let mut out = Vec::new(alloc);
+    match part.put(&mut out) {
+        Ok(()) => out.as_slice() == want,
+        Err(fault) => may_fail && matches!(fault, WriteFault::OutOfMemory) && out.is_empty(),
     }
 }
 

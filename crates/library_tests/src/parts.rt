@@ -1,4 +1,4 @@
-use crate::making::{are_written, is_shown};
+use crate::making::{are_written, is_put, is_shown};
 use layout::{Cursor, Output, Part, ReadFault, StreamFault, WriteFault, many, whole};
 use std::alloc::Global;
 use std::test::*;
@@ -48,15 +48,6 @@ fn cursor(rt: HostRuntime) {
     assert!(rt; Cursor::starting(40, &bytes).at() == 40);
 }
 
-/// Whether the number is written; or memory ran out, where it may, and nothing is written.
-fn is_put(alloc: Global, number: u16, want: &[u8], may_fail: bool) -> bool {
-    let mut out = Vec::new(alloc);
-    match number.put(&mut out) {
-        Ok(()) => out.as_slice() == want,
-        Err(fault) => may_fail && matches!(fault, WriteFault::OutOfMemory) && out.is_empty(),
-    }
-}
-
 /// Whether two numbers are read of five bytes; or memory ran out, where it may.
 fn are_read(alloc: Global, may_fail: bool) -> bool {
     match many::<u16>(alloc, &mut Cursor::new(&[1, 2, 3, 4, 5]), 2) {
@@ -68,7 +59,7 @@ fn are_read(alloc: Global, may_fail: bool) -> bool {
 #[test]
 fn parts(rt: HostRuntime) {
     assert!(rt; are_read(rt.alloc(), false));
-    assert!(rt; is_put(rt.alloc(), 0x0304, &[3, 4], false));
+    assert!(rt; is_put(rt.alloc(), &0x0304u16, &[3, 4], false));
     let mut cursor = Cursor::starting(4, &[5]);
     assert!(rt;
         matches!(
@@ -156,6 +147,6 @@ fn numbers_and_texts(rt: HostRuntime) {
 #[test]
 fn want_of_memory(rt: HostRuntime) {
     assert!(rt; are_read(rt.alloc(), true));
-    assert!(rt; is_put(rt.alloc(), 7, &[0, 7], true));
+    assert!(rt; is_put(rt.alloc(), &7u16, &[0, 7], true));
     assert!(rt; delivers_numbers(rt.alloc(), true));
 }
