@@ -1,50 +1,10 @@
 """Class files, and what `classck check` says of each: JVMS 4.1 to 4.7, and docs/REFUSALS.md for the numbers."""
 from dataclasses import replace
 
-from assembler import (
-    NATIVE,
-    OBJECT,
-    STATIC,
-    ClassFile,
-    attribute,
-    class_info,
-    code_attribute,
-    long,
-    member,
-    name_and_type,
-    reference,
-    u1,
-    u2,
-    utf8,
-)
+from assembler import NATIVE, OBJECT, STATIC, attribute, class_info, long, member, name_and_type, reference, u1, u2, utf8
+from class_k import CONSTANTS, K, code_f, method_f, stack_map, with_code, with_constant, with_constants, with_method
 
-RETURN = b"\xb1"
-# The constants of K: its name at 2, its superclass's at 4, the name and descriptor of its method at 5 and 6.
-CONSTANTS = [class_info(2), utf8("K"), class_info(4), utf8(OBJECT), utf8("f"), utf8("()V"), utf8("Code")]
-F = member(0x0009, 5, 6, code_attribute(7, RETURN))
-K = ClassFile(CONSTANTS, methods=[F])
-MAP = attribute(8, u2(0))
 LARGEST = 16_777_216
-
-
-def with_constants(*more):
-    """K with more constants behind its own, from 8 on."""
-    return replace(K, constants=CONSTANTS + list(more))
-
-
-def with_constant(index, constant):
-    """K with another constant at this index."""
-    return replace(K, constants=CONSTANTS[: index - 1] + [constant] + CONSTANTS[index:])
-
-
-def with_method(method):
-    """K with another method."""
-    return replace(K, methods=[method])
-
-
-def with_code(**parts):
-    """K with a method whose Code attribute has these parts."""
-    return with_method(member(0x0009, 5, 6, code_attribute(7, **{"code": RETURN, **parts})))
 
 
 def native(name, descriptor, flags=NATIVE | STATIC):
@@ -59,7 +19,7 @@ def with_field(name, descriptor):
 
 def with_native(name, descriptor, flags=NATIVE | STATIC):
     """K with a second method, without code, whose name and descriptor are these texts."""
-    return replace(with_constants(utf8(name), utf8(descriptor)), methods=[F, native(8, 9, flags)])
+    return replace(with_constants(utf8(name), utf8(descriptor)), methods=[*K.methods, native(8, 9, flags)])
 
 
 def told(number, place):
@@ -173,20 +133,20 @@ def rules():
         ("a class as a name", with_method(native(1, 6)), "refused 21 method 0"),
         ("a class's name as a method's", with_method(native(4, 6)), "refused 22 method 0"),
         ("a name as a descriptor", with_method(native(5, 5)), "refused 23 method 0"),
-        ("public and private", with_method(member(0x0003, 5, 6, code_attribute(7, RETURN))), "refused 24 method 0"),
-        ("no Code", with_method(member(0x0009, 5, 6, attribute(5, b""))), "refused 26 method 0"),
-        ("a native method with Code", with_method(member(0x0109, 5, 6, code_attribute(7, RETURN))), "refused 27 method 0"),
-        ("code of no byte", with_code(code=b""), "refused 29 method 0"),
-        ("code of 65,535 bytes", with_code(code=bytes(65535)), "ok"),
-        ("code of 65,536 bytes", with_code(code=bytes(65536)), "refused 29 method 0"),
-        ("two Codes", with_method(member(0x0009, 5, 6, *[code_attribute(7, RETURN)] * 2)), "refused 30 method 0"),
-        ("a method twice", replace(K, methods=[F, native(2, 6), native(5, 6)]), "refused 25 method 2"),
+        ("public and private", with_method(method_f(code_f(), flags=0x0003)), "refused 24 method 0"),
+        ("no Code", with_method(method_f(attribute(5, b""))), "refused 26 method 0"),
+        ("a native method with Code", with_method(method_f(code_f(), flags=0x0109)), "refused 27 method 0"),
+        ("code of no byte", with_code(b""), "refused 29 method 0"),
+        ("code of 65,535 bytes", with_code(bytes(65535)), "ok"),
+        ("code of 65,536 bytes", with_code(bytes(65536)), "refused 29 method 0"),
+        ("two Codes", with_method(method_f(code_f(), code_f())), "refused 30 method 0"),
+        ("a method twice", replace(K, methods=[*K.methods, native(2, 6), native(5, 6)]), "refused 25 method 2"),
         ("a field twice", replace(with_int, fields=[member(0, 2, 8), member(0, 5, 8), member(1, 2, 8)]), "refused 25 field 2"),
         ("a final volatile field", replace(with_int, fields=[member(0x0050, 5, 8)]), "refused 24 field 0"),
     ):
         yield what, broken.data(), line
     for count, line in ((0, "ok"), (1, "ok"), (2, "refused 30 method 0")):
-        mapped = replace(with_code(nested=[MAP] * count), constants=CONSTANTS + [utf8("StackMapTable")])
+        mapped = replace(with_code(nested=[stack_map(8)] * count), constants=CONSTANTS + [utf8("StackMapTable")])
         yield f"{count} stack maps", mapped.data(), line
 
 

@@ -1,8 +1,7 @@
 """Command lines, and what the program says of each: its texts are those of docs/REFUSALS.md and the README, and for a wrong line
 the first that `clap` has."""
 from assembler import named
-from file_rows import K
-from verdict_rows import OBJECT_CLASS
+from class_k import K, OBJECT_CLASS
 
 # The files that stand in the folder in which the program runs.
 FILES = {"K": K.data(), "O": OBJECT_CLASS, "A": named("A").data(), "-a": K.data()}

@@ -1,28 +1,10 @@
 """Methods and lists of classes, and what `classck verify` says of each: JVMS 4.10.1 and 5.3.5."""
 from dataclasses import replace
 
-from assembler import (
-    NATIVE,
-    OBJECT,
-    STATIC,
-    ClassFile,
-    attribute,
-    class_info,
-    code_attribute,
-    code_of,
-    integer,
-    long,
-    member,
-    name_and_type,
-    named,
-    reference,
-    u2,
-    utf8,
-)
-from file_rows import K
+from assembler import NATIVE, STATIC, code_of, integer, long, name_and_type, named, reference, utf8
+from class_k import K, OBJECT_CLASS, code_f, method_f, stack_map, with_constant
 
 CLONEABLE = "java/lang/Cloneable"
-OBJECT_CLASS = named(OBJECT, above=None).data()
 
 # Static methods `f` of a class with the constants of `class_of`: descriptor, max_stack and max_locals; code; verdict.
 VERDICTS = """
@@ -184,14 +166,14 @@ MAPPED = """
 
 def class_of(descriptor, method, *more):
     """K of version 55 with this method; behind the texts that it needs stand a Long, an int and a Dynamic of a long, from 8 on."""
-    constants = [class_info(2), utf8("K"), class_info(4), utf8(OBJECT), utf8("f"), utf8(descriptor), utf8("Code")]
-    constants += [long(1), integer(5), reference(17, 0, 12), name_and_type(5, 13), utf8("J"), *more]
-    return ClassFile(constants, methods=[method], major=55).data()
+    behind = [long(1), integer(5), reference(17, 0, 12), name_and_type(5, 13), utf8("J"), *more]
+    constants = with_constant(6, utf8(descriptor)).constants + behind
+    return replace(K, constants=constants, methods=[method], major=55).data()
 
 
 def method_of(descriptor, stack, variables, code):
     """That class with a static method that has this code."""
-    return class_of(descriptor, member(STATIC, 5, 6, code_attribute(7, code_of(code), int(stack), int(variables))))
+    return class_of(descriptor, method_f(code_f(code_of(code), stack=int(stack), variables=int(variables)), flags=STATIC))
 
 
 def verdicts():
@@ -217,11 +199,10 @@ def mapped_verdicts():
 
 def left_out():
     """Methods that are not judged yet, and those without code."""
-    body = code_of("return")
     for what, method, verdict in (
-        ("a method of instances", member(0, 5, 6, code_attribute(7, body, 0, 1)), "refused 60 at 0"),
-        ("an exception table", member(STATIC, 5, 6, code_attribute(7, body, handlers=[(0, 1, 0, 0)])), "refused 60 at 0"),
-        ("a native method", member(STATIC | NATIVE, 5, 6), "no code"),
+        ("a method of instances", method_f(code_f(variables=1), flags=0), "refused 60 at 0"),
+        ("an exception table", method_f(code_f(handlers=[(0, 1, 0, 0)]), flags=STATIC), "refused 60 at 0"),
+        ("a native method", method_f(flags=STATIC | NATIVE), "no code"),
     ):
         yield what, [class_of("()V", method, utf8("StackMapTable")), OBJECT_CLASS], f"method f ()V {verdict}"
 

@@ -1,10 +1,10 @@
+use crate::making::K;
 use classfile::{
     ClassFile, CodeMethod, FormFault, FormRule, Formed, Member, Place, decode, form_check,
     method_is_told,
 };
 use std::alloc::Global;
 use std::test::*;
-use test_classes::K;
 
 /// A native method of the name and the descriptor with these indices.
 fn native(alloc: Global, name: u16, descriptor: u16) -> Member<'static> {

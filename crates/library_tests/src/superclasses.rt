@@ -1,4 +1,4 @@
-use crate::making::{hasher, object, summary};
+use crate::making::{K, hasher, object, setting, summary};
 use classfile::{ClassFile, decode, form_check};
 use hierarchy::{
     Answer, Chains, Classes, HierarchyFault, Kind, MemberSummary, Summary, laws, summary_of,
@@ -6,7 +6,6 @@ use hierarchy::{
 use names::OBJECT;
 use std::alloc::Global;
 use std::test::*;
-use test_classes::K;
 
 #[test]
 fn laws_are_called() {
@@ -17,16 +16,6 @@ fn laws_are_called() {
     laws::faults_break_rules();
     laws::one_hierarchy_fault();
     laws::summary_has_texts();
-}
-
-/// Classes A and C below it, and an interface.
-fn setting<'a>(alloc: Global) -> [Summary<'a>; 4] {
-    [
-        object(alloc),
-        summary(alloc, b"A", Some(OBJECT), false),
-        summary(alloc, b"I", Some(OBJECT), true),
-        summary(alloc, b"C", Some(b"A"), false),
-    ]
 }
 
 fn finds<C: Classes>(classes: &C) -> bool {

@@ -1,11 +1,10 @@
 //! What each command answers of files, read or not, and what a writer that fails takes of it.
+use crate::making::{K, hasher};
 use answers::{AnswerFault, Command, answer, one_answer};
 use layout::{ReadFault, StreamFault};
 use std::alloc::{AllocError, Global};
-use std::hash::{BuildHasherDefault, FoldHasher};
 use std::io::{self, Write};
 use std::test::*;
-use test_classes::K;
 
 /// The class file of `java/lang/Object`, without members.
 const O: [u8; 46] = [
@@ -76,10 +75,6 @@ fn both(alloc: Global) -> Result<Vec<Read>, AllocError> {
     reads.push(Ok(K.to_vec(alloc)?))?;
     reads.push(Ok(O.to_vec(alloc)?))?;
     Ok(reads)
-}
-
-fn hasher() -> BuildHasherDefault<FoldHasher> {
-    BuildHasherDefault::new()
 }
 
 /// Whether a writer that takes so many bytes takes so many of this text, which the command answers with status 0, and

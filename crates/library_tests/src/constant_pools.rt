@@ -1,4 +1,4 @@
-use crate::parts::is_shown;
+use crate::making::{are_written, is_put, is_shown};
 use layout::{Cursor, Output, Part, ReadFault, WriteFault};
 use pool::{Constant, Pool, PoolFault, found_where_it_stands, put_pool};
 use std::alloc::{AllocError, Global};
@@ -16,23 +16,11 @@ fn laws_are_called() {
     found_where_it_stands();
 }
 
-/// Whether the pool is written by `Part`; or memory ran out, where it may, and nothing is written.
-fn is_put(alloc: Global, pool: &Pool<'_>, may_fail: bool) -> bool {
-    let mut out = Vec::new(alloc);
-    match pool.put(&mut out) {
-        Ok(()) => out.as_slice() == ALL.as_slice(),
-        Err(fault) => may_fail && matches!(fault, WriteFault::OutOfMemory) && out.is_empty(),
-    }
-}
-
 /// Whether the pool of these constants is written where an output takes it.
 fn is_put_out(alloc: Global, constants: Vec<Constant<'_>>) -> bool {
     let mut out = Output::new(alloc);
     let answer = put_pool(&mut out, &Pool::new(constants));
-    match out.delivered(answer) {
-        Ok(bytes) => bytes.as_slice() == ALL.as_slice(),
-        Err(_) => false,
-    }
+    are_written(out.delivered(answer), &ALL, false)
 }
 
 /// Whether the pool is read and written; or memory ran out, where it may, and nothing is read.
@@ -40,7 +28,9 @@ fn is_read(alloc: Global, may_fail: bool) -> bool {
     let mut cursor = Cursor::new(&ALL);
     match Pool::take(alloc, &mut cursor) {
         Ok(pool) => {
-            cursor.at() == 85 && pool.constants().len() == 19 && is_put(alloc, &pool, may_fail)
+            cursor.at() == 85
+                && pool.constants().len() == 19
+                && is_put(alloc, &pool, &ALL, may_fail)
         }
         Err(fault) => may_fail && matches!(fault, ReadFault::OutOfMemory) && cursor.at() == 0,
     }

@@ -1,5 +1,5 @@
 //! Steps of methods of two bytes of code.
-use crate::making::{CATCHING, catching, hasher, object, summary};
+use crate::making::{CATCHING, OUT_OF_MEMORY, catching, hasher, object, summary};
 use classfile::{ClassFile, Formed, decode, form_check};
 use hierarchy::Chains;
 use machine::{Choice, Method, Outcome, RunType, Slot, State, Value, laws, step};
@@ -10,9 +10,6 @@ use std::test::*;
 
 /// What comes of a step, or the number of what is refused.
 type Stepped<'a> = Result<Outcome<'a>, u8>;
-
-/// The number of want of memory.
-const OUT_OF_MEMORY: u8 = 1;
 
 #[test]
 fn laws_are_called() {

@@ -1,3 +1,4 @@
+use crate::making::{K, are_written};
 use classfile::{
     Attribute, ClassFile, CodeAttr, NestedAttribute, class_or_fault, decode, encode,
     formed_has_names, formed_or_faulty, least_rule_is_told, no_fault_in_class, no_fault_in_formed,
@@ -6,7 +7,6 @@ use classfile::{
 use layout::{ReadFault, WriteFault};
 use std::alloc::{AllocError, Global};
 use std::test::*;
-use test_classes::K;
 
 /// The class with a StackMapTable of no frames in its Code attribute.
 const MAPPED: [u8; 121] = [
@@ -66,19 +66,13 @@ fn has_method(class: &ClassFile<'_>) -> bool {
     }
 }
 
-/// Whether the class is written as these bytes; or memory ran out, where it may.
-fn is_written(alloc: Global, class: &ClassFile<'_>, want: &[u8], may_fail: bool) -> bool {
-    match encode(alloc, class) {
-        Ok(bytes) => bytes.as_slice() == want,
-        Err(fault) => may_fail && matches!(fault, WriteFault::OutOfMemory),
-    }
-}
-
 /// Whether the class is read and written; or memory ran out, where it may.
 fn is_read(alloc: Global, may_fail: bool) -> bool {
     match decode(alloc, &MAPPED) {
         Ok(class) => {
-            is_head(&class) && has_method(&class) && is_written(alloc, &class, &MAPPED, may_fail)
+            is_head(&class)
+                && has_method(&class)
+                && are_written(encode(alloc, &class), &MAPPED, may_fail)
         }
         Err(fault) => may_fail && matches!(fault, ReadFault::OutOfMemory),
     }

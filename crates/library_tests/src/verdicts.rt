@@ -1,10 +1,9 @@
 //! What is answered of methods and classes that no program shows.
-use crate::making::{catching, hasher, object};
+use crate::making::{K, catching, hasher, object};
 use classfile::{ClassFile, Formed, decode, encode, form_check};
 use hierarchy::{Chains, summary_of};
 use std::alloc::{AllocError, Global};
 use std::test::*;
-use test_classes::K;
 use verify::{
     ClassFault, MethodVerdict, Report, Verdict, VerifyFault, map_refused_where, none_is_replaced,
     one_report, one_verdict, refused_where, type_safe_is_safe, type_safe_is_verified,

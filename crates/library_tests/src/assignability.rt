@@ -1,6 +1,6 @@
-use crate::making::{hasher, object, summary};
+use crate::making::{frame, hasher, setting};
 use frames::{Frame, VType, assignable, frame_assignable, laws};
-use hierarchy::{Answer, Chains, Classes, Summary};
+use hierarchy::{Answer, Chains, Classes};
 use names::{Base, OBJECT, Primitive};
 use std::alloc::{AllocError, Global};
 use std::process::Abort;
@@ -22,15 +22,6 @@ const I: VType<'static> = VType::Class(b"I");
 
 fn array<'a>(dims: u8, base: Base<'a>) -> VType<'a> {
     VType::Array { dims, base }
-}
-
-/// A class A and an interface I; there is no class B.
-fn setting<'a>(alloc: Global) -> [Summary<'a>; 3] {
-    [
-        object(alloc),
-        summary(alloc, b"A", Some(OBJECT), false),
-        summary(alloc, b"I", Some(OBJECT), true),
-    ]
 }
 
 /// A type, where another is wanted, and what is answered.
@@ -79,19 +70,6 @@ fn types(rt: HostRuntime) {
 
 /// The types of a frame's local variables or stack, those of a wanted one, and what is answered.
 type Row<'s, 'a> = (&'s [VType<'a>], &'s [VType<'a>], Answer<'a>);
-
-fn frame<'a>(
-    alloc: Global,
-    locals: &[VType<'a>],
-    stack: &[VType<'a>],
-    flag: bool,
-) -> Result<Frame<'a>, AllocError> {
-    Ok(Frame {
-        locals: locals.to_vec(alloc)?,
-        stack: stack.to_vec(alloc)?,
-        flag,
-    })
-}
 
 /// Whether this is answered of two frames, of which the second is wanted; want of memory aside.
 fn is_answered<'a, C: Classes>(

@@ -1,40 +1,16 @@
 //! Texts of class files, of names and of faults.
-ghost use Rattle.std.specs.Prelude.{Some};
-
+use crate::making::K;
 use classfile::{Place, decode};
 use layout::ReadFault;
 use names::check_text;
 use printing::{Listing, Name, Print, Then, Word};
 use std::alloc::Global;
-use std::io::{self, Write};
 use std::test::*;
-use test_classes::K;
-
-/// Keeps the bytes that it takes.
-#[derive(Drop)]
-struct Kept {
-    bytes: Vec<u8>,
-}
-
-impl Write for Kept {
-    ghost contents = { λ s. Some s.bytes.items };
-
-    fn write(&mut self, buf: &[u8]) -> io::Result<usize> {
-        self.bytes.extend_from_slice(buf)?;
-        Ok(buf.len())
-    }
-
-    fn flush(&mut self) -> io::Result<()> {
-        Ok(())
-    }
-}
 
 /// Whether this is printed; want of memory aside.
 fn is_printed<T: Print>(alloc: Global, text: &T, want: &[u8]) -> bool {
-    let mut out = Kept {
-        bytes: Vec::new(alloc),
-    };
-    text.put(&mut out).is_ok() && out.bytes.as_slice() == want
+    let mut out: Vec<u8> = Vec::new(alloc);
+    text.put(&mut out).is_ok() && out.as_slice() == want
 }
 
 /// The lines of K.

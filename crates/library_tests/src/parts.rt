@@ -1,6 +1,6 @@
+use crate::making::{are_written, is_put, is_shown};
 use layout::{Cursor, Output, Part, ReadFault, StreamFault, WriteFault, many, whole};
 use std::alloc::Global;
-use std::fmt::Display;
 use std::test::*;
 
 /// What is read of the first seven of nine bytes.
@@ -48,15 +48,6 @@ fn cursor(rt: HostRuntime) {
     assert!(rt; Cursor::starting(40, &bytes).at() == 40);
 }
 
-/// Whether the number is written; or memory ran out, where it may, and nothing is written.
-fn is_put(alloc: Global, number: u16, want: &[u8], may_fail: bool) -> bool {
-    let mut out = Vec::new(alloc);
-    match number.put(&mut out) {
-        Ok(()) => out.as_slice() == want,
-        Err(fault) => may_fail && matches!(fault, WriteFault::OutOfMemory) && out.is_empty(),
-    }
-}
-
 /// Whether two numbers are read of five bytes; or memory ran out, where it may.
 fn are_read(alloc: Global, may_fail: bool) -> bool {
     match many::<u16>(alloc, &mut Cursor::new(&[1, 2, 3, 4, 5]), 2) {
@@ -68,7 +59,7 @@ fn are_read(alloc: Global, may_fail: bool) -> bool {
 #[test]
 fn parts(rt: HostRuntime) {
     assert!(rt; are_read(rt.alloc(), false));
-    assert!(rt; is_put(rt.alloc(), 0x0304, &[3, 4], false));
+    assert!(rt; is_put(rt.alloc(), &0x0304u16, &[3, 4], false));
     let mut cursor = Cursor::starting(4, &[5]);
     assert!(rt;
         matches!(
@@ -112,24 +103,16 @@ fn put_held(out: &mut Output, bytes: &[u8]) -> Result<(), WriteFault> {
     out.end(mark)
 }
 
-/// Whether these bytes are delivered; or memory ran out, where it may.
-fn is_delivered(out: Output, answer: Result<(), WriteFault>, want: &[u8], may_fail: bool) -> bool {
-    match out.delivered(answer) {
-        Ok(bytes) => bytes.as_slice() == want,
-        Err(fault) => may_fail && matches!(fault, WriteFault::OutOfMemory),
-    }
-}
-
 fn delivers_numbers(alloc: Global, may_fail: bool) -> bool {
     let mut out = Output::new(alloc);
     let answer = put_numbers(&mut out);
-    is_delivered(out, answer, &[9, 0, 0, 0, 1, 0, 3], may_fail)
+    are_written(out.delivered(answer), &[9, 0, 0, 0, 1, 0, 3], may_fail)
 }
 
 fn delivers_held(alloc: Global) -> bool {
     let mut out = Output::new(alloc);
     let answer = put_held(&mut out, b"ab");
-    is_delivered(out, answer, &[0, 0, 0, 2, 0x61, 0x62], false)
+    are_written(out.delivered(answer), &[0, 0, 0, 2, 0x61, 0x62], false)
 }
 
 /// 17 goes before 18.
@@ -148,14 +131,6 @@ fn output(rt: HostRuntime) {
     assert!(rt; matches!(is_refused(rt.alloc(), 1), Some(WriteFault::HasNoSpelling)));
 }
 
-/// Whether the thing is displayed as this text; want of memory aside.
-pub fn is_shown<T: Display>(alloc: Global, shown: &T, want: &str) -> bool {
-    match format!(in alloc; "{shown}") {
-        Ok(text) => text.as_str() == want,
-        Err(_) => false,
-    }
-}
-
 #[test]
 fn numbers_and_texts(rt: HostRuntime) {
     let why = ReadFault::BadVersion {
@@ -172,6 +147,6 @@ fn numbers_and_texts(rt: HostRuntime) {
 #[test]
 fn want_of_memory(rt: HostRuntime) {
     assert!(rt; are_read(rt.alloc(), true));
-    assert!(rt; is_put(rt.alloc(), 7, &[0, 7], true));
+    assert!(rt; is_put(rt.alloc(), &7u16, &[0, 7], true));
     assert!(rt; delivers_numbers(rt.alloc(), true));
 }

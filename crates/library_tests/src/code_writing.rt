@@ -1,3 +1,4 @@
+use crate::making::are_written;
 use insn::{Insn, Opcode, Operands, decode_code, encode_code};
 use layout::{MAX_CODE_BYTES, WriteFault};
 use std::alloc::{AllocError, Global};
@@ -14,14 +15,6 @@ fn read<'a>(alloc: Global, code: &'a [u8]) -> Result<Vec<Insn<'a>>, AllocError> 
     Ok(list)
 }
 
-/// Whether the instructions are written as this code.
-fn is_written(alloc: Global, list: &[Insn<'_>], code: &[u8]) -> bool {
-    match encode_code(alloc, list) {
-        Ok(bytes) => bytes.as_slice() == code,
-        Err(_) => false,
-    }
-}
-
 /// An instruction of each form that is read by its own rule: operands of all sizes, both switches, and `wide`.
 #[test]
 fn what_is_read_is_written(rt: HostRuntime) -> Result<(), Fail> {
@@ -33,7 +26,7 @@ fn what_is_read_is_written(rt: HostRuntime) -> Result<(), Fail> {
     ];
     let list = read(rt.alloc(), &code)?;
     assert!(rt; list.len() == 16);
-    assert!(rt; is_written(rt.alloc(), &list, &code));
+    assert!(rt; are_written(encode_code(rt.alloc(), &list), &code, false));
     Ok(())
 }
 
@@ -157,10 +150,7 @@ fn is_written_or_memory(alloc: Global) -> bool {
         opcode: Opcode::Sipush,
         operands: Operands::Short(-2),
     }];
-    match encode_code(alloc, &list) {
-        Ok(bytes) => bytes.as_slice() == [0x11, 0xFF, 0xFE].as_slice(),
-        Err(fault) => matches!(fault, WriteFault::OutOfMemory),
-    }
+    are_written(encode_code(alloc, &list), &[0x11, 0xFF, 0xFE], true)
 }
 
 #[test]

@@ -1,19 +1,16 @@
 //! Single instructions of an instance initialization method.
-use crate::making::{hasher, object};
+use crate::making::{OUT_OF_MEMORY, frame, hasher, object};
 use classfile::{ClassFile, Formed, decode, form_check};
 use frames::{Frame, VType};
 use hierarchy::{Chains, Classes};
 use insn::{Insn, decode_code};
 use layout::MAX_CODE_BYTES;
 use rules::{After, Branches, Env, apply, branches, falls};
-use std::alloc::{AllocError, Global};
+use std::alloc::Global;
 use std::test::*;
 
 /// What an instruction leaves, or the number of the reason for which it is refused.
 type Judged<'a> = Result<After<'a>, u8>;
-
-/// The number of want of memory.
-const OUT_OF_MEMORY: u8 = 1;
 
 /// The class file of K with a method `<init>` of two local variables, with room for four units on the stack.
 const INIT: [u8; 102] = [
@@ -23,16 +20,6 @@ const INIT: [u8; 102] = [
     0x65, 0, 0x21, 0, 1, 0, 3, 0, 0, 0, 0, 0, 1, 0, 0, 0, 5, 0, 6, 0, 1, 0, 7, 0, 0, 0, 0x0D, 0, 4,
     0, 2, 0, 0, 0, 1, 0xB1, 0, 0, 0, 0, 0, 0,
 ];
-
-/// The frame of these types on the stack, and of local variables of which nothing is known, with the flag that tells of
-/// an uninitialized `this`.
-fn frame<'a>(alloc: Global, stack: &[VType<'a>], flag: bool) -> Result<Frame<'a>, AllocError> {
-    Ok(Frame {
-        locals: [VType::Top, VType::Top].to_vec(alloc)?,
-        stack: stack.to_vec(alloc)?,
-        flag,
-    })
-}
 
 /// The same class file with this byte as the method's code.
 fn with(code: u8) -> [u8; 102] {
@@ -98,9 +85,11 @@ fn judge_class<'a>(alloc: Global, class: &ClassFile<'a>, frame: &Frame<'a>) -> J
     }
 }
 
-/// What the rule says of the instruction in `<init>` of this class file, before which these types stand on the stack.
+/// What the rule says of the instruction in `<init>` of this class file, before which these types stand on the stack and
+/// nothing is known of the local variables.
 fn judge<'a>(alloc: Global, bytes: &'a [u8; 102], stack: &[VType<'a>], flag: bool) -> Judged<'a> {
-    match (decode(alloc, bytes), frame(alloc, stack, flag)) {
+    let before = frame(alloc, &[VType::Top, VType::Top], stack, flag);
+    match (decode(alloc, bytes), before) {
         (Ok(class), Ok(before)) => judge_class(alloc, &class, &before),
         _ => Err(OUT_OF_MEMORY),
     }
