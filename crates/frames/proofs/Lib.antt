@@ -3,3 +3,13 @@ pub mod Slots
 pub mod Types
 pub mod Frames
 mod Examples
+pub mod Steps
+pub mod WholeMap
+pub mod Chains
+pub mod Walks
+pub mod Comparison
+pub mod Leaving
+pub mod Building
+pub mod Judging
+pub mod Looping
+pub mod Finding

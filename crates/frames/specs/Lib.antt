@@ -8,3 +8,7 @@ pub mod FrameReasons
 pub mod Slots
 pub mod StackMaps
 pub mod DeclaredFrames
+pub mod MapViews
+pub mod Chains
+pub mod DeclaredViews
+pub mod Judging
