@@ -1,70 +1,111 @@
--- Declared frames by their offsets.
-use Rattle.std.proofs.Common.{◌≡◌, ℕ, ◌+◌, ◌<◌, ◌≤◌, zero, suc, Bool, true, false, eqb, List, [], ◌∷◌, length, get_or, Option, Some, None, if◌then◌else◌, Result, Ok, Err, refl, sym, ap, ◌∙◌, arith}
+-- Declared frames by their places and by their offsets.
+use Rattle.std.proofs.Common.{◌≡◌, ◌∙◌, ℕ, ◌+◌, ◌-◌, ◌<◌, ◌≤◌, zero, suc, true, false, eqb, List, [], ◌∷◌, length, replicate, get_or, Option, Some, None, slice_get, IsSomeAnd, if◌then◌else◌, Ok, Err, refl, sym, ap, arith}
 use Rattle.std.specs.List.Sorted.{IsSearchInRange, IsBinarySearchResult, IsNonDecreasingBy}
 use Rattle.std.specs.Ordering.{nat_cmp, ordering_index}
 use Rattle.std.proofs.lemmas.Cmp.{ranked}
+use Rattle.std.proofs.lemmas.List.{length-map, length-append, length-replicate}
 use Rattle.std.proofs.lemmas.List.Sorted.{IsNonDecreasingBy-from_default}
 use Rattle.std.proofs.lemmas.Bool.Decides.{nat_tests}
+use Rattle.std.proofs.lemmas.Option.{slice_get_past, slice_get-get_or}
 use Rattle.insn.specs.Offsets.{at_offset, StartsRise}
+use Rattle.frames.specs.VerificationType.{VerificationType, top}
 use Rattle.frames.specs.FrameFact.{FrameFact}
-use Rattle.frames.specs.DeclaredViews.{IsFrame}
-use Rattle.frames.specs.Judging.{AreFrames, Found}
-use Rattle.frames.specs.declared.chain.Local.{Local}
-use Rattle.frames.specs.declared.declared.DeclaredFrame.{DeclaredFrame}
+use Rattle.frames.specs.Slots.{in_locals, all_locals}
+use Rattle.frames.specs.DeclaredViews.{locals_at, fact_of, facts_of, IsInside}
+use Rattle.frames.specs.declared.chain.Link.{Link}
+use Rattle.frames.specs.declared.after.FrameTops.{FrameTops}
+use Rattle.frames.proofs.Judging.{units_in_locals}
 
-abbrev none : DeclaredFrame
+abbrev none : FrameTops
 none = record { at = 0; locals = 0; stack = 0 }
 
-module _ (nodes : List Local) (n : ℕ) (at : ℕ) where
-  from_here : (m : ℕ) (ds : List DeclaredFrame) (gs : List (ℕ × FrameFact)) (k : ℕ) → AreFrames nodes n ds gs → StartsRise m gs → k < length ds → m ≤ (get_or ds k none).at
-  from_here m [] gs k a r lt = absurd (omega (arith, lt))
-  from_here m (d ∷ ds) [] k a r lt = absurd a
-  from_here m (d ∷ ds) (g ∷ gs) zero a r lt = omega (arith, r.0, a.0)
-  from_here m (d ∷ ds) (g ∷ gs) (suc k) a r lt = omega (arith, r.0, from_here (g.0 + 1) ds gs k a.2 r.1 (omega (arith, lt)))
+-- ---- by their places
 
-  in_order : (m : ℕ) (ds : List DeclaredFrame) (gs : List (ℕ × FrameFact)) (i j : ℕ) → AreFrames nodes n ds gs → StartsRise m gs → i < j → j < length ds → (get_or ds i none).at < (get_or ds j none).at
-  in_order m [] gs i j a r lt inside = absurd (omega (arith, inside))
-  in_order m (d ∷ ds) [] i j a r lt inside = absurd a
-  in_order m (d ∷ ds) (g ∷ gs) i zero a r lt inside = absurd (omega (arith, lt))
-  in_order m (d ∷ ds) (g ∷ gs) zero (suc j) a r lt inside = omega (arith, a.0, from_here (g.0 + 1) ds gs j a.2 r.1 (omega (arith, inside)))
-  in_order m (d ∷ ds) (g ∷ gs) (suc i) (suc j) a r lt inside = in_order (g.0 + 1) ds gs i j a.2 r.1 (omega (arith, lt)) (omega (arith, inside))
+pub facts_length : (links : List Link) (n : ℕ) (fs : List FrameTops) → length (facts_of links n fs) ≡ length fs
+unfolding facts_of
+facts_length links n fs = length-map fs (λ (f : FrameTops). (f.at, fact_of links n f))
 
-  met_at : (m : ℕ) (ds : List DeclaredFrame) (gs : List (ℕ × FrameFact)) (k : ℕ) (e : DeclaredFrame) → AreFrames nodes n ds gs → StartsRise m gs → k < length ds → (get_or ds k e).at ≡ at → (get_or ds k none).at ≡ at
-      → Found nodes n gs at (Some (get_or ds k e))
-  met_at m [] gs k e a r lt same o = absurd (omega (arith, lt))
-  met_at m (d ∷ ds) [] k e a r lt same o = absurd a
-  met_at m (d ∷ ds) (g ∷ gs) zero e a r lt same o =
-      let here : eqb g.0 at ≡ true = grind (arith, nat_tests, same, a.0) in
-      (g.1, ap (λ b. if b then Some g.1 else at_offset gs at) here, a.1)
-  met_at m (d ∷ ds) (g ∷ gs) (suc k) e a r lt same o =
-      let low : g.0 + 1 ≤ (get_or ds k none).at = from_here (g.0 + 1) ds gs k a.2 r.1 (omega (arith, lt)) in
-      let here : eqb g.0 at ≡ false = grind (arith, nat_tests, low, o) in
-      let f = met_at (g.0 + 1) ds gs k e a.2 r.1 (omega (arith, lt)) same o in
-      (f.0, ap (λ b. if b then Some g.1 else at_offset gs at) here ∙ f.1, f.2)
+pub fact_at : (links : List Link) (n : ℕ) (fs : List FrameTops) (i : ℕ) (f : FrameTops) → slice_get fs i ≡ Some f → slice_get (facts_of links n fs) i ≡ Some (f.at, fact_of links n f)
+unfolding facts_of
+fact_at links n [] i f e = absurd cc
+fact_at links n (g ∷ fs) zero f e = ap (λ (o : Option FrameTops). fact_in o) e
+  where
+    fact_in : Option FrameTops → Option (ℕ × FrameFact)
+    fact_in None = None
+    fact_in (Some x) = Some (x.at, fact_of links n x)
+fact_at links n (g ∷ fs) (suc i) f e = fact_at links n fs i f e
 
-  missed_at : (ds : List DeclaredFrame) (gs : List (ℕ × FrameFact)) → AreFrames nodes n ds gs → ((k : ℕ) → k < length ds → (get_or ds k none).at ≡ at → ⊥) → at_offset gs at ≡ None
-  missed_at [] [] a free = refl
-  missed_at [] (g ∷ gs) a free = absurd a
-  missed_at (d ∷ ds) [] a free = absurd a
-  missed_at (d ∷ ds) (g ∷ gs) a free =
-      let here : eqb g.0 at ≡ false = grind (arith, nat_tests, free 0, a.0) in
-      ap (λ b. if b then Some g.1 else at_offset gs at) here ∙ missed_at ds gs a.2 (λ k lt. free (suc k) (omega (arith, lt)))
+pub fact_past : (links : List Link) (n : ℕ) (fs : List FrameTops) (i : ℕ) → length fs ≤ i → None ≡ slice_get (facts_of links n fs) i
+fact_past links n fs i le = sym (slice_get_past (facts_of links n fs) i (omega (arith, le, facts_length links n fs)))
 
-  abbrev compared : DeclaredFrame → ℕ
+-- a frame has as many locals as there may be
+filled : (n : ℕ) (ts : List VerificationType) → length (in_locals ts) ≤ n → length (all_locals n ts) ≡ n
+filled n ts le =
+    length-append (in_locals ts) (replicate (n - length (in_locals ts)) top)
+    ∙ ap (λ (k : ℕ). length (in_locals ts) + k) (length-replicate (n - length (in_locals ts)) top) ∙ omega (arith, le)
+
+pub locals_filled : (links : List Link) (n : ℕ) (f : FrameTops) → IsInside links n f → length (fact_of links n f).locals ≡ n
+unfolding fact_of
+locals_filled links n f h = filled n (locals_at links f.locals) (omega (arith, h.units, units_in_locals links f.locals))
+
+-- ---- by their offsets
+
+module _ (links : List Link) (n : ℕ) (at : ℕ) where
+  abbrev facts : List FrameTops → List (ℕ × FrameFact)
+  facts fs = facts_of links n fs
+
+  from_here : (m : ℕ) (fs : List FrameTops) (k : ℕ) → StartsRise m (facts fs) → k < length fs → m ≤ (get_or fs k none).at
+  unfolding facts_of
+  from_here m [] k r lt = absurd (omega (arith, lt))
+  from_here m (f ∷ fs) zero r lt = r.0
+  from_here m (f ∷ fs) (suc k) r lt = omega (arith, r.0, from_here (f.at + 1) fs k r.1 (omega (arith, lt)))
+
+  in_order : (m : ℕ) (fs : List FrameTops) (i j : ℕ) → StartsRise m (facts fs) → i < j → j < length fs → (get_or fs i none).at < (get_or fs j none).at
+  unfolding facts_of
+  in_order m [] i j r lt inside = absurd (omega (arith, inside))
+  in_order m (f ∷ fs) i zero r lt inside = absurd (omega (arith, lt))
+  in_order m (f ∷ fs) zero (suc j) r lt inside = omega (arith, from_here (f.at + 1) fs j r.1 (omega (arith, inside)))
+  in_order m (f ∷ fs) (suc i) (suc j) r lt inside = in_order (f.at + 1) fs i j r.1 (omega (arith, lt)) (omega (arith, inside))
+
+  met_at : (m : ℕ) (fs : List FrameTops) (k : ℕ) → StartsRise m (facts fs) → k < length fs → (get_or fs k none).at ≡ at → at_offset (facts fs) at ≡ Some (fact_of links n (get_or fs k none))
+  unfolding facts_of
+  met_at m [] k r lt same = absurd (omega (arith, lt))
+  met_at m (f ∷ fs) zero r lt same =
+      let here : eqb f.at at ≡ true = grind (arith, nat_tests, same) in
+      ap (λ b. if b then Some (fact_of links n f) else at_offset (facts fs) at) here
+  met_at m (f ∷ fs) (suc k) r lt same =
+      let low : f.at + 1 ≤ (get_or fs k none).at = from_here (f.at + 1) fs k r.1 (omega (arith, lt)) in
+      let here : eqb f.at at ≡ false = grind (arith, nat_tests, low, same) in
+      ap (λ b. if b then Some (fact_of links n f) else at_offset (facts fs) at) here ∙ met_at (f.at + 1) fs k r.1 (omega (arith, lt)) same
+
+  missed_at : (fs : List FrameTops) → ((k : ℕ) → k < length fs → (get_or fs k none).at ≡ at → ⊥) → at_offset (facts fs) at ≡ None
+  unfolding facts_of
+  missed_at [] free = refl
+  missed_at (f ∷ fs) free =
+      let here : eqb f.at at ≡ false = grind (arith, nat_tests, free 0) in
+      ap (λ b. if b then Some (fact_of links n f) else at_offset (facts fs) at) here ∙ missed_at fs (λ k lt. free (suc k) (omega (arith, lt)))
+
+  abbrev compared : FrameTops → ℕ
   compared x = ordering_index (nat_cmp x.at at)
 
-  rises : (ds : List DeclaredFrame) (gs : List (ℕ × FrameFact)) → AreFrames nodes n ds gs → StartsRise 0 gs → IsNonDecreasingBy compared ds
-  rises ds gs a r = IsNonDecreasingBy-from_default compared ds none (λ i j le inside.
-      let greater : (get_or ds i none).at ≤ (get_or ds j none).at = grind (arith, in_order 0 ds gs i j a r, λ (same : i ≡ j). ap (λ (k : ℕ). (get_or ds k none).at) same) in
+  rises : (fs : List FrameTops) → StartsRise 0 (facts fs) → IsNonDecreasingBy compared fs
+  rises fs r = IsNonDecreasingBy-from_default compared fs none (λ i j le inside.
+      let greater : (get_or fs i none).at ≤ (get_or fs j none).at = grind (arith, in_order 0 fs i j r, λ (same : i ≡ j). ap (λ (k : ℕ). (get_or fs k none).at) same) in
       grind (arith, nat_tests))
 
-  pub met : (ds : List DeclaredFrame) (gs : List (ℕ × FrameFact)) (k : ℕ) (e : DeclaredFrame) → AreFrames nodes n ds gs → StartsRise 0 gs → k < length ds → IsBinarySearchResult (λ (x : DeclaredFrame). nat_cmp x.at at) ds (Ok k)
-      → Found nodes n gs at (Some (get_or ds k e))
-  met ds gs k e a r lt equal = met_at 0 ds gs k e a r lt (ranked _ at _ (sym (equal e))) (ranked _ at _ (sym (equal none)))
+  found_some : (fs : List FrameTops) (k : ℕ) → k < length fs → (get_or fs k none).at ≡ at → at_offset (facts fs) at ≡ Some (fact_of links n (get_or fs k none))
+      → IsSomeAnd (slice_get (facts fs) k) (λ x. (x.0 ≡ at) × (at_offset (facts fs) at ≡ Some x.1))
+  found_some fs k lt same found = rw (fact_at links n fs k (get_or fs k none) (slice_get-get_or fs k none lt)) (same, found)
 
-  pub missed : (ds : List DeclaredFrame) (gs : List (ℕ × FrameFact)) (k : ℕ) → AreFrames nodes n ds gs → StartsRise 0 gs → IsSearchInRange (Err k) (length ds) → IsBinarySearchResult (λ (x : DeclaredFrame). nat_cmp x.at at) ds (Err k)
-      → at_offset gs at ≡ None
-  missed ds gs k a r bound parted = missed_at ds gs a (λ j lt same.
-      let below : j < k → ⊥ = λ h. absurd (omega (arith, same, ranked _ at _ (sym ((parted (rises ds gs a r)).0 j none (omega arith) h)))) in
-      let above : k ≤ j → ⊥ = λ h. absurd (omega (arith, same, ranked _ at _ (sym ((parted (rises ds gs a r)).1 j none h lt)))) in
+  pub met : (fs : List FrameTops) (k : ℕ) → StartsRise 0 (facts fs) → k < length fs → IsBinarySearchResult (λ (x : FrameTops). nat_cmp x.at at) fs (Ok k)
+      → IsSomeAnd (slice_get (facts fs) k) (λ x. (x.0 ≡ at) × (at_offset (facts fs) at ≡ Some x.1))
+  met fs k r lt equal =
+      let same = ranked _ at _ (sym (equal none)) in
+      found_some fs k lt same (met_at 0 fs k r lt same)
+
+  pub missed : (fs : List FrameTops) (k : ℕ) → StartsRise 0 (facts fs) → IsSearchInRange (Err k) (length fs) → IsBinarySearchResult (λ (x : FrameTops). nat_cmp x.at at) fs (Err k)
+      → at_offset (facts fs) at ≡ None
+  missed fs k r bound parted = missed_at fs (λ j lt same.
+      let below : j < k → ⊥ = λ h. absurd (omega (arith, same, ranked _ at _ (sym ((parted (rises fs r)).0 j none (omega arith) h)))) in
+      let above : k ≤ j → ⊥ = λ h. absurd (omega (arith, same, ranked _ at _ (sym ((parted (rises fs r)).1 j none h lt)))) in
       grind (arith, below, above))

@@ -1,19 +1,18 @@
 -- The least reason against an entry is the first that holds.
-use Rattle.std.proofs.Common.{◌≡◌, ◌∙◌, ℕ, zero, suc, ◌≤◌, ◌<◌, ◌+◌, Bool, true, false, ◌||◌, nat_lt, ltb, if◌then◌else◌, List, [], ◌∷◌, ◌++◌, map, take, length, get_or, reverse, Option, Some, None, refl, sym, ap, subst, arith, ◌⊎◌, inl, inr}
-use Rattle.std.proofs.lemmas.List.{take_more, map_push, take_all}
-use Rattle.std.proofs.lemmas.Bool.{ltb-false, cases_lt}
+use Rattle.std.proofs.Common.{◌≡◌, ◌∙◌, ℕ, zero, suc, ◌≤◌, ◌<◌, ◌+◌, Bool, true, false, ◌||◌, ltb, if◌then◌else◌, List, [], ◌∷◌, ◌++◌, map, take, length, get_or, Option, Some, None, refl, sym, ap, arith, inl, inr}
+use Rattle.std.proofs.lemmas.List.{take_more, map_push}
+use Rattle.std.proofs.lemmas.Bool.{cases_lt}
 use Rattle.std.proofs.lemmas.Bool.Decides.{nat_tests}
 use Rattle.frames.specs.Conditions.{Reason, reason, number_of, Conditions, lesser, least}
 use Rattle.frames.specs.StackMaps.{TypeInfo}
 use Rattle.frames.specs.MapViews.{info_of}
 use Rattle.frames.specs.DeclaredFrames.{any_info}
 use Rattle.frames.specs.declared.stack_map.TypeInfo.{TypeInfo as Info}
-use Rattle.std.proofs.lemmas.List.{reverse-reverse}
 use Rattle.hierarchy.proofs.Names.{none_some}
-use Rattle.frames.specs.VerificationType.{VerificationType}
-use Rattle.frames.specs.Slots.{in_locals}
-use Rattle.frames.specs.Chains.{SumsOf}
-use Rattle.frames.specs.declared.chain.Sums.{Sums}
+use Rattle.frames.specs.Slots.{units_of, in_locals}
+use Rattle.frames.specs.Chains.{types_at}
+use Rattle.frames.specs.DeclaredViews.{locals_at}
+use Rattle.frames.specs.declared.chain.Link.{Link}
 use Rattle.frames.proofs.Walks.{units_in}
 
 pub any_more : (f : TypeInfo → Bool) (xs ys : List TypeInfo) → any_info f (xs ++ ys) ≡ any_info f xs || any_info f ys
@@ -109,15 +108,16 @@ is_53 a b c d e f g p q r s t u v = sym (least_seven a b c d e f g ∙ rw (p, q,
 pub is_none : (a b c d e f g : Bool) → a ≡ false → b ≡ false → c ≡ false → d ≡ false → e ≡ false → f ≡ false → g ≡ false → None ≡ least (seven a b c d e f g)
 is_none a b c d e f g p q r s t u v = sym (least_seven a b c d e f g ∙ rw (p, q, r, s, t, u, v) refl)
 
--- a limit and the sum of a chain
+-- a limit and the units of a chain
 pub over : (m u n : ℕ) → m < u → u ≡ n → ltb m n ≡ true
 over m u n lt e = let h : m < n = omega (arith, lt, e) in grind (arith, nat_tests)
 
 pub not_over : (m u n : ℕ) → u ≤ m → u ≡ n → ltb m n ≡ false
 not_over m u n le e = let h : n ≤ m = omega (arith, le, e) in grind (arith, nat_tests)
 
-pub units_in_locals : (s : Sums) (now : List VerificationType) → SumsOf s (reverse now) → s.units ≡ length (in_locals now)
-units_in_locals s now h = h.units ∙ sym (units_in (reverse now)) ∙ ap (λ (l : List VerificationType). length (in_locals l)) (reverse-reverse now)
+pub units_in_locals : (links : List Link) (here : ℕ) → units_of (types_at links here) ≡ length (in_locals (locals_at links here))
+unfolding locals_at
+units_in_locals links here = sym (units_in (types_at links here))
 
 within_least : (a b c d e f g : Bool) → c ≡ true → least (seven a b c d e f g) ≡ None → ⊥
 within_least true b c d e f g p h = none_some (sym h ∙ least_seven true b c d e f g)

@@ -6,10 +6,10 @@ mod Examples
 pub mod Steps
 pub mod WholeMap
 pub mod Chains
-pub mod Walks
-pub mod Comparison
 pub mod Leaving
-pub mod Building
+pub mod Walks
 pub mod Judging
 pub mod Looping
 pub mod Finding
+pub mod Comparison
+pub mod Writing

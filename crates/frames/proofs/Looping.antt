@@ -1,162 +1,210 @@
--- The loop over the entries.
-use Rattle.std.proofs.Common.{◌≡◌, ◌∙◌, ℕ, ◌<◌, ◌≤◌, ◌+◌, ◌-◌, Bool, true, false, ◌||◌, nat_lt, not, List, [], ◌∷◌, ◌++◌, map, take, drop, length, get_or, reverse, Option, Some, None, Result, Ok, Err, refl, sym, ap, subst, arith}
-use Rattle.std.proofs.lemmas.Bool.{ltb-true}
-use Rattle.frames.specs.StackMaps.{same, same_with_item, same_with_item_extended, chop, same_extended, append, full}
-use Rattle.frames.specs.Slots.{units_of, in_locals, all_locals}
-use Rattle.frames.specs.Conditions.{least}
-use Rattle.insn.specs.Offsets.{has_offset, StartsRise}
-use Rattle.frames.specs.Judging.{told, Declares}
-use Rattle.frames.proofs.Judging.{within}
-use Rattle.std.proofs.lemmas.List.{take_more, map_push, reverse-append, append-nil}
+-- The frames of a map entry by entry: what a loop over the entries keeps.
+use Rattle.std.proofs.Common.{◌≡◌, ◌∙◌, ◌⊎◌, inl, inr, ℕ, zero, suc, ◌<◌, ◌≤◌, ◌+◌, not, nat_lt, List, [], ◌∷◌, ◌++◌, length, Option, Some, None, Result, Ok, Err, slice_get, refl, sym, ap, subst, arith, append_assoc}
+use Rattle.std.proofs.lemmas.List.{append-nil, length-append, map-append}
+use Rattle.hierarchy.proofs.Names.{none_some}
 use Rattle.pool.specs.Entries.{Entry}
 use Rattle.insn.specs.Meanings.{Act}
-use Rattle.frames.specs.VerificationType.{VerificationType, type_of}
-use Rattle.frames.specs.declared.vtype.VType.{VType}
+use Rattle.insn.specs.Offsets.{has_offset, StartsRise}
+use Rattle.frames.specs.VerificationType.{VerificationType}
 use Rattle.frames.specs.FrameFact.{FrameFact}
-use Rattle.frames.specs.Conditions.{Reason, reason}
+use Rattle.frames.specs.Slots.{units_of, in_locals}
+use Rattle.frames.specs.Conditions.{Reason, reason, least}
+use Rattle.frames.specs.FrameReasons.{frame_fault_number}
 use Rattle.frames.specs.StackMaps.{MapEntry}
 use Rattle.frames.specs.DeclaredFrames.{locals_of, stack_of, delta_of, offset_of, frame_with, frame_before, declared_from, any_info, infos_of, names_nothing, names_no_class, is_made_nowhere, chops_more, entry_conditions}
-use Rattle.frames.specs.Chains.{IsChain, Grown}
-use Rattle.frames.specs.DeclaredViews.{IsFrame, Made}
-use Rattle.frames.specs.Judging.{against, behind_of, Declared, AreFrames}
-use Rattle.frames.specs.declared.chain.Local.{Local}
-use Rattle.frames.specs.declared.declared.DeclaredFrame.{DeclaredFrame}
-use Rattle.frames.proofs.Building.{Answer, behind, frames_kept, frames_more, entry_taken, entry_refused, no_entry}
+use Rattle.frames.specs.Chains.{types_at, AreLinked}
+use Rattle.frames.specs.DeclaredViews.{locals_at, fact_of, facts_of, IsInside, AreInside, Made}
+use Rattle.frames.specs.Judging.{told, front_of, against, Declared}
+use Rattle.frames.specs.declared.chain.Link.{Link}
+use Rattle.frames.specs.declared.after.FrameTops.{FrameTops}
+use Rattle.frames.specs.declared.frame_fault.FrameFault.{FrameFault}
+use Rattle.frames.proofs.Chains.{get_cases, types_kept}
+use Rattle.frames.proofs.Leaving.{locals_kept}
+use Rattle.frames.proofs.Judging.{within, units_in_locals}
 
-pub offset_behind : (was : Option ℕ) (e : MapEntry) (b d : ℕ) → b ≡ behind_of was → d ≡ delta_of e → b + d ≡ offset_of was e
-offset_behind None e b d p q = omega (arith, p, q)
-offset_behind (Some n) e b d p q = omega (arith, p, q)
+abbrev pub Answer : Type 0
+Answer = Result (List (ℕ × FrameFact)) Reason
 
-pub vtypes_more : (xs : List VType) (i : ℕ) (d : VType) → i < length xs
-    → type_of (get_or xs i d) ∷ reverse (map type_of (take i xs)) ≡ reverse (map type_of (take (i + 1) xs))
-vtypes_more xs i d lt =
-    sym (ap (λ (l : List VType). reverse (map type_of l)) (take_more xs i d lt)
-    ∙ ap (λ (l : List VerificationType). reverse l) (map_push type_of (take i xs) (get_or xs i d))
-    ∙ reverse-append (map type_of (take i xs)) (type_of (get_or xs i d) ∷ []))
+-- ---- frames stay as they are when links are put behind the others
 
-pub record Declaring (pool : List Entry) (code : List (ℕ × Act)) (max_locals max_stack : ℕ) (nodes : List Local) (ds : List DeclaredFrame) (before next_at : ℕ) (left : List MapEntry) (answer : Answer) : Type 0 where
-  pub done : List (ℕ × FrameFact)
-  pub was : Option ℕ
-  pub ts : List VerificationType
-  pub chain : IsChain nodes before (reverse ts)
-  pub frames : AreFrames nodes max_locals ds done
-  pub place : next_at ≡ behind_of was
-  pub same : behind done (declared_from pool code max_locals max_stack was ts left) ≡ answer
+inside_kept : (links more : List Link) (n : ℕ) (f : FrameTops) → AreLinked links → IsInside links n f → IsInside (links ++ more) n f
+inside_kept links more n f k h =
+    let longer : length (links ++ more) ≡ length links + length more = length-append links more in
+    record {
+      locals = omega (arith, h.locals, longer);
+      stack = omega (arith, h.stack, longer);
+      units = subst (λ (ts : List VerificationType). units_of ts ≤ n) (sym (types_kept links more k f.locals h.locals)) h.units;
+    }
+
+fact_kept : (links more : List Link) (n : ℕ) (f : FrameTops) → AreLinked links → IsInside links n f → fact_of (links ++ more) n f ≡ fact_of links n f
+unfolding fact_of
+fact_kept links more n f k h = rw (locals_kept links more k f.locals h.locals, types_kept links more k f.stack h.stack) refl
+
+facts_kept : (links more : List Link) (n : ℕ) (fs : List FrameTops) → AreLinked links → AreInside links n fs → facts_of (links ++ more) n fs ≡ facts_of links n fs
+unfolding facts_of
+facts_kept links more n [] k h = refl
+facts_kept links more n (f ∷ fs) k h =
+    ap (λ (g : FrameFact). (f.at, g) ∷ facts_of (links ++ more) n fs) (fact_kept links more n f k (h 0 f refl))
+    ∙ ap (λ (gs : List (ℕ × FrameFact)). (f.at, fact_of links n f) ∷ gs) (facts_kept links more n fs k (λ i g e. h (suc i) g e))
+
+facts_more : (links : List Link) (n : ℕ) (fs : List FrameTops) (f : FrameTops) → facts_of links n (fs ++ f ∷ []) ≡ facts_of links n fs ++ (f.at, fact_of links n f) ∷ []
+unfolding facts_of
+facts_more links n fs f = map-append (λ (x : FrameTops). (x.at, fact_of links n x)) fs (f ∷ [])
+
+pub no_facts : (links : List Link) (n : ℕ) → facts_of links n [] ≡ []
+unfolding facts_of
+no_facts links n = refl
+
+pub none_rise : (links : List Link) (n : ℕ) → StartsRise 0 (facts_of links n [])
+unfolding facts_of
+none_rise links n = tt
+
+pub none_inside : (links : List Link) (n : ℕ) → AreInside links n []
+none_inside links n i f e = absurd (none_some e)
+
+all_inside : (links : List Link) (n : ℕ) (fs : List FrameTops) (f : FrameTops) → AreInside links n fs → IsInside links n f → AreInside links n (fs ++ f ∷ [])
+all_inside links n fs f h one i g e = by (get_cases fs f i g e)
+  where
+    by : ((i < length fs) × (slice_get fs i ≡ Some g)) ⊎ ((i ≡ length fs) × (f ≡ g)) → IsInside links n g
+    by (inl p) = h i g p.1
+    by (inr p) = subst (IsInside links n) p.1 one
+
+-- ---- offsets
+
+pub offset_behind : (behind d : ℕ) (e : MapEntry) → d ≡ delta_of e → behind + d ≡ offset_of (front_of behind) e
+offset_behind zero d e is = omega (arith, is)
+offset_behind (suc n) d e is = omega (arith, is)
+
+front_behind : (at : ℕ) → front_of (at + 1) ≡ Some at
+front_behind at = let e : at + 1 ≡ suc at = omega arith in ap front_of e
+
+-- ---- one entry
 
 module _ (pool : List Entry) (code : List (ℕ × Act)) (max_locals max_stack : ℕ) where
-  none_done : (r : Answer) → behind [] r ≡ r
+  pub against_judged : (old new : List Link) (behind before d : ℕ) (e : MapEntry) (f : FrameTops) (r : Option FrameFault) → AreLinked old → before ≤ length old → d ≡ delta_of e → f.at ≡ behind + d → Made pool old new before e f
+      → told r ≡ least (entry_conditions pool code max_locals max_stack f.at e (locals_at new before) (locals_at new f.locals) (types_at new f.stack))
+      → against pool code max_locals max_stack behind (locals_at old before) e ≡ told r
+  against_judged old new behind before d e f r k le is at m h =
+      let kept : locals_at new before ≡ locals_at old before = ap (λ (l : List Link). locals_at l before) m.grown ∙ locals_kept old m.more k before le in
+      let place : f.at ≡ offset_of (front_of behind) e = at ∙ offset_behind behind d e is in
+      sym (rw (place, kept, m.locals, m.stack) at h)
+
+  pub declared_free : (old new : List Link) (behind before d : ℕ) (e : MapEntry) (f : FrameTops) → AreLinked old → before ≤ length old → d ≡ delta_of e → f.at ≡ behind + d → Made pool old new before e f
+      → told None ≡ least (entry_conditions pool code max_locals max_stack f.at e (locals_at new before) (locals_at new f.locals) (types_at new f.stack))
+      → Declared pool code max_locals max_stack old new behind before e f
+  declared_free old new behind before d e f k le is at m h = record {
+    free = against_judged old new behind before d e f None k le is at m h;
+    at = at ∙ offset_behind behind d e is;
+    units = omega (
+      arith,
+      units_in_locals new f.locals,
+      within (any_info (names_nothing pool) (infos_of e)) (any_info (names_no_class pool) (infos_of e)) (nat_lt max_stack (units_of (types_at new f.stack))) (chops_more e (locals_at new before))
+          (not (has_offset code f.at)) (any_info (is_made_nowhere code) (infos_of e)) max_locals (length (in_locals (locals_at new f.locals))) (sym h),
+    );
+    made = m;
+  }
+
+-- ---- all of them
+
+-- frames that were made before those that come
+abbrev pub behind_facts : List (ℕ × FrameFact) → Answer → Answer
+behind_facts done (Ok more) = Ok (done ++ more)
+behind_facts done (Err r) = Err r
+
+pub record Declaring (pool : List Entry) (code : List (ℕ × Act)) (max_locals max_stack : ℕ) (links : List Link) (frames : List FrameTops) (before behind : ℕ) (left : List MapEntry) (answer : Answer) : Type 0 where
+  pub place : before ≤ length links
+  pub inside : AreInside links max_locals frames
+  pub same : behind_facts (facts_of links max_locals frames) (declared_from pool code max_locals max_stack (front_of behind) (locals_at links before) left) ≡ answer
+
+module _ (pool : List Entry) (code : List (ℕ × Act)) (max_locals max_stack : ℕ) where
+  none_done : (r : Answer) → behind_facts [] r ≡ r
   none_done (Ok gs) = refl
   none_done (Err e) = refl
 
-  pub declaring_first : (nodes : List Local) (before : ℕ) (ts : List VerificationType) (es : List MapEntry) → IsChain nodes before (reverse ts)
-      → Declaring pool code max_locals max_stack nodes [] before 0 es (declared_from pool code max_locals max_stack None ts es)
-  declaring_first nodes before ts es k = record {
-    done = [];
-    was = None;
-    ts = ts;
-    chain = k;
-    frames = tt;
-    place = refl;
-    same = none_done (declared_from pool code max_locals max_stack None ts es);
+  behind_one : (done : List (ℕ × FrameFact)) (at : ℕ) (g : FrameFact) (r : Answer) → behind_facts done (frame_before pool code max_locals max_stack None at g r) ≡ behind_facts (done ++ (at, g) ∷ []) r
+  behind_one done at g (Ok more) = ap (λ (l : List (ℕ × FrameFact)). Ok l) (sym (append_assoc done ((at, g) ∷ []) more))
+  behind_one done at g (Err r) = refl
+
+  pub declaring_first : (links : List Link) (before : ℕ) (es : List MapEntry) → before ≤ length links
+      → Declaring pool code max_locals max_stack links [] before 0 es (declared_from pool code max_locals max_stack None (locals_at links before) es)
+  declaring_first links before es le = record {
+    place = le;
+    inside = none_inside links max_locals;
+    same = ap (λ done. behind_facts done (declared_from pool code max_locals max_stack None (locals_at links before) es)) (no_facts links max_locals)
+        ∙ none_done (declared_from pool code max_locals max_stack None (locals_at links before) es);
   }
 
-  pub declaring_next : (old new : List Local) (ds : List DeclaredFrame) (before next_at : ℕ) (e : MapEntry) (es : List MapEntry) (answer : Answer) (d : DeclaredFrame)
-      → (l : Declaring pool code max_locals max_stack old ds before next_at (e ∷ es) answer) → Declared pool code max_locals max_stack old new l.was l.ts e d
-      → Declaring pool code max_locals max_stack new (ds ++ d ∷ []) d.locals (d.at + 1) es answer
-  declaring_next old new ds before next_at e es answer d l s =
-      let at = offset_of l.was e in
-      let fact = frame_with pool code max_locals max_stack (locals_of pool l.ts e) (stack_of pool e) in
+  -- the fact that an entry declares
+  abbrev fact_at : List VerificationType → MapEntry → FrameFact
+  fact_at ts e = frame_with pool code max_locals max_stack (locals_of pool ts e) (stack_of pool e)
+
+  made_fact : (old new : List Link) (before : ℕ) (e : MapEntry) (f : FrameTops) → Made pool old new before e f → fact_at (locals_at old before) e ≡ fact_of new max_locals f
+  unfolding fact_of
+  made_fact old new before e f m = rw (m.locals, m.stack) refl
+
+  pub declaring_next : (old new : List Link) (fs : List FrameTops) (before behind : ℕ) (e : MapEntry) (es : List MapEntry) (answer : Answer) (f : FrameTops) → AreLinked old
+      → Declaring pool code max_locals max_stack old fs before behind (e ∷ es) answer → Declared pool code max_locals max_stack old new behind before e f
+      → Declaring pool code max_locals max_stack new (fs ++ f ∷ []) f.locals (f.at + 1) es answer
+  declaring_next old new fs before behind e es answer f k l d =
+      let m = d.made in
+      let ts = locals_at old before in
+      let at = offset_of (front_of behind) e in
+      let done = facts_of old max_locals fs in
+      let others = declared_from pool code max_locals max_stack (Some at) (locals_of pool ts e) es in
+      let kept : AreInside new max_locals fs = subst (λ (k : List Link). AreInside k max_locals fs) (sym m.grown) (λ i g h. inside_kept old m.more max_locals g k (l.inside i g h)) in
+      let old_facts : facts_of new max_locals fs ≡ done = ap (λ (k : List Link). facts_of k max_locals fs) m.grown ∙ facts_kept old m.more max_locals fs k l.inside in
+      let facts : facts_of new max_locals (fs ++ f ∷ []) ≡ done ++ (at, fact_at ts e) ∷ [] =
+      facts_more new max_locals fs f
+      ∙ ap (λ (gs : List (ℕ × FrameFact)). gs ++ (f.at, fact_of new max_locals f) ∷ []) old_facts
+      ∙ ap (λ (x : ℕ × FrameFact). done ++ x ∷ []) (ap (λ (n : ℕ). (n, fact_of new max_locals f)) d.at ∙ ap (λ (g : FrameFact). (at, g)) (sym (made_fact old new before e f m))) in
+      let rest : declared_from pool code max_locals max_stack (front_of (f.at + 1)) (locals_at new f.locals) es ≡ others =
+      ap (λ (o : Option ℕ). declared_from pool code max_locals max_stack o (locals_at new f.locals) es) (front_behind f.at ∙ ap (λ (n : ℕ). Some n) d.at)
+      ∙ ap (λ (us : List VerificationType). declared_from pool code max_locals max_stack (Some at) us es) m.locals in
+      let taken : behind_facts done (declared_from pool code max_locals max_stack (front_of behind) ts (e ∷ es)) ≡ behind_facts (done ++ (at, fact_at ts e) ∷ []) others =
+      ap (λ (c : Option Reason). behind_facts done (frame_before pool code max_locals max_stack c at (fact_at ts e) others)) d.free ∙ behind_one done at (fact_at ts e) others in
       record {
-        done = l.done ++ (at, fact) ∷ [];
-        was = Some at;
-        ts = locals_of pool l.ts e;
-        chain = s.made.chain;
-        frames = frames_more new max_locals ds l.done d (at, fact) (subst (λ (k : List Local). AreFrames k max_locals ds l.done) (sym s.made.grown) (frames_kept old s.made.more max_locals ds l.done l.frames)) s.at (s.made.frame max_locals s.within);
-        place = ap (λ (k : ℕ). k + 1) s.at;
-        same = sym (entry_taken pool code max_locals max_stack l.done l.was l.ts e es s.free) ∙ l.same;
+        place = m.locals_inside;
+        inside = all_inside new max_locals fs f kept (record { locals = m.locals_inside; stack = m.stack_inside; units = d.units });
+        same = ap (λ (gs : List (ℕ × FrameFact)). behind_facts gs (declared_from pool code max_locals max_stack (front_of (f.at + 1)) (locals_at new f.locals) es)) facts
+            ∙ ap (behind_facts (done ++ (at, fact_at ts e) ∷ [])) rest ∙ sym taken ∙ l.same;
       }
 
-  pub declaring_refused : (nodes : List Local) (ds : List DeclaredFrame) (before next_at : ℕ) (e : MapEntry) (es : List MapEntry) (answer : Answer) (n : ℕ)
-      → (l : Declaring pool code max_locals max_stack nodes ds before next_at (e ∷ es) answer) → against pool code max_locals max_stack l.was l.ts e ≡ Some (reason n) → answer ≡ Err (reason n)
-  declaring_refused nodes ds before next_at e es answer n l h = sym l.same ∙ entry_refused pool code max_locals max_stack l.done l.was l.ts e es (reason n) h
+  pub declaring_refused : (links : List Link) (fs : List FrameTops) (before behind : ℕ) (e : MapEntry) (es : List MapEntry) (answer : Answer) (fault : FrameFault)
+      → Declaring pool code max_locals max_stack links fs before behind (e ∷ es) answer → against pool code max_locals max_stack behind (locals_at links before) e ≡ Some (reason (frame_fault_number fault))
+      → answer ≡ Err (reason (frame_fault_number fault))
+  declaring_refused links fs before behind e es answer fault l h =
+      let at = offset_of (front_of behind) e in
+      let ts = locals_at links before in
+      sym l.same ∙ ap (λ (c : Option Reason). behind_facts (facts_of links max_locals fs) (frame_before pool code max_locals max_stack c at (fact_at ts e) (declared_from pool code max_locals max_stack (Some at) (locals_of pool ts e) es))) h
 
-  pub declaring_done : (nodes : List Local) (ds : List DeclaredFrame) (before next_at : ℕ) (answer : Answer) → Declaring pool code max_locals max_stack nodes ds before next_at [] answer
-      → (gs : List (ℕ × FrameFact)) × (answer ≡ Ok gs) × AreFrames nodes max_locals ds gs
-  declaring_done nodes ds before next_at answer l = (l.done, sym l.same ∙ no_entry pool code max_locals max_stack l.done l.was l.ts, l.frames)
+  pub declaring_done : (links : List Link) (fs : List FrameTops) (before behind : ℕ) (answer : Answer) → Declaring pool code max_locals max_stack links fs before behind [] answer → answer ≡ Ok (facts_of links max_locals fs)
+  declaring_done links fs before behind answer l = sym l.same ∙ ap (λ (gs : List (ℕ × FrameFact)). Ok gs) (append-nil (facts_of links max_locals fs))
 
-  pub against_told : (was : Option ℕ) (ts : List VerificationType) (e : MapEntry) (b d : ℕ) (r : Option ℕ) → b ≡ behind_of was → d ≡ delta_of e
-      → told r ≡ least (entry_conditions pool code max_locals max_stack (b + d) e ts (locals_of pool ts e) (stack_of pool e)) → against pool code max_locals max_stack was ts e ≡ told r
-  against_told was ts e b d r p q h =
-      sym (h ∙ ap (λ (at : ℕ). least (entry_conditions pool code max_locals max_stack at e ts (locals_of pool ts e) (stack_of pool e))) (offset_behind was e b d p q))
+  -- ---- the offsets rise
 
-  pub declared_free : (old new : List Local) (was : Option ℕ) (ts : List VerificationType) (e : MapEntry) (b d : ℕ) (f : DeclaredFrame) → b ≡ behind_of was → d ≡ delta_of e
-      → against pool code max_locals max_stack was ts e ≡ None → b + d < 65536 → (f.at ≡ b + d) × Made pool old new ts e f → Declared pool code max_locals max_stack old new was ts e f
-  declared_free old new was ts e b d f p q free lt m = record {
-    free = free;
-    at = m.0 ∙ offset_behind was e b d p q;
-    small = omega (arith, lt, m.0);
-    within = within (any_info (names_nothing pool) (infos_of e)) (any_info (names_no_class pool) (infos_of e)) (nat_lt max_stack (units_of (stack_of pool e))) (chops_more e ts)
-        (not (has_offset code (offset_of was e))) (any_info (is_made_nowhere code) (infos_of e)) max_locals (length (in_locals (locals_of pool ts e))) free;
-    made = m.1;
-  }
+  abbrev RisesIn : ℕ → Answer → Type 0
+  RisesIn m (Ok gs) = StartsRise m gs
+  RisesIn m (Err r) = Unit {0}
 
-pub stack_made : (pool : List Entry) (old new : List Local) (ts : List VerificationType) (e : MapEntry) (f : DeclaredFrame) → Made pool old new ts e f → IsChain new f.stack (stack_of pool e)
-stack_made pool old new ts e f m = (m.frame (length (in_locals (locals_of pool ts e))) (omega arith)).stack
+  rise_before : (c : Option Reason) (at : ℕ) (g : FrameFact) (others : Answer) (m : ℕ) → m ≤ at → RisesIn (at + 1) others → RisesIn m (frame_before pool code max_locals max_stack c at g others)
+  rise_before (Some r) at g others m le h = tt
+  rise_before None at g (Ok more) m le h = (le, h)
+  rise_before None at g (Err r) m le h = tt
 
-pub chopped_locals : (pool : List Entry) (nodes : List Local) (ts : List VerificationType) (e : MapEntry) → true ≡ chops_more e ts → IsChain nodes 0 (reverse (locals_of pool ts e))
-chopped_locals pool nodes ts (chop count delta) h =
-    let lt : length ts < count = ltb-true (length ts) count (sym h) in
-    let none : length ts - count ≡ 0 = omega (arith, lt) in
-    subst (λ (k : ℕ). IsChain nodes 0 (reverse (take k ts))) (sym none) refl
-chopped_locals pool nodes ts (same delta) h = absurd cc
-chopped_locals pool nodes ts (same_with_item delta item) h = absurd cc
-chopped_locals pool nodes ts (same_with_item_extended delta item) h = absurd cc
-chopped_locals pool nodes ts (same_extended delta) h = absurd cc
-chopped_locals pool nodes ts (append delta locals) h = absurd cc
-chopped_locals pool nodes ts (full delta locals stack) h = absurd cc
+  abbrev behind_of : Option ℕ → ℕ
+  behind_of None = 0
+  behind_of (Some n) = n + 1
 
-pub chopped_stack : (pool : List Entry) (nodes : List Local) (ts : List VerificationType) (e : MapEntry) → true ≡ chops_more e ts → IsChain nodes 0 (stack_of pool e)
-chopped_stack pool nodes ts (chop count delta) h = refl
-chopped_stack pool nodes ts (same delta) h = absurd cc
-chopped_stack pool nodes ts (same_with_item delta item) h = absurd cc
-chopped_stack pool nodes ts (same_with_item_extended delta item) h = absurd cc
-chopped_stack pool nodes ts (same_extended delta) h = absurd cc
-chopped_stack pool nodes ts (append delta locals) h = absurd cc
-chopped_stack pool nodes ts (full delta locals stack) h = absurd cc
-
-pub grown_chain : (old new : List Local) (here : ℕ) (us : List VerificationType) → Grown old new 0 here us → IsChain new here us
-grown_chain old new here us g = subst (IsChain new here) (append-nil us) (g.chain [] refl)
-
-pub declared_ok : (pool : List Entry) (code : List (ℕ × Act)) (max_locals max_stack : ℕ) (old new : List Local) (was : Option ℕ) (ts : List VerificationType) (e : MapEntry) (r : Result DeclaredFrame ℕ) (d : DeclaredFrame) → r ≡ Ok d
-    → Declares pool code max_locals max_stack old new was ts e (Some r) → Declared pool code max_locals max_stack old new was ts e d
-declared_ok pool code max_locals max_stack old new was ts e r d is h = subst (λ (x : Result DeclaredFrame ℕ). Declares pool code max_locals max_stack old new was ts e (Some x)) is h
-
--- ---- the offsets rise
-
-abbrev RisesIn : ℕ → Answer → Type 0
-RisesIn m (Ok gs) = StartsRise m gs
-RisesIn m (Err r) = Unit {0}
-
-behind_le : (was : Option ℕ) (e : MapEntry) → behind_of was ≤ offset_of was e
-behind_le None e = omega arith
-behind_le (Some n) e = omega arith
-
-module _ (pool : List Entry) (code : List (ℕ × Act)) (max_locals max_stack : ℕ) where
-  rise_before : (c : Option Reason) (at : ℕ) (f : FrameFact) (others : Answer) (m : ℕ) → m ≤ at → RisesIn (at + 1) others → RisesIn m (frame_before pool code max_locals max_stack c at f others)
-  rise_before (Some r) at f others m le h = tt
-  rise_before None at f (Ok more) m le h = (le, h)
-  rise_before None at f (Err r) m le h = tt
+  behind_le : (was : Option ℕ) (e : MapEntry) → behind_of was ≤ offset_of was e
+  behind_le None e = omega arith
+  behind_le (Some n) e = omega arith
 
   declared_rise : (was : Option ℕ) (ts : List VerificationType) (es : List MapEntry) → RisesIn (behind_of was) (declared_from pool code max_locals max_stack was ts es)
   declared_rise was ts [] = tt
   declared_rise was ts (e ∷ es) =
       let at = offset_of was e in
-      rise_before (against pool code max_locals max_stack was ts e) at (frame_with pool code max_locals max_stack (locals_of pool ts e) (stack_of pool e)) (declared_from pool code max_locals max_stack (Some at) (locals_of pool ts e) es) (behind_of was) (behind_le was e)
+      rise_before (least (entry_conditions pool code max_locals max_stack at e ts (locals_of pool ts e) (stack_of pool e))) at (fact_at ts e) (declared_from pool code max_locals max_stack (Some at) (locals_of pool ts e) es) (behind_of was) (behind_le was e)
       (declared_rise (Some at) (locals_of pool ts e) es)
 
-  pub declared_whole : (nodes : List Local) (ds : List DeclaredFrame) (before next_at : ℕ) (ts : List VerificationType) (es : List MapEntry)
-      → Declaring pool code max_locals max_stack nodes ds before next_at [] (declared_from pool code max_locals max_stack None ts es)
-      → (gs : List (ℕ × FrameFact)) × (declared_from pool code max_locals max_stack None ts es ≡ Ok gs) × StartsRise 0 gs × AreFrames nodes max_locals ds gs
-  declared_whole nodes ds before next_at ts es l =
-      let d = declaring_done pool code max_locals max_stack nodes ds before next_at (declared_from pool code max_locals max_stack None ts es) l in
-      (d.0, d.1, subst (RisesIn 0) d.1 (declared_rise None ts es), d.2)
+  pub frames_rise : (ts : List VerificationType) (es : List MapEntry) (gs : List (ℕ × FrameFact)) → declared_from pool code max_locals max_stack None ts es ≡ Ok gs → StartsRise 0 gs
+  frames_rise ts es gs e = subst (RisesIn 0) e (declared_rise None ts es)

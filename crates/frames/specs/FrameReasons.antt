@@ -1,6 +1,8 @@
 -- The reasons by which an entry of a stack map is refused (JVMS 4.7.4, 4.10.1): each name stands for the number by which the reason
 -- is told.
 use Rattle.std.specs.Prelude.{ℕ}
+use Rattle.frames.specs.declared.frame_fault.FrameFault.{FrameFault}
+use Rattle.frames.specs.declared.frame_fault.FrameFault.TheVariants.{BadIndex, WrongKind, LocalsOver, StackOver, ChopTooMany, NotAStart, NotANew}
 
 -- the index of a class names nothing
 abbrev pub bad_index : ℕ
@@ -29,3 +31,13 @@ not_a_start = 52
 -- no `new` stands at the offset of an object that is not initialized
 abbrev pub not_a_new : ℕ
 not_a_new = 53
+
+-- the number of each fault
+abbrev pub frame_fault_number : FrameFault → ℕ
+frame_fault_number BadIndex = bad_index
+frame_fault_number WrongKind = wrong_kind
+frame_fault_number LocalsOver = locals_over
+frame_fault_number StackOver = stack_over
+frame_fault_number ChopTooMany = chop_too_many
+frame_fault_number NotAStart = not_a_start
+frame_fault_number NotANew = not_a_new

@@ -9,6 +9,9 @@ pub mod Slots
 pub mod StackMaps
 pub mod DeclaredFrames
 pub mod MapViews
+pub mod HeldFrames
 pub mod Chains
+pub mod Rising
 pub mod DeclaredViews
 pub mod Judging
+pub mod DeclaredTables

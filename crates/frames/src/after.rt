@@ -1,110 +1,95 @@
 //! The chains that an entry leaves: its locals and its stack.
-ghost use Rattle.std.specs.Prelude.{◌≡◌, ℕ, List, map, reverse, false, IfSome};
-ghost use Rattle.pool.specs.Entries.{Entry};
-ghost use Rattle.frames.specs.VerificationType.{VerificationType, type_of};
+ghost use Rattle.std.specs.Prelude.{◌≡◌, ◌≤◌, ◌++◌, map, reverse, length, IfOk};
 ghost use Rattle.frames.specs.MapViews.{info_of, entry_of};
-ghost use Rattle.frames.specs.DeclaredFrames.{type_given, types_given, locals_of, stack_of, chops_more, is_absent, is_other};
-ghost use Rattle.pool.specs.Lookups.{entry_at};
-ghost use Rattle.frames.specs.Chains.{IsChain, Grows, Leaves};
-ghost use Rattle.frames.specs.DeclaredViews.{Makes};
+ghost use Rattle.frames.specs.DeclaredFrames.{types_given, locals_of, stack_of};
+ghost use Rattle.frames.specs.Chains.{types_at, Grown};
+ghost use Rattle.frames.specs.DeclaredViews.{locals_at, Made};
 
-use crate::chain::{Local, chop, push};
-use crate::declared::DeclaredFrame;
+use crate::chain::Chains;
+use crate::constants::type_given;
 use crate::stack_map::{MapEntry, TypeInfo};
-use crate::vtype::VType;
+use pool::Pool;
+use std::alloc::AllocError;
 
-/// What types of entries are, by a constant pool.
-pub trait TypeTable<'a> {
-    ghost entries: { Self → List Entry };
-
-    fn given(&self, info: TypeInfo) -> VType<'a>
-        ensures { type_of result ≡ type_given (entries self.now) (info_of info) };
-
-    /// Whether nothing stands at an index.
-    fn is_absent(&self, class: u16) -> bool
-        ensures { result ≡ is_absent (entry_at (entries self.now) class) };
-
-    /// Whether something else than a class stands there.
-    fn is_other(&self, class: u16) -> bool
-        ensures { result ≡ is_other (entry_at (entries self.now) class) };
+/// A declared frame by its offset, in bytes, and the places where its chains begin.
+#[derive(Clone, Copy, Debug)]
+pub struct FrameTops {
+    pub at: u32,
+    pub locals: usize,
+    pub stack: usize,
 }
 
-fn append_types<'a, T: TypeTable<'a>>(
-    nodes: &mut Vec<Local<'a>>,
+// Puts the types that an entry gives on top of a chain, the last of them on top of all.
+fn push_given<'a>(
+    chains: &mut Chains<'a>,
     infos: &[TypeInfo],
-    below: u32,
-    types: &T,
-) -> Option<u32>
-    ensures { Grows nodes.old.items nodes.new.items below (reverse (types_given (T.entries types.now) (map info_of infos.now))) result }
+    below: usize,
+    pool: &Pool<'a>,
+) -> Result<usize, AllocError>
+    requires { below ≤ length chains.old.links.items }
+    ensures { IfOk result (Grown chains.old.links.items chains.new.links.items (reverse (types_given pool.now (map info_of infos.now)) ++ types_at chains.old.links.items below)) }
 {
     let mut at = below;
     for info in infos {
-        let vtype = types.given(*info);
-        let Some(top) = push(nodes, vtype, at) else {
-            return None;
-        };
-        at = top;
+        at = chains.push(type_given(pool, *info), at)?;
     }
-    Some(at)
+    Ok(at)
 }
 
-/// The top of the locals behind an entry, in front of which the locals had this top.
-pub fn locals_after<'a, T: TypeTable<'a>>(
-    nodes: &mut Vec<Local<'a>>,
-    before: u32,
+// Where the locals behind an entry begin, in front of which they began at a place.
+fn locals_after<'a>(
+    chains: &mut Chains<'a>,
+    before: usize,
     entry: &MapEntry,
-    types: &T,
-) -> Option<u32>
-    ensures { (ts : List VerificationType) → IsChain nodes.old.items before (reverse ts) → chops_more (entry_of entry.now) ts ≡ false
-        → Leaves nodes.old.items nodes.new.items (reverse (locals_of (T.entries types.now) ts (entry_of entry.now))) result }
+    pool: &Pool<'a>,
+) -> Result<usize, AllocError>
+    requires { before ≤ length chains.old.links.items }
+    ensures { IfOk result (Grown chains.old.links.items chains.new.links.items (reverse (locals_of pool.now (locals_at chains.old.links.items before) (entry_of entry.now)))) }
 {
     match entry {
-        MapEntry::Same(_) => Some(before),
-        MapEntry::SameWithItem(_, _) => Some(before),
-        MapEntry::SameWithItemExtended(_, _) => Some(before),
-        MapEntry::Chop(count, _) => Some(chop(nodes, before, *count)),
-        MapEntry::SameExtended(_) => Some(before),
-        MapEntry::Append(_, locals) => append_types(nodes, locals, before, types),
-        MapEntry::Full(_, locals, _) => append_types(nodes, locals, 0, types),
+        MapEntry::Same(_)
+        | MapEntry::SameWithItem(_, _)
+        | MapEntry::SameWithItemExtended(_, _)
+        | MapEntry::SameExtended(_) => Ok(before),
+        MapEntry::Chop(count, _) => Ok(chains.chop(before, *count)),
+        MapEntry::Append(_, locals) => push_given(chains, locals, before, pool),
+        MapEntry::Full(_, locals, _) => push_given(chains, locals, 0, pool),
     }
 }
 
-/// The top of the stack at an entry.
-pub fn stack_after<'a, T: TypeTable<'a>>(
-    nodes: &mut Vec<Local<'a>>,
+// Where the stack at an entry begins.
+fn stack_after<'a>(
+    chains: &mut Chains<'a>,
     entry: &MapEntry,
-    types: &T,
-) -> Option<u32>
-    ensures { Leaves nodes.old.items nodes.new.items (stack_of (T.entries types.now) (entry_of entry.now)) result }
+    pool: &Pool<'a>,
+) -> Result<usize, AllocError>
+    ensures { IfOk result (Grown chains.old.links.items chains.new.links.items (stack_of pool.now (entry_of entry.now))) }
 {
     match entry {
-        MapEntry::Same(_) => Some(0),
-        MapEntry::SameWithItem(_, item) => push(nodes, types.given(*item), 0),
-        MapEntry::SameWithItemExtended(_, item) => push(nodes, types.given(*item), 0),
-        MapEntry::Chop(_, _) => Some(0),
-        MapEntry::SameExtended(_) => Some(0),
-        MapEntry::Append(_, _) => Some(0),
-        MapEntry::Full(_, _, stack) => append_types(nodes, stack, 0, types),
+        MapEntry::Same(_)
+        | MapEntry::Chop(_, _)
+        | MapEntry::SameExtended(_)
+        | MapEntry::Append(_, _) => Ok(0),
+        MapEntry::SameWithItem(_, item) | MapEntry::SameWithItemExtended(_, item) => {
+            chains.push(type_given(pool, *item), 0)
+        }
+        MapEntry::Full(_, _, stack) => push_given(chains, stack, 0, pool),
     }
 }
 
-/// The frame that an entry declares at an offset; or nothing where memory ran out. Nothing is judged.
-pub fn frame_after<'a, T: TypeTable<'a>>(
-    nodes: &mut Vec<Local<'a>>,
-    before: u32,
+/// The frame that an entry declares at an offset, behind locals that begin at a place. Nothing is judged.
+pub fn frame_after<'a>(
+    chains: &mut Chains<'a>,
+    before: usize,
     at: u32,
     entry: &MapEntry,
-    types: &T,
-) -> Option<DeclaredFrame>
-    ensures place { IfSome result (λ d. d.at ≡ at) }
-    ensures made { (ts : List VerificationType) → IsChain nodes.old.items before (reverse ts) → chops_more (entry_of entry.now) ts ≡ false
-        → Makes (T.entries types.now) nodes.old.items nodes.new.items ts (entry_of entry.now) at result }
+    pool: &Pool<'a>,
+) -> Result<FrameTops, AllocError>
+    requires { before ≤ length chains.old.links.items }
+    ensures place { IfOk result (λ f. f.at ≡ at) }
+    ensures made { IfOk result (Made pool.now chains.old.links.items chains.new.links.items before (entry_of entry.now)) }
 {
-    let Some(locals) = locals_after(nodes, before, entry, types) else {
-        return None;
-    };
-    let Some(stack) = stack_after(nodes, entry, types) else {
-        return None;
-    };
-    Some(DeclaredFrame { at, locals, stack })
+    let locals = locals_after(chains, before, entry, pool)?;
+    let stack = stack_after(chains, entry, pool)?;
+    Ok(FrameTops { at, locals, stack })
 }

@@ -2,32 +2,45 @@
 //! specs/Assignable.antt and specs/FrameAssignable.antt (JVMS 4.10.1.2 and 4.10.1.4). The call to know is
 //! [`frame_assignable`].
 //!
-//! - `vtype`: verification types.
-//! - `frame`: frames.
+//! - `after`: the locals and the stack that an entry of a stack map leaves.
+//! - `chain`: types that share what lies below, as the locals of entries do.
 //! - `compare`: one type to another.
 //! - `compare_frames`: one frame to another.
+//! - `constants`: the classes that entries name by the constant pool.
+//! - `declared_frames`: the frames that a stack map declares.
+//! - `declaring`: these frames made from the entries.
+//! - `frame`: frames.
+//! - `frame_fault`: why an entry is refused.
 //! - `laws`: what the answers mean, by chains of superclasses and place by place.
+//! - `refusing`: an entry judged.
+//! - `stack_map`: the entries of a stack map.
+//! - `starts`: where instructions begin.
+//! - `vtype`: verification types.
+//! - `walking`: chains gone through.
 #![tactic(auto)]
 
 mod after;
 mod chain;
 mod compare;
 mod compare_frames;
-mod declared;
+mod constants;
+mod declared_frames;
 mod declaring;
 mod frame;
+mod frame_fault;
 pub mod laws;
 mod refusing;
 mod stack_map;
+mod starts;
 mod vtype;
+mod walking;
 
-pub use after::{TypeTable, frame_after, locals_after, stack_after};
-pub use chain::{Local, Sums, chain_assignable, chop, push, sums_at};
 pub use compare::assignable;
 pub use compare_frames::{both, frame_assignable, width};
-pub use declared::{DeclaredFrame, declared_assignable};
-pub use declaring::{FrameTable, declare, find};
+pub use declared_frames::{Declared, DeclaredFrames};
+pub use declaring::declare;
 pub use frame::Frame;
-pub use refusing::{Starts, Wrong, judge};
+pub use frame_fault::FrameFault;
 pub use stack_map::{MapEntry, TypeInfo, read_map};
+pub use starts::Starts;
 pub use vtype::VType;

@@ -1,68 +1,54 @@
 //! Why an entry of a stack map is refused.
-ghost use Rattle.std.specs.Prelude.{◌≡◌, ◌<◌, ◌≤◌, ◌+◌, ℕ, List, map, reverse, true, false, None};
-ghost use Rattle.pool.specs.Entries.{Entry};
-ghost use Rattle.insn.specs.Meanings.{Act};
-ghost use Rattle.insn.specs.Offsets.{at_offset, has_offset};
-ghost use Rattle.frames.specs.VerificationType.{VerificationType};
+ghost use Rattle.std.specs.Prelude.{◌≡◌, ◌<◌, map, None};
 ghost use Rattle.frames.specs.MapViews.{info_of, entry_of};
 ghost use Rattle.frames.specs.Conditions.{least};
-ghost use Rattle.frames.specs.DeclaredFrames.{is_new, any_info, infos_of, chops_more, entry_conditions};
-ghost use Rattle.frames.specs.Chains.{IsChain};
+ghost use Rattle.frames.specs.DeclaredFrames.{any_info, infos_of, chops_more, entry_conditions};
+ghost use Rattle.frames.specs.Chains.{types_at};
+ghost use Rattle.frames.specs.DeclaredViews.{locals_at};
 ghost use Rattle.frames.specs.Judging.{is_wrong, told};
 
-use crate::after::TypeTable;
-use crate::chain::{Local, sums_at};
+use crate::after::FrameTops;
+use crate::chain::Chains;
+use crate::constants::{is_absent, is_other};
+use crate::frame_fault::FrameFault;
 use crate::stack_map::{MapEntry, TypeInfo};
+use crate::starts::Starts;
+use pool::Pool;
 
-/// Where instructions begin.
-pub trait Starts {
-    ghost code: { Self → List (ℕ × Act) };
-
-    fn is_start(&self, at: u32) -> bool
-        ensures { (result ≡ has_offset (code self.now) at) × (result ≡ true → at < 65536) };
-
-    /// Whether a `new` begins there.
-    fn is_new(&self, at: u16) -> bool
-        ensures { result ≡ is_new (at_offset (code self.now) at) };
+/// How many units of locals and of the stack a method has.
+#[derive(Clone, Copy, Debug)]
+pub struct Limits {
+    pub max_locals: u16,
+    pub max_stack: u16,
 }
 
 /// What may be wrong with a type of an entry.
 #[derive(Clone, Copy, Debug)]
 pub enum Wrong {
-    /// 8.
+    /// The index of its class names nothing.
     NamesNothing,
-    /// 9.
+    /// It names another constant than a class.
     NamesNoClass,
-    /// 53.
+    /// No `new` stands where the object was made.
     MadeNowhere,
 }
 
-fn is_wrong<'a, T: TypeTable<'a>, S: Starts>(
-    wrong: Wrong,
-    info: TypeInfo,
-    types: &T,
-    starts: &S,
-) -> bool
-    ensures { result ≡ is_wrong wrong (T.entries types.now) (S.code starts.now) (info_of info) }
+fn is_wrong<S: Starts>(wrong: Wrong, info: TypeInfo, pool: &Pool<'_>, starts: &S) -> bool
+    ensures { result ≡ is_wrong wrong pool.now (S.code starts.now) (info_of info) }
 {
     match (wrong, info) {
-        (Wrong::NamesNothing, TypeInfo::Object(class)) => types.is_absent(class),
-        (Wrong::NamesNoClass, TypeInfo::Object(class)) => types.is_other(class),
+        (Wrong::NamesNothing, TypeInfo::Object(class)) => is_absent(pool, class),
+        (Wrong::NamesNoClass, TypeInfo::Object(class)) => is_other(pool, class),
         (Wrong::MadeNowhere, TypeInfo::Uninitialized(offset)) => !starts.is_new(offset),
         _ => false,
     }
 }
 
-fn any_wrong<'a, T: TypeTable<'a>, S: Starts>(
-    wrong: Wrong,
-    infos: &[TypeInfo],
-    types: &T,
-    starts: &S,
-) -> bool
-    ensures { result ≡ any_info (is_wrong wrong (T.entries types.now) (S.code starts.now)) (map info_of infos.now) }
+fn any_wrong<S: Starts>(wrong: Wrong, infos: &[TypeInfo], pool: &Pool<'_>, starts: &S) -> bool
+    ensures { result ≡ any_info (is_wrong wrong pool.now (S.code starts.now)) (map info_of infos.now) }
 {
     for info in infos {
-        if is_wrong(wrong, *info, types, starts) {
+        if is_wrong(wrong, *info, pool, starts) {
             return true;
         }
     }
@@ -70,74 +56,66 @@ fn any_wrong<'a, T: TypeTable<'a>, S: Starts>(
 }
 
 #[tactic(auto, using(crate::proofs::Judging::any_more))]
-fn has_wrong<'a, T: TypeTable<'a>, S: Starts>(
-    wrong: Wrong,
-    entry: &MapEntry,
-    types: &T,
-    starts: &S,
-) -> bool
-    ensures { result ≡ any_info (is_wrong wrong (T.entries types.now) (S.code starts.now)) (infos_of (entry_of entry.now)) }
+fn has_wrong<S: Starts>(wrong: Wrong, entry: &MapEntry, pool: &Pool<'_>, starts: &S) -> bool
+    ensures { result ≡ any_info (is_wrong wrong pool.now (S.code starts.now)) (infos_of (entry_of entry.now)) }
 {
     match entry {
         MapEntry::Same(_) => false,
-        MapEntry::SameWithItem(_, item) => is_wrong(wrong, *item, types, starts),
-        MapEntry::SameWithItemExtended(_, item) => is_wrong(wrong, *item, types, starts),
+        MapEntry::SameWithItem(_, item) => is_wrong(wrong, *item, pool, starts),
+        MapEntry::SameWithItemExtended(_, item) => is_wrong(wrong, *item, pool, starts),
         MapEntry::Chop(_, _) => false,
         MapEntry::SameExtended(_) => false,
-        MapEntry::Append(_, locals) => any_wrong(wrong, locals, types, starts),
+        MapEntry::Append(_, locals) => any_wrong(wrong, locals, pool, starts),
         MapEntry::Full(_, locals, stack) => {
-            any_wrong(wrong, locals, types, starts) || any_wrong(wrong, stack, types, starts)
+            any_wrong(wrong, locals, pool, starts) || any_wrong(wrong, stack, pool, starts)
         }
     }
 }
 
 /// Whether an entry takes more locals off than there are from a place down.
-pub fn chops_more(nodes: &[Local<'_>], before: u32, entry: &MapEntry) -> bool
-    ensures { (ts : List VerificationType) → IsChain nodes.now before (reverse ts) → result ≡ chops_more (entry_of entry.now) ts }
+fn chops_more(chains: &Chains<'_>, before: usize, entry: &MapEntry) -> bool
+    ensures { result ≡ chops_more (entry_of entry.now) (locals_at chains.now.links.items before) }
 {
     match entry {
-        MapEntry::Chop(count, _) => sums_at(nodes, before).count < *count as u32,
+        MapEntry::Chop(count, _) => chains.sums(before).count < usize::from(*count),
         _ => false,
     }
 }
 
-/// The number of the least reason against an entry at an offset, which leaves these locals and this stack.
-pub fn judge<'a, T: TypeTable<'a>, S: Starts>(
-    nodes: &[Local<'a>],
-    at: u32,
+/// The least fault of an entry that declares this frame, behind locals that begin at a place.
+pub fn judge<S: Starts>(
+    chains: &Chains<'_>,
+    before: usize,
     entry: &MapEntry,
-    too_many: bool,
-    locals: u32,
-    stack: u32,
-    max_locals: u16,
-    max_stack: u16,
-    types: &T,
+    frame: FrameTops,
+    limits: Limits,
+    pool: &Pool<'_>,
     starts: &S,
-) -> Option<u8>
-    ensures small { result ≡ None → at < 65536 }
-    ensures least { (ts now items : List VerificationType) → too_many ≡ chops_more (entry_of entry.now) ts → IsChain nodes.now locals (reverse now) → IsChain nodes.now stack items
-        → told result ≡ least (entry_conditions (T.entries types.now) (S.code starts.now) max_locals max_stack at (entry_of entry.now) ts now items) }
+) -> Option<FrameFault>
+    ensures small { result ≡ None → frame.at < 65536 }
+    ensures least { let links = chains.now.links.items in
+        told result ≡ least (entry_conditions pool.now (S.code starts.now) limits.max_locals limits.max_stack frame.at (entry_of entry.now) (locals_at links before) (locals_at links frame.locals) (types_at links frame.stack)) }
 {
-    if has_wrong(Wrong::NamesNothing, entry, types, starts) {
-        return Some(8);
+    if has_wrong(Wrong::NamesNothing, entry, pool, starts) {
+        return Some(FrameFault::BadIndex);
     }
-    if has_wrong(Wrong::NamesNoClass, entry, types, starts) {
-        return Some(9);
+    if has_wrong(Wrong::NamesNoClass, entry, pool, starts) {
+        return Some(FrameFault::WrongKind);
     }
-    if sums_at(nodes, locals).units > max_locals as u32 {
-        return Some(49);
+    if chains.units(frame.locals) > usize::from(limits.max_locals) {
+        return Some(FrameFault::LocalsOver);
     }
-    if sums_at(nodes, stack).units > max_stack as u32 {
-        return Some(50);
+    if chains.units(frame.stack) > usize::from(limits.max_stack) {
+        return Some(FrameFault::StackOver);
     }
-    if too_many {
-        return Some(51);
+    if chops_more(chains, before, entry) {
+        return Some(FrameFault::ChopTooMany);
     }
-    if !starts.is_start(at) {
-        return Some(52);
+    if !starts.is_start(frame.at) {
+        return Some(FrameFault::NotAStart);
     }
-    if has_wrong(Wrong::MadeNowhere, entry, types, starts) {
-        return Some(53);
+    if has_wrong(Wrong::MadeNowhere, entry, pool, starts) {
+        return Some(FrameFault::NotANew);
     }
     None
 }

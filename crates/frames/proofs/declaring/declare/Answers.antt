@@ -1,14 +1,17 @@
-use Rattle.std.proofs.Common.{map, reverse}
+use Rattle.std.proofs.Common.{◌≡◌, ◌∙◌, Ok, ap, map, reverse, sym}
 use Rattle.frames.specs.VerificationType.{type_of}
-use Rattle.frames.proofs.Looping.{grown_chain}
+use Rattle.frames.specs.DeclaredViews.{locals_at}
+use Rattle.frames.proofs.Leaving.{locals_are, from_bottom}
 use Rattle.frames.proofs.declaring.declare.Goals as goal
 
-pub returns-in-Some-Err : goal.returns-in-Some-Err
-returns-in-Some-Err g c =
+pub returns-in-Err-clause-declared : goal.returns-in-Err-clause-declared
+returns-in-Err-clause-declared g c =
     let ts = map type_of c.args.initial.now in
-    rw c.in-Some-Err.field-0-is at (c.in-Some-Err.ensures ts (grown_chain c.new-nodes.result.items c.push_all.new.nodes.items c.in-Some.first (reverse ts) c.in-Some.ensures))
+    let first : locals_at c.push_all.new.self.links.items c.in_ok-first.first ≡ ts = locals_are c.push_all.new.self.links.items c.in_ok-first.first ts (c.in_ok-first.ensures.chain ∙ from_bottom c.new-chains.result.links.items (reverse ts)) in
+    rw first at (rw c.in-Err.is at c.in_ok-fault.ensures)
 
-pub returns : goal.returns
-returns g c =
+pub returns-clause-declared : goal.returns-clause-declared
+returns-clause-declared g c =
     let ts = map type_of c.args.initial.now in
-    rw c.in-Some-Ok.field-0-is at (c.in-Some-Ok.ensures ts (grown_chain c.new-nodes.result.items c.push_all.new.nodes.items c.in-Some.first (reverse ts) c.in-Some.ensures))
+    let first : locals_at c.push_all.new.self.links.items c.in_ok-first.first ≡ ts = locals_are c.push_all.new.self.links.items c.in_ok-first.first ts (c.in_ok-first.ensures.chain ∙ from_bottom c.new-chains.result.links.items (reverse ts)) in
+    (rw first at (rw c.in-Ok.is at c.in_ok-fault.ensures).0) ∙ ap (λ gs. Ok gs) (sym c.new.ensures.frames)

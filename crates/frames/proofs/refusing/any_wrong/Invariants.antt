@@ -5,4 +5,4 @@ use Rattle.frames.specs.Judging.{is_wrong}
 use Rattle.frames.proofs.refusing.any_wrong.Given as goal
 
 abbrev pub invariant-loop-info : goal.invariant-loop-info
-invariant-loop-info g l = any_info (is_wrong l.wrong (g.T.TypeTable.entries l.types) (g.S.Starts.code l.starts)) (map info_of (take l.info-index l.infos)) ≡ false
+invariant-loop-info g l = any_info (is_wrong l.wrong l.pool (g.S.Starts.code l.starts)) (map info_of (take l.info-index l.infos)) ≡ false

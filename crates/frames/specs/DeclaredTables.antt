@@ -1,0 +1,25 @@
+-- The frames that a table of declared frames holds.
+use Rattle.std.specs.Prelude.{◌≡◌, ℕ, List, Result, Ok, Err}
+use Rattle.frames.specs.FrameFact.{FrameFact}
+use Rattle.frames.specs.Conditions.{Reason, reason}
+use Rattle.frames.specs.FrameReasons.{frame_fault_number}
+use Rattle.frames.specs.DeclaredViews.{fact_of, facts_of}
+use Rattle.frames.specs.declared.frame_fault.FrameFault.{FrameFault}
+use Rattle.frames.specs.declared.declared_frames.DeclaredFrames.{DeclaredFrames}
+use Rattle.frames.specs.declared.declared_frames.Declared.{Declared}
+
+-- each with its offset
+unfoldable pub frames_in : DeclaredFrames → List (ℕ × FrameFact)
+frames_in t = facts_of t.chains.links.items t.max_locals t.frames.items
+
+-- how many locals each of them has, by units
+unfoldable pub locals_in : DeclaredFrames → ℕ
+locals_in t = t.max_locals
+
+unfoldable pub declared_view : Declared → FrameFact
+declared_view d = fact_of d.chains.now.links.items d.max_locals d.tops
+
+-- the frames are told, or the reason against the first that is refused
+abbrev pub IsDeclared : Result (List (ℕ × FrameFact)) Reason → Result DeclaredFrames FrameFault → Type 0
+IsDeclared answer (Ok t) = answer ≡ Ok (frames_in t)
+IsDeclared answer (Err fault) = answer ≡ Err (reason (frame_fault_number fault))

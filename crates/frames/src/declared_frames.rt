@@ -1,0 +1,192 @@
+//! Frames as the entries of a stack map declare them.
+ghost use Rattle.std.specs.Prelude.{◌≡◌};
+ghost use Rattle.hierarchy.specs.Answer.{yes_if};
+ghost use Rattle.frames.specs.FrameAssignable.{flag_answer};
+ghost use Rattle.insn.specs.Offsets.{StartsRise};
+ghost use Rattle.frames.specs.Rising.{StartsRise-prop};
+ghost use Rattle.frames.specs.DeclaredViews.{IsInside, AreInside, facts_of};
+
+use crate::after::FrameTops;
+use crate::chain::Chains;
+use crate::compare_frames::both;
+use crate::vtype::VType;
+use crate::walking::{chain_assignable, write_chain};
+use hierarchy::{Answer, Classes};
+use std::alloc::{AllocError, Global};
+
+/// The frames that the stack map of a method declares, by rising offsets. What the locals of entries have in common
+/// stands there once.
+#[derive(Drop)]
+pub struct DeclaredFrames<'a> {
+    chains: Chains<'a>,
+    frames: Vec<FrameTops>,
+    max_locals: u16,
+    ghost inside: { AreInside chains.links.items max_locals frames.items },
+    ghost rises: { StartsRise 0 (facts_of chains.links.items max_locals frames.items) } by { StartsRise-prop 0 (facts_of chains.links.items max_locals frames.items) },
+}
+
+/// A declared frame.
+#[derive(Clone, Copy)]
+pub struct Declared<'n, 'a> {
+    chains: &'n Chains<'a>,
+    tops: FrameTops,
+    max_locals: u16,
+    ghost inside: { IsInside chains.now.links.items max_locals tops },
+}
+
+impl<'a> DeclaredFrames<'a> {
+    ghost use Rattle.std.specs.Prelude.{◌<◌, ◌≤◌, [], length, slice_get, None, Some, IfSome, MatchOption, IsSomeAnd, option_map};
+    ghost use Rattle.insn.specs.Offsets.{at_offset};
+    ghost use Rattle.frames.specs.DeclaredTables.{frames_in, locals_in, declared_view};
+
+    /// The frames of these chains.
+    #[tactic(auto, unfolding(crate::specs::DeclaredTables::frames_in, crate::specs::DeclaredTables::locals_in))]
+    pub(crate) fn new(
+        chains: Chains<'a>,
+        frames: Vec<FrameTops>,
+        max_locals: u16,
+    ) -> DeclaredFrames<'a>
+        requires inside { AreInside chains.links.items max_locals frames.items }
+        requires rises { StartsRise 0 (facts_of chains.links.items max_locals frames.items) }
+        ensures frames { frames_in result ≡ facts_of chains.entry.links.items max_locals frames.items }
+        ensures locals { locals_in result ≡ max_locals }
+    {
+        DeclaredFrames {
+            chains,
+            frames,
+            max_locals,
+        }
+    }
+
+    /// No frame, for a method with so many units of locals.
+    pub fn none(alloc: Global, max_locals: u16) -> DeclaredFrames<'a>
+        ensures frames { frames_in result ≡ [] }
+        ensures locals { locals_in result ≡ max_locals }
+    {
+        let chains = Chains::new(alloc);
+        let frames = Vec::new(alloc);
+        DeclaredFrames::new(chains, frames, max_locals)
+    }
+
+    /// How many frames there are.
+    pub fn len(&self) -> usize
+        ensures { result ≡ length (frames_in self.now) }
+    {
+        self.frames.len()
+    }
+
+    fn tops(&self, place: usize) -> FrameTops
+        requires { place < length self.now.frames.items }
+        ensures { slice_get self.now.frames.items place ≡ Some result }
+    {
+        self.frames[place]
+    }
+
+    /// The frame at a place, counted from 0 by rising offsets, with its offset in bytes. Takes no memory.
+    pub fn get(&self, place: usize) -> Option<(u32, Declared<'_, 'a>)>
+        ensures frame { option_map (λ x. (x.0, declared_view x.1)) result ≡ slice_get (frames_in self.now) place }
+        ensures locals { IfSome result (λ x. length (declared_view x.1).locals ≡ locals_in self.now) }
+    {
+        if place >= self.frames.len() {
+            return None;
+        }
+        let tops = self.tops(place);
+        let declared = Declared {
+            chains: &self.chains,
+            tops,
+            max_locals: self.max_locals,
+        };
+        Some((tops.at, declared))
+    }
+
+    /// The place of the frame that is declared at an offset in bytes. Takes no memory.
+    pub fn place(&self, at: u32) -> Option<usize>
+        ensures { MatchOption result (at_offset (frames_in self.now) at ≡ None) (λ i. IsSomeAnd (slice_get (frames_in self.now) i) (λ x. (x.0 ≡ at) × (at_offset (frames_in self.now) at ≡ Some x.1))) }
+    {
+        match self.frames.binary_search_by_key(&at, |frame| frame.at) {
+            Ok(place) => Some(place),
+            Err(_) => None,
+        }
+    }
+
+    /// The frame that is declared at an offset in bytes. Takes no memory.
+    pub fn find(&self, at: u32) -> Option<Declared<'_, 'a>>
+        ensures frame { option_map declared_view result ≡ at_offset (frames_in self.now) at }
+        ensures locals { IfSome result (λ d. length (declared_view d).locals ≡ locals_in self.now) }
+    {
+        let place = self.place(at)?;
+        let (_at, declared) = self.get(place)?;
+        Some(declared)
+    }
+}
+
+fn may_have_flag(from: bool, to: bool) -> bool
+    ensures { flag_answer from to ≡ yes_if result }
+{
+    !from || to
+}
+
+impl<'n, 'a> Declared<'n, 'a> {
+    ghost use Rattle.std.specs.Prelude.{◌≤◌, length, map, reverse, OnOk};
+    ghost use Rattle.hierarchy.specs.Answer.{outcome_of};
+    ghost use Rattle.frames.specs.VerificationType.{type_of};
+    ghost use Rattle.frames.specs.FrameAssignable.{frame_answer};
+    ghost use Rattle.frames.specs.HeldFrames.{held_locals, held_frame};
+    ghost use Rattle.frames.specs.DeclaredTables.{declared_view};
+
+    /// Whether the own object is uninitialized.
+    pub fn flag(&self) -> bool
+        ensures { result ≡ (declared_view self.now).flag }
+    {
+        self.chains.sums(self.tops.locals).flag
+    }
+
+    /// Whether a frame may stand where this one is declared (JVMS 4.10.1.4): one that has these locals, all beyond them
+    /// being top, this stack from the bottom up, and this flag. Takes no memory.
+    ///
+    /// The answer is that of [`frame_assignable`](crate::frame_assignable).
+    pub fn assignable_from<C: Classes>(
+        &self,
+        locals: &[VType<'a>],
+        stack: &[VType<'a>],
+        flag: bool,
+        classes: &C,
+    ) -> Answer<'a>
+        ensures { let d = declared_view self.now in
+            outcome_of result ≡ frame_answer (C.content classes.now) (held_frame locals.now (length d.locals) stack.now flag) d }
+    {
+        if locals.len() > usize::from(self.max_locals) {
+            return Answer::No;
+        }
+        if !may_have_flag(flag, self.flag()) {
+            return Answer::No;
+        }
+        if stack.len() != self.chains.sums(self.tops.stack).count {
+            return Answer::No;
+        }
+        let answer = chain_assignable(locals, self.chains, self.tops.locals, false, classes);
+        if let Answer::No = answer {
+            return Answer::No;
+        }
+        both(
+            answer,
+            chain_assignable(stack, self.chains, self.tops.stack, true, classes),
+        )
+    }
+
+    /// Writes the locals to a vector in place of what it holds, by units: a long or double is its type and then top.
+    /// All locals beyond them are top.
+    pub fn write_locals(&self, locals: &mut Vec<VType<'a>>) -> Result<(), AllocError>
+        ensures written { let d = declared_view self.now in OnOk result (held_locals locals.new.items (length d.locals) ≡ d.locals) }
+        ensures few { OnOk result (length locals.new.items ≤ length (declared_view self.now).locals) }
+    {
+        write_chain(self.chains, self.tops.locals, true, locals)
+    }
+
+    /// Writes the stack to a vector in place of what it holds, from the bottom up.
+    pub fn write_stack(&self, stack: &mut Vec<VType<'a>>) -> Result<(), AllocError>
+        ensures { OnOk result (reverse (map type_of stack.new.items) ≡ (declared_view self.now).stack) }
+    {
+        write_chain(self.chains, self.tops.stack, false, stack)
+    }
+}
