@@ -13,3 +13,4 @@ pub mod Looping
 pub mod Finding
 pub mod Comparison
 pub mod Writing
+pub mod Marking

@@ -15,3 +15,5 @@ pub mod Rising
 pub mod DeclaredViews
 pub mod Judging
 pub mod DeclaredTables
+pub mod Marks
+pub mod MarkedCode

@@ -4,6 +4,7 @@
 //!
 //! - `after`: the locals and the stack that an entry of a stack map leaves.
 //! - `chain`: types that share what lies below, as the locals of entries do.
+//! - `code_starts`: where the instructions of a method's code begin, byte by byte.
 //! - `compare`: one type to another.
 //! - `compare_frames`: one frame to another.
 //! - `constants`: the classes that entries name by the constant pool.
@@ -21,6 +22,7 @@
 
 mod after;
 mod chain;
+mod code_starts;
 mod compare;
 mod compare_frames;
 mod constants;
@@ -35,6 +37,7 @@ mod starts;
 mod vtype;
 mod walking;
 
+pub use code_starts::CodeStarts;
 pub use compare::assignable;
 pub use compare_frames::{both, frame_assignable, width};
 pub use declared_frames::{Declared, DeclaredFrames};
