@@ -14,3 +14,5 @@ pub mod Finding
 pub mod Comparison
 pub mod Writing
 pub mod Marking
+pub mod Whole
+pub mod Forms

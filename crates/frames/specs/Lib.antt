@@ -17,3 +17,4 @@ pub mod Judging
 pub mod DeclaredTables
 pub mod Marks
 pub mod MarkedCode
+pub mod DeclaredForms

@@ -18,6 +18,7 @@
 //! - `starts`: where instructions begin.
 //! - `vtype`: verification types.
 //! - `walking`: chains gone through.
+//! - `whole_frames`: declared frames with all their locals.
 #![tactic(auto)]
 
 mod after;
@@ -36,6 +37,7 @@ mod stack_map;
 mod starts;
 mod vtype;
 mod walking;
+mod whole_frames;
 
 pub use code_starts::CodeStarts;
 pub use compare::assignable;
@@ -47,3 +49,4 @@ pub use frame_fault::FrameFault;
 pub use stack_map::{MapEntry, TypeInfo, read_map};
 pub use starts::Starts;
 pub use vtype::VType;
+pub use whole_frames::declared;
