@@ -9,6 +9,7 @@ pub mod Slots
 pub mod StackMaps
 pub mod DeclaredFrames
 pub mod MapViews
+pub mod MapLaws
 pub mod HeldFrames
 pub mod Chains
 pub mod Rising

@@ -1,8 +1,11 @@
--- The body of a StackMapTable (JVMS 4.7.4): its entries, and which bytes spell them.
-use Rattle.std.specs.Prelude.{◌≡◌, ℕ, ◌-◌, ◌<◌, List, ◌++◌, length, nat_eq, nat_le, if◌then◌else◌, ◌⊎◌}
+-- The body of a StackMapTable (JVMS 4.7.4): its entries, which bytes spell them, and what they are written as.
+use Rattle.std.specs.Prelude.{◌≡◌, ℕ, ◌+◌, ◌-◌, ◌<◌, Bool, ◌&&◌, Option, Some, None, List, [], ◌∷◌, ◌++◌, length, nat_eq, nat_le, if◌then◌else◌, ◌⊎◌}
+use Rattle.std.specs.List.{flat_map}
 use Rattle.layout.specs.declared.fault.ReadFault.{ReadFault}
 use Rattle.layout.specs.declared.fault.ReadFault.TheVariants.{AttributeLength, BadFrameType, BadTypeTag}
 use Rattle.layout.specs.Format.{Format, Spells, FirstFault, done, refuse, andthen, number, times}
+use Rattle.layout.specs.Pieces.{Piece, unspelled, field}
+use Rattle.layout.specs.PieceLaws.{counted}
 
 -- a type as an entry gives it
 pub data TypeInfo : Type 0 where
@@ -77,3 +80,59 @@ pub record HasMore (body : List ℕ) (at : ℕ) : Type 0 where
 -- The first fault: a part that is not whole or breaks its rule, or the first byte left over (12).
 abbrev pub MapFault : List ℕ → ReadFault → Type 0
 MapFault body e = FirstFault stack_map 0 body e ⊎ ((at : ℕ) × (e ≡ AttributeLength at) × HasMore body at)
+
+-- ---- what a map is written as: an entry that no frame type stands for has no spelling, but counts with all its parts
+
+abbrev pub tag_of : TypeInfo → ℕ
+tag_of top = 0
+tag_of integer = 1
+tag_of float = 2
+tag_of double = 3
+tag_of long = 4
+tag_of null = 5
+tag_of uninitialized_this = 6
+tag_of (object class) = 7
+tag_of (uninitialized offset) = 8
+
+-- behind the tag
+abbrev pub operand_pieces : TypeInfo → List Piece
+operand_pieces (object class) = field 2 class
+operand_pieces (uninitialized offset) = field 2 offset
+operand_pieces t = []
+
+abbrev pub type_pieces : TypeInfo → List Piece
+type_pieces t = field 1 (tag_of t) ++ operand_pieces t
+
+-- the number lies in the range
+abbrev pub between : ℕ → ℕ → ℕ → Bool
+between least most n = nat_le least n && nat_le n most
+
+abbrev pub frame_type : MapEntry → Option ℕ
+frame_type (same delta) = if nat_le delta 63 then Some delta else None
+frame_type (same_with_item delta item) = if nat_le delta 63 then Some (64 + delta) else None
+frame_type (same_with_item_extended delta item) = Some 247
+frame_type (chop count delta) = if between 1 3 count then Some (251 - count) else None
+frame_type (same_extended delta) = Some 251
+frame_type (append delta locals) = if between 1 3 (length locals) then Some (251 + length locals) else None
+frame_type (full delta locals stack) = Some 255
+
+-- a frame type takes a byte
+abbrev pub frame_type_pieces : Option ℕ → List Piece
+frame_type_pieces (Some type) = field 1 type
+frame_type_pieces None = unspelled ∷ field 1 0
+
+-- behind the frame type
+abbrev pub behind_pieces : MapEntry → List Piece
+behind_pieces (same delta) = []
+behind_pieces (same_with_item delta item) = type_pieces item
+behind_pieces (same_with_item_extended delta item) = field 2 delta ++ type_pieces item
+behind_pieces (chop count delta) = field 2 delta
+behind_pieces (same_extended delta) = field 2 delta
+behind_pieces (append delta locals) = field 2 delta ++ flat_map type_pieces locals
+behind_pieces (full delta locals stack) = field 2 delta ++ (counted type_pieces locals ++ counted type_pieces stack)
+
+abbrev pub entry_pieces : MapEntry → List Piece
+entry_pieces e = frame_type_pieces (frame_type e) ++ behind_pieces e
+
+abbrev pub map_pieces : List MapEntry → List Piece
+map_pieces entries = counted entry_pieces entries

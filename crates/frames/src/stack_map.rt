@@ -1,17 +1,18 @@
-//! The body of a StackMapTable (JVMS 4.7.4): its entries as they stand there.
-ghost use Rattle.std.specs.Prelude.{◌≡◌, ◌<◌, ◌≤◌, ◌-◌, List, map, IfOk, IfErr};
-ghost use Rattle.layout.specs.Faults.{GoesOn, UnlessMemory};
+//! Stack maps: the bodies of StackMapTable attributes (JVMS 4.7.4).
+ghost use Rattle.std.specs.Prelude.{◌≡◌, List, map, IfOk, IfErr};
+ghost use Rattle.layout.specs.Faults.{UnlessMemory};
 ghost use Rattle.layout.specs.declared.fault.ReadFault.TheVariants.{OutOfMemory};
 ghost use Rattle.frames.specs.StackMaps as maps;
 ghost use Rattle.frames.specs.StackMaps.{IsMap, MapFault};
-ghost use Rattle.layout.specs.Format.{Format, times, andthen, number, done};
-ghost use Rattle.frames.specs.StackMaps.{type_behind, type_info, type_table, entry_behind, map_entry, stack_map};
-ghost use Rattle.frames.specs.MapViews.{info_of, entry_of};
+ghost use Rattle.frames.specs.MapViews.{entry_of};
 
-use layout::{Cursor, ReadFault};
+use crate::map_reading::{read_entries, read_entry, read_type};
+use crate::map_writing::{written_entry, written_map, written_type};
+use layout::{Cursor, Part, ReadFault, WriteFault};
 use std::alloc::Global;
+use std::marker::Model;
 
-/// A type as an entry gives it.
+/// A verification type as an entry gives it.
 #[derive(Clone, Copy, Debug, PartialEq, Eq)]
 pub enum TypeInfo {
     Top,
@@ -23,74 +24,73 @@ pub enum TypeInfo {
     UninitializedThis,
     /// The class that stands at this index of the constant pool.
     Object(u16),
-    /// What the `new` at this offset made.
+    /// What the `new` at this offset of the code made, in bytes.
     Uninitialized(u16),
 }
 
-/// An entry by its form, with its offset_delta.
+/// An entry by its form. Each has its offset_delta, in bytes.
 #[derive(Debug, Drop)]
 pub enum MapEntry {
+    /// The locals as before and no stack; the delta is at most 63.
     Same(u8),
+    /// The locals as before and a stack of this type; the delta is at most 63.
     SameWithItem(u8, TypeInfo),
+    /// The locals as before and a stack of this type.
     SameWithItemExtended(u16, TypeInfo),
-    /// This many locals are taken off.
+    /// The locals as before but for the last of them, 1 to 3, and no stack. The count comes first.
     Chop(u8, u16),
+    /// The locals as before and no stack.
     SameExtended(u16),
+    /// The locals as before and these behind them, 1 to 3, and no stack.
     Append(u16, Vec<TypeInfo>),
+    /// These locals, and this stack, whose top is last.
     Full(u16, Vec<TypeInfo>, Vec<TypeInfo>),
 }
 
-/// What stands one behind the other in a stack map.
-trait Listed: Sized {
-    ghost View: { Type 0 };
-
-    ghost view: { Self → View };
-
-    ghost format: { Format View };
-
-    fn take(alloc: Global, cursor: &mut Cursor<'_>) -> Result<Self, ReadFault>
-        ensures { GoesOn format view cursor.old cursor.new result };
+/// The body of a StackMapTable: its entries in order.
+#[derive(Debug, Drop)]
+pub struct StackMap {
+    entries: Vec<MapEntry>,
 }
 
-/// So many, one behind the other. Memory grows as they are read: the count is not believed before their bytes are there.
-fn several<T: Listed + Drop>(
-    alloc: Global,
-    cursor: &mut Cursor<'_>,
-    count: u16,
-) -> Result<Vec<T>, ReadFault>
-    ensures { GoesOn (times count T.format) (λ v. map T.view v.items) cursor.old cursor.new result }
-{
-    let mut out = Vec::new(alloc);
-    for _ in 0..count {
-        let one = T::take(alloc, cursor)?;
-        out.push(one)?;
-    }
-    Ok(out)
-}
-
-/// What stands behind a tag.
-fn behind_tag(tag: u8, cursor: &mut Cursor<'_>) -> Result<TypeInfo, ReadFault>
-    requires { 0 < cursor.now.at }
-    ensures { GoesOn (type_behind tag) info_of cursor.old cursor.new result }
-{
-    match tag {
-        0 => Ok(TypeInfo::Top),
-        1 => Ok(TypeInfo::Integer),
-        2 => Ok(TypeInfo::Float),
-        3 => Ok(TypeInfo::Double),
-        4 => Ok(TypeInfo::Long),
-        5 => Ok(TypeInfo::Null),
-        6 => Ok(TypeInfo::UninitializedThis),
-        7 => Ok(TypeInfo::Object(cursor.u2()?)),
-        8 => Ok(TypeInfo::Uninitialized(cursor.u2()?)),
-        _ => Err(ReadFault::BadTypeTag {
-            at: cursor.at() - 1,
-        }),
-    }
-}
-
-impl Listed for TypeInfo {
+impl Model for StackMap {
+    ghost use Rattle.std.specs.Prelude.{List, map};
     ghost use Rattle.frames.specs.StackMaps as maps;
+    ghost use Rattle.frames.specs.MapViews.{entry_of};
+
+    ghost Value = { List maps.MapEntry };
+
+    ghost view = { λ m. map entry_of m.entries.items };
+}
+
+impl StackMap {
+    /// The stack map of these entries. Whether bytes spell it shows when it is written.
+    pub fn new(entries: Vec<MapEntry>) -> StackMap
+        ensures { result ≡ map entry_of entries.items }
+    {
+        StackMap { entries }
+    }
+
+    /// The entries in order.
+    pub fn entries(&self) -> &[MapEntry]
+        ensures { map entry_of result.now ≡ self.now }
+    {
+        &self.entries
+    }
+
+    /// The entries, to be changed and made into another stack map.
+    pub fn into_entries(self) -> Vec<MapEntry>
+        ensures { map entry_of result.items ≡ self }
+    {
+        self.entries
+    }
+}
+
+/// A tag, and a number of two bytes behind 7 and 8. Refused are 2 `EndsEarly` at a number that is not whole, and 48 `BadTypeTag`
+/// at a tag over 8. Each value has a spelling.
+impl<'a> Part<'a> for TypeInfo {
+    ghost use Rattle.frames.specs.StackMaps as maps;
+    ghost use Rattle.frames.specs.MapLaws.{writes_type};
     ghost use Rattle.frames.specs.MapViews.{info_of};
 
     ghost View = { maps.TypeInfo };
@@ -99,92 +99,31 @@ impl Listed for TypeInfo {
 
     ghost format = { maps.type_info };
 
-    #[tactic(auto, unfolding(crate::specs::StackMaps::type_info))]
-    fn take(_alloc: Global, cursor: &mut Cursor<'_>) -> Result<Self, ReadFault> {
-        let tag = cursor.u1()?;
-        behind_tag(tag, cursor)
+    ghost pieces = { maps.type_pieces };
+
+    ghost written = { writes_type };
+
+    fn take(_alloc: Global, cursor: &mut Cursor<'a>) -> Result<TypeInfo, ReadFault> {
+        let mut step = cursor.fork();
+        let info = read_type(&mut step)?;
+        *cursor = step;
+        Ok(info)
+    }
+
+    fn put(&self, out: &mut Vec<u8>) -> Result<(), WriteFault> {
+        let bytes = written_type(*out.allocator(), *self)?;
+        out.extend_from_slice(&bytes)?;
+        Ok(())
     }
 }
 
-/// A count, and so many types.
-#[tactic(auto, unfolding(crate::specs::StackMaps::type_table))]
-fn type_table(alloc: Global, cursor: &mut Cursor<'_>) -> Result<Vec<TypeInfo>, ReadFault>
-    ensures { GoesOn type_table (λ v. map info_of v.items) cursor.old cursor.new result }
-{
-    let count = cursor.u2()?;
-    several(alloc, cursor, count)
-}
-
-#[tactic(auto, using(crate::proofs::Steps::steps))]
-fn with_item(alloc: Global, frame_type: u8, cursor: &mut Cursor<'_>) -> Result<MapEntry, ReadFault>
-    requires { 64 ≤ frame_type }
-    ensures { GoesOn (andthen type_info (λ item. done (maps.same_with_item (frame_type - 64) item))) entry_of cursor.old cursor.new result }
-{
-    let item = TypeInfo::take(alloc, cursor)?;
-    Ok(MapEntry::SameWithItem(frame_type - 64, item))
-}
-
-#[tactic(auto, using(crate::proofs::Steps::steps))]
-fn with_item_extended(alloc: Global, cursor: &mut Cursor<'_>) -> Result<MapEntry, ReadFault>
-    ensures { GoesOn (andthen (number 2) (λ delta. andthen type_info (λ item. done (maps.same_with_item_extended delta item)))) entry_of cursor.old cursor.new result }
-{
-    let delta = cursor.u2()?;
-    let item = TypeInfo::take(alloc, cursor)?;
-    Ok(MapEntry::SameWithItemExtended(delta, item))
-}
-
-#[tactic(auto, using(crate::proofs::Steps::steps))]
-fn append(alloc: Global, frame_type: u8, cursor: &mut Cursor<'_>) -> Result<MapEntry, ReadFault>
-    requires { 251 ≤ frame_type }
-    ensures { GoesOn (andthen (number 2) (λ delta. andthen (times (frame_type - 251) type_info) (λ locals. done (maps.append delta locals)))) entry_of cursor.old cursor.new result }
-{
-    let delta = cursor.u2()?;
-    let locals = several(alloc, cursor, (frame_type - 251) as u16)?;
-    Ok(MapEntry::Append(delta, locals))
-}
-
-#[tactic(auto, using(crate::proofs::Steps::steps))]
-fn full(alloc: Global, cursor: &mut Cursor<'_>) -> Result<MapEntry, ReadFault>
-    ensures { GoesOn (andthen (number 2) (λ delta. andthen type_table (λ locals. andthen type_table (λ stack. done (maps.full delta locals stack))))) entry_of cursor.old cursor.new result }
-{
-    let delta = cursor.u2()?;
-    let locals = type_table(alloc, cursor)?;
-    let stack = type_table(alloc, cursor)?;
-    Ok(MapEntry::Full(delta, locals, stack))
-}
-
-/// What stands behind a frame type; 128 to 246 are reserved.
-fn behind_type(
-    alloc: Global,
-    frame_type: u8,
-    cursor: &mut Cursor<'_>,
-) -> Result<MapEntry, ReadFault>
-    requires { 0 < cursor.now.at }
-    ensures { GoesOn (entry_behind frame_type) entry_of cursor.old cursor.new result }
-{
-    if frame_type <= 63 {
-        Ok(MapEntry::Same(frame_type))
-    } else if frame_type <= 127 {
-        with_item(alloc, frame_type, cursor)
-    } else if frame_type <= 246 {
-        Err(ReadFault::BadFrameType {
-            at: cursor.at() - 1,
-        })
-    } else if frame_type == 247 {
-        with_item_extended(alloc, cursor)
-    } else if frame_type <= 250 {
-        Ok(MapEntry::Chop(251 - frame_type, cursor.u2()?))
-    } else if frame_type == 251 {
-        Ok(MapEntry::SameExtended(cursor.u2()?))
-    } else if frame_type <= 254 {
-        append(alloc, frame_type, cursor)
-    } else {
-        full(alloc, cursor)
-    }
-}
-
-impl Listed for MapEntry {
+/// A frame type, and what its form has. Refused are, as the first fault in the order of the bytes, 2 `EndsEarly` at a number that is
+/// not whole, 47 `BadFrameType` at a frame type from 128 to 246, and 48 `BadTypeTag`. Without a spelling, 18, are a `Same` or
+/// `SameWithItem` with a delta over 63, and a `Chop` or `Append` of none or more than 3; a `Full` with more than 65,535 types in a
+/// list is too large, 17.
+impl<'a> Part<'a> for MapEntry {
     ghost use Rattle.frames.specs.StackMaps as maps;
+    ghost use Rattle.frames.specs.MapLaws.{writes_entry};
     ghost use Rattle.frames.specs.MapViews.{entry_of};
 
     ghost View = { maps.MapEntry };
@@ -193,35 +132,71 @@ impl Listed for MapEntry {
 
     ghost format = { maps.map_entry };
 
-    #[tactic(auto, unfolding(crate::specs::StackMaps::map_entry))]
-    fn take(alloc: Global, cursor: &mut Cursor<'_>) -> Result<Self, ReadFault> {
-        let frame_type = cursor.u1()?;
-        behind_type(alloc, frame_type, cursor)
+    ghost pieces = { maps.entry_pieces };
+
+    ghost written = { writes_entry };
+
+    fn take(alloc: Global, cursor: &mut Cursor<'a>) -> Result<MapEntry, ReadFault> {
+        let mut step = cursor.fork();
+        let entry = read_entry(alloc, &mut step)?;
+        *cursor = step;
+        Ok(entry)
+    }
+
+    fn put(&self, out: &mut Vec<u8>) -> Result<(), WriteFault> {
+        let bytes = written_entry(*out.allocator(), self)?;
+        out.extend_from_slice(&bytes)?;
+        Ok(())
     }
 }
 
-/// The entries of a stack map.
-#[tactic(auto, unfolding(crate::specs::StackMaps::stack_map))]
-fn entries(alloc: Global, cursor: &mut Cursor<'_>) -> Result<Vec<MapEntry>, ReadFault>
-    ensures { GoesOn stack_map (λ v. map entry_of v.items) cursor.old cursor.new result }
-{
-    let count = cursor.u2()?;
-    several(alloc, cursor, count)
+/// A count of two bytes, and so many entries. Refused are the first fault of an entry, in the order of the bytes, and 2 `EndsEarly`
+/// at a count that is not whole. 17 is more than 65,535 entries; an entry that is too large or has no spelling is as it is alone.
+impl<'a> Part<'a> for StackMap {
+    ghost use Rattle.std.specs.Prelude.{List};
+    ghost use Rattle.frames.specs.StackMaps as maps;
+    ghost use Rattle.frames.specs.MapLaws.{writes_map};
+
+    ghost View = { List maps.MapEntry };
+
+    ghost view = { λ m. m };
+
+    ghost format = { maps.stack_map };
+
+    ghost pieces = { maps.map_pieces };
+
+    ghost written = { writes_map };
+
+    fn take(alloc: Global, cursor: &mut Cursor<'a>) -> Result<StackMap, ReadFault> {
+        let mut step = cursor.fork();
+        let entries = read_entries(alloc, &mut step)?;
+        *cursor = step;
+        Ok(StackMap::new(entries))
+    }
+
+    fn put(&self, out: &mut Vec<u8>) -> Result<(), WriteFault> {
+        let bytes = written_map(*out.allocator(), self)?;
+        out.extend_from_slice(&bytes)?;
+        Ok(())
+    }
 }
 
-/// The entries that the body of a StackMapTable spells, all of it.
+/// The stack map that the body of a StackMapTable spells, all of it.
 ///
-/// Otherwise the first fault: 2 where a part passes the end, 47 for a frame type, 48 for a type's tag, 12 at the first
-/// byte left over; or 1. Places count from the body's first byte.
-pub fn read_map(alloc: Global, body: &[u8]) -> Result<Vec<MapEntry>, ReadFault>
-    ensures found { IfOk result (λ v. IsMap body.now (map entry_of v.items)) }
+/// Otherwise the first fault in the order of the bytes: 2 where a part passes the end, 47 for a frame type, 48 for a type's tag, and
+/// 12 at the first byte left over; or 1 where memory runs out. Places count bytes from the body's first.
+pub fn read_map(alloc: Global, body: &[u8]) -> Result<StackMap, ReadFault>
+    // What is answered is spelled by the body.
+    ensures found { IfOk result (λ m. IsMap body.now m) }
+    // What the body spells is answered, unless memory runs out.
     ensures only { (es : List maps.MapEntry) → IsMap body.now es → IfErr result (λ e. e ≡ OutOfMemory) }
+    // Which fault it is.
     ensures fault { IfErr result (λ e. UnlessMemory e (MapFault body.now e)) }
 {
     let mut cursor = Cursor::new(body);
-    let found = entries(alloc, &mut cursor)?;
+    let map = StackMap::take(alloc, &mut cursor)?;
     if !cursor.rest().is_empty() {
         return Err(ReadFault::AttributeLength { at: cursor.at() });
     }
-    Ok(found)
+    Ok(map)
 }
