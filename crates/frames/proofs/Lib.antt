@@ -4,7 +4,6 @@ pub mod Types
 pub mod Frames
 mod Examples
 pub mod Steps
-pub mod WholeMap
 pub mod Chains
 pub mod Leaving
 pub mod Walks

@@ -4,6 +4,7 @@
 //! |---|---|
 //! | `superclasses` | `hierarchy`: lists of classes, and summaries of class files |
 //! | `assignability` | `frames`: one type or frame where another is wanted |
+//! | `stack_maps` | `frames`: stack maps both ways |
 //! | `instruction_rules` | `rules`: single instructions |
 //! | `machine_steps` | `machine`: single steps |
 //! | `verdicts` | `verify`: verdicts and reports |
@@ -20,6 +21,8 @@ mod instruction_rules;
 mod machine_steps;
 #[cfg(test)]
 mod making;
+#[cfg(test)]
+mod stack_maps;
 #[cfg(test)]
 mod superclasses;
 #[cfg(test)]
