@@ -83,7 +83,9 @@ fn is_read(alloc: Global, may_fail: bool) -> bool {
 fn is_taken(alloc: Global, may_fail: bool) -> bool {
     let mut cursor = Cursor::starting(4, &[0, 2, 5, 252, 0, 1, 4, 251]);
     match StackMap::take(alloc, &mut cursor) {
-        Ok(map) => cursor.at() == 11 && cursor.rest() == [251] && map.into_entries().len() == 2,
+        Ok(map) => cursor.at() == 11
+            && cursor.rest() == [251].as_slice()
+            && map.into_entries().len() == 2,
         Err(fault) => may_fail && matches!(fault, ReadFault::OutOfMemory) && cursor.at() == 4,
     }
 }
@@ -100,7 +102,10 @@ fn faults<'a>() -> [(&'a [u8], ReadFault); 9] {
         (&[0], ReadFault::EndsEarly { at: 0 }),
         (&[0, 2, 9], ReadFault::EndsEarly { at: 3 }),
         (&[0, 1, 251, 0], ReadFault::EndsEarly { at: 3 }),
-        (&[0, 1, 255, 0, 0, 255, 255, 1], ReadFault::EndsEarly { at: 8 }),
+        (
+            &[0, 1, 255, 0, 0, 255, 255, 1],
+            ReadFault::EndsEarly { at: 8 },
+        ),
         (&[0, 1, 128], ReadFault::BadFrameType { at: 2 }),
         (&[0, 2, 3, 246], ReadFault::BadFrameType { at: 3 }),
         (&[0, 1, 64, 9], ReadFault::BadTypeTag { at: 3 }),
@@ -120,7 +125,10 @@ fn refused_to_read(rt: HostRuntime) {
 fn put_fault(alloc: Global, entry: &MapEntry) -> Option<WriteFault> {
     let mut out = Vec::new(alloc);
     match out.push(7) {
-        Ok(()) => entry.put(&mut out).err().filter(|_| out.as_slice() == [7]),
+        Ok(()) => entry
+            .put(&mut out)
+            .err()
+            .filter(|_| out.as_slice() == [7].as_slice()),
         Err(_) => None,
     }
 }
@@ -148,14 +156,14 @@ fn too_large(alloc: Global) -> Result<MapEntry, AllocError> {
 fn are_refused(alloc: Global) -> Result<bool, AllocError> {
     let entries = unspelled(alloc)?;
     let large = too_large(alloc)?;
-    Ok(entries
-        .iter()
-        .all(|entry| put_fault(alloc, entry) == Some(WriteFault::HasNoSpelling))
-        && put_fault(alloc, &large) == Some(WriteFault::DoesNotFit))
+    Ok(
+        entries.iter().all(|entry| put_fault(alloc, entry) == Some(WriteFault::HasNoSpelling))
+            && put_fault(alloc, &large) == Some(WriteFault::DoesNotFit),
+    )
 }
 
 /// Whether a stack map with both is refused for the one that is too large.
-fn is_too_large(alloc: Global) -> Result<bool, AllocFailed<MapEntry>> {
+fn is_too_large(alloc: Global) -> Result<bool, WriteFault> {
     let mut entries = Vec::new(alloc);
     entries.push(MapEntry::Same(64))?;
     entries.push(too_large(alloc)?)?;
@@ -177,10 +185,12 @@ fn are_parts(alloc: Global) -> Result<bool, WriteFault> {
     let mut cursor = Cursor::new(out.as_slice());
     let info = TypeInfo::take(alloc, &mut cursor);
     let entry = MapEntry::take(alloc, &mut cursor);
-    Ok(out.as_slice() == [8, 1, 2, 251, 0, 3]
-        && matches!(info, Ok(TypeInfo::Uninitialized(258)))
-        && matches!(entry, Ok(MapEntry::SameExtended(3)))
-        && cursor.rest().is_empty())
+    Ok(
+        out.as_slice() == [8, 1, 2, 251, 0, 3].as_slice()
+            && matches!(info, Ok(TypeInfo::Uninitialized(258)))
+            && matches!(entry, Ok(MapEntry::SameExtended(3)))
+            && cursor.rest().is_empty(),
+    )
 }
 
 #[test]
