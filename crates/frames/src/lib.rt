@@ -1,6 +1,6 @@
-//! Verification types and frames, and when one may stand where another is wanted. Proved against the answers in
-//! specs/Assignable.antt and specs/FrameAssignable.antt (JVMS 4.10.1.2 and 4.10.1.4). The call to know is
-//! [`frame_assignable`].
+//! Verification types and frames, and when one may stand where another is wanted; stack maps. Proved against the answers in
+//! specs/Assignable.antt and specs/FrameAssignable.antt (JVMS 4.10.1.2 and 4.10.1.4), and the formats in specs/StackMaps.antt (4.7.4).
+//! The calls to know are [`frame_assignable`] and [`read_map`].
 //!
 //! - `after`: the locals and the stack that an entry of a stack map leaves.
 //! - `chain`: types that share what lies below, as the locals of entries do.
@@ -13,8 +13,9 @@
 //! - `frame`: frames.
 //! - `frame_fault`: why an entry is refused.
 //! - `laws`: what the answers mean, by chains of superclasses and place by place.
+//! - `map_reading`, `map_writing`: the two directions of a stack map.
 //! - `refusing`: an entry judged.
-//! - `stack_map`: the entries of a stack map.
+//! - `stack_map`: stack maps, and `read_map`.
 //! - `starts`: where instructions begin.
 //! - `vtype`: verification types.
 //! - `walking`: chains gone through.
