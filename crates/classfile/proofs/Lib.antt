@@ -15,4 +15,3 @@ pub mod Places
 pub mod SeenLaws
 pub mod Steps
 pub mod Tables
-pub mod Whole

@@ -1,7 +1,8 @@
 -- The layout of class files (JVMS 4.1, 4.5 to 4.7): which bytes spell which class, and which fault comes first.
 -- Each layout is the parts that stand one behind the other, in the order of the file.
-use Rattle.std.specs.Prelude.{◌≡◌, ℕ, ◌≤◌, ◌<◌, Bool, List, ◌++◌, length, nat_le, nat_eq, ◌&&◌, ◌||◌, if◌then◌else◌, ◌⊎◌}
-use Rattle.layout.specs.Format.{Format, Spells, FirstFault, done, part, refuse, andthen, number, times, inside}
+use Rattle.std.specs.Prelude.{◌≡◌, ℕ, ◌≤◌, ◌<◌, Bool, List, length, nat_le, nat_eq, ◌&&◌, ◌||◌, if◌then◌else◌, ◌⊎◌}
+use Rattle.layout.specs.Format.{Format, Spells, done, part, refuse, andthen, number, times, inside}
+use Rattle.layout.specs.Whole.{WholeFault}
 use Rattle.layout.specs.PieceLaws.{fields as by_field, raw}
 use Rattle.layout.specs.declared.limits.TheConstants.{MAX_CLASS_BYTES}
 use Rattle.layout.specs.declared.fault.ReadFault.{ReadFault}
@@ -100,19 +101,9 @@ pub record IsClass (bytes : List ℕ) (c : Class) : Type 0 where
   pub within : length bytes ≤ MAX_CLASS_BYTES
   pub spelled : Spells class bytes c
 
--- a class stands in front of the bytes, and more behind it
-pub record HasMore (bytes : List ℕ) (at : ℕ) : Type 0 where
-  pub front : List ℕ
-  pub others : List ℕ
-  pub is : Class
-  pub spelled : Spells class front is
-  pub parts : bytes ≡ front ++ others
-  pub place : length front ≡ at
-  pub some : 0 < length others
-
 -- The first fault in the order of the file: more bytes than a class file may have goes before all others;
 -- then the first part that is not whole or breaks its rule; then bytes behind a class.
 abbrev pub ClassFault : List ℕ → ReadFault → Type 0
 ClassFault bytes e =
     ((MAX_CLASS_BYTES < length bytes) × (e ≡ TooLong 0))
-    ⊎ ((length bytes ≤ MAX_CLASS_BYTES) × (FirstFault class 0 bytes e ⊎ ((at : ℕ) × (e ≡ BytesAfter at) × HasMore bytes at)))
+    ⊎ ((length bytes ≤ MAX_CLASS_BYTES) × WholeFault class BytesAfter bytes e)

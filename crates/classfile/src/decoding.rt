@@ -1,9 +1,10 @@
 //! From bytes to a class.
-ghost use Rattle.std.specs.Prelude.{◌≡◌, ◌⊎◌, ℕ, IfOk, IfErr};
-ghost use Rattle.layout.specs.Format.{Spells, FirstFault};
+ghost use Rattle.std.specs.Prelude.{◌≡◌, ℕ, IfOk, IfErr};
+ghost use Rattle.layout.specs.Format.{Spells};
+ghost use Rattle.layout.specs.Whole.{WholeFault};
 ghost use Rattle.layout.specs.Faults.{UnlessMemory};
 ghost use Rattle.classfile.specs.Values.{Class};
-ghost use Rattle.classfile.specs.ClassFile.{class, IsClass, HasMore, ClassFault};
+ghost use Rattle.classfile.specs.ClassFile.{class, IsClass, ClassFault};
 ghost use Rattle.classfile.specs.Views.{class_view};
 ghost use Rattle.layout.specs.declared.fault.ReadFault.TheVariants.{OutOfMemory, BytesAfter};
 
@@ -36,7 +37,7 @@ pub fn decode(alloc: Global, bytes: &[u8]) -> Result<ClassFile<'_>, ReadFault>
 fn whole_class(alloc: Global, bytes: &[u8]) -> Result<ClassFile<'_>, ReadFault>
     ensures found { IfOk result (λ c. Spells class bytes.now (class_view c)) }
     ensures only { (c : Class) → Spells class bytes.now c → IfErr result (λ e. e ≡ OutOfMemory) }
-    ensures fault { IfErr result (λ e. UnlessMemory e (FirstFault class 0 bytes.now e ⊎ ((at : ℕ) × (e ≡ BytesAfter at) × HasMore bytes.now at))) }
+    ensures fault { IfErr result (λ e. UnlessMemory e (WholeFault class BytesAfter bytes.now e)) }
 {
     let mut cursor = Cursor::new(bytes);
     let class = class(alloc, &mut cursor)?;

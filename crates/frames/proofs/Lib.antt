@@ -4,7 +4,6 @@ pub mod Types
 pub mod Frames
 mod Examples
 pub mod Steps
-pub mod WholeMap
 pub mod Chains
 pub mod Leaving
 pub mod Walks
@@ -14,3 +13,5 @@ pub mod Finding
 pub mod Comparison
 pub mod Writing
 pub mod Marking
+pub mod Whole
+pub mod Forms

@@ -31,6 +31,7 @@ inside_kept : (links more : List Link) (n : ℕ) (f : FrameTops) → AreLinked l
 inside_kept links more n f k h =
     let longer : length (links ++ more) ≡ length links + length more = length-append links more in
     record {
+      small = h.small;
       locals = omega (arith, h.locals, longer);
       stack = omega (arith, h.stack, longer);
       units = subst (λ (ts : List VerificationType). units_of ts ≤ n) (sym (types_kept links more k f.locals h.locals)) h.units;
@@ -142,10 +143,10 @@ module _ (pool : List Entry) (code : List (ℕ × Act)) (max_locals max_stack : 
   unfolding fact_of
   made_fact old new before e f m = rw (m.locals, m.stack) refl
 
-  pub declaring_next : (old new : List Link) (fs : List FrameTops) (before behind : ℕ) (e : MapEntry) (es : List MapEntry) (answer : Answer) (f : FrameTops) → AreLinked old
+  pub declaring_next : (old new : List Link) (fs : List FrameTops) (before behind : ℕ) (e : MapEntry) (es : List MapEntry) (answer : Answer) (f : FrameTops) → AreLinked old → f.at < 65536
       → Declaring pool code max_locals max_stack old fs before behind (e ∷ es) answer → Declared pool code max_locals max_stack old new behind before e f
       → Declaring pool code max_locals max_stack new (fs ++ f ∷ []) f.locals (f.at + 1) es answer
-  declaring_next old new fs before behind e es answer f k l d =
+  declaring_next old new fs before behind e es answer f k small l d =
       let m = d.made in
       let ts = locals_at old before in
       let at = offset_of (front_of behind) e in
@@ -164,7 +165,7 @@ module _ (pool : List Entry) (code : List (ℕ × Act)) (max_locals max_stack : 
       ap (λ (c : Option Reason). behind_facts done (frame_before pool code max_locals max_stack c at (fact_at ts e) others)) d.free ∙ behind_one done at (fact_at ts e) others in
       record {
         place = m.locals_inside;
-        inside = all_inside new max_locals fs f kept (record { locals = m.locals_inside; stack = m.stack_inside; units = d.units });
+        inside = all_inside new max_locals fs f kept (record { small = small; locals = m.locals_inside; stack = m.stack_inside; units = d.units });
         same = ap (λ (gs : List (ℕ × FrameFact)). behind_facts gs (declared_from pool code max_locals max_stack (front_of (f.at + 1)) (locals_at new f.locals) es)) facts
             ∙ ap (behind_facts (done ++ (at, fact_at ts e) ∷ [])) rest ∙ sym taken ∙ l.same;
       }

@@ -1,8 +1,10 @@
 -- The types of a chain written down, the top one first, and then turned.
-use Rattle.std.proofs.Common.{◌≡◌, ◌∙◌, ℕ, Bool, true, false, List, [], ◌∷◌, ◌++◌, ◌≤◌, map, length, reverse, Some, None, refl, sym, ap, append_assoc, arith}
-use Rattle.std.proofs.lemmas.List.{append-nil, reverse-append, reverse-reverse, map-append, length-map}
+use Rattle.std.proofs.Common.{zero, suc, ◌-◌, take, replicate, ◌≡◌, ◌∙◌, ℕ, Bool, true, false, List, [], ◌∷◌, ◌++◌, ◌≤◌, map, length, reverse, Some, None, refl, sym, ap, append_assoc, arith}
+use Rattle.std.proofs.lemmas.List.{append-nil, reverse-append, reverse-reverse, map-append, length-map, take_all}
 use Rattle.frames.specs.declared.vtype.VType.{VType}
-use Rattle.frames.specs.VerificationType.{VerificationType, type_of}
+use Rattle.frames.specs.declared.vtype.VType.TheVariants.{Top}
+use Rattle.frames.specs.FrameFact.{FrameFact}
+use Rattle.frames.specs.VerificationType.{VerificationType, type_of, top}
 use Rattle.frames.specs.Slots.{in_locals, all_locals}
 use Rattle.frames.specs.HeldFrames.{held_locals}
 use Rattle.frames.specs.DeclaredViews.{locals_at, fact_of, IsInside}
@@ -66,3 +68,19 @@ module _ (links : List Link) (n : ℕ) (f : FrameTops) (inside : IsInside links 
 pub stack_written : (links : List Link) (n : ℕ) (f : FrameTops) (xs : List VType) → map type_of xs ≡ reverse (types_at links f.stack) → reverse (map type_of xs) ≡ (fact_of links n f).stack
 unfolding fact_of
 stack_written links n f xs e = ap (λ (l : List VerificationType). reverse l) e ∙ reverse-reverse (types_at links f.stack)
+
+-- ---- a whole frame
+
+padding : (k : ℕ) → map type_of (replicate k Top) ≡ replicate k top
+padding zero = refl
+padding (suc k) = ap (λ (ts : List VerificationType). top ∷ ts) (padding k)
+
+pub filled_up : (xs : List VType) (n : ℕ) → length xs ≤ n → map type_of (take n xs ++ replicate (n - length xs) Top) ≡ held_locals xs n
+filled_up xs n le =
+    map-append type_of (take n xs) (replicate (n - length xs) Top) ∙ ap (λ (l : List VType). map type_of l ++ map type_of (replicate (n - length xs) Top)) (take_all n xs le)
+    ∙ ap (λ (ts : List VerificationType). map type_of xs ++ ts) (padding (n - length xs))
+
+pub same_fact : (f g : FrameFact) → f.locals ≡ g.locals → f.stack ≡ g.stack → f.flag ≡ g.flag → f ≡ g
+same_fact f g a b c =
+    ap (λ (ts : List VerificationType). record { locals = ts; stack = f.stack; flag = f.flag }) a
+    ∙ ap (λ (ts : List VerificationType). record { locals = g.locals; stack = ts; flag = f.flag }) b ∙ ap (λ (t : Bool). record { locals = g.locals; stack = g.stack; flag = t }) c

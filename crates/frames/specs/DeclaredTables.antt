@@ -1,10 +1,12 @@
 -- The frames that a table of declared frames holds.
-use Rattle.std.specs.Prelude.{◌≡◌, ℕ, List, Result, Ok, Err}
+use Rattle.std.specs.Prelude.{◌≡◌, ℕ, List, map, Result, Ok, Err, Vec}
+use Rattle.std.specs.Global.{Global}
 use Rattle.insn.specs.Offsets.{StartsRise}
-use Rattle.frames.specs.FrameFact.{FrameFact}
+use Rattle.frames.specs.FrameFact.{FrameFact, frame_of}
 use Rattle.frames.specs.Conditions.{Reason, reason}
 use Rattle.frames.specs.FrameReasons.{frame_fault_number}
 use Rattle.frames.specs.DeclaredViews.{fact_of, facts_of}
+use Rattle.frames.specs.declared.frame.Frame.{Frame}
 use Rattle.frames.specs.declared.frame_fault.FrameFault.{FrameFault}
 use Rattle.frames.specs.declared.declared_frames.DeclaredFrames.{DeclaredFrames}
 use Rattle.frames.specs.declared.declared_frames.Declared.{Declared}
@@ -20,10 +22,19 @@ locals_in t = t.max_locals
 unfoldable pub declared_view : Declared → FrameFact
 declared_view d = fact_of d.chains.now.links.items d.max_locals d.tops
 
+-- whole frames, each with its offset
+abbrev pub whole_frames : List (ℕ × Frame) → List (ℕ × FrameFact)
+whole_frames frames = map (λ x. (x.0, frame_of x.1)) frames
+
 -- the frames are told, or the reason against the first that is refused
 abbrev pub IsDeclared : Result (List (ℕ × FrameFact)) Reason → Result DeclaredFrames FrameFault → Type 0
 IsDeclared answer (Ok t) = answer ≡ Ok (frames_in t)
 IsDeclared answer (Err fault) = answer ≡ Err (reason (frame_fault_number fault))
+
+-- the same of whole frames
+abbrev pub AreTold : Result (List (ℕ × FrameFact)) Reason → Result (Vec (ℕ × Frame) Global) FrameFault → Type 0
+AreTold answer (Ok frames) = answer ≡ Ok (whole_frames frames.items)
+AreTold answer (Err fault) = answer ≡ Err (reason (frame_fault_number fault))
 
 -- their offsets rise
 pub frames_rise : (t : DeclaredFrames) → StartsRise 0 (frames_in t)

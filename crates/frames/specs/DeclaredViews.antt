@@ -1,5 +1,5 @@
 -- What a declared frame stands for.
-use Rattle.std.specs.Prelude.{◌≡◌, ◌≤◌, ◌++◌, ℕ, List, length, map, reverse, slice_get, Some}
+use Rattle.std.specs.Prelude.{◌≡◌, ◌<◌, ◌≤◌, ◌++◌, ℕ, List, length, map, reverse, slice_get, Some}
 use Rattle.pool.specs.Entries.{Entry}
 use Rattle.frames.specs.StackMaps.{MapEntry}
 use Rattle.frames.specs.VerificationType.{VerificationType}
@@ -20,8 +20,9 @@ fact_of links max_locals f = record { locals = all_locals max_locals (locals_at 
 unfoldable pub facts_of : List Link → ℕ → List FrameTops → List (ℕ × FrameFact)
 facts_of links max_locals frames = map (λ f. (f.at, fact_of links max_locals f)) frames
 
--- its chains are there, and its locals are no more than there may be
+-- its offset is one of code, its chains are there, and its locals are no more than there may be
 pub record IsInside (links : List Link) (max_locals : ℕ) (f : FrameTops) : Type 0 where
+  pub small : f.at < 65536
   pub locals : f.locals ≤ length links
   pub stack : f.stack ≤ length links
   pub units : units_of (types_at links f.locals) ≤ max_locals

@@ -18,3 +18,4 @@ pub mod Judging
 pub mod DeclaredTables
 pub mod Marks
 pub mod MarkedCode
+pub mod DeclaredForms

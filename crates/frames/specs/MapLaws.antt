@@ -1,8 +1,8 @@
 -- Words of the code's own steps: nothing that a reader must believe rests on them. The formats of a stack map spell exactly what is written.
-use Rattle.std.proofs.Common.{◌≡◌, ℕ, ◌+◌, ◌-◌, ◌^◌, ◌<◌, ◌≤◌, zero, suc, Bool, true, false, cond, Option, Some, None, List, [], ◌∷◌, ◌++◌, length, refl, sym, ap, subst, ◌∙◌, arith}
+use Rattle.std.proofs.Common.{◌≡◌, ℕ, ◌+◌, ◌-◌, ◌<◌, ◌≤◌, zero, suc, Bool, true, false, cond, Option, Some, None, List, [], ◌∷◌, ◌++◌, length, refl, sym, ap, subst, ◌∙◌, arith}
 use Rattle.std.specs.List.{flat_map}
 use Rattle.std.specs.Prelude.{nat_eq, nat_le, if◌then◌else◌, ◌&&◌}
-use Rattle.std.proofs.lemmas.Bool.{eqb-true, eqb-false, ne_eqb, eq-eqb, le-leb, lt-leb, leb-true, leb-false}
+use Rattle.std.proofs.lemmas.Bool.{eqb-true, eqb-false, ne_eqb, le-leb, lt-leb, leb-true, leb-false}
 use Rattle.layout.specs.Format.{AreBytes, Format, done, Spells, andthen, number, times}
 use Rattle.layout.specs.FormatLaws.{AreBytes-parts, andthen_spelled, andthen_parts, number_1, number_2}
 use Rattle.layout.specs.Numbers.{number_below}

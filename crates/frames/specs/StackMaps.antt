@@ -1,9 +1,10 @@
 -- The body of a StackMapTable (JVMS 4.7.4): its entries, which bytes spell them, and what they are written as.
-use Rattle.std.specs.Prelude.{◌≡◌, ℕ, ◌+◌, ◌-◌, ◌<◌, Bool, ◌&&◌, Option, Some, None, List, [], ◌∷◌, ◌++◌, length, nat_eq, nat_le, if◌then◌else◌, ◌⊎◌}
+use Rattle.std.specs.Prelude.{ℕ, ◌+◌, ◌-◌, Bool, ◌&&◌, Option, Some, None, List, [], ◌∷◌, ◌++◌, length, nat_eq, nat_le, if◌then◌else◌}
 use Rattle.std.specs.List.{flat_map}
 use Rattle.layout.specs.declared.fault.ReadFault.{ReadFault}
 use Rattle.layout.specs.declared.fault.ReadFault.TheVariants.{AttributeLength, BadFrameType, BadTypeTag}
-use Rattle.layout.specs.Format.{Format, Spells, FirstFault, done, refuse, andthen, number, times}
+use Rattle.layout.specs.Format.{Format, Spells, done, refuse, andthen, number, times}
+use Rattle.layout.specs.Whole.{WholeFault}
 use Rattle.layout.specs.Pieces.{Piece, unspelled, field}
 use Rattle.layout.specs.PieceLaws.{counted}
 
@@ -67,19 +68,9 @@ stack_map = andthen (number 2) (λ count. times count map_entry)
 abbrev pub IsMap : List ℕ → List MapEntry → Type 0
 IsMap body entries = Spells stack_map body entries
 
--- entries stand in front of the body, and more behind them
-pub record HasMore (body : List ℕ) (at : ℕ) : Type 0 where
-  pub front : List ℕ
-  pub others : List ℕ
-  pub entries : List MapEntry
-  pub spelled : IsMap front entries
-  pub parts : body ≡ front ++ others
-  pub place : length front ≡ at
-  pub some : 0 < length others
-
 -- The first fault: a part that is not whole or breaks its rule, or the first byte left over (12).
 abbrev pub MapFault : List ℕ → ReadFault → Type 0
-MapFault body e = FirstFault stack_map 0 body e ⊎ ((at : ℕ) × (e ≡ AttributeLength at) × HasMore body at)
+MapFault body e = WholeFault stack_map AttributeLength body e
 
 -- ---- what a map is written as: an entry that no frame type stands for has no spelling, but counts with all its parts
 

@@ -9,6 +9,7 @@ ghost use Rattle.frames.specs.DeclaredViews.{IsInside, AreInside, facts_of};
 use crate::after::FrameTops;
 use crate::chain::Chains;
 use crate::compare_frames::both;
+use crate::frame::Frame;
 use crate::vtype::VType;
 use crate::walking::{chain_assignable, write_chain};
 use hierarchy::{Answer, Classes};
@@ -86,6 +87,7 @@ impl<'a> DeclaredFrames<'a> {
     pub fn get(&self, place: usize) -> Option<(u32, Declared<'_, 'a>)>
         ensures frame { option_map (λ x. (x.0, declared_view x.1)) result ≡ slice_get (frames_in self.now) place }
         ensures locals { IfSome result (λ x. length (declared_view x.1).locals ≡ locals_in self.now) }
+        ensures small { IfSome result (λ x. x.0 < 65536) }
     {
         if place >= self.frames.len() {
             return None;
@@ -127,10 +129,11 @@ fn may_have_flag(from: bool, to: bool) -> bool
 }
 
 impl<'n, 'a> Declared<'n, 'a> {
-    ghost use Rattle.std.specs.Prelude.{◌≤◌, length, map, reverse, OnOk};
+    ghost use Rattle.std.specs.Prelude.{◌≤◌, length, map, reverse, OnOk, IfOk};
     ghost use Rattle.hierarchy.specs.Answer.{outcome_of};
     ghost use Rattle.frames.specs.VerificationType.{type_of};
     ghost use Rattle.frames.specs.FrameAssignable.{frame_answer};
+    ghost use Rattle.frames.specs.FrameFact.{frame_of};
     ghost use Rattle.frames.specs.HeldFrames.{held_locals, held_frame};
     ghost use Rattle.frames.specs.DeclaredTables.{declared_view};
 
@@ -172,6 +175,22 @@ impl<'n, 'a> Declared<'n, 'a> {
             answer,
             chain_assignable(stack, self.chains, self.tops.stack, true, classes),
         )
+    }
+
+    /// The frame with all its locals.
+    pub fn to_frame(&self, alloc: Global) -> Result<Frame<'a>, AllocError>
+        ensures { IfOk result (λ f. frame_of f ≡ declared_view self.now) }
+    {
+        let mut locals: Vec<VType<'a>> = Vec::new(alloc);
+        self.write_locals(&mut locals)?;
+        locals.resize(usize::from(self.max_locals), VType::Top)?;
+        let mut stack: Vec<VType<'a>> = Vec::new(alloc);
+        self.write_stack(&mut stack)?;
+        Ok(Frame {
+            locals,
+            stack,
+            flag: self.flag(),
+        })
     }
 
     /// Writes the locals to a vector in place of what it holds, by units: a long or double is its type and then top.

@@ -1,4 +1,5 @@
-//! What the answers of the comparisons mean.
+//! What the answers of the comparisons mean, and that declared frames tell the same in both of their forms.
+ghost use Rattle.frames.specs.DeclaredForms.{FormsAgree};
 ghost use Rattle.frames.specs.Meaning.{ClassesHaveOneAnswer, TypesMean, FramesHaveOneAnswer, FramesToThemselves};
 
 /// A comparison of two classes has one answer, by the chain of superclasses.
@@ -20,4 +21,10 @@ pub fn frames_have_one_answer()
 /// Each frame is assignable to itself.
 pub fn frames_to_themselves()
     ensures { FramesToThemselves }
+{}
+
+/// The frames of a table that [`declare`](crate::declare) makes are the whole frames that
+/// [`declared`](crate::declared) tells, and where one refuses, so does the other, by the same number.
+pub fn forms_agree()
+    ensures { FormsAgree }
 {}

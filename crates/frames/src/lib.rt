@@ -1,6 +1,6 @@
-//! Verification types and frames, and when one may stand where another is wanted. Proved against the answers in
-//! specs/Assignable.antt and specs/FrameAssignable.antt (JVMS 4.10.1.2 and 4.10.1.4). The call to know is
-//! [`frame_assignable`].
+//! Verification types and frames, and when one may stand where another is wanted; stack maps. Proved against the answers in
+//! specs/Assignable.antt and specs/FrameAssignable.antt (JVMS 4.10.1.2 and 4.10.1.4), and the formats in specs/StackMaps.antt (4.7.4).
+//! The calls to know are [`frame_assignable`] and [`read_map`].
 //!
 //! - `after`: the locals and the stack that an entry of a stack map leaves.
 //! - `chain`: types that share what lies below, as the locals of entries do.
@@ -13,12 +13,13 @@
 //! - `frame`: frames.
 //! - `frame_fault`: why an entry is refused.
 //! - `laws`: what the answers mean, by chains of superclasses and place by place.
-//! - `map_reading`, `map_writing`: the entries of a stack map read and written.
+//! - `map_reading`, `map_writing`: the two directions of a stack map.
 //! - `refusing`: an entry judged.
-//! - `stack_map`: the entries of a stack map.
+//! - `stack_map`: stack maps, and `read_map`.
 //! - `starts`: where instructions begin.
 //! - `vtype`: verification types.
 //! - `walking`: chains gone through.
+//! - `whole_frames`: declared frames with all their locals.
 #![tactic(auto)]
 
 mod after;
@@ -39,6 +40,7 @@ mod stack_map;
 mod starts;
 mod vtype;
 mod walking;
+mod whole_frames;
 
 pub use code_starts::CodeStarts;
 pub use compare::assignable;
@@ -50,3 +52,4 @@ pub use frame_fault::FrameFault;
 pub use stack_map::{MapEntry, StackMap, TypeInfo, read_map};
 pub use starts::Starts;
 pub use vtype::VType;
+pub use whole_frames::declared;

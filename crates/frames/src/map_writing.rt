@@ -3,7 +3,7 @@ ghost use Rattle.std.specs.Prelude.{◌≡◌, ◌++◌, length, map};
 ghost use Rattle.std.specs.List.{flat_map};
 ghost use Rattle.layout.specs.Pieces.{Goes, Delivers, field};
 ghost use Rattle.layout.specs.PieceLaws.{counted};
-ghost use Rattle.frames.specs.StackMaps.{tag_of, type_pieces, frame_type, frame_type_pieces, behind_pieces, entry_pieces, map_pieces};
+ghost use Rattle.frames.specs.StackMaps.{type_pieces, frame_type, frame_type_pieces, behind_pieces, entry_pieces, map_pieces};
 ghost use Rattle.frames.specs.MapViews.{info_of, entry_of};
 
 use crate::stack_map::{MapEntry, StackMap, TypeInfo};

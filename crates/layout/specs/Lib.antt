@@ -3,6 +3,7 @@ pub mod Refusals
 pub mod Faults
 pub mod Format
 pub mod FormatLaws
+pub mod Whole
 pub mod Numbers
 pub mod Pieces
 pub mod PieceLaws

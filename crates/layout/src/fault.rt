@@ -30,7 +30,7 @@ pub enum ReadFault {
     #[error("refused 11 {major}.{minor}")]
     BadVersion { major: u16, minor: u16 },
     /// 12: the attribute whose name index stands at `at` does not use exactly its length (JVMS
-    /// 4.7).
+    /// 4.7); where a stack map's body is read alone, bytes are left over from `at` on (4.7.4).
     #[error("refused 12 at {at}")]
     AttributeLength { at: usize },
     /// 13: bytes stand behind the end, from `at` on.

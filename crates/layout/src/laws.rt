@@ -1,9 +1,10 @@
 //! Laws of formats and of pieces, for values of any type. The functions do nothing: their contracts
 //! are the laws.
 
-ghost use Rattle.std.specs.Prelude.{◌≡◌, ◌+◌, ◌-◌, ◌≤◌, ◌<◌, ℕ, List, [], ◌++◌, length, Ok, Err, Some, None};
+ghost use Rattle.std.specs.Prelude.{◌≡◌, ◌+◌, ◌-◌, ◌≤◌, ◌<◌, ◌⊎◌, ℕ, List, [], ◌++◌, length, Ok, Err, Some, None};
 ghost use Rattle.layout.specs.Place.{Place, Took};
 ghost use Rattle.layout.specs.Format.{AreBytes, Format, Spells, FirstFault, done, inside, reads, settled};
+ghost use Rattle.layout.specs.Whole.{WholeFault};
 ghost use Rattle.layout.specs.Pieces.{Piece, cannot, text};
 ghost use Rattle.layout.specs.PieceLaws.{Writes};
 ghost use Rattle.layout.specs.declared.fault.ReadFault.{ReadFault};
@@ -41,6 +42,17 @@ pub fn body_is_whole<A, V>()
         → length body ≤ at
         → reads (inside n body f (λ v. done (make v))) at bytes
         ≡ settled (at - n - 6) make (record { at = at; rest = bytes }) (reads f (at - length body) body) }
+{}
+
+/// Bytes that are to be one spelling, all of them, are one or have a first fault: never both, and one fault alone. Bytes that are
+/// left over are a fault as `behind` tells it.
+pub fn whole_is_spelling<V>()
+    ensures either { (f : Format V) (behind : ℕ → ReadFault) (bytes : List ℕ)
+        → ((v : V) × Spells f bytes v) ⊎ ((e : ReadFault) × WholeFault f behind bytes e) }
+    ensures apart { (f : Format V) (behind : ℕ → ReadFault) (bytes : List ℕ) (v : V) (e : ReadFault)
+        → Spells f bytes v → WholeFault f behind bytes e → ⊥ }
+    ensures one { (f : Format V) (behind : ℕ → ReadFault) (bytes : List ℕ) (d e : ReadFault)
+        → WholeFault f behind bytes d → WholeFault f behind bytes e → d ≡ e }
 {}
 
 /// Where a format spells the values whose pieces are plain, a value is refused exactly where no

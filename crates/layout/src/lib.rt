@@ -23,7 +23,7 @@ mod part;
 
 pub use cursor::Cursor;
 pub use fault::{ReadFault, StreamFault, WriteFault};
-pub use laws::{body_is_whole, reading_is_spelling, writing_is_spelling};
+pub use laws::{body_is_whole, reading_is_spelling, whole_is_spelling, writing_is_spelling};
 pub use limits::{MAX_CLASS_BYTES, MAX_CODE_BYTES};
 pub use lists::{many, whole};
 pub use output::Output;

@@ -11,7 +11,7 @@ use std::alloc::Global;
 /// Takes `count` parts, one behind the other, or answers the first fault, or 1. After an error the
 /// cursor stands somewhere in between.
 ///
-/// Memory grows as parts are read: the count is not believed before their bytes are there.
+/// Room is asked for as many as there are bytes left, and no more: a count is not believed before bytes are there.
 pub fn many<'a, T: Part<'a> + Drop>(
     alloc: Global,
     cursor: &mut Cursor<'a>,
@@ -19,7 +19,8 @@ pub fn many<'a, T: Part<'a> + Drop>(
 ) -> Result<Vec<T>, ReadFault>
     ensures { GoesOn (times count T.format) (λ v. map T.view v.items) cursor.old cursor.new result }
 {
-    let mut out = Vec::new(alloc);
+    let most = cursor.rest().len();
+    let mut out = Vec::with_capacity(alloc, most.min(count as usize))?;
     for _ in 0..count {
         let one = T::take(alloc, cursor)?;
         out.push(one)?;

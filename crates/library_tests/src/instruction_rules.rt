@@ -3,9 +3,9 @@ use crate::making::{OUT_OF_MEMORY, frame, hasher, object};
 use classfile::{ClassFile, Formed, decode, form_check};
 use frames::{Frame, VType};
 use hierarchy::{Chains, Classes};
-use insn::{Insn, decode_code};
+use insn::{Branches, Insn, decode_code};
 use layout::MAX_CODE_BYTES;
-use rules::{After, Branches, Env, apply, branches, falls};
+use rules::{After, Env, apply, branches, falls};
 use std::alloc::Global;
 use std::test::*;
 

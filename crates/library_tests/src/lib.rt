@@ -10,6 +10,7 @@
 //! | `code_forms` | `insn`: the form of each instruction |
 //! | `superclasses` | `hierarchy`: lists of classes, and summaries of class files |
 //! | `assignability` | `frames`: one type or frame where another is wanted |
+//! | `stack_maps` | `frames`: stack maps both ways |
 //! | `instruction_rules` | `rules`: single instructions |
 //! | `machine_steps` | `machine`: single steps |
 //! | `verdicts` | `verify`: verdicts and reports |
@@ -49,6 +50,8 @@ mod making;
 mod parts;
 #[cfg(test)]
 mod printed_text;
+#[cfg(test)]
+mod stack_maps;
 #[cfg(test)]
 mod superclasses;
 #[cfg(test)]

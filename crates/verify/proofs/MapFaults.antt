@@ -40,7 +40,7 @@ body_fault body fault (Ok x) r h = by (nat_eq (length x.1.rest) 0) refl h
           record {
             front = s.0;
             others = x.1.rest;
-            entries = x.0;
+            value = x.0;
             spelled = s.1;
             parts = s.2.parts;
             place = omega (arith, s.2.at);

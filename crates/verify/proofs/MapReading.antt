@@ -6,7 +6,8 @@ use Rattle.layout.specs.FormatLaws.{spelled_reads, fault_reads}
 use Rattle.layout.specs.declared.fault.ReadFault.{ReadFault}
 use Rattle.layout.specs.declared.fault.ReadFault.TheVariants.{OutOfMemory, AttributeLength}
 use Rattle.layout.specs.Faults.{UnlessMemory}
-use Rattle.frames.specs.StackMaps.{MapEntry, IsMap, stack_map, MapFault, HasMore}
+use Rattle.layout.specs.Whole.{HasMore}
+use Rattle.frames.specs.StackMaps.{MapEntry, IsMap, stack_map, MapFault}
 use Rattle.frames.specs.VerificationType.{VerificationType}
 use Rattle.frames.specs.Conditions.{Reason}
 use Rattle.frames.specs.DeclaredFrames.{declared_frames}
@@ -17,14 +18,14 @@ use Rattle.verify.specs.TypeSafety.{Frames}
 use Rattle.verify.proofs.Premises.{entries_there}
 use Rattle.verify.specs.Verdict.{unreadable, all_entries, entries_read, or_undeclared, frames_of, frames_declared}
 
-more_there : (body : List ℕ) (at : ℕ) → HasMore body at → entries_read (Some body) ≡ Err (AttributeLength at)
+more_there : (body : List ℕ) (at : ℕ) → HasMore stack_map body at → entries_read (Some body) ≡ Err (AttributeLength at)
 more_there body at h =
-    let read = spelled_reads stack_map 0 h.front h.others h.entries h.spelled in
+    let read = spelled_reads stack_map 0 h.front h.others h.value h.spelled in
     let some : nat_eq (length h.others) 0 ≡ false = grind (arith, nat_tests, h.some) in
     let place : 0 + length h.front ≡ at = omega (arith, h.place) in
     subst (λ z. entries_read (Some z) ≡ Err (AttributeLength at)) (sym h.parts)
     (ap all_entries read
-    ∙ ap (λ (b : Bool). let r : Result (List MapEntry) ReadFault = if b then Ok h.entries else Err (AttributeLength (0 + length h.front)) in r) some
+    ∙ ap (λ (b : Bool). let r : Result (List MapEntry) ReadFault = if b then Ok h.value else Err (AttributeLength (0 + length h.front)) in r) some
     ∙ ap (λ (n : ℕ). let r : Result (List MapEntry) ReadFault = Err (AttributeLength n) in r) place)
 
 pub fault_there : (body : List ℕ) (fault : ReadFault) → MapFault body fault → entries_read (Some body) ≡ Err fault

@@ -51,7 +51,7 @@ loop-entry-preserved g c =
     let small : f.at < 65536 = rw c.in-Ok.is at c.in_ok-fault.ensures.small in (
       omega (arith, small),
       subst (λ (fs : List FrameTops). Declaring pool code m.max_locals m.max_stack new fs f.locals (f.at + 1) (map entry_of (drop (i + 1) es)) answer) (sym c.in_ok-push-in-Ok.ensures.items)
-          (declaring_next pool code m.max_locals m.max_stack old.links.items new c.loop-entry.frames.items c.loop-entry.before c.loop-entry.behind (entry_of x) (map entry_of (drop (i + 1) es)) answer f old.linked before
+          (declaring_next pool code m.max_locals m.max_stack old.links.items new c.loop-entry.frames.items c.loop-entry.before c.loop-entry.behind (entry_of x) (map entry_of (drop (i + 1) es)) answer f old.linked small before
           (rw c.in-Ok.is at c.in_ok-fault.ensures.declares)),
     )
 
