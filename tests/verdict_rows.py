@@ -1,8 +1,8 @@
 """Methods and lists of classes, and what `classck verify` says of each: JVMS 4.10.1 and 5.3.5."""
 from dataclasses import replace
 
-from assembler import NATIVE, STATIC, code_of, integer, long, name_and_type, named, reference, utf8
-from class_k import K, OBJECT_CLASS, code_f, method_f, stack_map, with_constant
+from assembler import NATIVE, STATIC, attribute, code_of, integer, long, name_and_type, named, reference, utf8
+from class_k import K, OBJECT_CLASS, code_f, method_f, with_constant
 
 CLONEABLE = "java/lang/Cloneable"
 
@@ -192,7 +192,7 @@ def mapped_verdicts():
             sizes, code, body, verdict = (it.strip() for it in line.split("|"))
             descriptor, stack, variables = sizes.split()
             nested = [attribute(14, bytes.fromhex(body))]
-            method = member(STATIC, 5, 6, code_attribute(7, code_of(code), int(stack), int(variables), nested=nested))
+            method = method_f(code_f(code_of(code), stack=int(stack), variables=int(variables), nested=nested), flags=STATIC)
             files = [class_of(descriptor, method, utf8("StackMapTable")), OBJECT_CLASS]
             yield f"{sizes} {code} with {body}", files, f"method f {descriptor} {verdict}"
 
