@@ -120,7 +120,10 @@ pub fn deed_of<'a>(act: Act<'a>, method: &Method<'_, '_>) -> Deed<'a>
         Act::Stack(operator) => Deed::Moves(operator),
         Act::IfInt { offset } => branches_if(Needs::Numbers(&[Kind::Int]), offset),
         Act::IfInts { offset } => branches_if(Needs::Numbers(&[Kind::Int, Kind::Int]), offset),
-        Act::IfReferences { offset } => branches_if(Needs::Operands(&[Need::Reference, Need::Reference]), offset),
+        Act::IfReferences { offset } => branches_if(
+            Needs::Operands(&[Need::Reference, Need::Reference]),
+            offset,
+        ),
         Act::IfNull { offset } => branches_if(Needs::Operands(&[Need::Reference]), offset),
         Act::Goto { offset } => branches(Needs::Numbers(&[]), Branches::One(offset), false),
         Act::Switch { default, targets } => branches(

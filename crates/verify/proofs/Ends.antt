@@ -118,7 +118,7 @@ module _ (classes : List ClassFact) (m : Method Act) (frames : Frames) (at : ℕ
   -- no handlers
   alone : (p : Plan) (next : Option ℕ) → m.exceptions ≡ []
       → least (at_conditions classes m frames at p next f)
-          ≡ merge (least (conditions classes m at p f)) (merge (least (ways_of p (targets at p))) (least (end (falls p && is_none next))))
+      ≡ merge (least (conditions classes m at p f)) (merge (least (ways_of p (targets at p))) (least (end (falls p && is_none next))))
   alone p next none =
       ap (λ (z : List ExceptionEntry). least (all z)) none
       ∙ least_append (conditions classes m at p f) (ways_of p (targets at p) ++ last)
@@ -138,7 +138,7 @@ module _ (classes : List ClassFact) (m : Method Act) (frames : Frames) (at : ℕ
 
   both : (p : Plan) (next : Option ℕ) → m.exceptions ≡ []
       → least (at_conditions classes m frames at p next f)
-          ≡ least (conditions classes m at p f ++ (ways_of p (targets at p) ++ end (falls p && is_none next)))
+      ≡ least (conditions classes m at p f ++ (ways_of p (targets at p) ++ end (falls p && is_none next)))
   both p next none =
       let cs = conditions classes m at p f in
       let ts = ways_of p (targets at p) in

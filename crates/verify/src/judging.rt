@@ -50,7 +50,10 @@ fn judge<'a, C: Classes>(
     let end = check_end(falls, last);
     let branches = branches_by(&act);
     match run(method, at, act, frame, classes) {
-        Ok(()) => together(check_targets(at, branches, frame, frames, seen, classes), end),
+        Ok(()) => together(
+            check_targets(at, branches, frame, frames, seen, classes),
+            end,
+        ),
         Err(reason) => Err(first_reason(reason, end)),
     }
 }

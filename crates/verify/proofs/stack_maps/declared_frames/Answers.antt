@@ -51,7 +51,8 @@ returns-clause-told c =
     ap (λ bytes. declared_frames pool (acts (instructions_in bytes)) m.max_locals m.max_stack (map type_of ts) (map entry_of es)) c.in_ok-starts.ensures
     ∙ ap (λ types. declared_frames pool m.code m.max_locals m.max_stack (map type_of types) (map entry_of es)) c.deref.ensures.value
     ∙ ap (λ entries. declared_frames pool m.code m.max_locals m.max_stack (map type_of c.in_ok-types.types.items) entries) c.entries.ensures in
-    let declared = subst (IsDeclared _) c.in-Err-declared.is c.in_ok-declared.ensures.declared in
-    (undeclared (reason (frame_fault_number c.in-Err-declared.fault)),
-    readable_map m c.in-Some.body.now here _ (map type_of c.in_ok-types.types.items) (Err (reason (frame_fault_number c.in-Err-declared.fault))) c.in-Ok.ensures.found same (sym given ∙ declared),
-    c.number.ensures)
+    let declared = subst (IsDeclared _) c.in-Err-declared.is c.in_ok-declared.ensures.declared in (
+      undeclared (reason (frame_fault_number c.in-Err-declared.fault)),
+      readable_map m c.in-Some.body.now here _ (map type_of c.in_ok-types.types.items) (Err (reason (frame_fault_number c.in-Err-declared.fault))) c.in-Ok.ensures.found same (sym given ∙ declared),
+      c.number.ensures,
+    )
