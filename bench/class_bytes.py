@@ -15,9 +15,9 @@ def class_file(methods, names=()):
     return head + struct.pack(">HHHHHH", 0x21, 1, 3, 0, 0, len(methods)) + b"".join(methods) + bytes(2)
 
 
-def full_frame(delta, locals_given):
-    """An entry of a stack map that gives all locals, by the bytes of their types, each of one byte, and nothing on the stack."""
-    return b"\xff" + struct.pack(">HH", delta, len(locals_given)) + locals_given + bytes(2)
+def full_frame(delta, locals_given, stack_given=b""):
+    """An entry of a stack map that gives all locals and the stack, by the bytes of their types, each of one byte."""
+    return b"\xff" + struct.pack(">HH", delta, len(locals_given)) + locals_given + struct.pack(">H", len(stack_given)) + stack_given
 
 
 def stack_map(entries):

@@ -6,6 +6,7 @@ numbers of the rules that are broken there; the first place with one is told, wi
 import re
 
 UTF8, CLASS, STRING, FIELD, METHOD, INTERFACE_METHOD, NAME_AND_TYPE = 1, 7, 8, 9, 10, 11, 12
+INTEGER, FLOAT, LONG, DOUBLE = 3, 4, 5, 6
 METHOD_HANDLE, METHOD_TYPE, DYNAMIC, INVOKE_DYNAMIC = 15, 16, 17, 18
 
 # Forms of names (4.2) and descriptors (4.3); an array has at most 255 dimensions.
@@ -128,19 +129,32 @@ def reference_rules(pool, tag, owner, name_and_type):
 
 
 def attribute_rules(pool, attributes):
-    """What is wrong with attributes: their names, and what Code attributes hold (4.7.3)."""
+    """What is wrong with attributes: their names, the indices among their numbers, and what Code attributes hold (4.7)."""
     rules = set()
-    codes = [code for _, code in attributes if code is not None]
-    for name, _ in attributes:
-        rules |= pool.asked(name, UTF8)
+    codes = [it["code"] for it in attributes if it["code"] is not None]
+    for it in attributes:
+        rules |= pool.asked(it["name"], UTF8)
+        for letter, number in it["numbers"]:
+            rules |= number_rules(pool, letter, number)
     for length, catches, nested in codes:
-        for name, _ in nested:
-            rules |= pool.asked(name, UTF8)
+        rules |= attribute_rules(pool, nested)
         for catch in catches:
             rules |= pool.asked(catch, CLASS) if catch else set()
         rules |= when(29, not 1 <= length <= 65535)
-        rules |= when(30, sum(is_stack_map for _, is_stack_map in nested) > 1)
-    return rules | when(30, len(codes) > 1)
+        rules |= when(30, sum(it["text"] == b"StackMapTable" for it in nested) > 1)
+    once = [it["text"] for it in attributes if it["once"]]
+    return rules | when(30, len(codes) > 1 or len(set(once)) < len(once))
+
+
+# Of which kinds the constants are that a letter of attribute_table.py asks for.
+ASKED = {"u": [UTF8], "c": [CLASS], "v": [INTEGER, FLOAT, LONG, DOUBLE, STRING]}
+
+
+def number_rules(pool, letter, number):
+    """What is wrong with a number of an attribute."""
+    if letter == "n" or (letter.isupper() and number == 0):
+        return set()
+    return pool.asked(number, *ASKED[letter.lower()])
 
 
 def class_rules(pool, file):
@@ -207,7 +221,7 @@ def method_rules(pool, method, earlier, is_interface):
         bad = has_two_accesses(flags) or (flags & 0x0400 and flags & (0x0002 | 0x0008 | 0x0010 | 0x0020 | 0x0100))
         bad = bad or (init and flags & (0x0008 | 0x0010 | 0x0020 | 0x0040 | 0x0100 | 0x0400))
     rules |= when(24, bad)
-    has_code = any(code is not None for _, code in method["attributes"])
+    has_code = any(it["code"] is not None for it in method["attributes"])
     needs_code = clinit or not flags & (0x0100 | 0x0400)
     return rules | when(26, needs_code and not has_code) | when(27, has_code and not needs_code)
 

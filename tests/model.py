@@ -1,9 +1,10 @@
 """The layout of class files once more, read from the standard and not from the program: what `classck check` should print.
 
 It follows The Java Virtual Machine Specification, Java SE 17, 4.1, 4.4 to 4.7: the parts in the order of the file, up to
-the first that is not whole (2, or 12 in the body of a Code attribute) or that breaks its rule. What is a class file by its
+the first that is not whole (2, or 12 in the body of an attribute) or that breaks its rule. What is a class file by its
 layout is judged by form.py.
 """
+from attribute_table import row_of
 from form import first_fault
 
 LIMIT = 16_777_216
@@ -109,16 +110,21 @@ def code(reader, constants):
     catches = []
     for _ in range(reader.number(2)):
         catches.append([reader.number(2) for _ in range(4)][3])
-    nested = attributes(reader, constants, is_method=False)
-    return length, catches, [(name, is_named(constants, name, b"StackMapTable")) for name, _ in nested]
+    return length, catches, attributes(reader, constants, "code")
 
 
-def is_named(constants, index, text):
-    return index in constants and constants[index][2] == text
+def text_at(constants, index):
+    return constants[index][2] if index in constants else None
 
 
-def attributes(reader, constants, is_method):
-    """Attributes: the index of the name of each, and what a Code attribute holds, where it is one."""
+def numbers_of(reader, letters):
+    """The numbers of an attribute (see attribute_table.py), each with its letter."""
+    count = reader.number(2) if letters.startswith("*") else 1
+    return [(letter, reader.number(2)) for _ in range(count) for letter in letters.strip("*")]
+
+
+def attributes(reader, constants, place, major=51):
+    """Attributes: the name's index and the name of each, what a Code attribute holds, and numbers, where it is one of these."""
     found = []
     for _ in range(reader.number(2)):
         name_at = reader.at
@@ -126,23 +132,28 @@ def attributes(reader, constants, is_method):
         size = reader.number(4)
         start = reader.at
         reader.part(size)
-        body = None
-        if is_method and is_named(constants, name, b"Code"):
+        text = text_at(constants, name)
+        is_code, row = (place, text) == ("method", b"Code"), row_of(place, text, major)
+        one = {"name": name, "text": text, "code": None, "once": False, "numbers": []}
+        if is_code or row is not None:
             outer, reader.at, reader.end, reader.name_at = (reader.end, reader.name_at), start, start + size, name_at
-            body = code(reader, constants)
+            if is_code:
+                one |= {"code": code(reader, constants)}
+            else:
+                one |= {"once": row[0], "numbers": numbers_of(reader, row[1])}
             if reader.at != reader.end:
                 raise Refused(f"12 at {name_at}")
             reader.end, reader.name_at = outer
-        found.append((name, body))
+        found.append(one)
     return found
 
 
-def members(reader, constants, is_method):
+def members(reader, constants, place):
     """Fields or methods."""
     found = []
     for _ in range(reader.number(2)):
         flags, name, descriptor = (reader.number(2) for _ in range(3))
-        found.append({"flags": flags, "name": name, "descriptor": descriptor, "attributes": attributes(reader, constants, is_method)})
+        found.append({"flags": flags, "name": name, "descriptor": descriptor, "attributes": attributes(reader, constants, place)})
     return found
 
 
@@ -156,11 +167,11 @@ def class_file(reader):
     constants = pool(reader)
     flags, this, above = (reader.number(2) for _ in range(3))
     interfaces = [reader.number(2) for _ in range(reader.number(2))]
-    fields = members(reader, constants, is_method=False)
-    methods = members(reader, constants, is_method=True)
+    fields = members(reader, constants, "field")
+    methods = members(reader, constants, "method")
     file = {"major": major, "constants": constants, "flags": flags, "this": this, "super": above}
     file |= {"interfaces": interfaces, "fields": fields, "methods": methods}
-    file["attributes"] = attributes(reader, constants, is_method=False)
+    file["attributes"] = attributes(reader, constants, "class", major)
     if reader.at != reader.end:
         raise Refused(f"13 at {reader.at}")
     return file

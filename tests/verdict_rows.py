@@ -1,8 +1,9 @@
 """Methods and lists of classes, and what `classck verify` says of each: JVMS 4.10.1 and 5.3.5."""
 from dataclasses import replace
 
-from assembler import NATIVE, STATIC, attribute, code_of, integer, long, name_and_type, named, reference, utf8
+from assembler import NATIVE, OBJECT, STATIC, attribute, code_of, integer, long, name_and_type, named, reference, utf8
 from class_k import K, OBJECT_CLASS, code_f, method_f, with_constant
+from reference_rows import with_references
 
 CLONEABLE = "java/lang/Cloneable"
 
@@ -14,11 +15,11 @@ VERDICTS = """
 ()V  0 0 | nop | refused 71 at 0
 ()V  1 0 | pop; return | refused 61 at 0
 ()V  0 0 | return; nop; return | refused 70 at 1
-()V  0 0 | nop; bytes ca | refused 79 at 1
-()V  0 0 | bytes 12 | refused 79 at 0
-()V  0 0 | bytes ab 000000 0000000c ffffffff | refused 79 at 0
-()V  0 0 | bytes c400 | refused 79 at 0
-()V  0 0 | bytes b9 0001 01 01 | refused 79 at 0
+()V  0 0 | nop; bytes ca | refused 79 at 1 fault 31
+()V  0 0 | bytes 12 | refused 79 at 0 fault 32
+()V  0 0 | bytes ab 000000 0000000c ffffffff | refused 79 at 0 fault 33
+()V  0 0 | bytes c400 | refused 79 at 0 fault 34
+()V  0 0 | bytes b9 0001 01 01 | refused 79 at 0 fault 35
 ()V  0 0 | goto 3; return | refused 67 at 0
 ()V  0 0 | bytes a80003; return | refused 60 at 0
 ()V  0 0 | goto 1; return | refused 67 at 0
@@ -130,7 +131,7 @@ MAPPED = """
 ()V 1 0 | lconst_0; bytes aa 0000 00000013 00000000 00000000 00000013; return | 0001 14 | refused 65 at 0
 ()V 2 0 | lconst_0; bytes aa 0000 00000013 00000000 00000000 00000013; return | 0001 14 | refused 62 at 1
 # what the entries say: append, chop, full, and an item of the stack
-(IJ)V 0 4 | nop; nop; nop; return | 0003 fc00000100 | refused 78 at 0
+(IJ)V 0 4 | nop; nop; nop; return | 0003 fc00000100 | refused 78 at 0 fault 2
 (IJ)V 0 4 | nop; nop; nop; return | 0003 fc000000 fa0000 00 | verified
 (IJ)V 0 4 | nop; nop; nop; return | 0003 f90000 fc000001 00 | refused 69 at 1
 (IJ)V 0 4 | nop; nop; nop; return | 0002 ff0000000201040000 00 | verified
@@ -141,26 +142,26 @@ MAPPED = """
 ()V 1 0 | nop; iconst_0; pop; return | 0001 f7000201 | verified
 ()V 1 0 | nop; iconst_0; pop; return | 0001 f7000202 | refused 69 at 2
 # a map that is refused: by its bytes, and by an entry
-()V 0 0 | nop; return | 00 | refused 78 at 0
-()V 0 0 | nop; return | 0001 | refused 78 at 0
-()V 0 0 | nop; return | 0001 80 | refused 78 at 0
-()V 0 0 | nop; return | 0001 4009 | refused 78 at 0
-()V 0 0 | nop; return | 0001 00 00 | refused 78 at 0
-()V 0 0 | nop; return | 0001 fc000001 | refused 78 at 0
-()V 0 1 | nop; return | 0001 fc000004 | refused 78 at 0
-()V 0 0 | nop; return | 0001 4001 | refused 78 at 0
-()V 1 0 | nop; return | 0001 4004 | refused 78 at 0
-()V 0 0 | nop; return | 0001 fa0000 | refused 78 at 0
-()V 0 0 | bytes 1105 00; return | 0001 01 | refused 78 at 0
-()V 0 0 | nop; return | 0001 05 | refused 78 at 0
-()V 1 0 | nop; return | 0001 40080000 | refused 78 at 0
-()V 1 0 | nop; return | 0001 40070000 | refused 78 at 0
-()V 1 0 | nop; return | 0001 40070002 | refused 78 at 0
+()V 0 0 | nop; return | 00 | refused 78 at 0 fault 2
+()V 0 0 | nop; return | 0001 | refused 78 at 0 fault 2
+()V 0 0 | nop; return | 0001 80 | refused 78 at 0 fault 47
+()V 0 0 | nop; return | 0001 4009 | refused 78 at 0 fault 48
+()V 0 0 | nop; return | 0001 00 00 | refused 78 at 0 fault 12
+()V 0 0 | nop; return | 0001 fc000001 | refused 78 at 0 fault 49
+()V 0 1 | nop; return | 0001 fc000004 | refused 78 at 0 fault 49
+()V 0 0 | nop; return | 0001 4001 | refused 78 at 0 fault 50
+()V 1 0 | nop; return | 0001 4004 | refused 78 at 0 fault 50
+()V 0 0 | nop; return | 0001 fa0000 | refused 78 at 0 fault 51
+()V 0 0 | bytes 1105 00; return | 0001 01 | refused 78 at 0 fault 52
+()V 0 0 | nop; return | 0001 05 | refused 78 at 0 fault 52
+()V 1 0 | nop; return | 0001 40080000 | refused 78 at 0 fault 53
+()V 1 0 | nop; return | 0001 40070000 | refused 78 at 0 fault 8
+()V 1 0 | nop; return | 0001 40070002 | refused 78 at 0 fault 9
 ()V 0 0 | return; new 3; pop; return | 0001 01 | refused 60 at 1
 # the parameters go before the map, and the map before the code
 (J)V 0 1 | return | 00 | refused 64 at 0
-()V 0 0 | pop | 0001 | refused 78 at 0
-()V 0 0 | nop; bytes ca | 0001 | refused 79 at 1
+()V 0 0 | pop | 0001 | refused 78 at 0 fault 2
+()V 0 0 | nop; bytes ca | 0001 | refused 79 at 1 fault 31
 """
 
 
@@ -200,7 +201,6 @@ def mapped_verdicts():
 def left_out():
     """Methods that are not judged yet, and those without code."""
     for what, method, verdict in (
-        ("a method of instances", method_f(code_f(variables=1), flags=0), "refused 60 at 0"),
         ("an exception table", method_f(code_f(handlers=[(0, 1, 0, 0)]), flags=STATIC), "refused 60 at 0"),
         ("a native method", method_f(flags=STATIC | NATIVE), "no code"),
     ):
@@ -213,6 +213,7 @@ def hierarchies():
     a, b, x = (named(name, above).data() for name, above in (("A", "B"), ("B", "A"), ("X", "A")))
     own = [named(name, name).data() for name in ("B", "A")]
     below = [named(name).data() for name in ("A", "B")]
+    below_a, final = with_constant(4, utf8("A")).data(), named(OBJECT, above=None, flags=0x0031).data()
     for what, files, line in (
         ("K below Object", [k, OBJECT_CLASS], "method f ()V verified"),
         ("no Object", [k], "hierarchy refused 42 K"),
@@ -223,6 +224,12 @@ def hierarchies():
         ("A below B, which is missing", [k, OBJECT_CLASS, a], "hierarchy refused 42 A"),
         ("Cloneable as a class", [k, OBJECT_CLASS, named(CLONEABLE).data()], f"hierarchy refused 44 {CLONEABLE}"),
         ("Cloneable as an interface", [k, OBJECT_CLASS, named(CLONEABLE, flags=0x0601).data()], "method f ()V verified"),
+        ("K below Object, which is final", [k, final], "class refused 81"),
+        ("K below A, which is final", [below_a, named("A", flags=0x0031).data(), OBJECT_CLASS], "class refused 81"),
+        ("a class without methods below a final one", [named("A").data(), final], "class refused 81"),
+        ("K below A, which is below a final Object", [below_a, named("A").data(), final], "method f ()V verified"),
+        ("K, which is final", [replace(K, flags=0x0031).data(), OBJECT_CLASS], "method f ()V verified"),
+        ("K below Object, which is final and stands twice", [k, final, final], "hierarchy refused 40 java/lang/Object"),
         ("K that is cut", [k[:96], OBJECT_CLASS], "class refused 2 at 95"),
         ("K with a broken rule", [replace(K, flags=0x0221).data(), OBJECT_CLASS], "class refused 24 class"),
         ("a known class that is cut", [k, OBJECT_CLASS, cut], "known 2 refused 2 at 44"),
@@ -233,5 +240,5 @@ def hierarchies():
 
 def verified():
     """What each list of files is, their bytes, and the line of it."""
-    for table in (verdicts, mapped_verdicts, left_out, hierarchies):
+    for table in (verdicts, mapped_verdicts, with_references, left_out, hierarchies):
         yield from table()

@@ -1,6 +1,6 @@
 -- What is said for `verify` is one.
 use Rattle.std.proofs.Common.{◌≡◌, ℕ, zero, suc, ◌+◌, ◌<◌, List, [], ◌∷◌, ◌++◌, length, map, Option, Some, None, refl, sym, ◌∙◌, ap, subst, inl, inr, arith}
-use Rattle.std.specs.Prelude.{◌⊎◌, ◌||◌, Bool, if◌then◌else◌, slice_get, codes, decimal}
+use Rattle.std.specs.Prelude.{◌⊎◌, ◌||◌, Bool, true, false, if◌then◌else◌, slice_get, codes, decimal}
 use Rattle.std.specs.List.{flat_map, list_any}
 use Rattle.std.proofs.lemmas.Bool.{cases_order}
 use Rattle.std.proofs.lemmas.Option.{none-some}
@@ -10,7 +10,10 @@ use Rattle.hierarchy.specs.declared.fault.HierarchyFault.TheVariants.{OutOfMemor
 use Rattle.hierarchy.specs.Class.{ClassFact}
 use Rattle.hierarchy.specs.ClassSummary.{summary_of}
 use Rattle.hierarchy.specs.Faults.{number_of, fault_class}
-use Rattle.rules.specs.Reasons.{reason_number}
+use Rattle.frames.specs.Conditions.{Reason as Refusing, reason, class_missing, with_fault}
+use Rattle.rules.specs.declared.reason.Reason.{Reason}
+use Rattle.rules.specs.declared.reason.Reason.TheVariants as reasons
+use Rattle.rules.specs.Reasons.{reason_number, reason_view}
 use Rattle.verify.specs.declared.verdict.Verdict.{Verdict}
 use Rattle.verify.specs.declared.verdict.Verdict.TheVariants.{Verified, NoCode, Refused}
 use Rattle.verify.specs.declared.report.MethodVerdict.{MethodVerdict}
@@ -20,8 +23,11 @@ use Rattle.printing.specs.Names.{name_text, spelled_text}
 use Rattle.verify.specs.declared.files.FileFault.{FileFault}
 use Rattle.verify.specs.Files.{Read, IsFormed, IsRefused, AreFormed, IsFirstRefused}
 use Rattle.answers.specs.Files.{refusal_status}
-use Rattle.answers.specs.Verdicts.{class_refusal, known_refusal, fault_name, hierarchy_refusal, verdict_text, verdict_line, is_refusal, HierarchySays, KnownSays, VerifySays}
+use Rattle.answers.specs.Verdicts.{class_refusal, known_refusal, fault_name, hierarchy_refusal, reason_ending, verdict_text, verdict_line, is_refusal, ClassSays, HierarchySays, KnownSays, VerifySays}
 use Rattle.answers.proofs.OneFile.{Laws, one_formed, not_refused, one_refusal}
+
+false_true : false ≡ true → ⊥
+false_true e = cc
 
 some_same : {A : Type 0} (a b : A) → Some a ≡ Some b → a ≡ b
 some_same a b e = cc
@@ -44,11 +50,25 @@ same_refusal f g number class =
 
 -- ---- of verdicts
 
+abbrev ending_of : Refusing → List ℕ
+ending_of (reason number) = []
+ending_of (class_missing name) = codes " missing " ++ spelled_text name
+ending_of (with_fault number fault) = codes " fault " ++ decimal fault
+
+by_view : (why : Reason) → reason_ending why ≡ ending_of (reason_view why)
+by_view reasons.OutOfMemory = refl
+by_view _ = refl
+
+same_ending : (why other : Reason) → reason_view why ≡ reason_view other → reason_ending why ≡ reason_ending other
+same_ending why other e = by_view why ∙ ap ending_of e ∙ sym (by_view other)
+
 same_verdict : (v w : Verdict) → AreSameVerdict v w → (verdict_text v ≡ verdict_text w) × (is_refusal v ≡ is_refusal w)
 same_verdict Verified Verified e = (refl, refl)
 same_verdict NoCode NoCode e = (refl, refl)
 same_verdict (Refused at why) (Refused there other) e = (
-  ap (λ n. codes " refused " ++ (decimal n ++ at_text at)) e.1 ∙ ap (λ a. codes " refused " ++ (decimal (reason_number other) ++ at_text a)) e.0,
+  ap (λ n. codes " refused " ++ (decimal n ++ (at_text at ++ reason_ending why))) e.1
+      ∙ ap (λ a. codes " refused " ++ (decimal (reason_number other) ++ (at_text a ++ reason_ending why))) e.0
+      ∙ ap (λ x. codes " refused " ++ (decimal (reason_number other) ++ (at_text there ++ x))) (same_ending why other e.2),
   refl,
 )
 same_verdict _ _ e = absurd e
@@ -115,6 +135,16 @@ module _ (laws : Laws) where
 
   -- ---- what is said
 
+  one_class : (classes : List ClassFact) (c : Class) (text other : List ℕ) (status next : ℕ)
+      → ClassSays classes c text status → ClassSays classes c other next → (text ≡ other) × (status ≡ next)
+  one_class classes c text other status next (inl (f, t, s)) (inl (g, u, v)) = (t ∙ sym u, s ∙ sym v)
+  one_class classes c text other status next (inl (f, t, s)) (inr (g, q)) = absurd (false_true (sym g ∙ f))
+  one_class classes c text other status next (inr (f, p)) (inl (g, u, v)) = absurd (false_true (sym f ∙ g))
+  one_class classes c text other status next (inr (f, (rs, p, t, s))) (inr (g, (qs, q, u, v))) =
+      let report = laws.one_report classes c rs qs p q in
+      let same = same_lines rs qs report.all report.each in
+      (t ∙ same.0 ∙ sym u, s ∙ ap (λ b. if b then 1 else 0) same.1 ∙ sym v)
+
   one_judged : (classes : List ClassFact) (c : Class) (text other : List ℕ) (status next : ℕ)
       → HierarchySays classes c text status → HierarchySays classes c other next → (text ≡ other) × (status ≡ next)
   one_judged classes c text other status next (inl (f, m, p, t, s)) (inl (g, n, q, u, v)) =
@@ -122,10 +152,7 @@ module _ (laws : Laws) where
       (t ∙ same_refusal f g same.0 same.1 ∙ sym u, s ∙ sym v)
   one_judged classes c text other status next (inl (f, m, p, t, s)) (inr (h, q)) = absurd (laws.not_hierarchy classes f m p h)
   one_judged classes c text other status next (inr (h, p)) (inl (g, n, q, u, v)) = absurd (laws.not_hierarchy classes g n q h)
-  one_judged classes c text other status next (inr (h, (rs, p, t, s))) (inr (k, (qs, q, u, v))) =
-      let report = laws.one_report classes c rs qs p q in
-      let same = same_lines rs qs report.all report.each in
-      (t ∙ same.0 ∙ sym u, s ∙ ap (λ b. if b then 1 else 0) same.1 ∙ sym v)
+  one_judged classes c text other status next (inr (h, p)) (inr (k, q)) = one_class classes c text other status next p q
 
   one_known : (c : Class) (known : List Read) (text other : List ℕ) (status next : ℕ)
       → KnownSays c known text status → KnownSays c known other next → (text ≡ other) × (status ≡ next)

@@ -2,11 +2,12 @@
 ghost use Rattle.std.specs.Prelude.{◌≡◌};
 ghost use Rattle.std.specs.List.{flat_map};
 ghost use Rattle.printing.specs.Writing.{Writes};
-ghost use Rattle.answers.specs.Verdicts.{class_refusal, known_refusal, fault_name, hierarchy_refusal, verdict_text, verdict_line, is_refusal, report_status};
+ghost use Rattle.answers.specs.Verdicts.{class_refusal, known_refusal, fault_name, hierarchy_refusal, reason_ending, verdict_text, verdict_line, is_refusal, report_status};
 
 use crate::refusal::Refusal;
 use hierarchy::HierarchyFault;
 use printing::{Lines, Name, Number, Print, Spelled, Then, Word, WriteFailed, put_lines};
+use rules::Reason;
 use std::io::Write;
 use verify::{MethodVerdict, Verdict};
 
@@ -83,6 +84,24 @@ impl<'a> Print for HierarchyRefusal<'a> {
     }
 }
 
+/// What stands behind a reason: the class that is missing, or the number of the fault in a stack map or in code.
+#[derive(Clone, Copy)]
+struct ReasonEnding<'a>(Reason<'a>);
+
+impl<'a> Print for ReasonEnding<'a> {
+    ghost text = { λ t. reason_ending t.0 };
+
+    fn put<W: Write>(&self, out: &mut W) -> Result<(), WriteFailed> {
+        match self.0 {
+            Reason::ClassMissing(name) => Then(Word(" missing "), Spelled(name)).put(out),
+            Reason::BadStackMap { fault } | Reason::BadCode { fault } => {
+                Then(Word(" fault "), Number(u64::from(fault))).put(out)
+            }
+            _ => Word("").put(out),
+        }
+    }
+}
+
 /// What is answered of a method, behind its name.
 #[derive(Clone, Copy)]
 struct VerdictText<'a>(Verdict<'a>);
@@ -96,9 +115,10 @@ impl<'a> Print for VerdictText<'a> {
             Verdict::NoCode => Word(" no code").put(out),
             Verdict::Refused { at, reason } => {
                 let number = Number(u64::from(reason.number()));
+                let place = Then(Word(" at "), Number(at));
                 Then(
                     Word(" refused "),
-                    Then(number, Then(Word(" at "), Number(at))),
+                    Then(number, Then(place, ReasonEnding(reason))),
                 )
                 .put(out)
             }

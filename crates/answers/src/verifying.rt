@@ -12,6 +12,7 @@ use crate::refusal::Refusal;
 use crate::telling::tell;
 use crate::verdicts::{ClassRefusal, HierarchyRefusal, KnownRefusal, ReportText};
 use layout::StreamFault;
+use printing::Word;
 use std::alloc::Global;
 use std::hash::BuildHasher;
 use std::io::Write;
@@ -32,6 +33,7 @@ fn refuse<W: Write>(fault: AmongFault<'_>, out: &mut W) -> Result<u8, AnswerFaul
             tell(&KnownRefusal { number, refusal }, refusal.status(), out)
         }
         AmongFault::NoHierarchy(fault) => tell(&HierarchyRefusal(fault), 1, out),
+        AmongFault::FinalSuper => tell(&Word("class refused 81\n"), 1, out),
     }
 }
 

@@ -11,6 +11,7 @@ use Rattle.pool.specs.Entries.{Entry, Utf8, Integer, Float, Long, Double, Class 
 use Rattle.classfile.specs.declared.location.Location.{Location}
 use Rattle.classfile.specs.declared.location.Location.TheVariants as location
 use Rattle.classfile.specs.Locations.{is_code, is_stack_map}
+use Rattle.classfile.specs.Layouts.{is_laid_out}
 use Rattle.classfile.specs.Values.{Handler, Nested, CodeBody, Attribute, Member, Class}
 use Rattle.classfile.specs.ClassFile.{is_version}
 use Rattle.classfile.specs.Pieces.{handler_pieces, nested_pieces, code_pieces, attribute_pieces, member_pieces, class_pieces}
@@ -102,7 +103,7 @@ kept_measure name b body = fits_so (and_true _) (measured_append (measured_2 nam
 
 nested_measure : (pool : List Entry) (x : Nested) → Measured (nested_pieces pool x) (nested_fits x) (nested_size x)
 nested_measure pool (by_field name body) = kept_measure name (is_stack_map pool location.Code name) body
-nested_measure pool (raw name body) = kept_measure name (unlike (is_stack_map pool location.Code name)) body
+nested_measure pool (raw name body) = kept_measure name (unlike (is_stack_map pool location.Code name) && is_laid_out pool location.Code name body) body
 
 code_measure : (pool : List Entry) (c : CodeBody) → Measured (code_pieces pool c) (code_fits c) (code_size c)
 code_measure pool c =
@@ -111,7 +112,7 @@ code_measure pool c =
 
 attribute_measure : (pool : List Entry) (place : Location) (x : Attribute) → Measured (attribute_pieces pool place x) (attribute_fits x) (attribute_size x)
 attribute_measure pool place (by_field name code) = measured_append (measured_2 name) (measured_lengthened (measured_marked (is_code pool place name) (code_measure pool code)))
-attribute_measure pool place (raw name body) = kept_measure name (unlike (is_code pool place name)) body
+attribute_measure pool place (raw name body) = kept_measure name (unlike (is_code pool place name) && is_laid_out pool place name body) body
 
 -- ---- members and the class
 
@@ -130,4 +131,4 @@ class_measure c =
     (measured_append (measured_table measured_2 c.interfaces)
     (measured_append (measured_table (member_measure c.constant_pool location.Field) c.fields)
     (measured_append (measured_table (member_measure c.constant_pool location.Method) c.methods)
-    (measured_table (attribute_measure c.constant_pool location.Class) c.attributes))))))
+    (measured_table (attribute_measure c.constant_pool (location.Class c.major_version)) c.attributes))))))

@@ -13,7 +13,8 @@ use Rattle.classfile.specs.Naming.{begins_with, is_array_name, is_class_name, is
 use Rattle.classfile.specs.Locations.{is_named, is_code, is_stack_map}
 use Rattle.classfile.specs.Flags.{has, are_bad_interface_flags, are_bad_other_class_flags, are_bad_class_flags, has_two_accesses, are_bad_field_flags, is_abstract_with_body, is_no_initializer, are_bad_method_flags}
 use Rattle.classfile.specs.ConstantForm.{names_class, is_no_class_name, is_array_class, is_no_unqualified_name, is_no_descriptor, is_no_field_descriptor, is_no_method_descriptor, is_no_field, is_no_method, is_no_method_of_class, is_special, is_no_method_name, has_bad, has_other, texts_have_bad, texts_have_other}
-use Rattle.classfile.specs.AttributeForm.{handlers_have_bad, handlers_have_other, nested_have_bad, nested_have_other, code_has_bad, code_has_other, attribute_has_bad, attribute_has_other, attributes_have_bad, attributes_have_other, have_bad_length, has_two_stack_maps, code_stands_twice, stack_map_stands_twice, have_twice}
+use Rattle.classfile.specs.NumberForm.{numbers_break, is_of_row, row_stands_twice, numbers_stand_twice}
+use Rattle.classfile.specs.AttributeForm.{handlers_have_bad, handlers_have_other, nested_have_bad, nested_have_other, head_has_bad, head_has_other, code_has_bad, code_has_other, attribute_has_bad, attribute_has_other, attributes_have_bad, attributes_have_other, have_bad_length, has_two_stack_maps, code_stands_twice, stack_map_stands_twice, have_twice}
 use Rattle.classfile.specs.MemberForm.{member_has_bad, member_has_other, may_name_method, is_bad_method_name, is_badly_described, is_instance_initializer, is_class_initializer, is_badly_flagged, has_body, has_code}
 use Rattle.classfile.specs.ClassForm.{is_object, leads_to_object, leads_elsewhere, interfaces_have_bad, interfaces_have_other, interfaces_have_array, class_has_bad, class_has_other, class_has_array, has_bad_super}
 
@@ -62,9 +63,9 @@ names = refl
 places :
     ((is_named pool 16 (codes "Code"), is_named pool 16 (codes "Cod"))
     ∷ (is_named pool 16 (codes "Code"), is_named pool 0 (codes "Code"))
-    ∷ (is_code pool locations.Method 16, is_code pool locations.Class 16)
+    ∷ (is_code pool locations.Method 16, is_code pool (locations.Class 52) 16)
     ∷ (is_code pool locations.Method 16, is_code pool locations.Method 17)
-    ∷ (is_stack_map pool locations.Code 17, is_stack_map pool locations.Class 17)
+    ∷ (is_stack_map pool locations.Code 17, is_stack_map pool (locations.Class 52) 17)
     ∷ (is_stack_map pool locations.Code 17, is_stack_map pool locations.Code 16)
     ∷ []) ≡ told 6
 unfolding text_at entry_at
@@ -141,17 +142,17 @@ attributes :
     ∷ (nested_have_other pool (stack_map 1 ∷ []), nested_have_other pool (stack_map 17 ∷ []))
     ∷ (code_has_bad pool (body (catching 19) []), code_has_bad pool (body (catching 1) []))
     ∷ (code_has_other pool (body (catching 2) []), code_has_other pool (body (catching 1) []))
-    ∷ (attribute_has_bad pool (raw 0 []), attribute_has_bad pool (raw 2 []))
-    ∷ (attribute_has_other pool (raw 1 []), attribute_has_other pool (raw 2 []))
-    ∷ (attributes_have_bad pool (code 16 (catching 19) [] ∷ []), attributes_have_bad pool (code 16 [] [] ∷ []))
-    ∷ (attributes_have_other pool (code 16 (catching 2) [] ∷ []), attributes_have_other pool (code 16 [] [] ∷ []))
+    ∷ (attribute_has_bad pool locations.Method (raw 0 []), attribute_has_bad pool locations.Method (raw 2 []))
+    ∷ (attribute_has_other pool locations.Method (raw 1 []), attribute_has_other pool locations.Method (raw 2 []))
+    ∷ (attributes_have_bad pool locations.Method (code 16 (catching 19) [] ∷ []), attributes_have_bad pool locations.Method (code 16 [] [] ∷ []))
+    ∷ (attributes_have_other pool locations.Method (code 16 (catching 2) [] ∷ []), attributes_have_other pool locations.Method (code 16 [] [] ∷ []))
     ∷ (has_code (raw 2 [] ∷ code 16 [] [] ∷ []), has_code (raw 16 [] ∷ []))
     ∷ (have_bad_length (by_field 16 (body_with [] [] []) ∷ []), have_bad_length (code 16 [] [] ∷ []))
     ∷ (has_two_stack_maps (body [] (stack_map 17 ∷ stack_map 17 ∷ [])), has_two_stack_maps (body [] (stack_map 17 ∷ raw 2 [] ∷ [])))
     ∷ (stack_map_stands_twice (code 16 [] (stack_map 17 ∷ stack_map 17 ∷ []) ∷ []), stack_map_stands_twice (code 16 [] (stack_map 17 ∷ []) ∷ []))
-    ∷ (have_twice (code 16 [] [] ∷ code 16 [] [] ∷ []), have_twice (code 16 [] [] ∷ raw 16 [] ∷ []))
+    ∷ (have_twice pool (code 16 [] [] ∷ code 16 [] [] ∷ []), have_twice pool (code 16 [] [] ∷ raw 16 [] ∷ []))
     ∷ []) ≡ told 15
-unfolding handlers_have_bad handlers_have_other nested_have_bad nested_have_other code_has_bad code_has_other attribute_has_bad attribute_has_other attributes_have_bad attributes_have_other has_code have_bad_length has_two_stack_maps stack_map_stands_twice code_stands_twice have_twice is_bad is_other entry_at
+unfolding handlers_have_bad handlers_have_other nested_have_bad nested_have_other code_has_bad code_has_other attribute_has_bad attribute_has_other attributes_have_bad attributes_have_other has_code have_bad_length has_two_stack_maps stack_map_stands_twice code_stands_twice have_twice head_has_bad head_has_other numbers_break is_of_row row_stands_twice numbers_stand_twice is_bad is_other entry_at text_at
 attributes = refl
 
 -- ---- members
@@ -160,8 +161,8 @@ abbrev member : (access_flags name descriptor : ℕ) → Member
 member access_flags name descriptor = record { access_flags = access_flags; name = name; descriptor = descriptor; attributes = [] }
 
 members :
-    ((member_has_bad pool (member 0 0 8), member_has_bad pool (member 0 2 8))
-    ∷ (member_has_other pool (member 0 1 8), member_has_other pool (member 0 2 8))
+    ((member_has_bad pool locations.Field (member 0 0 8), member_has_bad pool locations.Field (member 0 2 8))
+    ∷ (member_has_other pool locations.Field (member 0 1 8), member_has_other pool locations.Field (member 0 2 8))
     ∷ (may_name_method false (codes "<init>"), may_name_method true (codes "<init>"))
     ∷ (may_name_method true (codes "<clinit>"), may_name_method true (codes "<a>"))
     ∷ (is_bad_method_name pool true 10, is_bad_method_name pool false 10)
@@ -173,7 +174,7 @@ members :
     ∷ (is_badly_flagged pool (member 0x0008 10 11), is_badly_flagged pool (member 0x0008 12 11))
     ∷ (has_body pool (member 0x0100 12 11), has_body pool (member 0x0100 2 11))
     ∷ []) ≡ told 12
-unfolding member_has_bad member_has_other is_bad_method_name is_badly_described is_instance_initializer is_class_initializer is_badly_flagged has_body texts_have_bad texts_have_other attributes_have_bad attributes_have_other is_bad is_other entry_at text_at named has has_two_accesses is_abstract_with_body is_no_initializer are_bad_method_flags read_class read_base read_field read_params read_result read_method field_answer method_answer
+unfolding member_has_bad member_has_other is_bad_method_name is_badly_described is_instance_initializer is_class_initializer is_badly_flagged has_body texts_have_bad texts_have_other attributes_have_bad attributes_have_other head_has_bad head_has_other numbers_break is_bad is_other entry_at text_at named has has_two_accesses is_abstract_with_body is_no_initializer are_bad_method_flags read_class read_base read_field read_params read_result read_method field_answer method_answer
 members = refl
 
 -- ---- the class itself

@@ -12,6 +12,7 @@ pub mod Measures
 pub mod MethodLaws
 pub mod NamingLaws
 pub mod Places
+pub mod Rows
 pub mod SeenLaws
 pub mod Steps
 pub mod Tables

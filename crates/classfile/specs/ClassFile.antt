@@ -1,16 +1,17 @@
 -- The layout of class files (JVMS 4.1, 4.5 to 4.7): which bytes spell which class, and which fault comes first.
 -- Each layout is the parts that stand one behind the other, in the order of the file.
-use Rattle.std.specs.Prelude.{◌≡◌, ℕ, ◌≤◌, ◌<◌, Bool, List, length, nat_le, nat_eq, ◌&&◌, ◌||◌, if◌then◌else◌, ◌⊎◌}
+use Rattle.std.specs.Prelude.{◌≡◌, ℕ, ◌-◌, ◌≤◌, ◌<◌, Bool, List, length, nat_le, nat_eq, ◌&&◌, ◌||◌, if◌then◌else◌, ◌⊎◌}
 use Rattle.layout.specs.Format.{Format, Spells, done, part, refuse, andthen, number, times, inside}
 use Rattle.layout.specs.Whole.{WholeFault}
 use Rattle.layout.specs.PieceLaws.{fields as by_field, raw}
 use Rattle.layout.specs.declared.limits.TheConstants.{MAX_CLASS_BYTES}
 use Rattle.layout.specs.declared.fault.ReadFault.{ReadFault}
-use Rattle.layout.specs.declared.fault.ReadFault.TheVariants.{BadMagic, BadVersion, BytesAfter, TooLong}
+use Rattle.layout.specs.declared.fault.ReadFault.TheVariants.{AttributeLength, BadMagic, BadVersion, BytesAfter, TooLong}
 use Rattle.pool.specs.Entries.{Entry, pool}
 use Rattle.classfile.specs.declared.location.Location.{Location}
 use Rattle.classfile.specs.declared.location.Location.TheVariants as location
 use Rattle.classfile.specs.Locations.{is_code, is_stack_map}
+use Rattle.classfile.specs.Layouts.{is_laid_out}
 use Rattle.classfile.specs.Values.{Handler, Nested, CodeBody, Attribute, Member, Class}
 
 -- a table: a count of two bytes, and so many items
@@ -22,10 +23,15 @@ unfoldable pub handler : Format Handler
 handler = andthen (number 2) (λ start. andthen (number 2) (λ end. andthen (number 2) (λ handler. andthen (number 2) (λ catch.
     done (record { start_pc = start; end_pc = end; handler_pc = handler; catch_type = catch })))))
 
+-- a body of n bytes was taken, and is kept where it is laid out as its attribute asks; otherwise it does not use exactly its length
+abbrev pub kept : {V : Type 0} → Bool → ℕ → V → Format V
+kept laid_out n value = if laid_out then done value else refuse (λ at. AttributeLength (at - n - 6))
+
 -- an attribute of a Code attribute: its name's index, the length of its body, and the body as it is
 unfoldable pub nested : List Entry → Format Nested
 nested pool = andthen (number 2) (λ name. andthen (number 4) (λ n. part n (λ body.
-    if is_stack_map pool location.Code name then done (by_field name body) else done (raw name body))))
+    if is_stack_map pool location.Code name then done (by_field name body)
+    else kept (is_laid_out pool location.Code name body) n (raw name body))))
 
 -- what stands before the exception table of a Code attribute
 pub record Sizes : Type 0 where
@@ -48,10 +54,11 @@ unfoldable pub code : List Entry → Format CodeBody
 code pool = andthen sizes (λ s. andthen handlers (λ handlers. andthen (nested_attributes pool) (λ attributes.
     done (record { max_stack = s.max_stack; max_locals = s.max_locals; code = s.code; exception_table = handlers; attributes = attributes }))))
 
--- an attribute: its name's index, the length of its body, and the body, which is read by field where it is a Code attribute
+-- an attribute: its name's index, the length of its body, and the body, whose parts are read where it is a Code attribute
 unfoldable pub attribute : List Entry → Location → Format Attribute
 attribute pool place = andthen (number 2) (λ name. andthen (number 4) (λ n. part n (λ body.
-    if is_code pool place name then inside n body (code pool) (λ c. done (by_field name c)) else done (raw name body))))
+    if is_code pool place name then inside n body (code pool) (λ c. done (by_field name c))
+    else kept (is_laid_out pool place name body) n (raw name body))))
 
 unfoldable pub attributes : List Entry → Location → Format (List Attribute)
 attributes pool place = table (attribute pool place)
@@ -82,7 +89,7 @@ interfaces = table (number 2)
 
 unfoldable pub class : Format Class
 class = andthen version (λ version. andthen pool (λ pool. andthen three (λ head. andthen interfaces (λ interfaces.
-    andthen (members pool location.Field) (λ fields. andthen (members pool location.Method) (λ methods. andthen (attributes pool location.Class) (λ attributes.
+    andthen (members pool location.Field) (λ fields. andthen (members pool location.Method) (λ methods. andthen (attributes pool (location.Class version.1)) (λ attributes.
     done (record {
       minor_version = version.0;
       major_version = version.1;

@@ -4,13 +4,15 @@ use Rattle.std.specs.List.{list_any}
 use Rattle.std.specs.Str.{bytes_eq}
 use Rattle.names.specs.StandardNames.{object_name}
 use Rattle.pool.specs.Entries.{Entry}
-use Rattle.classfile.specs.declared.form_fault.FormRule.TheVariants.{BadIndex, WrongKind, BadName, BadFlags, BadSuper}
+use Rattle.classfile.specs.declared.form_fault.FormRule.TheVariants.{BadIndex, WrongKind, BadName, BadFlags, BadSuper, AttributeTwice}
 use Rattle.classfile.specs.declared.indices.ConstantKind.TheVariants as kinds
 use Rattle.classfile.specs.Values.{Class}
 use Rattle.classfile.specs.Conditions.{Condition}
 use Rattle.classfile.specs.Indices.{is_bad, is_bad_unless_zero, is_other, on_class_name}
 use Rattle.classfile.specs.ConstantForm.{is_array_class}
 use Rattle.classfile.specs.Flags.{has, INTERFACE, are_bad_class_flags}
+use Rattle.classfile.specs.declared.location.Location.TheVariants as location
+use Rattle.classfile.specs.NumberForm.{numbers_stand_twice}
 use Rattle.classfile.specs.AttributeForm.{attributes_have_bad, attributes_have_other}
 
 -- the name of the class above all others
@@ -38,12 +40,12 @@ interfaces_have_array pool interfaces = list_any (is_array_class pool) interface
 unfoldable pub class_has_bad : Class → Bool
 class_has_bad c =
     is_bad c.constant_pool c.this_class || is_bad_unless_zero c.constant_pool c.super_class
-    || interfaces_have_bad c.constant_pool c.interfaces || attributes_have_bad c.constant_pool c.attributes
+    || interfaces_have_bad c.constant_pool c.interfaces || attributes_have_bad c.constant_pool (location.Class c.major_version) c.attributes
 
 unfoldable pub class_has_other : Class → Bool
 class_has_other c =
     is_other c.constant_pool kinds.Class c.this_class || is_other c.constant_pool kinds.Class c.super_class
-    || interfaces_have_other c.constant_pool c.interfaces || attributes_have_other c.constant_pool c.attributes
+    || interfaces_have_other c.constant_pool c.interfaces || attributes_have_other c.constant_pool (location.Class c.major_version) c.attributes
 
 -- the class, its superclass or one of its interfaces is an array
 unfoldable pub class_has_array : Class → Bool
@@ -75,4 +77,5 @@ class_conditions c =
     ∷ (BadName, class_has_array c)
     ∷ (BadFlags, are_bad_class_flags c.access_flags)
     ∷ (BadSuper, has_bad_super c)
+    ∷ (AttributeTwice, numbers_stand_twice c.constant_pool (location.Class c.major_version) c.attributes)
     ∷ []

@@ -3,7 +3,7 @@
 use Rattle.std.specs.Prelude.{ℕ, Bool, true, false, not, ◌&&◌, nat_eq, List, Result, Ok, Err}
 use Rattle.std.specs.Result.{is_err}
 use Rattle.pool.specs.declared.fault.PoolFault.{PoolFault}
-use Rattle.pool.specs.Entries.{Entry, Utf8, Class, NameAndType, Fieldref, Methodref, InterfaceMethodref}
+use Rattle.pool.specs.Entries.{Entry, Utf8, Integer, Float, Long, Double, Class, String, NameAndType, Fieldref, Methodref, InterfaceMethodref}
 use Rattle.pool.specs.Lookups.{entry_at, text_at, class_name_at, Named, name_and_type_at}
 use Rattle.classfile.specs.declared.indices.ConstantKind.{ConstantKind}
 use Rattle.classfile.specs.declared.indices.ConstantKind.TheVariants as kinds
@@ -20,6 +20,11 @@ is_of kinds.NameAndType (NameAndType name descriptor) = true
 is_of kinds.Reference (Fieldref class name_and_type) = true
 is_of kinds.Reference (Methodref class name_and_type) = true
 is_of kinds.Reference (InterfaceMethodref class name_and_type) = true
+is_of kinds.Value (Integer bits) = true
+is_of kinds.Value (Float bits) = true
+is_of kinds.Value (Long high low) = true
+is_of kinds.Value (Double high low) = true
+is_of kinds.Value (String text) = true
 is_of kind e = false
 
 -- the index is 0, past the pool, or the second one of a Long or Double

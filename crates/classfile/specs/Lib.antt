@@ -9,11 +9,14 @@ pub mod Flags
 pub mod FormLaws
 pub mod Indices
 pub mod Laws
+pub mod Layouts
+pub mod LayoutViews
 pub mod Locations
 pub mod MemberForm
 pub mod MethodParts
 pub mod Methods
 pub mod Naming
+pub mod NumberForm
 pub mod Pieces
 pub mod Seen
 pub mod Sizes

@@ -19,13 +19,13 @@ is_named pool index text = is_this text (text_at pool index)
 -- a Code attribute stands in a method (4.7.3)
 abbrev pub is_code : List Entry → Location → ℕ → Bool
 is_code pool Method name = is_named pool name (codes "Code")
-is_code pool Class name = false
+is_code pool (Class major) name = false
 is_code pool Field name = false
 is_code pool Code name = false
 
 -- a StackMapTable stands in a Code attribute (4.7.4)
 abbrev pub is_stack_map : List Entry → Location → ℕ → Bool
 is_stack_map pool Code name = is_named pool name (codes "StackMapTable")
-is_stack_map pool Class name = false
+is_stack_map pool (Class major) name = false
 is_stack_map pool Field name = false
 is_stack_map pool Method name = false

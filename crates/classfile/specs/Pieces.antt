@@ -1,33 +1,38 @@
 -- What a class file is written as, part by part in the order of the file, and that its layout spells exactly that.
 use Rattle.std.proofs.Common.{◌≡◌, ℕ, Bool, true, false, cond, List, [], ◌∷◌, ◌++◌, length, refl, sym, ap, subst, ◌∙◌}
-use Rattle.std.specs.Prelude.{nat_eq}
+use Rattle.std.specs.Prelude.{nat_eq, ◌&&◌}
 use Rattle.std.proofs.lemmas.Bool.{eqb-true}
 use Rattle.std.proofs.lemmas.List.{append-nil}
 use Rattle.layout.specs.declared.fault.ReadFault.TheVariants.{BadMagic, BadVersion}
-use Rattle.layout.specs.Format.{AreBytes, Format, done, refuse, Spells, andthen, number}
+use Rattle.layout.specs.Format.{AreBytes, Format, done, refuse, Spells, andthen, number, inside}
 use Rattle.layout.specs.FormatLaws.{AreBytes-parts, andthen_spelled, andthen_parts, number_2, number_4}
 use Rattle.layout.specs.Pieces.{Piece, plain, field, text, ArePlain, lengthened, marked}
-use Rattle.layout.specs.PieceLaws.{Made, Writes, Bodies, Either, fields as by_field, raw, name_of, not, made_headed, made_then, made_last, made_number, made_counted, made_held, made_whole, counted, attribute_pieces as pieces_by, writes_attribute, text_append, plain_parts, plain_append}
+use Rattle.layout.specs.PieceLaws.{Made, Writes, Bodies, Either, fields as by_field, raw, name_of, not, inside_spells, spells_inside, made_headed, made_then, made_last, made_number, made_counted, made_held, made_whole, counted, text_append, plain_parts, plain_append}
 use Rattle.pool.specs.Entries.{Entry, pool_pieces}
 use Rattle.pool.specs.EntryLaws.{writes_pool}
 use Rattle.classfile.specs.declared.location.Location.{Location}
 use Rattle.classfile.specs.declared.location.Location.TheVariants as location
 use Rattle.classfile.specs.Locations.{is_code, is_stack_map}
+use Rattle.classfile.specs.Layouts.{is_laid_out}
 use Rattle.classfile.specs.Values.{Handler, Nested, CodeBody, Attribute, Member, Class}
-use Rattle.classfile.specs.ClassFile.{Sizes, handler, nested, sizes, handlers, nested_attributes, code, attribute, attributes, three, member, members, is_version, version, interfaces, class}
+use Rattle.classfile.specs.ClassFile.{Sizes, kept, handler, nested, sizes, handlers, nested_attributes, code, attribute, attributes, three, member, members, is_version, version, interfaces, class}
 
 -- ---- what each part is written as
 
 abbrev pub handler_pieces : Handler → List Piece
 handler_pieces h = field 2 h.start_pc ++ (field 2 h.end_pc ++ (field 2 h.handler_pc ++ field 2 h.catch_type))
 
--- the body as it is, where the name says so
-abbrev pub kept_pieces : (ℕ → Bool) → Either (List ℕ) → List Piece
-kept_pieces test (by_field name body) = marked (test name) (plain body ∷ [])
-kept_pieces test (raw name body) = marked (not (test name)) (plain body ∷ [])
+-- an attribute that holds something that is read by field where the test holds for its name, and is kept as it is elsewhere, if it is
+-- laid out as its name asks: its name index, and its body behind a length
+abbrev pub body_pieces : {A : Type 0} → (ℕ → Bool) → (ℕ → List ℕ → Bool) → (A → List Piece) → Either A → List Piece
+body_pieces test laid_out p (by_field name value) = marked (test name) (p value)
+body_pieces test laid_out p (raw name body) = marked (not (test name) && laid_out name body) (plain body ∷ [])
+
+abbrev pub headed_pieces : {A : Type 0} → (ℕ → Bool) → (ℕ → List ℕ → Bool) → (A → List Piece) → Either A → List Piece
+headed_pieces test laid_out p x = field 2 (name_of x) ++ lengthened (body_pieces test laid_out p x)
 
 abbrev pub nested_pieces : List Entry → Nested → List Piece
-nested_pieces pool x = field 2 (name_of x) ++ lengthened (kept_pieces (is_stack_map pool location.Code) x)
+nested_pieces pool = headed_pieces (is_stack_map pool location.Code) (is_laid_out pool location.Code) (λ body. plain body ∷ [])
 
 abbrev pub sizes_pieces : Sizes → List Piece
 sizes_pieces s = field 2 s.max_stack ++ (field 2 s.max_locals ++ lengthened (plain s.code ∷ []))
@@ -38,7 +43,7 @@ code_pieces pool c =
     ++ (counted handler_pieces c.exception_table ++ counted (nested_pieces pool) c.attributes)
 
 abbrev pub attribute_pieces : List Entry → Location → Attribute → List Piece
-attribute_pieces pool place = pieces_by (is_code pool place) (code_pieces pool)
+attribute_pieces pool place = headed_pieces (is_code pool place) (is_laid_out pool place) (code_pieces pool)
 
 abbrev pub three_pieces : ℕ × ℕ × ℕ → List Piece
 three_pieces x = field 2 x.0 ++ (field 2 x.1 ++ field 2 x.2)
@@ -54,7 +59,7 @@ version_pieces v = field 4 0xCAFEBABE ++ (field 2 v.0 ++ marked (is_version v.0 
 abbrev pub tables_pieces : List Entry → Class → List Piece
 tables_pieces pool c =
     counted (member_pieces pool location.Field) c.fields
-    ++ (counted (member_pieces pool location.Method) c.methods ++ counted (attribute_pieces pool location.Class) c.attributes)
+    ++ (counted (member_pieces pool location.Method) c.methods ++ counted (attribute_pieces pool (location.Class c.major_version)) c.attributes)
 
 abbrev pub behind_pool_pieces : List Entry → Class → List Piece
 behind_pool_pieces pool c =
@@ -80,42 +85,76 @@ pub writes_handlers : Writes handlers (counted handler_pieces)
 unfolding handlers
 writes_handlers = made_counted number_2 writes_handler
 
-abbrev kept : (ℕ → Bool) → ℕ → ℕ → List ℕ → Format (Either (List ℕ))
-kept test name n body = cond (test name) (done (by_field name body)) (done (raw name body))
+-- The body of an attribute, where that of one which is read by field has this format.
+abbrev body_of : {A : Type 0} → (ℕ → Bool) → (ℕ → List ℕ → Bool) → (ℕ → ℕ → List ℕ → Format (Either A)) → ℕ → ℕ → List ℕ → Format (Either A)
+body_of test laid_out f name n body = cond (test name) (f name n body) (kept (laid_out name body) n (raw name body))
 
-bodies_kept : (test : ℕ → Bool) → Bodies (kept test) name_of (λ x. x) (kept_pieces test)
-bodies_kept test = record { has = has; only = λ name body bytes v fit s. only name body bytes v (test name) refl s }
+-- that format spells exactly the values that are read by field, each by its pieces
+record ByField {A : Type 0} (f : ℕ → ℕ → List ℕ → Format (Either A)) (p : A → List Piece) : Type 0 where
+  has : (name : ℕ) (value : A) → ArePlain (p value) → Spells (f name (length (text (p value))) (text (p value))) [] (by_field name value)
+  only : (name : ℕ) (body bytes : List ℕ) (v : Either A) → AreBytes body → Spells (f name (length body) body) bytes v
+      → (bytes ≡ []) × (value : A) × (by_field name value ≡ v) × (body ≡ text (p value)) × ArePlain (p value)
+
+marked_parts : (b : Bool) (p : List Piece) → ArePlain (marked b p) → (b ≡ true) × (marked b p ≡ p)
+marked_parts true p h = (refl, refl)
+marked_parts false p h = absurd h
+
+both_true : (a b : Bool) → not a && b ≡ true → (a ≡ false) × (b ≡ true)
+both_true false true e = (refl, refl)
+both_true false false e = absurd (let x : false ≡ true = e in cc)
+both_true true b e = absurd (let x : false ≡ true = e in cc)
+
+bodies_of : {A : Type 0} (test : ℕ → Bool) (laid_out : ℕ → List ℕ → Bool) {f : ℕ → ℕ → List ℕ → Format (Either A)} {p : A → List Piece} → ByField f p
+    → Bodies (body_of test laid_out f) name_of (λ x. x) (body_pieces test laid_out p)
+bodies_of {A = A} test laid_out {f = f} {p = p} m = record { has = has; only = λ name body bytes v fit s. only name body bytes v (test name) (laid_out name body) refl refl fit s }
   where
-    so : (body : List ℕ) (b : Bool) → ArePlain (marked b (plain body ∷ [])) → (b ≡ true) × (text (marked b (plain body ∷ [])) ≡ body)
-    so body true h = (refl, append-nil body)
-    so body false h = absurd h
-
-    not_so : (body : List ℕ) (b : Bool) → ArePlain (marked (not b) (plain body ∷ [])) → (b ≡ false) × (text (marked (not b) (plain body ∷ [])) ≡ body)
-    not_so body true h = absurd h
-    not_so body false h = (refl, append-nil body)
-
-    has : (x : Either (List ℕ)) → ArePlain (kept_pieces test x) → Spells (kept test (name_of x) (length (text (kept_pieces test x))) (text (kept_pieces test x))) [] x
-    has (by_field name body) h =
-        let t = text (marked (test name) (plain body ∷ [])) in
-        let r = so body (test name) h in
-        subst (λ (b : Bool). Spells (cond b (done (by_field name t)) (done (raw name t))) [] (by_field name body)) (sym r.0) (refl, ap (λ (b : List ℕ). by_field name b) r.1)
+    has : (x : Either A) → ArePlain (body_pieces test laid_out p x)
+        → Spells (body_of test laid_out f (name_of x) (length (text (body_pieces test laid_out p x))) (text (body_pieces test laid_out p x))) [] x
+    has (by_field name value) h =
+        let r = marked_parts (test name) (p value) h in
+        let plainly : ArePlain (p value) = subst ArePlain r.1 h in
+        subst (λ (q : List Piece). Spells (body_of test laid_out f name (length (text q)) (text q)) [] (by_field name value)) (sym r.1)
+        (subst (λ (b : Bool). Spells (cond b (f name (length (text (p value))) (text (p value))) (kept (laid_out name (text (p value))) (length (text (p value))) (raw name (text (p value))))) [] (by_field name value)) (sym r.0)
+        (m.has name value plainly))
     has (raw name body) h =
-        let t = text (marked (not (test name)) (plain body ∷ [])) in
-        let r = not_so body (test name) h in
-        subst (λ (b : Bool). Spells (cond b (done (by_field name t)) (done (raw name t))) [] (raw name body)) (sym r.0) (refl, ap (λ (b : List ℕ). raw name b) r.1)
+        let r = marked_parts (not (test name) && laid_out name body) (plain body ∷ []) h in
+        let so = both_true (test name) (laid_out name body) r.0 in
+        let is : text (marked (not (test name) && laid_out name body) (plain body ∷ [])) ≡ body = ap text r.1 ∙ append-nil body in
+        subst (λ (t : List ℕ). Spells (body_of test laid_out f name (length t) t) [] (raw name body)) (sym is)
+        (subst (λ (b : Bool). Spells (cond b (f name (length body) body) (kept (laid_out name body) (length body) (raw name body))) [] (raw name body)) (sym so.0)
+        (subst (λ (b : Bool). Spells (kept {V = Either A} b (length body) (raw name body)) [] (raw name body)) (sym so.1) (refl, refl)))
 
-    only : (name : ℕ) (body bytes : List ℕ) (v : Either (List ℕ)) (b : Bool) → test name ≡ b → Spells (cond b (done (by_field name body)) (done (raw name body))) bytes v
-        → (bytes ≡ []) × (x : Either (List ℕ)) × (x ≡ v) × (name_of x ≡ name) × (body ≡ text (kept_pieces test x)) × ArePlain (kept_pieces test x)
-    only name body bytes v true e s =
-        let same : plain body ∷ [] ≡ marked (test name) (plain body ∷ []) = ap (λ (b : Bool). marked b (plain body ∷ [])) (sym e) in
-        (s.0, by_field name body, s.1, refl, sym (append-nil body) ∙ ap text same, subst ArePlain same tt)
-    only name body bytes v false e s =
-        let same : plain body ∷ [] ≡ marked (not (test name)) (plain body ∷ []) = ap (λ (b : Bool). marked (not b) (plain body ∷ [])) (sym e) in
+    only : (name : ℕ) (body bytes : List ℕ) (v : Either A) (b l : Bool) → test name ≡ b → laid_out name body ≡ l → AreBytes body
+        → Spells (cond b (f name (length body) body) (kept l (length body) (raw name body))) bytes v
+        → (bytes ≡ []) × (x : Either A) × (x ≡ v) × (name_of x ≡ name) × (body ≡ text (body_pieces test laid_out p x)) × ArePlain (body_pieces test laid_out p x)
+    only name body bytes v true l e k fit s =
+        let i = m.only name body bytes v fit s in
+        let same : p i.1 ≡ marked (test name) (p i.1) = ap (λ (b : Bool). marked b (p i.1)) (sym e) in
+        (i.0, by_field name i.1, i.2, refl, i.3 ∙ ap text same, subst ArePlain same i.4)
+    only name body bytes v false true e k fit s =
+        let same : plain body ∷ [] ≡ marked (not (test name) && laid_out name body) (plain body ∷ []) =
+        ap (λ (b : Bool). marked (not b && true) (plain body ∷ [])) (sym e) ∙ ap (λ (b : Bool). marked (not (test name) && b) (plain body ∷ [])) (sym k) in
         (s.0, raw name body, s.1, refl, sym (append-nil body) ∙ ap text same, subst ArePlain same tt)
+    only name body bytes v false false e k fit s = absurd s
+
+kept_by_field : ByField (λ name n body. done (by_field name body)) (λ body. plain body ∷ [])
+kept_by_field = record {
+  has = λ name value h. (refl, ap (by_field name) (append-nil value));
+  only = λ name body bytes v fit s. (s.0, body, s.1, sym (append-nil body), tt);
+}
+
+inside_by_field : {A : Type 0} {f : Format A} {p : A → List Piece} → Writes f p → ByField (λ name n body. inside n body f (λ v. done (by_field name v))) p
+inside_by_field {A = A} {f = f} {p = p} m = record {
+  has = λ name value h. spells_inside (length (text (p value))) (text (p value)) f (by_field name) value (m.has value h);
+  only = λ name body bytes v fit s.
+      let i = inside_spells (length body) body f (by_field name) bytes v s in
+      let x = m.only i.0 body fit i.1 in
+      (i.2, i.0, i.3, x.2 ∙ ap (λ (w : A). text (p w)) x.1, subst (λ (w : A). ArePlain (p w)) x.1 x.3);
+}
 
 pub writes_nested : (pool : List Entry) → Writes (nested pool) (nested_pieces pool)
 unfolding nested
-writes_nested pool = made_headed number_2 number_4 (bodies_kept (is_stack_map pool location.Code))
+writes_nested pool = made_headed number_2 number_4 (bodies_of (is_stack_map pool location.Code) (is_laid_out pool location.Code) kept_by_field)
 
 pub writes_nested_attributes : (pool : List Entry) → Writes (nested_attributes pool) (counted (nested_pieces pool))
 unfolding nested_attributes
@@ -136,7 +175,7 @@ writes_code pool = made_whole {A = Sizes × (List Handler × List Nested)} (λ c
 
 pub writes_of : (pool : List Entry) (place : Location) → Writes (attribute pool place) (attribute_pieces pool place)
 unfolding attribute
-writes_of pool place = writes_attribute (is_code pool place) number_2 number_4 (writes_code pool)
+writes_of pool place = made_headed number_2 number_4 (bodies_of (is_code pool place) (is_laid_out pool place) (inside_by_field (writes_code pool)))
 
 pub writes_attributes : (pool : List Entry) (place : Location) → Writes (attributes pool place) (counted (attribute_pieces pool place))
 unfolding attributes
@@ -247,4 +286,4 @@ unfolding class class_pieces
 writes_class = made_whole {A = (ℕ × ℕ) × (List Entry × ((ℕ × ℕ × ℕ) × (List ℕ × (List Member × (List Member × List Attribute)))))}
     (λ c. ((c.minor_version, c.major_version), (c.constant_pool, ((c.access_flags, c.this_class, c.super_class), (c.interfaces, (c.fields, (c.methods, c.attributes))))))) (λ c. refl) (λ a. refl)
     (made_then _ writes_version (λ v. made_then _ writes_pool (λ pool. made_then _ writes_three (λ head. made_then _ writes_interfaces (λ i.
-    made_then _ (writes_members pool location.Field) (λ f. made_then _ (writes_members pool location.Method) (λ m. made_last _ (writes_attributes pool location.Class))))))))
+    made_then _ (writes_members pool location.Field) (λ f. made_then _ (writes_members pool location.Method) (λ m. made_last _ (writes_attributes pool (location.Class v.1)))))))))

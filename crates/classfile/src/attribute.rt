@@ -5,6 +5,7 @@ ghost use Rattle.classfile.specs.Pieces.{code_pieces};
 ghost use Rattle.classfile.specs.Views.{code_view};
 
 use crate::code::{CodeAttr, put_code, whole_code};
+use crate::layouts::is_laid_out;
 use crate::location::{Location, is_code};
 use crate::nested::put_kept;
 use crate::table::Item;
@@ -17,7 +18,7 @@ use std::alloc::Global;
 pub enum Attribute<'a> {
     /// A Code attribute (4.7.3), which stands in a method alone.
     Code { name: u16, code: Box<CodeAttr<'a>> },
-    /// An attribute of another name or place, whose body is kept as it is.
+    /// An attribute of another name or place, whose body is kept as it is. One of numbers has the length that its layout asks for.
     Raw { name: u16, body: &'a [u8] },
 }
 
@@ -82,8 +83,10 @@ impl<'a> Item<'a> for Attribute<'a> {
                 name,
                 code: Box::new(alloc, code)?,
             })
-        } else {
+        } else if is_laid_out(pool, location, name, body) {
             Ok(Attribute::Raw { name, body })
+        } else {
+            Err(ReadFault::AttributeLength { at: name_at })
         }
     }
 
@@ -93,7 +96,9 @@ impl<'a> Item<'a> for Attribute<'a> {
                 put_code_attribute(out, pool, *name, is_code(pool, location, *name), code)
             }
             Attribute::Raw { name, body } => {
-                put_kept(out, *name, !is_code(pool, location, *name), body)
+                let fine = !is_code(pool, location, *name)
+                    && is_laid_out(pool, location, *name, body);
+                put_kept(out, *name, fine, body)
             }
         }
     }

@@ -1,31 +1,44 @@
 //! What may be wrong with attributes: their names, and what Code attributes hold (JVMS 4.7, 4.7.3).
 ghost use Rattle.std.specs.Prelude.{◌≡◌, map};
-ghost use Rattle.layout.specs.PieceLaws.{name_of};
-ghost use Rattle.classfile.specs.AttributeForm.{is_by_field, on_body, handlers_have_bad, handlers_have_other, nested_have_bad, nested_have_other, code_has_bad, code_has_other, has_bad_length, has_two_stack_maps, attribute_has_bad, attribute_has_other, attributes_have_bad, attributes_have_other, have_bad_length, code_stands_twice, stack_map_stands_twice, have_twice};
+ghost use Rattle.classfile.specs.AttributeForm.{is_by_field, on_body, head_has_bad, head_has_other, handlers_have_bad, handlers_have_other, nested_have_bad, nested_have_other, code_has_bad, code_has_other, has_bad_length, has_two_stack_maps, attribute_has_bad, attribute_has_other, attributes_have_bad, attributes_have_other, have_bad_length, code_stands_twice, stack_map_stands_twice, have_twice};
 ghost use Rattle.classfile.specs.MemberForm.{has_code};
+ghost use Rattle.classfile.specs.NumberForm.{is_of_row, row_stands_twice, numbers_stand_twice};
+ghost use Rattle.classfile.specs.LayoutViews.{row_view};
+ghost use Rattle.classfile.specs.declared.location.Location.TheVariants as location;
 ghost use Rattle.classfile.specs.Views.{attribute_view, handler_view, nested_view, code_view};
 
 use crate::attribute::Attribute;
 use crate::code::{CodeAttr, ExceptionHandler};
 use crate::indices::{ConstantKind, is_bad, is_bad_unless_zero, is_other};
+use crate::layouts::{Row, is_row, major_at, rows};
+use crate::location::Location;
 use crate::nested::NestedAttribute;
+use crate::number_form::{IndexRule, numbers_break};
 use pool::Pool;
 
-/// The index of the attribute's name.
-fn name_of(attribute: &Attribute<'_>) -> u16
-    ensures { result ≡ name_of (attribute_view attribute.now) }
+#[tactic(auto, unfolding(crate::specs::AttributeForm::head_has_bad))]
+fn nested_has_bad(pool: &Pool<'_>, attribute: &NestedAttribute<'_>) -> bool
+    ensures { result ≡ head_has_bad pool.now location.Code (nested_view attribute.now) }
 {
     match attribute {
-        Attribute::Code { name, .. } | Attribute::Raw { name, .. } => *name,
+        NestedAttribute::StackMapTable { name, .. } => is_bad(pool, *name),
+        NestedAttribute::Raw { name, body } => {
+            is_bad(pool, *name)
+                || numbers_break(pool, Location::Code, IndexRule::BadIndex, *name, body)
+        }
     }
 }
 
-/// The index of the nested attribute's name.
-fn nested_name_of(attribute: &NestedAttribute<'_>) -> u16
-    ensures { result ≡ name_of (nested_view attribute.now) }
+#[tactic(auto, unfolding(crate::specs::AttributeForm::head_has_other))]
+fn nested_has_other(pool: &Pool<'_>, attribute: &NestedAttribute<'_>) -> bool
+    ensures { result ≡ head_has_other pool.now location.Code (nested_view attribute.now) }
 {
     match attribute {
-        NestedAttribute::StackMapTable { name, .. } | NestedAttribute::Raw { name, .. } => *name,
+        NestedAttribute::StackMapTable { name, .. } => is_other(pool, ConstantKind::Utf8, *name),
+        NestedAttribute::Raw { name, body } => {
+            is_other(pool, ConstantKind::Utf8, *name)
+                || numbers_break(pool, Location::Code, IndexRule::WrongKind, *name, body)
+        }
     }
 }
 
@@ -63,16 +76,14 @@ fn handlers_have_other(pool: &Pool<'_>, handlers: &[ExceptionHandler]) -> bool
 fn nested_have_bad(pool: &Pool<'_>, attributes: &[NestedAttribute<'_>]) -> bool
     ensures { result ≡ nested_have_bad pool.now (map nested_view attributes.now) }
 {
-    attributes.iter().any(|a| is_bad(pool, nested_name_of(a)))
+    attributes.iter().any(|a| nested_has_bad(pool, a))
 }
 
 #[tactic(auto, unfolding(crate::specs::AttributeForm::nested_have_other))]
 fn nested_have_other(pool: &Pool<'_>, attributes: &[NestedAttribute<'_>]) -> bool
     ensures { result ≡ nested_have_other pool.now (map nested_view attributes.now) }
 {
-    attributes
-        .iter()
-        .any(|a| is_other(pool, ConstantKind::Utf8, nested_name_of(a)))
+    attributes.iter().any(|a| nested_has_other(pool, a))
 }
 
 #[tactic(auto, unfolding(crate::specs::AttributeForm::code_has_bad))]
@@ -102,25 +113,30 @@ fn has_two_stack_maps(code: &CodeAttr<'_>) -> bool
     code.attributes.iter().filter(|a| is_stack_map(a)).count() > 1
 }
 
-#[tactic(auto, unfolding(crate::specs::AttributeForm::attribute_has_bad))]
-fn attribute_has_bad(pool: &Pool<'_>, attribute: &Attribute<'_>) -> bool
-    ensures { result ≡ attribute_has_bad pool.now (attribute_view attribute.now) }
+#[tactic(auto, unfolding(crate::specs::AttributeForm::attribute_has_bad, crate::specs::AttributeForm::head_has_bad))]
+fn attribute_has_bad(pool: &Pool<'_>, location: Location, attribute: &Attribute<'_>) -> bool
+    ensures { result ≡ attribute_has_bad pool.now location (attribute_view attribute.now) }
 {
     match attribute {
         Attribute::Code { name, code } => is_bad(pool, *name) || code_has_bad(pool, code),
-        Attribute::Raw { name, .. } => is_bad(pool, *name),
+        Attribute::Raw { name, body } => {
+            is_bad(pool, *name) || numbers_break(pool, location, IndexRule::BadIndex, *name, body)
+        }
     }
 }
 
-#[tactic(auto, unfolding(crate::specs::AttributeForm::attribute_has_other))]
-fn attribute_has_other(pool: &Pool<'_>, attribute: &Attribute<'_>) -> bool
-    ensures { result ≡ attribute_has_other pool.now (attribute_view attribute.now) }
+#[tactic(auto, unfolding(crate::specs::AttributeForm::attribute_has_other, crate::specs::AttributeForm::head_has_other))]
+fn attribute_has_other(pool: &Pool<'_>, location: Location, attribute: &Attribute<'_>) -> bool
+    ensures { result ≡ attribute_has_other pool.now location (attribute_view attribute.now) }
 {
     match attribute {
         Attribute::Code { name, code } => {
             is_other(pool, ConstantKind::Utf8, *name) || code_has_other(pool, code)
         }
-        Attribute::Raw { name, .. } => is_other(pool, ConstantKind::Utf8, *name),
+        Attribute::Raw { name, body } => {
+            is_other(pool, ConstantKind::Utf8, *name)
+                || numbers_break(pool, location, IndexRule::WrongKind, *name, body)
+        }
     }
 }
 
@@ -144,18 +160,30 @@ fn code_has_two_stack_maps(attribute: &Attribute<'_>) -> bool
 
 /// Whether an index in the attributes may not be looked up.
 #[tactic(auto, unfolding(crate::specs::AttributeForm::attributes_have_bad))]
-pub fn attributes_have_bad(pool: &Pool<'_>, attributes: &[Attribute<'_>]) -> bool
-    ensures { result ≡ attributes_have_bad pool.now (map attribute_view attributes.now) }
+pub fn attributes_have_bad(
+    pool: &Pool<'_>,
+    location: Location,
+    attributes: &[Attribute<'_>],
+) -> bool
+    ensures { result ≡ attributes_have_bad pool.now location (map attribute_view attributes.now) }
 {
-    attributes.iter().any(|a| attribute_has_bad(pool, a))
+    attributes
+        .iter()
+        .any(|a| attribute_has_bad(pool, location, a))
 }
 
 /// Whether an index in the attributes leads to another kind.
 #[tactic(auto, unfolding(crate::specs::AttributeForm::attributes_have_other))]
-pub fn attributes_have_other(pool: &Pool<'_>, attributes: &[Attribute<'_>]) -> bool
-    ensures { result ≡ attributes_have_other pool.now (map attribute_view attributes.now) }
+pub fn attributes_have_other(
+    pool: &Pool<'_>,
+    location: Location,
+    attributes: &[Attribute<'_>],
+) -> bool
+    ensures { result ≡ attributes_have_other pool.now location (map attribute_view attributes.now) }
 {
-    attributes.iter().any(|a| attribute_has_other(pool, a))
+    attributes
+        .iter()
+        .any(|a| attribute_has_other(pool, location, a))
 }
 
 /// Whether a Code attribute is among them.
@@ -188,10 +216,57 @@ fn stack_map_stands_twice(attributes: &[Attribute<'_>]) -> bool
     attributes.iter().any(|a| code_has_two_stack_maps(a))
 }
 
-/// Whether two Code attributes are among them, or in one of these two StackMapTables.
-#[tactic(auto, unfolding(crate::specs::AttributeForm::have_twice))]
-pub fn have_twice(attributes: &[Attribute<'_>]) -> bool
-    ensures { result ≡ have_twice (map attribute_view attributes.now) }
+/// Whether the attribute is that of the row.
+#[tactic(auto, unfolding(crate::specs::NumberForm::is_of_row))]
+fn is_of_row(pool: &Pool<'_>, location: Location, row: &Row, attribute: &Attribute<'_>) -> bool
+    ensures { result ≡ is_of_row pool.now location (row_view row.now) (attribute_view attribute.now) }
 {
-    code_stands_twice(attributes) || stack_map_stands_twice(attributes)
+    match attribute {
+        Attribute::Code { .. } => false,
+        Attribute::Raw { name, .. } => match pool.text(*name) {
+            Ok(text) => is_row(row, major_at(location), text.bytes()),
+            Err(_) => false,
+        },
+    }
+}
+
+#[tactic(auto, unfolding(crate::specs::NumberForm::row_stands_twice))]
+fn row_stands_twice(
+    pool: &Pool<'_>,
+    location: Location,
+    attributes: &[Attribute<'_>],
+    row: &Row,
+) -> bool
+    ensures { result ≡ row_stands_twice pool.now location (map attribute_view attributes.now) (row_view row.now) }
+{
+    row.once
+        && attributes
+            .iter()
+            .filter(|a| is_of_row(pool, location, row, a))
+            .count()
+            > 1
+}
+
+/// Whether two attributes of numbers are among them of which there may be one.
+#[tactic(auto, unfolding(crate::specs::NumberForm::numbers_stand_twice))]
+pub fn numbers_stand_twice(
+    pool: &Pool<'_>,
+    location: Location,
+    attributes: &[Attribute<'_>],
+) -> bool
+    ensures { result ≡ numbers_stand_twice pool.now location (map attribute_view attributes.now) }
+{
+    rows(location)
+        .iter()
+        .any(|row| row_stands_twice(pool, location, attributes, row))
+}
+
+/// Whether two attributes of a method are among them of which there may be one, or in a Code attribute two StackMapTables.
+#[tactic(auto, unfolding(crate::specs::AttributeForm::have_twice))]
+pub fn have_twice(pool: &Pool<'_>, attributes: &[Attribute<'_>]) -> bool
+    ensures { result ≡ have_twice pool.now (map attribute_view attributes.now) }
+{
+    code_stands_twice(attributes)
+        || stack_map_stands_twice(attributes)
+        || numbers_stand_twice(pool, Location::Method, attributes)
 }

@@ -101,7 +101,7 @@ fn interfaces<'a>(
 ) -> Result<Vec<u16>, ReadFault>
     ensures { GoesOn interfaces (λ v. map (λ n. n) v.items) cursor.old cursor.new result }
 {
-    take_table::<u16>(alloc, pool, Location::Class, cursor)
+    take_table::<u16>(alloc, pool, Location::Code, cursor)
 }
 
 #[tactic(auto, unfolding(crate::specs::ClassFile::members))]
@@ -127,7 +127,10 @@ pub fn class<'a>(alloc: Global, cursor: &mut Cursor<'a>) -> Result<ClassFile<'a>
     let interfaces = interfaces(alloc, &constant_pool, cursor)?;
     let fields = members(alloc, &constant_pool, Location::Field, cursor)?;
     let methods = members(alloc, &constant_pool, Location::Method, cursor)?;
-    let attributes = attributes(alloc, &constant_pool, Location::Class, cursor)?;
+    let location = Location::Class {
+        major: major_version,
+    };
+    let attributes = attributes(alloc, &constant_pool, location, cursor)?;
     Ok(ClassFile {
         minor_version,
         major_version,
@@ -166,7 +169,10 @@ fn put_tables(out: &mut Output, pool: &Pool<'_>, class: &ClassFile<'_>) -> Resul
 {
     put_table(out, pool, Location::Field, &class.fields)?;
     put_table(out, pool, Location::Method, &class.methods)?;
-    put_table(out, pool, Location::Class, &class.attributes)
+    let location = Location::Class {
+        major: class.major_version,
+    };
+    put_table(out, pool, location, &class.attributes)
 }
 
 #[tactic(auto, using(layout::specs::PieceLaws::writes_append))]
@@ -178,7 +184,7 @@ fn put_behind_pool(
     ensures { Goes (behind_pool_pieces pool.now (class_view class.now)) out.old out.new result }
 {
     put_three(out, class.access_flags, class.this_class, class.super_class)?;
-    put_table(out, pool, Location::Class, &class.interfaces)?;
+    put_table(out, pool, Location::Code, &class.interfaces)?;
     put_tables(out, pool, class)
 }
 

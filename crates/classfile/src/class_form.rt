@@ -3,13 +3,15 @@ ghost use Rattle.std.specs.Prelude.{◌≡◌, map};
 ghost use Rattle.classfile.specs.Conditions.{broken_rule};
 ghost use Rattle.classfile.specs.ClassForm.{is_object, interfaces_have_bad, interfaces_have_other, interfaces_have_array, class_has_bad, class_has_other, class_has_array, leads_to_object, leads_elsewhere, has_bad_super, class_conditions};
 ghost use Rattle.classfile.specs.Views.{class_view};
+ghost use Rattle.classfile.specs.declared.location.Location.TheVariants as locations;
 
-use crate::attribute_form::{attributes_have_bad, attributes_have_other};
+use crate::attribute_form::{attributes_have_bad, attributes_have_other, numbers_stand_twice};
 use crate::class_file::ClassFile;
 use crate::constant_form::is_array_class;
 use crate::flags::{INTERFACE, are_bad_class_flags, has};
 use crate::form_fault::FormRule;
 use crate::indices::{ConstantKind, is_bad, is_bad_unless_zero, is_other};
+use crate::location::Location;
 use names::{OBJECT, Text};
 use pool::Pool;
 
@@ -62,6 +64,15 @@ fn interfaces_have_array(pool: &Pool<'_>, interfaces: &[u16]) -> bool
     interfaces.iter().any(|index| is_array_class(pool, *index))
 }
 
+/// The table of the class's own attributes.
+fn location(class: &ClassFile<'_>) -> Location
+    ensures { result ≡ locations.Class class.now.major_version }
+{
+    Location::Class {
+        major: class.major_version,
+    }
+}
+
 #[tactic(auto, unfolding(crate::specs::ClassForm::class_has_bad))]
 fn class_has_bad(class: &ClassFile<'_>) -> bool
     ensures { result ≡ class_has_bad (class_view class.now) }
@@ -70,7 +81,7 @@ fn class_has_bad(class: &ClassFile<'_>) -> bool
     is_bad(pool, class.this_class)
         || is_bad_unless_zero(pool, class.super_class)
         || interfaces_have_bad(pool, &class.interfaces)
-        || attributes_have_bad(pool, &class.attributes)
+        || attributes_have_bad(pool, location(class), &class.attributes)
 }
 
 #[tactic(auto, unfolding(crate::specs::ClassForm::class_has_other))]
@@ -81,7 +92,7 @@ fn class_has_other(class: &ClassFile<'_>) -> bool
     is_other(pool, ConstantKind::Class, class.this_class)
         || is_other(pool, ConstantKind::Class, class.super_class)
         || interfaces_have_other(pool, &class.interfaces)
-        || attributes_have_other(pool, &class.attributes)
+        || attributes_have_other(pool, location(class), &class.attributes)
 }
 
 #[tactic(auto, unfolding(crate::specs::ClassForm::class_has_array))]
@@ -121,6 +132,8 @@ pub fn class_rule(class: &ClassFile<'_>) -> Option<FormRule>
         Some(FormRule::BadFlags)
     } else if has_bad_super(class) {
         Some(FormRule::BadSuper)
+    } else if numbers_stand_twice(&class.constant_pool, location(class), &class.attributes) {
+        Some(FormRule::AttributeTwice)
     } else {
         None
     }

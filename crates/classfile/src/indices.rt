@@ -16,6 +16,8 @@ pub enum ConstantKind {
     NameAndType,
     /// A Fieldref, a Methodref or an InterfaceMethodref (JVMS 4.4.2).
     Reference,
+    /// An Integer, a Float, a Long, a Double or a String (JVMS 4.4.3 to 4.4.5).
+    Value,
 }
 
 fn is_of(kind: ConstantKind, constant: &Constant<'_>) -> bool
@@ -30,6 +32,14 @@ fn is_of(kind: ConstantKind, constant: &Constant<'_>) -> bool
             Constant::Fieldref { .. }
                 | Constant::Methodref { .. }
                 | Constant::InterfaceMethodref { .. }
+        ),
+        ConstantKind::Value => matches!(
+            constant,
+            Constant::Integer { .. }
+                | Constant::Float { .. }
+                | Constant::Long { .. }
+                | Constant::Double { .. }
+                | Constant::String { .. }
         ),
     }
 }

@@ -16,12 +16,14 @@
 //! | `code_method` | [`CodeMethod`], a method of a well-formed class as its instructions see it |
 //! | `nested` | [`NestedAttribute`], an attribute of a Code attribute |
 //! | `location` | the table that an attribute stands in, and which are read by field there |
+//! | `layouts` | attributes of numbers of two bytes, and how their bodies are laid out |
 //! | `table` | a count and so many items, for all tables of a class file |
 //! | `decoding`, `encoding` | the two calls |
 //! | `laws` | that they undo one another |
 //! | `form` | [`form_check`], [`Formed`], and the places one after the other |
 //! | `form_fault` | [`FormRule`], [`Place`] and [`FormFault`] |
 //! | `constant_form`, `class_form`, `member_form`, `attribute_form` | which rule is broken at a place |
+//! | `number_form` | which rule is broken by an index in an attribute of numbers |
 //! | `indices`, `naming`, `flags` | what an index leads to, forms of names and descriptors, access flags |
 //! | `signatures` | the names and descriptors that were met |
 //! | `form_laws` | what the rules mean, and that there is one first fault |
@@ -42,11 +44,13 @@ mod form_fault;
 mod form_laws;
 mod indices;
 mod laws;
+mod layouts;
 mod location;
 mod member;
 mod member_form;
 mod naming;
 mod nested;
+mod number_form;
 mod signatures;
 mod table;
 

@@ -7,8 +7,8 @@ use pool::Pool;
 /// The table that an attribute stands in.
 #[derive(Clone, Copy, Debug, PartialEq, Eq)]
 pub enum Location {
-    /// The attributes of the class file.
-    Class,
+    /// The attributes of the class file, which is of this major version.
+    Class { major: u16 },
     /// The attributes of a field.
     Field,
     /// The attributes of a method.
@@ -33,7 +33,7 @@ pub fn is_code(pool: &Pool<'_>, location: Location, name: u16) -> bool
 {
     match location {
         Location::Method => is_named(pool, name, b"Code"),
-        Location::Class | Location::Field | Location::Code => false,
+        Location::Class { .. } | Location::Field | Location::Code => false,
     }
 }
 
@@ -43,6 +43,6 @@ pub fn is_stack_map(pool: &Pool<'_>, location: Location, name: u16) -> bool
 {
     match location {
         Location::Code => is_named(pool, name, b"StackMapTable"),
-        Location::Class | Location::Field | Location::Method => false,
+        Location::Class { .. } | Location::Field | Location::Method => false,
     }
 }

@@ -8,12 +8,14 @@ ghost use Rattle.pool.specs.Views.{name_and_type_view};
 
 use crate::attribute_form::{
     attributes_have_bad, attributes_have_other, has_code, have_bad_length, have_twice,
+    numbers_stand_twice,
 };
 use crate::constant_form::{
     is_no_field_descriptor, is_no_unqualified_name, texts_have_bad, texts_have_other,
 };
 use crate::flags::{ABSTRACT, NATIVE, STATIC, are_bad_field_flags, are_bad_method_flags, has};
 use crate::form_fault::FormRule;
+use crate::location::Location;
 use crate::member::Member;
 use crate::naming::{fits_method, is_clinit, is_init, is_method_name};
 use names::Text;
@@ -21,28 +23,28 @@ use pool::{NameAndType, Pool, PoolFault};
 use std::alloc::{AllocError, Global};
 
 #[tactic(auto, unfolding(crate::specs::MemberForm::member_has_bad))]
-fn member_has_bad(pool: &Pool<'_>, member: &Member<'_>) -> bool
-    ensures { result ≡ member_has_bad pool.now (member_view member.now) }
+fn member_has_bad(pool: &Pool<'_>, location: Location, member: &Member<'_>) -> bool
+    ensures { result ≡ member_has_bad pool.now location (member_view member.now) }
 {
     texts_have_bad(pool, member.name, member.descriptor)
-        || attributes_have_bad(pool, &member.attributes)
+        || attributes_have_bad(pool, location, &member.attributes)
 }
 
 #[tactic(auto, unfolding(crate::specs::MemberForm::member_has_other))]
-fn member_has_other(pool: &Pool<'_>, member: &Member<'_>) -> bool
-    ensures { result ≡ member_has_other pool.now (member_view member.now) }
+fn member_has_other(pool: &Pool<'_>, location: Location, member: &Member<'_>) -> bool
+    ensures { result ≡ member_has_other pool.now location (member_view member.now) }
 {
     texts_have_other(pool, member.name, member.descriptor)
-        || attributes_have_other(pool, &member.attributes)
+        || attributes_have_other(pool, location, &member.attributes)
 }
 
 /// The rule that a field breaks; `repeated` where an earlier one has its name and descriptor.
 pub fn field_rule(pool: &Pool<'_>, repeated: bool, field: &Member<'_>) -> Option<FormRule>
     ensures { result ≡ broken_rule (field_conditions pool.now repeated (member_view field.now)) }
 {
-    if member_has_bad(pool, field) {
+    if member_has_bad(pool, Location::Field, field) {
         Some(FormRule::BadIndex)
-    } else if member_has_other(pool, field) {
+    } else if member_has_other(pool, Location::Field, field) {
         Some(FormRule::WrongKind)
     } else if is_no_unqualified_name(pool, field.name) {
         Some(FormRule::BadName)
@@ -52,6 +54,8 @@ pub fn field_rule(pool: &Pool<'_>, repeated: bool, field: &Member<'_>) -> Option
         Some(FormRule::BadFlags)
     } else if repeated {
         Some(FormRule::Twice)
+    } else if numbers_stand_twice(pool, Location::Field, &field.attributes) {
+        Some(FormRule::AttributeTwice)
     } else {
         None
     }
@@ -168,9 +172,9 @@ pub fn method_rule(
 ) -> Result<Option<FormRule>, AllocError>
     ensures { IfOk result (λ r. r ≡ broken_rule (method_conditions pool.now interface repeated (member_view method.now))) }
 {
-    let rule = if member_has_bad(pool, method) {
+    let rule = if member_has_bad(pool, Location::Method, method) {
         Some(FormRule::BadIndex)
-    } else if member_has_other(pool, method) {
+    } else if member_has_other(pool, Location::Method, method) {
         Some(FormRule::WrongKind)
     } else if is_bad_method_name(pool, interface, method.name) {
         Some(FormRule::BadName)
@@ -198,7 +202,7 @@ fn body_rule(pool: &Pool<'_>, method: &Member<'_>) -> Option<FormRule>
         Some(FormRule::CodeNotAllowed)
     } else if have_bad_length(&method.attributes) {
         Some(FormRule::BadCodeLength)
-    } else if have_twice(&method.attributes) {
+    } else if have_twice(pool, &method.attributes) {
         Some(FormRule::AttributeTwice)
     } else {
         None

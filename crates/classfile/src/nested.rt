@@ -2,6 +2,7 @@
 ghost use Rattle.std.specs.Prelude.{◌≡◌, ◌++◌, [], ◌∷◌};
 ghost use Rattle.layout.specs.Pieces.{Goes, field, plain, marked, lengthened};
 
+use crate::layouts::is_laid_out;
 use crate::location::{Location, is_stack_map};
 use crate::table::Item;
 use layout::{Cursor, Output, ReadFault, WriteFault};
@@ -13,7 +14,7 @@ use std::alloc::Global;
 pub enum NestedAttribute<'a> {
     /// A StackMapTable (4.7.4), whose body is kept as it is.
     StackMapTable { name: u16, body: &'a [u8] },
-    /// An attribute of another name, whose body is kept as it is.
+    /// An attribute of another name, whose body is kept as it is. One of numbers has the length that its layout asks for.
     Raw { name: u16, body: &'a [u8] },
 }
 
@@ -57,13 +58,16 @@ impl<'a> Item<'a> for NestedAttribute<'a> {
         _location: Location,
         cursor: &mut Cursor<'a>,
     ) -> Result<Self, ReadFault> {
+        let name_at = cursor.at();
         let name = cursor.u2()?;
         let length = cursor.u4()?;
         let body = cursor.part(length as usize)?;
         if is_stack_map(pool, Location::Code, name) {
             Ok(NestedAttribute::StackMapTable { name, body })
-        } else {
+        } else if is_laid_out(pool, Location::Code, name, body) {
             Ok(NestedAttribute::Raw { name, body })
+        } else {
+            Err(ReadFault::AttributeLength { at: name_at })
         }
     }
 
@@ -78,7 +82,9 @@ impl<'a> Item<'a> for NestedAttribute<'a> {
                 put_kept(out, *name, is_stack_map(pool, Location::Code, *name), body)
             }
             NestedAttribute::Raw { name, body } => {
-                put_kept(out, *name, !is_stack_map(pool, Location::Code, *name), body)
+                let fine = !is_stack_map(pool, Location::Code, *name)
+                    && is_laid_out(pool, Location::Code, *name, body);
+                put_kept(out, *name, fine, body)
             }
         }
     }

@@ -172,7 +172,7 @@ module _ (h : List ClassFact) (f g : FrameFact) where
 pub one_frame_answer : (h : List ClassFact) (f g : FrameFact) (r : Outcome) → FrameAnswer h f g r ↔ (r ≡ frame_answer h f g)
 one_frame_answer h f g r = (λ p. frame_one h f g r (frame_answer h f g) p (frame_holds h f g), λ e. subst (FrameAnswer h f g) (sym e) (frame_holds h f g))
 
-list_itself : (h : List ClassFact) (xs : List VerificationType) → list_answer (type_answer h) xs xs ≡ yes
+pub list_itself : (h : List ClassFact) (xs : List VerificationType) → list_answer (type_answer h) xs xs ≡ yes
 list_itself h [] = refl
 list_itself h (x ∷ xs) = ap (λ r. both r (list_answer (type_answer h) xs xs)) (type_itself h x) ∙ list_itself h xs
 

@@ -15,3 +15,4 @@ pub mod Writing
 pub mod Marking
 pub mod Whole
 pub mod Forms
+pub mod Sharing

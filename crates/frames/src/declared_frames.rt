@@ -11,7 +11,7 @@ use crate::chain::Chains;
 use crate::compare_frames::both;
 use crate::frame::Frame;
 use crate::vtype::VType;
-use crate::walking::{chain_assignable, write_chain};
+use crate::walking::{chain_assignable, write_above};
 use hierarchy::{Answer, Classes};
 use std::alloc::{AllocError, Global};
 
@@ -38,7 +38,7 @@ pub struct Declared<'n, 'a> {
 impl<'a> DeclaredFrames<'a> {
     ghost use Rattle.std.specs.Prelude.{◌<◌, ◌≤◌, [], length, slice_get, None, Some, IfSome, MatchOption, IsSomeAnd, option_map};
     ghost use Rattle.insn.specs.Offsets.{at_offset};
-    ghost use Rattle.frames.specs.DeclaredTables.{frames_in, locals_in, declared_view};
+    ghost use Rattle.frames.specs.DeclaredTables.{frames_in, locals_in, declared_view, IsOf};
 
     /// The frames of these chains.
     #[tactic(auto, unfolding(crate::specs::DeclaredTables::frames_in, crate::specs::DeclaredTables::locals_in))]
@@ -88,6 +88,7 @@ impl<'a> DeclaredFrames<'a> {
         ensures frame { option_map (λ x. (x.0, declared_view x.1)) result ≡ slice_get (frames_in self.now) place }
         ensures locals { IfSome result (λ x. length (declared_view x.1).locals ≡ locals_in self.now) }
         ensures small { IfSome result (λ x. x.0 < 65536) }
+        ensures own { IfSome result (λ x. IsOf self.now x.1) }
     {
         if place >= self.frames.len() {
             return None;
@@ -115,6 +116,7 @@ impl<'a> DeclaredFrames<'a> {
     pub fn find(&self, at: u32) -> Option<Declared<'_, 'a>>
         ensures frame { option_map declared_view result ≡ at_offset (frames_in self.now) at }
         ensures locals { IfSome result (λ d. length (declared_view d).locals ≡ locals_in self.now) }
+        ensures own { IfSome result (IsOf self.now) }
     {
         let place = self.place(at)?;
         let (_at, declared) = self.get(place)?;
@@ -129,13 +131,14 @@ fn may_have_flag(from: bool, to: bool) -> bool
 }
 
 impl<'n, 'a> Declared<'n, 'a> {
-    ghost use Rattle.std.specs.Prelude.{◌≤◌, length, map, reverse, OnOk, IfOk};
+    ghost use Rattle.std.specs.Prelude.{◌≤◌, true, length, map, reverse, OnOk, IfOk, IfSome, MatchOption};
     ghost use Rattle.hierarchy.specs.Answer.{outcome_of};
     ghost use Rattle.frames.specs.VerificationType.{type_of};
     ghost use Rattle.frames.specs.FrameAssignable.{frame_answer};
     ghost use Rattle.frames.specs.FrameFact.{frame_of};
     ghost use Rattle.frames.specs.HeldFrames.{held_locals, held_frame};
-    ghost use Rattle.frames.specs.DeclaredTables.{declared_view};
+    ghost use Rattle.frames.specs.Chains.{IsOn};
+    ghost use Rattle.frames.specs.DeclaredTables.{declared_view, AreOfOne, AreKept, AreFit};
 
     /// Whether the own object is uninitialized.
     pub fn flag(&self) -> bool
@@ -144,8 +147,29 @@ impl<'n, 'a> Declared<'n, 'a> {
         self.chains.sums(self.tops.locals).flag
     }
 
+    /// Whether the locals are known to be those of another frame of the same stack map: where no entry between the two
+    /// changed them. Otherwise they may be the same as well.
+    pub fn keeps_locals_of(&self, other: &Declared<'_, 'a>) -> bool
+        ensures { result ≡ true → AreOfOne self.now other.now → (declared_view self.now).locals ≡ (declared_view other.now).locals }
+    {
+        self.tops.locals == other.tops.locals
+    }
+
+    // The place from which down the locals are also those of the other frame, if there is one.
+    fn shared(&self, other: Option<Declared<'_, 'a>>) -> usize
+        requires { IfSome other (λ k. AreOfOne k self.now) }
+        ensures own { IsOn self.now.chains.now.links.items self.now.tops.locals result }
+        ensures other { MatchOption other.entry (result ≡ 0) (λ k. IsOn self.now.chains.now.links.items k.tops.locals result) }
+    {
+        match other {
+            Some(other) => self.chains.common(self.tops.locals, other.tops.locals),
+            None => 0,
+        }
+    }
+
     /// Whether a frame may stand where this one is declared (JVMS 4.10.1.4): one that has these locals, all beyond them
-    /// being top, this stack from the bottom up, and this flag. Takes no memory.
+    /// being top, this stack from the bottom up, and this flag. Where the locals are known to fit another frame of the
+    /// same stack map, only those are compared that the two declared frames do not share. Takes no memory.
     ///
     /// The answer is that of [`frame_assignable`](crate::frame_assignable).
     pub fn assignable_from<C: Classes>(
@@ -153,8 +177,10 @@ impl<'n, 'a> Declared<'n, 'a> {
         locals: &[VType<'a>],
         stack: &[VType<'a>],
         flag: bool,
+        fits: Option<Declared<'_, 'a>>,
         classes: &C,
     ) -> Answer<'a>
+        requires { IfSome fits (AreFit (C.content classes.now) self.now (held_locals locals.now (length (declared_view self.now).locals))) }
         ensures { let d = declared_view self.now in
             outcome_of result ≡ frame_answer (C.content classes.now) (held_frame locals.now (length d.locals) stack.now flag) d }
     {
@@ -167,13 +193,21 @@ impl<'n, 'a> Declared<'n, 'a> {
         if stack.len() != self.chains.sums(self.tops.stack).count {
             return Answer::No;
         }
-        let answer = chain_assignable(locals, self.chains, self.tops.locals, false, classes);
+        let shared = self.shared(fits);
+        let answer = chain_assignable(
+            locals,
+            self.chains,
+            self.tops.locals,
+            shared,
+            false,
+            classes,
+        );
         if let Answer::No = answer {
             return Answer::No;
         }
         both(
             answer,
-            chain_assignable(stack, self.chains, self.tops.stack, true, classes),
+            chain_assignable(stack, self.chains, self.tops.stack, 0, true, classes),
         )
     }
 
@@ -182,7 +216,7 @@ impl<'n, 'a> Declared<'n, 'a> {
         ensures { IfOk result (λ f. frame_of f ≡ declared_view self.now) }
     {
         let mut locals: Vec<VType<'a>> = Vec::new(alloc);
-        self.write_locals(&mut locals)?;
+        self.write_locals(None, &mut locals)?;
         locals.resize(usize::from(self.max_locals), VType::Top)?;
         let mut stack: Vec<VType<'a>> = Vec::new(alloc);
         self.write_stack(&mut stack)?;
@@ -194,18 +228,27 @@ impl<'n, 'a> Declared<'n, 'a> {
     }
 
     /// Writes the locals to a vector in place of what it holds, by units: a long or double is its type and then top.
-    /// All locals beyond them are top.
-    pub fn write_locals(&self, locals: &mut Vec<VType<'a>>) -> Result<(), AllocError>
+    /// All locals beyond them are top. Where the vector holds the locals of another frame of the same stack map, this
+    /// one may be `kept`: then only the locals are written that the two frames do not share.
+    pub fn write_locals(
+        &self,
+        kept: Option<Declared<'_, 'a>>,
+        locals: &mut Vec<VType<'a>>,
+    ) -> Result<(), AllocError>
+        requires { IfSome kept (AreKept self.now (held_locals locals.old.items (length (declared_view self.now).locals))) }
         ensures written { let d = declared_view self.now in OnOk result (held_locals locals.new.items (length d.locals) ≡ d.locals) }
         ensures few { OnOk result (length locals.new.items ≤ length (declared_view self.now).locals) }
     {
-        write_chain(self.chains, self.tops.locals, true, locals)
+        let shared = self.shared(kept);
+        locals.resize(self.chains.units(shared), VType::Top)?;
+        write_above(self.chains, self.tops.locals, shared, true, locals)
     }
 
     /// Writes the stack to a vector in place of what it holds, from the bottom up.
     pub fn write_stack(&self, stack: &mut Vec<VType<'a>>) -> Result<(), AllocError>
         ensures { OnOk result (reverse (map type_of stack.new.items) ≡ (declared_view self.now).stack) }
     {
-        write_chain(self.chains, self.tops.stack, false, stack)
+        stack.clear();
+        write_above(self.chains, self.tops.stack, 0, false, stack)
     }
 }

@@ -14,6 +14,7 @@
 //! - `frame_fault`: why an entry is refused.
 //! - `laws`: what the answers mean, by chains of superclasses and place by place.
 //! - `map_reading`, `map_writing`: the two directions of a stack map.
+//! - `naming`: the types of what descriptors and Class constants name.
 //! - `refusing`: an entry judged.
 //! - `stack_map`: stack maps, and `read_map`.
 //! - `starts`: where instructions begin.
@@ -35,6 +36,7 @@ mod frame_fault;
 pub mod laws;
 mod map_reading;
 mod map_writing;
+mod naming;
 mod refusing;
 mod stack_map;
 mod starts;
@@ -49,6 +51,7 @@ pub use declared_frames::{Declared, DeclaredFrames};
 pub use declaring::declare;
 pub use frame::Frame;
 pub use frame_fault::FrameFault;
+pub use naming::{array_of, held_by, number_type, reference_to};
 pub use stack_map::{MapEntry, StackMap, TypeInfo, read_map};
 pub use starts::Starts;
 pub use vtype::VType;

@@ -71,7 +71,7 @@ abbrev pub dims_of : RunType → ℕ
 dims_of (types.Class name) = 0
 dims_of (types.Array dims base) = dims
 
-deep : (d : ℕ) (b : Base) → dimensions (dimensioned d (base_of b)) ≡ d
+pub deep : (d : ℕ) (b : Base) → dimensions (dimensioned d (base_of b)) ≡ d
 deep zero (bases.Primitive p) = refl
 deep zero (bases.Class name) = refl
 deep (suc d) b = omega (arith, deep d b)
@@ -89,7 +89,7 @@ same_cond false false o p e = refl
 cmp_eq : (a b : ℕ) → is_eq (nat_cmp a b) ≡ nat_eq a b
 cmp_eq a b = grind (arith, nat_tests)
 
-put : (objects now : BTreeMap ℕ RawObject) (a : ℕ) (o : RawObject) → ((q : ℕ) → get nat_cmp now q ≡ cond (is_at (nat_cmp a) q) (Some o) (get nat_cmp objects q)) → heap_view now ≡ with_object (heap_view objects) a (object_view o)
+pub put : (objects now : BTreeMap ℕ RawObject) (a : ℕ) (o : RawObject) → ((q : ℕ) → get nat_cmp now q ≡ cond (is_at (nat_cmp a) q) (Some o) (get nat_cmp objects q)) → heap_view now ≡ with_object (heap_view objects) a (object_view o)
 put objects now a o e = fun_ext (λ q. ap (option_map object_view) (e q) ∙ same_cond (is_at (nat_cmp a) q) (nat_eq a q) o (get nat_cmp objects q) (cmp_eq a q))
 
 module _ (old : Heap) (all : List (ℕ × ReferenceType)) (objects : BTreeMap ℕ RawObject) where

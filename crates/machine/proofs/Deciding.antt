@@ -1,20 +1,21 @@
 -- A state meets the tests exactly where it is no fault.
-use Rattle.std.specs.Prelude.{not, nat_lt, nat_eq, ◌||◌, ◌&&◌, pos, negsuc}
-use Rattle.std.proofs.Common.{◌≡◌, ℕ, ℤ, ◌≤◌, Bool, true, false, List, [], ◌∷◌, length, Option, Some, if◌then◌else◌, refl, sym, ap, ◌∙◌, subst, arith, inl, inr}
+use Rattle.std.specs.Prelude.{not, nat_eq, ◌||◌, ◌&&◌, pos, negsuc}
+use Rattle.std.proofs.Common.{◌≡◌, ℕ, ℤ, Bool, true, false, List, [], ◌∷◌, length, Option, Some, if◌then◌else◌, refl, sym, ap, ◌∙◌, subst, arith, inl, inr}
 use Rattle.std.specs.Option.{is_some}
 use Rattle.std.proofs.lemmas.Bool.Decides.{nat_tests}
 use Rattle.hierarchy.specs.World.{World}
 use Rattle.classfile.specs.Methods.{Method, ExceptionEntry, covers}
 use Rattle.insn.specs.Meanings.{Act}
 use Rattle.insn.specs.Offsets.{at_offset, IsStart, has_offset, first_offset, next_offset, IsAmong}
-use Rattle.machine.specs.declared.deed.Deed.{Deed}
-use Rattle.machine.specs.Values.{depth_of}
-use Rattle.machine.specs.Tasks.{needs_of, falls, targets, Tasks}
-use Rattle.machine.specs.Demands.{State, AllMeet, MeetsRest, HasRoom, AllUsable, EndsReady, LeadsToStart, IsNoFaultBy}
+use Rattle.machine.specs.Values.{Value}
+use Rattle.machine.specs.Heap.{Heap}
+use Rattle.machine.specs.Tasks.{Need, of_kind, of_type, some_reference, some_array, some_array_for, own_or_of, Task, needs_of, falls, targets, Tasks}
+use Rattle.machine.specs.Values as values
+use Rattle.machine.specs.Demands.{State, AllMeet, MeetsRest, HasRoom, IsUsable, AllUsable, EndsReady, LeadsToStart, IsNoFaultBy}
+use Rattle.machine.specs.Demands as demands
 use Rattle.machine.specs.private.Decided.{paired_behind}
-use Rattle.machine.specs.private.Deeds.{task_view, stack_after}
-use Rattle.machine.specs.private.Demanded.{has_operands, begins, all_begin, leads, all_lead, Meets}
-use Rattle.machine.proofs.Faults.{split, join, not_true, not_false, some_is, paired_is, is_paired, operands_meet, rest_meets, has_them, usable, room, within}
+use Rattle.machine.specs.private.Demanded.{begins, all_begin, leads, all_lead, Meets}
+use Rattle.machine.proofs.Forms.{split, join, some_is, paired_is, is_paired}
 
 -- ---- starts
 
@@ -84,13 +85,32 @@ begin_all : (m : Method Act) (ts : List ℤ) → ((target : ℤ) → IsAmong tar
 begin_all m [] f = refl
 begin_all m (t ∷ ts) f = join (begins m.code t) (all_begin m.code ts) (start_begins m t (f t (inl refl))) (begin_all m ts (λ target a. f target (inr a)))
 
+-- ---- what meets a need is usable
+
+module _ (world : World) (heap : Heap) where
+  usable : (n : Need) (v : Value) → demands.Meets world heap n v → IsUsable heap n v
+  usable (of_kind kind) v p = tt
+  usable some_reference v p = tt
+  usable (of_type type) (values.number kind) p = absurd p
+  usable (of_type type) values.null p = tt
+  usable (of_type type) (values.reference a) p = (p.0, p.1)
+  usable some_array (values.number kind) p = absurd p
+  usable some_array values.null p = tt
+  usable some_array (values.reference a) p = (p.0, p.1)
+  usable (some_array_for q) (values.number kind) p = absurd p
+  usable (some_array_for q) values.null p = tt
+  usable (some_array_for q) (values.reference a) p = (p.0, p.1)
+  usable (own_or_of class) (values.number kind) (inl p) = absurd p
+  usable (own_or_of class) values.null (inl p) = inl tt
+  usable (own_or_of class) (values.reference a) (inl p) = inl (p.0, p.1)
+  usable (own_or_of class) v (inr p) = inr p
+
+  all_usable : (ns : List Need) (vs : List Value) → AllMeet world heap ns vs → AllUsable heap ns vs
+  all_usable [] vs p = tt
+  all_usable (n ∷ ns) [] p = tt
+  all_usable (n ∷ ns) (v ∷ vs) p = (usable n v p.0, all_usable ns vs p.1)
+
 -- ---- both ways
-
-not_over : (limit n : ℕ) → not (nat_lt limit n) ≡ true → n ≤ limit
-not_over limit n e = let f : nat_lt limit n ≡ false = not_true (nat_lt limit n) e in grind (arith, nat_tests, f)
-
-over_not : (limit n : ℕ) → n ≤ limit → not (nat_lt limit n) ≡ true
-over_not limit n le = not_false (nat_lt limit n) (grind (arith, nat_tests, le))
 
 same_length : (a b : ℕ) → nat_eq a b ≡ true → a ≡ b
 same_length a b e = grind (arith, nat_tests, e)
@@ -98,66 +118,56 @@ same_length a b e = grind (arith, nat_tests, e)
 length_same : (a b : ℕ) → a ≡ b → nat_eq a b ≡ true
 length_same a b e = grind (arith, nat_tests, e)
 
-goes : (f t : Bool) → (not f || t) ≡ true → f ≡ true → t ≡ true
-goes = leads_on
-
-module _ (task : Tasks) (world : World) (m : Method Act) (s : State) (act : Act) (d : Deed) (next : Option ℕ)
-    (here : at_offset m.code s.at ≡ Some act) (what : task_view d ≡ task m act) (after : next_offset m.code s.at ≡ next) where
+module _ (task : Tasks) (world : World) (m : Method Act) (s : State) (act : Act) (t : Task) (next : Option ℕ)
+    (here : at_offset m.code s.at ≡ Some act) (what : t ≡ task m act) (after : next_offset m.code s.at ≡ next) where
   abbrev on : Bool
-  on = not (falls (task_view d)) || is_some next
+  on = not (falls t) || is_some next
 
   abbrev ways_begin : Bool
-  ways_begin = all_begin m.code (targets s.at (task_view d))
+  ways_begin = all_begin m.code (targets s.at t)
 
-  pub no_fault : Meets m d next s → IsNoFaultBy task world m s
+  pub no_fault : Meets world m t next s → IsNoFaultBy task world m s
   no_fault p =
       let whole = split (nat_eq (length s.locals) m.max_locals) (paired_behind false s.locals) p.locals in
-      let deep = split (not (nat_lt m.max_stack (depth_of s.stack))) (not (nat_lt m.max_stack (depth_of (stack_after d s.stack s.locals)))) p.stack in
       let ways = split on (ways_begin && all_lead m.code s.at m.exceptions) p.control in
       let others = split ways_begin (all_lead m.code s.at m.exceptions) ways.1 in
       record {
         act = act;
         here = here;
         operands = record {
-          operands = subst (λ t. AllMeet world s.heap (needs_of t) s.stack) what (operands_meet world m s d p.operands);
-          others = subst (λ t. MeetsRest world m t s) what (rest_meets world m s d p.operands);
+          operands = subst (λ z. AllMeet world s.heap (needs_of z) s.stack) what p.operands;
+          others = subst (λ z. MeetsRest world m z s) what p.others;
           all_locals = same_length (length s.locals) m.max_locals whole.0;
           paired = paired_is false s.locals whole.1;
         };
-        stack = record {
-          before = not_over m.max_stack (depth_of s.stack) deep.0;
-          after = subst (λ t. HasRoom m t s) what (room m s d (not_over m.max_stack (depth_of (stack_after d s.stack s.locals)) deep.1));
-        };
+        stack = record { before = p.before; after = subst (λ z. HasRoom m z s) what p.after };
         control = record {
-          branches = subst (λ t. (target : ℤ) → IsAmong target (targets s.at t) → LeadsToStart m target) what (begun m (targets s.at (task_view d)) others.0);
+          branches = subst (λ z. (target : ℤ) → IsAmong target (targets s.at z) → LeadsToStart m target) what (begun m (targets s.at t) others.0);
           next = λ f.
-              let n = some_is next (goes (falls (task_view d)) (is_some next) ways.0 (ap falls what ∙ f)) in
+              let n = some_is next (leads_on (falls t) (is_some next) ways.0 (ap falls what ∙ f)) in
               (n.0, after ∙ n.1, start_of m.code n.0 (next_begins m.code s.at n.0 (after ∙ n.1)));
           caught = lead m.code s.at m.exceptions others.1;
         };
-        objects = record { uses = subst (λ t. AllUsable s.heap (needs_of t) s.stack) what (usable world m s d) };
-        own_object = record { own = subst (λ t. EndsReady m t s) what p.own_object };
+        objects = record { uses = subst (λ z. AllUsable s.heap (needs_of z) s.stack) what (all_usable world s.heap (needs_of t) s.stack p.operands) };
+        own_object = record { own = subst (λ z. EndsReady m z s) what p.own_object };
       }
 
-  met : (n : IsNoFaultBy task world m s) → task m n.act ≡ task_view d → Meets m d next s
-  met n e =
-      let ops : has_operands m.max_locals d s.stack s.locals ≡ true =
-      has_them world m s d (subst (λ t. AllMeet world s.heap (needs_of t) s.stack) e n.operands.operands) (subst (λ t. MeetsRest world m t s) e n.operands.others) in
-      record {
-        locals = join (nat_eq (length s.locals) m.max_locals) (paired_behind false s.locals) (length_same (length s.locals) m.max_locals n.operands.all_locals) (is_paired false s.locals n.operands.paired);
-        operands = ops;
-        stack = join (not (nat_lt m.max_stack (depth_of s.stack))) (not (nat_lt m.max_stack (depth_of (stack_after d s.stack s.locals))))
-            (over_not m.max_stack (depth_of s.stack) n.stack.before)
-            (over_not m.max_stack (depth_of (stack_after d s.stack s.locals)) (within m s d (subst (λ t. HasRoom m t s) e n.stack.after) ops n.stack.before));
-        control = join on (ways_begin && all_lead m.code s.at m.exceptions)
-            (leads_there (falls (task_view d)) (is_some next) (λ f. let r = n.control.next (ap falls e ∙ f) in ap is_some (sym after ∙ r.1)))
-            (join ways_begin (all_lead m.code s.at m.exceptions)
-            (begin_all m (targets s.at (task_view d)) (subst (λ t. (target : ℤ) → IsAmong target (targets s.at t) → LeadsToStart m target) e n.control.branches))
-            (led m.code s.at m.exceptions n.control.caught));
-        own_object = subst (λ t. EndsReady m t s) e n.own_object.own;
-      }
+  met : (n : IsNoFaultBy task world m s) → task m n.act ≡ t → Meets world m t next s
+  met n e = record {
+    locals = join (nat_eq (length s.locals) m.max_locals) (paired_behind false s.locals) (length_same (length s.locals) m.max_locals n.operands.all_locals) (is_paired false s.locals n.operands.paired);
+    operands = subst (λ z. AllMeet world s.heap (needs_of z) s.stack) e n.operands.operands;
+    others = subst (λ z. MeetsRest world m z s) e n.operands.others;
+    before = n.stack.before;
+    after = subst (λ z. HasRoom m z s) e n.stack.after;
+    control = join on (ways_begin && all_lead m.code s.at m.exceptions)
+        (leads_there (falls t) (is_some next) (λ f. let r = n.control.next (ap falls e ∙ f) in ap is_some (sym after ∙ r.1)))
+        (join ways_begin (all_lead m.code s.at m.exceptions)
+        (begin_all m (targets s.at t) (subst (λ z. (target : ℤ) → IsAmong target (targets s.at z) → LeadsToStart m target) e n.control.branches))
+        (led m.code s.at m.exceptions n.control.caught));
+    own_object = subst (λ z. EndsReady m z s) e n.own_object.own;
+  }
 
-  pub meets : IsNoFaultBy task world m s → Meets m d next s
+  pub meets : IsNoFaultBy task world m s → Meets world m t next s
   meets n =
       let same : n.act ≡ act = cc (n.here, here) in
       met n (ap (task m) same ∙ sym what)

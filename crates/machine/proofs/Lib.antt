@@ -6,11 +6,12 @@ mod Addresses
 mod Moves
 pub mod Apart
 mod Places
-mod Faults
+mod Forms
+mod Needs
+mod Effects
 mod Deciding
 mod Writes
 mod Raised
 mod Chosen
 mod Entries
-mod Yet
 pub mod Targets

@@ -47,7 +47,7 @@ item_at xs n i d lt at =
     ∙ ap Some (get_or-reverse (map value_view xs) n (value_view d) within ∙ ap (λ k. get_or (map value_view xs) k (value_view d)) (ap (λ k. k - 1 - n) (length-map xs value_view) ∙ sym at) ∙ get_or-map value_view xs i d)
 
 -- a list by its first item and the slice of the others
-first_and_others : (ns : List ℕ) (d : ℕ) → 1 ≤ length ns → ns ≡ get_or ns 0 d ∷ take (length ns - 1) (drop 1 ns)
+pub first_and_others : {A : Type 0} → (ns : List A) (d : A) → 1 ≤ length ns → ns ≡ get_or ns 0 d ∷ take (length ns - 1) (drop 1 ns)
 first_and_others [] d le = absurd (omega (arith, le))
 first_and_others (n ∷ ns) d le = ap (λ z. n ∷ z) (sym (take_rest (n ∷ ns) 1))
 

@@ -38,7 +38,7 @@ entry_at xs ys n i x same at lt e =
     slice_get-get_or (map entry_view xs) n (entry_view x) (omega (arith, lt, at, ap length same, length-map xs entry_view))
     ∙ ap Some (get_or-map entry_view xs n x ∙ ap entry_view (sym here))
 
-abbrev state : ℕ → List Value → List Slot → Heap → State
+abbrev pub state : ℕ → List Value → List Slot → Heap → State
 state at stack locals heap = record { at = at; stack = stack; locals = locals; heap = heap }
 
 pub state_is : (at : ℕ) (stack other : List Value) (locals others : List Slot) (heap : Heap) → stack ≡ other → locals ≡ others → state at stack locals heap ≡ state at other others heap

@@ -1,9 +1,6 @@
 -- Writes to local variables.
 use Rattle.std.proofs.Common.{◌≡◌, ℕ, zero, suc, ◌+◌, ◌<◌, ◌≤◌, true, false, List, [], ◌∷◌, length, get_or, set, refl, sym, ◌∙◌, ap, arith, if◌then◌else◌}
-use Rattle.std.proofs.lemmas.List.{length-map, map-set}
-use Rattle.insn.specs.declared.operation.Kind.{Kind}
-use Rattle.insn.specs.declared.operation.Kind.TheVariants.{Int, Long, Float, Double}
-use Rattle.insn.specs.Acts.{is_wide, kind_units}
+use Rattle.std.proofs.lemmas.List.{map-set}
 use Rattle.machine.specs.declared.items.Slot.{Slot as RawSlot}
 use Rattle.machine.specs.declared.items.Slot.TheVariants as raw
 use Rattle.machine.specs.Values.{Value, Slot, empty, second, holds, is_wide_value, is_wide_slot, behind_lost, second_first, stored}
@@ -45,45 +42,40 @@ behind_narrow [] n d e = refl
 behind_narrow (x ∷ xs) zero d e = ap (λ b. slot_view x ∷ behind_lost b (locals_of xs)) (sym e)
 behind_narrow (x ∷ xs) (suc n) d e = ap (λ ys. slot_view x ∷ ys) (behind_narrow xs n d e)
 
+pub before_past : (xs : List RawSlot) (n : ℕ) → length xs < n → locals_of xs ≡ with_before n (locals_of xs)
+before_past [] n lt = refl
+before_past (x ∷ xs) zero lt = refl
+before_past (x ∷ xs) (suc zero) lt = absurd (omega (arith, lt))
+before_past (x ∷ xs) (suc (suc n)) lt = ap (λ ys. slot_view x ∷ ys) (before_past xs (suc n) (omega (arith, lt)))
+
 -- ---- the store itself
 
-pub narrow : (v : Value) (n : ℕ) (ss : List Slot) → is_wide_value v ≡ false → n < length ss → set (with_behind n (with_before n ss)) n (holds v) ≡ stored v n ss
-narrow v n [] e lt = absurd (omega (arith, lt))
-narrow v zero (s ∷ ss) e lt = ap (λ b. holds v ∷ (if b then second_first ss else behind_lost (is_wide_slot s) ss)) (sym e)
-narrow v (suc zero) (s ∷ []) e lt = absurd (omega (arith, lt))
-narrow v (suc zero) (s ∷ t ∷ ss) e lt = ap (λ b. (if is_wide_slot s then empty else s) ∷ holds v ∷ (if b then second_first ss else behind_lost (is_wide_slot t) ss)) (sym e)
-narrow v (suc (suc n)) (s ∷ ss) e lt = ap (λ ys. s ∷ ys) (narrow v (suc n) ss e (omega (arith, lt)))
+pub narrow : (v : Value) (n : ℕ) (ss : List Slot) → is_wide_value v ≡ false → set (with_behind n (with_before n ss)) n (holds v) ≡ stored v n ss
+narrow v n [] e = refl
+narrow v zero (s ∷ ss) e = ap (λ b. holds v ∷ (if b then second_first ss else behind_lost (is_wide_slot s) ss)) (sym e)
+narrow v (suc zero) (s ∷ []) e = refl
+narrow v (suc zero) (s ∷ t ∷ ss) e = ap (λ b. (if is_wide_slot s then empty else s) ∷ holds v ∷ (if b then second_first ss else behind_lost (is_wide_slot t) ss)) (sym e)
+narrow v (suc (suc n)) (s ∷ ss) e = ap (λ ys. s ∷ ys) (narrow v (suc n) ss e)
 
-pub wide : (v : Value) (n : ℕ) (ss : List Slot) → is_wide_value v ≡ true → suc n < length ss → set (set (with_behind (suc n) (with_before n ss)) n (holds v)) (suc n) second ≡ stored v n ss
-wide v n [] e lt = absurd (omega (arith, lt))
-wide v n (s ∷ []) e lt = absurd (omega (arith, lt))
-wide v zero (s ∷ t ∷ ss) e lt = ap (λ b. holds v ∷ (if b then second_first (t ∷ ss) else behind_lost (is_wide_slot s) (t ∷ ss))) (sym e)
-wide v (suc zero) (s ∷ t ∷ []) e lt = absurd (omega (arith, lt))
-wide v (suc zero) (s ∷ t ∷ u ∷ ss) e lt = ap (λ b. (if is_wide_slot s then empty else s) ∷ holds v ∷ (if b then second_first (u ∷ ss) else behind_lost (is_wide_slot t) (u ∷ ss))) (sym e)
-wide v (suc (suc n)) (s ∷ t ∷ ss) e lt = ap (λ ys. s ∷ ys) (wide v (suc n) (t ∷ ss) e (omega (arith, lt)))
+pub wide : (v : Value) (n : ℕ) (ss : List Slot) → is_wide_value v ≡ true → set (set (with_behind (suc n) (with_before n ss)) n (holds v)) (suc n) second ≡ stored v n ss
+wide v n [] e = refl
+wide v zero (s ∷ []) e = ap (λ b. holds v ∷ (if b then second_first [] else behind_lost (is_wide_slot s) [])) (sym e)
+wide v zero (s ∷ t ∷ ss) e = ap (λ b. holds v ∷ (if b then second_first (t ∷ ss) else behind_lost (is_wide_slot s) (t ∷ ss))) (sym e)
+wide v (suc zero) (s ∷ []) e = refl
+wide v (suc zero) (s ∷ t ∷ []) e = ap (λ b. (if is_wide_slot s then empty else s) ∷ holds v ∷ (if b then second_first [] else behind_lost (is_wide_slot t) [])) (sym e)
+wide v (suc zero) (s ∷ t ∷ u ∷ ss) e = ap (λ b. (if is_wide_slot s then empty else s) ∷ holds v ∷ (if b then second_first (u ∷ ss) else behind_lost (is_wide_slot t) (u ∷ ss))) (sym e)
+wide v (suc (suc n)) (s ∷ ss) e = ap (λ ys. s ∷ ys) (wide v (suc n) ss e)
 
 module _ (n : ℕ) (v : RawSlot) (w : Value) (is : slot_view v ≡ holds w) (old before behind : List RawSlot) where
-  pub stored_narrow : locals_of before ≡ with_before n (locals_of old) → locals_of behind ≡ with_behind n (locals_of before) → is_wide_value w ≡ false → n < length old → locals_of (set behind n v) ≡ stored w n (locals_of old)
-  stored_narrow e f k lt =
+  pub stored_narrow : locals_of before ≡ with_before n (locals_of old) → locals_of behind ≡ with_behind n (locals_of before) → is_wide_value w ≡ false → locals_of (set behind n v) ≡ stored w n (locals_of old)
+  stored_narrow e f k =
       map-set slot_view behind n v ∙ ap (λ z. set (locals_of behind) n z) is ∙ ap (λ z. set z n (holds w)) (f ∙ ap (with_behind n) e)
-      ∙ narrow w n (locals_of old) k (omega (arith, lt, length-map old slot_view))
+      ∙ narrow w n (locals_of old) k
 
-  pub stored_wide : locals_of before ≡ with_before n (locals_of old) → locals_of behind ≡ with_behind (n + 1) (locals_of before) → is_wide_value w ≡ true → n + 1 < length old → locals_of (set (set behind n v) (n + 1) raw.Second) ≡ stored w n (locals_of old)
-  stored_wide e f k lt =
+  pub stored_wide : locals_of before ≡ with_before n (locals_of old) → locals_of behind ≡ with_behind (n + 1) (locals_of before) → is_wide_value w ≡ true → locals_of (set (set behind n v) (n + 1) raw.Second) ≡ stored w n (locals_of old)
+  stored_wide e f k =
       let next : n + 1 ≡ suc n = omega arith in
       map-set slot_view (set behind n v) (n + 1) raw.Second
       ∙ ap (λ z. set z (n + 1) second) (map-set slot_view behind n v ∙ ap (λ z. set (locals_of behind) n z) is ∙ ap (λ z. set z n (holds w)) (f ∙ ap (with_behind (n + 1)) e))
       ∙ ap (λ j. set (set (with_behind j (with_before n (locals_of old))) n (holds w)) j second) next
-      ∙ wide w n (locals_of old) k (omega (arith, lt, length-map old slot_view))
-
-pub narrow_kind : (k : Kind) → kind_units k ≡ 1 → is_wide k ≡ false
-narrow_kind Int e = refl
-narrow_kind Float e = refl
-narrow_kind Long e = absurd (omega (arith, e))
-narrow_kind Double e = absurd (omega (arith, e))
-
-pub wide_kind : (k : Kind) → kind_units k ≡ 2 → is_wide k ≡ true
-wide_kind Int e = absurd (omega (arith, e))
-wide_kind Float e = absurd (omega (arith, e))
-wide_kind Long e = refl
-wide_kind Double e = refl
+      ∙ wide w n (locals_of old) k

@@ -156,9 +156,3 @@ Steps = StepsBy tables.task
 
 abbrev pub Happens : World → Method Act → State → Choice → Outcome → Type 0
 Happens = HappensBy tables.task
-
--- what happens by the tasks that are there yet does happen
-abbrev pub HappensYet : Type 0
-HappensYet =
-    (world : World) (m : Method Act) (s : State) (choice : Choice) (outcome : Outcome)
-    → HappensBy tables.task_yet world m s choice outcome → Happens world m s choice outcome

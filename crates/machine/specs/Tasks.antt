@@ -16,7 +16,6 @@ use Rattle.insn.specs.Stacks.{computed_as, same_kind}
 use Rattle.insn.specs.Offsets.{led_to}
 use Rattle.insn.specs.Meanings as acts
 use Rattle.insn.specs.Meanings.{Act}
-use Rattle.insn.specs.Supported.{as_supported}
 use Rattle.machine.specs.Values.{field_units}
 
 -- what an instruction needs of an operand
@@ -337,10 +336,6 @@ task m acts.Unsupported = stuck
 -- what gives an instruction's task, in a method
 abbrev pub Tasks : Type 0
 Tasks = Method Act → Act → Task
-
--- The tasks that are there yet: an instruction without one counts as one that has none for good.
-abbrev pub task_yet : Tasks
-task_yet m act = task m (as_supported act)
 
 -- ---- where it goes
 

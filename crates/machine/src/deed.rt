@@ -1,57 +1,67 @@
-//! What an instruction does, of those that are supported.
-ghost use Rattle.std.specs.Prelude.{◌≡◌, length};
-ghost use Rattle.machine.specs.private.Deeds.{needs_view};
+//! What an instruction does, and what it takes and gives.
+ghost use Rattle.std.specs.Prelude.{◌≡◌, [], None, true};
+ghost use Rattle.machine.specs.Tasks.{operates};
+ghost use Rattle.machine.specs.private.Deeds.{needs_view, reply_view, task_view};
 
+use crate::objects::RunType;
 use insn::{Branches, Kind, StackOperator};
+use names::{FieldType, Primitive};
+use std::alloc::Global;
 
 /// What an instruction needs of an operand.
 #[derive(Clone, Copy, Debug)]
-pub enum Need {
+pub enum Need<'a> {
     /// A number of the kind.
     Number(Kind),
+    /// Null, or an initialized object of a type below this one.
+    Type(RunType<'a>),
     /// A reference, whatever object it is to, or null.
     Reference,
+    /// An array, or null.
+    Array,
+    /// An array whose elements an instruction for this type takes, or null.
+    ArrayFor(Primitive),
+    /// The own object that is not initialized yet, or a value of the class of this name.
+    OwnOr(&'a [u8]),
 }
 
-/// What is taken from the stack, the first of it from the top.
+/// What an instruction pushes.
 #[derive(Clone, Copy, Debug)]
-pub enum Needs {
-    /// Numbers of these kinds.
-    Numbers(&'static [Kind]),
-    /// Operands that meet these needs.
-    Operands(&'static [Need]),
+pub enum Reply<'a> {
+    Nothing,
+    Number(Kind),
+    Null,
+    /// A value that is chosen and fits the type.
+    Answer(FieldType<'a>),
 }
 
-impl Needs {
-    /// How many operands they are.
-    pub fn count(self) -> usize
-        ensures { result ≡ length (needs_view self) }
-    {
-        match self {
-            Needs::Numbers(kinds) => kinds.len(),
-            Needs::Operands(needs) => needs.len(),
-        }
-    }
+/// Operands are taken, and a reply is given.
+#[derive(Drop)]
+pub struct Operation<'a> {
+    /// What is taken from the stack, the first of it from the top.
+    pub needs: Vec<Need<'a>>,
+    /// The place of an operand, counted from the top, that only raises where it is null.
+    pub live: Option<usize>,
+    pub reply: Reply<'a>,
 }
 
 /// What an instruction does (JVMS 6.5).
-#[derive(Clone, Copy, Debug)]
+#[derive(Drop)]
 pub enum Deed<'a> {
-    /// Operands are taken, and a number may be given; then it goes to where it branches, or on.
+    /// It operates; then it goes to where it branches, or on.
     Operates {
-        needs: Needs,
-        reply: Option<Kind>,
+        operation: Operation<'a>,
         branches: Branches<'a>,
         falls: bool,
     },
-    /// A number is read from a local variable.
+    /// A value is read from a local variable.
     Reads {
-        kind: Kind,
+        need: Need<'a>,
         local: u16,
     },
-    /// A number is written to a local variable.
+    /// A value is written to a local variable.
     Writes {
-        kind: Kind,
+        need: Need<'a>,
         local: u16,
     },
     /// An int in a local variable is changed.
@@ -60,10 +70,51 @@ pub enum Deed<'a> {
     },
     /// Items of the stack are moved.
     Moves(StackOperator),
-    /// The method returns a number.
-    Leaves(Kind),
+    /// A reference is read from an array.
+    TakesElement,
+    /// A reference passes where it fits the type.
+    Passes(RunType<'a>),
+    /// An object of the class is made, which is not initialized yet.
+    Creates(&'a [u8]),
+    /// An array is made.
+    MakesArray {
+        needs: Vec<Need<'a>>,
+        made: RunType<'a>,
+    },
+    /// An object is initialized by an instance initialization method of the class, on these arguments.
+    Initializes {
+        class: &'a [u8],
+        needs: Vec<Need<'a>>,
+    },
+    /// A method is called of the class or one above it, with the method's own class as receiver.
+    CallsSpecial {
+        class: RunType<'a>,
+        operation: Operation<'a>,
+    },
+    /// The method returns a value.
+    Leaves(Need<'a>),
+    /// A Throwable is raised.
+    Throws,
     /// The method returns without a value.
     Ends,
-    /// Nothing: the instruction is not supported, or names what it may not.
+    /// Nothing: the instruction has no rule, or names what it may not.
     Stuck,
+}
+
+/// These are needed, and it goes on.
+pub fn operates<'a>(needs: Vec<Need<'a>>, live: Option<usize>, reply: Reply<'a>) -> Deed<'a>
+    ensures { task_view result ≡ operates (needs_view needs.entry.items) live (reply_view reply.entry) [] true }
+{
+    Deed::Operates {
+        operation: Operation { needs, live, reply },
+        branches: Branches::Nowhere,
+        falls: true,
+    }
+}
+
+/// Nothing is needed, and it goes on.
+pub fn gives<'a>(alloc: Global, reply: Reply<'a>) -> Deed<'a>
+    ensures { task_view result ≡ operates [] None (reply_view reply.entry) [] true }
+{
+    operates(Vec::new(alloc), None, reply)
 }

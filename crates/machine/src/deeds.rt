@@ -1,26 +1,137 @@
-//! What instructions do.
-ghost use Rattle.std.specs.Prelude.{◌≡◌, [], ◌∷◌, None, Some, true, option_map};
-ghost use Rattle.names.specs.Descriptors.{primitive};
+//! What instructions do (JVMS 6.5).
+ghost use Rattle.std.specs.Prelude.{◌≡◌, [], ◌∷◌, None, Some, true, IfOk, option_map};
+ghost use Rattle.names.specs.Descriptors.{primitive, class};
+ghost use Rattle.names.specs.ReferenceTypes.{class_type};
+ghost use Rattle.names.specs.StandardNames.{object_name};
+ghost use Rattle.insn.specs.Stacks.{computed_as};
+ghost use Rattle.insn.specs.declared.operation.Kind.TheVariants as kinds;
 ghost use Rattle.names.specs.Types.{type_of};
 ghost use Rattle.pool.specs.Members.{constant_at};
 ghost use Rattle.insn.specs.Branching.{branches_view};
 ghost use Rattle.insn.specs.Views.{act_view};
-ghost use Rattle.machine.specs.Tasks.{operates, no_reply, gives_number, needs_of_kinds, task_yet, return_number, return_nothing, load_wide_constant};
-ghost use Rattle.machine.specs.private.Deeds.{needs_view, reply_view, task_view};
+ghost use Rattle.machine.specs.Tasks.{of_kind, of_type, some_array_for, gives_answer, objects, operates, reads, writes, no_reply, task, return_number, return_reference, return_nothing, needs_of_kinds, load_constant, load_wide_constant};
+ghost use Rattle.machine.specs.private.Deeds.{need_view, need_units, needs_view, task_view};
 ghost use Rattle.machine.specs.Bodies.{method_view};
 
 use crate::body::Method;
-use crate::deed::{Deed, Need, Needs};
+use crate::calls::{invoke_interface, invoke_special, invoke_static, invoke_virtual};
+use crate::creations::{
+    check_cast, instance_of, new_array, new_multi_array, new_object, new_reference_array,
+};
+use crate::deed::{Deed, Need, Operation, Reply, gives, operates};
+use crate::fields::{get_field, get_static, put_field, put_static};
+use crate::objects::{OBJECTS, RunType};
 use insn::{Act, Branches, Kind, computed_as};
-use names::{Base, FieldType, Primitive};
+use names::{Base, FieldType, OBJECT, Primitive};
 use pool::{Constant, Pool};
+use std::alloc::{AllocError, Global};
+
+const INT: Need<'static> = Need::Number(Kind::Int);
+
+const STRING: &[u8] = b"java/lang/String";
+
+const CLASS: &[u8] = b"java/lang/Class";
+
+const METHOD_TYPE: &[u8] = b"java/lang/invoke/MethodType";
+
+const METHOD_HANDLE: &[u8] = b"java/lang/invoke/MethodHandle";
+
+// It branches, or it may go on as well.
+fn branches<'a>(needs: Vec<Need<'a>>, branches: Branches<'a>, falls: bool) -> Deed<'a>
+    ensures { task_view result ≡ operates (needs_view needs.entry.items) None no_reply (branches_view branches.entry) falls }
+{
+    Deed::Operates {
+        operation: Operation {
+            needs,
+            live: None,
+            reply: Reply::Nothing,
+        },
+        branches,
+        falls,
+    }
+}
+
+// It branches by this offset, or goes on.
+fn branches_if<'a>(needs: Vec<Need<'a>>, offset: i32) -> Deed<'a>
+    ensures { task_view result ≡ operates (needs_view needs.entry.items) None no_reply (offset ∷ []) true }
+{
+    branches(needs, Branches::One(offset), true)
+}
+
+// Numbers of these kinds.
+fn numbers<'a>(alloc: Global, kinds: &[Kind]) -> Result<Vec<Need<'a>>, AllocError>
+    ensures { IfOk result (λ v. needs_view v.items ≡ needs_of_kinds kinds.now) }
+{
+    let mut needs = Vec::new(alloc);
+    for kind in kinds {
+        needs.push(Need::Number(*kind))?;
+    }
+    Ok(needs)
+}
+
+// ---- constants
+
+// An object of the class.
+fn object_of<'a>(name: &'a [u8]) -> FieldType<'a>
+    ensures { type_of result ≡ class name.now }
+{
+    FieldType {
+        dims: 0,
+        base: Base::Class(name),
+    }
+}
+
+fn number_of<'a>(number: Primitive) -> FieldType<'a>
+    ensures { type_of result ≡ primitive number }
+{
+    FieldType {
+        dims: 0,
+        base: Base::Primitive(number),
+    }
+}
+
+// `ldc` and `ldc_w`
+fn load_constant<'a>(alloc: Global, pool: &Pool<'a>, index: u16) -> Deed<'a>
+    ensures { task_view result ≡ load_constant (constant_at pool.now index) }
+{
+    let Ok(constant) = pool.get(index) else {
+        return Deed::Stuck;
+    };
+    let loaded = match constant {
+        Constant::Integer { .. } => number_of(Primitive::Int),
+        Constant::Float { .. } => number_of(Primitive::Float),
+        Constant::String { .. } => object_of(STRING),
+        Constant::Class { .. } => object_of(CLASS),
+        Constant::MethodType { .. } => object_of(METHOD_TYPE),
+        Constant::MethodHandle { .. } => object_of(METHOD_HANDLE),
+        _ => return Deed::Stuck,
+    };
+    gives(alloc, Reply::Answer(loaded))
+}
+
+// `ldc2_w`
+fn load_wide_constant<'a>(alloc: Global, pool: &Pool<'a>, index: u16) -> Deed<'a>
+    ensures { task_view result ≡ load_wide_constant (constant_at pool.now index) }
+{
+    let Ok(constant) = pool.get(index) else {
+        return Deed::Stuck;
+    };
+    let kind = match constant {
+        Constant::Long { .. } => Kind::Long,
+        Constant::Double { .. } => Kind::Double,
+        _ => return Deed::Stuck,
+    };
+    gives(alloc, Reply::Number(kind))
+}
+
+// ---- returns
 
 // A return of a number from a method with this result.
-fn leave<'a>(primitive_type: Primitive, kind: Kind) -> Deed<'a>
-    ensures { task_view result ≡ return_number (Some (primitive primitive_type)) kind }
+fn leave<'a>(number: Primitive, kind: Kind) -> Deed<'a>
+    ensures { task_view result ≡ return_number (Some (primitive number)) kind }
 {
-    if computed_as(primitive_type) == kind {
-        Deed::Leaves(kind)
+    if computed_as(number) == kind {
+        Deed::Leaves(Need::Number(kind))
     } else {
         Deed::Stuck
     }
@@ -41,6 +152,21 @@ fn return_number<'a>(result_type: Option<FieldType<'_>>, kind: Kind) -> Deed<'a>
     leave(primitive, kind)
 }
 
+fn return_reference<'a>(result_type: Option<FieldType<'a>>) -> Deed<'a>
+    ensures { task_view result ≡ return_reference (option_map type_of result_type.entry) }
+{
+    let Some(t) = result_type else {
+        return Deed::Stuck;
+    };
+    match t.dims {
+        0 => match t.base {
+            Base::Primitive(_) => Deed::Stuck,
+            Base::Class(name) => Deed::Leaves(Need::Type(RunType::Class(name))),
+        },
+        dims => Deed::Leaves(Need::Type(RunType::Array { dims, base: t.base })),
+    }
+}
+
 fn return_nothing<'a>(result_type: Option<FieldType<'_>>) -> Deed<'a>
     ensures { task_view result ≡ return_nothing (option_map type_of result_type.entry) }
 {
@@ -50,89 +176,115 @@ fn return_nothing<'a>(result_type: Option<FieldType<'_>>) -> Deed<'a>
     }
 }
 
-// Numbers are taken, and one may be given.
-fn operates<'a>(kinds: &'static [Kind], reply: Option<Kind>) -> Deed<'a>
-    ensures { task_view result ≡ operates (needs_of_kinds kinds.now) None (reply_view reply) [] true }
+// ---- elements of arrays
+
+// `iaload` to `saload`, but for `aaload`
+fn load_element<'a>(alloc: Global, element: Primitive) -> Result<Deed<'a>, AllocError>
+    ensures { IfOk result (λ d. task_view d ≡ operates (of_kind kinds.Int ∷ some_array_for element ∷ []) (Some 1) (gives_answer (primitive element)) [] true) }
 {
-    Deed::Operates {
-        needs: Needs::Numbers(kinds),
-        reply,
-        branches: Branches::Nowhere,
-        falls: true,
-    }
+    let needs = vec![in alloc; INT, Need::ArrayFor(element)]?;
+    Ok(operates(needs, Some(1), Reply::Answer(number_of(element))))
 }
 
-fn gives<'a>(kind: Kind) -> Deed<'a>
-    ensures { task_view result ≡ operates [] None (gives_number kind) [] true }
+// `iastore` to `sastore`, but for `aastore`
+fn store_element<'a>(alloc: Global, element: Primitive) -> Result<Deed<'a>, AllocError>
+    ensures { IfOk result (λ d. task_view d ≡ operates (of_kind (computed_as element) ∷ of_kind kinds.Int ∷ some_array_for element ∷ []) (Some 2) no_reply [] true) }
 {
-    operates(&[], Some(kind))
+    let value = Need::Number(computed_as(element));
+    let needs = vec![in alloc; value, INT, Need::ArrayFor(element)]?;
+    Ok(operates(needs, Some(2), Reply::Nothing))
 }
 
-// Operands are taken, and it branches, or it may go on as well.
-fn branches<'a>(needs: Needs, branches: Branches<'a>, falls: bool) -> Deed<'a>
-    ensures { task_view result ≡ operates (needs_view needs) None no_reply (branches_view branches.entry) falls }
+// `aastore`
+fn store_reference_element<'a>(alloc: Global) -> Result<Deed<'a>, AllocError>
+    ensures { IfOk result (λ d. task_view d ≡ operates (of_type (class_type object_name) ∷ of_kind kinds.Int ∷ of_type objects ∷ []) (Some 2) no_reply [] true) }
 {
-    Deed::Operates {
-        needs,
-        reply: None,
-        branches,
-        falls,
-    }
+    let value = Need::Type(RunType::Class(OBJECT));
+    let needs = vec![in alloc; value, INT, Need::Type(OBJECTS)]?;
+    Ok(operates(needs, Some(2), Reply::Nothing))
 }
 
-// It branches by this offset, or goes on.
-fn branches_if<'a>(needs: Needs, offset: i32) -> Deed<'a>
-    ensures { task_view result ≡ operates (needs_view needs) None no_reply (offset ∷ []) true }
+// ---- local variables
+
+fn reads<'a>(need: Need<'a>, local: u16) -> Deed<'a>
+    ensures { task_view result ≡ reads (need_view need.entry) local }
 {
-    branches(needs, Branches::One(offset), true)
+    Deed::Reads { need, local }
 }
 
-/// `ldc2_w`
-fn load_wide_constant<'a>(pool: &Pool<'_>, index: u16) -> Deed<'a>
-    ensures { task_view result ≡ load_wide_constant (constant_at pool.now index) }
+fn writes<'a>(need: Need<'a>, local: u16) -> Deed<'a>
+    ensures { task_view result ≡ writes (need_view need.entry) local (need_units need.entry) }
 {
-    let Ok(constant) = pool.get(index) else {
-        return Deed::Stuck;
-    };
-    let kind = match constant {
-        Constant::Long { .. } => Kind::Long,
-        Constant::Double { .. } => Kind::Double,
-        _ => return Deed::Stuck,
-    };
-    gives(kind)
+    Deed::Writes { need, local }
 }
+
+// ---- the table
 
 /// What an instruction of the method does.
-pub fn deed_of<'a>(act: Act<'a>, method: &Method<'_, '_>) -> Deed<'a>
-    ensures { task_view result ≡ task_yet (method_view method.now) (act_view act.entry) }
+pub fn deed_of<'a>(
+    alloc: Global,
+    act: Act<'a>,
+    method: &Method<'_, 'a>,
+) -> Result<Deed<'a>, AllocError>
+    ensures { IfOk result (λ d. task_view d ≡ task (method_view method.now) (act_view act.entry)) }
 {
+    let pool = method.pool();
     match act {
-        Act::Nothing => operates(&[], None),
-        Act::Constant(kind) => gives(kind),
-        Act::LoadWideConstant { index } => load_wide_constant(method.pool(), index),
-        Act::Load { kind, local } => Deed::Reads { kind, local },
-        Act::Store { kind, local } => Deed::Writes { kind, local },
-        Act::Increment { local } => Deed::Increments { local },
+        Act::Nothing => Ok(gives(alloc, Reply::Nothing)),
+        Act::Constant(kind) => Ok(gives(alloc, Reply::Number(kind))),
+        Act::ConstantNull => Ok(gives(alloc, Reply::Null)),
+        Act::LoadConstant { index } => Ok(load_constant(alloc, pool, index)),
+        Act::LoadWideConstant { index } => Ok(load_wide_constant(alloc, pool, index)),
+        Act::Load { kind, local } => Ok(reads(Need::Number(kind), local)),
+        Act::LoadReference { local } => Ok(reads(Need::Reference, local)),
+        Act::Store { kind, local } => Ok(writes(Need::Number(kind), local)),
+        Act::StoreReference { local } => Ok(writes(Need::Reference, local)),
+        Act::Increment { local } => Ok(Deed::Increments { local }),
         Act::Numeric(operator) => {
             let (taken, given) = operator.row();
-            operates(taken, Some(given))
+            Ok(operates(numbers(alloc, taken)?, None, Reply::Number(given)))
         }
-        Act::Stack(operator) => Deed::Moves(operator),
-        Act::IfInt { offset } => branches_if(Needs::Numbers(&[Kind::Int]), offset),
-        Act::IfInts { offset } => branches_if(Needs::Numbers(&[Kind::Int, Kind::Int]), offset),
-        Act::IfReferences { offset } => branches_if(
-            Needs::Operands(&[Need::Reference, Need::Reference]),
-            offset,
-        ),
-        Act::IfNull { offset } => branches_if(Needs::Operands(&[Need::Reference]), offset),
-        Act::Goto { offset } => branches(Needs::Numbers(&[]), Branches::One(offset), false),
-        Act::Switch { default, targets } => branches(
-            Needs::Numbers(&[Kind::Int]),
+        Act::Stack(operator) => Ok(Deed::Moves(operator)),
+        Act::IfInt { offset } => Ok(branches_if(vec![in alloc; INT]?, offset)),
+        Act::IfInts { offset } => Ok(branches_if(vec![in alloc; INT, INT]?, offset)),
+        Act::IfReferences { offset } => {
+            Ok(branches_if(vec![in alloc; Need::Reference, Need::Reference]?, offset))
+        }
+        Act::IfNull { offset } => Ok(branches_if(vec![in alloc; Need::Reference]?, offset)),
+        Act::Goto { offset } => Ok(branches(Vec::new(alloc), Branches::One(offset), false)),
+        Act::Switch { default, targets } => Ok(branches(
+            vec![in alloc; INT]?,
             Branches::Switch { default, targets },
             false,
-        ),
-        Act::Return(kind) => return_number(method.result_type(), kind),
-        Act::ReturnVoid => return_nothing(method.result_type()),
-        _ => Deed::Stuck,
+        )),
+        Act::Return(kind) => Ok(return_number(method.result_type(), kind)),
+        Act::ReturnReference => Ok(return_reference(method.result_type())),
+        Act::ReturnVoid => Ok(return_nothing(method.result_type())),
+        Act::GetStatic { index } => Ok(get_static(alloc, pool, index)),
+        Act::PutStatic { index } => put_static(alloc, pool, index),
+        Act::GetField { index } => get_field(alloc, pool, index),
+        Act::PutField { index } => put_field(alloc, method, index),
+        Act::InvokeVirtual { index } => invoke_virtual(alloc, pool, index),
+        Act::InvokeSpecial { index } => invoke_special(alloc, method, index),
+        Act::InvokeStatic { index } => invoke_static(alloc, method, index),
+        Act::InvokeInterface { index, count } => invoke_interface(alloc, pool, index, count),
+        Act::New { index } => Ok(new_object(pool, index)),
+        Act::LoadElement(element) => load_element(alloc, element),
+        Act::StoreElement(element) => store_element(alloc, element),
+        Act::LoadReferenceElement => Ok(Deed::TakesElement),
+        Act::StoreReferenceElement => store_reference_element(alloc),
+        Act::ArrayLength => Ok(operates(
+            vec![in alloc; Need::Array]?,
+            Some(0),
+            Reply::Number(Kind::Int),
+        )),
+        Act::NewArray(element) => new_array(alloc, element),
+        Act::NewReferenceArray { index } => new_reference_array(alloc, pool, index),
+        Act::NewMultiArray { index, dimensions } => new_multi_array(alloc, pool, index, dimensions),
+        Act::CheckCast { index } => Ok(check_cast(pool, index)),
+        Act::InstanceOf { index } => instance_of(alloc, pool, index),
+        Act::Throw => Ok(Deed::Throws),
+        Act::Monitor => Ok(operates(vec![in alloc; Need::Reference]?, Some(0), Reply::Nothing)),
+        Act::Unsupported => Ok(Deed::Stuck),
     }
 }

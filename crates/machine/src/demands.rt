@@ -1,37 +1,238 @@
 //! What a state owes to its instruction.
-ghost use Rattle.std.specs.Prelude.{◌≡◌, ◌↔◌, IsTrue, option_map};
+ghost use Rattle.std.specs.Prelude.{◌≡◌, ◌↔◌, ◌⊎◌, ◌+◌, ◌≤◌, IsTrue, IfOk};
+ghost use Rattle.hierarchy.specs.Class.{world_of};
+ghost use Rattle.insn.specs.Acts.{stack_forms};
 ghost use Rattle.insn.specs.Branching.{targets_of};
-ghost use Rattle.machine.specs.private.Deeds.{task_view, stack_after};
-ghost use Rattle.machine.specs.Demands.{EndsReady};
-ghost use Rattle.machine.specs.private.Demanded.{has_operands, are_whole, are_within, stays, Meets};
+ghost use Rattle.insn.specs.Stacks.{beneath};
+ghost use Rattle.machine.specs.Values.{depth_of};
+ghost use Rattle.machine.specs.private.Deeds.{needs_view, need_units, reply_view, task_view};
+ghost use Rattle.machine.specs.Demands.{AllMeet, IsMade, IsOwn, HasReceiver, MeetsRest, HasRoom, EndsReady};
+ghost use Rattle.machine.specs.private.Demanded.{are_whole, stays, IsUninitialized, Meets};
 ghost use Rattle.machine.specs.Bodies.{method_view};
-ghost use Rattle.machine.specs.Tasks.{falls, targets};
-ghost use Rattle.machine.specs.Views.{stack_of, locals_of, state_view};
+ghost use Rattle.machine.specs.Tasks.{moves, needs_of, reply_units, falls, targets};
+ghost use Rattle.machine.specs.Views.{value_view, stack_of, locals_of, heap_view, state_view};
 
+use crate::below::is_below;
 use crate::body::Method;
-use crate::deed::Deed;
+use crate::deed::{Deed, Need, Operation, Reply};
 use crate::heaps::has_no_this;
 use crate::items::{Slot, Value};
-use crate::operands::{are_paired, form_for, has_kinds, has_needs, holds_number, is_wider};
+use crate::objects::{OBJECTS, Object, RunType, Status};
+use crate::operands::{
+    all_meet, are_paired, form_for, has_form, has_local, has_room, held, need_of, value_units,
+};
 use crate::snapshot::State;
+use crate::stacking::{beneath, item, rearranged};
 use crate::starts::{all_begin, all_lead};
-use insn::{BranchTargets, Branches, Kind};
+use hierarchy::Classes;
+use insn::{BranchTargets, Branches, Kind, StackOperator};
+use names::{OBJECT, THROWABLE};
+use std::alloc::{AllocError, Global};
+use std::collections::BTreeMap;
 
-// Whether the operands and local variables are there, and of their kinds.
-fn has_operands(limit: u16, deed: Deed<'_>, stack: &[Value], locals: &[Slot]) -> bool
-    ensures { result ≡ has_operands limit deed.entry (stack_of stack.now) (locals_of locals.now) }
+// Whether the operands are there and meet what is needed of them.
+fn operands_meet<C: Classes>(deed: &Deed<'_>, state: &State<'_>, classes: &C) -> bool
+    ensures { let s = state_view state.now in IsTrue result ↔ AllMeet (world_of (C.content classes.now)) s.heap (needs_of (task_view deed.now)) s.stack }
+{
+    let (stack, heap) = (&state.stack, &state.heap);
+    match deed {
+        Deed::Operates { operation, .. } | Deed::CallsSpecial { operation, .. } => {
+            all_meet(&operation.needs, stack, heap, classes)
+        }
+        Deed::MakesArray { needs, .. } | Deed::Initializes { needs, .. } => {
+            all_meet(needs, stack, heap, classes)
+        }
+        Deed::Writes { need, .. } | Deed::Leaves(need) => all_meet(&[*need], stack, heap, classes),
+        Deed::TakesElement => {
+            let needs = [Need::Number(Kind::Int), Need::Type(OBJECTS)];
+            all_meet(&needs, stack, heap, classes)
+        }
+        Deed::Passes(_) => { all_meet(&[Need::Type(RunType::Class(OBJECT))], stack, heap, classes) }
+        Deed::Throws => {
+            all_meet(
+                &[Need::Type(RunType::Class(THROWABLE))],
+                stack,
+                heap,
+                classes,
+            )
+        }
+        Deed::Reads { .. }
+        | Deed::Increments { .. }
+        | Deed::Moves(_)
+        | Deed::Creates(_)
+        | Deed::Ends
+        | Deed::Stuck => true,
+    }
+}
+
+// Whether an instance initialization method of the class may be called on the object at this address.
+fn is_uninitialized_at(
+    method: &Method<'_, '_>,
+    class: &[u8],
+    heap: &BTreeMap<u32, Object<'_>>,
+    address: u32,
+) -> bool
+    ensures { let h = heap_view heap.now in IsTrue result ↔ (IsMade h class.now address ⊎ IsOwn (method_view method.now) h class.now address) }
+{
+    let Some(object) = heap.get(&address) else {
+        return false;
+    };
+    match object.status {
+        Status::Ready => false,
+        Status::Made => match object.run_type {
+            RunType::Class(name) => name == class,
+            RunType::Array { .. } => false,
+        },
+        Status::This => method.class_name() == class || method.superclass() == Some(class),
+    }
+}
+
+// Whether it is a reference to such an object.
+fn is_uninitialized(
+    method: &Method<'_, '_>,
+    class: &[u8],
+    heap: &BTreeMap<u32, Object<'_>>,
+    value: Value,
+) -> bool
+    ensures { IsTrue result ↔ IsUninitialized (method_view method.now) (heap_view heap.now) class.now (value_view value) }
+{
+    match value {
+        Value::Ref(address) => is_uninitialized_at(method, class, heap, address),
+        Value::Null | Value::Int | Value::Float | Value::Long | Value::Double => false,
+    }
+}
+
+// Whether such an object stands beneath the arguments.
+fn has_receiver(
+    method: &Method<'_, '_>,
+    class: &[u8],
+    needs: &[Need<'_>],
+    state: &State<'_>,
+) -> bool
+    ensures { IsTrue result ↔ HasReceiver (method_view method.now) class.now (needs_view needs.now) (state_view state.now) }
+{
+    match item(needs.len(), &state.stack) {
+        None => false,
+        Some(value) => is_uninitialized(method, class, &state.heap, value),
+    }
+}
+
+// Whether there are local variables for what is written.
+fn has_place(need: Need<'_>, local: u16, limit: u16) -> bool
+    ensures { IsTrue result ↔ (local + need_units need.entry ≤ limit) }
+{
+    let (local, limit) = (usize::from(local), usize::from(limit));
+    match need {
+        Need::Number(kind) => local + kind.units() <= limit,
+        _ => local < limit,
+    }
+}
+
+// Whether what is needed besides the operands is there.
+fn rest_meets<C: Classes>(
+    method: &Method<'_, '_>,
+    deed: &Deed<'_>,
+    state: &State<'_>,
+    classes: &C,
+) -> bool
+    ensures { IsTrue result ↔ MeetsRest (world_of (C.content classes.now)) (method_view method.now) (task_view deed.now) (state_view state.now) }
 {
     match deed {
-        Deed::Operates { needs, .. } => has_needs(needs, stack),
-        Deed::Reads { kind, local } => holds_number(kind, locals, local),
-        Deed::Writes { kind, local } => {
-            has_kinds(&[kind], stack) && usize::from(local) + kind.units() <= usize::from(limit)
+        Deed::Reads { need, local } => has_local(*need, *local, state, classes),
+        Deed::Writes { need, local } => has_place(*need, *local, method.code.max_locals),
+        Deed::Increments { local } => has_local(Need::Number(Kind::Int), *local, state, classes),
+        Deed::Moves(operator) => has_form(*operator, state),
+        Deed::Initializes { class, needs } => has_receiver(method, class, needs, state),
+        Deed::CallsSpecial { class, .. } => {
+            is_below(RunType::Class(method.class_name()), *class, classes)
         }
-        Deed::Increments { local } => holds_number(Kind::Int, locals, local),
-        Deed::Moves(operator) => form_for(operator.forms(), stack).is_some(),
-        Deed::Leaves(kind) => has_kinds(&[kind], stack),
-        Deed::Ends => true,
         Deed::Stuck => false,
+        Deed::Operates { .. }
+        | Deed::TakesElement
+        | Deed::Passes(_)
+        | Deed::Creates(_)
+        | Deed::MakesArray { .. }
+        | Deed::Leaves(_)
+        | Deed::Throws
+        | Deed::Ends => true,
+    }
+}
+
+// How many units a reply takes.
+fn reply_units(reply: Reply<'_>) -> usize
+    ensures { result ≡ reply_units (reply_view reply.entry) }
+{
+    match reply {
+        Reply::Nothing => 0,
+        Reply::Number(kind) => kind.units(),
+        Reply::Null => 1,
+        Reply::Answer(t) => match need_of(t) {
+            Need::Number(kind) => kind.units(),
+            _ => 1,
+        },
+    }
+}
+
+// Whether the reply has room on what is left of the stack.
+fn reply_has_room(operation: &Operation<'_>, stack: &[Value], limit: u16) -> bool
+    ensures { let o = operation.now in IsTrue result ↔ (reply_units (reply_view o.reply) + depth_of (beneath (needs_view o.needs.items) (stack_of stack.now)) ≤ limit) }
+{
+    has_room(
+        reply_units(operation.reply),
+        beneath(&operation.needs, stack),
+        limit,
+    )
+}
+
+// Whether the stack as the operator rearranges it is no deeper than this.
+fn moves_have_room(
+    alloc: Global,
+    operator: StackOperator,
+    method: &Method<'_, '_>,
+    state: &State<'_>,
+) -> Result<bool, AllocError>
+    ensures { IfOk result (λ b. IsTrue b ↔ HasRoom (method_view method.now) (moves (stack_forms operator)) (state_view state.now)) }
+{
+    match form_for(operator.forms(), &state.stack) {
+        None => Ok(true),
+        Some(form) => {
+            let after = rearranged(alloc, form, &state.stack)?;
+            Ok(has_room(0, &after, method.code.max_stack))
+        }
+    }
+}
+
+// Whether the stack is no deeper than it may be afterwards.
+fn leaves_room(
+    alloc: Global,
+    method: &Method<'_, '_>,
+    deed: &Deed<'_>,
+    state: &State<'_>,
+) -> Result<bool, AllocError>
+    ensures { IfOk result (λ b. IsTrue b ↔ HasRoom (method_view method.now) (task_view deed.now) (state_view state.now)) }
+{
+    let limit = method.code.max_stack;
+    let stack = &state.stack;
+    match deed {
+        Deed::Operates { operation, .. } | Deed::CallsSpecial { operation, .. } => {
+            Ok(reply_has_room(operation, stack, limit))
+        }
+        Deed::Reads { local, .. } => match held(&state.locals, *local) {
+            None => Ok(true),
+            Some(value) => Ok(has_room(value_units(value), stack, limit)),
+        },
+        Deed::Moves(operator) => moves_have_room(alloc, *operator, method, state),
+        Deed::Creates(_) => Ok(has_room(1, stack, limit)),
+        Deed::MakesArray { needs, .. } => Ok(has_room(1, beneath(needs, stack), limit)),
+        Deed::Writes { .. }
+        | Deed::Increments { .. }
+        | Deed::TakesElement
+        | Deed::Passes(_)
+        | Deed::Initializes { .. }
+        | Deed::Leaves(_)
+        | Deed::Throws
+        | Deed::Ends
+        | Deed::Stuck => Ok(true),
     }
 }
 
@@ -42,34 +243,44 @@ fn are_whole(limit: u16, locals: &[Slot]) -> bool
     locals.len() == usize::from(limit) && are_paired(locals)
 }
 
-fn are_within(limit: u16, before: &[Value], after: &[Value]) -> bool
-    ensures { result ≡ are_within limit (stack_of before.now) (stack_of after.now) }
-{
-    !is_wider(before, limit) && !is_wider(after, limit)
-}
-
 /// Whether the instruction goes on to the next one.
-pub fn falls(deed: Deed<'_>) -> bool
-    ensures { result ≡ falls (task_view deed.entry) }
+pub fn falls(deed: &Deed<'_>) -> bool
+    ensures { result ≡ falls (task_view deed.now) }
 {
     match deed {
-        Deed::Operates { falls, .. } => falls,
-        Deed::Reads { .. } | Deed::Writes { .. } | Deed::Increments { .. } | Deed::Moves(_) => true,
-        Deed::Leaves(_) | Deed::Ends | Deed::Stuck => false,
-    }
-}
-
-/// Where an instruction at an offset branches to.
-pub fn targets<'a>(at: u16, deed: Deed<'a>) -> BranchTargets<'a>
-    ensures { targets_of result ≡ targets at (task_view deed.entry) }
-{
-    let branches = match deed {
-        Deed::Operates { branches, .. } => branches,
+        Deed::Operates { falls, .. } => *falls,
+        Deed::Leaves(_) | Deed::Throws | Deed::Ends | Deed::Stuck => false,
         Deed::Reads { .. }
         | Deed::Writes { .. }
         | Deed::Increments { .. }
         | Deed::Moves(_)
+        | Deed::TakesElement
+        | Deed::Passes(_)
+        | Deed::Creates(_)
+        | Deed::MakesArray { .. }
+        | Deed::Initializes { .. }
+        | Deed::CallsSpecial { .. } => true,
+    }
+}
+
+/// Where an instruction at an offset branches to.
+pub fn targets<'a>(at: u16, deed: &Deed<'a>) -> BranchTargets<'a>
+    ensures { targets_of result ≡ targets at (task_view deed.now) }
+{
+    let branches = match deed {
+        Deed::Operates { branches, .. } => *branches,
+        Deed::Reads { .. }
+        | Deed::Writes { .. }
+        | Deed::Increments { .. }
+        | Deed::Moves(_)
+        | Deed::TakesElement
+        | Deed::Passes(_)
+        | Deed::Creates(_)
+        | Deed::MakesArray { .. }
+        | Deed::Initializes { .. }
+        | Deed::CallsSpecial { .. }
         | Deed::Leaves(_)
+        | Deed::Throws
         | Deed::Ends
         | Deed::Stuck => Branches::Nowhere,
     };
@@ -77,8 +288,8 @@ pub fn targets<'a>(at: u16, deed: Deed<'a>) -> BranchTargets<'a>
 }
 
 // Whether control stays on the starts of instructions.
-fn stays(method: &Method<'_, '_>, at: u16, deed: Deed<'_>, next: Option<u16>) -> bool
-    ensures { let m = method_view method.now in result ≡ stays m.code at deed.entry next m.exceptions }
+fn stays(method: &Method<'_, '_>, at: u16, deed: &Deed<'_>, next: Option<u16>) -> bool
+    ensures { let m = method_view method.now in result ≡ stays m.code at (task_view deed.now) next m.exceptions }
 {
     (!falls(deed) || next.is_some())
         && all_begin(targets(at, deed), &method.list)
@@ -86,8 +297,8 @@ fn stays(method: &Method<'_, '_>, at: u16, deed: Deed<'_>, next: Option<u16>) ->
 }
 
 // Whether an instance initialization method that returns leaves no own object that is not initialized.
-fn ends_ready(method: &Method<'_, '_>, deed: Deed<'_>, state: &State<'_>) -> bool
-    ensures { IsTrue result ↔ EndsReady (method_view method.now) (task_view deed.entry) (state_view state.now) }
+fn ends_ready(method: &Method<'_, '_>, deed: &Deed<'_>, state: &State<'_>) -> bool
+    ensures { IsTrue result ↔ EndsReady (method_view method.now) (task_view deed.now) (state_view state.now) }
 {
     match deed {
         Deed::Ends => !method.is_init || has_no_this(&state.heap),
@@ -96,27 +307,37 @@ fn ends_ready(method: &Method<'_, '_>, deed: Deed<'_>, state: &State<'_>) -> boo
         | Deed::Writes { .. }
         | Deed::Increments { .. }
         | Deed::Moves(_)
+        | Deed::TakesElement
+        | Deed::Passes(_)
+        | Deed::Creates(_)
+        | Deed::MakesArray { .. }
+        | Deed::Initializes { .. }
+        | Deed::CallsSpecial { .. }
         | Deed::Leaves(_)
+        | Deed::Throws
         | Deed::Stuck => true,
     }
 }
 
-/// Whether the state meets the demands of an instruction that does this, where that is the next start, and that the
-/// stack afterwards.
-pub fn meets(
+/// Whether the state meets the demands of an instruction that does this, where that is the next start.
+pub fn meets<C: Classes>(
+    alloc: Global,
     method: &Method<'_, '_>,
-    deed: Deed<'_>,
+    deed: &Deed<'_>,
     next: Option<u16>,
     state: &State<'_>,
-    after: &[Value],
-) -> bool
-    requires { let s = state_view state.now in stack_of after.now ≡ stack_after deed s.stack s.locals }
-    ensures { IsTrue result ↔ Meets (method_view method.now) deed.entry next (state_view state.now) }
+    classes: &C,
+) -> Result<bool, AllocError>
+    ensures { IfOk result (λ b. IsTrue b ↔ Meets (world_of (C.content classes.now)) (method_view method.now) (task_view deed.now) next (state_view state.now)) }
 {
-    let code = method.code;
-    are_whole(code.max_locals, &state.locals)
-        && has_operands(code.max_locals, deed, &state.stack, &state.locals)
-        && are_within(code.max_stack, &state.stack, after)
-        && stays(method, state.at, deed, next)
-        && ends_ready(method, deed, state)
+    let has_room_after = leaves_room(alloc, method, deed, state)?;
+    Ok(
+        are_whole(method.code.max_locals, &state.locals)
+            && operands_meet(deed, state, classes)
+            && rest_meets(method, deed, state, classes)
+            && has_room(0, &state.stack, method.code.max_stack)
+            && has_room_after
+            && stays(method, state.at, deed, next)
+            && ends_ready(method, deed, state),
+    )
 }

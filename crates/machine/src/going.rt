@@ -1,25 +1,29 @@
 //! An instruction is done.
-ghost use Rattle.std.specs.Prelude.{◌≡◌, ◌↔◌, ℕ, pos, IsTrue, MatchOption, length, option_map};
+ghost use Rattle.std.specs.Prelude.{◌≡◌, ◌↔◌, ℕ, pos, IsTrue, IfOk, MatchOption, option_map};
+ghost use Rattle.hierarchy.specs.Class.{world_of};
 ghost use Rattle.insn.specs.Branching.{targets_of};
 ghost use Rattle.insn.specs.Offsets.{IsAmong};
-ghost use Rattle.machine.specs.private.Deeds.{stack_after};
-ghost use Rattle.machine.specs.private.Happening.{is_last, HasPlace, MayGo, Goes};
-ghost use Rattle.machine.specs.Views.{value_view, stack_of, fresh_view, state_view};
+ghost use Rattle.machine.specs.Steps.{IsLast};
+ghost use Rattle.machine.specs.private.Deeds.{task_view};
+ghost use Rattle.machine.specs.private.Happening.{Done, MayGo, GoesOn, Goes, moved_to};
+ghost use Rattle.machine.specs.Views.{value_view, heap_view, fresh_view, state_view};
 
 use crate::choosing::{Outcome, StepFault};
 use crate::deed::Deed;
 use crate::demands::{falls, targets};
+use crate::doing::done;
 use crate::heaps::with_fresh;
 use crate::items::Value;
-use crate::objects::RunType;
+use crate::objects::{Object, RunType};
 use crate::snapshot::State;
-use crate::storing::locals_after;
+use hierarchy::Classes;
 use insn::BranchTargets;
-use std::alloc::Global;
+use std::alloc::{AllocError, Global};
+use std::collections::BTreeMap;
 
 // Whether the method then ends.
-fn is_last(deed: Deed<'_>) -> bool
-    ensures { result ≡ is_last deed.entry }
+fn is_last(deed: &Deed<'_>) -> bool
+    ensures { IsTrue result ↔ IsLast (task_view deed.now) }
 {
     match deed {
         Deed::Leaves(_) | Deed::Ends => true,
@@ -28,6 +32,13 @@ fn is_last(deed: Deed<'_>) -> bool
         | Deed::Writes { .. }
         | Deed::Increments { .. }
         | Deed::Moves(_)
+        | Deed::TakesElement
+        | Deed::Passes(_)
+        | Deed::Creates(_)
+        | Deed::MakesArray { .. }
+        | Deed::Initializes { .. }
+        | Deed::CallsSpecial { .. }
+        | Deed::Throws
         | Deed::Stuck => false,
     }
 }
@@ -68,41 +79,70 @@ fn way(
     }
 }
 
-/// What comes of an instruction that does this, where that is the next start, and that the stack afterwards.
-pub fn go<'a>(
+// The state elsewhere, among these objects.
+fn moved_to<'a>(
     alloc: Global,
-    deed: Deed<'_>,
+    state: &State<'a>,
+    at: u16,
+    heap: BTreeMap<u32, Object<'a>>,
+) -> Result<State<'a>, AllocError>
+    ensures { IfOk result (λ t. state_view t ≡ moved_to (state_view state.now) at (heap_view heap.entry)) }
+{
+    let mut stack = Vec::new(alloc);
+    stack.extend_from_slice(&state.stack)?;
+    let mut locals = Vec::new(alloc);
+    locals.extend_from_slice(&state.locals)?;
+    Ok(State {
+        at,
+        stack,
+        locals,
+        heap,
+    })
+}
+
+// It goes on among these objects.
+fn go_on<'a, C: Classes>(
+    alloc: Global,
+    deed: &Deed<'a>,
     next: Option<u16>,
     state: &State<'a>,
-    stack: Vec<Value>,
+    heap: BTreeMap<u32, Object<'a>>,
+    branch: Option<u16>,
+    answer: Option<Value>,
+    classes: &C,
+) -> Result<State<'a>, StepFault>
+    ensures { Done (GoesOn (world_of (C.content classes.now)) (task_view deed.now) next (state_view state.now) (heap_view heap.entry) branch (option_map value_view answer)) result }
+{
+    let Some(at) = way(targets(state.at, deed), falls(deed), next, branch) else {
+        return Err(StepFault::NotAChoice);
+    };
+    let moved = moved_to(alloc, state, at, heap)?;
+    done(alloc, deed, moved, answer, classes)
+}
+
+/// What comes of an instruction that does this, where that is the next start.
+pub fn go<'a, C: Classes>(
+    alloc: Global,
+    deed: &Deed<'a>,
+    next: Option<u16>,
+    state: &State<'a>,
     branch: Option<u16>,
     answer: Option<Value>,
     fresh: &[(u32, RunType<'a>)],
+    classes: &C,
 ) -> Result<Outcome<'a>, StepFault>
-    requires place { HasPlace deed (length state.now.locals.items) }
-    requires after { let s = state_view state.now in stack_of stack.items ≡ stack_after deed s.stack s.locals }
-    ensures { Goes deed.entry next (state_view state.now) branch (option_map value_view answer) (fresh_view fresh.now) result }
+    ensures { Goes (world_of (C.content classes.now)) (task_view deed.now) next (state_view state.now) branch (option_map value_view answer) (fresh_view fresh.now) result }
 {
-    if answer.is_some() {
-        return Err(StepFault::NotAChoice);
-    }
     let heap = with_fresh(&state.heap, fresh)?;
     if is_last(deed) {
-        return match branch {
-            None => Ok(Outcome::Ended),
-            Some(_) => Err(StepFault::NotAChoice),
+        return if branch.is_none() && answer.is_none() {
+            Ok(Outcome::Ended)
+        } else {
+            Err(StepFault::NotAChoice)
         };
     }
-    match way(targets(state.at, deed), falls(deed), next, branch) {
-        None => Err(StepFault::NotAChoice),
-        Some(at) => {
-            let locals = locals_after(alloc, deed, &state.locals)?;
-            Ok(Outcome::Next(State {
-                at,
-                stack,
-                locals,
-                heap,
-            }))
-        }
+    match go_on(alloc, deed, next, state, heap, branch, answer, classes) {
+        Ok(after) => Ok(Outcome::Next(after)),
+        Err(fault) => Err(fault),
     }
 }

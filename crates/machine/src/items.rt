@@ -1,7 +1,7 @@
 //! Values, and what a local variable holds (JVMS 2.6).
-ghost use Rattle.std.specs.Prelude.{◌≡◌};
+ghost use Rattle.std.specs.Prelude.{◌≡◌, ◌↔◌, IsTrue};
 ghost use Rattle.machine.specs.Values.{number as number_of, is_wide_value, is_wide_slot, place_of};
-ghost use Rattle.machine.specs.private.Decided.{is_number, is_second};
+ghost use Rattle.machine.specs.private.Decided.{is_second};
 ghost use Rattle.machine.specs.Views.{value_view, slot_view};
 
 use insn::{Kind, StackPlace};
@@ -46,7 +46,7 @@ pub fn number(kind: Kind) -> Value
 
 /// Whether the value is a number of the kind.
 pub fn is_number(value: Value, kind: Kind) -> bool
-    ensures { result ≡ is_number kind (value_view value) }
+    ensures { IsTrue result ↔ (value_view value ≡ number_of kind) }
 {
     match value {
         Value::Int => matches!(kind, Kind::Int),

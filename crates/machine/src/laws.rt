@@ -1,5 +1,4 @@
 //! What the machine's choices, beginnings and worlds take in.
-ghost use Rattle.machine.specs.Steps.{HappensYet};
 ghost use Rattle.machine.specs.Breadth.{StepBreadth, StartBreadth, WorldBreadth};
 
 /// At a state that is no fault an instruction goes each way with each answer that fits, and each Throwable may be
@@ -16,9 +15,4 @@ pub fn start_breadth()
 /// A hierarchy extends itself, alone, with one more interface, and with one more class under any superclass or none.
 pub fn world_breadth()
     ensures { WorldBreadth }
-{}
-
-/// What happens by the tasks that are there yet does happen: a step of this program is one of the machine.
-pub fn happens_yet()
-    ensures { HappensYet }
 {}

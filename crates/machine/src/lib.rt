@@ -6,9 +6,10 @@
 //! - `choosing`: what a step leaves open, and what comes of it.
 //! - `body`, `making`: the method that runs, and how it is made of a class.
 //! - `starts`: the instruction at an offset.
-//! - `deed`, `deeds`: what an instruction does.
-//! - `operands`, `demands`: when a state is no fault.
-//! - `stacking`, `storing`, `going`: what comes of an instruction.
+//! - `constants`, `own_class`: what constants name, and what the class file says of the method's class.
+//! - `deed`, `deeds`, `fields`, `calls`, `creations`: what an instruction does.
+//! - `fitting`, `operands`, `demands`: which values fit which types, and when a state is no fault.
+//! - `stacking`, `storing`, `doing`, `going`: what comes of an instruction.
 //! - `below`, `heaps`, `raising`: run-time types, objects by their addresses, and what is raised.
 //! - `stepping`: a step.
 //!
@@ -27,10 +28,16 @@
 
 mod below;
 mod body;
+mod calls;
 mod choosing;
+mod constants;
+mod creations;
 mod deed;
 mod deeds;
 mod demands;
+mod doing;
+mod fields;
+mod fitting;
 mod going;
 mod heaps;
 mod items;
@@ -38,6 +45,7 @@ pub mod laws;
 mod making;
 mod objects;
 mod operands;
+mod own_class;
 mod raising;
 mod snapshot;
 mod stacking;

@@ -1,7 +1,5 @@
 //! The method that runs is made.
-ghost use Rattle.std.specs.Prelude.{◌≡◌, ℕ, List, None, Some, Ok, IfOk, IfErr, IfSome, IsSome, MatchOption, map, option_map};
-ghost use Rattle.names.specs.ReferenceTypes.{array_of, reference_type};
-ghost use Rattle.names.specs.Types.{type_of};
+ghost use Rattle.std.specs.Prelude.{◌≡◌, ℕ, List, None, Some, IfOk, IfErr, IfSome, IsSome, MatchOption, map, option_map};
 ghost use Rattle.classfile.specs.MethodParts.{code_at};
 ghost use Rattle.classfile.specs.Methods.{caught_type, exception_entries, method_of};
 ghost use Rattle.classfile.specs.Views.{class_view, handler_view};
@@ -15,10 +13,11 @@ ghost use Rattle.machine.specs.Bodies.{IsEntry, code_of, entry_view, method_view
 ghost use Rattle.machine.specs.Views.{run_type_view};
 
 use crate::body::{ExceptionEntry, Method};
+use crate::constants::class_at;
 use crate::objects::RunType;
 use classfile::{ClassFile, CodeAttr, ExceptionHandler, Formed};
 use insn::{CodeFault, Insn, decode_code};
-use names::{FieldType, THROWABLE, Text, field_type};
+use names::{FieldType, THROWABLE};
 use pool::Pool;
 use std::alloc::{AllocError, Global};
 
@@ -50,30 +49,6 @@ pub(crate) fn assembled<'c, 'a>(
     }
 }
 
-// An array of at least one dimension.
-fn array(t: FieldType<'_>) -> Option<RunType<'_>>
-    ensures { option_map run_type_view result ≡ array_of (Ok (type_of t.entry)) }
-{
-    match t.dims {
-        0 => None,
-        dims => Some(RunType::Array { dims, base: t.base }),
-    }
-}
-
-// The type that a Class constant of this text names (JVMS 4.4.1).
-fn reference(text: Text<'_>) -> Option<RunType<'_>>
-    ensures { option_map run_type_view result ≡ reference_type text.entry.bytes.now }
-{
-    let bytes = text.bytes();
-    match bytes.first() {
-        Some(b'[') => match field_type(text) {
-            Ok(t) => array(t),
-            Err(_) => None,
-        },
-        _ => Some(RunType::Class(bytes)),
-    }
-}
-
 // The type that an entry of the exception table catches: catch type 0 is for all that is raised.
 fn caught_type<'a>(pool: &Pool<'a>, index: u16) -> Option<RunType<'a>>
     ensures { option_map run_type_view result ≡ caught_type pool.now index }
@@ -81,10 +56,7 @@ fn caught_type<'a>(pool: &Pool<'a>, index: u16) -> Option<RunType<'a>>
     if index == 0 {
         return Some(RunType::Class(THROWABLE));
     }
-    match pool.class_name(index) {
-        Ok(text) => reference(text),
-        Err(_) => None,
-    }
+    class_at(pool, index)
 }
 
 // An entry of the exception table, with the type that it catches.

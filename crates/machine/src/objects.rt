@@ -1,5 +1,5 @@
 //! Objects (JVMS 2.4, 2.7).
-use names::Base;
+use names::{Base, OBJECT};
 
 /// What an object is: of a class, or an array.
 #[derive(Clone, Copy, Debug, PartialEq, Eq)]
@@ -27,3 +27,9 @@ pub struct Object<'a> {
     pub run_type: RunType<'a>,
     pub status: Status,
 }
+
+/// The arrays of objects.
+pub(crate) const OBJECTS: RunType<'static> = RunType::Array {
+    dims: 1,
+    base: Base::Class(OBJECT),
+};

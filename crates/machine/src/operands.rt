@@ -1,72 +1,101 @@
-//! Operands and local variables: their kinds, their forms, and how many units they take.
-ghost use Rattle.std.specs.Prelude.{◌≡◌, ◌≤◌, ◌↔◌, IsTrue, nat_lt, option_map, map, slice_get, false};
+//! Operands and local variables: what they have to be, their forms, and how many units they take.
+ghost use Rattle.std.specs.Prelude.{◌≡◌, ◌+◌, ◌≤◌, ◌↔◌, IsTrue, option_map, map, slice_get, false};
+ghost use Rattle.names.specs.Types.{type_of};
+ghost use Rattle.hierarchy.specs.Class.{world_of};
+ghost use Rattle.insn.specs.Acts.{stack_forms};
 ghost use Rattle.insn.specs.Views.{stack_form_view};
+ghost use Rattle.machine.specs.Tasks.{need_of};
+ghost use Rattle.machine.specs.Demands.{Meets, AllMeet, HasLocal, HasForm};
 ghost use Rattle.machine.specs.Values.{depth_of, units, is_wide_value};
-ghost use Rattle.machine.specs.private.Decided.{has_kinds, meets, has_all, has_needs, holds_number, same_place, are_form, form_for, is_behind, paired_behind};
-ghost use Rattle.machine.specs.Views.{value_view, slot_view, stack_of, locals_of};
+ghost use Rattle.machine.specs.private.Decided.{same_place, are_form, form_for, is_behind, paired_behind};
+ghost use Rattle.machine.specs.private.Deeds.{need_view, needs_view};
+ghost use Rattle.machine.specs.private.Happening.{IsHeld};
+ghost use Rattle.machine.specs.Views.{value_view, slot_view, stack_of, locals_of, heap_view, state_view};
 
-use crate::deed::{Need, Needs};
+use crate::deed::Need;
+use crate::fitting::{fits_array, fits_array_for, fits_reference, is_reference, is_this};
 use crate::items::{Slot, Value, is_number, is_second, is_wide_slot, is_wide_value, place_of};
-use insn::{Kind, StackForm, StackPlace};
+use crate::objects::{Object, RunType};
+use crate::snapshot::State;
+use hierarchy::Classes;
+use insn::{StackForm, StackOperator, StackPlace, computed_as};
+use names::{Base, FieldType};
+use std::collections::BTreeMap;
 
-/// Whether numbers of these kinds are on top of the stack, the first of them on top.
-pub fn has_kinds(kinds: &[Kind], stack: &[Value]) -> bool
-    ensures { result ≡ has_kinds kinds.now (stack_of stack.now) }
+/// What is needed of an operand of the type.
+pub fn need_of(t: FieldType<'_>) -> Need<'_>
+    ensures { need_view result ≡ need_of (type_of t.entry) }
 {
-    match kinds {
-        [] => true,
-        [kind, kinds @ ..] => match stack {
-            [] => false,
-            [stack @ .., top] => is_number(*top, *kind) && has_kinds(kinds, stack),
+    match t.dims {
+        0 => match t.base {
+            Base::Primitive(primitive) => Need::Number(computed_as(primitive)),
+            Base::Class(name) => Need::Type(RunType::Class(name)),
         },
+        dims => Need::Type(RunType::Array { dims, base: t.base }),
     }
 }
 
-fn meets(need: Need, value: Value) -> bool
-    ensures { result ≡ meets need (value_view value) }
+/// Whether the value meets the need.
+pub fn meets<C: Classes>(
+    need: Need<'_>,
+    value: Value,
+    heap: &BTreeMap<u32, Object<'_>>,
+    classes: &C,
+) -> bool
+    ensures { IsTrue result ↔ Meets (world_of (C.content classes.now)) (heap_view heap.now) (need_view need.entry) (value_view value) }
 {
     match need {
         Need::Number(kind) => is_number(value, kind),
-        Need::Reference => match value {
-            Value::Null | Value::Ref(_) => true,
-            Value::Int | Value::Float | Value::Long | Value::Double => false,
-        },
+        Need::Type(run_type) => fits_reference(heap, run_type, value, classes),
+        Need::Reference => is_reference(value),
+        Need::Array => fits_array(heap, value),
+        Need::ArrayFor(element) => fits_array_for(heap, element, value),
+        Need::OwnOr(class) => {
+            fits_reference(heap, RunType::Class(class), value, classes) || is_this(heap, value)
+        }
     }
 }
 
 /// Whether operands that meet these needs are on top of the stack, the first of them on top.
-fn has_operands(needs: &[Need], stack: &[Value]) -> bool
-    ensures { result ≡ has_all needs.now (stack_of stack.now) }
+pub fn all_meet<C: Classes>(
+    needs: &[Need<'_>],
+    stack: &[Value],
+    heap: &BTreeMap<u32, Object<'_>>,
+    classes: &C,
+) -> bool
+    ensures { IsTrue result ↔ AllMeet (world_of (C.content classes.now)) (heap_view heap.now) (needs_view needs.now) (stack_of stack.now) }
 {
     match needs {
         [] => true,
         [need, needs @ ..] => match stack {
             [] => false,
-            [stack @ .., top] => meets(*need, *top) && has_operands(needs, stack),
+            [stack @ .., top] => {
+                meets(*need, *top, heap, classes) && all_meet(needs, stack, heap, classes)
+            }
         },
     }
 }
 
-/// Whether what is needed is on top of the stack.
-pub fn has_needs(needs: Needs, stack: &[Value]) -> bool
-    ensures { result ≡ has_needs needs (stack_of stack.now) }
-{
-    match needs {
-        Needs::Numbers(kinds) => has_kinds(kinds, stack),
-        Needs::Operands(needs) => has_operands(needs, stack),
-    }
-}
-
-/// Whether the local variable holds a number of the kind.
-pub fn holds_number(kind: Kind, locals: &[Slot], local: u16) -> bool
-    ensures { result ≡ holds_number kind (slice_get (locals_of locals.now) local) }
+/// The value that a local variable holds.
+pub fn held(locals: &[Slot], local: u16) -> Option<Value>
+    ensures { IsHeld (slice_get (locals_of locals.now) local) (option_map value_view result) }
 {
     match locals.get(usize::from(local)) {
-        None => false,
+        None => None,
         Some(slot) => match *slot {
-            Slot::Value(value) => is_number(value, kind),
-            Slot::Empty | Slot::Second => false,
+            Slot::Value(value) => Some(value),
+            Slot::Empty | Slot::Second => None,
         },
+    }
+}
+
+/// Whether the local variable holds a value that meets the need.
+pub fn has_local<C: Classes>(need: Need<'_>, local: u16, state: &State<'_>, classes: &C) -> bool
+    ensures { IsTrue result ↔ HasLocal (world_of (C.content classes.now)) (need_view need.entry) local (state_view state.now) }
+{
+    match held(&state.locals, local) {
+        None => false,
+        Some(value) => meets(need, value, &state.heap, classes),
     }
 }
 
@@ -104,6 +133,13 @@ pub fn form_for(forms: &'static [StackForm], stack: &[Value]) -> Option<StackFor
     None
 }
 
+/// Whether the stack fits a form of the operator.
+pub fn has_form(operator: StackOperator, state: &State<'_>) -> bool
+    ensures { IsTrue result ↔ HasForm (stack_forms operator) (state_view state.now) }
+{
+    form_for(operator.forms(), &state.stack).is_some()
+}
+
 /// How many units a value takes (JVMS 2.6.2).
 pub fn value_units(value: Value) -> usize
     ensures { result ≡ units (is_wide_value (value_view value)) }
@@ -126,11 +162,12 @@ fn has_units(stack: &[Value], count: usize) -> bool
     left == 0
 }
 
-/// Whether the stack has more units than this.
-pub fn is_wider(stack: &[Value], limit: u16) -> bool
-    ensures { result ≡ nat_lt limit (depth_of (stack_of stack.now)) }
+/// Whether there is room for so many units on the stack.
+pub fn has_room(units: usize, stack: &[Value], limit: u16) -> bool
+    ensures { IsTrue result ↔ (units + depth_of (stack_of stack.now) ≤ limit) }
 {
-    has_units(stack, usize::from(limit) + 1)
+    let limit = usize::from(limit);
+    units <= limit && !has_units(stack, limit - units + 1)
 }
 
 fn is_behind(wide: bool, slot: Slot) -> bool

@@ -1,7 +1,7 @@
 //! A step of the machine.
 ghost use Rattle.hierarchy.specs.Class.{world_of};
 ghost use Rattle.machine.specs.Bodies.{method_view};
-ghost use Rattle.machine.specs.Tasks.{task_yet};
+ghost use Rattle.machine.specs.Tasks.{task};
 ghost use Rattle.machine.specs.Stepped.{Stepped};
 ghost use Rattle.machine.specs.Views.{state_view, choice_view};
 
@@ -12,7 +12,6 @@ use crate::demands::meets;
 use crate::going::go;
 use crate::raising::raise;
 use crate::snapshot::State;
-use crate::stacking::stack_after;
 use crate::starts::found_at;
 use hierarchy::Classes;
 use std::alloc::Global;
@@ -30,14 +29,14 @@ pub fn step<'a, C: Classes>(
     state: &State<'a>,
     choice: &Choice<'a>,
 ) -> Result<Outcome<'a>, StepFault>
-    ensures { Stepped task_yet (world_of (C.content classes.now)) (method_view method.now) (state_view state.now) (choice_view choice.now) result }
+    ensures { Stepped task (world_of (C.content classes.now)) (method_view method.now) (state_view state.now) (choice_view choice.now) result }
 {
     let Some((act, next)) = found_at(&method.list, state.at) else {
         return Ok(Outcome::Fault);
     };
-    let deed = deed_of(act, method);
-    let stack = stack_after(alloc, deed, &state.stack, &state.locals)?;
-    if !meets(method, deed, next, state, &stack) {
+    let deed = deed_of(alloc, act, method)?;
+    let is_met = meets(alloc, method, &deed, next, state, classes)?;
+    if !is_met {
         return Ok(Outcome::Fault);
     }
     match choice {
@@ -45,7 +44,7 @@ pub fn step<'a, C: Classes>(
             branch,
             answer,
             fresh,
-        } => go(alloc, deed, next, state, stack, *branch, *answer, fresh),
+        } => go(alloc, &deed, next, state, *branch, *answer, fresh, classes),
         Choice::Raise {
             address,
             fresh,

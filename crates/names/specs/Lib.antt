@@ -6,6 +6,7 @@ pub mod Names
 pub mod ReadTypes
 pub mod Reading
 pub mod ReferenceTypes
+pub mod References
 pub mod StandardNames
 pub mod Texts
 pub mod Types

@@ -10,6 +10,7 @@
 //! - `name`: whether a text is a class name, a field's name or a method's name.
 //! - `base`, `descriptor`: the types that descriptors name, their widths, and their texts.
 //! - `reading`: the types of a descriptor's text.
+//! - `references`: the types of references, and those that Class constants name.
 //! - `standard`: names that the standard speaks of.
 //! - `fault`: the refusals.
 #![tactic(auto)]
@@ -19,6 +20,7 @@ mod descriptor;
 mod fault;
 mod name;
 mod reading;
+mod references;
 mod standard;
 mod text;
 
@@ -30,5 +32,8 @@ pub use reading::{
     field_answers, field_type, method_answers, method_type, one_field_type, one_method_type,
     result_type,
 };
-pub use standard::{CLONEABLE, INIT, OBJECT, SERIALIZABLE, THROWABLE};
+pub use references::{RefType, reference_type};
+pub use standard::{
+    CLASS, CLONEABLE, INIT, METHOD_HANDLE, METHOD_TYPE, OBJECT, SERIALIZABLE, STRING, THROWABLE,
+};
 pub use text::{Text, TextUnits, check_text, one_unit_list, spell, text_answers, units};

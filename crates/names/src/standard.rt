@@ -14,3 +14,15 @@ pub const THROWABLE: &[u8] = b"java/lang/Throwable";
 
 /// Instance initialization methods (JVMS 2.9.1).
 pub const INIT: &[u8] = b"<init>";
+
+/// The class of strings (JVMS 4.4.3).
+pub const STRING: &[u8] = b"java/lang/String";
+
+/// The class of classes (JVMS 5.1).
+pub const CLASS: &[u8] = b"java/lang/Class";
+
+/// The class of method types (JVMS 4.4.9).
+pub const METHOD_TYPE: &[u8] = b"java/lang/invoke/MethodType";
+
+/// The class of method handles (JVMS 4.4.8).
+pub const METHOD_HANDLE: &[u8] = b"java/lang/invoke/MethodHandle";

@@ -5,3 +5,4 @@ pub mod Views
 pub mod Refusals
 pub mod Lookups
 pub mod Members
+pub mod MemberViews

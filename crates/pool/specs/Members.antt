@@ -47,10 +47,11 @@ pub record MethodConstant : Type 0 where
   pub interface : Bool
   pub class : ReferenceType
   pub name : List ℕ
+  pub descriptor : List ℕ
   pub type : MethodDescriptor
 
 abbrev pub method_of_class : MethodOf → Option ReferenceType → Option MethodDescriptor → Option MethodConstant
-method_of_class m (Some class) (Some type) = Some (record { interface = m.interface; class = class; name = m.name; type = type })
+method_of_class m (Some class) (Some type) = Some (record { interface = m.interface; class = class; name = m.name; descriptor = m.descriptor; type = type })
 method_of_class m _ _ = None
 
 -- the descriptor is measured without a receiver

@@ -10,8 +10,9 @@
 //! - `kind`: the kinds of a method handle's reference
 //! - `laws`: what the look-ups find, by what stands where, without code
 //! - `lookups`: what stands at an index, and to which texts it leads
+//! - `members`: what a class, a field or a method is to an instruction that names it
 //! - `reading`: bytes to constants
-//! - `reference`: the texts of a NameAndType, a Fieldref and a method's reference
+//! - `reference`: what a NameAndType, a Fieldref and a method's reference lead to
 //! - `writing`: constants to bytes
 #![tactic(auto)]
 
@@ -21,6 +22,7 @@ mod fault;
 mod kind;
 mod laws;
 mod lookups;
+mod members;
 mod reading;
 mod reference;
 mod writing;
@@ -31,5 +33,5 @@ pub use fault::PoolFault;
 pub use kind::ReferenceKind;
 pub use laws::found_where_it_stands;
 pub use reading::read_pool;
-pub use reference::{FieldRef, MethodRef, NameAndType};
+pub use reference::{FieldConstant, FieldRef, MethodConstant, MethodRef, NameAndType};
 pub use writing::put_pool;

@@ -1,6 +1,8 @@
 //! What references of the constant pool lead to.
 
-use names::Text;
+ghost use Rattle.std.specs.Prelude.{◌≤◌, vec_len};
+
+use names::{FieldType, MethodType, RefType, Text};
 
 /// The texts of a NameAndType (JVMS 4.4.6).
 #[derive(Clone, Copy)]
@@ -33,4 +35,33 @@ pub struct MethodRef<'a> {
     pub name: Text<'a>,
     /// The method's descriptor.
     pub descriptor: Text<'a>,
+}
+
+/// A Fieldref whose texts are of their forms (JVMS 4.4.2).
+#[derive(Clone, Copy)]
+pub struct FieldConstant<'a> {
+    /// The name of the class that is asked for the field, which is no array.
+    pub class: &'a [u8],
+    /// The field's name.
+    pub name: &'a [u8],
+    /// The bytes of its descriptor.
+    pub descriptor: &'a [u8],
+    /// The type that the descriptor names.
+    pub field_type: FieldType<'a>,
+}
+
+/// A Methodref or an InterfaceMethodref whose texts are of their forms (JVMS 4.4.2).
+#[derive(Drop)]
+pub struct MethodConstant<'a> {
+    /// Whether the constant is an InterfaceMethodref.
+    pub interface: bool,
+    /// The class, the interface or the array that is asked for the method.
+    pub class: RefType<'a>,
+    /// The method's name.
+    pub name: &'a [u8],
+    /// The bytes of its descriptor.
+    pub descriptor: &'a [u8],
+    /// The types that the descriptor names. The parameters take at most 255 units, without a receiver.
+    pub method_type: MethodType<'a>,
+    pub ghost few: { vec_len method_type.params ≤ 255 },
 }

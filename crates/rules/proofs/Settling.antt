@@ -1,6 +1,7 @@
 -- From the conditions of a family to those that are left to judge once its operands are there.
 use Rattle.std.specs.Prelude.{nat_lt, is_none, ◌&&◌, if◌then◌else◌}
 use Rattle.std.proofs.Common.{◌≡◌, ◌⊎◌, ℕ, zero, suc, ◌<◌, ◌≤◌, Bool, true, false, List, [], ◌∷◌, length, get_or, refl, sym, ◌∙◌, ap, subst, arith, inl, inr, Some, None, Option, Result, Ok, Err, slice_get}
+use Rattle.std.proofs.lemmas.Bool.{cond-true}
 use Rattle.std.proofs.lemmas.Bool.Decides.{nat_tests}
 use Rattle.names.specs.Descriptors.{FieldDescriptor}
 use Rattle.classfile.specs.Methods.{Method}
@@ -18,7 +19,7 @@ use Rattle.frames.specs.Slots.{units_of}
 use Rattle.frames.specs.Conditions.{Reason as Refusing, reason, Conditions, least, is_no, missing_if}
 use Rattle.rules.specs.declared.reason.Reason.{Reason}
 use Rattle.rules.specs.declared.reason.Reason.TheVariants.{OutOfMemory}
-use Rattle.rules.specs.Plans.{Want, pops, loads, stores, rearranges, Plan}
+use Rattle.rules.specs.Plans.{Want, pops, loads, stores, rearranges, refuses, Plan, where_allowed}
 use Rattle.rules.specs.Table.{return_nothing}
 use Rattle.rules.specs.After.{or_top, local_of, after, with_stack, top_of, rest_of, stored, stored_type, form_for, rearranged_by}
 use Rattle.rules.specs.Rules.{is_short, operands, accepts, is_outside, gives_frame, is_too_wide, conditions}
@@ -275,3 +276,12 @@ returned m at p cs f now r e d = subst (λ q. Done (conditions cs m at q f) (aft
     at_offset : (t : Option FieldDescriptor) → Done (conditions cs m 0 (return_nothing t) f) (after m 0 (return_nothing t) f) now r → Done (conditions cs m at (return_nothing t) f) (after m at (return_nothing t) f) now r
     at_offset None d = d
     at_offset (Some t) d = d
+
+-- ---- by a plan that is found
+
+pub by_plan : (m : Method Act) (at : ℕ) (p q : Plan) (cs : List ClassFact) (f now : FrameFact) (r : Result Unit Reason) → p ≡ q → Done (conditions cs m at q f) (after m at q f) now r → Done (conditions cs m at p f) (after m at p f) now r
+by_plan m at p q cs f now r e d = subst (λ z. Done (conditions cs m at z f) (after m at z f) now r) (sym e) d
+
+-- where the plan is allowed
+pub by_allowed : (m : Method Act) (at : ℕ) (p : Plan) (b : Bool) (q : Plan) (cs : List ClassFact) (f now : FrameFact) (r : Result Unit Reason) → p ≡ where_allowed b q → b ≡ true → Done (conditions cs m at q f) (after m at q f) now r → Done (conditions cs m at p f) (after m at p f) now r
+by_allowed m at p b q cs f now r e t d = by_plan m at p q cs f now r (e ∙ cond-true b q (refuses 66) t) d

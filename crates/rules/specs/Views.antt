@@ -4,8 +4,9 @@ use Rattle.frames.specs.declared.vtype.VType.{VType}
 use Rattle.frames.specs.VerificationType.{VerificationType, type_of, top}
 use Rattle.frames.specs.Slots.{is_wide}
 use Rattle.rules.specs.declared.want.Want.{Want as RawWant}
-use Rattle.rules.specs.declared.want.Want.TheVariants.{Number, Reference}
-use Rattle.rules.specs.Plans.{Want, number, any_reference}
+use Rattle.rules.specs.declared.want.Want.TheVariants.{Number, Assignable, Reference, Array, ArrayFor, OwnOr}
+use Rattle.names.specs.References.{reference_view}
+use Rattle.rules.specs.Plans.{Want, number, assignable_to, any_reference, any_array, any_array_for, own_or_assignable_to}
 
 -- a stack with its top last, as the program keeps it, with its top first
 abbrev pub stack_of : List VType → List VerificationType
@@ -21,7 +22,11 @@ pushed_types (Some t) = type_of t ∷ []
 
 abbrev pub want_view : RawWant → Want
 want_view (Number kind) = number kind
+want_view (Assignable type) = assignable_to (reference_view type)
 want_view Reference = any_reference
+want_view Array = any_array
+want_view (ArrayFor p) = any_array_for p
+want_view (OwnOr name) = own_or_assignable_to name.now
 
 -- locals in which a long or double just before a place is top, since its second half is gone
 abbrev pub with_half_free : ℕ → List VerificationType → List VerificationType

@@ -1,4 +1,4 @@
--- Where each instruction goes.
+-- Where each instruction goes, and whether it leaves the locals as they are.
 use Rattle.std.specs.Prelude.{ℤ, Bool, true, false, List, [], ◌∷◌}
 use Rattle.insn.specs.Meanings as acts
 use Rattle.insn.specs.Meanings.{Act}
@@ -23,3 +23,11 @@ branch_offsets (acts.IfNull offset) = offset ∷ []
 branch_offsets (acts.Goto offset) = offset ∷ []
 branch_offsets (acts.Switch default offsets) = default ∷ offsets
 branch_offsets _ = []
+
+-- an instruction leaves all locals as they are
+abbrev pub keeps_locals : Act → Bool
+keeps_locals (acts.Store kind n) = false
+keeps_locals (acts.StoreReference n) = false
+keeps_locals (acts.InvokeSpecial i) = false
+keeps_locals (acts.New i) = false
+keeps_locals _ = true

@@ -60,7 +60,7 @@ pub fn apply<'a, C: Classes>(
             own: false,
         });
     };
-    match run(&env.method, at, act(insn), &mut working, env.classes) {
+    match run(alloc, &env.method, at, act(insn), &mut working, env.classes) {
         Err(reason) => Err(Refusal { reason, own: false }),
         Ok(()) => match working.into_frame() {
             Err(_) => Err(Refusal {

@@ -1,6 +1,7 @@
 //! Instructions that load constants.
+ghost use Rattle.std.specs.Prelude.{◌≡◌, ℕ};
 ghost use Rattle.pool.specs.Members.{constant_at};
-ghost use Rattle.rules.specs.Constants.{load_wide_constant};
+ghost use Rattle.rules.specs.Constants.{load_constant, load_wide_constant};
 ghost use Rattle.rules.specs.After.{after};
 ghost use Rattle.rules.specs.Rules.{conditions};
 ghost use Rattle.rules.specs.Bodies.{method_view};
@@ -13,7 +14,32 @@ use crate::working::Working;
 use classfile::CodeMethod;
 use frames::VType;
 use hierarchy::Classes;
+use names::{CLASS, METHOD_HANDLE, METHOD_TYPE, STRING};
 use pool::Constant;
+
+/// `ldc` and `ldc_w`
+pub fn load_constant<'a, C: Classes>(
+    method: &CodeMethod<'_, 'a>,
+    index: u16,
+    frame: &mut Working<'a>,
+    classes: &C,
+) -> Result<(), Reason<'a>>
+    ensures { (at : ℕ) → let m = method_view method.now in let f = held frame.old in
+        let p = load_constant (constant_at m.constant_pool index) in
+        Done (conditions (C.content classes.now) m at p f) (after m at p f) (held frame.new) result }
+{
+    let loaded = match method.class.constant_pool.get(index) {
+        Ok(Constant::Integer { .. }) => VType::Int,
+        Ok(Constant::Float { .. }) => VType::Float,
+        Ok(Constant::String { .. }) => VType::Class(STRING),
+        Ok(Constant::Class { .. }) => VType::Class(CLASS),
+        Ok(Constant::MethodType { .. }) => VType::Class(METHOD_TYPE),
+        Ok(Constant::MethodHandle { .. }) => VType::Class(METHOD_HANDLE),
+        Ok(Constant::Dynamic { .. }) => return Err(Reason::NotSupported),
+        Ok(_) | Err(_) => return Err(Reason::WrongConstant),
+    };
+    gives(method, Some(loaded), frame, classes)
+}
 
 /// `ldc2_w`
 pub fn load_wide_constant<'a, C: Classes>(

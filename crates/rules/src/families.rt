@@ -1,10 +1,12 @@
 //! Families of rules: operands to a result, loads, increments and returns.
-ghost use Rattle.std.specs.Prelude.{◌≡◌, ◌≤◌, List, [], true, length, map, option_map};
+ghost use Rattle.std.specs.Prelude.{◌≡◌, ◌≤◌, ℕ, List, [], true, length, map, option_map};
+ghost use Rattle.std.specs.Option.{option_and_then};
+ghost use Rattle.names.specs.References.{reference_view, referred_by};
 ghost use Rattle.names.specs.Types.{type_of};
 ghost use Rattle.hierarchy.specs.Class.{ClassFact};
 ghost use Rattle.hierarchy.specs.Answer.{outcome_of};
 ghost use Rattle.rules.specs.Plans.{pops, loads, counts, returns};
-ghost use Rattle.rules.specs.Table.{return_number, return_nothing};
+ghost use Rattle.rules.specs.Table.{return_number, return_nothing, return_reference};
 ghost use Rattle.rules.specs.After.{after};
 ghost use Rattle.rules.specs.Rules.{conditions};
 ghost use Rattle.rules.specs.Bodies.{method_view};
@@ -20,7 +22,7 @@ use classfile::CodeMethod;
 use frames::VType;
 use hierarchy::{Answer, Classes};
 use insn::{Kind, computed_as};
-use names::{Base, FieldType};
+use names::{Base, FieldType, RefType};
 
 /// Pushes what an instruction gives, and judges what is left: 65, or 77 by the answer for its operands, which is not
 /// no.
@@ -56,12 +58,12 @@ pub fn gives<'a, C: Classes>(
         let p = pops [] (pushed_types gives.entry) [] true in
         Done (conditions (C.content classes.now) m 0 p f) (after m 0 p f) (held frame.new) result }
 {
-    let nothing: &[Want] = &[];
+    let nothing: &[Want<'a>] = &[];
     pops(method, nothing, gives, frame, classes)
 }
 
 /// What is asked of operands, the top first, to a result.
-pub fn pops<'a, A: Ask, C: Classes>(
+pub fn pops<'a, A: Ask<'a>, C: Classes>(
     method: &CodeMethod<'_, 'a>,
     asked: &[A],
     gives: Option<VType<'a>>,
@@ -84,7 +86,7 @@ pub fn pops<'a, A: Ask, C: Classes>(
 /// A local variable onto the stack.
 pub fn loads<'a, C: Classes>(
     method: &CodeMethod<'_, 'a>,
-    want: Want,
+    want: Want<'a>,
     local: u16,
     width: usize,
     frame: &mut Working<'a>,
@@ -94,7 +96,7 @@ pub fn loads<'a, C: Classes>(
     requires some { 1 ≤ width }
     requires few { width ≤ 2 }
     ensures { let m = method_view method.now in let f = held frame.old in
-        let p = loads (want_view want) local width in
+        let p = loads (want_view want.entry) local width in
         Done (conditions (C.content classes.now) m 0 p f) (after m 0 p f) (held frame.new) result }
 {
     let place = usize::from(local);
@@ -176,6 +178,32 @@ pub fn return_number<'a, C: Classes>(
         } else {
             Err(Reason::WrongReturn)
         },
+    }
+}
+
+/// A return of a reference.
+pub fn return_reference<'a, C: Classes>(
+    method: &CodeMethod<'_, 'a>,
+    frame: &mut Working<'a>,
+    classes: &C,
+) -> Result<(), Reason<'a>>
+    ensures { (at : ℕ) → let m = method_view method.now in let f = held frame.old in
+        let p = return_reference m.type.result in
+        Done (conditions (C.content classes.now) m at p f) (after m at p f) (held frame.new) result }
+{
+    match reference_of_result(method.result_type) {
+        None => Err(Reason::WrongReturn),
+        Some(t) => pops(method, &[Want::Assignable(t)], None, frame, classes),
+    }
+}
+
+/// The type of the references that a method gives, if it gives references.
+fn reference_of_result<'a>(result_type: Option<FieldType<'a>>) -> Option<RefType<'a>>
+    ensures { option_map reference_view result ≡ option_and_then referred_by (option_map type_of result_type.entry) }
+{
+    match result_type {
+        None => None,
+        Some(t) => t.reference(),
     }
 }
 

@@ -4,15 +4,18 @@
 //!
 //! - `reason`: why an instruction is refused.
 //! - `environment`: what an instruction is judged in.
-//! - `kinds`: kinds of numbers as types.
 //! - `operands`: what is asked of operands, and how deep the stack is.
 //! - `families`: operands to results, loads, increments and returns.
 //! - `stores`: stores to local variables.
 //! - `stacks`: instructions that move what is on the stack.
 //! - `constants`: instructions that load constants.
+//! - `fields`: instructions that read and write fields.
+//! - `calls`: instructions that call methods.
+//! - `arrays`: instructions that make arrays and read their elements, and casts.
+//! - `declaring_class`: the class that declares the method, and its superclass.
 //! - `want`: what is asked of an operand.
 //! - `running`: the rule of an instruction, on a frame in place.
-//! - `ways`: where an instruction goes.
+//! - `ways`: where an instruction goes, and whether it leaves the locals as they are.
 //! - `applying`: the rule of an instruction, on a copy of the frame.
 //!
 //! Definitions:
@@ -26,10 +29,13 @@
 #![tactic(auto)]
 
 mod applying;
+mod arrays;
+mod calls;
 mod constants;
+mod declaring_class;
 mod environment;
 mod families;
-mod kinds;
+mod fields;
 mod moves;
 mod operands;
 mod reason;
@@ -42,8 +48,9 @@ mod ways;
 mod working;
 
 pub use applying::{After, Refusal, apply};
+pub use declaring_class::own_class;
 pub use environment::Env;
 pub use reason::Reason;
 pub use running::run;
-pub use ways::{branches, branches_by, falls, goes_on};
+pub use ways::{branches, branches_by, falls, goes_on, keeps_locals};
 pub use working::Working;

@@ -1,17 +1,18 @@
 //! What is asked of operands.
 ghost use Rattle.std.specs.Prelude.{◌≡◌, true, map, MatchOption};
-ghost use Rattle.hierarchy.specs.Answer.{outcome_of};
+ghost use Rattle.hierarchy.specs.Answer.{outcome_of, yes_if};
 ghost use Rattle.frames.specs.VerificationType.{type_of};
-ghost use Rattle.rules.specs.Rules.{accepts, is_reference, is_short};
+ghost use Rattle.rules.specs.Rules.{accepts, is_array, is_array_for, is_reference, is_short, own_or_answer};
 ghost use Rattle.rules.specs.Outcomes.{TookOff};
 ghost use Rattle.rules.specs.Held.{held};
 ghost use Rattle.rules.specs.Views.{want_view};
 
-use crate::kinds::number_type;
 use crate::want::{Ask, Want};
 use crate::working::Working;
-use frames::{VType, assignable, both};
+use frames::{VType, assignable, both, number_type, reference_to};
 use hierarchy::{Answer, Classes};
+use insn::takes_array;
+use names::{Base, Primitive};
 
 /// Whether a type is that of a reference, initialized or not.
 fn is_reference(t: &VType<'_>) -> bool
@@ -27,23 +28,79 @@ fn is_reference(t: &VType<'_>) -> bool
     }
 }
 
+/// Whether a type is that of an array, or null.
+fn is_array(t: &VType<'_>) -> bool
+    ensures { result ≡ is_array (type_of t.now) }
+{
+    match *t {
+        VType::Null | VType::Array { .. } => true,
+        VType::Top
+        | VType::Int
+        | VType::Float
+        | VType::Long
+        | VType::Double
+        | VType::Class(_)
+        | VType::UninitThis
+        | VType::Uninit(_) => false,
+    }
+}
+
+/// Whether a type is null, or that of an array whose elements an instruction for the primitive type takes.
+fn is_array_for(primitive: Primitive, t: &VType<'_>) -> bool
+    ensures { result ≡ is_array_for primitive (type_of t.now) }
+{
+    match *t {
+        VType::Null => true,
+        VType::Array { dims: 0 | 1, base } => match base {
+            Base::Primitive(element) => takes_array(primitive, element),
+            Base::Class(_) => false,
+        },
+        VType::Top
+        | VType::Int
+        | VType::Float
+        | VType::Long
+        | VType::Double
+        | VType::Class(_)
+        | VType::Array { .. }
+        | VType::UninitThis
+        | VType::Uninit(_) => false,
+    }
+}
+
+/// Yes where it holds, and otherwise no.
+fn yes_if<'a>(holds: bool) -> Answer<'a>
+    ensures { outcome_of result ≡ yes_if holds }
+{
+    if holds { Answer::Yes } else { Answer::No }
+}
+
+/// Whether a type is that of the own object that is not initialized, or is assignable to a class.
+fn own_or_answer<'a, C: Classes>(name: &'a [u8], t: &VType<'a>, classes: &C) -> Answer<'a>
+    ensures { outcome_of result ≡ own_or_answer (C.content classes.now) name.now (type_of t.now) }
+{
+    match *t {
+        VType::UninitThis => Answer::Yes,
+        _ => assignable(t, &VType::Class(name), classes),
+    }
+}
+
 /// Whether a type meets what is asked.
-pub fn accepts<'a, C: Classes>(want: Want, t: &VType<'a>, classes: &C) -> Answer<'a>
-    ensures { outcome_of result ≡ accepts (C.content classes.now) (want_view want) (type_of t.now) }
+pub fn accepts<'a, C: Classes>(want: Want<'a>, t: &VType<'a>, classes: &C) -> Answer<'a>
+    ensures { outcome_of result ≡ accepts (C.content classes.now) (want_view want.entry) (type_of t.now) }
 {
     match want {
         Want::Number(kind) => assignable(t, &number_type(kind), classes),
-        Want::Reference => if is_reference(t) {
-            Answer::Yes
-        } else {
-            Answer::No
-        },
+        Want::Assignable(to) => assignable(t, &reference_to(to), classes),
+        Want::Reference => yes_if(is_reference(t)),
+        Want::Array => yes_if(is_array(t)),
+        Want::ArrayFor(primitive) => yes_if(is_array_for(primitive, t)),
+        Want::OwnOr(name) => own_or_answer(name, t, classes),
     }
 }
 
 /// Takes what is asked off the stack, the top first. None where there are too few items, and then nothing is said of
 /// those that are left.
-pub fn take<'a, A: Ask, C: Classes>(
+pub fn take<'a, A: Ask<'a>, C: Classes>(
     asked: &[A],
     frame: &mut Working<'a>,
     classes: &C,

@@ -9,17 +9,26 @@ ghost use Rattle.rules.specs.Bodies.{method_view};
 ghost use Rattle.rules.specs.Held.{held};
 ghost use Rattle.rules.specs.Outcomes.{Done};
 
-use crate::constants::load_wide_constant;
-use crate::families::{counts, gives, loads, pops, return_nothing, return_number};
-use crate::kinds::number_type;
+use crate::arrays::{
+    check_cast, instance_of, load_element, load_reference_element, new_array, new_multi_array,
+    new_reference_array, store_element, store_reference_element,
+};
+use crate::calls::{invoke_interface, invoke_static, invoke_virtual};
+use crate::constants::{load_constant, load_wide_constant};
+use crate::families::{
+    counts, gives, loads, pops, return_nothing, return_number, return_reference,
+};
+use crate::fields::{get_field, get_static, put_field, put_static};
 use crate::reason::Reason;
 use crate::stacks::rearranges;
 use crate::stores::stores;
-use crate::want::Want;
+use crate::want::{Want, throwable};
 use crate::working::Working;
 use classfile::CodeMethod;
+use frames::{VType, number_type};
 use hierarchy::Classes;
 use insn::{Act, Kind};
+use std::alloc::Global;
 
 /// Runs the instruction at an offset on a frame, in place, by its rule (JVMS 4.10.1.9). The frame has max_locals
 /// locals.
@@ -27,6 +36,7 @@ use insn::{Act, Kind};
 /// Refused is, by the least number that holds, what the rule refuses (60 to 66, 74, 76, 77); or 1 where memory ran out.
 /// Nothing is said of the frame then.
 pub fn run<'a, C: Classes>(
+    alloc: Global,
     method: &CodeMethod<'_, 'a>,
     at: u16,
     act: Act<'a>,
@@ -41,6 +51,8 @@ pub fn run<'a, C: Classes>(
     match act {
         Act::Nothing | Act::Goto { .. } => gives(method, None, frame, classes),
         Act::Constant(kind) => gives(method, Some(number_type(kind)), frame, classes),
+        Act::ConstantNull => gives(method, Some(VType::Null), frame, classes),
+        Act::LoadConstant { index } => load_constant(method, index, frame, classes),
         Act::LoadWideConstant { index } => load_wide_constant(method, index, frame, classes),
         Act::Load { kind, local } => loads(
             method,
@@ -50,6 +62,7 @@ pub fn run<'a, C: Classes>(
             frame,
             classes,
         ),
+        Act::LoadReference { local } => loads(method, Want::Reference, local, 1, frame, classes),
         Act::Store { kind, local } => stores(
             method,
             Want::Number(kind),
@@ -58,6 +71,7 @@ pub fn run<'a, C: Classes>(
             frame,
             classes,
         ),
+        Act::StoreReference { local } => stores(method, Want::Reference, local, 1, frame, classes),
         Act::Increment { local } => counts(method, local, frame, classes),
         Act::Numeric(operator) => {
             let (taken, given) = operator.row();
@@ -73,9 +87,36 @@ pub fn run<'a, C: Classes>(
             frame,
             classes,
         ),
-        Act::IfNull { .. } => pops(method, &[Want::Reference], None, frame, classes),
+        Act::IfNull { .. } | Act::Monitor => {
+            pops(method, &[Want::Reference], None, frame, classes)
+        }
         Act::Return(kind) => return_number(method, kind, frame, classes),
+        Act::ReturnReference => return_reference(method, frame, classes),
         Act::ReturnVoid => return_nothing(method, frame),
-        _ => Err(Reason::NotSupported),
+        Act::Throw => pops(method, &[throwable()], None, frame, classes),
+        Act::GetStatic { index } => get_static(method, index, frame, classes),
+        Act::PutStatic { index } => put_static(method, index, frame, classes),
+        Act::GetField { index } => get_field(method, index, frame, classes),
+        Act::PutField { index } => put_field(method, index, frame, classes),
+        Act::InvokeVirtual { index } => invoke_virtual(alloc, method, index, frame, classes),
+        Act::InvokeStatic { index } => invoke_static(alloc, method, index, frame, classes),
+        Act::InvokeInterface { index, count } => {
+            invoke_interface(alloc, method, index, count, frame, classes)
+        }
+        Act::LoadElement(element) => load_element(method, element, frame, classes),
+        Act::StoreElement(element) => store_element(method, element, frame, classes),
+        Act::LoadReferenceElement => load_reference_element(method, frame, classes),
+        Act::StoreReferenceElement => store_reference_element(method, frame, classes),
+        Act::ArrayLength => pops(method, &[Want::Array], Some(VType::Int), frame, classes),
+        Act::NewArray(element) => new_array(method, element, frame, classes),
+        Act::NewReferenceArray { index } => new_reference_array(method, index, frame, classes),
+        Act::NewMultiArray { index, dimensions } => {
+            new_multi_array(alloc, method, index, dimensions, frame, classes)
+        }
+        Act::CheckCast { index } => check_cast(method, index, frame, classes),
+        Act::InstanceOf { index } => instance_of(method, index, frame, classes),
+        Act::InvokeSpecial { .. } | Act::New { .. } | Act::Unsupported => {
+            Err(Reason::NotSupported)
+        }
     }
 }

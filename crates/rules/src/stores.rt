@@ -21,7 +21,7 @@ use hierarchy::{Answer, Classes};
 /// The top of the stack to a local variable.
 pub fn stores<'a, C: Classes>(
     method: &CodeMethod<'_, 'a>,
-    want: Want,
+    want: Want<'a>,
     local: u16,
     width: usize,
     frame: &mut Working<'a>,
@@ -31,7 +31,7 @@ pub fn stores<'a, C: Classes>(
     requires some { 1 ≤ width }
     requires few { width ≤ 2 }
     ensures { let m = method_view method.now in let f = held frame.old in
-        let p = stores (want_view want) local width in
+        let p = stores (want_view want.entry) local width in
         Done (conditions (C.content classes.now) m 0 p f) (after m 0 p f) (held frame.new) result }
 {
     let Some(t) = frame.pop() else {

@@ -1,40 +1,71 @@
 //! What is asked of an operand or a local variable.
 ghost use Rattle.std.specs.Prelude.{◌≡◌};
-ghost use Rattle.rules.specs.Plans.{Want, number};
+ghost use Rattle.names.specs.StandardNames.{throwable_name};
+ghost use Rattle.names.specs.Types.{type_of};
+ghost use Rattle.rules.specs.Plans.{Want, class_want, number, want_of};
 ghost use Rattle.rules.specs.Views.{want_view};
 
-use insn::Kind;
+use insn::{Kind, computed_as};
+use names::{Base, FieldType, Primitive, RefType, THROWABLE};
 
 /// What is asked of the type of an operand or a local variable.
 #[derive(Clone, Copy, Debug)]
-pub enum Want {
+pub enum Want<'a> {
     /// A number of the kind.
     Number(Kind),
+    /// A type that is assignable to this one.
+    Assignable(RefType<'a>),
     /// Null, a class, an array or an object that is not initialized.
     Reference,
+    /// Null or an array.
+    Array,
+    /// Null, or an array whose elements an instruction for this type takes.
+    ArrayFor(Primitive),
+    /// The own object that is not initialized, or a type that is assignable to this class.
+    OwnOr(&'a [u8]),
+}
+
+/// What a field or a parameter of this type takes.
+pub fn want_of<'a>(t: &FieldType<'a>) -> Want<'a>
+    ensures { want_view result ≡ want_of (type_of t.now) }
+{
+    match t.dims {
+        0 => match t.base {
+            Base::Primitive(primitive) => Want::Number(computed_as(primitive)),
+            Base::Class(name) => Want::Assignable(RefType::Class(name)),
+        },
+        dims => Want::Assignable(RefType::Array { dims, base: t.base }),
+    }
+}
+
+/// An object that may be raised (JVMS 2.10).
+pub fn throwable<'a>() -> Want<'a>
+    ensures { want_view result ≡ class_want throwable_name }
+{
+    Want::Assignable(RefType::Class(THROWABLE))
 }
 
 /// What stands for something that is asked.
-pub trait Ask: Copy {
+pub trait Ask<'a>: Copy {
     ghost asked: { Self → Want };
 
-    fn want(&self) -> Want
+    fn want(&self) -> Want<'a>
         ensures { want_view result ≡ asked self.now };
 }
 
-impl Ask for Want {
+impl<'a> Ask<'a> for Want<'a> {
     ghost asked = { want_view };
 
-    fn want(&self) -> Want {
+    fn want(&self) -> Want<'a> {
         *self
     }
 }
 
 /// A number of the kind is asked.
-impl Ask for Kind {
+impl<'a> Ask<'a> for Kind {
     ghost asked = { number };
 
-    fn want(&self) -> Want {
+    fn want(&self) -> Want<'a> {
         Want::Number(*self)
     }
 }

@@ -1,8 +1,8 @@
-//! Where an instruction goes.
+//! Where an instruction goes, and whether it leaves the locals as they are.
 ghost use Rattle.std.specs.Prelude.{◌≡◌};
 ghost use Rattle.insn.specs.Meanings.{act};
 ghost use Rattle.insn.specs.Views.{view, act_view};
-ghost use Rattle.rules.specs.Ways.{goes_on, branch_offsets};
+ghost use Rattle.rules.specs.Ways.{goes_on, branch_offsets, keeps_locals};
 ghost use Rattle.insn.specs.Branching.{branches_view};
 
 use insn::{Act, Branches, Insn, act};
@@ -27,6 +27,17 @@ pub fn goes_on(act: &Act<'_>) -> bool
             | Act::ReturnVoid
             | Act::Throw
             | Act::Unsupported
+    )
+}
+
+/// Whether an instruction that means this leaves all locals as they are: those that store do not, nor those by which objects that are not
+/// initialized are made or become initialized.
+pub fn keeps_locals(act: &Act<'_>) -> bool
+    ensures { result ≡ keeps_locals (act_view act.now) }
+{
+    !matches!(
+        act,
+        Act::Store { .. } | Act::StoreReference { .. } | Act::InvokeSpecial { .. } | Act::New { .. }
     )
 }
 

@@ -1,6 +1,6 @@
 //! The frame that instructions are run on.
-ghost use Rattle.std.specs.Prelude.{◌≡◌, ◌≤◌, length, OnOk};
-ghost use Rattle.frames.specs.DeclaredTables.{declared_view};
+ghost use Rattle.std.specs.Prelude.{◌≡◌, ◌≤◌, length, OnOk, IfSome};
+ghost use Rattle.frames.specs.DeclaredTables.{declared_view, AreKept};
 ghost use Rattle.rules.specs.Views.{stack_of};
 ghost use Rattle.rules.specs.Working.{IsCounted, held_locals};
 
@@ -26,7 +26,7 @@ pub struct Working<'a> {
 }
 
 impl<'a> Working<'a> {
-    ghost use Rattle.std.specs.Prelude.{◌≡◌, ◌<◌, ◌≤◌, ◌↔◌, [], ◌∷◌, IsTrue, nat_lt, length, MatchOption, OnOk, IfOk};
+    ghost use Rattle.std.specs.Prelude.{◌≡◌, ◌<◌, ◌≤◌, ◌↔◌, [], ◌∷◌, IsTrue, nat_lt, length, MatchOption, OnOk, IfOk, IfSome};
     ghost use Rattle.frames.specs.Slots.{units_of};
     ghost use Rattle.frames.specs.VerificationType.{type_of};
     ghost use Rattle.insn.specs.Stacks.{rearranged};
@@ -39,7 +39,7 @@ impl<'a> Working<'a> {
     ghost use Rattle.rules.specs.Held.{held};
     ghost use Rattle.hierarchy.specs.Answer.{outcome_of};
     ghost use Rattle.frames.specs.FrameAssignable.{frame_answer};
-    ghost use Rattle.frames.specs.DeclaredTables.{declared_view};
+    ghost use Rattle.frames.specs.DeclaredTables.{declared_view, AreKept, AreFit};
 
     /// With all locals top, and nothing on the stack.
     pub fn new(alloc: Global, max_locals: u16, flag: bool) -> Working<'a>
@@ -136,20 +136,33 @@ impl<'a> Working<'a> {
         Ok(())
     }
 
-    /// Whether this frame may stand where one is declared (JVMS 4.10.1.4).
-    pub fn answer_for<C: Classes>(&self, declared: &Declared<'_, 'a>, classes: &C) -> Answer<'a>
-        requires { length (declared_view declared.now).locals ≡ length (held self.now).locals }
+    /// Whether this frame may stand where one is declared (JVMS 4.10.1.4). Where its locals are known to fit another frame of the same stack
+    /// map, only those are compared that the two declared frames do not share.
+    pub fn answer_for<C: Classes>(
+        &self,
+        declared: &Declared<'_, 'a>,
+        fits: Option<Declared<'_, 'a>>,
+        classes: &C,
+    ) -> Answer<'a>
+        requires size { length (declared_view declared.now).locals ≡ length (held self.now).locals }
+        requires fits { IfSome fits (AreFit (C.content classes.now) declared.now (held self.now).locals) }
         ensures { outcome_of result ≡ frame_answer (C.content classes.now) (held self.now) (declared_view declared.now) }
     {
-        declared.assignable_from(&self.locals, &self.stack, self.flag, classes)
+        declared.assignable_from(&self.locals, &self.stack, self.flag, fits, classes)
     }
 
-    /// Becomes a declared frame, in the memory that it has. Nothing is said of the locals and the stack where memory ran out.
-    pub fn take_on(&mut self, declared: &Declared<'_, 'a>) -> Result<(), AllocError>
-        requires { length (declared_view declared.now).locals ≡ length (held self.old).locals }
+    /// Becomes a declared frame, in the memory that it has. Where it has the locals of another frame of the same stack map, this one may be
+    /// `kept`: then only the locals are written that the two do not share. Nothing is said of the locals and the stack where memory ran out.
+    pub fn take_on(
+        &mut self,
+        declared: &Declared<'_, 'a>,
+        kept: Option<Declared<'_, 'a>>,
+    ) -> Result<(), AllocError>
+        requires size { length (declared_view declared.now).locals ≡ length (held self.old).locals }
+        requires kept { IfSome kept (AreKept declared.now (held self.old).locals) }
         ensures { OnOk result (held self.new ≡ declared_view declared.now) }
     {
-        if let Err(error) = write(declared, &mut self.locals, &mut self.stack) {
+        if let Err(error) = write(declared, kept, &mut self.locals, &mut self.stack) {
             self.locals.clear();
             self.stack.clear();
             self.wides = 0;
@@ -234,12 +247,14 @@ impl<'a> Working<'a> {
 /// Writes the locals and the stack of a declared frame.
 fn write<'a>(
     declared: &Declared<'_, 'a>,
+    kept: Option<Declared<'_, 'a>>,
     locals: &mut Vec<VType<'a>>,
     stack: &mut Vec<VType<'a>>,
 ) -> Result<(), AllocError>
+    requires { IfSome kept (AreKept declared.now (held_locals locals.old.items (length (declared_view declared.now).locals))) }
     ensures { let d = declared_view declared.now in
         OnOk result ((held_locals locals.new.items (length d.locals) ≡ d.locals) × (length locals.new.items ≤ length d.locals) × (stack_of stack.new.items ≡ d.stack)) }
 {
-    declared.write_locals(locals)?;
+    declared.write_locals(kept, locals)?;
     declared.write_stack(stack)
 }

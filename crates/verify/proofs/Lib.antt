@@ -29,6 +29,7 @@ pub mod Onward
 pub mod Parameters
 pub mod Summaries
 pub mod Judged
+pub mod Kept
 pub mod MethodCode
 pub mod Answering
 pub mod OneVerdict

@@ -1,9 +1,7 @@
--- Parameters as locals.
+-- Types as locals.
 use Rattle.std.proofs.Common.{◌≡◌, ℕ, zero, suc, ◌+◌, ◌-◌, ◌<◌, ◌≤◌, Bool, true, false, nat_lt, List, [], ◌∷◌, ◌++◌, length, take, get_or, map, replicate, refl, sym, ◌∙◌, ap, arith, append_assoc, if◌then◌else◌}
 use Rattle.std.proofs.lemmas.List.{take_more, take_all, map-append, length-map}
 use Rattle.std.proofs.lemmas.Bool.Decides.{nat_tests}
-use Rattle.names.specs.declared.descriptor.FieldType.{FieldType}
-use Rattle.names.specs.Types.{type_of as descriptor_of}
 use Rattle.frames.specs.declared.vtype.VType.{VType}
 use Rattle.frames.specs.declared.vtype.VType.TheVariants.{Top}
 use Rattle.frames.specs.VerificationType.{VerificationType, top, long, double, type_of}
@@ -28,31 +26,23 @@ in_locals_append (t ∷ ts) us = by (is_wide t) (in_locals_append ts us)
     by true e = ap (λ (z : List VerificationType). t ∷ top ∷ z) e
     by false e = ap (λ (z : List VerificationType). t ∷ z) e
 
-abbrev pub parameter_locals : List FieldType → List VerificationType
-parameter_locals ps = in_locals (map descriptor_type (map descriptor_of ps))
-
-pub one_more : (ps : List FieldType) (i : ℕ) (d : FieldType) (old mid : List VType) (now : List VType) (t : VerificationType)
-    → i < length ps
-    → map type_of mid ≡ map type_of old ++ parameter_locals (take i ps)
-    → t ≡ descriptor_type (descriptor_of (get_or ps i d))
-    → map type_of now ≡ map type_of mid ++ in_locals (t ∷ [])
-    → map type_of now ≡ map type_of old ++ parameter_locals (take (i + 1) ps)
-one_more ps i d old mid now t lt e is n =
+pub one_more : (ts : List VType) (i : ℕ) (d t : VType) (old mid now : List VType) → i < length ts
+    → map type_of mid ≡ map type_of old ++ in_locals (map type_of (take i ts))
+    → t ≡ get_or ts i d
+    → map type_of now ≡ map type_of mid ++ in_locals (type_of t ∷ [])
+    → map type_of now ≡ map type_of old ++ in_locals (map type_of (take (i + 1) ts))
+one_more ts i d t old mid now lt e is n =
     n
-    ∙ ap (λ (z : List VerificationType). z ++ in_locals (t ∷ [])) e
-    ∙ append_assoc (map type_of old) (parameter_locals (take i ps)) (in_locals (t ∷ []))
-    ∙ ap (λ (z : VerificationType). map type_of old ++ (parameter_locals (take i ps) ++ in_locals (z ∷ []))) is
+    ∙ ap (λ (z : List VerificationType). z ++ in_locals (type_of t ∷ [])) e
+    ∙ append_assoc (map type_of old) (in_locals (map type_of (take i ts))) (in_locals (type_of t ∷ []))
+    ∙ ap (λ (z : VType). map type_of old ++ (in_locals (map type_of (take i ts)) ++ in_locals (type_of z ∷ []))) is
     ∙ ap (λ (z : List VerificationType). map type_of old ++ z) (sym grown)
   where
-    x : FieldType
-    x = get_or ps i d
-
-    grown : parameter_locals (take (i + 1) ps) ≡ parameter_locals (take i ps) ++ in_locals (descriptor_type (descriptor_of x) ∷ [])
+    grown : in_locals (map type_of (take (i + 1) ts)) ≡ in_locals (map type_of (take i ts)) ++ in_locals (type_of (get_or ts i d) ∷ [])
     grown =
-        ap parameter_locals (take_more ps i d lt)
-        ∙ ap (λ (z : List _). in_locals (map descriptor_type z)) (map-append descriptor_of (take i ps) (x ∷ []))
-        ∙ ap in_locals (map-append descriptor_type (map descriptor_of (take i ps)) (descriptor_of x ∷ []))
-        ∙ in_locals_append (map descriptor_type (map descriptor_of (take i ps))) (descriptor_type (descriptor_of x) ∷ [])
+        ap (λ (z : List VType). in_locals (map type_of z)) (take_more ts i d lt)
+        ∙ ap in_locals (map-append type_of (take i ts) (get_or ts i d ∷ []))
+        ∙ in_locals_append (map type_of (take i ts)) (type_of (get_or ts i d) ∷ [])
 
 -- so many locals, the others top
 filled : (k : ℕ) → map type_of (replicate k Top) ≡ replicate k top

@@ -1,5 +1,5 @@
 -- What is answered of a class among the classes that it may refer to (JVMS 4.10.1).
-use Rattle.std.specs.Prelude.{◌≡◌, ◌≢◌, ℕ, ◌+◌, List, ◌∷◌, map, Result, Ok, Err}
+use Rattle.std.specs.Prelude.{◌≡◌, ◌≢◌, ℕ, true, false, ◌+◌, List, ◌∷◌, map, Result, Ok, Err}
 use Rattle.classfile.specs.Values.{Class}
 use Rattle.hierarchy.specs.declared.fault.HierarchyFault.TheVariants as hierarchies
 use Rattle.hierarchy.specs.Rules.{IsHierarchy}
@@ -7,16 +7,18 @@ use Rattle.hierarchy.specs.Faults.{FaultOf}
 use Rattle.hierarchy.specs.ClassSummary.{summary_of}
 use Rattle.verify.specs.declared.report.Report.{Report}
 use Rattle.verify.specs.declared.among.AmongFault.{AmongFault}
-use Rattle.verify.specs.declared.among.AmongFault.TheVariants.{OutOfMemory, Refused, KnownRefused, NoHierarchy}
+use Rattle.verify.specs.declared.among.AmongFault.TheVariants.{OutOfMemory, Refused, KnownRefused, NoHierarchy, FinalSuper}
 use Rattle.verify.specs.Files.{Read, IsFormed, IsRefused, AreFormed, IsFirstRefused}
 use Rattle.verify.specs.Reports.{IsReport}
+use Rattle.verify.specs.FinalSuper.{has_final_super}
 
 -- The first of these that applies: the class is refused; a known one is, by its number from 1 on, the first of those that are; they are
--- no hierarchy; and otherwise the verdicts on the methods of the class.
+-- no hierarchy; the superclass of the class is final; and otherwise the verdicts on the methods of the class.
 abbrev pub ReportsAmong : Read → List Read → Result Report AmongFault → Type 0
 ReportsAmong read known (Ok report) =
     (c : Class) × (cs : List Class) × IsFormed read c × AreFormed known cs
-    × IsHierarchy (map summary_of (c ∷ cs)) × IsReport (map summary_of (c ∷ cs)) c report.methods.items
+    × IsHierarchy (map summary_of (c ∷ cs)) × (has_final_super (map summary_of (c ∷ cs)) (summary_of c) ≡ false)
+    × IsReport (map summary_of (c ∷ cs)) c report.methods.items
 ReportsAmong read known (Err OutOfMemory) = Unit {0}
 ReportsAmong read known (Err (Refused fault)) = IsRefused read fault
 ReportsAmong read known (Err (KnownRefused number fault)) =
@@ -24,3 +26,6 @@ ReportsAmong read known (Err (KnownRefused number fault)) =
 ReportsAmong read known (Err (NoHierarchy fault)) =
     (c : Class) × (cs : List Class) × IsFormed read c × AreFormed known cs
     × (fault ≢ hierarchies.OutOfMemory) × FaultOf (map summary_of (c ∷ cs)) fault
+ReportsAmong read known (Err FinalSuper) =
+    (c : Class) × (cs : List Class) × IsFormed read c × AreFormed known cs
+    × IsHierarchy (map summary_of (c ∷ cs)) × (has_final_super (map summary_of (c ∷ cs)) (summary_of c) ≡ true)

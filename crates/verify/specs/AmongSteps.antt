@@ -1,5 +1,5 @@
 -- Words of the code's own steps from classes to verdicts: nothing that a reader must believe rests on them.
-use Rattle.std.specs.Prelude.{◌≡◌, ◌≢◌, ℕ, ◌+◌, List, ◌∷◌, ◌++◌, map, Result, Ok, Err}
+use Rattle.std.specs.Prelude.{◌≡◌, ◌≢◌, ℕ, true, false, ◌+◌, List, ◌∷◌, ◌++◌, map, Result, Ok, Err}
 use Rattle.classfile.specs.Values.{Class}
 use Rattle.hierarchy.specs.Class.{ClassFact}
 use Rattle.hierarchy.specs.declared.fault.HierarchyFault.TheVariants as hierarchies
@@ -8,9 +8,10 @@ use Rattle.hierarchy.specs.Faults.{FaultOf}
 use Rattle.hierarchy.specs.ClassSummary.{summary_of}
 use Rattle.verify.specs.declared.report.Report.{Report}
 use Rattle.verify.specs.declared.among.AmongFault.{AmongFault}
-use Rattle.verify.specs.declared.among.AmongFault.TheVariants.{OutOfMemory, Refused, KnownRefused, NoHierarchy}
+use Rattle.verify.specs.declared.among.AmongFault.TheVariants.{OutOfMemory, Refused, KnownRefused, NoHierarchy, FinalSuper}
 use Rattle.verify.specs.Files.{Read, AreFormed, IsFirstRefused}
 use Rattle.verify.specs.Reports.{IsReport}
+use Rattle.verify.specs.FinalSuper.{has_final_super}
 
 -- The summaries of these files stand behind those that were there; or the file of this number, from 1 on, is the first that is refused.
 abbrev pub Adds : List Read → List ClassFact → List ClassFact → Result Unit AmongFault → Type 0
@@ -25,17 +26,22 @@ BeginWith classes c = (others : List ClassFact) × (classes ≡ summary_of c ∷
 
 -- the verdicts on the methods of a class, under these summaries
 abbrev pub ReportsSummaries : List ClassFact → Class → Result Report AmongFault → Type 0
-ReportsSummaries classes c (Ok report) = IsHierarchy classes × IsReport classes c report.methods.items
+ReportsSummaries classes c (Ok report) = IsHierarchy classes × (has_final_super classes (summary_of c) ≡ false) × IsReport classes c report.methods.items
 ReportsSummaries classes c (Err OutOfMemory) = Unit {0}
 ReportsSummaries classes c (Err (NoHierarchy fault)) = (fault ≢ hierarchies.OutOfMemory) × FaultOf classes fault
+ReportsSummaries classes c (Err FinalSuper) = IsHierarchy classes × (has_final_super classes (summary_of c) ≡ true)
 ReportsSummaries classes c (Err fault) = ⊥
 
 -- the same of a class that is well formed, and of the files of the known ones
 abbrev pub ReportsFormed : Class → List Read → Result Report AmongFault → Type 0
 ReportsFormed c known (Ok report) =
-    (cs : List Class) × AreFormed known cs × IsHierarchy (map summary_of (c ∷ cs)) × IsReport (map summary_of (c ∷ cs)) c report.methods.items
+    (cs : List Class) × AreFormed known cs × IsHierarchy (map summary_of (c ∷ cs))
+    × (has_final_super (map summary_of (c ∷ cs)) (summary_of c) ≡ false) × IsReport (map summary_of (c ∷ cs)) c report.methods.items
 ReportsFormed c known (Err OutOfMemory) = Unit {0}
 ReportsFormed c known (Err (KnownRefused number fault)) = (i : ℕ) × (number ≡ i + 1) × IsFirstRefused known i fault
 ReportsFormed c known (Err (NoHierarchy fault)) =
     (cs : List Class) × AreFormed known cs × (fault ≢ hierarchies.OutOfMemory) × FaultOf (map summary_of (c ∷ cs)) fault
+ReportsFormed c known (Err FinalSuper) =
+    (cs : List Class) × AreFormed known cs × IsHierarchy (map summary_of (c ∷ cs))
+    × (has_final_super (map summary_of (c ∷ cs)) (summary_of c) ≡ true)
 ReportsFormed c known (Err (Refused fault)) = ⊥

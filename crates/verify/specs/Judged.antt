@@ -6,6 +6,6 @@ abbrev pub is_empty : {A : Type 0} → List A → Bool
 is_empty [] = true
 is_empty (x ∷ xs) = false
 
--- Static methods that have no exception table. No other is judged yet.
+-- Methods that are no instance initialization methods and have no exception table. No other is judged yet.
 abbrev pub is_judged : {A : Type 0} → Method A → Bool
-is_judged m = m.is_static && (not m.is_init && is_empty m.exceptions)
+is_judged m = not m.is_init && is_empty m.exceptions

@@ -7,6 +7,7 @@ pub mod ClassMethods
 pub mod Refusals
 pub mod Steps
 pub mod Listed
+pub mod FinalSuper
 pub mod Judged
 pub mod Answers
 pub mod Reports
@@ -18,3 +19,4 @@ pub mod AmongSteps
 pub mod Turns
 pub mod PlaceSets
 pub mod Targets
+pub mod Keeping

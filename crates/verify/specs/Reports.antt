@@ -1,20 +1,20 @@
 -- What is answered of a class: of each method its name, its descriptor and its verdict, in the order of the file (JVMS 4.10.1).
-use Rattle.std.specs.Prelude.{◌≡◌, ℕ, List, length, slice_get, Some, Result, Ok, Err}
+use Rattle.std.specs.Prelude.{◌≡◌, ℕ, true, false, List, length, slice_get, Some, Result, Ok, Err}
 use Rattle.pool.specs.Lookups.{named}
 use Rattle.classfile.specs.Values.{Member, Class}
 use Rattle.classfile.specs.ClassFile as class_files
 use Rattle.classfile.specs.ClassFile.{IsClass}
 use Rattle.classfile.specs.WellFormed.{WellFormed, IsFirstFault}
 use Rattle.hierarchy.specs.Class.{ClassFact}
+use Rattle.hierarchy.specs.ClassSummary.{summary_of}
 use Rattle.verify.specs.declared.verdict.Verdict.TheVariants.{Verified}
-use Rattle.verify.specs.declared.verdict.VerifyFault.{VerifyFault}
-use Rattle.verify.specs.declared.verdict.VerifyFault.TheVariants as faults
 use Rattle.verify.specs.declared.report.MethodVerdict.{MethodVerdict}
 use Rattle.verify.specs.declared.report.Report.{Report}
 use Rattle.verify.specs.declared.report.ClassFault.{ClassFault}
-use Rattle.verify.specs.declared.report.ClassFault.TheVariants.{OutOfMemory, NoClass, Malformed, NotInHierarchy}
+use Rattle.verify.specs.declared.report.ClassFault.TheVariants.{OutOfMemory, NoClass, Malformed, NotInHierarchy, FinalSuper}
 use Rattle.verify.specs.ClassMethods.{IsSafeIn}
 use Rattle.verify.specs.Listed.{IsListed}
+use Rattle.verify.specs.FinalSuper.{has_final_super}
 use Rattle.verify.specs.Answers.{Answers, VerifiesTypeSafe}
 
 -- what is answered of the method of this number
@@ -33,16 +33,19 @@ pub record IsReport (classes : List ClassFact) (c : Class) (rs : List MethodVerd
   pub all : length rs ≡ length c.methods
   pub each : (number : ℕ) (r : MethodVerdict) → slice_get rs number ≡ Some r → IsReported classes c number r
 
--- 80 exactly where the hierarchy has not this class as it is
-abbrev pub Reports : List ClassFact → Class → Result Report VerifyFault → Type 0
-Reports classes c (Ok report) = IsReport classes c report.methods.items
-Reports classes c (Err faults.OutOfMemory) = Unit {0}
-Reports classes c (Err faults.NotInHierarchy) = IsListed classes c → ⊥
+-- Of a class that is well formed: the first of these that holds. The hierarchy has it not as it is (80); its superclass is final
+-- there (81); and otherwise the verdicts on its methods.
+abbrev pub Reports : List ClassFact → Class → Result Report ClassFault → Type 0
+Reports classes c (Ok report) = (has_final_super classes (summary_of c) ≡ false) × IsReport classes c report.methods.items
+Reports classes c (Err OutOfMemory) = Unit {0}
+Reports classes c (Err NotInHierarchy) = IsListed classes c → ⊥
+Reports classes c (Err FinalSuper) = IsListed classes c × (has_final_super classes (summary_of c) ≡ true)
+Reports classes c (Err (NoClass fault)) = ⊥
+Reports classes c (Err (Malformed rule place)) = ⊥
 
--- of bytes: the first of their fault as a class file, of the rule that the class breaks first, and of 80
+-- of bytes: their fault as a class file, or the rule that the class breaks first, or what is answered of a class that is well formed
 abbrev pub ReportsBytes : List ClassFact → List ℕ → Result Report ClassFault → Type 0
-ReportsBytes classes bytes (Ok report) = (c : Class) × IsClass bytes c × WellFormed c × IsReport classes c report.methods.items
 ReportsBytes classes bytes (Err OutOfMemory) = Unit {0}
 ReportsBytes classes bytes (Err (NoClass fault)) = class_files.ClassFault bytes fault
 ReportsBytes classes bytes (Err (Malformed rule place)) = (c : Class) × IsClass bytes c × IsFirstFault c rule place
-ReportsBytes classes bytes (Err NotInHierarchy) = (c : Class) × IsClass bytes c × WellFormed c × (IsListed classes c → ⊥)
+ReportsBytes classes bytes answer = (c : Class) × IsClass bytes c × WellFormed c × Reports classes c answer

@@ -9,6 +9,7 @@ ghost use Rattle.verify.specs.AmongSteps.{Adds, BeginWith, ReportsSummaries, Rep
 ghost use Rattle.verify.specs.declared.among.AmongFault.TheVariants.{OutOfMemory};
 
 use crate::files::{FileFault, FileRead, class_in, formed, summary_in};
+use crate::final_super::has_final_super;
 use crate::report::{Report, report_listed};
 use classfile::Formed;
 use hierarchy::{Chains, HierarchyFault, Summary, summary_of};
@@ -26,6 +27,8 @@ pub enum AmongFault<'a> {
     KnownRefused { number: usize, fault: FileFault },
     /// The class and the known ones are no hierarchy: 40 to 46.
     NoHierarchy(HierarchyFault<'a>),
+    /// 81: the superclass of the class is final.
+    FinalSuper,
 }
 
 /// What is told where the known class of this number is refused.
@@ -58,7 +61,7 @@ fn add_known<'a>(
     Ok(())
 }
 
-/// The verdicts on the methods of the class whose summary is the first of these; or why they are no hierarchy.
+/// The verdicts on the methods of the class whose summary is the first of these; or why they are no hierarchy; or 81.
 fn report_in<'a, S: BuildHasher + Drop>(
     alloc: Global,
     formed: &Formed<'_, 'a>,
@@ -73,6 +76,9 @@ fn report_in<'a, S: BuildHasher + Drop>(
         Err(HierarchyFault::OutOfMemory) => return Err(AmongFault::OutOfMemory),
         Err(fault) => return Err(AmongFault::NoHierarchy(fault)),
     };
+    if has_final_super(&summaries[0], &chains) {
+        return Err(AmongFault::FinalSuper);
+    }
     match report_listed(alloc, formed, &chains) {
         Ok(report) => Ok(report),
         Err(_) => Err(AmongFault::OutOfMemory),
@@ -99,7 +105,8 @@ fn report_formed<'a, S: BuildHasher + Drop>(
 ///
 /// Refused is, by the first of these that holds: the class, for what its reading, [`decode`](classfile::decode) or
 /// [`form_check`](classfile::form_check) refuses; the first of the known ones that is refused for the same; what
-/// [`Chains::new`] refuses of their summaries, the class's own first (40 to 46). 1 where memory ran out.
+/// [`Chains::new`] refuses of their summaries, the class's own first (40 to 46); 81, where the superclass of the class is final. 1 where
+/// memory ran out.
 pub fn verify_among<'a, S: BuildHasher + Drop>(
     alloc: Global,
     class: FileRead<'a>,

@@ -2,16 +2,18 @@
 ghost use Rattle.std.specs.Prelude.{◌≡◌, pos, ◌≤ℤ◌, ◌<ℤ◌, true, false, length, None, IfSome, MatchOption};
 ghost use Rattle.insn.specs.Branching.{branches_view, targets_of};
 ghost use Rattle.insn.specs.Offsets.{led_to};
-ghost use Rattle.frames.specs.DeclaredTables.{frames_in, locals_in, declared_view};
+ghost use Rattle.frames.specs.DeclaredTables.{frames_in, locals_in, declared_view, IsOf};
 ghost use Rattle.rules.specs.Held.{held};
 ghost use Rattle.verify.specs.Verdict.{declared_at, target_conditions};
 ghost use Rattle.verify.specs.Steps.{Judges};
 ghost use Rattle.verify.specs.Targets.{IsPlace, Compares};
+ghost use Rattle.verify.specs.Keeping.{IsKnown};
 
 use crate::flow::{check_answer, together};
+use crate::keeping::Known;
 use crate::place_set::PlaceSet;
 use frames::{Declared, DeclaredFrames};
-use hierarchy::Classes;
+use hierarchy::{Answer, Classes};
 use insn::{BranchTargets, Branches};
 use rules::{Reason, Working};
 
@@ -41,6 +43,7 @@ fn declared_at<'n, 'a>(
 ) -> Option<(usize, Declared<'n, 'a>)>
     ensures frame { MatchOption result (declared_at (frames_in frames.now) target ≡ None) (λ x. IsPlace (frames_in frames.now) target x.0 (declared_view x.1)) }
     ensures locals { IfSome result (λ x. length (declared_view x.1).locals ≡ locals_in frames.now) }
+    ensures own { IfSome result (λ x. IsOf frames.now x.1) }
 {
     if target < 0 || is_behind(frames, target) {
         return None;
@@ -52,15 +55,18 @@ fn declared_at<'n, 'a>(
 
 /// The frame after an instruction comes to a target: 67 where none is declared there, 68 and 77 by their comparison. A frame that was
 /// compared before is not compared again.
-fn check_target<'a, C: Classes>(
+fn check_target<'n, 'a, C: Classes>(
     target: i64,
     frame: &Working<'a>,
-    frames: &DeclaredFrames<'a>,
+    frames: &'n DeclaredFrames<'a>,
+    known: &mut Known<'n, 'a>,
     seen: &mut PlaceSet,
     classes: &C,
 ) -> Option<Result<(), Reason<'a>>>
-    requires { length (held frame.now).locals ≡ locals_in frames.now }
-    ensures { Compares (C.content classes.now) (frames_in frames.now) (held frame.now) target seen.old seen.new result }
+    requires size { length (held frame.now).locals ≡ locals_in frames.now }
+    requires known { IsKnown (C.content classes.now) frames.now (held frame.now) known.old }
+    ensures known { IsKnown (C.content classes.now) frames.now (held frame.now) known.new }
+    ensures compared { Compares (C.content classes.now) (frames_in frames.now) (held frame.now) target seen.old seen.new result }
 {
     let Some((place, declared)) = declared_at(frames, target) else {
         return Some(Err(Reason::NoFrameAtTarget));
@@ -68,27 +74,31 @@ fn check_target<'a, C: Classes>(
     if !seen.put(place) {
         return None;
     }
-    Some(check_answer(
-        frame.answer_for(&declared, classes),
-        Reason::NotAssignableAtTarget,
-    ))
+    let answer = frame.answer_for(&declared, known.fits, classes);
+    if let Answer::Yes = answer {
+        known.fits = Some(declared);
+    }
+    Some(check_answer(answer, Reason::NotAssignableAtTarget))
 }
 
 /// The frame after an instruction comes to each of these targets.
-fn check_all<'a, C: Classes>(
+fn check_all<'n, 'a, C: Classes>(
     targets: BranchTargets<'a>,
     frame: &Working<'a>,
-    frames: &DeclaredFrames<'a>,
+    frames: &'n DeclaredFrames<'a>,
+    known: &mut Known<'n, 'a>,
     seen: &mut PlaceSet,
     classes: &C,
 ) -> Result<(), Reason<'a>>
-    requires { length (held frame.now).locals ≡ locals_in frames.now }
-    ensures { Judges (target_conditions (C.content classes.now) (frames_in frames.now) (held frame.now) (targets_of targets.entry)) result }
+    requires size { length (held frame.now).locals ≡ locals_in frames.now }
+    requires known { IsKnown (C.content classes.now) frames.now (held frame.now) known.old }
+    ensures known { IsKnown (C.content classes.now) frames.now (held frame.now) known.new }
+    ensures judged { Judges (target_conditions (C.content classes.now) (frames_in frames.now) (held frame.now) (targets_of targets.entry)) result }
 {
     seen.clear();
     let mut so_far = Ok(());
     for target in targets {
-        if let Some(answer) = check_target(target, frame, frames, seen, classes) {
+        if let Some(answer) = check_target(target, frame, frames, known, seen, classes) {
             so_far = together(so_far, answer);
         }
     }
@@ -97,16 +107,19 @@ fn check_all<'a, C: Classes>(
 
 /// The frame after an instruction at this offset comes to all its targets, the default of a switch first. Equal targets are compared
 /// once.
-pub fn check_targets<'a, C: Classes>(
+pub fn check_targets<'n, 'a, C: Classes>(
     at: u16,
     branches: Branches<'a>,
     frame: &Working<'a>,
-    frames: &DeclaredFrames<'a>,
+    frames: &'n DeclaredFrames<'a>,
+    known: &mut Known<'n, 'a>,
     seen: &mut PlaceSet,
     classes: &C,
 ) -> Result<(), Reason<'a>>
-    requires { length (held frame.now).locals ≡ locals_in frames.now }
-    ensures { Judges (target_conditions (C.content classes.now) (frames_in frames.now) (held frame.now) (led_to at (branches_view branches.entry))) result }
+    requires size { length (held frame.now).locals ≡ locals_in frames.now }
+    requires known { IsKnown (C.content classes.now) frames.now (held frame.now) known.old }
+    ensures known { IsKnown (C.content classes.now) frames.now (held frame.now) known.new }
+    ensures judged { Judges (target_conditions (C.content classes.now) (frames_in frames.now) (held frame.now) (led_to at (branches_view branches.entry))) result }
 {
     if let Branches::Nowhere = branches {
         return Ok(());
@@ -115,6 +128,7 @@ pub fn check_targets<'a, C: Classes>(
         BranchTargets::new(at, branches),
         frame,
         frames,
+        known,
         seen,
         classes,
     )

@@ -2,7 +2,7 @@
 ghost use Rattle.std.specs.Prelude.{◌≡◌, ◌++◌, ◌&&◌, [], ◌∷◌, option_map, length, IfSome, OnOk, Err};
 ghost use Rattle.hierarchy.specs.Answer.{outcome_of};
 ghost use Rattle.frames.specs.Conditions.{Conditions, reason};
-ghost use Rattle.frames.specs.DeclaredTables.{declared_view};
+ghost use Rattle.frames.specs.DeclaredTables.{declared_view, AreKept, AreFit};
 ghost use Rattle.rules.specs.Held.{held};
 ghost use Rattle.rules.specs.Reasons.{reason_number, reason_view};
 ghost use Rattle.verify.specs.Verdict.{answer_conditions};
@@ -25,14 +25,19 @@ pub fn check_answer<'a>(answer: Answer<'a>, against: Reason<'a>) -> Result<(), R
 }
 
 /// The frame that comes to a start, where this one may be declared, becomes the one that goes on: 69 and 77 by their
-/// comparison, and 70 where none comes and none is declared.
+/// comparison, and 70 where none comes and none is declared. Where the locals are known to be those of a declared frame, or to fit one, what
+/// the two declared frames share is not written, or not compared.
 pub fn enter<'a, C: Classes>(
     comes: bool,
     declared: Option<Declared<'_, 'a>>,
+    kept: Option<Declared<'_, 'a>>,
+    fits: Option<Declared<'_, 'a>>,
     frame: &mut Working<'a>,
     classes: &C,
 ) -> Result<(), Reason<'a>>
-    requires { IfSome declared (λ d. length (declared_view d).locals ≡ length (held frame.old).locals) }
+    requires size { IfSome declared (λ d. length (declared_view d).locals ≡ length (held frame.old).locals) }
+    requires kept { IfSome declared (λ d. IfSome kept (AreKept d (held frame.old).locals)) }
+    requires fits { IfSome declared (λ d. IfSome fits (AreFit (C.content classes.now) d (held frame.old).locals)) }
     ensures entered { Enters (C.content classes.now) comes (held frame.old) (option_map declared_view declared.entry) (held frame.new) result }
     ensures locals { OnOk result (length (held frame.new).locals ≡ length (held frame.old).locals) }
 {
@@ -40,9 +45,12 @@ pub fn enter<'a, C: Classes>(
         return if comes { Ok(()) } else { Err(Reason::NoFrame) };
     };
     if comes {
-        check_answer(frame.answer_for(&declared, classes), Reason::NotAssignable)?;
+        check_answer(
+            frame.answer_for(&declared, fits, classes),
+            Reason::NotAssignable,
+        )?;
     }
-    frame.take_on(&declared)?;
+    frame.take_on(&declared, kept)?;
     Ok(())
 }
 

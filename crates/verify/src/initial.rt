@@ -1,49 +1,61 @@
 //! The frame with which a method begins.
-ghost use Rattle.std.specs.Prelude.{◌≡◌, ◌++◌, [], ◌∷◌, true, false, map, nat_lt, length, IfOk, OnOk, MatchOption};
+ghost use Rattle.std.specs.Prelude.{◌≡◌, ◌++◌, [], ◌∷◌, true, false, map, nat_lt, length, option_map, option_to_list, IfOk, OnOk, MatchOption};
 ghost use Rattle.names.specs.Types.{type_of as descriptor_of};
+ghost use Rattle.classfile.specs.Methods.{receiver_of};
 ghost use Rattle.frames.specs.VerificationType.{type_of};
 ghost use Rattle.frames.specs.Slots.{descriptor_type, in_locals};
+ghost use Rattle.rules.specs.Bodies.{method_view};
+ghost use Rattle.verify.specs.InitialFrames.{initial_types, receiver_types};
 
-use frames::{VType, width};
-use names::{Base, FieldType, Primitive};
+use classfile::CodeMethod;
+use frames::{VType, held_by, width};
+use names::{FieldType, OBJECT};
+use rules::own_class;
 use std::alloc::{AllocError, Global};
 
-/// The type of what a parameter of a type holds.
-fn parameter_type<'a>(parameter: &FieldType<'a>) -> VType<'a>
-    ensures { type_of result ≡ descriptor_type (descriptor_of parameter.now) }
+/// The type of the receiver when the method begins (JVMS 4.10.1.6), which a static method has not. That of a constructor is not
+/// initialized, but for Object's.
+fn receiver<'a>(method: &CodeMethod<'_, 'a>) -> Option<VType<'a>>
+    ensures { let m = method_view method.now in option_to_list (option_map type_of result) ≡ receiver_types m (receiver_of m) }
 {
-    if parameter.dims != 0 {
-        return VType::Array {
-            dims: parameter.dims,
-            base: parameter.base,
-        };
+    if method.is_static {
+        return None;
     }
-    match parameter.base {
-        Base::Class(name) => VType::Class(name),
-        Base::Primitive(primitive) => match primitive {
-            Primitive::Float => VType::Float,
-            Primitive::Long => VType::Long,
-            Primitive::Double => VType::Double,
-            Primitive::Byte
-            | Primitive::Char
-            | Primitive::Int
-            | Primitive::Short
-            | Primitive::Boolean => VType::Int,
-        },
+    let class = own_class(method);
+    if method.is_init && class != OBJECT {
+        Some(VType::UninitThis)
+    } else {
+        Some(VType::Class(class))
     }
 }
 
-/// The types of what parameters hold.
-pub fn parameter_types<'a>(
+/// Puts the types of what parameters hold behind the others.
+fn put_parameters<'a>(
+    parameters: &[FieldType<'a>],
+    types: &mut Vec<VType<'a>>,
+) -> Result<(), AllocError>
+    ensures { OnOk result (map type_of types.new.items ≡ map type_of types.old.items ++ map descriptor_type (map descriptor_of parameters.now)) }
+{
+    for parameter in parameters {
+        types.push(held_by(parameter))?;
+    }
+    Ok(())
+}
+
+/// The types with which a method begins: those of its receiver, if it has one, and of its parameters.
+pub fn initial_types<'a>(
     alloc: Global,
+    method: &CodeMethod<'_, 'a>,
     parameters: &[FieldType<'a>],
 ) -> Result<Vec<VType<'a>>, AllocError>
-    ensures { IfOk result (λ v. map type_of v.items ≡ map descriptor_type (map descriptor_of parameters.now)) }
+    requires { (method_view method.now).type.params ≡ map descriptor_of parameters.now }
+    ensures { IfOk result (λ v. map type_of v.items ≡ initial_types (method_view method.now)) }
 {
     let mut types = Vec::with_capacity(alloc, parameters.len())?;
-    for parameter in parameters {
-        types.push(parameter_type(parameter))?;
+    if let Some(t) = receiver(method) {
+        types.push(t)?;
     }
+    put_parameters(parameters, &mut types)?;
     Ok(types)
 }
 
@@ -58,33 +70,30 @@ fn put_local<'a>(t: VType<'a>, locals: &mut Vec<VType<'a>>) -> Result<(), AllocE
     Ok(())
 }
 
-/// Parameters as locals.
-fn put_parameters<'a>(
-    parameters: &[FieldType<'a>],
-    locals: &mut Vec<VType<'a>>,
-) -> Result<(), AllocError>
-    ensures { OnOk result (map type_of locals.new.items ≡ map type_of locals.old.items ++ in_locals (map descriptor_type (map descriptor_of parameters.now))) }
+/// Types as locals.
+fn put_locals<'a>(types: &[VType<'a>], locals: &mut Vec<VType<'a>>) -> Result<(), AllocError>
+    ensures { OnOk result (map type_of locals.new.items ≡ map type_of locals.old.items ++ in_locals (map type_of types.now)) }
 {
-    for parameter in parameters {
-        put_local(parameter_type(parameter), locals)?;
+    for t in types {
+        put_local(*t, locals)?;
     }
     Ok(())
 }
 
-/// The locals of a static method when it begins (JVMS 4.10.1.6), those of the parameters; none where they do not fit.
+/// The locals of a method that begins with these types (JVMS 4.10.1.6); none where they do not fit.
 pub fn initial_locals<'a>(
     alloc: Global,
-    parameters: &[FieldType<'a>],
+    types: &[VType<'a>],
     max_locals: u16,
 ) -> Result<Option<Vec<VType<'a>>>, AllocError>
-    ensures { let types = map descriptor_type (map descriptor_of parameters.now) in
+    ensures { let ts = map type_of types.now in
         IfOk result (λ answer. MatchOption answer
-        (nat_lt max_locals (length (in_locals types)) ≡ true)
-        (λ v. (nat_lt max_locals (length (in_locals types)) ≡ false) × (map type_of v.items ≡ in_locals types))) }
+        (nat_lt max_locals (length (in_locals ts)) ≡ true)
+        (λ v. (nat_lt max_locals (length (in_locals ts)) ≡ false) × (map type_of v.items ≡ in_locals ts))) }
 {
     let count = usize::from(max_locals);
-    let mut locals = Vec::with_capacity(alloc, parameters.len())?;
-    put_parameters(parameters, &mut locals)?;
+    let mut locals = Vec::with_capacity(alloc, types.len())?;
+    put_locals(types, &mut locals)?;
     if locals.len() > count {
         return Ok(None);
     }

@@ -1,5 +1,5 @@
 //! One pass over a method's code.
-ghost use Rattle.std.specs.Prelude.{◌≡◌, ◌≤◌, ℕ, Option, is_none, List, [], length};
+ghost use Rattle.std.specs.Prelude.{◌≡◌, ◌≤◌, ℕ, Option, is_none, List, [], length, OnOk};
 ghost use Rattle.layout.specs.declared.limits.TheConstants.{MAX_CODE_BYTES};
 ghost use Rattle.insn.specs.Instructions.{Instruction};
 ghost use Rattle.insn.specs.Code.{SpellsCode};
@@ -14,9 +14,11 @@ ghost use Rattle.rules.specs.Ways.{goes_on};
 ghost use Rattle.verify.specs.InitialFrames.{initial_frame};
 ghost use Rattle.verify.specs.Verdict.{at_conditions, code_judged};
 ghost use Rattle.verify.specs.Steps.{Gives};
+ghost use Rattle.verify.specs.Keeping.{IsKnown};
 
 use crate::branching::check_targets;
 use crate::flow::{check_end, enter, first_reason, together};
+use crate::keeping::Known;
 use crate::place_set::PlaceSet;
 use crate::refusal::refuse;
 use crate::verdict::{Verdict, VerifyFault};
@@ -25,33 +27,39 @@ use frames::DeclaredFrames;
 use hierarchy::Classes;
 use insn::{Act, Instructions, act};
 use rules::{Reason, Working, branches_by, goes_on, run};
+use std::alloc::Global;
 
-/// Judges an instruction in the frame before it, which becomes the frame after. Of the frame at the next start nothing is asked.
-fn judge<'a, C: Classes>(
+/// Judges an instruction in the frame before it, which becomes the frame after. Of the frame at the next start nothing is asked. What is
+/// known of locals is known of the frame after.
+fn judge<'n, 'a, C: Classes>(
+    alloc: Global,
     method: &CodeMethod<'_, 'a>,
     at: u16,
     act: Act<'a>,
     falls: bool,
     last: bool,
-    frames: &DeclaredFrames<'a>,
+    frames: &'n DeclaredFrames<'a>,
+    known: &mut Known<'n, 'a>,
     seen: &mut PlaceSet,
     frame: &mut Working<'a>,
     classes: &C,
 ) -> Result<(), Reason<'a>>
     requires locals { length (held frame.old).locals ≡ method.now.code.now.max_locals }
     requires declared { locals_in frames.now ≡ method.now.code.now.max_locals }
+    requires known { let m = method_view method.now in IsKnown (C.content classes.now) frames.now (after m at (plan_yet m (act_view act)) (held frame.old)) known.old }
     requires no_exceptions { (method_view method.now).exceptions ≡ [] }
     requires falls { falls ≡ goes_on (act_view act) }
-    ensures { (next : Option ℕ) → is_none next ≡ last →
+    ensures known { OnOk result (IsKnown (C.content classes.now) frames.now (held frame.new) known.new) }
+    ensures judged { (next : Option ℕ) → is_none next ≡ last →
         let m = method_view method.now in let f = held frame.old in
         let p = plan_yet m (act_view act.entry) in
         Done (at_conditions (C.content classes.now) m (frames_in frames.now) at p next f) (after m at p f) (held frame.new) result }
 {
     let end = check_end(falls, last);
     let branches = branches_by(&act);
-    match run(method, at, act, frame, classes) {
+    match run(alloc, method, at, act, frame, classes) {
         Ok(()) => together(
-            check_targets(at, branches, frame, frames, seen, classes),
+            check_targets(at, branches, frame, frames, known, seen, classes),
             end,
         ),
         Err(reason) => Err(first_reason(reason, end)),
@@ -60,6 +68,7 @@ fn judge<'a, C: Classes>(
 
 /// Judges code, by one pass over its bytes that carries one frame, the one with which the method begins.
 pub fn pass<'a, C: Classes>(
+    alloc: Global,
     method: &CodeMethod<'_, 'a>,
     frames: &DeclaredFrames<'a>,
     seen: &mut PlaceSet,
@@ -76,18 +85,24 @@ pub fn pass<'a, C: Classes>(
 {
     let mut code = Instructions::new(method.code.code);
     let mut comes = true;
+    let mut known = Known::nothing();
     while let Some(step) = code.next() {
         let Ok((at, insn)) = step else {
             unreachable!();
         };
         let at = at as u16;
-        if let Err(reason) = enter(comes, frames.find(u32::from(at)), frame, classes) {
+        let declared = frames.find(u32::from(at));
+        if let Err(reason) = enter(comes, declared, known.kept, known.fitting(), frame, classes) {
             return refuse(at, reason);
         }
         let act = act(&insn);
         comes = goes_on(&act);
+        known = known.here(declared).behind(&act);
         let last = code.is_at_end();
-        if let Err(reason) = judge(method, at, act, comes, last, frames, seen, frame, classes) {
+        let judged = judge(
+            alloc, method, at, act, comes, last, frames, &mut known, seen, frame, classes,
+        );
+        if let Err(reason) = judged {
             return refuse(at, reason);
         }
     }

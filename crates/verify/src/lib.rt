@@ -7,10 +7,12 @@
 //! - `files`: from a file as it was read to a class that is well formed.
 //! - `among`: a class among the classes that it may refer to.
 //! - `listing`: whether a hierarchy has a class as it is.
+//! - `final_super`: whether the superclass of a class is final.
 //! - `refusal`: verdicts that refuse.
 //! - `initial`: the frame with which a method begins.
 //! - `judging`: one pass over a method's code, against the verdict in specs/Verdict.antt.
 //! - `flow`, `branching`: from one instruction to the next, and to its targets.
+//! - `keeping`: what is known of the locals of the running frame.
 //! - `place_set`: which declared frames were compared.
 //! - `stack_maps`: the frames that a stack map declares.
 //! - `theorem`: type-safe methods are safe.
@@ -20,9 +22,11 @@
 mod among;
 mod branching;
 mod files;
+mod final_super;
 mod flow;
 mod initial;
 mod judging;
+mod keeping;
 mod laws;
 mod listing;
 mod method;

@@ -17,7 +17,7 @@ ghost use Rattle.verify.specs.Judged.{is_judged};
 ghost use Rattle.verify.specs.Listed.{IsListed};
 ghost use Rattle.verify.specs.Answers.{AnswersCode, Answers, VerifiesTypeSafe, VerifiedIsSafe};
 
-use crate::initial::initial_locals;
+use crate::initial::{initial_locals, initial_types};
 use crate::judging::pass;
 use crate::listing::is_listed;
 use crate::place_set::PlaceSet;
@@ -37,9 +37,6 @@ fn is_judged(method: &CodeMethod<'_, '_>) -> bool
     requires coded { code_at (class_view method.now.class.now) method.now.number ≡ Some (code_view method.now.code.now) }
     ensures { result ≡ is_judged {A = ℕ} (code_method_view method.now []) }
 {
-    if !method.is_static {
-        return false;
-    }
     if method.is_init {
         return false;
     }
@@ -58,7 +55,7 @@ fn types_of<'a>(alloc: Global, method: &CodeMethod<'_, 'a>) -> Result<MethodType
     }
 }
 
-/// Judges a method by its parameters, its stack map and its instructions: 64 where the parameters do not fit, 78 where the map is refused,
+/// Judges a method by its receiver and parameters, its stack map and its instructions: 64 where they do not fit, 78 where the map is refused,
 /// and then by one pass.
 fn judge_body<'a, C: Classes>(
     alloc: Global,
@@ -74,10 +71,11 @@ fn judge_body<'a, C: Classes>(
     ensures { Gives (verdict plan_yet (C.content classes.now) (method_view method.now)) result }
 {
     let max_locals = method.code.max_locals;
-    let Some(locals) = initial_locals(alloc, parameters, max_locals)? else {
+    let types = initial_types(alloc, method, parameters)?;
+    let Some(locals) = initial_locals(alloc, &types, max_locals)? else {
         return refuse(0, Reason::LocalOutOfRange);
     };
-    let declared = declared_frames(alloc, method, parameters)?;
+    let declared = declared_frames(alloc, method, &types)?;
     let frames = match declared {
         Ok(frames) => frames,
         Err(fault) => return refuse(0, Reason::BadStackMap { fault }),
@@ -85,7 +83,7 @@ fn judge_body<'a, C: Classes>(
     let mut seen = PlaceSet::new(alloc);
     seen.start(frames.len())?;
     frame.start(&locals, max_locals, false)?;
-    pass(method, &frames, &mut seen, frame, classes)
+    pass(alloc, method, &frames, &mut seen, frame, classes)
 }
 
 /// The verdict on a method with code.
@@ -136,9 +134,9 @@ pub fn verify_listed<'a, C: Classes>(
 ///
 /// A method without a Code attribute has none. The first of these steps that refuses says why and where:
 ///
-/// - 60 at 0: the method is not static, is an `<init>`, or has an exception table;
+/// - 60 at 0: the method is an `<init>`, or has an exception table;
 /// - 79 where the first instruction at fault begins, with the number of its fault (31 to 35);
-/// - 64 at 0: the parameters do not fit into max_locals;
+/// - 64 at 0: the receiver and the parameters do not fit into max_locals;
 /// - 78 at 0, with the number of its fault: the stack map is refused, by its bytes (2, 12, 47, 48) or by an entry (8, 9, 49 to 53);
 /// - at the first instruction that is refused: 69 or 77 where the frame that comes in is not assignable to the one that is declared
 ///   there, 70 where none comes and none is declared; then the least number that holds of what its rule refuses (60 to 66, 74, 76, 77), 67

@@ -7,15 +7,16 @@ ghost use Rattle.verify.specs.declared.verdict.VerifyFault.TheVariants.{OutOfMem
 ghost use Rattle.verify.specs.Listed.{IsListed};
 ghost use Rattle.verify.specs.Reports.{IsReported, IsReport, Reports, ReportsBytes};
 
-use crate::listing::is_listed;
+use crate::final_super::has_final_super;
+use crate::listing::has_summary;
 use crate::method::verify_listed;
 use crate::verdict::{Verdict, VerifyFault};
 use classfile::{FormFault, FormRule, Formed, Place, decode, form_check};
-use hierarchy::Classes;
+use hierarchy::{Classes, summary_of};
 use layout::ReadFault;
 use names::Text;
 use rules::Working;
-use std::alloc::Global;
+use std::alloc::{AllocError, Global};
 
 /// What is answered of a method.
 #[derive(Clone, Copy, Debug)]
@@ -46,6 +47,18 @@ pub enum ClassFault {
     Malformed { rule: FormRule, place: Place },
     /// 80: the hierarchy has no class with exactly the summary of this one.
     NotInHierarchy,
+    /// 81: the superclass is final in the hierarchy.
+    FinalSuper,
+}
+
+impl From<AllocError> for ClassFault {
+    ghost use Rattle.verify.specs.declared.report.ClassFault.TheVariants.{OutOfMemory};
+
+    ghost from_gives = { λ _ e. e ≡ OutOfMemory };
+
+    fn from(_error: AllocError) -> ClassFault {
+        ClassFault::OutOfMemory
+    }
 }
 
 /// What is answered of the method of this number.
@@ -96,23 +109,31 @@ pub fn report_listed<'a, C: Classes>(
     Ok(Report { methods })
 }
 
-/// The verdicts on the methods of a class in a hierarchy, in the order of the file (JVMS 4.10.1), each as
-/// [`verify_method`](crate::verify_method) answers it; or 80, or 1. Whether the hierarchy has the class is looked up once.
+/// The verdicts on the methods of a class that is well formed, in a hierarchy and in the order of the file (JVMS 4.10.1), each as
+/// [`verify_method`](crate::verify_method) answers it. 80 where the hierarchy has not this class as it is, which is looked up once;
+/// otherwise 81 where the superclass is final there; or 1, where memory ran out.
 pub fn verify_methods<'a, C: Classes>(
     alloc: Global,
     formed: &Formed<'_, 'a>,
     classes: &C,
-) -> Result<Report<'a>, VerifyFault>
+) -> Result<Report<'a>, ClassFault>
     ensures { Reports (C.content classes.now) (class_view formed.now.class.now) result }
 {
-    if !is_listed(alloc, formed, classes)? {
-        return Err(VerifyFault::NotInHierarchy);
+    let summary = summary_of(alloc, formed)?;
+    if !has_summary(&summary, classes) {
+        return Err(ClassFault::NotInHierarchy);
     }
-    report_listed(alloc, formed, classes)
+    if has_final_super(&summary, classes) {
+        return Err(ClassFault::FinalSuper);
+    }
+    match report_listed(alloc, formed, classes) {
+        Ok(report) => Ok(report),
+        Err(_) => Err(ClassFault::OutOfMemory),
+    }
 }
 
 /// The verdicts on the methods of the class that these bytes are, in a hierarchy (JVMS 4.10.1). Refused is, by the first that
-/// holds, what [`decode`] refuses, what [`form_check`] refuses, or 80; or 1, where memory ran out.
+/// holds, what [`decode`] refuses, what [`form_check`] refuses, 80, or 81; or 1, where memory ran out.
 pub fn verify_class<'a, C: Classes>(
     alloc: Global,
     bytes: &'a [u8],
@@ -125,16 +146,9 @@ pub fn verify_class<'a, C: Classes>(
         Err(ReadFault::OutOfMemory) => return Err(ClassFault::OutOfMemory),
         Err(fault) => return Err(ClassFault::NoClass(fault)),
     };
-    let formed = match form_check(alloc, &class) {
-        Ok(formed) => formed,
-        Err(FormFault::OutOfMemory) => return Err(ClassFault::OutOfMemory),
-        Err(FormFault::Broken { rule, place }) => {
-            return Err(ClassFault::Malformed { rule, place });
-        }
-    };
-    match verify_methods(alloc, &formed, classes) {
-        Ok(report) => Ok(report),
-        Err(VerifyFault::OutOfMemory) => Err(ClassFault::OutOfMemory),
-        Err(VerifyFault::NotInHierarchy) => Err(ClassFault::NotInHierarchy),
+    match form_check(alloc, &class) {
+        Ok(formed) => verify_methods(alloc, &formed, classes),
+        Err(FormFault::OutOfMemory) => Err(ClassFault::OutOfMemory),
+        Err(FormFault::Broken { rule, place }) => Err(ClassFault::Malformed { rule, place }),
     }
 }

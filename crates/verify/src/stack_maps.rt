@@ -1,23 +1,21 @@
 //! The frames that the stack map of a method declares.
-ghost use Rattle.std.specs.Prelude.{◌≡◌, ◌≢◌, ◌≤◌, true, map, length, IfOk, IfErr};
-ghost use Rattle.names.specs.Types.{type_of};
+ghost use Rattle.std.specs.Prelude.{◌≡◌, ◌≢◌, ◌≤◌, map, length, IfOk, IfErr};
 ghost use Rattle.layout.specs.declared.limits.TheConstants.{MAX_CODE_BYTES};
 ghost use Rattle.layout.specs.declared.fault.ReadFault.TheVariants as reading;
 ghost use Rattle.layout.specs.Refusals.{read_fault_number};
+ghost use Rattle.frames.specs.VerificationType.{type_of};
 ghost use Rattle.frames.specs.DeclaredTables.{locals_in};
 ghost use Rattle.rules.specs.Bodies.{method_view};
 ghost use Rattle.verify.specs.declared.verdict.VerifyFault.TheVariants.{OutOfMemory};
+ghost use Rattle.verify.specs.InitialFrames.{initial_types};
 ghost use Rattle.verify.specs.Verdict.{frames_declared};
-ghost use Rattle.verify.specs.Judged.{is_judged};
 ghost use Rattle.verify.specs.Steps.{TellsFrames};
 
-use crate::initial::parameter_types;
 use crate::refusal::stack_map;
 use crate::verdict::VerifyFault;
 use classfile::CodeMethod;
-use frames::{CodeStarts, DeclaredFrames, declare, read_map};
+use frames::{CodeStarts, DeclaredFrames, VType, declare, read_map};
 use layout::ReadFault;
-use names::FieldType;
 use std::alloc::Global;
 
 /// The number of a fault in a stack map's bytes.
@@ -36,10 +34,9 @@ fn fault_number(fault: ReadFault) -> Result<u8, VerifyFault>
 pub fn declared_frames<'a>(
     alloc: Global,
     method: &CodeMethod<'_, 'a>,
-    parameters: &[FieldType<'a>],
+    types: &[VType<'a>],
 ) -> Result<Result<DeclaredFrames<'a>, u8>, VerifyFault>
-    requires judged { is_judged (method_view method.now) ≡ true }
-    requires parameters { (method_view method.now).type.params ≡ map type_of parameters.now }
+    requires types { map type_of types.now ≡ initial_types (method_view method.now) }
     requires few { length method.now.code.now.code.now ≤ MAX_CODE_BYTES }
     ensures told { IfOk result (TellsFrames (frames_declared (method_view method.now))) }
     ensures locals { IfOk result (λ r. IfOk r (λ t. locals_in t ≡ method.now.code.now.max_locals)) }
@@ -52,14 +49,13 @@ pub fn declared_frames<'a>(
         Ok(map) => map,
         Err(fault) => return Ok(Err(fault_number(fault)?)),
     };
-    let types = parameter_types(alloc, parameters)?;
     let starts = CodeStarts::new(alloc, method.code.code)?;
     let declared = declare(
         alloc,
         map.entries(),
         &method.class.constant_pool,
         &starts,
-        &types,
+        types,
         method.code.max_locals,
         method.code.max_stack,
     )?;

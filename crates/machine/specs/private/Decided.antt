@@ -7,55 +7,13 @@ use Rattle.names.specs.Descriptors.{FieldDescriptor, primitive, class, array}
 use Rattle.names.specs.StandardNames.{object_name, cloneable_name, serializable_name}
 use Rattle.hierarchy.specs.Class.{ClassFact, interface_of}
 use Rattle.hierarchy.specs.Answer.{Outcome, yes, no, missing, subclass_answer}
-use Rattle.insn.specs.declared.operation.Kind.{Kind}
 use Rattle.insn.specs.declared.stack.StackPlace.{StackPlace}
 use Rattle.insn.specs.declared.stack.StackPlace.TheVariants.{Narrow, Wide}
 use Rattle.insn.specs.Acts.{StackForm}
-use Rattle.insn.specs.Stacks.{same_kind}
-use Rattle.machine.specs.declared.deed.Needs.{Needs}
-use Rattle.machine.specs.declared.deed.Needs.TheVariants.{Numbers, Operands}
-use Rattle.machine.specs.declared.deed.Need.{Need}
-use Rattle.machine.specs.declared.deed.Need.TheVariants.{Number, Reference}
 use Rattle.machine.specs.Heap.{Status, ready, made, this, Object}
-use Rattle.machine.specs.Values.{Value, number, null, reference, Slot, empty, second, holds, is_wide_slot, place_of}
+use Rattle.machine.specs.Values.{Value, Slot, empty, second, holds, is_wide_slot, place_of}
 
--- ---- operands
-
-abbrev pub is_number : Kind → Value → Bool
-is_number kind (number k) = same_kind k kind
-is_number kind null = false
-is_number kind (reference a) = false
-
--- numbers of these kinds are on top
-abbrev pub has_kinds : List Kind → List Value → Bool
-has_kinds [] vs = true
-has_kinds (k ∷ ks) [] = false
-has_kinds (k ∷ ks) (v ∷ vs) = is_number k v && has_kinds ks vs
-
-abbrev pub is_reference : Value → Bool
-is_reference (number kind) = false
-is_reference null = true
-is_reference (reference a) = true
-
-abbrev pub meets : Need → Value → Bool
-meets (Number kind) v = is_number kind v
-meets Reference v = is_reference v
-
--- operands that meet these needs are on top
-abbrev pub has_all : List Need → List Value → Bool
-has_all [] vs = true
-has_all (n ∷ ns) [] = false
-has_all (n ∷ ns) (v ∷ vs) = meets n v && has_all ns vs
-
--- what is needed is on top
-abbrev pub has_needs : Needs → List Value → Bool
-has_needs (Numbers kinds) vs = has_kinds kinds.now vs
-has_needs (Operands needs) vs = has_all needs.now vs
-
--- a local variable that holds a number of the kind
-abbrev pub holds_number : Kind → Option Slot → Bool
-holds_number kind (Some (holds v)) = is_number kind v
-holds_number kind _ = false
+-- ---- forms
 
 abbrev pub same_place : StackPlace → StackPlace → Bool
 same_place Narrow Narrow = true

@@ -1,24 +1,23 @@
 -- Words of the code's own steps: nothing that a reader must believe rests on them.
 -- What the calls answer that go on and that raise, by what is done and where the next instruction begins.
-use Rattle.std.specs.Prelude.{◌≡◌, ◌⊎◌, ℕ, zero, suc, ◌+◌, ◌≤◌, ℤ, pos, Bool, true, false, List, [], ◌∷◌, slice_get, Option, Some, None, Result, Ok, Err, if◌then◌else◌}
+use Rattle.std.specs.Prelude.{◌≡◌, ◌⊎◌, ℕ, zero, suc, ℤ, pos, Bool, true, List, [], ◌∷◌, slice_get, Option, Some, None, option_to_list, Result, Ok, Err, if◌then◌else◌}
 use Rattle.names.specs.ReferenceTypes.{ReferenceType}
 use Rattle.hierarchy.specs.World.{World}
 use Rattle.classfile.specs.Methods.{Method, ExceptionEntry, covers}
 use Rattle.insn.specs.Meanings.{Act}
+use Rattle.insn.specs.Acts.{StackForm}
+use Rattle.insn.specs.Stacks.{beneath, rearranged}
 use Rattle.insn.specs.Offsets.{IsAmong}
-use Rattle.machine.specs.declared.deed.Deed.{Deed}
-use Rattle.machine.specs.declared.deed.Deed.TheVariants.{Operates, Reads, Writes, Increments, Moves, Leaves, Ends, Stuck}
 use Rattle.machine.specs.declared.choosing.Outcome.{Outcome as RawOutcome}
 use Rattle.machine.specs.declared.choosing.Outcome.TheVariants as outcomes
+use Rattle.machine.specs.declared.snapshot.State.{State as RawState}
 use Rattle.machine.specs.declared.choosing.StepFault.{StepFault}
 use Rattle.machine.specs.declared.choosing.StepFault.TheVariants.{OutOfMemory, NotAChoice}
-use Rattle.insn.specs.Acts.{kind_units}
-use Rattle.machine.specs.Values.{Value, number, reference, Slot, empty, is_wide_slot, behind_lost, stored}
-use Rattle.machine.specs.Heap.{Heap, IsBelow, IsFresh, with_fresh}
-use Rattle.machine.specs.Tasks.{falls, targets}
-use Rattle.machine.specs.Demands.{State}
-use Rattle.machine.specs.Steps.{IsBranch, IsRaised, IsCaught, moved_with}
-use Rattle.machine.specs.private.Deeds.{task_view, stack_after}
+use Rattle.machine.specs.Values.{Value, reference, Slot, empty, holds, is_wide_slot, behind_lost, stored}
+use Rattle.machine.specs.Heap.{Status, ready, Object, object, Heap, with_object, IsAddress, IsBelow, IsFresh, with_fresh}
+use Rattle.machine.specs.Tasks.{Need, Reply, Task, falls, targets}
+use Rattle.machine.specs.Demands.{State, AreForm}
+use Rattle.machine.specs.Steps.{Replies, Operates, moved, IsBranch, IsLast, Does, IsRaised, IsCaught, moved_with}
 use Rattle.machine.specs.Views.{state_view}
 
 -- ---- stores
@@ -36,77 +35,99 @@ with_behind n [] = []
 with_behind zero (s ∷ ss) = s ∷ behind_lost (is_wide_slot s) ss
 with_behind (suc n) (s ∷ ss) = s ∷ with_behind n ss
 
-abbrev pub locals_after : Deed → List Slot → List Slot
-locals_after (Operates needs reply branches falls) ls = ls
-locals_after (Reads kind local) ls = ls
-locals_after (Writes kind local) ls = stored (number kind) local ls
-locals_after (Increments local) ls = ls
-locals_after (Moves operator) ls = ls
-locals_after (Leaves kind) ls = ls
-locals_after Ends ls = ls
-locals_after Stuck ls = ls
+-- ---- what is done
 
--- so many local variables are enough for what is written
-abbrev pub HasPlace : Deed → ℕ → Type 0
-HasPlace (Operates needs reply branches falls) n = Unit {0}
-HasPlace (Reads kind local) n = Unit {0}
-HasPlace (Writes kind local) n = local + kind_units kind ≤ n
-HasPlace (Increments local) n = Unit {0}
-HasPlace (Moves operator) n = Unit {0}
-HasPlace (Leaves kind) n = Unit {0}
-HasPlace Ends n = Unit {0}
-HasPlace Stuck n = Unit {0}
+-- A call that changes a state: it answers one of which this holds, or 54 where it holds of none, or 1.
+abbrev pub Done : (State → Type 0) → Result RawState StepFault → Type 0
+Done P (Ok t) = P (state_view t)
+Done P (Err OutOfMemory) = Unit {0}
+Done P (Err NotAChoice) = (t : State) → P t → ⊥
+
+-- what it does to a state that is already where it goes
+abbrev pub DoesHere : World → Task → State → Option Value → State → Type 0
+DoesHere world task s answer t = Does world task s answer s.at t
+
+abbrev pub OperatesHere : World → List Need → Option ℕ → Reply → State → Option Value → State → Type 0
+OperatesHere world needs live reply s answer t = Operates world needs live reply s answer s.at t
+
+-- a local variable holds the value, or none
+abbrev pub IsHeld : Option Slot → Option Value → Type 0
+IsHeld slot None = (v : Value) → slot ≡ Some (holds v) → ⊥
+IsHeld slot (Some v) = slot ≡ Some (holds v)
+
+-- what is pushed by the reply: a value, or nothing; none, where the answer may not be given
+abbrev pub IsGiven : World → Heap → Reply → Option Value → Option (Option Value) → Type 0
+IsGiven world heap reply answer None = (vs : List Value) → Replies world heap reply answer vs → ⊥
+IsGiven world heap reply answer (Some given) = Replies world heap reply answer (option_to_list given)
+
+-- what is done to local variables and to the stack
+abbrev pub ReadsLocal : ℕ → State → Option Value → State → Type 0
+ReadsLocal local s answer t = (v : Value) × (slice_get s.locals local ≡ Some (holds v)) × (answer ≡ None) × (t ≡ moved s s.at (v ∷ s.stack))
+
+abbrev pub WritesLocal : ℕ → State → Option Value → State → Type 0
+WritesLocal local s answer t =
+    (v : Value) × (rest : List Value) × (s.stack ≡ v ∷ rest) × (answer ≡ None)
+    × (t ≡ record { at = s.at; stack = rest; locals = stored v local s.locals; heap = s.heap })
+
+abbrev pub Rearranges : List StackForm → State → Option Value → State → Type 0
+Rearranges forms s answer t =
+    (f : StackForm) × IsAmong f forms × AreForm f.takes s.stack × (answer ≡ None) × (t ≡ moved s s.at (rearranged f s.stack))
+
+-- the object at an address is ready
+abbrev pub MakesReady : ℕ → State → State → Type 0
+MakesReady a s t =
+    (x : ReferenceType) × (status : Status) × (s.heap a ≡ Some (object x status))
+    × (t ≡ moved_with s s.at s.stack (with_object s.heap a (object x ready)))
+
+-- so is the one that stands beneath the arguments, and all of them are taken
+abbrev pub Initializes : List Need → State → Option Value → State → Type 0
+Initializes needs s answer t =
+    (a : ℕ) × (rest : List Value) × (x : ReferenceType) × (status : Status)
+    × (beneath needs s.stack ≡ reference a ∷ rest) × (s.heap a ≡ Some (object x status)) × (answer ≡ None)
+    × (t ≡ moved_with s s.at rest (with_object s.heap a (object x ready)))
+
+-- the object comes to be at an address that is unused
+abbrev pub PutsAt : Object → State → ℕ → State → Type 0
+PutsAt o s a t = (s.heap a ≡ None) × IsAddress a × (t ≡ moved_with s s.at (reference a ∷ s.stack) (with_object s.heap a o))
+
+abbrev pub Puts : Object → State → Option Value → State → Type 0
+Puts o s answer t =
+    (a : ℕ) × (answer ≡ Some (reference a)) × (s.heap a ≡ None) × IsAddress a
+    × (t ≡ moved_with s s.at (reference a ∷ s.stack) (with_object s.heap a o))
 
 -- ---- going on
 
-abbrev pub is_last : Deed → Bool
-is_last (Operates needs reply branches falls) = false
-is_last (Reads kind local) = false
-is_last (Writes kind local) = false
-is_last (Increments local) = false
-is_last (Moves operator) = false
-is_last (Leaves kind) = true
-is_last Ends = true
-is_last Stuck = false
-
-abbrev pub state_after : Deed → State → ℕ → List (ℕ × ReferenceType) → State
-state_after d s at fresh =
-    record { at = at; stack = stack_after d s.stack s.locals; locals = locals_after d s.locals; heap = with_fresh s.heap fresh }
-
--- a choice that may be made: nothing is asked, and the new objects are new
-pub record IsAsked (s : State) (answer : Option Value) (fresh : List (ℕ × ReferenceType)) : Type 0 where
-  pub no_answer : answer ≡ None
-  pub unused : IsFresh s.heap fresh
+-- the state elsewhere, among these objects
+abbrev pub moved_to : State → ℕ → Heap → State
+moved_to s at heap = moved_with s at s.stack heap
 
 -- an instruction with these targets goes to an offset by its branch, where that is the next start
 pub record MayGo (targets : List ℤ) (falls : Bool) (next branch : Option ℕ) (to : ℕ) : Type 0 where
   pub by : IsBranch targets branch to
   pub where_to : IsAmong (pos to) targets ⊎ ((falls ≡ true) × (next ≡ Some to))
 
-abbrev pub GoesWay : Deed → Option ℕ → ℕ → Option ℕ → ℕ → Type 0
-GoesWay d next from branch to = MayGo (targets from (task_view d)) (falls (task_view d)) next branch to
+abbrev pub GoesWay : Task → Option ℕ → ℕ → Option ℕ → ℕ → Type 0
+GoesWay task next from branch to = MayGo (targets from task) (falls task) next branch to
 
--- it goes to an offset
-pub record GoesOn (d : Deed) (next : Option ℕ) (s : State) (branch : Option ℕ) (fresh : List (ℕ × ReferenceType)) (t : State) : Type 0 where
+-- it goes to an offset, and does there what it does
+pub record GoesOn (world : World) (task : Task) (next : Option ℕ) (s : State) (heap : Heap) (branch : Option ℕ) (answer : Option Value) (t : State) : Type 0 where
   pub to : ℕ
-  pub way : GoesWay d next s.at branch to
-  pub result : t ≡ state_after d s to fresh
+  pub way : GoesWay task next s.at branch to
+  pub does : Does world task (moved_to s s.at heap) answer to t
 
 -- it ends, by no branch
-abbrev pub EndsSo : Deed → Option ℕ → Type 0
-EndsSo d branch = (is_last d ≡ true) × (branch ≡ None)
+pub record EndsSo (task : Task) (branch : Option ℕ) (answer : Option Value) : Type 0 where
+  pub last : IsLast task
+  pub no_branch : branch ≡ None
+  pub no_answer : answer ≡ None
 
--- neither does it go on nor end
-pub record Stays (d : Deed) (next : Option ℕ) (from : ℕ) (branch : Option ℕ) : Type 0 where
-  pub goes : (to : ℕ) → GoesWay d next from branch to → ⊥
-  pub ends : EndsSo d branch → ⊥
-
-abbrev pub Goes : Deed → Option ℕ → State → Option ℕ → Option Value → List (ℕ × ReferenceType) → Result RawOutcome StepFault → Type 0
-Goes d next s branch answer fresh (Ok (outcomes.Next t)) = IsAsked s answer fresh × GoesOn d next s branch fresh (state_view t)
-Goes d next s branch answer fresh (Ok outcomes.Ended) = IsAsked s answer fresh × EndsSo d branch
-Goes d next s branch answer fresh (Ok outcomes.Fault) = ⊥
-Goes d next s branch answer fresh (Err OutOfMemory) = Unit {0}
-Goes d next s branch answer fresh (Err NotAChoice) = IsAsked s answer fresh → Stays d next s.at branch
+abbrev pub Goes : World → Task → Option ℕ → State → Option ℕ → Option Value → List (ℕ × ReferenceType) → Result RawOutcome StepFault → Type 0
+Goes world task next s branch answer fresh (Ok (outcomes.Next t)) = IsFresh s.heap fresh × GoesOn world task next s (with_fresh s.heap fresh) branch answer (state_view t)
+Goes world task next s branch answer fresh (Ok outcomes.Ended) = IsFresh s.heap fresh × EndsSo task branch answer
+Goes world task next s branch answer fresh (Ok outcomes.Fault) = ⊥
+Goes world task next s branch answer fresh (Err OutOfMemory) = Unit {0}
+Goes world task next s branch answer fresh (Err NotAChoice) =
+    IsFresh s.heap fresh → ((t : State) → GoesOn world task next s (with_fresh s.heap fresh) branch answer t → ⊥) × (EndsSo task branch answer → ⊥)
 
 -- ---- raising
 

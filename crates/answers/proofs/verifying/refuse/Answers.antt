@@ -1,9 +1,18 @@
 use Rattle.std.proofs.Common.{◌≡◌, ◌∙◌, inl, inr, Err, ap, subst}
-use Rattle.verify.specs.declared.among.AmongFault.TheVariants.{KnownRefused, NoHierarchy}
+use Rattle.verify.specs.declared.among.AmongFault.TheVariants.{Refused, KnownRefused, NoHierarchy, FinalSuper}
 use Rattle.verify.specs.Among.{ReportsAmong}
-use Rattle.answers.specs.Verdicts.{known_refusal, hierarchy_refusal, VerifySays}
+use Rattle.answers.specs.Verdicts.{class_refusal, known_refusal, hierarchy_refusal, final_super_refusal, VerifySays}
 use Rattle.answers.proofs.Tellings.{answered_more}
 use Rattle.answers.proofs.verifying.refuse.Goals as goal
+
+pub returns-in-Refused : goal.returns-in-Refused
+returns-in-Refused g c = λ read known told.
+    let held = g.W.Write.contents in
+    let fault = c.in-Refused.fault in
+    let why : ReportsAmong read known (Err (Refused fault)) = subst (λ e. ReportsAmong read known (Err e)) c.in-Refused.is told in
+    answered_more (λ t s. (t ≡ class_refusal fault) × (s ≡ c.status.result)) (VerifySays read known)
+    (λ text status p. inl (fault, why, p.0, p.1 ∙ c.status.ensures))
+    (held c.args.out.now) (held c.tell.new.out) c.tell.result c.tell.ensures
 
 pub returns-in-KnownRefused : goal.returns-in-KnownRefused
 returns-in-KnownRefused g c = λ read known told.
@@ -25,3 +34,12 @@ returns-in-NoHierarchy g c = λ read known told.
     answered_more (λ t s. (t ≡ hierarchy_refusal fault) × (s ≡ 1)) (VerifySays read known)
     (λ text status p. inr (class, formed, inr (cs, all, inl (fault, other, is, p.0, p.1))))
     (held c.args.out.now) (held c.tell-in-NoHierarchy.new.out) c.tell-in-NoHierarchy.result c.tell-in-NoHierarchy.ensures
+
+pub returns-in-FinalSuper : goal.returns-in-FinalSuper
+returns-in-FinalSuper g c = λ read known told.
+    let held = g.W.Write.contents in
+    let why : ReportsAmong read known (Err FinalSuper) = subst (λ e. ReportsAmong read known (Err e)) c.in-FinalSuper.is told in
+    let (class, cs, formed, all, hierarchy, final) = why in
+    answered_more (λ t s. (t ≡ final_super_refusal) × (s ≡ 1)) (VerifySays read known)
+    (λ text status p. inr (class, formed, inr (cs, all, inr (hierarchy, inl (final, p.0, p.1)))))
+    (held c.args.out.now) (held c.tell-in-FinalSuper.new.out) c.tell-in-FinalSuper.result c.tell-in-FinalSuper.ensures

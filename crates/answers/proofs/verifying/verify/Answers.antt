@@ -19,11 +19,11 @@ returns-in-Ok-verify_among g c =
     let told : ReportsAmong read known (Ok report) =
     subst (λ r. ReportsAmong r known (Ok report)) c.file_read.ensures
     (subst (λ k. ReportsAmong (read_of c.file_read.result) k (Ok report)) same c.in-Ok-verify_among.ensures) in
-    let (class, cs, formed, all, hierarchy, is) = told in
+    let (class, cs, formed, all, hierarchy, fine, is) = told in
     let rs = c.deref-in-Ok-verify_among.result.now in
     let here : IsReport (map summary_of (class ∷ cs)) class rs = subst (IsReport (map summary_of (class ∷ cs)) class) (sym c.deref-in-Ok-verify_among.ensures.value) is in
     answered_more (λ t s. (t ≡ flat_map verdict_line rs) × (s ≡ c.status.result)) (VerifySays read known)
-    (λ text status p. inr (class, formed, inr (cs, all, inr (hierarchy, (rs, here, p.0, p.1 ∙ c.status.ensures)))))
+    (λ text status p. inr (class, formed, inr (cs, all, inr (hierarchy, inr (fine, (rs, here, p.0, p.1 ∙ c.status.ensures))))))
     (held c.args.out.now) (held c.tell.new.out) c.tell.result c.tell.ensures
 
 pub returns : goal.returns

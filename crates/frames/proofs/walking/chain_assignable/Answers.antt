@@ -1,7 +1,7 @@
 use Rattle.std.proofs.Common.{◌≡◌, ◌∙◌, map, get_or, sym, ap}
 use Rattle.hierarchy.specs.Answer.{outcome_of}
 use Rattle.frames.specs.VerificationType.{type_of, top}
-use Rattle.frames.specs.FrameAssignable.{slot_answer}
+use Rattle.frames.specs.FrameAssignable.{both, slot_answer}
 use Rattle.frames.specs.Chains.{types_at, chain_answer, place}
 use Rattle.frames.proofs.Chains.{linked_lower}
 use Rattle.frames.proofs.Comparison.{walk_begins, walk_goes_on, walk_says_no, walk_ends}
@@ -38,6 +38,11 @@ returns-in-No g c =
     let whole = chain_answer f (place c.args.on_stack) xs (types_at links c.args.top) in
     walk_says_no f (place c.args.on_stack) xs links c.args.chains.now.linked c.loop-link.at l whole (outcome_of c.loop-link.so_far) (sym c.link.ensures ∙ c.in-Some.is)
     (c.in-No.ensures ∙ ap (λ t. f t (type_of l.vtype)) slot) c.loop-link.invariant
+
+pub returns-then-at-floor : goal.returns-then-at-floor
+returns-then-at-floor g c =
+    let answer = chain_answer (slot_answer (g.C.Classes.content c.args.classes.now) c.args.on_stack) (place c.args.on_stack) (map type_of c.args.from.now) in
+    sym (c.loop-link.invariant ∙ ap (λ at. both (answer (types_at c.args.chains.now.links.items at)) (outcome_of c.loop-link.so_far)) c.if-at-floor.true ∙ ap (λ r. both r (outcome_of c.loop-link.so_far)) c.requires)
 
 pub returns : goal.returns
 returns g c =

@@ -1,12 +1,11 @@
-use Rattle.std.proofs.Common.{◌≡◌, ◌++◌, map, reverse}
-use Rattle.frames.specs.VerificationType.{type_of}
-use Rattle.frames.specs.Chains.{types_at, as_slots}
+use Rattle.frames.specs.Chains.{IsOn, PutDown}
 use Rattle.frames.proofs.walking.write_down.Given as goal
 
 abbrev pub invariant-loop-link : goal.invariant-loop-link
-invariant-loop-link l =
-    let links = l.chains.links.items in
-    map type_of l.out.items ++ reverse (as_slots l.in_units (reverse (types_at links l.at))) ≡ map type_of l.fn.out.items ++ reverse (as_slots l.in_units (reverse (types_at links l.fn.top)))
+invariant-loop-link l = record {
+  on : IsOn l.chains.links.items l.at l.fn.floor;
+  put : PutDown l.chains.links.items l.in_units l.fn.top l.at l.fn.out.items l.out.items;
+}
 
 abbrev pub decreases-loop-link : goal.decreases-loop-link
 decreases-loop-link l = l.at

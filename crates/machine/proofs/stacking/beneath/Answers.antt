@@ -1,6 +1,9 @@
-use Rattle.std.proofs.Common.{arith}
-use Rattle.machine.proofs.Moves.{below}
+use Rattle.std.proofs.Common.{◌∙◌, drop, sym, ap}
+use Rattle.std.proofs.lemmas.List.{length-map}
+use Rattle.machine.specs.private.Deeds.{need_view, needs_view}
+use Rattle.machine.specs.Views.{stack_of}
+use Rattle.machine.proofs.Moves.{beneath_drop}
 use Rattle.machine.proofs.stacking.beneath.Goals as goal
 
 pub returns : goal.returns
-returns c = below c.args.stack.now c.args.count c.saturating_sub.result (omega arith)
+returns c = c.beneath_so_many.ensures ∙ sym (beneath_drop (needs_view c.args.needs.now) (stack_of c.args.stack.now) ∙ ap (λ n. drop n (stack_of c.args.stack.now)) (length-map c.args.needs.now need_view))

@@ -1,4 +1,4 @@
-use Rattle.std.proofs.Common.{◌≡◌, true, pos, ◌-◌, ◌∙◌, sym, ap, length, arith, ℕ, subst, get_or}
+use Rattle.std.proofs.Common.{◌≡◌, true, pos, ◌-◌, sym, length, arith, ℕ, subst}
 use Rattle.std.specs.Prelude.{int_lt}
 use Rattle.insn.specs.declared.instruction.Insn.{Insn}
 use Rattle.machine.proofs.Targets.{behind_all}

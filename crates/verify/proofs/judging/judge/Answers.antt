@@ -1,5 +1,5 @@
-use Rattle.std.proofs.Common.{◌≡◌, ◌⊎◌, ◌∷◌, [], ◌++◌, ◌&&◌, Ok, Err, None, ℤ, List, sym, ap, subst, ◌∙◌}
-use Rattle.frames.specs.Conditions.{reason, Conditions}
+use Rattle.std.proofs.Common.{◌∷◌, [], ◌&&◌, ℤ, List, sym, subst, ◌∙◌}
+use Rattle.frames.specs.Conditions.{reason}
 use Rattle.frames.specs.DeclaredTables.{frames_in}
 use Rattle.insn.specs.Offsets.{led_to}
 use Rattle.insn.specs.Views.{act_view}
@@ -15,10 +15,11 @@ use Rattle.verify.specs.Steps.{Judges}
 use Rattle.verify.proofs.Onward.{keeps_length}
 use Rattle.verify.proofs.Going.{ways}
 use Rattle.verify.proofs.Ends.{done_ways, refused_end}
+use Rattle.verify.proofs.Kept.{known_same}
 use Rattle.verify.proofs.judging.judge.Goals as goal
 
-pub check_targets-requires : goal.check_targets-requires
-check_targets-requires g c =
+pub check_targets-requires-clause-size : goal.check_targets-requires-clause-size
+check_targets-requires-clause-size g c =
     let classes = g.C.Classes.content c.args.classes.now in
     let m = method_view c.args.method.now in
     let p = plan_yet m (act_view c.args.act) in
@@ -27,8 +28,18 @@ check_targets-requires g c =
     let ran = (subst (Done (conditions classes m c.args.at p f) (after m c.args.at p f) now) c.in-Ok.is c.run.ensures).outcome in
     keeps_length m c.args.at p f now c.args.method.now.code.now.max_locals c.requires.locals ran.1 ∙ sym c.requires.declared
 
-pub returns-in-Ok : goal.returns-in-Ok
-returns-in-Ok g c = λ next e.
+pub check_targets-requires-clause-known : goal.check_targets-requires-clause-known
+check_targets-requires-clause-known g c =
+    let classes = g.C.Classes.content c.args.classes.now in
+    let m = method_view c.args.method.now in
+    let p = plan_yet m (act_view c.args.act) in
+    let f = held c.args.frame.now in
+    let now = held c.run.new.frame in
+    let ran = (subst (Done (conditions classes m c.args.at p f) (after m c.args.at p f) now) c.in-Ok.is c.run.ensures).outcome in
+    known_same classes c.args.frames.now (after m c.args.at p f) now c.args.known.now (sym ran.1) c.requires.known
+
+pub returns-in-Ok-clause-judged : goal.returns-in-Ok-clause-judged
+returns-in-Ok-clause-judged g c = λ next e.
     let classes = g.C.Classes.content c.args.classes.now in
     let m = method_view c.args.method.now in
     let a = act_view c.args.act in
@@ -38,14 +49,14 @@ returns-in-Ok g c = λ next e.
     let frames = frames_in c.args.frames.now in
     let ran = (subst (Done (conditions classes m c.args.at p f) (after m c.args.at p f) now) c.in-Ok.is c.run.ensures).outcome in
     let targets : Judges (target_conditions classes frames now (led_to c.args.at (branch_offsets a))) c.check_targets.result =
-    subst (λ (z : List ℤ). Judges (target_conditions classes frames now (led_to c.args.at z)) c.check_targets.result) c.branches_by-branches.ensures c.check_targets.ensures in
+    subst (λ (z : List ℤ). Judges (target_conditions classes frames now (led_to c.args.at z)) c.check_targets.result) c.branches_by-branches.ensures c.check_targets.ensures.judged in
     let end : Judges ((reason 71, goes_on a && c.args.last) ∷ []) c.check_end-end.result =
     subst (λ z. Judges ((reason 71, z && c.args.last) ∷ []) c.check_end-end.result) c.requires.falls c.check_end-end.ensures in
     done_ways classes m frames c.args.at f a p (ways m a) c.args.last next c.requires.no_exceptions e now c.together.result ran.0 ran.1
     (c.together.ensures (target_conditions classes frames now (led_to c.args.at (branch_offsets a))) ((reason 71, goes_on a && c.args.last) ∷ []) targets end)
 
-pub returns-in-Err : goal.returns-in-Err
-returns-in-Err g c = λ next e.
+pub returns-in-Err-clause-judged : goal.returns-in-Err-clause-judged
+returns-in-Err-clause-judged g c = λ next e.
     let classes = g.C.Classes.content c.args.classes.now in
     let m = method_view c.args.method.now in
     let a = act_view c.args.act in

@@ -1,4 +1,4 @@
-use Rattle.std.proofs.Common.{◌≡◌, ℕ, ◌+◌, true, ◌∷◌, Ok, length, sym, ◌∙◌, ap, subst, arith}
+use Rattle.std.proofs.Common.{◌≡◌, ℕ, ◌+◌, true, ◌∷◌, Result, Ok, OnOk, option_map, length, sym, ◌∙◌, ap, subst, arith}
 use Rattle.layout.specs.Place.{Place}
 use Rattle.insn.specs.declared.instruction.Insn.{Insn}
 use Rattle.insn.specs.Meanings.{Act, act}
@@ -8,14 +8,17 @@ use Rattle.insn.specs.Views.{view, located}
 use Rattle.insn.proofs.Readings.{reading_at, whole_reading, only_reading}
 use Rattle.rules.specs.After.{after}
 use Rattle.rules.specs.Bodies.{method_view}
+use Rattle.rules.specs.declared.reason.Reason.{Reason}
 use Rattle.rules.specs.Held.{held}
 use Rattle.rules.specs.Outcomes.{Done}
 use Rattle.rules.specs.Table.{plan_yet}
 use Rattle.rules.specs.Ways.{goes_on}
-use Rattle.frames.specs.DeclaredTables.{frames_in}
+use Rattle.frames.specs.DeclaredTables.{frames_in, declared_view}
+use Rattle.verify.specs.Keeping.{IsKnown}
 use Rattle.verify.specs.Steps.{Enters}
-use Rattle.verify.specs.Verdict.{at_conditions, code_judged}
+use Rattle.verify.specs.Verdict.{entered, at_conditions, code_judged}
 use Rattle.verify.proofs.Onward.{left, steps, no_stop, at_end, step_within, last_is, keeps_length, stops_in, stops_at, goes_done}
+use Rattle.verify.proofs.Kept.{known_same, kept_here, fit_here}
 use Rattle.verify.proofs.judging.pass.Goals as goal
 
 pub loop-step-init : goal.loop-step-init
@@ -33,7 +36,30 @@ loop-step-init g c =
         within = let all = ap (λ (p : Place). p.at + length p.rest) c.new-code.ensures in omega (arith, all);
       };
       locals = c.requires.locals;
+      known = c.nothing-known.ensures (g.C.Classes.content c.args.classes.now) c.args.frames.now (held c.args.frame.now);
     }
+
+pub enter-requires-clause-kept : goal.enter-requires-clause-kept
+enter-requires-clause-kept g c =
+    kept_here (g.C.Classes.content c.args.classes.now) c.args.frames.now (held c.loop-step.frame) c.find-declared.result c.loop-step.known c.find-declared.ensures.own c.loop-step.invariant.known
+
+pub enter-requires-clause-fits : goal.enter-requires-clause-fits
+enter-requires-clause-fits g c =
+    let classes = g.C.Classes.content c.args.classes.now in
+    let f = held c.loop-step.frame in
+    fit_here classes c.args.frames.now f c.find-declared.result c.fitting.result c.find-declared.ensures.own
+    (c.fitting.ensures classes c.args.frames.now f c.loop-step.invariant.known)
+
+pub judge-judged-requires-clause-known : goal.judge-judged-requires-clause-known
+judge-judged-requires-clause-known g c =
+    let classes = g.C.Classes.content c.args.classes.now in
+    let t = c.args.frames.now in
+    let f = held c.loop-step.frame in
+    let now = held c.enter.new.frame in
+    let declared = option_map declared_view c.find-declared.result in
+    let came = (subst (Enters classes c.loop-step.comes f declared now) c.in_default-enter.is c.enter.ensures.entered).outcome in
+    c.behind-known.ensures classes t (method_view c.args.method.now) c.in-Ok.at now
+    (known_same classes t (entered f declared) now c.here.result (sym came.1) (c.here.ensures classes t f c.find-declared.ensures.own c.loop-step.invariant.known))
 
 pub unreachable-requires : goal.unreachable-requires
 unreachable-requires g c =
@@ -52,12 +78,12 @@ returns-in-Err g c =
     let x : ℕ × Insn = (c.in-Ok.at, c.in-Ok.insn) in
     let one = steps located c.loop-step.code c.next.new.self c.in-Some.step x now.instructions now.read c.in-Some.ensures.steps c.in-Ok.is in
     let same : v ≡ left classes m frames (acts (located x ∷ one.others)) comes f = now.same ∙ ap (λ xs. left classes m frames (acts xs) comes f) one.all in
-    let came = subst (λ o. Enters classes comes f o (held c.enter.new.frame) c.enter.result) (c.find.ensures.frame ∙ ap (at_offset frames) c.from.ensures) c.enter.ensures.entered in
+    let came = subst (λ o. Enters classes comes f o (held c.enter.new.frame) c.enter.result) (c.find-declared.ensures.frame ∙ ap (at_offset frames) c.from.ensures) c.enter.ensures.entered in
     c.refuse.ensures v
     (stops_in classes m frames (x.0, act (view x.1)) (acts one.others) comes f v same (held c.enter.new.frame) c.enter.result c.in-Err.reason c.in-Err.is came)
 
-pub returns-in-Err-judge : goal.returns-in-Err-judge
-returns-in-Err-judge g c =
+pub returns-in-Err-judged : goal.returns-in-Err-judged
+returns-in-Err-judged g c =
     let classes = g.C.Classes.content c.args.classes.now in
     let m = method_view c.args.method.now in
     let frames = frames_in c.args.frames.now in
@@ -70,14 +96,14 @@ returns-in-Err-judge g c =
     let same : v ≡ left classes m frames (acts (located x ∷ one.others)) comes f = now.same ∙ ap (λ xs. left classes m frames (acts xs) comes f) one.all in
     let a : ℕ × Act = (x.0, act (view x.1)) in
     let g1 = held c.enter.new.frame in
-    let came = subst (λ o. Enters classes comes f o g1 c.enter.result) (c.find.ensures.frame ∙ ap (at_offset frames) c.from.ensures) c.enter.ensures.entered in
+    let came = subst (λ o. Enters classes comes f o g1 c.enter.result) (c.find-declared.ensures.frame ∙ ap (at_offset frames) c.from.ensures) c.enter.ensures.entered in
     let next = first_offset (acts one.others) in
     let done =
-    subst (λ b. Done (at_conditions classes m frames x.0 (plan_yet m b) next g1) (after m x.0 (plan_yet m b) g1) (held c.judge.new.frame) c.judge.result) c.act-act.ensures
-    (c.judge.ensures next (last_is c.next.new.self one.others one.read ∙ sym c.is_at_end-last.ensures)) in
-    c.refuse-in-Err-judge.ensures v
+    subst (λ b. Done (at_conditions classes m frames x.0 (plan_yet m b) next g1) (after m x.0 (plan_yet m b) g1) (held c.judge-judged.new.frame) c.judge-judged.result) c.act-act.ensures
+    (c.judge-judged.ensures.judged next (last_is c.next.new.self one.others one.read ∙ sym c.is_at_end-last.ensures)) in
+    c.refuse-in-Err-judged.ensures v
     (stops_at classes m frames a (acts one.others) comes f v same g1 c.enter.result c.in_default-enter.field-0 c.in_default-enter.is came
-    (held c.judge.new.frame) c.judge.result c.in-Err-judge.reason c.in-Err-judge.is done)
+    (held c.judge-judged.new.frame) c.judge-judged.result c.in-Err-judged.reason c.in-Err-judged.is done)
 
 pub loop-step-preserved : goal.loop-step-preserved
 loop-step-preserved g c =
@@ -93,25 +119,26 @@ loop-step-preserved g c =
     let same : v ≡ left classes m frames (acts (located x ∷ one.others)) comes f = now.same ∙ ap (λ xs. left classes m frames (acts xs) comes f) one.all in
     let a : ℕ × Act = (x.0, act (view x.1)) in
     let g1 = held c.enter.new.frame in
-    let came = subst (λ o. Enters classes comes f o g1 c.enter.result) (c.find.ensures.frame ∙ ap (at_offset frames) c.from.ensures) c.enter.ensures.entered in
+    let came = subst (λ o. Enters classes comes f o g1 c.enter.result) (c.find-declared.ensures.frame ∙ ap (at_offset frames) c.from.ensures) c.enter.ensures.entered in
     let next = first_offset (acts one.others) in
     let done =
-    subst (λ b. Done (at_conditions classes m frames x.0 (plan_yet m b) next g1) (after m x.0 (plan_yet m b) g1) (held c.judge.new.frame) c.judge.result) c.act-act.ensures
-    (c.judge.ensures next (last_is c.next.new.self one.others one.read ∙ sym c.is_at_end-last.ensures)) in
-    let well = subst (Done (at_conditions classes m frames x.0 (plan_yet m a.1) next g1) (after m x.0 (plan_yet m a.1) g1) (held c.judge.new.frame)) c.in_default-judge.is done in
+    subst (λ b. Done (at_conditions classes m frames x.0 (plan_yet m b) next g1) (after m x.0 (plan_yet m b) g1) (held c.judge-judged.new.frame) c.judge-judged.result) c.act-act.ensures
+    (c.judge-judged.ensures.judged next (last_is c.next.new.self one.others one.read ∙ sym c.is_at_end-last.ensures)) in
+    let well = subst (Done (at_conditions classes m frames x.0 (plan_yet m a.1) next g1) (after m x.0 (plan_yet m a.1) g1) (held c.judge-judged.new.frame)) c.in_default-judged.is done in
     record {
       left = record {
         instructions = one.others;
         read = one.read;
         same =
             goes_done classes m frames a (acts one.others) comes f v same g1 c.enter.result c.in_default-enter.field-0 c.in_default-enter.is came
-            (held c.judge.new.frame) c.judge.result c.in_default-judge.field-0 c.goes_on-comes.result
-            c.in_default-judge.is done (c.goes_on-comes.ensures ∙ ap goes_on c.act-act.ensures);
+            (held c.judge-judged.new.frame) c.judge-judged.result c.in_default-judged.field-0 c.goes_on-comes.result
+            c.in_default-judged.is done (c.goes_on-comes.ensures ∙ ap goes_on c.act-act.ensures);
         within = (step_within located c.loop-step.code c.next.new.self c.in-Some.step x c.in-Some.ensures.steps c.in-Ok.is).1 ∙ now.within;
       };
       locals =
-          keeps_length m x.0 (plan_yet m a.1) g1 (held c.judge.new.frame) c.args.method.now.code.now.max_locals
+          keeps_length m x.0 (plan_yet m a.1) g1 (held c.judge-judged.new.frame) c.args.method.now.code.now.max_locals
           (c.in_default-enter.ensures.locals ∙ c.loop-step.invariant.locals) well.outcome.1;
+      known = subst (λ (r : Result Unit Reason). OnOk r (IsKnown classes c.args.frames.now (held c.judge-judged.new.frame) c.judge-judged.new.known)) c.in_default-judged.is c.judge-judged.ensures.known;
     }
 
 pub returns : goal.returns

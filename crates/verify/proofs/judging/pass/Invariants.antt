@@ -3,6 +3,7 @@ use Rattle.frames.specs.DeclaredTables.{frames_in}
 use Rattle.rules.specs.Held.{held}
 use Rattle.rules.specs.Table.{plan_yet}
 use Rattle.rules.specs.Bodies.{method_view}
+use Rattle.verify.specs.Keeping.{IsKnown}
 use Rattle.verify.specs.Verdict.{code_judged}
 use Rattle.verify.proofs.Onward.{Remains}
 use Rattle.verify.proofs.judging.pass.Given as goal
@@ -13,6 +14,7 @@ invariant-loop-step g l = record {
       Remains (g.C.Classes.content l.classes) (method_view l.method) (frames_in l.frames) (length l.method.code.now.code.now) l.code l.comes (held l.frame)
       (code_judged plan_yet (g.C.Classes.content l.classes) (method_view l.method) (frames_in l.frames));
   locals : length (held l.frame).locals ≡ l.method.code.now.max_locals;
+  known : IsKnown (g.C.Classes.content l.classes) l.frames (held l.frame) l.known;
 }
 
 abbrev pub decreases-loop-step : goal.decreases-loop-step

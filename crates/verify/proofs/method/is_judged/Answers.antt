@@ -8,7 +8,7 @@ use Rattle.verify.proofs.method.is_judged.Goals as goal
 pub returns : goal.returns
 returns c =
     let m = c.args.method.now in
-    judged_by (code_method_view {A = ℕ} m []) c.is_empty.result c.if-not-method.false c.if-method.false
+    judged_by (code_method_view {A = ℕ} m []) c.is_empty.result c.if-method.false
     (tables_alike (class_view m.class.now) c.requires.formed m.number (code_view m.code.now) c.requires.coded
     ∙ empty_by handler_view m.code.now.exception_table.items m.code.now.exception_table.len m.code.now.exception_table.ok.0
     ∙ sym c.is_empty.ensures)

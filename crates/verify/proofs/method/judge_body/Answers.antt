@@ -1,9 +1,9 @@
 use Rattle.std.proofs.Common.{◌≡◌, Some, sym, ap, ◌∙◌, length, nat_lt, false, true, subst, inr, map}
-use Rattle.names.specs.Types.{type_of as descriptor_of}
+use Rattle.frames.specs.VerificationType.{type_of}
 use Rattle.frames.specs.Conditions.{with_fault}
 use Rattle.frames.specs.DeclaredTables.{frames_in}
 use Rattle.rules.specs.ReasonNumbers.{bad_stack_map}
-use Rattle.frames.specs.Slots.{descriptor_type, in_locals}
+use Rattle.frames.specs.Slots.{in_locals}
 use Rattle.rules.specs.Bodies.{method_view}
 use Rattle.rules.specs.Table.{plan_yet}
 use Rattle.verify.specs.Verdict.{verdict, told_of, frames_declared}
@@ -17,17 +17,17 @@ returns-in_default g c =
     let m = method_view c.args.method.now in
     c.refuse.ensures (verdict plan_yet classes m)
     (inr (ap told_of (too_narrow m c.requires.judged classes
-    (room_as m c.requires.judged (map descriptor_of c.args.parameters.now) c.requires.parameters true
+    (room_as m c.requires.judged (map type_of c.deref.result.now) (ap (map type_of) c.deref.ensures.value ∙ c.in_ok-types.ensures) true
     (when_none _ _ c.in_ok-locals.field-0 c.in_default.is c.in_ok-locals.ensures)))))
 
 pub returns-in-Err : goal.returns-in-Err
 returns-in-Err g c =
     let classes = g.C.Classes.content c.args.classes.now in
     let m = method_view c.args.method.now in
-    let types = map descriptor_type (map descriptor_of c.args.parameters.now) in
+    let types = map type_of c.deref.result.now in
     let fits : nat_lt c.args.method.now.code.now.max_locals (length (in_locals types)) ≡ false =
     (when_some _ _ c.in_ok-locals.field-0 c.in-Some.locals c.in-Some.is c.in_ok-locals.ensures).0 in
-    let wide = room_as m c.requires.judged (map descriptor_of c.args.parameters.now) c.requires.parameters false fits in
+    let wide = room_as m c.requires.judged types (ap (map type_of) c.deref.ensures.value ∙ c.in_ok-types.ensures) false fits in
     let told = subst (TellsFrames (frames_declared m)) c.in-Err.is c.in_ok-declared.ensures.told in
     c.refuse-in-Err.ensures (verdict plan_yet classes m)
     (inr (map_told m c.requires.judged classes wide told.0 told.1 ∙ ap (λ n. Some (0, with_fault bad_stack_map n)) (sym told.2)))
@@ -36,9 +36,9 @@ pub returns : goal.returns
 returns g c =
     let classes = g.C.Classes.content c.args.classes.now in
     let m = method_view c.args.method.now in
-    let types = map descriptor_type (map descriptor_of c.args.parameters.now) in
+    let types = map type_of c.deref.result.now in
     let fits : nat_lt c.args.method.now.code.now.max_locals (length (in_locals types)) ≡ false =
     (when_some _ _ c.in_ok-locals.field-0 c.in-Some.locals c.in-Some.is c.in_ok-locals.ensures).0 in
-    let wide = room_as m c.requires.judged (map descriptor_of c.args.parameters.now) c.requires.parameters false fits in
+    let wide = room_as m c.requires.judged types (ap (map type_of) c.deref.ensures.value ∙ c.in_ok-types.ensures) false fits in
     let told = subst (TellsFrames (frames_declared m)) c.in-Ok.is c.in_ok-declared.ensures.told in
     subst (λ z. Gives z c.pass.result) (sym (with_declared m c.requires.judged classes wide (frames_in c.in-Ok.frames) told)) c.pass.ensures

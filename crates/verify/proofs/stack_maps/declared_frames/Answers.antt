@@ -1,20 +1,16 @@
 use Rattle.std.proofs.Common.{◌≡◌, Some, None, Ok, Err, List, map, refl, sym, ◌∙◌, ap, subst}
 use Rattle.std.specs.Option.{option_map}
-use Rattle.names.specs.Types.{type_of as descriptor_of}
 use Rattle.insn.specs.Meanings.{Act}
 use Rattle.insn.specs.Offsets.{acts}
 use Rattle.insn.specs.Readings.{instructions_in}
 use Rattle.frames.specs.VerificationType.{VerificationType, type_of}
-use Rattle.frames.specs.Slots.{descriptor_type}
 use Rattle.frames.specs.Conditions.{reason}
 use Rattle.frames.specs.FrameReasons.{frame_fault_number}
 use Rattle.frames.specs.MapViews.{entry_of}
 use Rattle.frames.specs.DeclaredFrames.{declared_frames}
 use Rattle.frames.specs.DeclaredTables.{frames_in, IsDeclared}
 use Rattle.rules.specs.Bodies.{method_view}
-use Rattle.verify.specs.InitialFrames.{initial_types}
 use Rattle.verify.specs.Verdict.{unreadable, undeclared}
-use Rattle.verify.proofs.Judged.{parameters_alone}
 use Rattle.verify.proofs.MapReading.{unreadable_map, readable_map, fault_told}
 use Rattle.verify.proofs.stack_maps.declared_frames.Goals as goal
 
@@ -28,31 +24,27 @@ pub returns-in-Ok-declared-clause-told : goal.returns-in-Ok-declared-clause-told
 returns-in-Ok-declared-clause-told c =
     let m = method_view c.args.method.now in
     let here : m.stack_map ≡ Some c.in-Some.body.now = sym c.stack_map.ensures ∙ ap (option_map (λ b. b.now)) c.in-Some.is in
-    let same : map type_of c.in_ok-types.types.items ≡ initial_types m = c.in_ok-types.ensures ∙ ap (map descriptor_type) (sym c.requires.parameters) ∙ sym (parameters_alone m c.requires.judged) in
     let pool = m.constant_pool in
     let es = c.entries.result.now in
-    let ts = c.deref.result.now in
+    let ts = c.args.types.now in
     let given =
     ap (λ bytes. declared_frames pool (acts (instructions_in bytes)) m.max_locals m.max_stack (map type_of ts) (map entry_of es)) c.in_ok-starts.ensures
-    ∙ ap (λ types. declared_frames pool m.code m.max_locals m.max_stack (map type_of types) (map entry_of es)) c.deref.ensures.value
-    ∙ ap (λ entries. declared_frames pool m.code m.max_locals m.max_stack (map type_of c.in_ok-types.types.items) entries) c.entries.ensures in
+    ∙ ap (λ entries. declared_frames pool m.code m.max_locals m.max_stack (map type_of ts) entries) c.entries.ensures in
     let declared = subst (IsDeclared _) c.in-Ok-declared.is c.in_ok-declared.ensures.declared in
-    readable_map m c.in-Some.body.now here _ (map type_of c.in_ok-types.types.items) (Ok (frames_in c.in-Ok-declared.frames)) c.in-Ok.ensures.found same (sym given ∙ declared)
+    readable_map m c.in-Some.body.now here _ (map type_of ts) (Ok (frames_in c.in-Ok-declared.frames)) c.in-Ok.ensures.found c.requires.types (sym given ∙ declared)
 
 pub returns-clause-told : goal.returns-clause-told
 returns-clause-told c =
     let m = method_view c.args.method.now in
     let here : m.stack_map ≡ Some c.in-Some.body.now = sym c.stack_map.ensures ∙ ap (option_map (λ b. b.now)) c.in-Some.is in
-    let same : map type_of c.in_ok-types.types.items ≡ initial_types m = c.in_ok-types.ensures ∙ ap (map descriptor_type) (sym c.requires.parameters) ∙ sym (parameters_alone m c.requires.judged) in
     let pool = m.constant_pool in
     let es = c.entries.result.now in
-    let ts = c.deref.result.now in
+    let ts = c.args.types.now in
     let given =
     ap (λ bytes. declared_frames pool (acts (instructions_in bytes)) m.max_locals m.max_stack (map type_of ts) (map entry_of es)) c.in_ok-starts.ensures
-    ∙ ap (λ types. declared_frames pool m.code m.max_locals m.max_stack (map type_of types) (map entry_of es)) c.deref.ensures.value
-    ∙ ap (λ entries. declared_frames pool m.code m.max_locals m.max_stack (map type_of c.in_ok-types.types.items) entries) c.entries.ensures in
+    ∙ ap (λ entries. declared_frames pool m.code m.max_locals m.max_stack (map type_of ts) entries) c.entries.ensures in
     let declared = subst (IsDeclared _) c.in-Err-declared.is c.in_ok-declared.ensures.declared in (
       undeclared (reason (frame_fault_number c.in-Err-declared.fault)),
-      readable_map m c.in-Some.body.now here _ (map type_of c.in_ok-types.types.items) (Err (reason (frame_fault_number c.in-Err-declared.fault))) c.in-Ok.ensures.found same (sym given ∙ declared),
+      readable_map m c.in-Some.body.now here _ (map type_of ts) (Err (reason (frame_fault_number c.in-Err-declared.fault))) c.in-Ok.ensures.found c.requires.types (sym given ∙ declared),
       c.number.ensures,
     )

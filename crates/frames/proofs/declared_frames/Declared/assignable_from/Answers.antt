@@ -1,6 +1,10 @@
-use Rattle.std.proofs.Common.{◌≢◌, ◌≤◌, ◌∙◌, length, sym, arith}
+use Rattle.std.proofs.Common.{◌≢◌, ◌≤◌, ◌∙◌, true, length, map, sym, ap, arith}
 use Rattle.hierarchy.specs.Answer.{outcome_of}
-use Rattle.frames.specs.Chains.{types_at}
+use Rattle.frames.specs.VerificationType.{type_of}
+use Rattle.frames.specs.FrameAssignable.{slot_answer}
+use Rattle.frames.specs.Chains.{types_at, chain_answer, place}
+use Rattle.frames.proofs.Chains.{types_bottom}
+use Rattle.frames.proofs.Sharing.{shared_yes}
 use Rattle.frames.specs.DeclaredTables.{declared_view}
 use Rattle.frames.proofs.Comparison.{by_width, by_depth, by_locals, by_parts}
 use Rattle.frames.proofs.declared_frames.Declared.assignable_from.Goals as goal
@@ -18,6 +22,15 @@ returns-then-stack-sums g c =
     let links = d.chains.now.links.items in
     let other : length c.args.stack.now ≢ length (types_at links d.tops.stack) = λ e. c.if-stack-sums.true (e ∙ sym c.sums.ensures.count) in
     by_depth (g.C.Classes.content c.args.classes.now) c.args.locals.now c.args.stack.now c.args.flag links d.max_locals d.tops d.inside other
+
+pub chain_assignable-answer-requires : goal.chain_assignable-answer-requires
+chain_assignable-answer-requires g c =
+    let d = c.args.self.now in
+    shared_yes d (length (declared_view d).locals) c.args.locals.now c.shared-shared.result (g.C.Classes.content c.args.classes.now) c.args.fits c.requires c.shared-shared.ensures.other
+
+pub chain_assignable-requires : goal.chain_assignable-requires
+chain_assignable-requires g c =
+    ap (chain_answer (slot_answer (g.C.Classes.content c.args.classes.now) true) (place true) (map type_of c.args.stack.now)) (types_bottom c.args.self.now.chains.now.links.items)
 
 pub returns-in-No : goal.returns-in-No
 unfolding declared_view

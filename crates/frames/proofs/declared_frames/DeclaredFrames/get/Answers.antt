@@ -1,5 +1,5 @@
-use Rattle.std.proofs.Common.{sym, arith}
-use Rattle.frames.specs.DeclaredTables.{frames_in, locals_in, declared_view}
+use Rattle.std.proofs.Common.{refl, sym, arith}
+use Rattle.frames.specs.DeclaredTables.{frames_in, locals_in, declared_view, IsOf}
 use Rattle.frames.proofs.Finding.{fact_at, fact_past, locals_filled}
 use Rattle.frames.proofs.declared_frames.DeclaredFrames.get.Goals as goal
 
@@ -23,3 +23,7 @@ unfolding locals_in declared_view
 returns-clause-locals c =
     let t = c.args.self.now in
     locals_filled t.chains.links.items t.max_locals c.tops-tops.result (t.inside c.args.place c.tops-tops.result c.tops-tops.ensures)
+
+pub returns-clause-own : goal.returns-clause-own
+unfolding IsOf
+returns-clause-own c = (refl, refl)

@@ -1,0 +1,6 @@
+-- What the program's rows of the table of attributes are.
+use Rattle.classfile.specs.declared.layouts.Row as program
+use Rattle.classfile.specs.Layouts.{Row}
+
+abbrev pub row_view : program.Row → Row
+row_view r = record { name = r.name.now; first_major = r.first_major; once = r.once; counted = r.counted; columns = r.columns.now }

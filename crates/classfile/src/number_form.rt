@@ -1,0 +1,166 @@
+//! What may be wrong with the numbers in an attribute's body (JVMS 4.7): the indices among them, column by column.
+ghost use Rattle.std.specs.Prelude.{◌≡◌, if◌then◌else◌, Some, None, option_map};
+ghost use Rattle.classfile.specs.LayoutViews.{row_view};
+ghost use Rattle.classfile.specs.NumberForm.{is_bad_in, is_other_in, breaks, row_breaks, behind_row, rows_break, counted_break, is_plain, are_plain, body_breaks, numbers_break};
+
+use crate::indices::{ConstantKind, is_bad, is_bad_unless_zero, is_other};
+use crate::layouts::{Column, Row, row_at};
+use crate::location::Location;
+use pool::Pool;
+
+/// A rule that indices keep.
+#[derive(Clone, Copy, Debug, PartialEq, Eq)]
+pub enum IndexRule {
+    /// It may be looked up: 20.
+    BadIndex,
+    /// What stands there is of the kind that is asked: 21.
+    WrongKind,
+}
+
+fn is_bad_in(pool: &Pool<'_>, column: Column, number: u16) -> bool
+    ensures { result ≡ is_bad_in pool.now column number }
+{
+    match column {
+        Column::Plain => false,
+        Column::Text | Column::Class | Column::Value => is_bad(pool, number),
+        Column::TextOrZero | Column::ClassOrZero => is_bad_unless_zero(pool, number),
+    }
+}
+
+fn is_other_in(pool: &Pool<'_>, column: Column, number: u16) -> bool
+    ensures { result ≡ is_other_in pool.now column number }
+{
+    match column {
+        Column::Plain => false,
+        Column::Text | Column::TextOrZero => is_other(pool, ConstantKind::Utf8, number),
+        Column::Class | Column::ClassOrZero => is_other(pool, ConstantKind::Class, number),
+        Column::Value => is_other(pool, ConstantKind::Value, number),
+    }
+}
+
+fn breaks(pool: &Pool<'_>, rule: IndexRule, column: Column, number: u16) -> bool
+    ensures { result ≡ breaks pool.now rule column number }
+{
+    match rule {
+        IndexRule::BadIndex => is_bad_in(pool, column, number),
+        IndexRule::WrongKind => is_other_in(pool, column, number),
+    }
+}
+
+/// What stands behind a row of numbers, if none of them breaks the rule.
+fn sound_row<'b>(
+    pool: &Pool<'_>,
+    rule: IndexRule,
+    columns: &[Column],
+    bytes: &'b [u8],
+) -> Option<&'b [u8]>
+    ensures { option_map (λ b. b.now) result ≡ (if row_breaks (breaks pool.now rule) columns.now bytes.entry.now then None else Some (behind_row columns.now bytes.entry.now)) }
+{
+    let mut rest = bytes;
+    for column in columns {
+        let [high, low, behind @ ..] = rest else {
+            return Some(&[]);
+        };
+        if breaks(
+            pool,
+            rule,
+            *column,
+            u16::from(*high) * 256 + u16::from(*low),
+        ) {
+            return None;
+        }
+        rest = behind;
+    }
+    Some(rest)
+}
+
+/// Whether a number in one of so many rows breaks the rule.
+fn rows_break(
+    pool: &Pool<'_>,
+    rule: IndexRule,
+    columns: &[Column],
+    count: u16,
+    bytes: &[u8],
+) -> bool
+    ensures { result ≡ rows_break (breaks pool.now rule) columns.now count bytes.now }
+{
+    let mut rest = bytes;
+    for _ in 0..count {
+        let Some(behind) = sound_row(pool, rule, columns, rest) else {
+            return true;
+        };
+        rest = behind;
+    }
+    false
+}
+
+/// Whether a number in a count's rows breaks the rule.
+fn counted_break(pool: &Pool<'_>, rule: IndexRule, columns: &[Column], body: &[u8]) -> bool
+    ensures { result ≡ counted_break (breaks pool.now rule) columns.now body.now }
+{
+    let [high, low, bytes @ ..] = body else {
+        return false;
+    };
+    rows_break(
+        pool,
+        rule,
+        columns,
+        u16::from(*high) * 256 + u16::from(*low),
+        bytes,
+    )
+}
+
+fn is_plain(column: Column) -> bool
+    ensures { result ≡ is_plain column }
+{
+    matches!(column, Column::Plain)
+}
+
+/// Whether no number of a row is an index.
+fn are_plain(columns: &[Column]) -> bool
+    ensures { result ≡ are_plain columns.now }
+{
+    for column in columns {
+        if !is_plain(*column) {
+            return false;
+        }
+    }
+    true
+}
+
+fn body_breaks(pool: &Pool<'_>, rule: IndexRule, row: &Row, body: &[u8]) -> bool
+    ensures { result ≡ body_breaks (breaks pool.now rule) (row_view row.now) body.now }
+{
+    if row.counted {
+        counted_break(pool, rule, row.columns, body)
+    } else {
+        sound_row(pool, rule, row.columns, body).is_none()
+    }
+}
+
+/// The same, without a look at rows that have no index, as those of line numbers.
+fn indices_break(pool: &Pool<'_>, rule: IndexRule, row: &Row, body: &[u8]) -> bool
+    ensures { result ≡ body_breaks (breaks pool.now rule) (row_view row.now) body.now }
+{
+    if are_plain(row.columns) {
+        return false;
+    }
+    body_breaks(pool, rule, row, body)
+}
+
+/// Whether an index in the body of an attribute of this name breaks the rule.
+#[tactic(auto, unfolding(crate::specs::NumberForm::numbers_break))]
+pub fn numbers_break(
+    pool: &Pool<'_>,
+    location: Location,
+    rule: IndexRule,
+    name: u16,
+    body: &[u8],
+) -> bool
+    ensures { result ≡ numbers_break pool.now location rule name body.now }
+{
+    match row_at(pool, location, name) {
+        Some(row) => indices_break(pool, rule, row, body),
+        None => false,
+    }
+}

@@ -1,0 +1,230 @@
+-- Places that two chains share, and what the locals of a frame say of those of another.
+use Rattle.std.proofs.Common.{◌≡◌, ◌≢◌, ◌∙◌, ℕ, zero, suc, ◌+◌, ◌-◌, ◌≤◌, true, false, List, [], ◌∷◌, ◌++◌, map, length, take, get_or, replicate, reverse, Option, Some, None, IfSome, MatchOption, refl, sym, ap, subst, arith, append_assoc}
+use Rattle.std.proofs.lemmas.List.{length-map, length-append, length-replicate, map-append, reverse-append, take-map}
+use Rattle.std.proofs.Math.Seq.{take-append_seam}
+use Rattle.hierarchy.specs.Class.{ClassFact}
+use Rattle.hierarchy.specs.Answer.{Outcome, yes, no, missing}
+use Rattle.frames.specs.declared.vtype.VType.{VType}
+use Rattle.frames.specs.declared.vtype.VType.TheVariants.{Top}
+use Rattle.frames.specs.VerificationType.{VerificationType, type_of, top}
+use Rattle.frames.specs.Slots.{units_of, in_locals, all_locals}
+use Rattle.frames.specs.Assignable.{type_answer}
+use Rattle.frames.specs.FrameAssignable.{both, slot_answer, item_answer, list_answer, stack_answer, flag_answer, frame_answer}
+use Rattle.frames.specs.FrameFact.{FrameFact}
+use Rattle.frames.specs.HeldFrames.{held_locals}
+use Rattle.frames.specs.Chains.{link_at, types_at, below_of, down, AreLinked, IsOn, chain_answer, place, slots_at}
+use Rattle.frames.specs.DeclaredViews.{locals_at, fact_of, IsInside}
+use Rattle.frames.specs.DeclaredTables.{declared_view, IsOf, AreOfOne, AreKept, AreFit}
+use Rattle.frames.specs.declared.chain.Link.{Link}
+use Rattle.frames.specs.declared.after.FrameTops.{FrameTops}
+use Rattle.frames.specs.declared.declared_frames.DeclaredFrames.{DeclaredFrames}
+use Rattle.frames.specs.declared.declared_frames.Declared.{Declared}
+use Rattle.frames.proofs.Chains.{linked_lower, types_step, types_none, types_bottom}
+use Rattle.frames.proofs.Frames.{list_itself}
+use Rattle.frames.proofs.Walks.{in_append, units_in, locals_walked}
+use Rattle.frames.proofs.Finding.{locals_filled}
+use Rattle.frames.proofs.Comparison.{padded}
+
+-- ---- down a chain
+
+module _ (links : List Link) where
+  down_more : (n high : ℕ) → down links (suc n) high ≡ below_of (link_at links (down links n high))
+  down_more zero high = refl
+  down_more (suc n) high = down_more n (below_of (link_at links high))
+
+  pub on_itself : (high : ℕ) → IsOn links high high
+  on_itself high = record { steps = 0; leads = refl }
+
+  pub on_below : (high here below : ℕ) → below ≡ below_of (link_at links here) → IsOn links high here → IsOn links high below
+  on_below high here below e g = record { steps = suc g.steps; leads = down_more g.steps high ∙ ap (λ h. below_of (link_at links h)) g.leads ∙ sym e }
+
+  from_bottom : (n : ℕ) → down links n 0 ≡ 0
+  from_bottom zero = refl
+  from_bottom (suc n) = from_bottom n
+
+  pub on_step : (here floor : ℕ) (l : Link) → link_at links here ≡ Some l → here ≢ floor → IsOn links here floor → IsOn links l.below floor
+  on_step here floor l e ne g = by g.steps g.leads
+    where
+      by : (n : ℕ) → down links n here ≡ floor → IsOn links l.below floor
+      by zero k = absurd (ne k)
+      by (suc n) k = record { steps = n; leads = ap (λ o. down links n (below_of o)) (sym e) ∙ k }
+
+  -- where a chain ends, nothing is on it but the bottom
+  pub on_end : (here floor : ℕ) → link_at links here ≡ None → IsOn links here floor → types_at links here ≡ types_at links floor
+  on_end here floor e g = by g.steps g.leads
+    where
+      by : (n : ℕ) → down links n here ≡ floor → types_at links here ≡ types_at links floor
+      by zero k = ap (types_at links) k
+      by (suc n) k = types_none links here e ∙ sym (types_bottom links) ∙ ap (types_at links) (sym (from_bottom n) ∙ ap (λ o. down links n (below_of o)) (sym e) ∙ k)
+
+  module _ (k : AreLinked links) where
+    pub below_lower : (here : ℕ) → below_of (link_at links here) ≤ here - 1
+    below_lower here = by (link_at links here) refl
+      where
+        by : (o : Option Link) → link_at links here ≡ o → below_of o ≤ here - 1
+        by None e = omega arith
+        by (Some l) e = omega (arith, linked_lower links k here l e)
+
+    to_bottom : (n here : ℕ) → here ≤ n → down links n here ≡ 0
+    to_bottom zero here le = omega (arith, le)
+    to_bottom (suc n) here le = to_bottom n (below_of (link_at links here)) (omega (arith, le, below_lower here))
+
+    pub on_bottom : (high : ℕ) → IsOn links high 0
+    on_bottom high = record { steps = high; leads = to_bottom high high (omega arith) }
+
+    step_on : (n at here : ℕ) (o : Option Link) → link_at links at ≡ o → down links n (below_of o) ≡ here
+        → ((below : ℕ) → down links n below ≡ here → (us : List VerificationType) × (types_at links below ≡ us ++ types_at links here))
+        → (us : List VerificationType) × (types_at links at ≡ us ++ types_at links here)
+    step_on n at here None q e rec = ([], types_none links at q ∙ sym (types_bottom links) ∙ ap (types_at links) (sym (from_bottom n) ∙ e))
+    step_on n at here (Some l) q e rec = let r = rec l.below e in (type_of l.vtype ∷ r.0, types_step links k at l q ∙ ap (λ ts. type_of l.vtype ∷ ts) r.1)
+
+    types_down : (n at here : ℕ) → down links n at ≡ here → (us : List VerificationType) × (types_at links at ≡ us ++ types_at links here)
+    types_down zero at here e = ([], ap (types_at links) e)
+    types_down (suc n) at here e = step_on n at here (link_at links at) refl e (λ below q. types_down n below here q)
+
+    -- what lies on a place of the chain
+    pub types_on : (high here : ℕ) → IsOn links high here → (us : List VerificationType) × (types_at links high ≡ us ++ types_at links here)
+    types_on high here g = types_down g.steps high here g.leads
+
+-- ---- locals of a frame that shares a place
+
+both_left : (a b : Outcome) → both a b ≡ yes → a ≡ yes
+both_left yes b e = refl
+both_left no b e = e
+both_left (missing name) yes e = e
+both_left (missing name) no e = cc
+both_left (missing name) (missing _) e = e
+
+both_right : (a b : Outcome) → both a b ≡ yes → b ≡ yes
+both_right yes b e = e
+both_right no b e = cc
+both_right (missing name) yes e = refl
+both_right (missing name) no e = e
+both_right (missing name) (missing _) e = cc
+
+as_many : (f : VerificationType → VerificationType → Outcome) (xs ys : List VerificationType) → list_answer f xs ys ≡ yes → length xs ≡ length ys
+as_many f [] [] e = refl
+as_many f [] (y ∷ ys) e = cc
+as_many f (x ∷ xs) [] e = cc
+as_many f (x ∷ xs) (y ∷ ys) e = ap suc (as_many f xs ys (both_right (f x y) (list_answer f xs ys) e))
+
+lower_yes : (f : VerificationType → VerificationType → Outcome) (place : List VerificationType → ℕ) (xs us ts : List VerificationType) → chain_answer f place xs (us ++ ts) ≡ yes → chain_answer f place xs ts ≡ yes
+lower_yes f place xs [] ts e = e
+lower_yes f place xs (u ∷ us) ts e = lower_yes f place xs us ts (both_left (chain_answer f place xs (us ++ ts)) (f (get_or xs (place (us ++ ts)) top) u) e)
+
+take_tops : (n k : ℕ) → n ≤ k → take n (replicate k top) ≡ replicate n top
+take_tops zero k le = refl
+take_tops (suc n) zero le = absurd (omega (arith, le))
+take_tops (suc n) (suc k) le = ap (λ l. top ∷ l) (take_tops n k (omega (arith, le)))
+
+take_padded : (xs : List VerificationType) (n k : ℕ) → n ≤ length xs + k → take n (xs ++ replicate k top) ≡ take n xs ++ replicate (n - length xs) top
+take_padded [] zero k le = refl
+take_padded [] (suc n) k le = let e : suc n - 0 ≡ suc n = omega arith in rw e (take_tops (suc n) k (omega (arith, le)))
+take_padded (x ∷ xs) zero k le = let e : zero - length (x ∷ xs) ≡ 0 = omega arith in rw e refl
+take_padded (x ∷ xs) (suc n) k le =
+    let e : suc n - length (x ∷ xs) ≡ n - length xs = omega arith in
+    rw e (ap (λ l. x ∷ l) (take_padded xs n k (omega (arith, le))))
+
+tops : (k : ℕ) → map type_of (replicate k Top) ≡ replicate k top
+tops zero = refl
+tops (suc k) = ap (λ z. top ∷ z) (tops k)
+
+module _ (links : List Link) (k : AreLinked links) (n m : ℕ) (f : FrameTops) (shared : ℕ) (on : IsOn links f.locals shared) (locals : List VType) (same : held_locals locals m ≡ (fact_of links n f).locals) where
+  abbrev above : List VerificationType
+  above = (types_on links k f.locals shared on).0
+
+  abbrev pub lower : List VerificationType
+  lower = in_locals (reverse (types_at links shared))
+
+  abbrev rest : List VerificationType
+  rest = in_locals (reverse above) ++ replicate (n - length (in_locals (locals_at links f.locals))) top
+
+  parts : (fact_of links n f).locals ≡ lower ++ rest
+  unfolding fact_of locals_at
+  parts =
+      let e = (types_on links k f.locals shared on).1 in
+      ap (λ l. l ++ replicate (n - length (in_locals (reverse (types_at links f.locals)))) top)
+      (ap (λ ts. in_locals (reverse ts)) e ∙ ap in_locals (reverse-append above (types_at links shared)) ∙ in_append (reverse (types_at links shared)) (reverse above))
+      ∙ append_assoc lower (in_locals (reverse above)) (replicate (n - length (in_locals (reverse (types_at links f.locals)))) top)
+
+  pub kept_written : (u : ℕ) → u ≡ units_of (types_at links shared) → map type_of (take u locals ++ replicate (u - length locals) Top) ≡ lower
+  kept_written u e =
+      let xs = map type_of locals in
+      let size : u ≡ length lower = e ∙ sym (units_in (types_at links shared)) in
+      let long : u ≤ length xs + (m - length locals) =
+      omega (arith, size, length-append lower rest, ap length (same ∙ parts), length-append xs (replicate (m - length locals) top), length-replicate (m - length locals) top) in
+      map-append type_of (take u locals) (replicate (u - length locals) Top)
+      ∙ ap (λ l. l ++ map type_of (replicate (u - length locals) Top)) (sym (take-map type_of u locals))
+      ∙ ap (λ l. take u xs ++ l) (tops (u - length locals) ∙ ap (λ q. replicate (u - q) top) (sym (length-map locals type_of)))
+      ∙ sym (take_padded xs u (m - length locals) long)
+      ∙ ap (take u) (same ∙ parts) ∙ ap (λ q. take q (lower ++ rest)) size ∙ take-append_seam lower rest
+
+-- ---- frames of one table
+
+module _ (d : Declared) (m : ℕ) (locals : List VType) (shared : ℕ) where
+  abbrev links : List Link
+  links = d.chains.now.links.items
+
+  -- where the locals are those of another frame, from this place down it shares them
+  abbrev pub IsShared : Option Declared → Type 0
+  IsShared kept = MatchOption kept (shared ≡ 0) (λ k. IsOn links k.tops.locals shared)
+
+  seen_here : (k : Declared) → AreKept d (held_locals locals m) k → held_locals locals m ≡ (fact_of links k.max_locals k.tops).locals
+  unfolding AreOfOne declared_view
+  seen_here k a = a.same ∙ ap (λ (l : List Link). (fact_of l k.max_locals k.tops).locals) a.of_one.0
+
+  none_left : shared ≡ 0 → types_at links shared ≡ []
+  none_left e = ap (types_at links) e ∙ types_bottom links
+
+  fit_here : (h : List ClassFact) (k : Declared) → AreFit h d (held_locals locals m) k → list_answer (type_answer h) (held_locals locals m) (fact_of links k.max_locals k.tops).locals ≡ yes
+  unfolding AreOfOne declared_view
+  fit_here h k a = ap (λ (l : List Link). list_answer (type_answer h) (held_locals locals m) (fact_of l k.max_locals k.tops).locals) (sym a.of_one.0) ∙ a.answer
+
+  inside_here : (k : Declared) → AreOfOne k d → IsInside links k.max_locals k.tops
+  unfolding AreOfOne
+  inside_here k o = subst (λ (l : List Link). IsInside l k.max_locals k.tops) o.0 k.inside
+
+  fit_yes : (h : List ClassFact) (k : Declared) → AreFit h d (held_locals locals m) k → IsOn links k.tops.locals shared
+      → chain_answer (slot_answer h false) (place false) (map type_of locals) (types_at links shared) ≡ yes
+  unfolding fact_of locals_at
+  fit_yes h k a e =
+      let xs = held_locals locals m in
+      let inside = inside_here k a.of_one in
+      let on = types_on links d.chains.now.linked k.tops.locals shared e in
+      let size : k.max_locals ≡ length xs = sym (as_many (type_answer h) xs (fact_of links k.max_locals k.tops).locals (fit_here h k a) ∙ locals_filled links k.max_locals k.tops inside) in
+      sym (padded (slot_answer h false) (place false) (map type_of locals) (m - length locals) (types_at links shared))
+      ∙ lower_yes (slot_answer h false) (place false) xs on.0 (types_at links shared)
+      (ap (chain_answer (slot_answer h false) (place false) xs) (sym on.1) ∙ sym (locals_walked h xs (types_at links k.tops.locals) k.max_locals size inside.units) ∙ fit_here h k a)
+
+  pub shared_yes : (h : List ClassFact) (fits : Option Declared) → IfSome fits (AreFit h d (held_locals locals m)) → IsShared fits
+      → chain_answer (slot_answer h false) (place false) (map type_of locals) (types_at links shared) ≡ yes
+  shared_yes h None a e = ap (chain_answer (slot_answer h false) (place false) (map type_of locals)) (none_left e)
+  shared_yes h (Some k) a e = fit_yes h k a e
+
+  pub shared_written : (u : ℕ) (kept : Option Declared) → u ≡ units_of (types_at links shared) → IfSome kept (AreKept d (held_locals locals m)) → IsShared kept
+      → map type_of (take u locals ++ replicate (u - length locals) Top) ≡ slots_at links true shared
+  shared_written u None q a e =
+      let none : u ≡ 0 = q ∙ ap units_of (none_left e) in
+      let rest : u - length locals ≡ 0 = omega (arith, none) in
+      rw (none_left e, rest, none) refl
+  shared_written u (Some k) q a e = kept_written links d.chains.now.linked k.max_locals m k.tops shared e locals (seen_here k a) u q
+
+pub are_of_one : (t : DeclaredFrames) (d e : Declared) → IsOf t d → IsOf t e → AreOfOne d e
+unfolding IsOf AreOfOne
+are_of_one t d e p q = (p.0 ∙ sym q.0, p.1 ∙ sym q.1)
+
+-- what a frame answers to another, the locals answer too
+pub locals_fit : (h : List ClassFact) (f g : FrameFact) → frame_answer h f g ≡ yes → list_answer (type_answer h) f.locals g.locals ≡ yes
+locals_fit h f g e =
+    let locals = list_answer (type_answer h) f.locals g.locals in
+    let stack = stack_answer (item_answer h) f.stack g.stack in
+    both_left locals stack (both_right (flag_answer f.flag g.flag) (both locals stack) e)
+
+pub own_fit : (h : List ClassFact) (xs : List VerificationType) → list_answer (type_answer h) xs xs ≡ yes
+own_fit h xs = list_itself h xs
+
+pub same_locals : (d e : Declared) → d.tops.locals ≡ e.tops.locals → AreOfOne d e → (declared_view d).locals ≡ (declared_view e).locals
+unfolding AreOfOne declared_view fact_of
+same_locals d e p o =
+    ap (λ (l : List Link). all_locals d.max_locals (locals_at l d.tops.locals)) o.0
+    ∙ ap (λ n. all_locals n (locals_at e.chains.now.links.items d.tops.locals)) o.1 ∙ ap (λ at. all_locals e.max_locals (locals_at e.chains.now.links.items at)) p

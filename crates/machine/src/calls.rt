@@ -1,0 +1,247 @@
+//! Calls of methods (JVMS 6.5).
+ghost use Rattle.std.specs.Prelude.{◌≡◌, ◌++◌, [], ◌∷◌, length, map, IfOk, OnOk, None, Some, false, option_map, option_to_list};
+ghost use Rattle.names.specs.Descriptors.{MethodDescriptor, method_width};
+ghost use Rattle.names.specs.ReferenceTypes.{class_type, is_class_type};
+ghost use Rattle.names.specs.Types.{type_of, method_of};
+ghost use Rattle.pool.specs.Members.{method_at};
+ghost use Rattle.machine.specs.Tasks.{of_type, arguments_on, reply_of, is_init_name, may_name, static_call, call_on, invoke_static, invoke_virtual, may_invoke_interface, invoke_interface, constructor_call, special_call, invoke_special};
+ghost use Rattle.machine.specs.private.Constants.{constant_view};
+ghost use Rattle.machine.specs.private.Deeds.{need_view, needs_view, reply_view, task_view};
+ghost use Rattle.machine.specs.Bodies.{method_view};
+ghost use Rattle.machine.specs.Views.{run_type_view};
+
+use crate::body::Method;
+use crate::constants::{MethodConstant, method_at};
+use crate::deed::{Deed, Need, Operation, Reply, operates};
+use crate::objects::RunType;
+use crate::operands::need_of;
+use insn::Branches;
+use names::{FieldType, INIT};
+use pool::Pool;
+use std::alloc::{AllocError, Global};
+
+// Pushes what is needed of the arguments, that of the last one first.
+fn push_arguments<'a>(params: &[FieldType<'a>], needs: &mut Vec<Need<'a>>) -> Result<(), AllocError>
+    ensures { OnOk result (needs_view needs.new.items ≡ needs_view needs.old.items ++ arguments_on (map type_of params.now) []) }
+{
+    match params {
+        [] => Ok(()),
+        [param, params @ ..] => {
+            push_arguments(params, needs)?;
+            needs.push(need_of(*param))?;
+            Ok(())
+        }
+    }
+}
+
+// What is needed of the arguments, the last one on top, and of the receiver beneath them, if there is one.
+fn arguments_on<'a>(
+    alloc: Global,
+    params: &[FieldType<'a>],
+    receiver: Option<Need<'a>>,
+) -> Result<Vec<Need<'a>>, AllocError>
+    ensures { IfOk result (λ v. needs_view v.items ≡ arguments_on (map type_of params.now) (option_to_list (option_map need_view receiver.entry))) }
+{
+    let mut needs = Vec::new(alloc);
+    push_arguments(params, &mut needs)?;
+    match receiver {
+        None => Ok(needs),
+        Some(need) => {
+            needs.push(need)?;
+            Ok(needs)
+        }
+    }
+}
+
+fn reply_of(result_type: Option<FieldType<'_>>) -> Reply<'_>
+    ensures { reply_view result ≡ reply_of (option_map type_of result_type.entry) }
+{
+    match result_type {
+        None => Reply::Nothing,
+        Some(t) => Reply::Answer(t),
+    }
+}
+
+// A call without a receiver.
+fn static_call<'a>(alloc: Global, constant: &MethodConstant<'a>) -> Result<Deed<'a>, AllocError>
+    ensures { IfOk result (λ d. task_view d ≡ static_call (constant_view constant.now)) }
+{
+    let called = &constant.method_type;
+    let needs = arguments_on(alloc, &called.params, None)?;
+    Ok(operates(needs, None, reply_of(called.result)))
+}
+
+// A call on a receiver of the type.
+fn call_on<'a>(
+    alloc: Global,
+    receiver: RunType<'a>,
+    constant: &MethodConstant<'a>,
+) -> Result<Operation<'a>, AllocError>
+    ensures { let t = method_of constant.now.method_type in
+        IfOk result (λ o. (needs_view o.needs.items ≡ arguments_on t.params (of_type (run_type_view receiver.entry) ∷ [])) × (o.live ≡ Some (length t.params)) × (reply_view o.reply ≡ reply_of t.result)) }
+{
+    let called = &constant.method_type;
+    Ok(Operation {
+        needs: arguments_on(alloc, &called.params, Some(Need::Type(receiver)))?,
+        live: Some(called.params.len()),
+        reply: reply_of(called.result),
+    })
+}
+
+// A call on a receiver of the type, which goes on.
+fn object_call<'a>(alloc: Global, constant: &MethodConstant<'a>) -> Result<Deed<'a>, AllocError>
+    ensures { let c = constant_view constant.now in IfOk result (λ d. task_view d ≡ call_on c.class c) }
+{
+    Ok(Deed::Operates {
+        operation: call_on(alloc, constant.class, constant)?,
+        branches: Branches::Nowhere,
+        falls: true,
+    })
+}
+
+fn is_class(run_type: RunType<'_>) -> bool
+    ensures { result ≡ is_class_type (run_type_view run_type.entry) }
+{
+    matches!(run_type, RunType::Class(_))
+}
+
+fn is_init_name(constant: &MethodConstant<'_>) -> bool
+    ensures { result ≡ is_init_name (constant_view constant.now) }
+{
+    constant.name == INIT
+}
+
+// Methods of interfaces are called by other instructions than `invokeinterface` from version 52 on.
+fn may_name(major: u16, interface: bool) -> bool
+    ensures { result ≡ may_name major interface }
+{
+    !interface || major > 51
+}
+
+/// `invokestatic`
+pub fn invoke_static<'a>(
+    alloc: Global,
+    method: &Method<'_, 'a>,
+    index: u16,
+) -> Result<Deed<'a>, AllocError>
+    ensures { let m = method_view method.now in IfOk result (λ d. task_view d ≡ invoke_static m.major_version (method_at m.constant_pool index)) }
+{
+    let Some(constant) = method_at(alloc, method.pool(), index)? else {
+        return Ok(Deed::Stuck);
+    };
+    if is_class(constant.class)
+        && !is_init_name(&constant)
+        && may_name(method.class.major_version, constant.interface)
+    {
+        static_call(alloc, &constant)
+    } else {
+        Ok(Deed::Stuck)
+    }
+}
+
+/// `invokevirtual`
+pub fn invoke_virtual<'a>(
+    alloc: Global,
+    pool: &Pool<'a>,
+    index: u16,
+) -> Result<Deed<'a>, AllocError>
+    ensures { IfOk result (λ d. task_view d ≡ invoke_virtual (method_at pool.now index)) }
+{
+    let Some(constant) = method_at(alloc, pool, index)? else {
+        return Ok(Deed::Stuck);
+    };
+    if !constant.interface && !is_init_name(&constant) && constant.units < 255 {
+        object_call(alloc, &constant)
+    } else {
+        Ok(Deed::Stuck)
+    }
+}
+
+// Whether `invokeinterface` may call it with this count: that of its arguments and its receiver.
+fn may_invoke_interface(count: u8, constant: &MethodConstant<'_>) -> bool
+    requires { let c = constant.now in c.units ≡ method_width (method_of c.method_type) false }
+    ensures { result ≡ may_invoke_interface count (constant_view constant.now) }
+{
+    is_class(constant.class)
+        && constant.interface
+        && !is_init_name(constant)
+        && constant.units < 255
+        && u16::from(count) == constant.units + 1
+}
+
+/// `invokeinterface`: its count is the width of the arguments and the receiver.
+pub fn invoke_interface<'a>(
+    alloc: Global,
+    pool: &Pool<'a>,
+    index: u16,
+    count: u8,
+) -> Result<Deed<'a>, AllocError>
+    ensures { IfOk result (λ d. task_view d ≡ invoke_interface count (method_at pool.now index)) }
+{
+    let Some(constant) = method_at(alloc, pool, index)? else {
+        return Ok(Deed::Stuck);
+    };
+    if may_invoke_interface(count, &constant) {
+        object_call(alloc, &constant)
+    } else {
+        Ok(Deed::Stuck)
+    }
+}
+
+// A call of an instance initialization method.
+fn constructor_call<'a>(
+    alloc: Global,
+    constant: &MethodConstant<'a>,
+) -> Result<Deed<'a>, AllocError>
+    requires { let c = constant.now in c.units ≡ method_width (method_of c.method_type) false }
+    ensures { let c = constant_view constant.now in IfOk result (λ d. task_view d ≡ constructor_call c c.class) }
+{
+    let RunType::Class(class) = constant.class else {
+        return Ok(Deed::Stuck);
+    };
+    if constant.interface || constant.units >= 255 {
+        return Ok(Deed::Stuck);
+    }
+    let needs = arguments_on(alloc, &constant.method_type.params, None)?;
+    Ok(Deed::Initializes { class, needs })
+}
+
+// A call of another method of the class or of one above it.
+fn special_call<'a>(
+    alloc: Global,
+    method: &Method<'_, 'a>,
+    constant: &MethodConstant<'a>,
+) -> Result<Deed<'a>, AllocError>
+    requires { let c = constant.now in c.units ≡ method_width (method_of c.method_type) false }
+    ensures { let m = method_view method.now in IfOk result (λ d. task_view d ≡ special_call m.major_version m.class (constant_view constant.now)) }
+{
+    if !is_class(constant.class)
+        || constant.units >= 255
+        || !may_name(method.class.major_version, constant.interface)
+    {
+        return Ok(Deed::Stuck);
+    }
+    let me = RunType::Class(method.class_name());
+    Ok(Deed::CallsSpecial {
+        class: constant.class,
+        operation: call_on(alloc, me, constant)?,
+    })
+}
+
+/// `invokespecial`, of an instance initialization method or another one.
+pub fn invoke_special<'a>(
+    alloc: Global,
+    method: &Method<'_, 'a>,
+    index: u16,
+) -> Result<Deed<'a>, AllocError>
+    ensures { let m = method_view method.now in IfOk result (λ d. task_view d ≡ invoke_special m.major_version m.class (method_at m.constant_pool index)) }
+{
+    let Some(constant) = method_at(alloc, method.pool(), index)? else {
+        return Ok(Deed::Stuck);
+    };
+    if is_init_name(&constant) {
+        constructor_call(alloc, &constant)
+    } else {
+        special_call(alloc, method, &constant)
+    }
+}

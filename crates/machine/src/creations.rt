@@ -1,0 +1,143 @@
+//! Objects, arrays and casts (JVMS 6.5).
+ghost use Rattle.std.specs.Prelude.{◌≡◌, ◌<◌, IfOk};
+ghost use Rattle.names.specs.ReferenceTypes.{array_type, descriptor_of, dimensions_of};
+ghost use Rattle.pool.specs.Members.{class_at};
+ghost use Rattle.machine.specs.Tasks.{new_object, new_array, new_reference_array, new_multi_array, check_cast, instance_of, sizes};
+ghost use Rattle.machine.specs.private.Deeds.{needs_view, task_view};
+ghost use Rattle.machine.specs.Views.{run_type_view};
+
+use crate::constants::class_at;
+use crate::deed::{Deed, Need, Reply, operates};
+use crate::objects::RunType;
+use insn::Kind;
+use names::{Base, OBJECT, Primitive};
+use pool::Pool;
+use std::alloc::{AllocError, Global};
+
+/// `new`
+pub fn new_object<'a>(pool: &Pool<'a>, index: u16) -> Deed<'a>
+    ensures { task_view result ≡ new_object (class_at pool.now index) }
+{
+    match class_at(pool, index) {
+        Some(RunType::Class(name)) => Deed::Creates(name),
+        Some(RunType::Array { .. }) | None => Deed::Stuck,
+    }
+}
+
+// The sizes of so many dimensions.
+fn sizes<'a>(alloc: Global, count: u8) -> Result<Vec<Need<'a>>, AllocError>
+    ensures { IfOk result (λ v. needs_view v.items ≡ sizes count) }
+{
+    let mut needs = Vec::new(alloc);
+    for _ in 0..count {
+        needs.push(Need::Number(Kind::Int))?;
+    }
+    Ok(needs)
+}
+
+/// `newarray`
+pub fn new_array<'a>(alloc: Global, element: Option<Primitive>) -> Result<Deed<'a>, AllocError>
+    ensures { IfOk result (λ d. task_view d ≡ new_array element) }
+{
+    match element {
+        None => Ok(Deed::Stuck),
+        Some(primitive) => Ok(Deed::MakesArray {
+            needs: vec![in alloc; Need::Number(Kind::Int)]?,
+            made: RunType::Array {
+                dims: 1,
+                base: Base::Primitive(primitive),
+            },
+        }),
+    }
+}
+
+// How many dimensions it has.
+fn dimensions_of(run_type: RunType<'_>) -> u8
+    ensures { result ≡ dimensions_of (run_type_view run_type.entry) }
+{
+    match run_type {
+        RunType::Class(_) => 0,
+        RunType::Array { dims, .. } => dims.max(1),
+    }
+}
+
+// The arrays of the type.
+fn array_of(run_type: RunType<'_>) -> RunType<'_>
+    requires { dimensions_of (run_type_view run_type) < 255 }
+    ensures { run_type_view result ≡ array_type (descriptor_of (run_type_view run_type.entry)) }
+{
+    match run_type {
+        RunType::Class(name) => RunType::Array {
+            dims: 1,
+            base: Base::Class(name),
+        },
+        RunType::Array { dims, base } => RunType::Array {
+            dims: dims.max(1) + 1,
+            base,
+        },
+    }
+}
+
+/// `anewarray`
+pub fn new_reference_array<'a>(
+    alloc: Global,
+    pool: &Pool<'a>,
+    index: u16,
+) -> Result<Deed<'a>, AllocError>
+    ensures { IfOk result (λ d. task_view d ≡ new_reference_array (class_at pool.now index)) }
+{
+    let Some(element) = class_at(pool, index) else {
+        return Ok(Deed::Stuck);
+    };
+    if dimensions_of(element) < 255 {
+        Ok(Deed::MakesArray {
+            needs: vec![in alloc; Need::Number(Kind::Int)]?,
+            made: array_of(element),
+        })
+    } else {
+        Ok(Deed::Stuck)
+    }
+}
+
+/// `multianewarray`
+pub fn new_multi_array<'a>(
+    alloc: Global,
+    pool: &Pool<'a>,
+    index: u16,
+    dimensions: u8,
+) -> Result<Deed<'a>, AllocError>
+    ensures { IfOk result (λ d. task_view d ≡ new_multi_array dimensions (class_at pool.now index)) }
+{
+    let Some(made) = class_at(pool, index) else {
+        return Ok(Deed::Stuck);
+    };
+    if 0 < dimensions && !(dimensions_of(made) < dimensions) {
+        Ok(Deed::MakesArray {
+            needs: sizes(alloc, dimensions)?,
+            made,
+        })
+    } else {
+        Ok(Deed::Stuck)
+    }
+}
+
+/// `checkcast`
+pub fn check_cast<'a>(pool: &Pool<'a>, index: u16) -> Deed<'a>
+    ensures { task_view result ≡ check_cast (class_at pool.now index) }
+{
+    match class_at(pool, index) {
+        None => Deed::Stuck,
+        Some(run_type) => Deed::Passes(run_type),
+    }
+}
+
+/// `instanceof`
+pub fn instance_of<'a>(alloc: Global, pool: &Pool<'a>, index: u16) -> Result<Deed<'a>, AllocError>
+    ensures { IfOk result (λ d. task_view d ≡ instance_of (class_at pool.now index)) }
+{
+    if class_at(pool, index).is_none() {
+        return Ok(Deed::Stuck);
+    }
+    let needs = vec![in alloc; Need::Type(RunType::Class(OBJECT))]?;
+    Ok(operates(needs, None, Reply::Number(Kind::Int)))
+}

@@ -1,0 +1,183 @@
+use crate::making::{K, are_written};
+use classfile::{
+    Attribute, ClassFile, CodeAttr, Member, NestedAttribute, class_or_fault, decode, encode,
+    formed_has_names, formed_or_faulty, least_rule_is_told, no_fault_in_class, no_fault_in_formed,
+    one_class, one_fault, one_first_fault, one_spelling, tests_are_forms,
+};
+use layout::{ReadFault, WriteFault};
+use std::alloc::{AllocError, Global};
+use std::test::*;
+
+/// The class with a StackMapTable of no frames in its Code attribute.
+const MAPPED: [u8; 121] = [
+    0xCA, 0xFE, 0xBA, 0xBE, 0, 0, 0, 0x34, 0, 9, 7, 0, 2, 1, 0, 1, 0x4B, 7, 0, 4, 1, 0, 0x10, 0x6A,
+    0x61, 0x76, 0x61, 0x2F, 0x6C, 0x61, 0x6E, 0x67, 0x2F, 0x4F, 0x62, 0x6A, 0x65, 0x63, 0x74, 1, 0,
+    1, 0x66, 1, 0, 3, 0x28, 0x29, 0x56, 1, 0, 4, 0x43, 0x6F, 0x64, 0x65, 1, 0, 0x0D, 0x53, 0x74,
+    0x61, 0x63, 0x6B, 0x4D, 0x61, 0x70, 0x54, 0x61, 0x62, 0x6C, 0x65, 0, 0x21, 0, 1, 0, 3, 0, 0, 0,
+    0, 0, 1, 0, 9, 0, 5, 0, 6, 0, 1, 0, 7, 0, 0, 0, 0x15, 0, 0, 0, 0, 0, 0, 0, 1, 0xB1, 0, 0, 0, 1,
+    0, 8, 0, 0, 0, 2, 0, 0, 0, 0,
+];
+
+#[test]
+fn laws_are_called() {
+    one_class();
+    one_spelling();
+    class_or_fault();
+    no_fault_in_class();
+    one_fault();
+    least_rule_is_told();
+    formed_or_faulty();
+    one_first_fault();
+    no_fault_in_formed();
+    tests_are_forms();
+    formed_has_names();
+}
+
+fn is_head(class: &ClassFile<'_>) -> bool {
+    matches!(
+        (
+            class.minor_version,
+            class.major_version,
+            class.access_flags,
+            class.this_class,
+            class.super_class
+        ),
+        (0, 52, 0x21, 1, 3)
+    ) && class.constant_pool.constants().len() == 8
+}
+
+fn is_code(code: &CodeAttr<'_>) -> bool {
+    code.max_stack == 0
+        && code.max_locals == 0
+        && code.code == [0xB1].as_slice()
+        && matches!(
+            code.attributes.as_slice(),
+            [NestedAttribute::StackMapTable {
+                name: 8,
+                body: [0, 0]
+            }]
+        )
+}
+
+fn has_method(class: &ClassFile<'_>) -> bool {
+    match class.methods.as_slice() {
+        [method] => matches!(method.code(), Some(code) if is_code(code)),
+        _ => false,
+    }
+}
+
+/// Whether the class is read and written; or memory ran out, where it may.
+fn is_read(alloc: Global, may_fail: bool) -> bool {
+    match decode(alloc, &MAPPED) {
+        Ok(class) => {
+            is_head(&class)
+                && has_method(&class)
+                && are_written(encode(alloc, &class), &MAPPED, may_fail)
+        }
+        Err(fault) => may_fail && matches!(fault, ReadFault::OutOfMemory),
+    }
+}
+
+#[test]
+fn a_class_both_ways(rt: HostRuntime) {
+    assert!(rt; is_read(rt.alloc(), false));
+}
+
+/// Where memory runs out each call answers 1, and otherwise as ever.
+#[test]
+fn memory_runs_out(rt: HostRuntime) {
+    assert!(rt; is_read(rt.alloc(), true));
+}
+
+/// Why K with this version and so many interfaces is not written, if it is not.
+fn write_fault(alloc: Global, major: u16, interfaces: usize) -> Option<WriteFault> {
+    let mut class = decode(alloc, &K).ok()?;
+    class.major_version = major;
+    class.interfaces.resize(interfaces, 0).ok()?;
+    encode(alloc, &class).err()
+}
+
+/// 17 goes before 18: a class with too many interfaces, and a version that no class has.
+#[test]
+fn refused_to_write(rt: HostRuntime) {
+    let alloc = rt.alloc();
+    assert!(rt; write_fault(alloc, 50, 0) == Some(WriteFault::HasNoSpelling));
+    assert!(rt; write_fault(alloc, 50, 65_536) == Some(WriteFault::DoesNotFit));
+    assert!(rt; write_fault(alloc, 51, 65_536) == Some(WriteFault::DoesNotFit));
+}
+
+/// Attributes of which one is named `Code`, with a body that is none.
+fn raw_code(alloc: Global) -> Result<Vec<Attribute<'static>>, AllocError> {
+    let raw = Attribute::Raw {
+        name: 7,
+        body: &[1, 2],
+    };
+    let mut attributes = Vec::new(alloc);
+    attributes.push(raw)?;
+    Ok(attributes)
+}
+
+/// K with such attributes of the class, or of its method.
+fn with_raw_code(alloc: Global, of_method: bool) -> Option<ClassFile<'static>> {
+    let mut class = decode(alloc, &K).ok()?;
+    let attributes = raw_code(alloc).ok()?;
+    match class.methods.first_mut() {
+        Some(method) if of_method => method.attributes = attributes,
+        _ => class.attributes = attributes,
+    }
+    Some(class)
+}
+
+/// Whether that class is written, or no bytes spell it; nothing where memory runs out.
+fn is_raw_written(alloc: Global, of_method: bool) -> Option<bool> {
+    let class = with_raw_code(alloc, of_method)?;
+    match encode(alloc, &class) {
+        Ok(_) => Some(true),
+        Err(WriteFault::HasNoSpelling) => Some(false),
+        Err(_) => None,
+    }
+}
+
+/// A Code attribute may not be written raw where it would be read by field.
+#[test]
+fn a_raw_code_attribute(rt: HostRuntime) {
+    assert!(rt; is_raw_written(rt.alloc(), false) == Some(true));
+    assert!(rt; is_raw_written(rt.alloc(), true) == Some(false));
+}
+
+/// The class of these bytes, with a field whose one attribute has this body and the name at 8.
+fn with_field<'a>(alloc: Global, bytes: &'a [u8], body: &'a [u8]) -> Option<ClassFile<'a>> {
+    let mut class = decode(alloc, bytes).ok()?;
+    let mut attributes = Vec::new(alloc);
+    attributes.push(Attribute::Raw { name: 8, body }).ok()?;
+    let field = Member {
+        access_flags: 0,
+        name: 5,
+        descriptor: 6,
+        attributes,
+    };
+    class.fields.push(field).ok()?;
+    Some(class)
+}
+
+/// Whether a field with a ConstantValue of this body is written, or no bytes spell it; nothing where memory runs out.
+fn is_constant_written(alloc: Global, body: &[u8]) -> Option<bool> {
+    let mut bytes = MAPPED;
+    bytes[59..72].copy_from_slice(b"ConstantValue");
+    let class = with_field(alloc, &bytes, body)?;
+    match encode(alloc, &class) {
+        Ok(_) => Some(true),
+        Err(WriteFault::HasNoSpelling) => Some(false),
+        Err(_) => None,
+    }
+}
+
+/// An attribute of numbers is written with as many of them as it has, and no others.
+#[test]
+fn attributes_of_numbers(rt: HostRuntime) {
+    let alloc = rt.alloc();
+    assert!(rt; is_constant_written(alloc, &[0, 2]) == Some(true));
+    assert!(rt; is_constant_written(alloc, &[2]) == Some(false));
+    assert!(rt; is_constant_written(alloc, &[]) == Some(false));
+    assert!(rt; is_constant_written(alloc, &[0, 2, 0]) == Some(false));
+}

@@ -1,0 +1,64 @@
+//! The tests of the public calls of the libraries. They stand in a crate of their own, above them all, so that each library is proved once and not a second time with its tests.
+//!
+//! | File | What it tests |
+//! |---|---|
+//! | `parts` | `layout`: numbers, lists, and what is written part by part |
+//! | `texts` | `names`: texts, names and descriptors |
+//! | `constant_pools` | `pool`: pools, and look-ups in them |
+//! | `class_files`, `class_forms` | `classfile`: class files both ways, and which are well formed |
+//! | `code_reading`, `code_writing` | `insn`: code both ways |
+//! | `code_forms` | `insn`: the form of each instruction |
+//! | `superclasses` | `hierarchy`: lists of classes, and summaries of class files |
+//! | `assignability` | `frames`: one type or frame where another is wanted |
+//! | `stack_maps`, `declared_frames` | `frames`: stack maps both ways, and the frames that they declare |
+//! | `instruction_rules` | `rules`: single instructions |
+//! | `machine_steps`, `object_steps` | `machine`: single steps |
+//! | `verdicts` | `verify`: verdicts and reports |
+//! | `printed_text` | `printing`: texts of class files, names and faults |
+//! | `file_answers` | `answers`: what each command answers of files, read or not |
+//! | `command_lines` | `command_line`: what a line asks for, and what the program complains of |
+//! | `making` | what several of them stand on |
+//!
+//! A test with `memory` in its name passes also where any one allocation fails; `tests/allocations` runs those so.
+#![tactic(auto)]
+
+#[cfg(test)]
+mod assignability;
+#[cfg(test)]
+mod class_files;
+#[cfg(test)]
+mod class_forms;
+#[cfg(test)]
+mod code_forms;
+#[cfg(test)]
+mod code_reading;
+#[cfg(test)]
+mod code_writing;
+#[cfg(test)]
+mod command_lines;
+#[cfg(test)]
+mod constant_pools;
+#[cfg(test)]
+mod declared_frames;
+#[cfg(test)]
+mod file_answers;
+#[cfg(test)]
+mod instruction_rules;
+#[cfg(test)]
+mod machine_steps;
+#[cfg(test)]
+mod making;
+#[cfg(test)]
+mod object_steps;
+#[cfg(test)]
+mod parts;
+#[cfg(test)]
+mod printed_text;
+#[cfg(test)]
+mod stack_maps;
+#[cfg(test)]
+mod superclasses;
+#[cfg(test)]
+mod texts;
+#[cfg(test)]
+mod verdicts;

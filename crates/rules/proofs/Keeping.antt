@@ -1,0 +1,208 @@
+-- An instruction that leaves the locals as they are: by its plan, whatever the method.
+use Rattle.std.proofs.Common.{◌≡◌, ℕ, Bool, true, false, Option, Some, None, not, ◌&&◌, nat_lt, [], ◌∷◌, refl, if◌then◌else◌}
+use Rattle.names.specs.Descriptors.{FieldDescriptor, primitive, class as class_descriptor, array as array_descriptor}
+use Rattle.names.specs.declared.base.Primitive.{Primitive}
+use Rattle.names.specs.ReferenceTypes.{ReferenceType, is_class_type, descriptor_of, dimensions_of}
+use Rattle.classfile.specs.Methods.{Method}
+use Rattle.pool.specs.Entries as entries
+use Rattle.pool.specs.Entries.{Entry}
+use Rattle.pool.specs.Members.{FieldConstant, MethodConstant, constant_at, class_at, field_at, method_at}
+use Rattle.insn.specs.declared.operation.Kind.{Kind}
+use Rattle.insn.specs.declared.operation.Kind.TheVariants as kinds
+use Rattle.insn.specs.Meanings as acts
+use Rattle.insn.specs.Meanings.{Act}
+use Rattle.insn.specs.Stacks.{same_kind, computed_as}
+use Rattle.insn.specs.Supported.{is_supported, as_supported}
+use Rattle.frames.specs.VerificationType.{array}
+use Rattle.frames.specs.Slots.{to_reference}
+use Rattle.frames.specs.FrameFact.{FrameFact}
+use Rattle.rules.specs.Plans.{Plan, number, pops, loads, stores, counts, rearranges, loads_element, makes, constructs, calls_special, returns, refuses, sizes, where_allowed}
+use Rattle.rules.specs.Constants.{load_constant, load_wide_constant, get_static, put_static, get_field, put_field, is_init_name, may_name, has_room_for_receiver, static_call, call_on, may_invoke_interface, invoke_static, invoke_virtual, invoke_interface, new_array, new_reference_array, new_multi_array, check_cast, instance_of}
+use Rattle.rules.specs.Table.{plan, leaves_with, return_number, return_reference, return_nothing}
+use Rattle.rules.specs.After.{after}
+use Rattle.rules.specs.Ways.{keeps_locals}
+
+abbrev changes_none : Plan → Bool
+changes_none (stores want n width) = false
+changes_none (makes name) = false
+changes_none (constructs name wants) = false
+changes_none _ = true
+
+changed_none : (m : Method Act) (at : ℕ) (p : Plan) (f : FrameFact) → changes_none p ≡ true → (after m at p f).locals ≡ f.locals
+changed_none m at (pops wants gives offsets on) f e = refl
+changed_none m at (loads want n width) f e = refl
+changed_none m at (stores want n width) f e = cc
+changed_none m at (counts n) f e = refl
+changed_none m at (rearranges forms) f e = refl
+changed_none m at loads_element f e = refl
+changed_none m at (makes name) f e = cc
+changed_none m at (constructs name wants) f e = cc
+changed_none m at (calls_special type wants gives) f e = refl
+changed_none m at returns f e = refl
+changed_none m at (refuses n) f e = refl
+
+-- ---- plans that a constant or a result decides
+
+allowed : (b : Bool) (p : Plan) → changes_none p ≡ true → changes_none (where_allowed b p) ≡ true
+allowed true p e = e
+allowed false p e = refl
+
+constant_none : (c : Option Entry) → changes_none (load_constant c) ≡ true
+constant_none None = refl
+constant_none (Some (entries.Utf8 text)) = refl
+constant_none (Some (entries.Integer bits)) = refl
+constant_none (Some (entries.Float bits)) = refl
+constant_none (Some (entries.Long high low)) = refl
+constant_none (Some (entries.Double high low)) = refl
+constant_none (Some (entries.Class name)) = refl
+constant_none (Some (entries.String text)) = refl
+constant_none (Some (entries.Fieldref class name_and_type)) = refl
+constant_none (Some (entries.Methodref class name_and_type)) = refl
+constant_none (Some (entries.InterfaceMethodref class name_and_type)) = refl
+constant_none (Some (entries.NameAndType name descriptor)) = refl
+constant_none (Some (entries.MethodHandle kind reference)) = refl
+constant_none (Some (entries.MethodType descriptor)) = refl
+constant_none (Some (entries.Dynamic bootstrap name)) = refl
+constant_none (Some (entries.InvokeDynamic bootstrap name)) = refl
+constant_none (Some entries.Unusable) = refl
+
+wide_none : (c : Option Entry) → changes_none (load_wide_constant c) ≡ true
+wide_none None = refl
+wide_none (Some (entries.Utf8 text)) = refl
+wide_none (Some (entries.Integer bits)) = refl
+wide_none (Some (entries.Float bits)) = refl
+wide_none (Some (entries.Long high low)) = refl
+wide_none (Some (entries.Double high low)) = refl
+wide_none (Some (entries.Class name)) = refl
+wide_none (Some (entries.String text)) = refl
+wide_none (Some (entries.Fieldref class name_and_type)) = refl
+wide_none (Some (entries.Methodref class name_and_type)) = refl
+wide_none (Some (entries.InterfaceMethodref class name_and_type)) = refl
+wide_none (Some (entries.NameAndType name descriptor)) = refl
+wide_none (Some (entries.MethodHandle kind reference)) = refl
+wide_none (Some (entries.MethodType descriptor)) = refl
+wide_none (Some (entries.Dynamic bootstrap name)) = refl
+wide_none (Some (entries.InvokeDynamic bootstrap name)) = refl
+wide_none (Some entries.Unusable) = refl
+
+number_none : (kind : Kind) (b : Bool) → changes_none (if b then leaves_with (number kind) else refuses 76) ≡ true
+number_none kind true = refl
+number_none kind false = refl
+
+back_none : (kind : Kind) (t : Option FieldDescriptor) → changes_none (return_number t kind) ≡ true
+back_none kind None = refl
+back_none kind (Some (primitive p)) = number_none kind (same_kind (computed_as p) kind)
+back_none kind (Some (class_descriptor name)) = refl
+back_none kind (Some (array_descriptor component)) = refl
+
+reference_none : (t : Option FieldDescriptor) → changes_none (return_reference t) ≡ true
+reference_none None = refl
+reference_none (Some (primitive p)) = refl
+reference_none (Some (class_descriptor name)) = refl
+reference_none (Some (array_descriptor component)) = refl
+
+nothing_none : (t : Option FieldDescriptor) → changes_none (return_nothing t) ≡ true
+nothing_none None = refl
+nothing_none (Some t) = refl
+
+get_static_none : (c : Option FieldConstant) → changes_none (get_static c) ≡ true
+get_static_none None = refl
+get_static_none (Some c) = refl
+
+put_static_none : (c : Option FieldConstant) → changes_none (put_static c) ≡ true
+put_static_none None = refl
+put_static_none (Some c) = refl
+
+get_none : (c : Option FieldConstant) → changes_none (get_field c) ≡ true
+get_none None = refl
+get_none (Some c) = refl
+
+put_none : (m : Method Act) (c : Option FieldConstant) → changes_none (put_field m c) ≡ true
+put_none m None = refl
+put_none m (Some c) = refl
+
+static_none : (major : ℕ) (c : Option MethodConstant) → changes_none (invoke_static major c) ≡ true
+static_none major None = refl
+static_none major (Some c) = allowed (is_class_type c.class && (not (is_init_name c) && may_name major c.interface)) (static_call c) refl
+
+virtual_none : (c : Option MethodConstant) → changes_none (invoke_virtual c) ≡ true
+virtual_none None = refl
+virtual_none (Some c) = allowed (not c.interface && (not (is_init_name c) && has_room_for_receiver c)) (call_on c.class c) refl
+
+interface_none : (count : ℕ) (c : Option MethodConstant) → changes_none (invoke_interface count c) ≡ true
+interface_none count None = refl
+interface_none count (Some c) = allowed (may_invoke_interface count c) (call_on c.class c) refl
+
+array_none : (p : Option Primitive) → changes_none (new_array p) ≡ true
+array_none None = refl
+array_none (Some p) = refl
+
+references_none : (t : Option ReferenceType) → changes_none (new_reference_array t) ≡ true
+references_none None = refl
+references_none (Some t) = allowed (nat_lt (dimensions_of t) 255) (pops (number kinds.Int ∷ []) (array (descriptor_of t) ∷ []) [] true) refl
+
+multi_none : (n : ℕ) (t : Option ReferenceType) → changes_none (new_multi_array n t) ≡ true
+multi_none n None = refl
+multi_none n (Some t) = allowed (nat_lt 0 n && not (nat_lt (dimensions_of t) n)) (pops (sizes n) (to_reference t ∷ []) [] true) refl
+
+cast_none : (t : Option ReferenceType) → changes_none (check_cast t) ≡ true
+cast_none None = refl
+cast_none (Some t) = refl
+
+instance_none : (t : Option ReferenceType) → changes_none (instance_of t) ≡ true
+instance_none None = refl
+instance_none (Some t) = refl
+
+-- ---- all instructions
+
+by_plan : (m : Method Act) (a : Act) → keeps_locals a ≡ true → changes_none (plan m a) ≡ true
+by_plan m acts.Nothing e = refl
+by_plan m (acts.Constant kind) e = refl
+by_plan m acts.ConstantNull e = refl
+by_plan m (acts.LoadConstant i) e = constant_none (constant_at m.constant_pool i)
+by_plan m (acts.LoadWideConstant i) e = wide_none (constant_at m.constant_pool i)
+by_plan m (acts.Load kind n) e = refl
+by_plan m (acts.LoadReference n) e = refl
+by_plan m (acts.Store kind n) e = cc
+by_plan m (acts.StoreReference n) e = cc
+by_plan m (acts.Increment n) e = refl
+by_plan m (acts.Numeric operator) e = refl
+by_plan m (acts.Stack operator) e = refl
+by_plan m (acts.IfInt offset) e = refl
+by_plan m (acts.IfInts offset) e = refl
+by_plan m (acts.IfReferences offset) e = refl
+by_plan m (acts.IfNull offset) e = refl
+by_plan m (acts.Goto offset) e = refl
+by_plan m (acts.Switch default offsets) e = refl
+by_plan m (acts.Return kind) e = back_none kind m.type.result
+by_plan m acts.ReturnReference e = reference_none m.type.result
+by_plan m acts.ReturnVoid e = nothing_none m.type.result
+by_plan m (acts.GetStatic i) e = get_static_none (field_at m.constant_pool i)
+by_plan m (acts.PutStatic i) e = put_static_none (field_at m.constant_pool i)
+by_plan m (acts.GetField i) e = get_none (field_at m.constant_pool i)
+by_plan m (acts.PutField i) e = put_none m (field_at m.constant_pool i)
+by_plan m (acts.InvokeVirtual i) e = virtual_none (method_at m.constant_pool i)
+by_plan m (acts.InvokeSpecial i) e = cc
+by_plan m (acts.InvokeStatic i) e = static_none m.major_version (method_at m.constant_pool i)
+by_plan m (acts.InvokeInterface i count) e = interface_none count (method_at m.constant_pool i)
+by_plan m (acts.New i) e = cc
+by_plan m (acts.LoadElement p) e = refl
+by_plan m (acts.StoreElement p) e = refl
+by_plan m acts.LoadReferenceElement e = refl
+by_plan m acts.StoreReferenceElement e = refl
+by_plan m acts.ArrayLength e = refl
+by_plan m (acts.NewArray element) e = array_none element
+by_plan m (acts.NewReferenceArray i) e = references_none (class_at m.constant_pool i)
+by_plan m (acts.NewMultiArray i n) e = multi_none n (class_at m.constant_pool i)
+by_plan m (acts.CheckCast i) e = cast_none (class_at m.constant_pool i)
+by_plan m (acts.InstanceOf i) e = instance_none (class_at m.constant_pool i)
+by_plan m acts.Throw e = refl
+by_plan m acts.Monitor e = refl
+by_plan m acts.Unsupported e = refl
+
+supported_none : (m : Method Act) (a : Act) (b : Bool) → keeps_locals a ≡ true → changes_none (plan m (if b then a else acts.Unsupported)) ≡ true
+supported_none m a true e = by_plan m a e
+supported_none m a false e = refl
+
+pub locals_kept : (m : Method Act) (at : ℕ) (a : Act) (f : FrameFact) → keeps_locals a ≡ true → (after m at (plan m (as_supported a)) f).locals ≡ f.locals
+locals_kept m at a f e = changed_none m at (plan m (as_supported a)) f (supported_none m a (is_supported a) e)

@@ -1,0 +1,260 @@
+//! Instructions that make arrays and read their elements, and casts.
+ghost use Rattle.std.specs.Prelude.{◌≡◌, ℕ, map, IfOk};
+ghost use Rattle.names.specs.References.{reference_view};
+ghost use Rattle.pool.specs.Members.{class_at};
+ghost use Rattle.insn.specs.Meanings.{LoadElement, StoreElement, StoreReferenceElement};
+ghost use Rattle.frames.specs.VerificationType.{type_of};
+ghost use Rattle.rules.specs.Plans.{loads_element, sizes};
+ghost use Rattle.rules.specs.Constants.{new_array, new_reference_array, new_multi_array, check_cast, instance_of};
+ghost use Rattle.rules.specs.After.{after, element_of, top_of, rest_of};
+ghost use Rattle.rules.specs.Rules.{conditions};
+ghost use Rattle.rules.specs.Table.{object_array, plan};
+ghost use Rattle.rules.specs.Bodies.{method_view};
+ghost use Rattle.rules.specs.Held.{held};
+ghost use Rattle.rules.specs.Outcomes.{Done};
+ghost use Rattle.rules.specs.Views.{stack_of, want_view};
+
+use crate::families::pops;
+use crate::reason::Reason;
+use crate::want::Want;
+use crate::working::Working;
+use classfile::CodeMethod;
+use frames::{VType, array_of, number_type, reference_to};
+use hierarchy::Classes;
+use insn::{Kind, computed_as};
+use names::{Base, OBJECT, Primitive, RefType};
+use std::alloc::{AllocError, Global};
+
+/// Any array of references.
+fn object_array<'a>() -> Want<'a>
+    ensures { want_view result ≡ object_array }
+{
+    Want::Assignable(RefType::Array {
+        dims: 1,
+        base: Base::Class(OBJECT),
+    })
+}
+
+/// What an element of an array is, null for null.
+fn element_of<'a>(t: VType<'a>) -> VType<'a>
+    ensures { type_of result ≡ element_of (type_of t.entry) }
+{
+    match t {
+        VType::Array { dims: 0 | 1, base } => match base {
+            Base::Class(name) => VType::Class(name),
+            Base::Primitive(_) => VType::Top,
+        },
+        VType::Array { dims, base } => VType::Array {
+            dims: dims - 1,
+            base,
+        },
+        VType::Null => VType::Null,
+        VType::Top
+        | VType::Int
+        | VType::Float
+        | VType::Long
+        | VType::Double
+        | VType::Class(_)
+        | VType::UninitThis
+        | VType::Uninit(_) => VType::Top,
+    }
+}
+
+/// What an element is of the array that stands beneath an index; top where no two items are there.
+fn element_beneath<'a>(stack: &[VType<'a>]) -> VType<'a>
+    ensures { type_of result ≡ element_of (top_of (rest_of (stack_of stack.now))) }
+{
+    match stack {
+        [.., array, _] => element_of(*array),
+        _ => VType::Top,
+    }
+}
+
+/// `iaload`, `laload`, `faload`, `daload`, `baload`, `caload` and `saload`
+pub fn load_element<'a, C: Classes>(
+    method: &CodeMethod<'_, 'a>,
+    element: Primitive,
+    frame: &mut Working<'a>,
+    classes: &C,
+) -> Result<(), Reason<'a>>
+    ensures { (at : ℕ) → let m = method_view method.now in let f = held frame.old in let p = plan m (LoadElement element) in
+        Done (conditions (C.content classes.now) m at p f) (after m at p f) (held frame.new) result }
+{
+    let wants = [Want::Number(Kind::Int), Want::ArrayFor(element)];
+    let loaded = number_type(computed_as(element));
+    pops(method, &wants, Some(loaded), frame, classes)
+}
+
+/// `iastore`, `lastore`, `fastore`, `dastore`, `bastore`, `castore` and `sastore`
+pub fn store_element<'a, C: Classes>(
+    method: &CodeMethod<'_, 'a>,
+    element: Primitive,
+    frame: &mut Working<'a>,
+    classes: &C,
+) -> Result<(), Reason<'a>>
+    ensures { (at : ℕ) → let m = method_view method.now in let f = held frame.old in let p = plan m (StoreElement element) in
+        Done (conditions (C.content classes.now) m at p f) (after m at p f) (held frame.new) result }
+{
+    let wants = [
+        Want::Number(computed_as(element)),
+        Want::Number(Kind::Int),
+        Want::ArrayFor(element),
+    ];
+    pops(method, &wants, None, frame, classes)
+}
+
+/// `aastore`
+pub fn store_reference_element<'a, C: Classes>(
+    method: &CodeMethod<'_, 'a>,
+    frame: &mut Working<'a>,
+    classes: &C,
+) -> Result<(), Reason<'a>>
+    ensures { (at : ℕ) → let m = method_view method.now in let f = held frame.old in let p = plan m StoreReferenceElement in
+        Done (conditions (C.content classes.now) m at p f) (after m at p f) (held frame.new) result }
+{
+    let object = Want::Assignable(RefType::Class(OBJECT));
+    pops(
+        method,
+        &[object, Want::Number(Kind::Int), object_array()],
+        None,
+        frame,
+        classes,
+    )
+}
+
+/// `aaload`
+pub fn load_reference_element<'a, C: Classes>(
+    method: &CodeMethod<'_, 'a>,
+    frame: &mut Working<'a>,
+    classes: &C,
+) -> Result<(), Reason<'a>>
+    ensures { (at : ℕ) → let m = method_view method.now in let f = held frame.old in
+        Done (conditions (C.content classes.now) m at loads_element f) (after m at loads_element f) (held frame.new) result }
+{
+    let element = element_beneath(frame.stack());
+    pops(
+        method,
+        &[Want::Number(Kind::Int), object_array()],
+        Some(element),
+        frame,
+        classes,
+    )
+}
+
+/// `newarray`
+pub fn new_array<'a, C: Classes>(
+    method: &CodeMethod<'_, 'a>,
+    element: Option<Primitive>,
+    frame: &mut Working<'a>,
+    classes: &C,
+) -> Result<(), Reason<'a>>
+    ensures { (at : ℕ) → let m = method_view method.now in let f = held frame.old in let p = new_array element in
+        Done (conditions (C.content classes.now) m at p f) (after m at p f) (held frame.new) result }
+{
+    match element {
+        None => Err(Reason::WrongConstant),
+        Some(primitive) => {
+            let made = VType::Array {
+                dims: 1,
+                base: Base::Primitive(primitive),
+            };
+            pops(method, &[Kind::Int], Some(made), frame, classes)
+        }
+    }
+}
+
+/// `anewarray`
+pub fn new_reference_array<'a, C: Classes>(
+    method: &CodeMethod<'_, 'a>,
+    index: u16,
+    frame: &mut Working<'a>,
+    classes: &C,
+) -> Result<(), Reason<'a>>
+    ensures { (at : ℕ) → let m = method_view method.now in let f = held frame.old in
+        let p = new_reference_array (class_at m.constant_pool index) in
+        Done (conditions (C.content classes.now) m at p f) (after m at p f) (held frame.new) result }
+{
+    let Some(component) = method.class.constant_pool.class_type(index) else {
+        return Err(Reason::WrongConstant);
+    };
+    if component.dimensions() < 255 {
+        pops(
+            method,
+            &[Kind::Int],
+            Some(array_of(component)),
+            frame,
+            classes,
+        )
+    } else {
+        Err(Reason::WrongConstant)
+    }
+}
+
+/// So many sizes of dimensions.
+fn sizes<'a>(alloc: Global, count: u8) -> Result<Vec<Want<'a>>, AllocError>
+    ensures { IfOk result (λ v. map want_view v.items ≡ sizes count) }
+{
+    let mut wants = Vec::new(alloc);
+    wants.resize(usize::from(count), Want::Number(Kind::Int))?;
+    Ok(wants)
+}
+
+/// `multianewarray`
+pub fn new_multi_array<'a, C: Classes>(
+    alloc: Global,
+    method: &CodeMethod<'_, 'a>,
+    index: u16,
+    dimensions: u8,
+    frame: &mut Working<'a>,
+    classes: &C,
+) -> Result<(), Reason<'a>>
+    ensures { (at : ℕ) → let m = method_view method.now in let f = held frame.old in
+        let p = new_multi_array dimensions (class_at m.constant_pool index) in
+        Done (conditions (C.content classes.now) m at p f) (after m at p f) (held frame.new) result }
+{
+    let Some(made) = method.class.constant_pool.class_type(index) else {
+        return Err(Reason::WrongConstant);
+    };
+    if dimensions > 0 && made.dimensions() >= dimensions {
+        let wants = sizes(alloc, dimensions)?;
+        pops(method, &wants, Some(reference_to(made)), frame, classes)
+    } else {
+        Err(Reason::WrongConstant)
+    }
+}
+
+/// `checkcast`
+pub fn check_cast<'a, C: Classes>(
+    method: &CodeMethod<'_, 'a>,
+    index: u16,
+    frame: &mut Working<'a>,
+    classes: &C,
+) -> Result<(), Reason<'a>>
+    ensures { (at : ℕ) → let m = method_view method.now in let f = held frame.old in
+        let p = check_cast (class_at m.constant_pool index) in
+        Done (conditions (C.content classes.now) m at p f) (after m at p f) (held frame.new) result }
+{
+    let object = Want::Assignable(RefType::Class(OBJECT));
+    match method.class.constant_pool.class_type(index) {
+        None => Err(Reason::WrongConstant),
+        Some(to) => pops(method, &[object], Some(reference_to(to)), frame, classes),
+    }
+}
+
+/// `instanceof`
+pub fn instance_of<'a, C: Classes>(
+    method: &CodeMethod<'_, 'a>,
+    index: u16,
+    frame: &mut Working<'a>,
+    classes: &C,
+) -> Result<(), Reason<'a>>
+    ensures { (at : ℕ) → let m = method_view method.now in let f = held frame.old in
+        let p = instance_of (class_at m.constant_pool index) in
+        Done (conditions (C.content classes.now) m at p f) (after m at p f) (held frame.new) result }
+{
+    let object = Want::Assignable(RefType::Class(OBJECT));
+    match method.class.constant_pool.class_type(index) {
+        None => Err(Reason::WrongConstant),
+        Some(_) => pops(method, &[object], Some(VType::Int), frame, classes),
+    }
+}

@@ -1,0 +1,214 @@
+//! Instructions that call methods.
+ghost use Rattle.std.specs.Prelude.{◌≡◌, ◌&&◌, ℕ, not, true, [], map, option_map, option_to_list, IfOk};
+ghost use Rattle.names.specs.Types.{type_of};
+ghost use Rattle.names.specs.ReferenceTypes.{is_class_type};
+ghost use Rattle.pool.specs.Members.{method_at};
+ghost use Rattle.pool.specs.MemberViews.{method_constant_view};
+ghost use Rattle.rules.specs.Plans.{arguments_on, pops, result_types, want_of};
+ghost use Rattle.rules.specs.Constants.{is_init_name, may_name, has_room_for_receiver, may_invoke_interface, invoke_static, invoke_virtual, invoke_interface};
+ghost use Rattle.rules.specs.After.{after};
+ghost use Rattle.rules.specs.Rules.{conditions};
+ghost use Rattle.rules.specs.Bodies.{method_view};
+ghost use Rattle.rules.specs.Held.{held};
+ghost use Rattle.rules.specs.Outcomes.{Done};
+ghost use Rattle.rules.specs.Views.{want_view, pushed_types};
+
+use crate::families::pops;
+use crate::reason::Reason;
+use crate::want::{Want, want_of};
+use crate::working::Working;
+use classfile::CodeMethod;
+use frames::{VType, held_by};
+use hierarchy::Classes;
+use names::{FieldType, INIT, RefType};
+use pool::MethodConstant;
+use std::alloc::{AllocError, Global};
+
+/// What parameters take.
+fn wants_of<'a>(alloc: Global, parameters: &[FieldType<'a>]) -> Result<Vec<Want<'a>>, AllocError>
+    ensures { IfOk result (λ v. map want_view v.items ≡ map want_of (map type_of parameters.now)) }
+{
+    let mut wants = Vec::with_capacity(alloc, parameters.len())?;
+    for parameter in parameters {
+        wants.push(want_of(parameter))?;
+    }
+    Ok(wants)
+}
+
+/// What a call takes from the top of the stack down: its arguments, the last one first, and a receiver beneath them, if it
+/// has one.
+pub fn arguments_on<'a>(
+    alloc: Global,
+    parameters: &[FieldType<'a>],
+    receiver: Option<Want<'a>>,
+) -> Result<Vec<Want<'a>>, AllocError>
+    ensures { IfOk result (λ v. map want_view v.items ≡ arguments_on (map type_of parameters.now) (option_to_list (option_map want_view receiver.entry))) }
+{
+    let mut wants = wants_of(alloc, parameters)?;
+    wants.reverse();
+    match receiver {
+        None => Ok(wants),
+        Some(want) => {
+            wants.push(want)?;
+            Ok(wants)
+        }
+    }
+}
+
+/// The type of what a method gives, if it gives something.
+pub fn result_of<'a>(result_type: Option<FieldType<'a>>) -> Option<VType<'a>>
+    ensures { pushed_types result ≡ result_types (option_map type_of result_type.entry) }
+{
+    match result_type {
+        None => None,
+        Some(t) => Some(held_by(&t)),
+    }
+}
+
+/// A call with its arguments on a receiver, if it has one.
+fn calls<'a, C: Classes>(
+    alloc: Global,
+    method: &CodeMethod<'_, 'a>,
+    called: &MethodConstant<'a>,
+    receiver: Option<Want<'a>>,
+    frame: &mut Working<'a>,
+    classes: &C,
+) -> Result<(), Reason<'a>>
+    ensures { (at : ℕ) → let m = method_view method.now in let f = held frame.old in let c = method_constant_view called.now in
+        let p = pops (arguments_on c.type.params (option_to_list (option_map want_view receiver.entry))) (result_types c.type.result) [] true in
+        Done (conditions (C.content classes.now) m at p f) (after m at p f) (held frame.new) result }
+{
+    let wants = arguments_on(alloc, &called.method_type.params, receiver)?;
+    pops(
+        method,
+        &wants,
+        result_of(called.method_type.result),
+        frame,
+        classes,
+    )
+}
+
+/// Whether the method is an instance initialization method by its name (JVMS 2.9.1).
+pub fn is_init(called: &MethodConstant<'_>) -> bool
+    ensures { result ≡ is_init_name (method_constant_view called.now) }
+{
+    called.name == INIT
+}
+
+/// Whether `invokestatic` and `invokespecial` may name the method: an interface's from version 52 on (JVMS 4.9.1).
+pub fn may_name(major: u16, called: &MethodConstant<'_>) -> bool
+    ensures { result ≡ may_name major (method_constant_view called.now).interface }
+{
+    !called.interface || major > 51
+}
+
+/// Whether the class that is asked for the method is no array.
+pub fn is_of_class(called: &MethodConstant<'_>) -> bool
+    ensures { result ≡ is_class_type (method_constant_view called.now).class }
+{
+    match called.class {
+        RefType::Class(_) => true,
+        RefType::Array { .. } => false,
+    }
+}
+
+/// Whether the arguments and a receiver take at most 255 units (JVMS 4.3.3).
+pub fn has_room_for_receiver(called: &MethodConstant<'_>) -> bool
+    ensures { result ≡ has_room_for_receiver (method_constant_view called.now) }
+{
+    called.method_type.width(false) < 255
+}
+
+/// Whether `invokestatic` may name the method.
+fn may_invoke_static(major: u16, called: &MethodConstant<'_>) -> bool
+    ensures { let c = method_constant_view called.now in result ≡ (is_class_type c.class && (not (is_init_name c) && may_name major c.interface)) }
+{
+    is_of_class(called) && !is_init(called) && may_name(major, called)
+}
+
+/// `invokestatic`
+pub fn invoke_static<'a, C: Classes>(
+    alloc: Global,
+    method: &CodeMethod<'_, 'a>,
+    index: u16,
+    frame: &mut Working<'a>,
+    classes: &C,
+) -> Result<(), Reason<'a>>
+    ensures { (at : ℕ) → let m = method_view method.now in let f = held frame.old in
+        let p = invoke_static m.major_version (method_at m.constant_pool index) in
+        Done (conditions (C.content classes.now) m at p f) (after m at p f) (held frame.new) result }
+{
+    let Some(called) = method.class.constant_pool.method_constant(alloc, index)? else {
+        return Err(Reason::WrongConstant);
+    };
+    if may_invoke_static(method.class.major_version, &called) {
+        calls(alloc, method, &called, None, frame, classes)
+    } else {
+        Err(Reason::WrongConstant)
+    }
+}
+
+/// Whether `invokevirtual` may name the method.
+fn may_invoke_virtual(called: &MethodConstant<'_>) -> bool
+    ensures { let c = method_constant_view called.now in result ≡ (not c.interface && (not (is_init_name c) && has_room_for_receiver c)) }
+{
+    !called.interface && !is_init(called) && has_room_for_receiver(called)
+}
+
+/// `invokevirtual`
+pub fn invoke_virtual<'a, C: Classes>(
+    alloc: Global,
+    method: &CodeMethod<'_, 'a>,
+    index: u16,
+    frame: &mut Working<'a>,
+    classes: &C,
+) -> Result<(), Reason<'a>>
+    ensures { (at : ℕ) → let m = method_view method.now in let f = held frame.old in
+        let p = invoke_virtual (method_at m.constant_pool index) in
+        Done (conditions (C.content classes.now) m at p f) (after m at p f) (held frame.new) result }
+{
+    let Some(called) = method.class.constant_pool.method_constant(alloc, index)? else {
+        return Err(Reason::WrongConstant);
+    };
+    if may_invoke_virtual(&called) {
+        let receiver = Some(Want::Assignable(called.class));
+        calls(alloc, method, &called, receiver, frame, classes)
+    } else {
+        Err(Reason::WrongConstant)
+    }
+}
+
+/// Whether `invokeinterface` may name the method, with a count that is to be the width of the arguments and the receiver.
+fn may_invoke_interface(count: u8, called: &MethodConstant<'_>) -> bool
+    ensures { result ≡ may_invoke_interface count (method_constant_view called.now) }
+{
+    is_of_class(called)
+        && called.interface
+        && !is_init(called)
+        && has_room_for_receiver(called)
+        && u16::from(count) == called.method_type.width(true)
+}
+
+/// `invokeinterface`
+pub fn invoke_interface<'a, C: Classes>(
+    alloc: Global,
+    method: &CodeMethod<'_, 'a>,
+    index: u16,
+    count: u8,
+    frame: &mut Working<'a>,
+    classes: &C,
+) -> Result<(), Reason<'a>>
+    ensures { (at : ℕ) → let m = method_view method.now in let f = held frame.old in
+        let p = invoke_interface count (method_at m.constant_pool index) in
+        Done (conditions (C.content classes.now) m at p f) (after m at p f) (held frame.new) result }
+{
+    let Some(called) = method.class.constant_pool.method_constant(alloc, index)? else {
+        return Err(Reason::WrongConstant);
+    };
+    if may_invoke_interface(count, &called) {
+        let receiver = Some(Want::Assignable(called.class));
+        calls(alloc, method, &called, receiver, frame, classes)
+    } else {
+        Err(Reason::WrongConstant)
+    }
+}

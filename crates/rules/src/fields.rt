@@ -1,0 +1,155 @@
+//! Instructions that read and write fields.
+ghost use Rattle.std.specs.Prelude.{◌≡◌, ℕ, [], ◌∷◌, map};
+ghost use Rattle.classfile.specs.Methods.{declared_fields, is_declared, is_own_field};
+ghost use Rattle.classfile.specs.Views.{member_view};
+ghost use Rattle.pool.specs.Members.{field_at};
+ghost use Rattle.pool.specs.MemberViews.{field_constant_view};
+ghost use Rattle.rules.specs.Constants.{get_static, put_static, get_field, put_field, target_of};
+ghost use Rattle.rules.specs.After.{after};
+ghost use Rattle.rules.specs.Rules.{conditions};
+ghost use Rattle.rules.specs.Bodies.{method_view};
+ghost use Rattle.rules.specs.Held.{held};
+ghost use Rattle.rules.specs.Outcomes.{Done};
+ghost use Rattle.rules.specs.Views.{want_view};
+
+use crate::declaring_class::own_class;
+use crate::families::{gives, pops};
+use crate::reason::Reason;
+use crate::want::{Want, want_of};
+use crate::working::Working;
+use classfile::{CodeMethod, Member};
+use frames::held_by;
+use hierarchy::Classes;
+use names::RefType;
+use pool::{FieldConstant, Pool};
+
+/// `getstatic`
+pub fn get_static<'a, C: Classes>(
+    method: &CodeMethod<'_, 'a>,
+    index: u16,
+    frame: &mut Working<'a>,
+    classes: &C,
+) -> Result<(), Reason<'a>>
+    ensures { (at : ℕ) → let m = method_view method.now in let f = held frame.old in
+        let p = get_static (field_at m.constant_pool index) in
+        Done (conditions (C.content classes.now) m at p f) (after m at p f) (held frame.new) result }
+{
+    match method.class.constant_pool.field_constant(index) {
+        None => Err(Reason::WrongConstant),
+        Some(field) => gives(method, Some(held_by(&field.field_type)), frame, classes),
+    }
+}
+
+/// `putstatic`
+pub fn put_static<'a, C: Classes>(
+    method: &CodeMethod<'_, 'a>,
+    index: u16,
+    frame: &mut Working<'a>,
+    classes: &C,
+) -> Result<(), Reason<'a>>
+    ensures { (at : ℕ) → let m = method_view method.now in let f = held frame.old in
+        let p = put_static (field_at m.constant_pool index) in
+        Done (conditions (C.content classes.now) m at p f) (after m at p f) (held frame.new) result }
+{
+    match method.class.constant_pool.field_constant(index) {
+        None => Err(Reason::WrongConstant),
+        Some(field) => pops(method, &[want_of(&field.field_type)], None, frame, classes),
+    }
+}
+
+/// `getfield`
+pub fn get_field<'a, C: Classes>(
+    method: &CodeMethod<'_, 'a>,
+    index: u16,
+    frame: &mut Working<'a>,
+    classes: &C,
+) -> Result<(), Reason<'a>>
+    ensures { (at : ℕ) → let m = method_view method.now in let f = held frame.old in
+        let p = get_field (field_at m.constant_pool index) in
+        Done (conditions (C.content classes.now) m at p f) (after m at p f) (held frame.new) result }
+{
+    match method.class.constant_pool.field_constant(index) {
+        None => Err(Reason::WrongConstant),
+        Some(field) => pops(
+            method,
+            &[Want::Assignable(RefType::Class(field.class))],
+            Some(held_by(&field.field_type)),
+            frame,
+            classes,
+        ),
+    }
+}
+
+/// Whether the texts of a field are this name and this descriptor.
+fn is_named(pool: &Pool<'_>, field: &Member<'_>, name: &[u8], descriptor: &[u8]) -> bool
+    ensures { result ≡ is_declared (declared_fields pool.now (member_view field.now ∷ [])) name.now descriptor.now }
+{
+    let (Ok(own_name), Ok(own_descriptor)) = (pool.text(field.name), pool.text(field.descriptor))
+    else {
+        return false;
+    };
+    own_name.bytes() == name && own_descriptor.bytes() == descriptor
+}
+
+/// Whether a field of this name and descriptor is declared.
+fn is_declared(pool: &Pool<'_>, fields: &[Member<'_>], name: &[u8], descriptor: &[u8]) -> bool
+    ensures { result ≡ is_declared (declared_fields pool.now (map member_view fields.now)) name.now descriptor.now }
+{
+    match fields {
+        [] => false,
+        [field, others @ ..] => is_named(pool, field, name, descriptor)
+            || is_declared(pool, others, name, descriptor),
+    }
+}
+
+/// Whether the class declares the field that the constant names.
+fn is_own_field(method: &CodeMethod<'_, '_>, field: &FieldConstant<'_>) -> bool
+    ensures { result ≡ is_own_field (method_view method.now) (field_constant_view field.now) }
+{
+    let class = method.class;
+    own_class(method) == field.class
+        && is_declared(
+            &class.constant_pool,
+            &class.fields,
+            field.name,
+            field.descriptor,
+        )
+}
+
+/// What `putfield` asks of the object: in an instance initialization method it may be the own one, where its class declares
+/// the field.
+fn target_of<'a>(method: &CodeMethod<'_, 'a>, field: &FieldConstant<'a>) -> Want<'a>
+    ensures { want_view result ≡ target_of (method_view method.now) (field_constant_view field.now) }
+{
+    if method.is_init && is_own_field(method, field) {
+        Want::OwnOr(field.class)
+    } else {
+        Want::Assignable(RefType::Class(field.class))
+    }
+}
+
+/// `putfield`
+pub fn put_field<'a, C: Classes>(
+    method: &CodeMethod<'_, 'a>,
+    index: u16,
+    frame: &mut Working<'a>,
+    classes: &C,
+) -> Result<(), Reason<'a>>
+    ensures { (at : ℕ) → let m = method_view method.now in let f = held frame.old in
+        let p = put_field m (field_at m.constant_pool index) in
+        Done (conditions (C.content classes.now) m at p f) (after m at p f) (held frame.new) result }
+{
+    match method.class.constant_pool.field_constant(index) {
+        None => Err(Reason::WrongConstant),
+        Some(field) => {
+            let target = target_of(method, &field);
+            pops(
+                method,
+                &[want_of(&field.field_type), target],
+                None,
+                frame,
+                classes,
+            )
+        }
+    }
+}

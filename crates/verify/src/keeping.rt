@@ -1,0 +1,88 @@
+//! What is known of the locals of the running frame, so that it is not compared with each declared frame local by local.
+ghost use Rattle.frames.specs.FrameFact.{FrameFact};
+ghost use Rattle.frames.specs.declared.declared_frames.DeclaredFrames.{DeclaredFrames};
+
+use frames::Declared;
+use insn::Act;
+use rules::keeps_locals;
+
+/// Declared frames whose locals the running frame has or fits, where some are known.
+#[derive(Clone, Copy)]
+pub struct Known<'n, 'a> {
+    /// The locals are those of this frame.
+    pub kept: Option<Declared<'n, 'a>>,
+    /// The locals may stand where this frame is declared.
+    pub fits: Option<Declared<'n, 'a>>,
+}
+
+impl<'n, 'a> Known<'n, 'a> {
+    ghost use Rattle.std.specs.Prelude.{◌≡◌, true, ℕ, List, option_map, IfSome};
+    ghost use Rattle.classfile.specs.Methods.{Method};
+    ghost use Rattle.hierarchy.specs.Class.{ClassFact};
+    ghost use Rattle.insn.specs.Meanings as acts;
+    ghost use Rattle.insn.specs.Views.{act_view};
+    ghost use Rattle.frames.specs.DeclaredTables.{declared_view, IsOf};
+    ghost use Rattle.rules.specs.After.{after};
+    ghost use Rattle.rules.specs.Table.{plan_yet};
+    ghost use Rattle.verify.specs.Verdict.{entered};
+    ghost use Rattle.verify.specs.Keeping.{IsKnown, Fits};
+
+    /// Nothing.
+    pub fn nothing() -> Known<'n, 'a>
+        ensures { (cs : List ClassFact) (t : DeclaredFrames) (f : FrameFact) → IsKnown cs t f result }
+    {
+        Known {
+            kept: None,
+            fits: None,
+        }
+    }
+
+    /// A frame that the locals fit, if one is known: rather the one that they are of.
+    pub fn fitting(self) -> Option<Declared<'n, 'a>>
+        ensures { (cs : List ClassFact) (t : DeclaredFrames) (f : FrameFact) → IsKnown cs t f self.entry → IfSome result (Fits cs t f) }
+    {
+        match self.kept {
+            Some(_) => self.kept,
+            None => self.fits,
+        }
+    }
+
+    // Whether a declared frame has the locals that the running one is known to have.
+    fn is_kept_by(self, declared: &Declared<'n, 'a>) -> bool
+        ensures { (cs : List ClassFact) (t : DeclaredFrames) (f : FrameFact) → result ≡ true → IsOf t declared.now → IsKnown cs t f self.entry → f.locals ≡ (declared_view declared.now).locals }
+    {
+        match self.kept {
+            Some(kept) => declared.keeps_locals_of(&kept),
+            None => false,
+        }
+    }
+
+    /// What is known where this frame is declared and taken on, or none is.
+    pub fn here(self, declared: Option<Declared<'n, 'a>>) -> Known<'n, 'a>
+        ensures { (cs : List ClassFact) (t : DeclaredFrames) (f : FrameFact) → IfSome declared.entry (IsOf t) → IsKnown cs t f self.entry → IsKnown cs t (entered f (option_map declared_view declared.entry)) result }
+    {
+        let Some(frame) = declared else {
+            return self;
+        };
+        if self.is_kept_by(&frame) {
+            return Known {
+                kept: declared,
+                fits: self.fits,
+            };
+        }
+        Known {
+            kept: declared,
+            fits: declared,
+        }
+    }
+
+    /// What is known behind an instruction that means this.
+    pub fn behind(self, act: &Act<'_>) -> Known<'n, 'a>
+        ensures { (cs : List ClassFact) (t : DeclaredFrames) (m : Method acts.Act) (at : ℕ) (f : FrameFact) → IsKnown cs t f self.entry → IsKnown cs t (after m at (plan_yet m (act_view act.now)) f) result }
+    {
+        if !keeps_locals(act) {
+            return Known::nothing();
+        }
+        self
+    }
+}
