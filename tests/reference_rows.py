@@ -209,8 +209,9 @@ OF_INSTANCES = """
 class Constants:
     """The constants of K, and those that code names, each once."""
 
-    def __init__(self, descriptor):
+    def __init__(self, descriptor, name="f"):
         self.items = list(with_constant(6, utf8(descriptor)).constants)
+        self.items[4] = utf8(name)
         self.places = {}
 
     def put(self, constant, units=1):

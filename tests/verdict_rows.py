@@ -3,6 +3,7 @@ from dataclasses import replace
 
 from assembler import NATIVE, OBJECT, STATIC, attribute, code_of, integer, long, name_and_type, named, reference, utf8
 from class_k import K, OBJECT_CLASS, code_f, method_f, with_constant
+from object_rows import with_objects
 from reference_rows import with_references
 
 CLONEABLE = "java/lang/Cloneable"
@@ -157,7 +158,7 @@ MAPPED = """
 ()V 1 0 | nop; return | 0001 40080000 | refused 78 at 0 fault 53
 ()V 1 0 | nop; return | 0001 40070000 | refused 78 at 0 fault 8
 ()V 1 0 | nop; return | 0001 40070002 | refused 78 at 0 fault 9
-()V 0 0 | return; new 3; pop; return | 0001 01 | refused 60 at 1
+()V 0 0 | return; new 3; pop; return | 0001 01 | refused 65 at 1
 # the parameters go before the map, and the map before the code
 (J)V 0 1 | return | 00 | refused 64 at 0
 ()V 0 0 | pop | 0001 | refused 78 at 0 fault 2
@@ -240,5 +241,5 @@ def hierarchies():
 
 def verified():
     """What each list of files is, their bytes, and the line of it."""
-    for table in (verdicts, mapped_verdicts, with_references, left_out, hierarchies):
+    for table in (verdicts, mapped_verdicts, with_references, with_objects, left_out, hierarchies):
         yield from table()

@@ -21,7 +21,7 @@ use Rattle.frames.specs.Marks.{IsMark, AreMarks, AreClear}
 -- ---- no instruction
 
 pub none_marked : (code : List ℕ) → instructions_in code ≡ [] → AreMarks [] (acts (instructions_in code))
-none_marked code e = subst (λ (xs : List (ℕ × Instruction)). AreMarks [] (acts xs)) (sym e) (λ k. record { start = refl; new = refl })
+none_marked code e = subst (λ (xs : List (ℕ × Instruction)). AreMarks [] (acts xs)) (sym e) (λ k. record { start = refl; new = refl; index = refl })
 
 pub no_code : instructions_in [] ≡ []
 unfolding reading_of reading_from
@@ -50,7 +50,7 @@ pub record Marking (code : List ℕ) (p : Place) (marks : List Mark) : Type 0 wh
   pub long : length marks ≡ length code
 
 pub clear_marked : (marks : List Mark) → AreClear marks → AreMarks marks []
-clear_marked marks h k = subst (λ (x : Mark). IsMark x None) (sym (h k)) (record { start = refl; new = refl })
+clear_marked marks h k = subst (λ (x : Mark). IsMark x None) (sym (h k)) (record { start = refl; new = refl; index = refl })
 
 pub marking_first : (code : List ℕ) (p : Place) (marks : List Mark) → p ≡ record { at = 0; rest = code } → AreClear marks → length marks ≡ length code → Marking code p marks
 marking_first code p marks e h long =

@@ -1,6 +1,7 @@
 -- Marks at the offsets of code: where instructions begin, and which of them are a `new`.
-use Rattle.std.specs.Prelude.{◌≡◌, ℕ, Bool, true, false, List, Option, is_some, get_or}
+use Rattle.std.specs.Prelude.{◌≡◌, ℕ, Bool, true, false, List, Option, Some, None, is_some, get_or}
 use Rattle.insn.specs.Meanings.{Act}
+use Rattle.insn.specs.Meanings as acts
 use Rattle.insn.specs.Offsets.{at_offset}
 use Rattle.frames.specs.DeclaredFrames.{is_new}
 use Rattle.frames.specs.declared.code_starts.Mark.{Mark}
@@ -9,17 +10,28 @@ use Rattle.frames.specs.declared.code_starts.Mark.TheVariants.{Inside, Start, Ne
 abbrev pub is_start_mark : Mark → Bool
 is_start_mark Inside = false
 is_start_mark Start = true
-is_start_mark New = true
+is_start_mark (New index) = true
 
 abbrev pub is_new_mark : Mark → Bool
 is_new_mark Inside = false
 is_new_mark Start = false
-is_new_mark New = true
+is_new_mark (New index) = true
+
+abbrev pub index_of_mark : Mark → Option ℕ
+index_of_mark Inside = None
+index_of_mark Start = None
+index_of_mark (New index) = Some index
+
+-- the class that a `new` makes an object of, by its index (JVMS 6.5, new)
+abbrev pub new_index : Option Act → Option ℕ
+new_index (Some (acts.New index)) = Some index
+new_index _ = None
 
 -- the mark of what stands at an offset
 pub record IsMark (m : Mark) (what : Option Act) : Type 0 where
   pub start : is_start_mark m ≡ is_some what
   pub new : is_new_mark m ≡ is_new what
+  pub index : index_of_mark m ≡ new_index what
 
 -- behind the last mark no instruction begins
 abbrev pub AreMarks : List Mark → List (ℕ × Act) → Type 0

@@ -6,7 +6,7 @@ ghost use Rattle.insn.specs.Readings.{instructions_in};
 ghost use Rattle.insn.specs.Views.{view, views};
 ghost use Rattle.frames.specs.declared.code_starts.Mark.TheVariants.{Inside};
 ghost use Rattle.frames.specs.DeclaredFrames.{is_new};
-ghost use Rattle.frames.specs.Marks.{IsMark, AreMarks, AreClear, is_start_mark, is_new_mark};
+ghost use Rattle.frames.specs.Marks.{IsMark, AreMarks, AreClear, is_start_mark, is_new_mark, index_of_mark};
 
 use crate::starts::Starts;
 use insn::{Act, Insn, Instructions, act};
@@ -20,10 +20,13 @@ pub enum Mark {
     /// An instruction begins there that is no `new`.
     Start,
     /// A `new` begins there.
-    New,
+    New {
+        /// The constant pool's index of its class.
+        index: u16,
+    },
 }
 
-/// Where the instructions of a method's code begin, with a byte for each byte of the code. It is made once for a method,
+/// Where the instructions of a method's code begin, with four bytes for each byte of the code. It is made once for a method,
 /// and again for the next one in the same memory.
 #[derive(Drop)]
 pub struct CodeStarts<'a> {
@@ -37,7 +40,7 @@ fn mark_of(insn: &Insn) -> Mark
     ensures { IsMark result (Some (act (view insn.now))) }
 {
     match act(insn) {
-        Act::New { .. } => Mark::New,
+        Act::New { index } => Mark::New { index },
         _ => Mark::Start,
     }
 }
@@ -57,7 +60,7 @@ fn is_start(mark: Mark) -> bool
 {
     match mark {
         Mark::Inside => false,
-        Mark::Start | Mark::New => true,
+        Mark::Start | Mark::New { .. } => true,
     }
 }
 
@@ -65,8 +68,17 @@ fn is_new(mark: Mark) -> bool
     ensures { result ≡ is_new_mark mark }
 {
     match mark {
-        Mark::New => true,
+        Mark::New { .. } => true,
         Mark::Inside | Mark::Start => false,
+    }
+}
+
+fn index_of(mark: Mark) -> Option<u16>
+    ensures { result ≡ index_of_mark mark }
+{
+    match mark {
+        Mark::New { index } => Some(index),
+        Mark::Inside | Mark::Start => None,
     }
 }
 
@@ -162,9 +174,13 @@ impl<'a> Starts for CodeStarts<'a> {
     fn is_new(&self, at: u16) -> bool {
         is_new(mark_at(&self.marks, usize::from(at)))
     }
+
+    fn class_index(&self, at: u16) -> Option<u16> {
+        index_of(mark_at(&self.marks, usize::from(at)))
+    }
 }
 
-/// Where the instructions of a list begin, of which the first at an offset counts. It takes 65,536 bytes.
+/// Where the instructions of a list begin, of which the first at an offset counts. It takes 262,144 bytes.
 #[derive(Drop)]
 pub struct ListStarts<'c, 'a> {
     list: &'c [(u16, Insn<'a>)],
@@ -200,5 +216,9 @@ impl<'c, 'a> Starts for ListStarts<'c, 'a> {
 
     fn is_new(&self, at: u16) -> bool {
         is_new(mark_at(&self.marks, usize::from(at)))
+    }
+
+    fn class_index(&self, at: u16) -> Option<u16> {
+        index_of(mark_at(&self.marks, usize::from(at)))
     }
 }

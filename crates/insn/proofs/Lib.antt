@@ -4,6 +4,7 @@ pub mod Keys
 pub mod Kept
 pub mod Numbers
 pub mod OperandLaws
+pub mod Places
 pub mod Readings
 pub mod Rows
 pub mod Spelled

@@ -13,6 +13,5 @@ pub mod Table
 pub mod Views
 pub mod Offsets
 pub mod Stacks
-pub mod Supported
 pub mod Switches
 pub mod Branching

@@ -11,6 +11,7 @@
 //! - `decoding`: all of a method's code
 //! - `encoding`: code from its instructions
 //! - `fault`: why bytes are no code
+//! - `finding`: the instruction at an offset
 //! - `instruction`: an opcode and what stands behind it
 //! - `laws`: laws of code, without code
 //! - `meaning`: what an instruction means
@@ -28,6 +29,7 @@ mod code_array;
 mod decoding;
 mod encoding;
 mod fault;
+mod finding;
 mod instruction;
 mod laws;
 mod meaning;
@@ -44,6 +46,7 @@ pub use code_array::Instructions;
 pub use decoding::{count_instructions, decode_code};
 pub use encoding::encode_code;
 pub use fault::CodeFault;
+pub use finding::found_at;
 pub use instruction::{Insn, Operands, is_rising_start, is_start, mnemonic};
 pub use laws::{
     code_is_one_list, list_is_one_code, opcodes_have_numbers, read_is_written,

@@ -5,7 +5,6 @@ mod Stacks
 mod Addresses
 mod Moves
 pub mod Apart
-mod Places
 mod Forms
 mod Needs
 mod Effects

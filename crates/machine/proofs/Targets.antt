@@ -10,16 +10,7 @@ use Rattle.insn.specs.Offsets.{at_offset, StartsRise}
 use Rattle.insn.specs.Views.{located, views}
 use Rattle.machine.specs.Bodies.{code_of}
 use Rattle.machine.specs.private.Demanded.{begins}
-use Rattle.machine.proofs.Places.{begins as offsets_alike}
-
-pub past_last : {A : Type 0} (n : ℕ) (xs : List (ℕ × A)) (i : ℕ) (d : ℕ × A) (at : ℕ) → StartsRise n xs → i + 1 ≡ length xs → (get_or xs i d).0 < at
-    → (n ≤ (get_or xs i d).0) × (at_offset xs at ≡ None)
-past_last n [] i d at s e lt = absurd (omega (arith, e))
-past_last n (x ∷ []) zero d at s e lt = (s.0, rw (ne_eqb x.0 at (λ q. absurd (omega (arith, q, lt)))) refl)
-past_last n (x ∷ y ∷ xs) zero d at s e lt = absurd (omega (arith, e))
-past_last n (x ∷ xs) (suc k) d at s e lt =
-    let r = past_last (x.0 + 1) xs k d at s.1 (omega (arith, e)) lt in
-    (omega (arith, s.0, r.0), rw (ne_eqb x.0 at (λ q. absurd (omega (arith, q, r.0, lt)))) (r.1))
+use Rattle.insn.proofs.Places.{begins as offsets_alike, past_last}
 
 pub behind_all : (list : List (ℕ × Insn)) (i : ℕ) (d : ℕ × Insn) (target : ℤ) → StartsRise 0 (views list) → i + 1 ≡ length list
     → int_lt (pos (get_or list i d).0) target ≡ true → begins (code_of list) target ≡ false

@@ -1,39 +1,14 @@
 //! Where instructions begin.
-ghost use Rattle.std.specs.Prelude.{◌≡◌, Some, None, map, option_map, slice_get, MatchOption};
+ghost use Rattle.std.specs.Prelude.{◌≡◌, map};
 ghost use Rattle.classfile.specs.Methods.{covers};
-ghost use Rattle.insn.specs.Offsets.{StartsRise, at_offset, next_offset, has_offset};
+ghost use Rattle.insn.specs.Offsets.{StartsRise, has_offset};
 ghost use Rattle.insn.specs.Branching.{targets_of};
-ghost use Rattle.insn.specs.Views.{views, act_view};
+ghost use Rattle.insn.specs.Views.{views};
 ghost use Rattle.machine.specs.Bodies.{code_of, entry_view};
 ghost use Rattle.machine.specs.private.Demanded.{begins, all_begin, leads, all_lead};
 
 use crate::body::ExceptionEntry;
-use insn::{Act, BranchTargets, Insn, act, is_rising_start};
-
-// Where the instruction of this number begins, if there is one.
-fn start_at(list: &[(u16, Insn<'_>)], number: usize) -> Option<u16>
-    ensures { result ≡ option_map (λ x. x.0) (slice_get list.now number) }
-{
-    match list.get(number) {
-        None => None,
-        Some((start, _)) => Some(*start),
-    }
-}
-
-/// What the instruction at an offset does, and where the next one begins, if one begins there.
-pub fn found_at<'a>(list: &[(u16, Insn<'a>)], at: u16) -> Option<(Act<'a>, Option<u16>)>
-    requires { StartsRise 0 (views list.now) }
-    ensures { MatchOption result (at_offset (code_of list.now) at ≡ None)
-        (λ x. (at_offset (code_of list.now) at ≡ Some (act_view x.0)) × (next_offset (code_of list.now) at ≡ x.1)) }
-{
-    match list.binary_search_by_key(&at, |(start, _)| *start) {
-        Err(_) => None,
-        Ok(place) => {
-            let next = start_at(list, place + 1);
-            Some((act(&list[place].1), next))
-        }
-    }
-}
+use insn::{BranchTargets, Insn, is_rising_start};
 
 fn has_offset(list: &[(u16, Insn<'_>)], at: u16) -> bool
     requires { StartsRise 0 (views list.now) }

@@ -12,8 +12,8 @@ use crate::demands::meets;
 use crate::going::go;
 use crate::raising::raise;
 use crate::snapshot::State;
-use crate::starts::found_at;
 use hierarchy::Classes;
+use insn::found_at;
 use std::alloc::Global;
 
 /// A step of the machine (JVMS 2.10, 2.11, 6.5) from a state, by a choice, in the world that has these classes and no

@@ -5,7 +5,7 @@ use hierarchy::{Chains, summary_of};
 use std::alloc::{AllocError, Global};
 use std::test::*;
 use verify::{
-    ClassFault, MethodVerdict, Report, Verdict, VerifyFault, map_refused_where, none_is_replaced,
+    ClassFault, MethodVerdict, Report, Verdict, VerifyFault, map_refused_where,
     one_report, one_verdict, refused_where, type_safe_is_safe, type_safe_is_verified,
     verified_is_type_safe, verify_class, verify_method, verify_methods,
 };
@@ -17,7 +17,6 @@ fn theorem_and_laws_are_called() {
     type_safe_is_verified();
     refused_where();
     map_refused_where();
-    none_is_replaced();
     one_verdict();
     one_report();
 }

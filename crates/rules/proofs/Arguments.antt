@@ -6,7 +6,7 @@ use Rattle.rules.specs.declared.want.Want.{Want as RawWant}
 use Rattle.rules.specs.Plans.{Want, want_of, arguments_on}
 use Rattle.rules.specs.Views.{want_view}
 
-map_reversed : {A B : Type 0} (f : A → B) (xs : List A) → map f (reverse xs) ≡ reverse (map f xs)
+pub map_reversed : {A B : Type 0} (f : A → B) (xs : List A) → map f (reverse xs) ≡ reverse (map f xs)
 map_reversed f [] = refl
 map_reversed f (x ∷ xs) =
     ap (map f) (reverse-append (x ∷ []) xs) ∙ map-append f (reverse xs) (x ∷ []) ∙ ap (λ ys. ys ++ f x ∷ []) (map_reversed f xs)

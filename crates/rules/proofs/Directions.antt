@@ -1,10 +1,10 @@
 -- Where the plan of an instruction goes: as its act says, whatever the method; or there is no rule, for a reason that goes before all that is not
--- the rule's. No plan that is there yet is of a constructor's call.
+-- the rule's.
 use Rattle.std.proofs.Common.{◌≡◌, ◌⊎◌, ◌∙◌, ℕ, ◌<◌, Bool, true, false, List, [], ◌∷◌, Option, Some, None, refl, sym, ap, arith, inl, inr, if◌then◌else◌}
 use Rattle.names.specs.declared.base.Primitive.{Primitive}
 use Rattle.names.specs.Descriptors.{FieldDescriptor, primitive, class as class_descriptor, array as array_descriptor}
 use Rattle.std.specs.Prelude.{nat_lt, not, ◌&&◌}
-use Rattle.names.specs.ReferenceTypes.{ReferenceType, descriptor_of, dimensions_of}
+use Rattle.names.specs.ReferenceTypes.{ReferenceType, class_type, array_type, descriptor_of, dimensions_of}
 use Rattle.classfile.specs.Methods.{Method}
 use Rattle.pool.specs.Entries as entries
 use Rattle.pool.specs.Entries.{Entry}
@@ -16,19 +16,15 @@ use Rattle.frames.specs.Slots.{to_reference}
 use Rattle.insn.specs.Meanings as acts
 use Rattle.insn.specs.Meanings.{Act}
 use Rattle.insn.specs.Stacks.{same_kind, computed_as}
-use Rattle.insn.specs.Supported.{as_supported}
-use Rattle.frames.specs.FrameFact.{FrameFact}
-use Rattle.rules.specs.Plans.{Plan, pops, sizes, number, refuses, falls, offsets_of, where_allowed}
-use Rattle.rules.specs.Constants.{load_constant, load_wide_constant, get_static, put_static, get_field, put_field, invoke_static, invoke_virtual, invoke_interface, static_call, call_on, may_invoke_interface, new_array, new_reference_array, new_multi_array, check_cast, instance_of}
+use Rattle.rules.specs.Plans.{Plan, pops, makes, constructs, calls_special, sizes, number, refuses, falls, offsets_of, where_allowed, arguments_on, class_want, result_types}
+use Rattle.rules.specs.Constants.{load_constant, load_wide_constant, get_static, put_static, get_field, put_field, invoke_static, invoke_virtual, invoke_interface, static_call, call_on, may_invoke_interface, new_array, new_reference_array, new_multi_array, check_cast, instance_of, is_init_name, constructor_call, special_call, invoke_special, new_object}
 use Rattle.rules.specs.Table.{plan, return_number, return_reference, return_nothing, leaves_with}
-use Rattle.rules.specs.Rules.{constructs_own}
 use Rattle.rules.specs.Ways.{goes_on, branch_offsets}
 
 -- a plan that goes on and branches nowhere
 pub record GoesOn (p : Plan) : Type 0 where
   pub falls_on : falls p ≡ true
   pub nowhere : offsets_of p ≡ []
-  pub own : (f : FrameFact) → constructs_own p f ≡ false
 
 -- that, or no rule
 abbrev MayGoOn : Plan → Type 0
@@ -37,38 +33,37 @@ MayGoOn p = GoesOn p ⊎ ((n : ℕ) × (p ≡ refuses n) × (n < 67))
 -- what is known of the plan of an act
 pub record WayOf (a : Act) (p : Plan) : Type 0 where
   pub early : ((goes_on a ≡ falls p) × (branch_offsets a ≡ offsets_of p)) ⊎ ((n : ℕ) × (p ≡ refuses n) × (n < 67))
-  pub own : (f : FrameFact) → constructs_own p f ≡ false
 
-on : (p : Plan) → falls p ≡ true → offsets_of p ≡ [] → ((f : FrameFact) → constructs_own p f ≡ false) → MayGoOn p
-on p e n o = inl (record { falls_on = e; nowhere = n; own = o })
+on : (p : Plan) → falls p ≡ true → offsets_of p ≡ [] → MayGoOn p
+on p e n = inl (record { falls_on = e; nowhere = n })
 
 none : (p : Plan) (n : ℕ) → p ≡ refuses n → n < 67 → MayGoOn p
 none p n e lt = inr (n, e, lt)
 
 plain : (a : Act) (p : Plan) → goes_on a ≡ true → branch_offsets a ≡ [] → MayGoOn p → WayOf a p
-plain a p e b (inl g) = record { early = inl (e ∙ sym g.falls_on, b ∙ sym g.nowhere); own = g.own }
-plain a p e b (inr x) = record { early = inr x; own = λ f. ap (λ z. constructs_own z f) x.1 }
+plain a p e b (inl g) = record { early = inl (e ∙ sym g.falls_on, b ∙ sym g.nowhere) }
+plain a p e b (inr x) = record { early = inr x }
 
-direct : (a : Act) (p : Plan) → goes_on a ≡ falls p → branch_offsets a ≡ offsets_of p → ((f : FrameFact) → constructs_own p f ≡ false) → WayOf a p
-direct a p e b o = record { early = inl (e, b); own = o }
+direct : (a : Act) (p : Plan) → goes_on a ≡ falls p → branch_offsets a ≡ offsets_of p → WayOf a p
+direct a p e b = record { early = inl (e, b) }
 
 -- ---- constants
 
 loaded : (c : Option Entry) → MayGoOn (load_constant c)
 loaded None = none (load_constant None) 66 refl (omega arith)
 loaded (Some (entries.Utf8 text)) = none (load_constant (Some (entries.Utf8 text))) 66 refl (omega arith)
-loaded (Some (entries.Integer bits)) = on (load_constant (Some (entries.Integer bits))) refl refl (λ f. refl)
-loaded (Some (entries.Float bits)) = on (load_constant (Some (entries.Float bits))) refl refl (λ f. refl)
+loaded (Some (entries.Integer bits)) = on (load_constant (Some (entries.Integer bits))) refl refl
+loaded (Some (entries.Float bits)) = on (load_constant (Some (entries.Float bits))) refl refl
 loaded (Some (entries.Long high low)) = none (load_constant (Some (entries.Long high low))) 66 refl (omega arith)
 loaded (Some (entries.Double high low)) = none (load_constant (Some (entries.Double high low))) 66 refl (omega arith)
-loaded (Some (entries.Class name)) = on (load_constant (Some (entries.Class name))) refl refl (λ f. refl)
-loaded (Some (entries.String text)) = on (load_constant (Some (entries.String text))) refl refl (λ f. refl)
+loaded (Some (entries.Class name)) = on (load_constant (Some (entries.Class name))) refl refl
+loaded (Some (entries.String text)) = on (load_constant (Some (entries.String text))) refl refl
 loaded (Some (entries.Fieldref class name_and_type)) = none (load_constant (Some (entries.Fieldref class name_and_type))) 66 refl (omega arith)
 loaded (Some (entries.Methodref class name_and_type)) = none (load_constant (Some (entries.Methodref class name_and_type))) 66 refl (omega arith)
 loaded (Some (entries.InterfaceMethodref class name_and_type)) = none (load_constant (Some (entries.InterfaceMethodref class name_and_type))) 66 refl (omega arith)
 loaded (Some (entries.NameAndType name descriptor)) = none (load_constant (Some (entries.NameAndType name descriptor))) 66 refl (omega arith)
-loaded (Some (entries.MethodHandle kind reference)) = on (load_constant (Some (entries.MethodHandle kind reference))) refl refl (λ f. refl)
-loaded (Some (entries.MethodType descriptor)) = on (load_constant (Some (entries.MethodType descriptor))) refl refl (λ f. refl)
+loaded (Some (entries.MethodHandle kind reference)) = on (load_constant (Some (entries.MethodHandle kind reference))) refl refl
+loaded (Some (entries.MethodType descriptor)) = on (load_constant (Some (entries.MethodType descriptor))) refl refl
 loaded (Some (entries.Dynamic bootstrap name)) = none (load_constant (Some (entries.Dynamic bootstrap name))) 60 refl (omega arith)
 loaded (Some (entries.InvokeDynamic bootstrap name)) = none (load_constant (Some (entries.InvokeDynamic bootstrap name))) 66 refl (omega arith)
 loaded (Some entries.Unusable) = none (load_constant (Some entries.Unusable)) 66 refl (omega arith)
@@ -78,8 +73,8 @@ loaded_wide None = none (load_wide_constant None) 66 refl (omega arith)
 loaded_wide (Some (entries.Utf8 text)) = none (load_wide_constant (Some (entries.Utf8 text))) 66 refl (omega arith)
 loaded_wide (Some (entries.Integer bits)) = none (load_wide_constant (Some (entries.Integer bits))) 66 refl (omega arith)
 loaded_wide (Some (entries.Float bits)) = none (load_wide_constant (Some (entries.Float bits))) 66 refl (omega arith)
-loaded_wide (Some (entries.Long high low)) = on (load_wide_constant (Some (entries.Long high low))) refl refl (λ f. refl)
-loaded_wide (Some (entries.Double high low)) = on (load_wide_constant (Some (entries.Double high low))) refl refl (λ f. refl)
+loaded_wide (Some (entries.Long high low)) = on (load_wide_constant (Some (entries.Long high low))) refl refl
+loaded_wide (Some (entries.Double high low)) = on (load_wide_constant (Some (entries.Double high low))) refl refl
 loaded_wide (Some (entries.Class name)) = none (load_wide_constant (Some (entries.Class name))) 66 refl (omega arith)
 loaded_wide (Some (entries.String text)) = none (load_wide_constant (Some (entries.String text))) 66 refl (omega arith)
 loaded_wide (Some (entries.Fieldref class name_and_type)) = none (load_wide_constant (Some (entries.Fieldref class name_and_type))) 66 refl (omega arith)
@@ -100,27 +95,27 @@ allowed false p g = none (refuses 66) 66 refl (omega arith)
 
 get_static_on : (o : Option FieldConstant) → MayGoOn (get_static o)
 get_static_on None = none (get_static None) 66 refl (omega arith)
-get_static_on (Some c) = on (get_static (Some c)) refl refl (λ f. refl)
+get_static_on (Some c) = on (get_static (Some c)) refl refl
 
 put_static_on : (o : Option FieldConstant) → MayGoOn (put_static o)
 put_static_on None = none (put_static None) 66 refl (omega arith)
-put_static_on (Some c) = on (put_static (Some c)) refl refl (λ f. refl)
+put_static_on (Some c) = on (put_static (Some c)) refl refl
 
 get_field_on : (o : Option FieldConstant) → MayGoOn (get_field o)
 get_field_on None = none (get_field None) 66 refl (omega arith)
-get_field_on (Some c) = on (get_field (Some c)) refl refl (λ f. refl)
+get_field_on (Some c) = on (get_field (Some c)) refl refl
 
 put_field_on : (m : Method Act) (o : Option FieldConstant) → MayGoOn (put_field m o)
 put_field_on m None = none (put_field m None) 66 refl (omega arith)
-put_field_on m (Some c) = on (put_field m (Some c)) refl refl (λ f. refl)
+put_field_on m (Some c) = on (put_field m (Some c)) refl refl
 
 -- ---- calls
 
 call_goes : (t : ReferenceType) (c : MethodConstant) → GoesOn (call_on t c)
-call_goes t c = record { falls_on = refl; nowhere = refl; own = λ f. refl }
+call_goes t c = record { falls_on = refl; nowhere = refl }
 
 static_goes : (c : MethodConstant) → GoesOn (static_call c)
-static_goes c = record { falls_on = refl; nowhere = refl; own = λ f. refl }
+static_goes c = record { falls_on = refl; nowhere = refl }
 
 static_on : (major : ℕ) (o : Option MethodConstant) → MayGoOn (invoke_static major o)
 static_on major None = none (invoke_static major None) 66 refl (omega arith)
@@ -134,35 +129,54 @@ interface_on : (count : ℕ) (o : Option MethodConstant) → MayGoOn (invoke_int
 interface_on count None = none (invoke_interface count None) 66 refl (omega arith)
 interface_on count (Some c) = allowed (may_invoke_interface count c) (call_on c.class c) (call_goes c.class c)
 
--- ---- arrays and casts
+either : (b : Bool) (p q : Plan) → MayGoOn p → MayGoOn q → MayGoOn (if b then p else q)
+either true p q x y = x
+either false p q x y = y
+
+constructor_on : (c : MethodConstant) (t : ReferenceType) → MayGoOn (constructor_call c t)
+constructor_on c (class_type name) = allowed _ (constructs name (arguments_on c.type.params [])) (record { falls_on = refl; nowhere = refl })
+constructor_on c (array_type component) = none (refuses 66) 66 refl (omega arith)
+
+special_on : (major : ℕ) (me : List ℕ) (o : Option MethodConstant) → MayGoOn (invoke_special major me o)
+special_on major me None = none (refuses 66) 66 refl (omega arith)
+special_on major me (Some c) =
+    either (is_init_name c) (constructor_call c c.class) (special_call major me c) (constructor_on c c.class)
+    (allowed _ (calls_special c.class (arguments_on c.type.params (class_want me ∷ [])) (result_types c.type.result)) (record { falls_on = refl; nowhere = refl }))
+
+-- ---- objects, arrays and casts
+
+new_on : (o : Option ReferenceType) → MayGoOn (new_object o)
+new_on None = none (refuses 66) 66 refl (omega arith)
+new_on (Some (class_type name)) = on (makes name) refl refl
+new_on (Some (array_type component)) = none (refuses 66) 66 refl (omega arith)
 
 array_on : (o : Option Primitive) → MayGoOn (new_array o)
 array_on None = none (new_array None) 66 refl (omega arith)
-array_on (Some p) = on (new_array (Some p)) refl refl (λ f. refl)
+array_on (Some p) = on (new_array (Some p)) refl refl
 
 references_on : (o : Option ReferenceType) → MayGoOn (new_reference_array o)
 references_on None = none (new_reference_array None) 66 refl (omega arith)
 references_on (Some t) =
-    allowed (nat_lt (dimensions_of t) 255) (pops (number Int ∷ []) (array (descriptor_of t) ∷ []) [] true) (record { falls_on = refl; nowhere = refl; own = λ f. refl })
+    allowed (nat_lt (dimensions_of t) 255) (pops (number Int ∷ []) (array (descriptor_of t) ∷ []) [] true) (record { falls_on = refl; nowhere = refl })
 
 multi_on : (n : ℕ) (o : Option ReferenceType) → MayGoOn (new_multi_array n o)
 multi_on n None = none (new_multi_array n None) 66 refl (omega arith)
 multi_on n (Some t) =
-    allowed (nat_lt 0 n && not (nat_lt (dimensions_of t) n)) (pops (sizes n) (to_reference t ∷ []) [] true) (record { falls_on = refl; nowhere = refl; own = λ f. refl })
+    allowed (nat_lt 0 n && not (nat_lt (dimensions_of t) n)) (pops (sizes n) (to_reference t ∷ []) [] true) (record { falls_on = refl; nowhere = refl })
 
 cast_on : (o : Option ReferenceType) → MayGoOn (check_cast o)
 cast_on None = none (check_cast None) 66 refl (omega arith)
-cast_on (Some t) = on (check_cast (Some t)) refl refl (λ f. refl)
+cast_on (Some t) = on (check_cast (Some t)) refl refl
 
 instance_on : (o : Option ReferenceType) → MayGoOn (instance_of o)
 instance_on None = none (instance_of None) 66 refl (omega arith)
-instance_on (Some t) = on (instance_of (Some t)) refl refl (λ f. refl)
+instance_on (Some t) = on (instance_of (Some t)) refl refl
 
 -- ---- returns
 
 number_way : (kind : Kind) (b : Bool) → WayOf (acts.Return kind) (if b then leaves_with (number kind) else refuses 76)
-number_way kind true = direct (acts.Return kind) (leaves_with (number kind)) refl refl (λ f. refl)
-number_way kind false = direct (acts.Return kind) (refuses 76) refl refl (λ f. refl)
+number_way kind true = direct (acts.Return kind) (leaves_with (number kind)) refl refl
+number_way kind false = direct (acts.Return kind) (refuses 76) refl refl
 
 return_way : (kind : Kind) (t : Option FieldDescriptor) → WayOf (acts.Return kind) (return_number t kind)
 return_way kind None = number_way kind false
@@ -171,46 +185,46 @@ return_way kind (Some (class_descriptor name)) = number_way kind false
 return_way kind (Some (array_descriptor component)) = number_way kind false
 
 reference_way : (t : Option FieldDescriptor) → WayOf acts.ReturnReference (return_reference t)
-reference_way None = direct acts.ReturnReference (refuses 76) refl refl (λ f. refl)
-reference_way (Some (primitive p)) = direct acts.ReturnReference (refuses 76) refl refl (λ f. refl)
-reference_way (Some (class_descriptor name)) = direct acts.ReturnReference (return_reference (Some (class_descriptor name))) refl refl (λ f. refl)
-reference_way (Some (array_descriptor component)) = direct acts.ReturnReference (return_reference (Some (array_descriptor component))) refl refl (λ f. refl)
+reference_way None = direct acts.ReturnReference (refuses 76) refl refl
+reference_way (Some (primitive p)) = direct acts.ReturnReference (refuses 76) refl refl
+reference_way (Some (class_descriptor name)) = direct acts.ReturnReference (return_reference (Some (class_descriptor name))) refl refl
+reference_way (Some (array_descriptor component)) = direct acts.ReturnReference (return_reference (Some (array_descriptor component))) refl refl
 
 nothing_way : (t : Option FieldDescriptor) → WayOf acts.ReturnVoid (return_nothing t)
-nothing_way None = direct acts.ReturnVoid (return_nothing None) refl refl (λ f. refl)
-nothing_way (Some t) = direct acts.ReturnVoid (refuses 76) refl refl (λ f. refl)
+nothing_way None = direct acts.ReturnVoid (return_nothing None) refl refl
+nothing_way (Some t) = direct acts.ReturnVoid (refuses 76) refl refl
 
 -- ---- all acts
 
-at_once : (m : Method Act) (a : Act) → goes_on a ≡ falls (plan m (as_supported a)) → branch_offsets a ≡ offsets_of (plan m (as_supported a))
-    → ((f : FrameFact) → constructs_own (plan m (as_supported a)) f ≡ false) → WayOf a (plan m (as_supported a))
-at_once m a e b o = direct a (plan m (as_supported a)) e b o
+at_once : (m : Method Act) (a : Act) → goes_on a ≡ falls (plan m a) → branch_offsets a ≡ offsets_of (plan m a)
+    → WayOf a (plan m a)
+at_once m a e b = direct a (plan m a) e b
 
-pub way_of : (m : Method Act) (a : Act) → WayOf a (plan m (as_supported a))
-way_of m acts.Nothing = at_once m acts.Nothing refl refl (λ f. refl)
-way_of m (acts.Constant kind) = at_once m (acts.Constant kind) refl refl (λ f. refl)
-way_of m acts.ConstantNull = at_once m acts.ConstantNull refl refl (λ f. refl)
-way_of m (acts.Load kind n) = at_once m (acts.Load kind n) refl refl (λ f. refl)
-way_of m (acts.LoadReference n) = at_once m (acts.LoadReference n) refl refl (λ f. refl)
-way_of m (acts.Store kind n) = at_once m (acts.Store kind n) refl refl (λ f. refl)
-way_of m (acts.StoreReference n) = at_once m (acts.StoreReference n) refl refl (λ f. refl)
-way_of m (acts.Increment n) = at_once m (acts.Increment n) refl refl (λ f. refl)
-way_of m (acts.Numeric operator) = at_once m (acts.Numeric operator) refl refl (λ f. refl)
-way_of m (acts.Stack operator) = at_once m (acts.Stack operator) refl refl (λ f. refl)
-way_of m (acts.IfInt offset) = at_once m (acts.IfInt offset) refl refl (λ f. refl)
-way_of m (acts.IfInts offset) = at_once m (acts.IfInts offset) refl refl (λ f. refl)
-way_of m (acts.IfReferences offset) = at_once m (acts.IfReferences offset) refl refl (λ f. refl)
-way_of m (acts.IfNull offset) = at_once m (acts.IfNull offset) refl refl (λ f. refl)
-way_of m (acts.Goto offset) = at_once m (acts.Goto offset) refl refl (λ f. refl)
-way_of m (acts.Switch default offsets) = at_once m (acts.Switch default offsets) refl refl (λ f. refl)
-way_of m (acts.LoadElement p) = at_once m (acts.LoadElement p) refl refl (λ f. refl)
-way_of m (acts.StoreElement p) = at_once m (acts.StoreElement p) refl refl (λ f. refl)
-way_of m acts.LoadReferenceElement = at_once m acts.LoadReferenceElement refl refl (λ f. refl)
-way_of m acts.StoreReferenceElement = at_once m acts.StoreReferenceElement refl refl (λ f. refl)
-way_of m acts.ArrayLength = at_once m acts.ArrayLength refl refl (λ f. refl)
-way_of m acts.Throw = at_once m acts.Throw refl refl (λ f. refl)
-way_of m acts.Monitor = at_once m acts.Monitor refl refl (λ f. refl)
-way_of m acts.Unsupported = at_once m acts.Unsupported refl refl (λ f. refl)
+pub way_of : (m : Method Act) (a : Act) → WayOf a (plan m a)
+way_of m acts.Nothing = at_once m acts.Nothing refl refl
+way_of m (acts.Constant kind) = at_once m (acts.Constant kind) refl refl
+way_of m acts.ConstantNull = at_once m acts.ConstantNull refl refl
+way_of m (acts.Load kind n) = at_once m (acts.Load kind n) refl refl
+way_of m (acts.LoadReference n) = at_once m (acts.LoadReference n) refl refl
+way_of m (acts.Store kind n) = at_once m (acts.Store kind n) refl refl
+way_of m (acts.StoreReference n) = at_once m (acts.StoreReference n) refl refl
+way_of m (acts.Increment n) = at_once m (acts.Increment n) refl refl
+way_of m (acts.Numeric operator) = at_once m (acts.Numeric operator) refl refl
+way_of m (acts.Stack operator) = at_once m (acts.Stack operator) refl refl
+way_of m (acts.IfInt offset) = at_once m (acts.IfInt offset) refl refl
+way_of m (acts.IfInts offset) = at_once m (acts.IfInts offset) refl refl
+way_of m (acts.IfReferences offset) = at_once m (acts.IfReferences offset) refl refl
+way_of m (acts.IfNull offset) = at_once m (acts.IfNull offset) refl refl
+way_of m (acts.Goto offset) = at_once m (acts.Goto offset) refl refl
+way_of m (acts.Switch default offsets) = at_once m (acts.Switch default offsets) refl refl
+way_of m (acts.LoadElement p) = at_once m (acts.LoadElement p) refl refl
+way_of m (acts.StoreElement p) = at_once m (acts.StoreElement p) refl refl
+way_of m acts.LoadReferenceElement = at_once m acts.LoadReferenceElement refl refl
+way_of m acts.StoreReferenceElement = at_once m acts.StoreReferenceElement refl refl
+way_of m acts.ArrayLength = at_once m acts.ArrayLength refl refl
+way_of m acts.Throw = at_once m acts.Throw refl refl
+way_of m acts.Monitor = at_once m acts.Monitor refl refl
+way_of m acts.Unsupported = at_once m acts.Unsupported refl refl
 way_of m (acts.LoadConstant i) = plain (acts.LoadConstant i) (load_constant (constant_at m.constant_pool i)) refl refl (loaded (constant_at m.constant_pool i))
 way_of m (acts.LoadWideConstant i) = plain (acts.LoadWideConstant i) (load_wide_constant (constant_at m.constant_pool i)) refl refl (loaded_wide (constant_at m.constant_pool i))
 way_of m (acts.GetStatic i) = plain (acts.GetStatic i) (get_static (field_at m.constant_pool i)) refl refl (get_static_on (field_at m.constant_pool i))
@@ -225,8 +239,9 @@ way_of m (acts.NewReferenceArray i) = plain (acts.NewReferenceArray i) (new_refe
 way_of m (acts.NewMultiArray i n) = plain (acts.NewMultiArray i n) (new_multi_array n (class_at m.constant_pool i)) refl refl (multi_on n (class_at m.constant_pool i))
 way_of m (acts.CheckCast i) = plain (acts.CheckCast i) (check_cast (class_at m.constant_pool i)) refl refl (cast_on (class_at m.constant_pool i))
 way_of m (acts.InstanceOf i) = plain (acts.InstanceOf i) (instance_of (class_at m.constant_pool i)) refl refl (instance_on (class_at m.constant_pool i))
-way_of m (acts.InvokeSpecial i) = plain (acts.InvokeSpecial i) (refuses 60) refl refl (none (refuses 60) 60 refl (omega arith))
-way_of m (acts.New i) = plain (acts.New i) (refuses 60) refl refl (none (refuses 60) 60 refl (omega arith))
+way_of m (acts.InvokeSpecial i) =
+    plain (acts.InvokeSpecial i) (invoke_special m.major_version m.class (method_at m.constant_pool i)) refl refl (special_on m.major_version m.class (method_at m.constant_pool i))
+way_of m (acts.New i) = plain (acts.New i) (new_object (class_at m.constant_pool i)) refl refl (new_on (class_at m.constant_pool i))
 way_of m (acts.Return kind) = return_way kind m.type.result
 way_of m acts.ReturnReference = reference_way m.type.result
 way_of m acts.ReturnVoid = nothing_way m.type.result

@@ -9,7 +9,6 @@ use Rattle.frames.specs.Conditions.{least}
 use Rattle.rules.specs.Plans.{Plan, refuses, falls, offsets_of}
 use Rattle.rules.specs.Table.{plan}
 use Rattle.rules.specs.Rules.{conditions, constructs_own}
-use Rattle.insn.specs.Supported.{as_supported}
 use Rattle.rules.specs.Ways.{goes_on, branch_offsets}
 use Rattle.rules.specs.After.{after}
 use Rattle.rules.specs.Applied.{Applied, TellsOwn}
@@ -29,49 +28,52 @@ pub record Goes (a : Act) (p : Plan) : Type 0 where
 no_rule : (cs : List ClassFact) (m : Method Act) (at : ℕ) (f : FrameFact) (p : Plan) (n : ℕ) → p ≡ refuses n → least (conditions cs m at p f) ≡ None → ⊥
 no_rule cs m at f p n e none = let x : least (conditions cs m at (refuses n) f) ≡ None = subst (λ z. least (conditions cs m at z f) ≡ None) e none in cc
 
-goes : (cs : List ClassFact) (m : Method Act) (at : ℕ) (f : FrameFact) (a : Act) → least (conditions cs m at (plan m (as_supported a)) f) ≡ None → Goes a (plan m (as_supported a))
+goes : (cs : List ClassFact) (m : Method Act) (at : ℕ) (f : FrameFact) (a : Act) → least (conditions cs m at (plan m a) f) ≡ None → Goes a (plan m a)
 goes cs m at f a e = elim (way_of m a).early [
   | inl way ↦ record { branches_are = way.1; falls_is = way.0 }
-  | inr r ↦ absurd (no_rule cs m at f (plan m (as_supported a)) r.0 r.1 e)
+  | inr r ↦ absurd (no_rule cs m at f (plan m a) r.0 r.1 e)
 ]
 
 -- ---- what is applied
 
-pub applied : (cs : List ClassFact) (m : Method Act) (at : ℕ) (f w new : FrameFact) (a b : Act) (frame : Frame) (t : BranchTargets) (on : Bool)
-    → b ≡ a → w ≡ f
-    → (least (conditions cs m at (plan m (as_supported b)) w) ≡ None) × (new ≡ after m at (plan m (as_supported b)) w)
+same_own : (m : Method Act) (f w : FrameFact) (a b : Act) (own : Bool) → b ≡ a → w ≡ f → own ≡ constructs_own (plan m b) w → own ≡ constructs_own (plan m a) f
+same_own m f w a b own act_is frame_is e = e ∙ ap (λ x. constructs_own (plan m x) w) act_is ∙ ap (constructs_own (plan m a)) frame_is
+
+pub applied : (cs : List ClassFact) (m : Method Act) (at : ℕ) (f w new : FrameFact) (a b : Act) (frame : Frame) (t : BranchTargets) (on own : Bool)
+    → b ≡ a → w ≡ f → own ≡ constructs_own (plan m b) w
+    → (least (conditions cs m at (plan m b) w) ≡ None) × (new ≡ after m at (plan m b) w)
     → frame_of frame ≡ new → targets_of t ≡ led_to at (branch_offsets a) → on ≡ goes_on a
-    → Applied cs m at (plan m (as_supported a)) f (Ok (record { frame = frame; targets = t; falls = on; own = false }))
-applied cs m at f w new a b frame t on act_is frame_is done held_is to goes_is =
-    let none : least (conditions cs m at (plan m (as_supported a)) f) ≡ None =
-    subst (λ x. least (conditions cs m at (plan m (as_supported x)) f) ≡ None) act_is
-    (subst (λ x. least (conditions cs m at (plan m (as_supported b)) x) ≡ None) frame_is done.0) in
+    → Applied cs m at (plan m a) f (Ok (record { frame = frame; targets = t; falls = on; own = own }))
+applied cs m at f w new a b frame t on own act_is frame_is own_is done held_is to goes_is =
+    let none : least (conditions cs m at (plan m a) f) ≡ None =
+    subst (λ x. least (conditions cs m at (plan m x) f) ≡ None) act_is
+    (subst (λ x. least (conditions cs m at (plan m b) x) ≡ None) frame_is done.0) in
     let way = goes cs m at f a none in
     record {
       outcome = (
         none,
         record {
-          frame_is = held_is ∙ done.1 ∙ ap (after m at (plan m (as_supported b))) frame_is ∙ ap (λ x. after m at (plan m (as_supported x)) f) act_is;
+          frame_is = held_is ∙ done.1 ∙ ap (after m at (plan m b)) frame_is ∙ ap (λ x. after m at (plan m x) f) act_is;
           targets_are = to ∙ ap (led_to at) way.branches_are;
           falls_is = goes_is ∙ way.falls_is;
-          own_is = sym ((way_of m a).own f);
+          own_is = same_own m f w a b own act_is frame_is own_is;
         },
       );
     }
 
 -- ---- what is refused
 
-tells : (p : Plan) (f : FrameFact) (e : Reason) → constructs_own p f ≡ false → TellsOwn p f e false
-tells p f (ClassMissing name) own = sym own
-tells p f _ own = tt
+tells : (p : Plan) (f : FrameFact) (e : Reason) (own : Bool) → own ≡ constructs_own p f → TellsOwn p f e own
+tells p f (ClassMissing name) own is = is
+tells p f _ own is = tt
 
-pub refused : (cs : List ClassFact) (m : Method Act) (at : ℕ) (f w : FrameFact) (a b : Act) (e : Reason) → b ≡ a → w ≡ f
-    → ((e ≡ OutOfMemory) ⊎ (least (conditions cs m at (plan m (as_supported b)) w) ≡ Some (reason_view e)))
-    → Applied cs m at (plan m (as_supported a)) f (Err (record { reason = e; own = false }))
-refused cs m at f w a b e act_is frame_is why = record {
+pub refused : (cs : List ClassFact) (m : Method Act) (at : ℕ) (f w : FrameFact) (a b : Act) (e : Reason) (own : Bool) → b ≡ a → w ≡ f → own ≡ constructs_own (plan m b) w
+    → ((e ≡ OutOfMemory) ⊎ (least (conditions cs m at (plan m b) w) ≡ Some (reason_view e)))
+    → Applied cs m at (plan m a) f (Err (record { reason = e; own = own }))
+refused cs m at f w a b e own act_is frame_is own_is why = record {
   outcome = (
-    tells (plan m (as_supported a)) f e ((way_of m a).own f),
-    subst (λ x. (e ≡ OutOfMemory) ⊎ (least (conditions cs m at (plan m (as_supported x)) f) ≡ Some (reason_view e))) act_is
-        (subst (λ x. (e ≡ OutOfMemory) ⊎ (least (conditions cs m at (plan m (as_supported b)) x) ≡ Some (reason_view e))) frame_is why),
+    tells (plan m a) f e own (same_own m f w a b own act_is frame_is own_is),
+    subst (λ x. (e ≡ OutOfMemory) ⊎ (least (conditions cs m at (plan m x) f) ≡ Some (reason_view e))) act_is
+        (subst (λ x. (e ≡ OutOfMemory) ⊎ (least (conditions cs m at (plan m b) x) ≡ Some (reason_view e))) frame_is why),
   );
 }

@@ -12,7 +12,6 @@ use Rattle.insn.specs.declared.operation.Kind.TheVariants as kinds
 use Rattle.insn.specs.Meanings as acts
 use Rattle.insn.specs.Meanings.{Act}
 use Rattle.insn.specs.Stacks.{same_kind, computed_as}
-use Rattle.insn.specs.Supported.{is_supported, as_supported}
 use Rattle.frames.specs.VerificationType.{array}
 use Rattle.frames.specs.Slots.{to_reference}
 use Rattle.frames.specs.FrameFact.{FrameFact}
@@ -22,7 +21,7 @@ use Rattle.rules.specs.Table.{plan, leaves_with, return_number, return_reference
 use Rattle.rules.specs.After.{after}
 use Rattle.rules.specs.Ways.{keeps_locals}
 
-abbrev changes_none : Plan → Bool
+abbrev pub changes_none : Plan → Bool
 changes_none (stores want n width) = false
 changes_none (makes name) = false
 changes_none (constructs name wants) = false
@@ -155,7 +154,7 @@ instance_none (Some t) = refl
 
 -- ---- all instructions
 
-by_plan : (m : Method Act) (a : Act) → keeps_locals a ≡ true → changes_none (plan m a) ≡ true
+pub by_plan : (m : Method Act) (a : Act) → keeps_locals a ≡ true → changes_none (plan m a) ≡ true
 by_plan m acts.Nothing e = refl
 by_plan m (acts.Constant kind) e = refl
 by_plan m acts.ConstantNull e = refl
@@ -200,9 +199,5 @@ by_plan m acts.Throw e = refl
 by_plan m acts.Monitor e = refl
 by_plan m acts.Unsupported e = refl
 
-supported_none : (m : Method Act) (a : Act) (b : Bool) → keeps_locals a ≡ true → changes_none (plan m (if b then a else acts.Unsupported)) ≡ true
-supported_none m a true e = by_plan m a e
-supported_none m a false e = refl
-
-pub locals_kept : (m : Method Act) (at : ℕ) (a : Act) (f : FrameFact) → keeps_locals a ≡ true → (after m at (plan m (as_supported a)) f).locals ≡ f.locals
-locals_kept m at a f e = changed_none m at (plan m (as_supported a)) f (supported_none m a (is_supported a) e)
+pub locals_kept : (m : Method Act) (at : ℕ) (a : Act) (f : FrameFact) → keeps_locals a ≡ true → (after m at (plan m a) f).locals ≡ f.locals
+locals_kept m at a f e = changed_none m at (plan m a) f (by_plan m a e)

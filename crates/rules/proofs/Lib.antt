@@ -9,3 +9,8 @@ pub mod Storing
 pub mod Taking
 pub mod Directions
 pub mod Arguments
+pub mod Replaced
+pub mod Constructors
+pub mod SpecialCalls
+pub mod Made
+pub mod Rising

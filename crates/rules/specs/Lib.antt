@@ -4,6 +4,7 @@ pub mod Constants
 pub mod Table
 pub mod After
 pub mod Rules
+pub mod Replacing
 pub mod Ways
 pub mod Working
 pub mod Held

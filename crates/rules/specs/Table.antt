@@ -12,7 +12,6 @@ use Rattle.insn.specs.Stacks.{computed_as, same_kind}
 use Rattle.insn.specs.Offsets.{at_offset}
 use Rattle.insn.specs.Meanings as acts
 use Rattle.insn.specs.Meanings.{Act}
-use Rattle.insn.specs.Supported.{as_supported}
 use Rattle.frames.specs.VerificationType.{int, null}
 use Rattle.frames.specs.Slots.{number_type}
 use Rattle.rules.specs.ReasonNumbers.{not_supported, wrong_return}
@@ -136,10 +135,6 @@ plan m acts.Unsupported = refuses not_supported
 -- what gives an instruction's plan, in a method
 abbrev pub Plans : Type 0
 Plans = Method Act → Act → Plan
-
--- The plans that are there yet: an instruction without one is refused as one that has none for good.
-abbrev pub plan_yet : Plans
-plan_yet m act = plan m (as_supported act)
 
 -- ---- the class of the object that a `new` makes
 

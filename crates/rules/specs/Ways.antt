@@ -1,5 +1,5 @@
 -- Where each instruction goes, and whether it leaves the locals as they are.
-use Rattle.std.specs.Prelude.{ℤ, Bool, true, false, List, [], ◌∷◌}
+use Rattle.std.specs.Prelude.{ℕ, ℤ, Bool, true, false, List, [], ◌∷◌, Option, Some, None}
 use Rattle.insn.specs.Meanings as acts
 use Rattle.insn.specs.Meanings.{Act}
 
@@ -31,3 +31,8 @@ keeps_locals (acts.StoreReference n) = false
 keeps_locals (acts.InvokeSpecial i) = false
 keeps_locals (acts.New i) = false
 keeps_locals _ = true
+
+-- the method that `invokespecial` names, by its index
+abbrev pub special_index : Act → Option ℕ
+special_index (acts.InvokeSpecial i) = Some i
+special_index _ = None

@@ -1,14 +1,17 @@
 //! The rule of an instruction, on a copy of the frame.
-ghost use Rattle.std.specs.Prelude.{◌≡◌, length};
-ghost use Rattle.insn.specs.Meanings.{act};
+ghost use Rattle.std.specs.Prelude.{◌≡◌, ℕ, List, length};
+ghost use Rattle.classfile.specs.Methods.{Method};
+ghost use Rattle.hierarchy.specs.Class.{ClassFact};
+ghost use Rattle.insn.specs.Meanings.{Act, act};
 ghost use Rattle.insn.specs.Views.{view};
-ghost use Rattle.frames.specs.FrameFact.{frame_of};
-ghost use Rattle.insn.specs.Supported.{as_supported};
+ghost use Rattle.frames.specs.FrameFact.{FrameFact, frame_of};
+ghost use Rattle.rules.specs.Plans.{Plan};
 ghost use Rattle.rules.specs.Table.{plan};
 ghost use Rattle.rules.specs.Bodies.{method_view};
 ghost use Rattle.rules.specs.Applied.{Applied};
 
 use crate::environment::Env;
+use crate::own_object::constructs_own;
 use crate::reason::Reason;
 use crate::running::run;
 use crate::ways::{branches, falls};
@@ -40,6 +43,16 @@ pub struct Refusal<'a> {
     pub own: bool,
 }
 
+/// Memory ran out.
+fn out_of_memory<'a>() -> Result<After<'a>, Refusal<'a>>
+    ensures { (cs : List ClassFact) (m : Method Act) (at : ℕ) (p : Plan) (f : FrameFact) → Applied cs m at p f result }
+{
+    Err(Refusal {
+        reason: Reason::OutOfMemory,
+        own: false,
+    })
+}
+
 /// Judges the instruction at an offset by its rule (JVMS 4.10.1.9). The frame before it has max_locals locals.
 ///
 /// Refused is, by the least number that holds, what the rule refuses (60 to 66, 74, 76, 77); or 1 where memory ran out.
@@ -52,26 +65,24 @@ pub fn apply<'a, C: Classes>(
 ) -> Result<After<'a>, Refusal<'a>>
     requires { length frame.now.locals.items ≡ env.now.method.code.now.max_locals }
     ensures { let m = method_view env.now.method in
-        Applied (C.content env.now.classes.now) m at (plan m (as_supported (act (view insn.now)))) (frame_of frame.now) result }
+        Applied (C.content env.now.classes.now) m at (plan m (act (view insn.now))) (frame_of frame.now) result }
 {
     let Ok(mut working) = Working::from_frame(alloc, frame, env.method.code.max_locals) else {
-        return Err(Refusal {
-            reason: Reason::OutOfMemory,
-            own: false,
-        });
+        return out_of_memory();
     };
-    match run(alloc, &env.method, at, act(insn), &mut working, env.classes) {
-        Err(reason) => Err(Refusal { reason, own: false }),
+    let act = act(insn);
+    let Ok(own) = constructs_own(alloc, &env.method, &act, &working) else {
+        return out_of_memory();
+    };
+    match run(alloc, &env.method, env, at, act, &mut working, env.classes) {
+        Err(reason) => Err(Refusal { reason, own }),
         Ok(()) => match working.into_frame() {
-            Err(_) => Err(Refusal {
-                reason: Reason::OutOfMemory,
-                own: false,
-            }),
+            Err(_) => out_of_memory(),
             Ok(frame) => Ok(After {
                 frame,
                 targets: BranchTargets::new(at, branches(insn)),
                 falls: falls(insn),
-                own: false,
+                own,
             }),
         },
     }

@@ -7,12 +7,14 @@ ghost use Rattle.classfile.specs.Values.{CodeBody};
 ghost use Rattle.classfile.specs.Views.{class_view};
 ghost use Rattle.insn.specs.Code.{SpellsCode};
 ghost use Rattle.insn.specs.Offsets.{acts};
+ghost use Rattle.insn.specs.Readings.{instructions_in};
 ghost use Rattle.insn.specs.Views.{views};
 ghost use Rattle.rules.specs.Bodies.{method_view};
 
 use classfile::{CodeMethod, Formed};
+use frames::Starts;
 use hierarchy::Classes;
-use insn::Insn;
+use insn::{Act, Insn, found_at, is_rising_start};
 
 /// The environment of a method's instructions (JVMS 4.10.1.6): the method with their list, and the classes that it may
 /// name.
@@ -24,6 +26,7 @@ pub struct Env<'e, 'c, 'a, C: Classes> {
     pub list: &'e [(u16, Insn<'a>)],
     /// The classes.
     pub classes: &'e C,
+    ghost listed: { views list.now ≡ instructions_in method.code.now.code.now },
 }
 
 impl<'e, 'c, 'a, C: Classes> Env<'e, 'c, 'a, C> {
@@ -49,6 +52,31 @@ impl<'e, 'c, 'a, C: Classes> Env<'e, 'c, 'a, C> {
             method,
             list,
             classes,
+        }
+    }
+}
+
+impl<'e, 'c, 'a, C: Classes> Starts for Env<'e, 'c, 'a, C> {
+    ghost use Rattle.insn.specs.Offsets.{acts};
+    ghost use Rattle.insn.specs.Views.{views};
+
+    ghost code = { λ env. acts (views env.list.now) };
+
+    fn is_start(&self, at: u32) -> bool {
+        match self.list.last() {
+            None => false,
+            Some((last, _)) => at <= u32::from(*last) && is_rising_start(self.list, at as u16),
+        }
+    }
+
+    fn is_new(&self, at: u16) -> bool {
+        matches!(found_at(self.list, at), Some((Act::New { .. }, _)))
+    }
+
+    fn class_index(&self, at: u16) -> Option<u16> {
+        match found_at(self.list, at) {
+            Some((Act::New { index }, _)) => Some(index),
+            _ => None,
         }
     }
 }

@@ -11,6 +11,11 @@
 //! - `constants`: instructions that load constants.
 //! - `fields`: instructions that read and write fields.
 //! - `calls`: instructions that call methods.
+//! - `special`: `invokespecial`.
+//! - `constructing`: calls of constructors.
+//! - `own_object`: whether a constructor is called on the own object.
+//! - `making`: `new`.
+//! - `replacing`: objects that are not initialized, and the types that take their place.
 //! - `arrays`: instructions that make arrays and read their elements, and casts.
 //! - `declaring_class`: the class that declares the method, and its superclass.
 //! - `want`: what is asked of an operand.
@@ -32,15 +37,20 @@ mod applying;
 mod arrays;
 mod calls;
 mod constants;
+mod constructing;
 mod declaring_class;
 mod environment;
 mod families;
 mod fields;
+mod making;
 mod moves;
 mod operands;
+mod own_object;
 mod reason;
+mod replacing;
 mod running;
 mod slots;
+mod special;
 mod stacks;
 mod stores;
 mod want;
@@ -50,6 +60,7 @@ mod working;
 pub use applying::{After, Refusal, apply};
 pub use declaring_class::own_class;
 pub use environment::Env;
+pub use own_object::constructs_own;
 pub use reason::Reason;
 pub use running::run;
 pub use ways::{branches, branches_by, falls, goes_on, keeps_locals};

@@ -1,7 +1,6 @@
 //! The rule of an instruction, on a frame in place.
 ghost use Rattle.std.specs.Prelude.{◌≡◌, length};
 ghost use Rattle.insn.specs.Views.{act_view};
-ghost use Rattle.insn.specs.Supported.{as_supported};
 ghost use Rattle.rules.specs.Table.{plan};
 ghost use Rattle.rules.specs.After.{after};
 ghost use Rattle.rules.specs.Rules.{conditions};
@@ -19,33 +18,37 @@ use crate::families::{
     counts, gives, loads, pops, return_nothing, return_number, return_reference,
 };
 use crate::fields::{get_field, get_static, put_field, put_static};
+use crate::making::new_object;
 use crate::reason::Reason;
+use crate::special::invoke_special;
 use crate::stacks::rearranges;
 use crate::stores::stores;
 use crate::want::{Want, throwable};
 use crate::working::Working;
 use classfile::CodeMethod;
-use frames::{VType, number_type};
+use frames::{Starts, VType, number_type};
 use hierarchy::Classes;
 use insn::{Act, Kind};
 use std::alloc::Global;
 
 /// Runs the instruction at an offset on a frame, in place, by its rule (JVMS 4.10.1.9). The frame has max_locals
-/// locals.
+/// locals, and the starts are those of the method's code.
 ///
 /// Refused is, by the least number that holds, what the rule refuses (60 to 66, 74, 76, 77); or 1 where memory ran out.
 /// Nothing is said of the frame then.
-pub fn run<'a, C: Classes>(
+pub fn run<'a, S: Starts, C: Classes>(
     alloc: Global,
     method: &CodeMethod<'_, 'a>,
+    starts: &S,
     at: u16,
     act: Act<'a>,
     frame: &mut Working<'a>,
     classes: &C,
 ) -> Result<(), Reason<'a>>
-    requires { length (held frame.old).locals ≡ method.now.code.now.max_locals }
+    requires locals { length (held frame.old).locals ≡ method.now.code.now.max_locals }
+    requires code { S.code starts.now ≡ (method_view method.now).code }
     ensures { let m = method_view method.now in let f = held frame.old in
-        let p = plan m (as_supported (act_view act.entry)) in
+        let p = plan m (act_view act.entry) in
         Done (conditions (C.content classes.now) m at p f) (after m at p f) (held frame.new) result }
 {
     match act {
@@ -99,6 +102,9 @@ pub fn run<'a, C: Classes>(
         Act::GetField { index } => get_field(method, index, frame, classes),
         Act::PutField { index } => put_field(method, index, frame, classes),
         Act::InvokeVirtual { index } => invoke_virtual(alloc, method, index, frame, classes),
+        Act::InvokeSpecial { index } => {
+            invoke_special(alloc, method, index, starts, frame, classes)
+        }
         Act::InvokeStatic { index } => invoke_static(alloc, method, index, frame, classes),
         Act::InvokeInterface { index, count } => {
             invoke_interface(alloc, method, index, count, frame, classes)
@@ -115,8 +121,7 @@ pub fn run<'a, C: Classes>(
         }
         Act::CheckCast { index } => check_cast(method, index, frame, classes),
         Act::InstanceOf { index } => instance_of(method, index, frame, classes),
-        Act::InvokeSpecial { .. } | Act::New { .. } | Act::Unsupported => {
-            Err(Reason::NotSupported)
-        }
+        Act::New { index } => new_object(method, at, index, frame),
+        Act::Unsupported => Err(Reason::NotSupported),
     }
 }

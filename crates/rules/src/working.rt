@@ -1,10 +1,13 @@
 //! The frame that instructions are run on.
 ghost use Rattle.std.specs.Prelude.{◌≡◌, ◌≤◌, length, OnOk, IfSome};
 ghost use Rattle.frames.specs.DeclaredTables.{declared_view, AreKept};
+ghost use Rattle.frames.specs.VerificationType.{type_of};
+ghost use Rattle.rules.specs.After.{flag_after};
 ghost use Rattle.rules.specs.Views.{stack_of};
 ghost use Rattle.rules.specs.Working.{IsCounted, held_locals};
 
 use crate::moves::{rearrange, wides};
+use crate::replacing::{is_among, replace};
 use crate::slots::{is_wide, reach, store};
 use frames::{Declared, Frame, VType};
 use hierarchy::{Answer, Classes};
@@ -26,13 +29,15 @@ pub struct Working<'a> {
 }
 
 impl<'a> Working<'a> {
-    ghost use Rattle.std.specs.Prelude.{◌≡◌, ◌<◌, ◌≤◌, ◌↔◌, [], ◌∷◌, IsTrue, nat_lt, length, MatchOption, OnOk, IfOk, IfSome};
+    ghost use Rattle.std.specs.Prelude.{◌≡◌, ◌<◌, ◌≤◌, ◌↔◌, [], ◌∷◌, IsTrue, nat_lt, length, map, MatchOption, OnOk, IfOk, IfSome};
     ghost use Rattle.frames.specs.Slots.{units_of};
     ghost use Rattle.frames.specs.VerificationType.{type_of};
     ghost use Rattle.insn.specs.Stacks.{rearranged};
     ghost use Rattle.insn.specs.Views.{stack_form_view};
     ghost use Rattle.frames.specs.FrameFact.{frame_of};
-    ghost use Rattle.rules.specs.After.{local_of, stored_type, with_stack};
+    ghost use Rattle.rules.specs.After.{forgotten, local_of, stored_type, with_stack};
+    ghost use Rattle.rules.specs.Replacing.{initialized_frame};
+    ghost use Rattle.rules.specs.Rules.{is_on_stack};
     ghost use Rattle.rules.specs.Outcomes.{pushed};
     ghost use Rattle.rules.specs.Views.{stack_of};
     ghost use Rattle.rules.specs.Working.{held_frame, empty_frame, with_locals};
@@ -184,6 +189,29 @@ impl<'a> Working<'a> {
         Ok(())
     }
 
+    /// Whether the object that the `new` at this offset has made is on the stack.
+    pub fn has_made(&self, at: u16) -> bool
+        ensures { result ≡ is_on_stack at (held self.now).stack }
+    {
+        is_among(at, &self.stack)
+    }
+
+    /// Forgets the object that the `new` at this offset has made: the locals that hold it become top.
+    pub fn forget(&mut self, at: u16)
+        ensures { held self.new ≡ with_locals (held self.old) (map (forgotten at) (held self.old).locals) }
+    {
+        replace(&VType::Uninit(at), VType::Top, &mut self.locals);
+    }
+
+    /// Makes an object that was not initialized one of a class, wherever it stands.
+    pub fn initialize(&mut self, object: &VType<'a>, class: &'a [u8])
+        ensures { held self.new ≡ initialized_frame (type_of object.now) class.now (held self.old) }
+    {
+        replace(object, VType::Class(class), &mut self.locals);
+        replace(object, VType::Class(class), &mut self.stack);
+        self.flag = flag_after(object, self.flag);
+    }
+
     /// Takes the items of a form off, and pushes what it leaves. Nothing is said of the stack where memory ran out.
     pub fn rearrange(&mut self, form: StackForm) -> Result<(), AllocError>
         requires { length form.takes.now ≤ length (held self.old).stack }
@@ -241,6 +269,16 @@ impl<'a> Working<'a> {
             stack,
             flag,
         })
+    }
+}
+
+/// The flag once a constructor of the object has returned: the own object is initialized then.
+fn flag_after(object: &VType<'_>, flag: bool) -> bool
+    ensures { result ≡ flag_after (type_of object.now) flag }
+{
+    match *object {
+        VType::UninitThis => false,
+        _ => flag,
     }
 }
 

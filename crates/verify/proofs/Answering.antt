@@ -14,7 +14,7 @@ use Rattle.insn.specs.declared.fault.CodeFault.TheVariants as codes
 use Rattle.insn.specs.Code.{SpellsCode, FaultyCode, UnlessMemory}
 use Rattle.insn.specs.Meanings.{Act}
 use Rattle.insn.specs.Offsets.{IsStart, acts, StartsRise}
-use Rattle.rules.specs.Table.{plan_yet}
+use Rattle.rules.specs.Table.{plan}
 use Rattle.insn.proofs.CodeLaws.{starts_rise, one_code, code_or_fault}
 use Rattle.frames.specs.Conditions.{Reason}
 use Rattle.verify.specs.declared.verdict.Verdict.{Verdict}
@@ -30,12 +30,11 @@ use Rattle.verify.specs.ClassMethods.{IsMethod, IsTypeSafeIn}
 use Rattle.verify.specs.Steps.{RefusesCode, Gives}
 use Rattle.verify.specs.Judged.{is_judged}
 use Rattle.verify.specs.Listed.{IsListed}
-use Rattle.verify.specs.Answers.{IsLeftOut, HasBadCode, HasVerdict, HasRefusal, IsRefused, AnswersCode, Answers, HasRules, VerifiesTypeSafe, VerifiedIsSafe}
+use Rattle.verify.specs.Answers.{IsLeftOut, HasBadCode, HasVerdict, HasRefusal, IsRefused, AnswersCode, Answers, VerifiesTypeSafe, VerifiedIsSafe}
 use Rattle.verify.proofs.Decoded.{decoded_rise, decoded_begins}
-use Rattle.verify.proofs.Replaced.{code_is, none_is_replaced, safe_yet}
 use Rattle.verify.proofs.Verdicts.{verified_is_type_safe, type_safe_is_verified}
 use Rattle.verify.proofs.OneMethod.{methods_are_safe}
-use Rattle.verify.proofs.MethodCode.{has_code, some_code, judged_alike}
+use Rattle.verify.proofs.MethodCode.{code_is, has_code, some_code, judged_alike}
 
 some_same : {A : Type 0} (a b : A) → Some a ≡ Some b → a ≡ b
 some_same a b e = cc
@@ -77,14 +76,14 @@ module _ (classes : List ClassFact) (c : Class) (number : ℕ) where
 
   pub given : (body : CodeBody) (xs : List (ℕ × Instruction)) (method : Method Act) (r : Result Verdict VerifyFault)
       → code_at c number ≡ Some body → SpellsCode 0 body.code xs
-      → method_of c number (acts xs) ≡ Some method → is_judged method ≡ true → Gives (verdict plan_yet classes method) r
+      → method_of c number (acts xs) ≡ Some method → is_judged method ≡ true → Gives (verdict plan classes method) r
       → AnswersCode classes c number r
   given body xs method (Ok Verified) has spelled says judged g =
       record { body = body; has_code = has; instructions = xs; spelled = spelled; method = method; says = says; judged = judged; told = g }
   given body xs method (Ok NoCode) has spelled says judged g = g
   given body xs method (Ok (Refused at why)) has spelled says judged g =
       inr (inr (record {
-        refusal = verdict plan_yet classes method;
+        refusal = verdict plan classes method;
         judged = record { body = body; has_code = has; instructions = xs; spelled = spelled; method = method; says = says; judged = judged; told = refl };
         told = g;
       }))
@@ -101,7 +100,7 @@ module _ (classes : List ClassFact) (c : Class) (number : ℕ) where
       let begins : IsStart (acts v.instructions) 0 =
       decoded_begins v.body.code v.instructions v.spelled (some_code c formed number v.body v.has_code) in
       let safe : IsTypeSafe classes v.method =
-      none_is_replaced classes v.method (verified_is_type_safe plan_yet classes v.method (subst (StartsRise 0) (sym code) rise) (subst (λ z. IsStart z 0) (sym code) begins) v.told) in
+      verified_is_type_safe plan classes v.method (subst (StartsRise 0) (sym code) rise) (subst (λ z. IsStart z 0) (sym code) begins) v.told in
       let x = has_code c number v.body v.has_code in (
         v.method,
         record {
@@ -139,7 +138,7 @@ module _ (classes : List ClassFact) (c : Class) (number : ℕ) where
 
   -- ---- what is type-safe is not refused
 
-  module _ (m : Method Act) (i : IsMethod c number m) (judged : is_judged m ≡ true) (rules : HasRules m) (safe : IsTypeSafe classes m) where
+  module _ (m : Method Act) (i : IsMethod c number m) (judged : is_judged m ≡ true) (safe : IsTypeSafe classes m) where
     own_code : (body : CodeBody) → code_at c number ≡ Some body → i.body ≡ body
     own_code body e =
         let x = has_code c number body e in
@@ -169,17 +168,17 @@ module _ (classes : List ClassFact) (c : Class) (number : ℕ) where
         in
         some_same n m (sym says ∙ ap (λ z. method_of c number (acts z)) (sym same) ∙ i.method)
 
-    is_verified : verdict plan_yet classes m ≡ verified
+    is_verified : verdict plan classes m ≡ verified
     is_verified =
         let rise : StartsRise 0 (acts i.instructions) =
         decoded_rise 0 i.instructions (starts_rise 0 i.body.code i.instructions i.spelled) in
-        type_safe_is_verified plan_yet classes m (subst (StartsRise 0) (sym code_there) rise) (safe_yet classes m rules safe)
+        type_safe_is_verified plan classes m (subst (StartsRise 0) (sym code_there) rise) safe
 
     not_refused : (at : ℕ) (why : RuleReason) → HasRefusal classes c number at why → ⊥
     not_refused at why x =
         let v = x.judged in
         let e : x.refusal ≡ verified =
-        sym v.told ∙ ap (verdict plan_yet classes) (same_method v.body v.instructions v.method v.has_code v.spelled v.says) ∙ is_verified in
+        sym v.told ∙ ap (verdict plan classes) (same_method v.body v.instructions v.method v.has_code v.spelled v.says) ∙ is_verified in
         none_told_of (at, reason_view why) (sym (ap told_of e) ∙ x.told)
       where
         none_told_of : (x : ℕ × Reason) → None ≡ Some x → ⊥
@@ -199,4 +198,4 @@ module _ (classes : List ClassFact) (c : Class) (number : ℕ) where
     verifies listed (Err NotInHierarchy) a = absurd (a listed)
 
   pub only_then : (r : Result Verdict VerifyFault) → Answers classes c number r → VerifiesTypeSafe classes c number r
-  only_then r a = λ listed m i judged rules safe. verifies m i judged rules safe listed r a
+  only_then r a = λ listed m i judged safe. verifies m i judged safe listed r a

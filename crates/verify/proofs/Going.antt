@@ -6,7 +6,6 @@ use Rattle.hierarchy.specs.Answer.{Outcome, yes, no, missing}
 use Rattle.insn.specs.declared.operation.Kind.TheVariants as kinds
 use Rattle.insn.specs.Meanings as acts
 use Rattle.insn.specs.Meanings.{Act}
-use Rattle.insn.specs.Supported.{as_supported}
 use Rattle.frames.specs.VerificationType.{VerificationType, top, int, float, long, double, null, class, array, uninit_this, uninit}
 use Rattle.frames.specs.FrameAssignable.{both}
 use Rattle.frames.specs.FrameFact.{FrameFact}
@@ -94,7 +93,7 @@ branches a ws offsets on e o d = record { early = inl (e, o); calm = inr (branch
 
 -- ---- plans that do not
 
-nowhere : (m : Method Act) (a : Act) → branch_offsets a ≡ [] → IsWay a (plan m (as_supported a))
+nowhere : (m : Method Act) (a : Act) → branch_offsets a ≡ [] → IsWay a (plan m a)
 nowhere m a none = record {
   early = (way_of m a).early;
   calm = inl (elim (way_of m a).early [ inl way ↦ sym way.1 ∙ none | inr r ↦ ap offsets_of r.1 ]);
@@ -102,7 +101,7 @@ nowhere m a none = record {
 
 -- ---- all acts
 
-pub ways : (m : Method Act) (a : Act) → IsWay a (plan m (as_supported a))
+pub ways : (m : Method Act) (a : Act) → IsWay a (plan m a)
 ways m (acts.IfInt offset) = branches (acts.IfInt offset) (number kinds.Int ∷ []) (offset ∷ []) true refl refl (int_decided, tt)
 ways m (acts.IfInts offset) =
     branches (acts.IfInts offset) (number kinds.Int ∷ number kinds.Int ∷ []) (offset ∷ []) true refl refl (int_decided, (int_decided, tt))

@@ -3,9 +3,7 @@ use Rattle.std.proofs.Common.{◌≡◌, ℕ, Bool, true, false, not, ◌&&◌, 
 use Rattle.std.specs.Prelude.{MatchOption}
 use Rattle.std.proofs.lemmas.Bool.Decides.{nat_tests}
 use Rattle.std.specs.Option.{is_some}
-use Rattle.std.specs.Prelude.{bytes_eq, if◌then◌else◌}
-use Rattle.names.specs.StandardNames.{object_name}
-use Rattle.classfile.specs.Methods.{Method, ExceptionEntry, no_receiver, ready_receiver, own_receiver, receiver_of}
+use Rattle.classfile.specs.Methods.{Method, ExceptionEntry}
 use Rattle.hierarchy.specs.Class.{ClassFact}
 use Rattle.insn.specs.Meanings.{Act}
 use Rattle.frames.specs.VerificationType.{VerificationType}
@@ -13,73 +11,41 @@ use Rattle.frames.specs.FrameFact.{FrameFact}
 use Rattle.frames.specs.Slots.{in_locals}
 use Rattle.frames.specs.Conditions.{reason, with_fault}
 use Rattle.rules.specs.ReasonNumbers.{bad_stack_map}
-use Rattle.rules.specs.Table.{plan_yet}
-use Rattle.verify.specs.InitialFrames.{initial_types, is_uninitialized}
+use Rattle.rules.specs.Table.{plan}
+use Rattle.verify.specs.InitialFrames.{initial_types}
 use Rattle.verify.specs.TypeSafety.{Frames}
 use Rattle.verify.specs.Verdict.{refused, map_refused, MapRefusal, map_fault_number, told_of, frames_of, entries_read, frames_declared, table_judged, code_judged, with_frames, verdict}
 use Rattle.verify.specs.Judged.{is_empty, is_judged}
-
-left_of : (a b : Bool) → a && b ≡ true → a ≡ true
-left_of true b e = refl
-left_of false b e = cc
-
-right_of : (a b : Bool) → a && b ≡ true → b ≡ true
-right_of true b e = e
-right_of false b e = cc
-
-none_of : {A : Type 0} (o : Option A) → is_none o ≡ true → o ≡ None
-none_of None e = refl
-none_of (Some x) e = cc
-
-not_true : (b : Bool) → not b ≡ true → b ≡ false
-not_true false e = refl
-not_true true e = cc
 
 empty_of : {A : Type 0} (xs : List A) → is_empty xs ≡ true → xs ≡ []
 empty_of [] e = refl
 empty_of (x ∷ xs) e = cc
 
-module _ {A : Type 0} (m : Method A) (judged : is_judged m ≡ true) where
-  no_init : m.is_init ≡ false
-  no_init = not_true m.is_init (left_of (not m.is_init) _ judged)
-
-  pub no_exceptions : m.exceptions ≡ []
-  no_exceptions = empty_of m.exceptions (right_of (not m.is_init) _ judged)
-
--- by its two properties
-pub judged_by : {A : Type 0} (m : Method A) (b : Bool) → m.is_init ≡ false → is_empty m.exceptions ≡ b → b ≡ is_judged m
-judged_by m b i e = rw (i, e) refl
+pub no_exceptions : {A : Type 0} (m : Method A) → is_judged m ≡ true → m.exceptions ≡ []
+no_exceptions m judged = empty_of m.exceptions judged
 
 pub empty_by : {X Y : Type 0} (f : X → Y) (xs : List X) (n : ℕ) → n ≡ length xs → is_empty (map f xs) ≡ nat_eq n 0
 empty_by f [] n e = rw e refl
 empty_by f (x ∷ xs) n e = let q : nat_eq n 0 ≡ false = grind (arith, nat_tests, e) in sym q
 
 module _ (m : Method Act) (judged : is_judged m ≡ true) where
-  pub flag_unset : is_uninitialized (receiver_of m) ≡ false
-  flag_unset = by_static m.is_static m.is_init (no_init m judged)
-    where
-      by_static : (s i : Bool) → i ≡ false → is_uninitialized (if s then no_receiver else if i && not (bytes_eq m.class object_name) then own_receiver else ready_receiver) ≡ false
-      by_static true i e = refl
-      by_static false true e = cc
-      by_static false false e = refl
-
   -- without a stack map no frame is declared
   pub declares_none : m.stack_map ≡ None → frames_declared m ≡ Ok []
   declares_none n = ap (λ (o : Option (List ℕ)). frames_of m (entries_read o)) n
 
   module _ (classes : List ClassFact) where
-    pub too_narrow : nat_lt m.max_locals (length (in_locals (initial_types m))) ≡ true → verdict plan_yet classes m ≡ refused 0 (reason 64)
+    pub too_narrow : nat_lt m.max_locals (length (in_locals (initial_types m))) ≡ true → verdict plan classes m ≡ refused 0 (reason 64)
     too_narrow e = rw e refl
 
     module _ (wide : nat_lt m.max_locals (length (in_locals (initial_types m))) ≡ false) where
-      pub with_declared : (frames : Frames) → frames_declared m ≡ Ok frames → verdict plan_yet classes m ≡ code_judged plan_yet classes m frames
+      pub with_declared : (frames : Frames) → frames_declared m ≡ Ok frames → verdict plan classes m ≡ code_judged plan classes m frames
       with_declared frames d =
-          rw wide (ap (with_frames plan_yet classes m) d
-          ∙ ap (λ (es : List ExceptionEntry). table_judged classes m frames es (code_judged plan_yet classes m frames)) (no_exceptions m judged))
+          rw wide (ap (with_frames plan classes m) d
+          ∙ ap (λ (es : List ExceptionEntry). table_judged classes m frames es (code_judged plan classes m frames)) (no_exceptions m judged))
 
       pub map_told : (why : MapRefusal) → frames_declared m ≡ Err why
-          → told_of (verdict plan_yet classes m) ≡ Some (0, with_fault bad_stack_map (map_fault_number why))
-      map_told why d = let e : verdict plan_yet classes m ≡ map_refused why = rw wide (ap (with_frames plan_yet classes m) d) in ap told_of e
+          → told_of (verdict plan classes m) ≡ Some (0, with_fault bad_stack_map (map_fault_number why))
+      map_told why d = let e : verdict plan classes m ≡ map_refused why = rw wide (ap (with_frames plan classes m) d) in ap told_of e
 
   -- what is answered of the locals, by the types with which the method begins
   pub room_as : (types : List VerificationType) → types ≡ initial_types m → (b : Bool) → nat_lt m.max_locals (length (in_locals types)) ≡ b

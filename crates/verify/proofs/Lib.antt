@@ -20,7 +20,6 @@ pub mod Refusing
 pub mod MapFaults
 pub mod MapReading
 pub mod Decoded
-pub mod Replaced
 pub mod Merging
 pub mod Going
 pub mod Ends

@@ -16,6 +16,7 @@ use Rattle.classfile.specs.WellFormed.{WellFormed, conditions_of_method}
 use Rattle.classfile.proofs.Places.{method_is}
 use Rattle.classfile.proofs.FormedNames.{none_holds, left_not, right_not}
 use Rattle.classfile.proofs.FormedMethods.{NamesMethod, formed_method}
+use Rattle.insn.specs.Meanings.{Act}
 use Rattle.verify.specs.Judged.{is_empty, is_judged}
 
 some_same : {A : Type 0} (a b : A) → Some a ≡ Some b → a ≡ b
@@ -117,3 +118,27 @@ module _ (c : Class) (formed : WellFormed c) (number : ℕ) (body : CodeBody) (c
 
   pub tables_alike : is_empty (or_empty (exception_entries c.constant_pool body.exception_table)) ≡ is_empty body.exception_table
   tables_alike = entries_alike c.constant_pool body.exception_table names.entries names.entries_are
+
+-- ---- the code of a class's method
+
+module _ (c : Class) (code : List (ℕ × Act)) (m : Method Act) where
+  with_code : (member : Member) (body : CodeBody) (class name : Option (List ℕ)) (type : Option MethodDescriptor)
+      (exceptions : Option (List ExceptionEntry))
+      → method_with c member code body class name type exceptions ≡ Some m → m.code ≡ code
+  with_code member body (Some class) (Some name) (Some type) (Some exceptions) e = sym (ap (λ z. z.code) (some_same _ m e))
+  with_code member body None name type exceptions e = cc
+  with_code member body (Some class) None type exceptions e = cc
+  with_code member body (Some class) (Some name) None exceptions e = cc
+  with_code member body (Some class) (Some name) (Some type) None e = cc
+
+  from_code : (member : Member) (o : Option CodeBody) (k : CodeBody → Option (Method Act))
+      → ((b : CodeBody) → k b ≡ Some m → m.code ≡ code) → option_and_then k o ≡ Some m → m.code ≡ code
+  from_code member (Some body) k f e = f body e
+  from_code member None k f e = cc
+
+  member_code : (o : Option Member) → option_and_then (method_from c code) o ≡ Some m → m.code ≡ code
+  member_code (Some member) e = from_code member (code_of member.attributes) _ (λ b h. with_code member b _ _ _ _ h) e
+  member_code None e = cc
+
+  pub code_is : (number : ℕ) → method_of c number code ≡ Some m → m.code ≡ code
+  code_is number e = member_code (slice_get c.methods number) e

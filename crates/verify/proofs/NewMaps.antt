@@ -2,12 +2,11 @@
 use Rattle.std.proofs.Common.{◌≡◌, ℕ, true, false, List, [], ◌∷◌, Some, None, codes, refl}
 use Rattle.classfile.specs.Methods.{Method}
 use Rattle.insn.specs.Meanings.{Act, New, ReturnVoid}
-use Rattle.insn.specs.Supported.{supported_acts}
 use Rattle.layout.specs.Format as formats
 use Rattle.frames.specs.Conditions.{reason}
 use Rattle.frames.specs.StackMaps as maps
-use Rattle.rules.specs.Table.{plan, plan_yet}
-use Rattle.verify.specs.Verdict.{refused, map_refused, undeclared, verdict}
+use Rattle.rules.specs.Table.{plan}
+use Rattle.verify.specs.Verdict.{refused, verdict}
 
 -- `new` at 0, `return` at 3, and a full frame at 3 whose stack holds what the `new` at 0 makes
 abbrev with_map : List (ℕ × Act) → Method Act
@@ -31,12 +30,7 @@ with_map code = record {
 abbrev makes_one : List (ℕ × Act)
 makes_one = (0, New 1) ∷ (3, ReturnVoid) ∷ []
 
--- by its own code the map is fine, and the `new` has no rule yet
-own_code : verdict plan_yet [] (with_map makes_one) ≡ refused 0 (reason 60)
+-- the map is fine, and the `new` names no class of the constant pool
+own_code : verdict plan [] (with_map makes_one) ≡ refused 0 (reason 66)
 unfolding maps.stack_map formats.times maps.map_entry maps.type_table maps.type_info
 own_code = refl
-
--- where acts are replaced in the code, the map names no `new`
-replaced_code : verdict plan [] (with_map (supported_acts makes_one)) ≡ map_refused (undeclared (reason 53))
-unfolding maps.stack_map formats.times maps.map_entry maps.type_table maps.type_info
-replaced_code = refl

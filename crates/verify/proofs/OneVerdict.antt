@@ -12,7 +12,7 @@ use Rattle.insn.specs.Faults.{code_fault_number}
 use Rattle.insn.specs.Code.{SpellsCode, FaultyCode}
 use Rattle.insn.specs.Meanings.{Act}
 use Rattle.insn.specs.Offsets.{acts}
-use Rattle.rules.specs.Table.{plan_yet}
+use Rattle.rules.specs.Table.{plan}
 use Rattle.insn.proofs.CodeLaws.{one_code, code_or_fault, one_fault}
 use Rattle.frames.specs.Conditions as conditions
 use Rattle.rules.specs.declared.reason.Reason.{Reason}
@@ -57,7 +57,7 @@ module _ (classes : List ClassFact) (c : Class) (number : ℕ) where
       one_code 0 y.body.code x.instructions y.instructions (subst (λ b. SpellsCode 0 b.code x.instructions) body x.spelled) y.spelled in
       let method : x.method ≡ y.method =
       some_same x.method y.method (sym x.says ∙ ap (λ z. method_of c number (acts z)) same ∙ y.says) in
-      sym x.told ∙ ap (verdict plan_yet classes) method ∙ y.told
+      sym x.told ∙ ap (verdict plan classes) method ∙ y.told
 
   both_told : (at there : ℕ) (why other : Reason) → HasRefusal classes c number at why → HasRefusal classes c number there other
       → Same at why there other

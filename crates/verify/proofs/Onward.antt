@@ -18,7 +18,7 @@ use Rattle.frames.specs.FrameFact.{FrameFact}
 use Rattle.frames.specs.Slots.{is_wide}
 use Rattle.frames.specs.Conditions.{Reason, Conditions, least}
 use Rattle.rules.specs.Plans.{Plan, pops, loads, stores, counts, rearranges, loads_element, makes, constructs, calls_special, returns, refuses, falls}
-use Rattle.rules.specs.Table.{plan_yet}
+use Rattle.rules.specs.Table.{plan}
 use Rattle.rules.specs.After.{top_first, stored_type, after}
 use Rattle.rules.specs.Rules.{conditions}
 use Rattle.rules.specs.Outcomes.{Done}
@@ -69,14 +69,14 @@ keeps_length m at p old now n e q = ap (λ (z : FrameFact). length z.locals) q �
 
 module _ (classes : List ClassFact) (m : Method Act) (frames : Frames) where
   abbrev pub left : List (ℕ × Act) → Bool → FrameFact → Verdict
-  left cs b f = arrives classes frames cs b f (passes plan_yet classes m frames cs)
+  left cs b f = arrives classes frames cs b f (passes plan classes m frames cs)
 
   module _ (c : ℕ × Act) (cs : List (ℕ × Act)) (b : Bool) (f : FrameFact) (v : Verdict) (same : v ≡ left (c ∷ cs) b f) where
     abbrev declared : Option FrameFact
     declared = at_offset frames c.0
 
     refused_in : (why : Reason) → entry classes b f declared ≡ Some why → v ≡ refused c.0 why
-    refused_in why e = same ∙ ap (λ z. refused_or z c.0 (passes plan_yet classes m frames (c ∷ cs) (entered f declared))) e
+    refused_in why e = same ∙ ap (λ z. refused_or z c.0 (passes plan classes m frames (c ∷ cs) (entered f declared))) e
 
     -- against the frame that comes in
     pub stops_in : (g : FrameFact) (r : Result Unit RuleReason) (e : RuleReason) → r ≡ Err e → Enters classes b f declared g r
@@ -90,19 +90,19 @@ module _ (classes : List ClassFact) (m : Method Act) (frames : Frames) where
     -- a frame comes in, and this one goes on
     module _ (g : FrameFact) (r : Result Unit RuleReason) (u : Unit {0}) (ok : r ≡ Ok u) (enters : Enters classes b f declared g r) where
       abbrev pub at_here : Conditions
-      at_here = at_conditions classes m frames c.0 (plan_yet m c.1) (first_offset cs) g
+      at_here = at_conditions classes m frames c.0 (plan m c.1) (first_offset cs) g
 
       abbrev pub after_here : FrameFact
-      after_here = after m c.0 (plan_yet m c.1) g
+      after_here = after m c.0 (plan m c.1) g
 
       abbrev on : Verdict
-      on = left cs (falls (plan_yet m c.1)) after_here
+      on = left cs (falls (plan m c.1)) after_here
 
       opened : v ≡ refused_or (least at_here) c.0 on
       opened =
           let came = (subst (Enters classes b f declared g) ok enters).outcome in
-          same ∙ ap (λ z. refused_or z c.0 (passes plan_yet classes m frames (c ∷ cs) (entered f declared))) came.0
-          ∙ ap (passes plan_yet classes m frames (c ∷ cs)) (sym came.1)
+          same ∙ ap (λ z. refused_or z c.0 (passes plan classes m frames (c ∷ cs) (entered f declared))) came.0
+          ∙ ap (passes plan classes m frames (c ∷ cs)) (sym came.1)
 
       pub stops_at : (now : FrameFact) (r : Result Unit RuleReason) (e : RuleReason) → r ≡ Err e → Done at_here after_here now r
           → (e ≡ OutOfMemory) ⊎ (told_of v ≡ Some (c.0, reason_view e))
@@ -117,9 +117,9 @@ module _ (classes : List ClassFact) (m : Method Act) (frames : Frames) where
           → Done at_here after_here now r → goes ≡ act_goes_on c.1 → v ≡ left cs goes now
       goes_done now r u goes q x k =
           let done = (subst (Done at_here after_here now) q x).outcome in
-          let falls_as : goes ≡ falls (plan_yet m c.1) =
-          k ∙ goes_right classes m frames c.0 g c.1 (plan_yet m c.1) (ways m c.1)
-          (rule_none (conditions classes m c.0 (plan_yet m c.1) g) _ done.0) in
+          let falls_as : goes ≡ falls (plan m c.1) =
+          k ∙ goes_right classes m frames c.0 g c.1 (plan m c.1) (ways m c.1)
+          (rule_none (conditions classes m c.0 (plan m c.1) g) _ done.0) in
           opened ∙ ap (λ z. refused_or z c.0 on) done.0 ∙ ap (λ z. left cs z after_here) (sym falls_as) ∙ ap (left cs goes) (sym done.1)
 
 -- ---- the bytes that are left

@@ -9,12 +9,11 @@ use Rattle.insn.specs.Faults.{code_fault_number}
 use Rattle.insn.specs.Instructions.{Instruction}
 use Rattle.insn.specs.Code.{SpellsCode, FaultyCode}
 use Rattle.insn.specs.Meanings.{Act}
-use Rattle.insn.specs.Offsets.{at_offset, acts}
-use Rattle.insn.specs.Supported.{is_supported}
+use Rattle.insn.specs.Offsets.{acts}
 use Rattle.rules.specs.declared.reason.Reason.{Reason}
 use Rattle.rules.specs.declared.reason.Reason.TheVariants.{NotSupported, BadCode}
 use Rattle.rules.specs.Reasons.{reason_view}
-use Rattle.rules.specs.Table.{plan_yet}
+use Rattle.rules.specs.Table.{plan}
 use Rattle.verify.specs.declared.verdict.Verdict.{Verdict}
 use Rattle.verify.specs.declared.verdict.Verdict.TheVariants.{Verified, NoCode, Refused}
 use Rattle.verify.specs.declared.verdict.VerifyFault.{VerifyFault}
@@ -47,7 +46,7 @@ pub record HasBadCode (c : Class) (number : ℕ) (at : ℕ) (why : Reason) : Typ
   pub there : at ≡ place_of fault
   pub told : why ≡ BadCode (code_fault_number fault)
 
--- Its bytes are code, and this is the verdict by the plans that are there yet.
+-- Its bytes are code, and this is the verdict.
 pub record HasVerdict (classes : List ClassFact) (c : Class) (number : ℕ) (v : verdicts.Verdict) : Type 0 where
   pub body : CodeBody
   pub has_code : code_at c number ≡ Some body
@@ -56,7 +55,7 @@ pub record HasVerdict (classes : List ClassFact) (c : Class) (number : ℕ) (v :
   pub method : Method Act
   pub says : method_of c number (acts instructions) ≡ Some method
   pub judged : is_judged method ≡ true
-  pub told : verdict plan_yet classes method ≡ v
+  pub told : verdict plan classes method ≡ v
 
 -- The verdict refuses it, there and for this reason.
 pub record HasRefusal (classes : List ClassFact) (c : Class) (number : ℕ) (at : ℕ) (why : Reason) : Type 0 where
@@ -77,7 +76,7 @@ AnswersCode classes c number (Err OutOfMemory) = Unit {0}
 AnswersCode classes c number (Err NotInHierarchy) = ⊥
 
 -- Any method. 80 where the hierarchy has not this class as it is; that goes first. A method that is verified is one of those that
--- are judged yet, and its instructions have a rule.
+-- are judged yet.
 abbrev pub Answers : List ClassFact → Class → ℕ → Result Verdict VerifyFault → Type 0
 Answers classes c number (Ok Verified) = IsListed classes c × IsTypeSafeIn classes c number × HasVerdict classes c number verified
 Answers classes c number (Ok NoCode) = IsListed classes c × (code_at c number ≡ None)
@@ -85,14 +84,10 @@ Answers classes c number (Ok (Refused at why)) = IsListed classes c × IsRefused
 Answers classes c number (Err OutOfMemory) = Unit {0}
 Answers classes c number (Err NotInHierarchy) = IsListed classes c → ⊥
 
--- All its instructions have a rule.
-abbrev pub HasRules : Method Act → Type 0
-HasRules m = (at : ℕ) (act : Act) → at_offset m.code at ≡ Some act → is_supported act ≡ true
-
 -- A method that is type-safe is verified, unless memory runs out, if it is one of those that are judged yet.
 abbrev pub VerifiesTypeSafe : List ClassFact → Class → ℕ → Result Verdict VerifyFault → Type 0
 VerifiesTypeSafe classes c number r =
-    IsListed classes c → (m : Method Act) → IsMethod c number m → is_judged m ≡ true → HasRules m → IsTypeSafe classes m
+    IsListed classes c → (m : Method Act) → IsMethod c number m → is_judged m ≡ true → IsTypeSafe classes m
     → MatchResult r (λ v. v ≡ Verified) (λ e. e ≡ OutOfMemory)
 
 -- A method that is verified is safe, in every world that extends the hierarchy.

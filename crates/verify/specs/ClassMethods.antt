@@ -8,8 +8,7 @@ use Rattle.insn.specs.Instructions.{Instruction}
 use Rattle.insn.specs.Code.{SpellsCode}
 use Rattle.insn.specs.Meanings.{Act}
 use Rattle.insn.specs.Offsets.{acts}
-use Rattle.rules.specs.Table.{plan_yet}
-use Rattle.verify.specs.TypeSafety.{IsTypeSafeBy, IsTypeSafe}
+use Rattle.verify.specs.TypeSafety.{IsTypeSafe}
 use Rattle.verify.specs.Safety.{IsSafe}
 
 -- the class's method of this number has code, and this is what its instructions see of it
@@ -32,7 +31,3 @@ IsSafeIn classes c number = (m : Method Act) → IsMethod c number m → IsSafe 
 abbrev pub TypeSafeMethodsAreSafe : Type 0
 TypeSafeMethodsAreSafe =
     (classes : List ClassFact) → IsHierarchy classes → (c : Class) (number : ℕ) → IsTypeSafeIn classes c number → IsSafeIn classes c number
-
--- A method that is type-safe by the plans that are there yet is type-safe: it has no instruction without one.
-abbrev pub NoneIsReplaced : Type 0
-NoneIsReplaced = (classes : List ClassFact) (m : Method Act) → IsTypeSafeBy plan_yet classes m → IsTypeSafe classes m

@@ -5,7 +5,7 @@ ghost use Rattle.classfile.specs.Methods.{receiver_of};
 ghost use Rattle.frames.specs.VerificationType.{type_of};
 ghost use Rattle.frames.specs.Slots.{descriptor_type, in_locals};
 ghost use Rattle.rules.specs.Bodies.{method_view};
-ghost use Rattle.verify.specs.InitialFrames.{initial_types, receiver_types};
+ghost use Rattle.verify.specs.InitialFrames.{initial_types, is_uninitialized, receiver_types};
 
 use classfile::CodeMethod;
 use frames::{VType, held_by, width};
@@ -27,6 +27,16 @@ fn receiver<'a>(method: &CodeMethod<'_, 'a>) -> Option<VType<'a>>
     } else {
         Some(VType::Class(class))
     }
+}
+
+/// Whether the own object is uninitialized when the method begins: that of a constructor, but for Object's.
+pub fn begins_uninitialized(method: &CodeMethod<'_, '_>) -> bool
+    ensures { result ≡ is_uninitialized (receiver_of (method_view method.now)) }
+{
+    if method.is_static {
+        return false;
+    }
+    method.is_init && own_class(method) != OBJECT
 }
 
 /// Puts the types of what parameters hold behind the others.

@@ -5,7 +5,8 @@ ghost use Rattle.insn.specs.Instructions.{Instruction};
 ghost use Rattle.insn.specs.Code.{SpellsCode};
 ghost use Rattle.insn.specs.Views.{act_view};
 ghost use Rattle.frames.specs.DeclaredTables.{frames_in, locals_in};
-ghost use Rattle.rules.specs.Table.{plan_yet};
+ghost use Rattle.frames.specs.MarkedCode.{code_in};
+ghost use Rattle.rules.specs.Table.{plan};
 ghost use Rattle.rules.specs.After.{after};
 ghost use Rattle.rules.specs.Bodies.{method_view};
 ghost use Rattle.rules.specs.Outcomes.{Done};
@@ -23,7 +24,7 @@ use crate::place_set::PlaceSet;
 use crate::refusal::refuse;
 use crate::verdict::{Verdict, VerifyFault};
 use classfile::CodeMethod;
-use frames::DeclaredFrames;
+use frames::{CodeStarts, DeclaredFrames};
 use hierarchy::Classes;
 use insn::{Act, Instructions, act};
 use rules::{Reason, Working, branches_by, goes_on, run};
@@ -34,6 +35,7 @@ use std::alloc::Global;
 fn judge<'n, 'a, C: Classes>(
     alloc: Global,
     method: &CodeMethod<'_, 'a>,
+    starts: &CodeStarts<'_>,
     at: u16,
     act: Act<'a>,
     falls: bool,
@@ -45,19 +47,20 @@ fn judge<'n, 'a, C: Classes>(
     classes: &C,
 ) -> Result<(), Reason<'a>>
     requires locals { length (held frame.old).locals ≡ method.now.code.now.max_locals }
+    requires starts { code_in starts.now ≡ method.now.code.now.code.now }
     requires declared { locals_in frames.now ≡ method.now.code.now.max_locals }
-    requires known { let m = method_view method.now in IsKnown (C.content classes.now) frames.now (after m at (plan_yet m (act_view act)) (held frame.old)) known.old }
+    requires known { let m = method_view method.now in IsKnown (C.content classes.now) frames.now (after m at (plan m (act_view act)) (held frame.old)) known.old }
     requires no_exceptions { (method_view method.now).exceptions ≡ [] }
     requires falls { falls ≡ goes_on (act_view act) }
     ensures known { OnOk result (IsKnown (C.content classes.now) frames.now (held frame.new) known.new) }
     ensures judged { (next : Option ℕ) → is_none next ≡ last →
         let m = method_view method.now in let f = held frame.old in
-        let p = plan_yet m (act_view act.entry) in
+        let p = plan m (act_view act.entry) in
         Done (at_conditions (C.content classes.now) m (frames_in frames.now) at p next f) (after m at p f) (held frame.new) result }
 {
     let end = check_end(falls, last);
     let branches = branches_by(&act);
-    match run(alloc, method, at, act, frame, classes) {
+    match run(alloc, method, starts, at, act, frame, classes) {
         Ok(()) => together(
             check_targets(at, branches, frame, frames, known, seen, classes),
             end,
@@ -70,6 +73,7 @@ fn judge<'n, 'a, C: Classes>(
 pub fn pass<'a, C: Classes>(
     alloc: Global,
     method: &CodeMethod<'_, 'a>,
+    starts: &CodeStarts<'_>,
     frames: &DeclaredFrames<'a>,
     seen: &mut PlaceSet,
     frame: &mut Working<'a>,
@@ -77,11 +81,12 @@ pub fn pass<'a, C: Classes>(
 ) -> Result<Verdict<'a>, VerifyFault>
     requires initial { held frame.old ≡ initial_frame (method_view method.now) }
     requires locals { length (held frame.old).locals ≡ method.now.code.now.max_locals }
+    requires starts { code_in starts.now ≡ method.now.code.now.code.now }
     requires declared { locals_in frames.now ≡ method.now.code.now.max_locals }
     requires no_exceptions { (method_view method.now).exceptions ≡ [] }
     requires spelled { (xs : List (ℕ × Instruction)) × SpellsCode 0 method.now.code.now.code.now xs }
     requires few { length method.now.code.now.code.now ≤ MAX_CODE_BYTES }
-    ensures { Gives (code_judged plan_yet (C.content classes.now) (method_view method.now) (frames_in frames.now)) result }
+    ensures { Gives (code_judged plan (C.content classes.now) (method_view method.now) (frames_in frames.now)) result }
 {
     let mut code = Instructions::new(method.code.code);
     let mut comes = true;
@@ -100,7 +105,7 @@ pub fn pass<'a, C: Classes>(
         known = known.here(declared).behind(&act);
         let last = code.is_at_end();
         let judged = judge(
-            alloc, method, at, act, comes, last, frames, &mut known, seen, frame, classes,
+            alloc, method, starts, at, act, comes, last, frames, &mut known, seen, frame, classes,
         );
         if let Err(reason) = judged {
             return refuse(at, reason);

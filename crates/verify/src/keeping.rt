@@ -23,7 +23,7 @@ impl<'n, 'a> Known<'n, 'a> {
     ghost use Rattle.insn.specs.Views.{act_view};
     ghost use Rattle.frames.specs.DeclaredTables.{declared_view, IsOf};
     ghost use Rattle.rules.specs.After.{after};
-    ghost use Rattle.rules.specs.Table.{plan_yet};
+    ghost use Rattle.rules.specs.Table.{plan};
     ghost use Rattle.verify.specs.Verdict.{entered};
     ghost use Rattle.verify.specs.Keeping.{IsKnown, Fits};
 
@@ -78,7 +78,7 @@ impl<'n, 'a> Known<'n, 'a> {
 
     /// What is known behind an instruction that means this.
     pub fn behind(self, act: &Act<'_>) -> Known<'n, 'a>
-        ensures { (cs : List ClassFact) (t : DeclaredFrames) (m : Method acts.Act) (at : ℕ) (f : FrameFact) → IsKnown cs t f self.entry → IsKnown cs t (after m at (plan_yet m (act_view act.now)) f) result }
+        ensures { (cs : List ClassFact) (t : DeclaredFrames) (m : Method acts.Act) (at : ℕ) (f : FrameFact) → IsKnown cs t f self.entry → IsKnown cs t (after m at (plan m (act_view act.now)) f) result }
     {
         if !keeps_locals(act) {
             return Known::nothing();

@@ -1,6 +1,5 @@
 //! What the verdict on a method means.
 ghost use Rattle.verify.specs.Refusals.{MapRefusedWhere, RefusedWhere};
-ghost use Rattle.verify.specs.ClassMethods.{NoneIsReplaced};
 ghost use Rattle.verify.specs.OneVerdict.{OneVerdict, OneReport};
 ghost use Rattle.verify.specs.VerdictLaws.{TypeSafeIsVerified, VerifiedIsTypeSafe};
 
@@ -24,11 +23,6 @@ pub fn refused_where()
 /// Where the stack map is refused, receiver and parameters fit, and the map has this fault.
 pub fn map_refused_where()
     ensures { MapRefusedWhere }
-{}
-
-/// A method that is type-safe by the plans that are there yet is type-safe: it has no instruction without a rule.
-pub fn none_is_replaced()
-    ensures { NoneIsReplaced }
 {}
 
 /// A method has one verdict, whatever the hierarchy.

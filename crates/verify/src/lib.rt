@@ -40,7 +40,7 @@ mod verdict;
 pub use among::{AmongFault, verify_among};
 pub use files::{FileFault, FileRead, class_file};
 pub use laws::{
-    map_refused_where, none_is_replaced, one_report, one_verdict, refused_where,
+    map_refused_where, one_report, one_verdict, refused_where,
     type_safe_is_verified, verified_is_type_safe,
 };
 pub use method::verify_method;

@@ -9,7 +9,7 @@ ghost use Rattle.classfile.specs.WellFormed.{WellFormed};
 ghost use Rattle.insn.specs.Instructions.{Instruction};
 ghost use Rattle.insn.specs.Code.{SpellsCode};
 ghost use Rattle.rules.specs.Bodies.{method_view};
-ghost use Rattle.rules.specs.Table.{plan_yet};
+ghost use Rattle.rules.specs.Table.{plan};
 ghost use Rattle.verify.specs.declared.verdict.VerifyFault.TheVariants.{OutOfMemory};
 ghost use Rattle.verify.specs.Verdict.{verdict};
 ghost use Rattle.verify.specs.Steps.{Gives};
@@ -17,7 +17,7 @@ ghost use Rattle.verify.specs.Judged.{is_judged};
 ghost use Rattle.verify.specs.Listed.{IsListed};
 ghost use Rattle.verify.specs.Answers.{AnswersCode, Answers, VerifiesTypeSafe, VerifiedIsSafe};
 
-use crate::initial::{initial_locals, initial_types};
+use crate::initial::{begins_uninitialized, initial_locals, initial_types};
 use crate::judging::pass;
 use crate::listing::is_listed;
 use crate::place_set::PlaceSet;
@@ -25,6 +25,7 @@ use crate::refusal::{refuse, refuse_code};
 use crate::stack_maps::declared_frames;
 use crate::verdict::{Verdict, VerifyFault};
 use classfile::{CodeMethod, Formed};
+use frames::CodeStarts;
 use hierarchy::Classes;
 use insn::count_instructions;
 use names::{FieldType, MethodType, method_type};
@@ -37,9 +38,6 @@ fn is_judged(method: &CodeMethod<'_, '_>) -> bool
     requires coded { code_at (class_view method.now.class.now) method.now.number ≡ Some (code_view method.now.code.now) }
     ensures { result ≡ is_judged {A = ℕ} (code_method_view method.now []) }
 {
-    if method.is_init {
-        return false;
-    }
     method.code.exception_table.is_empty()
 }
 
@@ -68,22 +66,23 @@ fn judge_body<'a, C: Classes>(
     requires parameters { (method_view method.now).type.params ≡ map type_of parameters.now }
     requires spelled { (xs : List (ℕ × Instruction)) × SpellsCode 0 method.now.code.now.code.now xs }
     requires few { length method.now.code.now.code.now ≤ MAX_CODE_BYTES }
-    ensures { Gives (verdict plan_yet (C.content classes.now) (method_view method.now)) result }
+    ensures { Gives (verdict plan (C.content classes.now) (method_view method.now)) result }
 {
     let max_locals = method.code.max_locals;
     let types = initial_types(alloc, method, parameters)?;
     let Some(locals) = initial_locals(alloc, &types, max_locals)? else {
         return refuse(0, Reason::LocalOutOfRange);
     };
-    let declared = declared_frames(alloc, method, &types)?;
+    let starts = CodeStarts::new(alloc, method.code.code)?;
+    let declared = declared_frames(alloc, method, &types, &starts)?;
     let frames = match declared {
         Ok(frames) => frames,
         Err(fault) => return refuse(0, Reason::BadStackMap { fault }),
     };
     let mut seen = PlaceSet::new(alloc);
     seen.start(frames.len())?;
-    frame.start(&locals, max_locals, false)?;
-    pass(alloc, method, &frames, &mut seen, frame, classes)
+    frame.start(&locals, max_locals, begins_uninitialized(method))?;
+    pass(alloc, method, &starts, &frames, &mut seen, frame, classes)
 }
 
 /// The verdict on a method with code.
@@ -134,7 +133,7 @@ pub fn verify_listed<'a, C: Classes>(
 ///
 /// A method without a Code attribute has none. The first of these steps that refuses says why and where:
 ///
-/// - 60 at 0: the method is an `<init>`, or has an exception table;
+/// - 60 at 0: the method has an exception table;
 /// - 79 where the first instruction at fault begins, with the number of its fault (31 to 35);
 /// - 64 at 0: the receiver and the parameters do not fit into max_locals;
 /// - 78 at 0, with the number of its fault: the stack map is refused, by its bytes (2, 12, 47, 48) or by an entry (8, 9, 49 to 53);

@@ -1,10 +1,10 @@
 //! The frames that the stack map of a method declares.
-ghost use Rattle.std.specs.Prelude.{◌≡◌, ◌≢◌, ◌≤◌, map, length, IfOk, IfErr};
-ghost use Rattle.layout.specs.declared.limits.TheConstants.{MAX_CODE_BYTES};
+ghost use Rattle.std.specs.Prelude.{◌≡◌, ◌≢◌, map, IfOk, IfErr};
 ghost use Rattle.layout.specs.declared.fault.ReadFault.TheVariants as reading;
 ghost use Rattle.layout.specs.Refusals.{read_fault_number};
 ghost use Rattle.frames.specs.VerificationType.{type_of};
 ghost use Rattle.frames.specs.DeclaredTables.{locals_in};
+ghost use Rattle.frames.specs.MarkedCode.{code_in};
 ghost use Rattle.rules.specs.Bodies.{method_view};
 ghost use Rattle.verify.specs.declared.verdict.VerifyFault.TheVariants.{OutOfMemory};
 ghost use Rattle.verify.specs.InitialFrames.{initial_types};
@@ -35,9 +35,10 @@ pub fn declared_frames<'a>(
     alloc: Global,
     method: &CodeMethod<'_, 'a>,
     types: &[VType<'a>],
+    starts: &CodeStarts<'_>,
 ) -> Result<Result<DeclaredFrames<'a>, u8>, VerifyFault>
     requires types { map type_of types.now ≡ initial_types (method_view method.now) }
-    requires few { length method.now.code.now.code.now ≤ MAX_CODE_BYTES }
+    requires starts { code_in starts.now ≡ method.now.code.now.code.now }
     ensures told { IfOk result (TellsFrames (frames_declared (method_view method.now))) }
     ensures locals { IfOk result (λ r. IfOk r (λ t. locals_in t ≡ method.now.code.now.max_locals)) }
     ensures memory { IfErr result (λ e. e ≡ OutOfMemory) }
@@ -49,12 +50,11 @@ pub fn declared_frames<'a>(
         Ok(map) => map,
         Err(fault) => return Ok(Err(fault_number(fault)?)),
     };
-    let starts = CodeStarts::new(alloc, method.code.code)?;
     let declared = declare(
         alloc,
         map.entries(),
         &method.class.constant_pool,
-        &starts,
+        starts,
         types,
         method.code.max_locals,
         method.code.max_stack,

@@ -1,5 +1,5 @@
 use Rattle.std.proofs.Common.{◌∙◌}
-use Rattle.machine.proofs.Places.{begins}
+use Rattle.insn.proofs.Places.{begins}
 use Rattle.machine.proofs.starts.has_offset.Goals as goal
 
 pub returns : goal.returns

@@ -4,7 +4,6 @@ use Rattle.insn.specs.Views.{act_view}
 use Rattle.rules.specs.Held.{held}
 use Rattle.rules.specs.Plans.{rearranges}
 use Rattle.rules.specs.Table.{plan, return_nothing}
-use Rattle.insn.specs.Supported.{as_supported}
 use Rattle.rules.specs.After.{after}
 use Rattle.rules.specs.Rules.{conditions}
 use Rattle.rules.specs.Bodies.{method_view}
@@ -15,117 +14,117 @@ use Rattle.rules.proofs.running.run.Goals as goal
 pub returns-in-LoadConstant : goal.returns-in-LoadConstant
 returns-in-LoadConstant g c =
     let m = method_view c.args.method.now in
-    by_plan m c.args.at (plan m (as_supported (act_view c.args.act))) _ (g.C.Classes.content c.args.classes.now) (held c.args.frame.now) (held c.load_constant.new.frame) c.load_constant.result
-    (ap (λ a. plan m (as_supported (act_view a))) c.in-LoadConstant.is) (c.load_constant.ensures c.args.at)
+    by_plan m c.args.at (plan m (act_view c.args.act)) _ (g.C.Classes.content c.args.classes.now) (held c.args.frame.now) (held c.load_constant.new.frame) c.load_constant.result
+    (ap (λ a. plan m (act_view a)) c.in-LoadConstant.is) (c.load_constant.ensures c.args.at)
 
 pub returns-in-ReturnReference : goal.returns-in-ReturnReference
 returns-in-ReturnReference g c =
     let m = method_view c.args.method.now in
-    by_plan m c.args.at (plan m (as_supported (act_view c.args.act))) _ (g.C.Classes.content c.args.classes.now) (held c.args.frame.now) (held c.return_reference.new.frame) c.return_reference.result
-    (ap (λ a. plan m (as_supported (act_view a))) c.in-ReturnReference.is) (c.return_reference.ensures c.args.at)
+    by_plan m c.args.at (plan m (act_view c.args.act)) _ (g.C.Classes.content c.args.classes.now) (held c.args.frame.now) (held c.return_reference.new.frame) c.return_reference.result
+    (ap (λ a. plan m (act_view a)) c.in-ReturnReference.is) (c.return_reference.ensures c.args.at)
 
 pub returns-in-GetStatic : goal.returns-in-GetStatic
 returns-in-GetStatic g c =
     let m = method_view c.args.method.now in
-    by_plan m c.args.at (plan m (as_supported (act_view c.args.act))) _ (g.C.Classes.content c.args.classes.now) (held c.args.frame.now) (held c.get_static.new.frame) c.get_static.result
-    (ap (λ a. plan m (as_supported (act_view a))) c.in-GetStatic.is) (c.get_static.ensures c.args.at)
+    by_plan m c.args.at (plan m (act_view c.args.act)) _ (g.C.Classes.content c.args.classes.now) (held c.args.frame.now) (held c.get_static.new.frame) c.get_static.result
+    (ap (λ a. plan m (act_view a)) c.in-GetStatic.is) (c.get_static.ensures c.args.at)
 
 pub returns-in-PutStatic : goal.returns-in-PutStatic
 returns-in-PutStatic g c =
     let m = method_view c.args.method.now in
-    by_plan m c.args.at (plan m (as_supported (act_view c.args.act))) _ (g.C.Classes.content c.args.classes.now) (held c.args.frame.now) (held c.put_static.new.frame) c.put_static.result
-    (ap (λ a. plan m (as_supported (act_view a))) c.in-PutStatic.is) (c.put_static.ensures c.args.at)
+    by_plan m c.args.at (plan m (act_view c.args.act)) _ (g.C.Classes.content c.args.classes.now) (held c.args.frame.now) (held c.put_static.new.frame) c.put_static.result
+    (ap (λ a. plan m (act_view a)) c.in-PutStatic.is) (c.put_static.ensures c.args.at)
 
 pub returns-in-GetField : goal.returns-in-GetField
 returns-in-GetField g c =
     let m = method_view c.args.method.now in
-    by_plan m c.args.at (plan m (as_supported (act_view c.args.act))) _ (g.C.Classes.content c.args.classes.now) (held c.args.frame.now) (held c.get_field.new.frame) c.get_field.result
-    (ap (λ a. plan m (as_supported (act_view a))) c.in-GetField.is) (c.get_field.ensures c.args.at)
+    by_plan m c.args.at (plan m (act_view c.args.act)) _ (g.C.Classes.content c.args.classes.now) (held c.args.frame.now) (held c.get_field.new.frame) c.get_field.result
+    (ap (λ a. plan m (act_view a)) c.in-GetField.is) (c.get_field.ensures c.args.at)
 
 pub returns-in-PutField : goal.returns-in-PutField
 returns-in-PutField g c =
     let m = method_view c.args.method.now in
-    by_plan m c.args.at (plan m (as_supported (act_view c.args.act))) _ (g.C.Classes.content c.args.classes.now) (held c.args.frame.now) (held c.put_field.new.frame) c.put_field.result
-    (ap (λ a. plan m (as_supported (act_view a))) c.in-PutField.is) (c.put_field.ensures c.args.at)
+    by_plan m c.args.at (plan m (act_view c.args.act)) _ (g.C.Classes.content c.args.classes.now) (held c.args.frame.now) (held c.put_field.new.frame) c.put_field.result
+    (ap (λ a. plan m (act_view a)) c.in-PutField.is) (c.put_field.ensures c.args.at)
 
 pub returns-in-InvokeVirtual : goal.returns-in-InvokeVirtual
 returns-in-InvokeVirtual g c =
     let m = method_view c.args.method.now in
-    by_plan m c.args.at (plan m (as_supported (act_view c.args.act))) _ (g.C.Classes.content c.args.classes.now) (held c.args.frame.now) (held c.invoke_virtual.new.frame) c.invoke_virtual.result
-    (ap (λ a. plan m (as_supported (act_view a))) c.in-InvokeVirtual.is) (c.invoke_virtual.ensures c.args.at)
+    by_plan m c.args.at (plan m (act_view c.args.act)) _ (g.C.Classes.content c.args.classes.now) (held c.args.frame.now) (held c.invoke_virtual.new.frame) c.invoke_virtual.result
+    (ap (λ a. plan m (act_view a)) c.in-InvokeVirtual.is) (c.invoke_virtual.ensures c.args.at)
 
 pub returns-in-InvokeStatic : goal.returns-in-InvokeStatic
 returns-in-InvokeStatic g c =
     let m = method_view c.args.method.now in
-    by_plan m c.args.at (plan m (as_supported (act_view c.args.act))) _ (g.C.Classes.content c.args.classes.now) (held c.args.frame.now) (held c.invoke_static.new.frame) c.invoke_static.result
-    (ap (λ a. plan m (as_supported (act_view a))) c.in-InvokeStatic.is) (c.invoke_static.ensures c.args.at)
+    by_plan m c.args.at (plan m (act_view c.args.act)) _ (g.C.Classes.content c.args.classes.now) (held c.args.frame.now) (held c.invoke_static.new.frame) c.invoke_static.result
+    (ap (λ a. plan m (act_view a)) c.in-InvokeStatic.is) (c.invoke_static.ensures c.args.at)
 
 pub returns-in-InvokeInterface : goal.returns-in-InvokeInterface
 returns-in-InvokeInterface g c =
     let m = method_view c.args.method.now in
-    by_plan m c.args.at (plan m (as_supported (act_view c.args.act))) _ (g.C.Classes.content c.args.classes.now) (held c.args.frame.now) (held c.invoke_interface.new.frame) c.invoke_interface.result
-    (ap (λ a. plan m (as_supported (act_view a))) c.in-InvokeInterface.is) (c.invoke_interface.ensures c.args.at)
+    by_plan m c.args.at (plan m (act_view c.args.act)) _ (g.C.Classes.content c.args.classes.now) (held c.args.frame.now) (held c.invoke_interface.new.frame) c.invoke_interface.result
+    (ap (λ a. plan m (act_view a)) c.in-InvokeInterface.is) (c.invoke_interface.ensures c.args.at)
 
 pub returns-in-LoadElement : goal.returns-in-LoadElement
 returns-in-LoadElement g c =
     let m = method_view c.args.method.now in
-    by_plan m c.args.at (plan m (as_supported (act_view c.args.act))) _ (g.C.Classes.content c.args.classes.now) (held c.args.frame.now) (held c.load_element.new.frame) c.load_element.result
-    (ap (λ a. plan m (as_supported (act_view a))) c.in-LoadElement.is) (c.load_element.ensures c.args.at)
+    by_plan m c.args.at (plan m (act_view c.args.act)) _ (g.C.Classes.content c.args.classes.now) (held c.args.frame.now) (held c.load_element.new.frame) c.load_element.result
+    (ap (λ a. plan m (act_view a)) c.in-LoadElement.is) (c.load_element.ensures c.args.at)
 
 pub returns-in-StoreElement : goal.returns-in-StoreElement
 returns-in-StoreElement g c =
     let m = method_view c.args.method.now in
-    by_plan m c.args.at (plan m (as_supported (act_view c.args.act))) _ (g.C.Classes.content c.args.classes.now) (held c.args.frame.now) (held c.store_element.new.frame) c.store_element.result
-    (ap (λ a. plan m (as_supported (act_view a))) c.in-StoreElement.is) (c.store_element.ensures c.args.at)
+    by_plan m c.args.at (plan m (act_view c.args.act)) _ (g.C.Classes.content c.args.classes.now) (held c.args.frame.now) (held c.store_element.new.frame) c.store_element.result
+    (ap (λ a. plan m (act_view a)) c.in-StoreElement.is) (c.store_element.ensures c.args.at)
 
 pub returns-in-LoadReferenceElement : goal.returns-in-LoadReferenceElement
 returns-in-LoadReferenceElement g c =
     let m = method_view c.args.method.now in
-    by_plan m c.args.at (plan m (as_supported (act_view c.args.act))) _ (g.C.Classes.content c.args.classes.now) (held c.args.frame.now) (held c.load_reference_element.new.frame) c.load_reference_element.result
-    (ap (λ a. plan m (as_supported (act_view a))) c.in-LoadReferenceElement.is) (c.load_reference_element.ensures c.args.at)
+    by_plan m c.args.at (plan m (act_view c.args.act)) _ (g.C.Classes.content c.args.classes.now) (held c.args.frame.now) (held c.load_reference_element.new.frame) c.load_reference_element.result
+    (ap (λ a. plan m (act_view a)) c.in-LoadReferenceElement.is) (c.load_reference_element.ensures c.args.at)
 
 pub returns-in-StoreReferenceElement : goal.returns-in-StoreReferenceElement
 returns-in-StoreReferenceElement g c =
     let m = method_view c.args.method.now in
-    by_plan m c.args.at (plan m (as_supported (act_view c.args.act))) _ (g.C.Classes.content c.args.classes.now) (held c.args.frame.now) (held c.store_reference_element.new.frame) c.store_reference_element.result
-    (ap (λ a. plan m (as_supported (act_view a))) c.in-StoreReferenceElement.is) (c.store_reference_element.ensures c.args.at)
+    by_plan m c.args.at (plan m (act_view c.args.act)) _ (g.C.Classes.content c.args.classes.now) (held c.args.frame.now) (held c.store_reference_element.new.frame) c.store_reference_element.result
+    (ap (λ a. plan m (act_view a)) c.in-StoreReferenceElement.is) (c.store_reference_element.ensures c.args.at)
 
 pub returns-in-NewArray : goal.returns-in-NewArray
 returns-in-NewArray g c =
     let m = method_view c.args.method.now in
-    by_plan m c.args.at (plan m (as_supported (act_view c.args.act))) _ (g.C.Classes.content c.args.classes.now) (held c.args.frame.now) (held c.new_array.new.frame) c.new_array.result
-    (ap (λ a. plan m (as_supported (act_view a))) c.in-NewArray.is) (c.new_array.ensures c.args.at)
+    by_plan m c.args.at (plan m (act_view c.args.act)) _ (g.C.Classes.content c.args.classes.now) (held c.args.frame.now) (held c.new_array.new.frame) c.new_array.result
+    (ap (λ a. plan m (act_view a)) c.in-NewArray.is) (c.new_array.ensures c.args.at)
 
 pub returns-in-NewReferenceArray : goal.returns-in-NewReferenceArray
 returns-in-NewReferenceArray g c =
     let m = method_view c.args.method.now in
-    by_plan m c.args.at (plan m (as_supported (act_view c.args.act))) _ (g.C.Classes.content c.args.classes.now) (held c.args.frame.now) (held c.new_reference_array.new.frame) c.new_reference_array.result
-    (ap (λ a. plan m (as_supported (act_view a))) c.in-NewReferenceArray.is) (c.new_reference_array.ensures c.args.at)
+    by_plan m c.args.at (plan m (act_view c.args.act)) _ (g.C.Classes.content c.args.classes.now) (held c.args.frame.now) (held c.new_reference_array.new.frame) c.new_reference_array.result
+    (ap (λ a. plan m (act_view a)) c.in-NewReferenceArray.is) (c.new_reference_array.ensures c.args.at)
 
 pub returns-in-NewMultiArray : goal.returns-in-NewMultiArray
 returns-in-NewMultiArray g c =
     let m = method_view c.args.method.now in
-    by_plan m c.args.at (plan m (as_supported (act_view c.args.act))) _ (g.C.Classes.content c.args.classes.now) (held c.args.frame.now) (held c.new_multi_array.new.frame) c.new_multi_array.result
-    (ap (λ a. plan m (as_supported (act_view a))) c.in-NewMultiArray.is) (c.new_multi_array.ensures c.args.at)
+    by_plan m c.args.at (plan m (act_view c.args.act)) _ (g.C.Classes.content c.args.classes.now) (held c.args.frame.now) (held c.new_multi_array.new.frame) c.new_multi_array.result
+    (ap (λ a. plan m (act_view a)) c.in-NewMultiArray.is) (c.new_multi_array.ensures c.args.at)
 
 pub returns-in-CheckCast : goal.returns-in-CheckCast
 returns-in-CheckCast g c =
     let m = method_view c.args.method.now in
-    by_plan m c.args.at (plan m (as_supported (act_view c.args.act))) _ (g.C.Classes.content c.args.classes.now) (held c.args.frame.now) (held c.check_cast.new.frame) c.check_cast.result
-    (ap (λ a. plan m (as_supported (act_view a))) c.in-CheckCast.is) (c.check_cast.ensures c.args.at)
+    by_plan m c.args.at (plan m (act_view c.args.act)) _ (g.C.Classes.content c.args.classes.now) (held c.args.frame.now) (held c.check_cast.new.frame) c.check_cast.result
+    (ap (λ a. plan m (act_view a)) c.in-CheckCast.is) (c.check_cast.ensures c.args.at)
 
 pub returns-in-InstanceOf : goal.returns-in-InstanceOf
 returns-in-InstanceOf g c =
     let m = method_view c.args.method.now in
-    by_plan m c.args.at (plan m (as_supported (act_view c.args.act))) _ (g.C.Classes.content c.args.classes.now) (held c.args.frame.now) (held c.instance_of.new.frame) c.instance_of.result
-    (ap (λ a. plan m (as_supported (act_view a))) c.in-InstanceOf.is) (c.instance_of.ensures c.args.at)
+    by_plan m c.args.at (plan m (act_view c.args.act)) _ (g.C.Classes.content c.args.classes.now) (held c.args.frame.now) (held c.instance_of.new.frame) c.instance_of.result
+    (ap (λ a. plan m (act_view a)) c.in-InstanceOf.is) (c.instance_of.ensures c.args.at)
 
 pub returns-in-Stack : goal.returns-in-Stack
 returns-in-Stack g c =
     let cs = g.C.Classes.content c.args.classes.now in
     let m = method_view c.args.method.now in
     let f = held c.args.frame.now in
-    let e : plan m (as_supported (act_view c.args.act)) ≡ rearranges (stack_forms c.in-Stack.operator) = ap (λ a. plan m (as_supported (act_view a))) c.in-Stack.is in
+    let e : plan m (act_view c.args.act) ≡ rearranges (stack_forms c.in-Stack.operator) = ap (λ a. plan m (act_view a)) c.in-Stack.is in
     subst (λ p. Done (conditions cs m c.args.at p f) (after m c.args.at p f) (held c.rearranges.new.frame) c.rearranges.result) (sym e) (c.rearranges.ensures cs)
 
 pub returns-in-ReturnVoid : goal.returns-in-ReturnVoid
@@ -133,11 +132,23 @@ returns-in-ReturnVoid g c =
     let cs = g.C.Classes.content c.args.classes.now in
     let m = method_view c.args.method.now in
     let f = held c.args.frame.now in
-    let e : plan m (as_supported (act_view c.args.act)) ≡ return_nothing m.type.result = ap (λ a. plan m (as_supported (act_view a))) c.in-ReturnVoid.is in
-    returned m c.args.at (plan m (as_supported (act_view c.args.act))) cs f (held c.return_nothing.new.frame) c.return_nothing.result e (c.return_nothing.ensures cs)
+    let e : plan m (act_view c.args.act) ≡ return_nothing m.type.result = ap (λ a. plan m (act_view a)) c.in-ReturnVoid.is in
+    returned m c.args.at (plan m (act_view c.args.act)) cs f (held c.return_nothing.new.frame) c.return_nothing.result e (c.return_nothing.ensures cs)
 
 pub returns-in-Numeric : goal.returns-in-Numeric
 returns-in-Numeric g c = search rules
 
 pub returns-in-Nothing : goal.returns-in-Nothing
 returns-in-Nothing g c = search rules
+
+pub returns-in-InvokeSpecial : goal.returns-in-InvokeSpecial
+returns-in-InvokeSpecial g c =
+    let m = method_view c.args.method.now in
+    by_plan m c.args.at (plan m (act_view c.args.act)) _ (g.C.Classes.content c.args.classes.now) (held c.args.frame.now) (held c.invoke_special.new.frame) c.invoke_special.result
+    (ap (λ a. plan m (act_view a)) c.in-InvokeSpecial.is) (c.invoke_special.ensures c.args.at)
+
+pub returns-in-New : goal.returns-in-New
+returns-in-New g c =
+    let m = method_view c.args.method.now in
+    by_plan m c.args.at (plan m (act_view c.args.act)) _ (g.C.Classes.content c.args.classes.now) (held c.args.frame.now) (held c.new_object.new.frame) c.new_object.result
+    (ap (λ a. plan m (act_view a)) c.in-New.is) (c.new_object.ensures (g.C.Classes.content c.args.classes.now))

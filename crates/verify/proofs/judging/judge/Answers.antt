@@ -8,7 +8,7 @@ use Rattle.rules.specs.Rules.{conditions}
 use Rattle.rules.specs.Held.{held}
 use Rattle.rules.specs.Bodies.{method_view}
 use Rattle.rules.specs.Outcomes.{Done}
-use Rattle.rules.specs.Table.{plan_yet}
+use Rattle.rules.specs.Table.{plan}
 use Rattle.rules.specs.Ways.{goes_on, branch_offsets}
 use Rattle.verify.specs.Verdict.{target_conditions}
 use Rattle.verify.specs.Steps.{Judges}
@@ -22,7 +22,7 @@ pub check_targets-requires-clause-size : goal.check_targets-requires-clause-size
 check_targets-requires-clause-size g c =
     let classes = g.C.Classes.content c.args.classes.now in
     let m = method_view c.args.method.now in
-    let p = plan_yet m (act_view c.args.act) in
+    let p = plan m (act_view c.args.act) in
     let f = held c.args.frame.now in
     let now = held c.run.new.frame in
     let ran = (subst (Done (conditions classes m c.args.at p f) (after m c.args.at p f) now) c.in-Ok.is c.run.ensures).outcome in
@@ -32,7 +32,7 @@ pub check_targets-requires-clause-known : goal.check_targets-requires-clause-kno
 check_targets-requires-clause-known g c =
     let classes = g.C.Classes.content c.args.classes.now in
     let m = method_view c.args.method.now in
-    let p = plan_yet m (act_view c.args.act) in
+    let p = plan m (act_view c.args.act) in
     let f = held c.args.frame.now in
     let now = held c.run.new.frame in
     let ran = (subst (Done (conditions classes m c.args.at p f) (after m c.args.at p f) now) c.in-Ok.is c.run.ensures).outcome in
@@ -43,7 +43,7 @@ returns-in-Ok-clause-judged g c = λ next e.
     let classes = g.C.Classes.content c.args.classes.now in
     let m = method_view c.args.method.now in
     let a = act_view c.args.act in
-    let p = plan_yet m a in
+    let p = plan m a in
     let f = held c.args.frame.now in
     let now = held c.run.new.frame in
     let frames = frames_in c.args.frames.now in
@@ -60,7 +60,7 @@ returns-in-Err-clause-judged g c = λ next e.
     let classes = g.C.Classes.content c.args.classes.now in
     let m = method_view c.args.method.now in
     let a = act_view c.args.act in
-    let p = plan_yet m a in
+    let p = plan m a in
     let f = held c.args.frame.now in
     let now = held c.run.new.frame in
     let frames = frames_in c.args.frames.now in

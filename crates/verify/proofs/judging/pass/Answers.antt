@@ -11,7 +11,7 @@ use Rattle.rules.specs.Bodies.{method_view}
 use Rattle.rules.specs.declared.reason.Reason.{Reason}
 use Rattle.rules.specs.Held.{held}
 use Rattle.rules.specs.Outcomes.{Done}
-use Rattle.rules.specs.Table.{plan_yet}
+use Rattle.rules.specs.Table.{plan}
 use Rattle.rules.specs.Ways.{goes_on}
 use Rattle.frames.specs.DeclaredTables.{frames_in, declared_view}
 use Rattle.verify.specs.Keeping.{IsKnown}
@@ -72,7 +72,7 @@ returns-in-Err g c =
     let m = method_view c.args.method.now in
     let frames = frames_in c.args.frames.now in
     let f = held c.loop-step.frame in
-    let v = code_judged plan_yet classes m frames in
+    let v = code_judged plan classes m frames in
     let comes = c.loop-step.comes in
     let now = c.loop-step.invariant.left in
     let x : ℕ × Insn = (c.in-Ok.at, c.in-Ok.insn) in
@@ -88,7 +88,7 @@ returns-in-Err-judged g c =
     let m = method_view c.args.method.now in
     let frames = frames_in c.args.frames.now in
     let f = held c.loop-step.frame in
-    let v = code_judged plan_yet classes m frames in
+    let v = code_judged plan classes m frames in
     let comes = c.loop-step.comes in
     let now = c.loop-step.invariant.left in
     let x : ℕ × Insn = (c.in-Ok.at, c.in-Ok.insn) in
@@ -99,7 +99,7 @@ returns-in-Err-judged g c =
     let came = subst (λ o. Enters classes comes f o g1 c.enter.result) (c.find-declared.ensures.frame ∙ ap (at_offset frames) c.from.ensures) c.enter.ensures.entered in
     let next = first_offset (acts one.others) in
     let done =
-    subst (λ b. Done (at_conditions classes m frames x.0 (plan_yet m b) next g1) (after m x.0 (plan_yet m b) g1) (held c.judge-judged.new.frame) c.judge-judged.result) c.act-act.ensures
+    subst (λ b. Done (at_conditions classes m frames x.0 (plan m b) next g1) (after m x.0 (plan m b) g1) (held c.judge-judged.new.frame) c.judge-judged.result) c.act-act.ensures
     (c.judge-judged.ensures.judged next (last_is c.next.new.self one.others one.read ∙ sym c.is_at_end-last.ensures)) in
     c.refuse-in-Err-judged.ensures v
     (stops_at classes m frames a (acts one.others) comes f v same g1 c.enter.result c.in_default-enter.field-0 c.in_default-enter.is came
@@ -111,7 +111,7 @@ loop-step-preserved g c =
     let m = method_view c.args.method.now in
     let frames = frames_in c.args.frames.now in
     let f = held c.loop-step.frame in
-    let v = code_judged plan_yet classes m frames in
+    let v = code_judged plan classes m frames in
     let comes = c.loop-step.comes in
     let now = c.loop-step.invariant.left in
     let x : ℕ × Insn = (c.in-Ok.at, c.in-Ok.insn) in
@@ -122,9 +122,9 @@ loop-step-preserved g c =
     let came = subst (λ o. Enters classes comes f o g1 c.enter.result) (c.find-declared.ensures.frame ∙ ap (at_offset frames) c.from.ensures) c.enter.ensures.entered in
     let next = first_offset (acts one.others) in
     let done =
-    subst (λ b. Done (at_conditions classes m frames x.0 (plan_yet m b) next g1) (after m x.0 (plan_yet m b) g1) (held c.judge-judged.new.frame) c.judge-judged.result) c.act-act.ensures
+    subst (λ b. Done (at_conditions classes m frames x.0 (plan m b) next g1) (after m x.0 (plan m b) g1) (held c.judge-judged.new.frame) c.judge-judged.result) c.act-act.ensures
     (c.judge-judged.ensures.judged next (last_is c.next.new.self one.others one.read ∙ sym c.is_at_end-last.ensures)) in
-    let well = subst (Done (at_conditions classes m frames x.0 (plan_yet m a.1) next g1) (after m x.0 (plan_yet m a.1) g1) (held c.judge-judged.new.frame)) c.in_default-judged.is done in
+    let well = subst (Done (at_conditions classes m frames x.0 (plan m a.1) next g1) (after m x.0 (plan m a.1) g1) (held c.judge-judged.new.frame)) c.in_default-judged.is done in
     record {
       left = record {
         instructions = one.others;
@@ -136,7 +136,7 @@ loop-step-preserved g c =
         within = (step_within located c.loop-step.code c.next.new.self c.in-Some.step x c.in-Some.ensures.steps c.in-Ok.is).1 ∙ now.within;
       };
       locals =
-          keeps_length m x.0 (plan_yet m a.1) g1 (held c.judge-judged.new.frame) c.args.method.now.code.now.max_locals
+          keeps_length m x.0 (plan m a.1) g1 (held c.judge-judged.new.frame) c.args.method.now.code.now.max_locals
           (c.in_default-enter.ensures.locals ∙ c.loop-step.invariant.locals) well.outcome.1;
       known = subst (λ (r : Result Unit Reason). OnOk r (IsKnown classes c.args.frames.now (held c.judge-judged.new.frame) c.judge-judged.new.known)) c.in_default-judged.is c.judge-judged.ensures.known;
     }

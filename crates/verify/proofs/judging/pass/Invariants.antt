@@ -1,7 +1,7 @@
 use Rattle.std.proofs.Common.{◌≡◌, length}
 use Rattle.frames.specs.DeclaredTables.{frames_in}
 use Rattle.rules.specs.Held.{held}
-use Rattle.rules.specs.Table.{plan_yet}
+use Rattle.rules.specs.Table.{plan}
 use Rattle.rules.specs.Bodies.{method_view}
 use Rattle.verify.specs.Keeping.{IsKnown}
 use Rattle.verify.specs.Verdict.{code_judged}
@@ -12,7 +12,7 @@ abbrev pub invariant-loop-step : goal.invariant-loop-step
 invariant-loop-step g l = record {
   left :
       Remains (g.C.Classes.content l.classes) (method_view l.method) (frames_in l.frames) (length l.method.code.now.code.now) l.code l.comes (held l.frame)
-      (code_judged plan_yet (g.C.Classes.content l.classes) (method_view l.method) (frames_in l.frames));
+      (code_judged plan (g.C.Classes.content l.classes) (method_view l.method) (frames_in l.frames));
   locals : length (held l.frame).locals ≡ l.method.code.now.max_locals;
   known : IsKnown (g.C.Classes.content l.classes) l.frames (held l.frame) l.known;
 }

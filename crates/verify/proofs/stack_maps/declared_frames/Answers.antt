@@ -28,7 +28,7 @@ returns-in-Ok-declared-clause-told c =
     let es = c.entries.result.now in
     let ts = c.args.types.now in
     let given =
-    ap (λ bytes. declared_frames pool (acts (instructions_in bytes)) m.max_locals m.max_stack (map type_of ts) (map entry_of es)) c.in_ok-starts.ensures
+    ap (λ bytes. declared_frames pool (acts (instructions_in bytes)) m.max_locals m.max_stack (map type_of ts) (map entry_of es)) c.requires.starts
     ∙ ap (λ entries. declared_frames pool m.code m.max_locals m.max_stack (map type_of ts) entries) c.entries.ensures in
     let declared = subst (IsDeclared _) c.in-Ok-declared.is c.in_ok-declared.ensures.declared in
     readable_map m c.in-Some.body.now here _ (map type_of ts) (Ok (frames_in c.in-Ok-declared.frames)) c.in-Ok.ensures.found c.requires.types (sym given ∙ declared)
@@ -41,7 +41,7 @@ returns-clause-told c =
     let es = c.entries.result.now in
     let ts = c.args.types.now in
     let given =
-    ap (λ bytes. declared_frames pool (acts (instructions_in bytes)) m.max_locals m.max_stack (map type_of ts) (map entry_of es)) c.in_ok-starts.ensures
+    ap (λ bytes. declared_frames pool (acts (instructions_in bytes)) m.max_locals m.max_stack (map type_of ts) (map entry_of es)) c.requires.starts
     ∙ ap (λ entries. declared_frames pool m.code m.max_locals m.max_stack (map type_of ts) entries) c.entries.ensures in
     let declared = subst (IsDeclared _) c.in-Err-declared.is c.in_ok-declared.ensures.declared in (
       undeclared (reason (frame_fault_number c.in-Err-declared.fault)),

@@ -33,3 +33,11 @@ returns-clause-list g c = search rules
 
 pub returns-clause-here : goal.returns-clause-here
 returns-clause-here g c = search rules
+
+pub invariant_of-result : goal.invariant_of-result
+invariant_of-result g c =
+    let m = c.unwrap-method.result in
+    let xs = views c.args.list.now in
+    let coded : code_at (class_view c.args.formed.now.class.now) c.args.number ≡ Some (code_view m.code.now) =
+    sym c.method.ensures.code ∙ ap (option_map (λ k. code_view k.code.now)) c.unwrap-method.ensures in
+    record { listed = sym (ap or_none (only_reading m.code.now.code.now (Ok xs) (c.requires.listed (code_view m.code.now) coded))) }

@@ -1,7 +1,7 @@
 use Rattle.std.proofs.Common.{rules}
 use Rattle.std.proofs.lemmas.List.Sorted.{answers_always}
-use Rattle.machine.proofs.Places.{missed, met}
-use Rattle.machine.proofs.starts.found_at.Goals as goal
+use Rattle.insn.proofs.Places.{missed, met}
+use Rattle.insn.proofs.finding.found_at.Goals as goal
 
 pub returns-in-Err : goal.returns-in-Err
 returns-in-Err c =

@@ -1,0 +1,82 @@
+//! Whether an instruction calls a constructor on the own object.
+ghost use Rattle.std.specs.Prelude.{◌≡◌, ◌&&◌, [], not, drop, length, IfOk};
+ghost use Rattle.names.specs.ReferenceTypes.{is_class_type};
+ghost use Rattle.pool.specs.MemberViews.{method_constant_view};
+ghost use Rattle.insn.specs.Stacks.{beneath};
+ghost use Rattle.insn.specs.Views.{act_view};
+ghost use Rattle.frames.specs.DeclaredFrames.{is_uninit_this};
+ghost use Rattle.frames.specs.VerificationType.{type_of};
+ghost use Rattle.rules.specs.Plans.{arguments_on};
+ghost use Rattle.rules.specs.Constants.{has_room_for_receiver, is_init_name};
+ghost use Rattle.rules.specs.Table.{plan};
+ghost use Rattle.rules.specs.After.{top_of};
+ghost use Rattle.rules.specs.Rules.{constructs_own};
+ghost use Rattle.rules.specs.Bodies.{method_view};
+ghost use Rattle.rules.specs.Held.{held};
+ghost use Rattle.rules.specs.Views.{stack_of};
+ghost use Rattle.rules.specs.Ways.{special_index};
+
+use crate::calls::{is_init, is_of_class};
+use crate::replacing::is_own;
+use crate::special::may_construct_by;
+use crate::working::Working;
+use classfile::CodeMethod;
+use frames::VType;
+use insn::Act;
+use pool::MethodConstant;
+use std::alloc::{AllocError, Global};
+
+/// The item of a stack beneath so many; top where there is none.
+fn item_beneath<'a>(count: usize, stack: &[VType<'a>]) -> VType<'a>
+    ensures { type_of result ≡ top_of (drop count (stack_of stack.now)) }
+{
+    if count < stack.len() {
+        stack[stack.len() - 1 - count]
+    } else {
+        VType::Top
+    }
+}
+
+/// Whether `invokespecial` calls it as a constructor.
+fn is_constructor(called: &MethodConstant<'_>) -> bool
+    ensures { let c = method_constant_view called.now in
+        result ≡ (is_init_name c && (is_class_type c.class && (not c.interface && has_room_for_receiver c))) }
+{
+    is_init(called) && is_of_class(called) && may_construct_by(called)
+}
+
+/// Whether the own object, not initialized, stands beneath the arguments.
+fn is_on_own<'a>(called: &MethodConstant<'a>, frame: &Working<'a>) -> bool
+    ensures { result ≡ is_uninit_this (top_of (beneath (arguments_on (method_constant_view called.now).type.params []) (held frame.now).stack)) }
+{
+    is_own(&item_beneath(called.method_type.params.len(), frame.stack()))
+}
+
+/// The index of the method that `invokespecial` names.
+fn special_index(act: &Act<'_>) -> Option<u16>
+    ensures { result ≡ special_index (act_view act.now) }
+{
+    match *act {
+        Act::InvokeSpecial { index } => Some(index),
+        _ => None,
+    }
+}
+
+/// Whether the instruction that means this calls a constructor on the own object, which is not initialized (JVMS 4.10.1.9,
+/// invokespecial). The frame stays as it is.
+pub fn constructs_own<'a>(
+    alloc: Global,
+    method: &CodeMethod<'_, 'a>,
+    act: &Act<'a>,
+    frame: &Working<'a>,
+) -> Result<bool, AllocError>
+    ensures { IfOk result (λ own. own ≡ constructs_own (plan (method_view method.now) (act_view act.now)) (held frame.now)) }
+{
+    let Some(index) = special_index(act) else {
+        return Ok(false);
+    };
+    let Some(called) = method.class.constant_pool.method_constant(alloc, index)? else {
+        return Ok(false);
+    };
+    Ok(is_constructor(&called) && is_on_own(&called, frame))
+}
