@@ -1,11 +1,11 @@
--- The least reason against an instruction, by what is judged of it one after the other, where nothing is caught.
+-- The least reason against an instruction, by what is judged of it one after the other, where it is no constructor's call on the own object.
 use Rattle.std.proofs.Common.{◌≡◌, ◌⊎◌, ℕ, ◌<◌, ◌≤◌, Bool, true, false, ◌&&◌, is_none, nat_lt, ℤ, List, [], ◌∷◌, ◌++◌, Option, Some, None, Result, Ok, Err, refl, sym, ◌∙◌, ap, subst, arith, inl, inr, if◌then◌else◌}
 use Rattle.std.proofs.lemmas.Bool.Decides.{nat_tests}
-use Rattle.classfile.specs.Methods.{Method, ExceptionEntry}
+use Rattle.classfile.specs.Methods.{Method, ExceptionEntry, covers}
 use Rattle.hierarchy.specs.Class.{ClassFact}
 use Rattle.hierarchy.specs.Answer.{Outcome, yes, no, missing}
 use Rattle.insn.specs.Meanings.{Act}
-use Rattle.insn.specs.Offsets.{led_to}
+use Rattle.insn.specs.Offsets.{at_offset, led_to}
 use Rattle.insn.specs.Supported.{as_supported}
 use Rattle.frames.specs.FrameFact.{FrameFact}
 use Rattle.frames.specs.FrameAssignable.{frame_answer}
@@ -19,8 +19,8 @@ use Rattle.rules.specs.declared.reason.Reason.{Reason as RuleReason}
 use Rattle.rules.specs.declared.reason.Reason.TheVariants.{OutOfMemory}
 use Rattle.rules.specs.Reasons.{reason_number, reason_view}
 use Rattle.rules.specs.Ways.{goes_on, branch_offsets}
-use Rattle.verify.specs.TypeSafety.{Frames}
-use Rattle.verify.specs.Verdict.{answer_conditions, declared_at, one_target, target_conditions, handler_conditions, is_covered, at_conditions}
+use Rattle.verify.specs.TypeSafety.{Frames, caught_frame}
+use Rattle.verify.specs.Verdict.{answer_conditions, declared_at, one_target, target_conditions, one_handler, handler_conditions, is_covered, at_conditions}
 use Rattle.verify.specs.Steps.{Judges}
 use Rattle.verify.proofs.Going.{IsEarly, IsWay, ways}
 use Rattle.verify.proofs.Merging.{merge, least_append, both_least, view_number, number_some}
@@ -79,6 +79,21 @@ targets_late classes frames f (t ∷ ts) =
     late_append (one_target classes (declared_at frames t) f) (target_conditions classes frames f ts) (target_late classes (declared_at frames t) f)
     (targets_late classes frames f ts)
 
+handler_late : (classes : List ClassFact) (o : Option FrameFact) (f : FrameFact) → AreLate (one_handler classes o f)
+handler_late classes None f = (omega arith, tt)
+handler_late classes (Some g) f = answer_late 73 (frame_answer classes f g) (omega arith)
+
+handlers_late : (classes : List ClassFact) (frames : Frames) (at : ℕ) (f : FrameFact) (es : List ExceptionEntry) → AreLate (handler_conditions classes frames at f es)
+handlers_late classes frames at f [] = tt
+handlers_late classes frames at f (e ∷ es) = late_append (one (covers e at)) (handler_conditions classes frames at f es) (late (covers e at)) (handlers_late classes frames at f es)
+  where
+    one : Bool → Conditions
+    one b = if b then one_handler classes (at_offset frames e.handler) (caught_frame e f) else []
+
+    late : (b : Bool) → AreLate (one b)
+    late true = handler_late classes (at_offset frames e.handler) (caught_frame e f)
+    late false = tt
+
 -- no reason has the number 0
 no_zero : (e : RuleReason) → Some (reason 0) ≡ Some (reason_view e) → ⊥
 no_zero e q = let same : reason 0 ≡ reason_view e = cc in
@@ -108,59 +123,56 @@ module _ (classes : List ClassFact) (m : Method Act) (frames : Frames) (at : ℕ
   abbrev ways_of : Plan → List ℤ → Conditions
   ways_of p ts = target_conditions classes frames (after m at p f) ts
 
+  abbrev caught : Conditions
+  caught = handler_conditions classes frames at f m.exceptions
+
+  -- what is asked besides the rule and the targets
   abbrev end : Bool → Conditions
-  end b = (reason 71, b) ∷ []
+  end b = caught ++ ((reason 71, b) ∷ [])
 
-  uncovered : (x b : Bool) → least ((reason 71, b) ∷ (reason 75, x && false) ∷ []) ≡ least (end b)
-  uncovered true b = refl
-  uncovered false b = refl
+  end_late : (b : Bool) → AreLate (end b)
+  end_late b = late_append caught ((reason 71, b) ∷ []) (handlers_late classes frames at f m.exceptions) (omega arith, tt)
 
-  -- no handlers
-  alone : (p : Plan) (next : Option ℕ) → m.exceptions ≡ []
-      → least (at_conditions classes m frames at p next f)
-      ≡ merge (least (conditions classes m at p f)) (merge (least (ways_of p (targets at p))) (least (end (falls p && is_none next))))
-  alone p next none =
-      ap (λ (z : List ExceptionEntry). least (all z)) none
-      ∙ least_append (conditions classes m at p f) (ways_of p (targets at p) ++ last)
-      ∙ ap (merge (least (conditions classes m at p f)))
-      (least_append (ways_of p (targets at p)) last
-      ∙ ap (merge (least (ways_of p (targets at p)))) (uncovered (constructs_own p f) (falls p && is_none next)))
-    where
-      all : List ExceptionEntry → Conditions
-      all es =
-          conditions classes m at p f
-          ++ (ways_of p (targets at p)
-          ++ (handler_conditions classes frames at f es
-          ++ ((reason 71, falls p && is_none next) ∷ (reason 75, constructs_own p f && is_covered es at) ∷ [])))
+  -- no call on the own object
+  uncovered : (own covered b : Bool) → own ≡ false → least ((reason 71, b) ∷ (reason 75, own && covered) ∷ []) ≡ least ((reason 71, b) ∷ [])
+  uncovered false covered true none = refl
+  uncovered false covered false none = refl
+  uncovered true covered b none = cc
 
-      last : Conditions
-      last = (reason 71, falls p && is_none next) ∷ (reason 75, constructs_own p f && false) ∷ []
-
-  both : (p : Plan) (next : Option ℕ) → m.exceptions ≡ []
+  both : (p : Plan) (next : Option ℕ) → constructs_own p f ≡ false
       → least (at_conditions classes m frames at p next f)
       ≡ least (conditions classes m at p f ++ (ways_of p (targets at p) ++ end (falls p && is_none next)))
   both p next none =
       let cs = conditions classes m at p f in
       let ts = ways_of p (targets at p) in
+      let last : Conditions = (reason 71, falls p && is_none next) ∷ (reason 75, constructs_own p f && is_covered m.exceptions at) ∷ [] in
       let e = end (falls p && is_none next) in
-      alone p next none ∙ ap (merge (least cs)) (sym (least_append ts e)) ∙ sym (least_append cs (ts ++ e))
+      least_append cs (ts ++ (caught ++ last))
+      ∙ ap (merge (least cs))
+      (least_append ts (caught ++ last)
+      ∙ ap (merge (least ts))
+      (least_append caught last
+      ∙ ap (merge (least caught)) (uncovered (constructs_own p f) (is_covered m.exceptions at) (falls p && is_none next) none)
+      ∙ sym (least_append caught ((reason 71, falls p && is_none next) ∷ [])))
+      ∙ sym (least_append ts e))
+      ∙ sym (least_append cs (ts ++ e))
 
   -- an early reason of the rule is that of all
-  early_all : (p : Plan) (next : Option ℕ) (n : ℕ) → m.exceptions ≡ [] → least (conditions classes m at p f) ≡ Some (reason n) → n < 67
+  early_all : (p : Plan) (next : Option ℕ) (n : ℕ) → constructs_own p f ≡ false → least (conditions classes m at p f) ≡ Some (reason n) → n < 67
       → least (at_conditions classes m frames at p next f) ≡ Some (reason n)
   early_all p next n none e lt =
       let ts = ways_of p (targets at p) in
       both p next none
       ∙ early_first (conditions classes m at p f) (ts ++ end (falls p && is_none next)) n e lt
-      (late_append ts (end (falls p && is_none next)) (targets_late classes frames (after m at p f) (targets at p)) (omega arith, tt))
+      (late_append ts (end (falls p && is_none next)) (targets_late classes frames (after m at p f) (targets at p)) (end_late (falls p && is_none next)))
 
   early_end : (p : Plan) (b : Bool) (n : ℕ) → least (conditions classes m at p f) ≡ Some (reason n) → n < 67
       → least (conditions classes m at p f ++ end b) ≡ Some (reason n)
-  early_end p b n e lt = early_first (conditions classes m at p f) (end b) n e lt (omega arith, tt)
+  early_end p b n e lt = early_first (conditions classes m at p f) (end b) n e lt (end_late b)
 
   -- ---- where the rule refuses
 
-  module _ (a : Act) (p : Plan) (x : IsWay a p) (last : Bool) (next : Option ℕ) (none : m.exceptions ≡ []) (is : is_none next ≡ last) where
+  module _ (a : Act) (p : Plan) (x : IsWay a p) (last : Bool) (next : Option ℕ) (none : constructs_own p f ≡ false) (is : is_none next ≡ last) where
     -- with no targets, the end is all that is asked besides
     straight : offsets_of p ≡ [] → goes_on a ≡ falls p
         → least (conditions classes m at p f ++ end (goes_on a && last)) ≡ least (at_conditions classes m frames at p next f)
@@ -209,8 +221,7 @@ module _ (classes : List ClassFact) (m : Method Act) (frames : Frames) (at : ℕ
         early_one = (reason 0, true) ∷ []
 
         zero_first : (b : Bool) → least (early_one ++ end b) ≡ Some (reason 0)
-        zero_first true = refl
-        zero_first false = refl
+        zero_first b = early_first early_one (end b) 0 refl (omega arith) (end_late b)
 
         by : (y ≡ OutOfMemory) ⊎ (least (early_one ++ end (goes_on a && last)) ≡ Some (reason_view y))
             → (y ≡ OutOfMemory) ⊎ (least (at_conditions classes m frames at p next f) ≡ Some (reason_view y))

@@ -17,42 +17,15 @@ use Rattle.rules.specs.Table.{plan_yet}
 use Rattle.verify.specs.InitialFrames.{initial_types, is_uninitialized}
 use Rattle.verify.specs.TypeSafety.{Frames}
 use Rattle.verify.specs.Verdict.{refused, map_refused, MapRefusal, map_fault_number, told_of, frames_of, entries_read, frames_declared, table_judged, code_judged, with_frames, verdict}
-use Rattle.verify.specs.Judged.{is_empty, is_judged}
-
-left_of : (a b : Bool) → a && b ≡ true → a ≡ true
-left_of true b e = refl
-left_of false b e = cc
-
-right_of : (a b : Bool) → a && b ≡ true → b ≡ true
-right_of true b e = e
-right_of false b e = cc
-
-none_of : {A : Type 0} (o : Option A) → is_none o ≡ true → o ≡ None
-none_of None e = refl
-none_of (Some x) e = cc
+use Rattle.verify.specs.Judged.{is_judged}
 
 not_true : (b : Bool) → not b ≡ true → b ≡ false
 not_true false e = refl
 not_true true e = cc
 
-empty_of : {A : Type 0} (xs : List A) → is_empty xs ≡ true → xs ≡ []
-empty_of [] e = refl
-empty_of (x ∷ xs) e = cc
-
 module _ {A : Type 0} (m : Method A) (judged : is_judged m ≡ true) where
   no_init : m.is_init ≡ false
-  no_init = not_true m.is_init (left_of (not m.is_init) _ judged)
-
-  pub no_exceptions : m.exceptions ≡ []
-  no_exceptions = empty_of m.exceptions (right_of (not m.is_init) _ judged)
-
--- by its two properties
-pub judged_by : {A : Type 0} (m : Method A) (b : Bool) → m.is_init ≡ false → is_empty m.exceptions ≡ b → b ≡ is_judged m
-judged_by m b i e = rw (i, e) refl
-
-pub empty_by : {X Y : Type 0} (f : X → Y) (xs : List X) (n : ℕ) → n ≡ length xs → is_empty (map f xs) ≡ nat_eq n 0
-empty_by f [] n e = rw e refl
-empty_by f (x ∷ xs) n e = let q : nat_eq n 0 ≡ false = grind (arith, nat_tests, e) in sym q
+  no_init = not_true m.is_init judged
 
 module _ (m : Method Act) (judged : is_judged m ≡ true) where
   pub flag_unset : is_uninitialized (receiver_of m) ≡ false
@@ -72,10 +45,8 @@ module _ (m : Method Act) (judged : is_judged m ≡ true) where
     too_narrow e = rw e refl
 
     module _ (wide : nat_lt m.max_locals (length (in_locals (initial_types m))) ≡ false) where
-      pub with_declared : (frames : Frames) → frames_declared m ≡ Ok frames → verdict plan_yet classes m ≡ code_judged plan_yet classes m frames
-      with_declared frames d =
-          rw wide (ap (with_frames plan_yet classes m) d
-          ∙ ap (λ (es : List ExceptionEntry). table_judged classes m frames es (code_judged plan_yet classes m frames)) (no_exceptions m judged))
+      pub with_declared : (frames : Frames) → frames_declared m ≡ Ok frames → verdict plan_yet classes m ≡ with_frames plan_yet classes m (Ok frames)
+      with_declared frames d = rw wide (ap (with_frames plan_yet classes m) d)
 
       pub map_told : (why : MapRefusal) → frames_declared m ≡ Err why
           → told_of (verdict plan_yet classes m) ≡ Some (0, with_fault bad_stack_map (map_fault_number why))

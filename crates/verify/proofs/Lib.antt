@@ -22,6 +22,10 @@ pub mod MapReading
 pub mod Decoded
 pub mod Replaced
 pub mod Merging
+pub mod Caught
+pub mod Tracking
+pub mod TableEntries
+pub mod Comparing
 pub mod Going
 pub mod Ends
 pub mod Repeated

@@ -16,7 +16,7 @@ use Rattle.classfile.specs.WellFormed.{WellFormed, conditions_of_method}
 use Rattle.classfile.proofs.Places.{method_is}
 use Rattle.classfile.proofs.FormedNames.{none_holds, left_not, right_not}
 use Rattle.classfile.proofs.FormedMethods.{NamesMethod, formed_method}
-use Rattle.verify.specs.Judged.{is_empty, is_judged}
+use Rattle.verify.specs.Judged.{is_judged}
 
 some_same : {A : Type 0} (a b : A) → Some a ≡ Some b → a ≡ b
 some_same a b e = cc
@@ -64,20 +64,6 @@ little_code c formed number body e =
     (length_good c formed number body (has_code c number body e)) in
     grind (arith, nat_tests, fits)
 
--- ---- the exception table: there are as many entries as items
-
-entry_there : (h : Handler) (t : Option ReferenceType) (others : Option (List ExceptionEntry)) (es : List ExceptionEntry)
-    → entry_with h t others ≡ Some es → is_empty es ≡ false
-entry_there h (Some t) (Some others) es e = sym (ap is_empty (some_same _ es e))
-entry_there h (Some t) None es e = cc
-entry_there h None others es e = cc
-
-pub entries_alike : (pool : List Entry) (hs : List Handler) (es : List ExceptionEntry) → exception_entries pool hs ≡ Some es
-    → is_empty (or_empty (exception_entries pool hs)) ≡ is_empty hs
-entries_alike pool [] es e = refl
-entries_alike pool (h ∷ hs) es e =
-    ap (λ o. is_empty (or_empty o)) e ∙ entry_there h (caught_type pool h.catch_type) (exception_entries pool hs) es e
-
 -- ---- what is judged does not hang on what the code says
 
 module _ {A B : Type 0} (c : Class) (a : List (ℕ × A)) (b : List (ℕ × B)) (m : Method A) (n : Method B) where
@@ -105,15 +91,3 @@ module _ {A B : Type 0} (c : Class) (a : List (ℕ × A)) (b : List (ℕ × B)) 
 
   pub judged_alike : (number : ℕ) → method_of c number a ≡ Some m → method_of c number b ≡ Some n → is_judged m ≡ is_judged n
   judged_alike number p q = members_alike (slice_get c.methods number) p q
-
--- ---- its exception table
-
-module _ (c : Class) (formed : WellFormed c) (number : ℕ) (body : CodeBody) (coded : code_at c number ≡ Some body) where
-  code : HasCode c number body
-  code = has_code c number body coded
-
-  names : NamesMethod c code.member body
-  names = formed_method c formed number code.member body code.numbered code.has_code
-
-  pub tables_alike : is_empty (or_empty (exception_entries c.constant_pool body.exception_table)) ≡ is_empty body.exception_table
-  tables_alike = entries_alike c.constant_pool body.exception_table names.entries names.entries_are

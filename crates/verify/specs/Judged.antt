@@ -1,11 +1,7 @@
 -- What is judged of methods yet.
-use Rattle.std.specs.Prelude.{Bool, true, false, not, ◌&&◌, List, [], ◌∷◌}
+use Rattle.std.specs.Prelude.{Bool, not}
 use Rattle.classfile.specs.Methods.{Method}
 
-abbrev pub is_empty : {A : Type 0} → List A → Bool
-is_empty [] = true
-is_empty (x ∷ xs) = false
-
--- Methods that are no instance initialization methods and have no exception table. No other is judged yet.
+-- Methods that are no instance initialization methods. No other is judged yet.
 abbrev pub is_judged : {A : Type 0} → Method A → Bool
-is_judged m = not m.is_init && is_empty m.exceptions
+is_judged m = not m.is_init

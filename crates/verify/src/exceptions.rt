@@ -46,7 +46,7 @@ fn caught_type<'a>(pool: &Pool<'a>, index: u16) -> Option<RefType<'a>>
 }
 
 /// The entry of an item of the table, with the type that it catches.
-fn entry<'a>(pool: &Pool<'a>, handler: &ExceptionHandler, place: usize) -> Option<Entry<'a>>
+fn entry_of<'a>(pool: &Pool<'a>, handler: &ExceptionHandler, place: usize) -> Option<Entry<'a>>
     ensures { MatchOption result (caught_type pool.now handler.now.catch_type ≡ None) (IsEntry pool.now (handler_view handler.now) place) }
 {
     let caught = caught_type(pool, handler.catch_type)?;
@@ -70,7 +70,7 @@ fn table_entries<'a>(
 {
     let mut entries = Vec::with_capacity(alloc, table.len())?;
     for handler in table {
-        match entry(pool, handler, entries.len()) {
+        match entry_of(pool, handler, entries.len()) {
             None => return Ok(None),
             Some(found) => entries.push(found)?,
         }

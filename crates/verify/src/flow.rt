@@ -1,5 +1,5 @@
 //! From one instruction to the next.
-ghost use Rattle.std.specs.Prelude.{◌≡◌, ◌++◌, ◌&&◌, [], ◌∷◌, option_map, length, IfSome, OnOk, Err};
+ghost use Rattle.std.specs.Prelude.{◌≡◌, ◌++◌, ◌&&◌, [], ◌∷◌, option_map, length, IfSome, OnOk, IsOk, Err};
 ghost use Rattle.hierarchy.specs.Answer.{outcome_of};
 ghost use Rattle.frames.specs.Conditions.{Conditions, reason};
 ghost use Rattle.frames.specs.DeclaredTables.{declared_view, AreKept, AreFit};
@@ -84,7 +84,8 @@ pub fn together<'a>(
     one: Result<(), Reason<'a>>,
     other: Result<(), Reason<'a>>,
 ) -> Result<(), Reason<'a>>
-    ensures { (cs ds : Conditions) → Judges cs one.entry → Judges ds other.entry → Judges (cs ++ ds) result }
+    ensures judged { (cs ds : Conditions) → Judges cs one.entry → Judges ds other.entry → Judges (cs ++ ds) result }
+    ensures both { OnOk result (IsOk one.entry × IsOk other.entry) }
 {
     match one {
         Ok(()) => other,

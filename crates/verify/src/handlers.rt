@@ -1,6 +1,5 @@
 //! The exception handlers of a method, while a pass goes over its code (JVMS 4.10.1.6).
-ghost use Rattle.std.specs.Prelude.{◌≡◌, ◌≤◌, ◌<◌, ◌++◌, ◌∷◌, [], ℕ, length, MatchOption, OnOk, IfOk};
-ghost use Rattle.frames.specs.VerificationType.{type_of};
+ghost use Rattle.verify.specs.Handling.{IsEarlier};
 
 use crate::catching::caught_answer;
 use crate::exceptions::Entry;
@@ -36,25 +35,33 @@ pub struct Handlers<'a> {
 }
 
 /// The first of these, by their places.
-fn earlier<'a>(one: Option<Missing<'a>>, place: usize, name: &'a [u8]) -> Option<Missing<'a>>
+fn earlier<'a>(one: Option<Missing<'a>>, place: usize, name: &'a [u8]) -> Missing<'a>
     ensures { IsEarlier one.entry place name.now result }
 {
     match one {
-        Some(missing) if missing.place < place => one,
-        _ => Some(Missing { place, name }),
+        Some(missing) => {
+            if missing.place < place {
+                return missing;
+            }
+            Missing { place, name }
+        }
+        None => Missing { place, name },
     }
 }
 
 impl<'a> Handlers<'a> {
+    ghost use Rattle.std.specs.Prelude.{◌≡◌, ◌<◌, ◌≤◌, ℕ, true, List, length, map, slice_index_or, None, IfSome, IfOk, OnOk};
+    ghost use Rattle.std.specs.List.Sorted.{IsNonDecreasingBy};
     ghost use Rattle.hierarchy.specs.Class.{ClassFact};
     ghost use Rattle.classfile.specs.Methods.{ExceptionEntry};
     ghost use Rattle.frames.specs.FrameFact.{FrameFact};
     ghost use Rattle.frames.specs.DeclaredTables.{frames_in, locals_in};
     ghost use Rattle.rules.specs.Held.{held};
     ghost use Rattle.verify.specs.TypeSafety.{Frames};
-    ghost use Rattle.verify.specs.Keeping.{IsKnown};
+    ghost use Rattle.verify.specs.Keeping.{IsKnown, IsSameBeneath};
     ghost use Rattle.verify.specs.ExceptionTables.{entry_view, AreNumbered};
-    ghost use Rattle.verify.specs.Handling.{Follows, AreAhead, Catches};
+    ghost use Rattle.verify.specs.Handling.{Follows, AreAhead, Settles, Catches};
+    ghost use Rattle.verify.specs.declared.exceptions.Entry as entries;
 
     /// Those of this table, before the code.
     pub fn new(alloc: Global, table: Vec<Entry<'a>>) -> Result<Handlers<'a>, AllocError>
@@ -73,7 +80,10 @@ impl<'a> Handlers<'a> {
     }
 
     // The next one whose range has begun at an offset.
-    fn next(&self, at: u16) -> Option<Entry<'a>> {
+    fn next(&self, at: u16) -> Option<Entry<'a>>
+        ensures some { IfSome result (λ e. (self.now.begun < length self.now.by_start.items) × (e.from ≤ at) × ((d : entries.Entry) → slice_index_or self.now.by_start.items self.now.begun d ≡ e)) }
+        ensures none { result ≡ None → IsNonDecreasingBy (λ (e : entries.Entry). e.from) self.now.by_start.items → AreAhead at self.now }
+    {
         if self.begun >= self.by_start.len() {
             return None;
         }
@@ -85,7 +95,10 @@ impl<'a> Handlers<'a> {
     }
 
     // Those whose ranges have begun at an offset are to be compared.
-    fn come_to(&mut self, at: u16) -> Result<(), AllocError> {
+    fn come_to(&mut self, at: u16) -> Result<(), AllocError>
+        ensures { (cs : List ClassFact) (frames : Frames) (es : List ExceptionEntry) (f : FrameFact)
+            → Follows cs frames es at f self.old → OnOk result (Follows cs frames es at f self.new × AreAhead at self.new) }
+    {
         while let Some(entry) = self.next(at) {
             self.fresh.push(entry)?;
             self.begun += 1;
@@ -94,7 +107,10 @@ impl<'a> Handlers<'a> {
     }
 
     /// Behind a change of the frame: unless its locals and its flag are the same, all are to be compared again.
-    pub fn behind(&mut self, same: bool) -> Result<(), AllocError> {
+    pub fn behind(&mut self, same: bool) -> Result<(), AllocError>
+        ensures { (cs : List ClassFact) (frames : Frames) (es : List ExceptionEntry) (at : ℕ) (f g : FrameFact) → (same ≡ true → IsSameBeneath f g)
+            → Follows cs frames es at f self.old → OnOk result (Follows cs frames es at g self.new) }
+    {
         if same {
             return Ok(());
         }
@@ -109,7 +125,14 @@ impl<'a> Handlers<'a> {
         frames: &'n DeclaredFrames<'a>,
         known: &mut Known<'n, 'a>,
         classes: &C,
-    ) -> Result<Option<Missing<'a>>, Reason<'a>> {
+    ) -> Result<Option<Missing<'a>>, Reason<'a>>
+        requires size { length (held frame.now).locals ≡ locals_in frames.now }
+        requires known { IsKnown (C.content classes.now) frames.now (held frame.now) known.old }
+        ensures known { IsKnown (C.content classes.now) frames.now (held frame.now) known.new }
+        ensures settled { let cs = C.content classes.now in (es : List ExceptionEntry)
+            → Follows cs (frames_in frames.now) es at (held frame.now) self.old → AreAhead at self.old
+            → Settles cs (frames_in frames.now) es at (held frame.now) self.new result }
+    {
         let mut missing = None;
         while let Some(entry) = self.fresh.pop() {
             if entry.to <= at {
@@ -118,7 +141,7 @@ impl<'a> Handlers<'a> {
             match caught_answer(&entry, frame, frames, known, &mut self.room, classes)? {
                 Answer::Yes => {}
                 Answer::No => return Err(Reason::HandlerNotAssignable),
-                Answer::Missing(name) => missing = earlier(missing, entry.place, name),
+                Answer::Missing(name) => missing = Some(earlier(missing, entry.place, name)),
             }
             self.settled.push(entry)?;
         }
@@ -134,7 +157,14 @@ impl<'a> Handlers<'a> {
         frames: &'n DeclaredFrames<'a>,
         known: &mut Known<'n, 'a>,
         classes: &C,
-    ) -> Result<(), Reason<'a>> {
+    ) -> Result<(), Reason<'a>>
+        requires size { length (held frame.now).locals ≡ locals_in frames.now }
+        requires known { IsKnown (C.content classes.now) frames.now (held frame.now) known.old }
+        ensures known { IsKnown (C.content classes.now) frames.now (held frame.now) known.new }
+        ensures caught { let cs = C.content classes.now in (es : List ExceptionEntry)
+            → Follows cs (frames_in frames.now) es at (held frame.now) self.old
+            → Catches cs (frames_in frames.now) es at (held frame.now) self.new result }
+    {
         self.come_to(at)?;
         match self.settle(at, frame, frames, known, classes)? {
             None => Ok(()),
