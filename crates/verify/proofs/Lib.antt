@@ -24,6 +24,7 @@ pub mod Replaced
 pub mod Merging
 pub mod Caught
 pub mod Tracking
+pub mod InTurn
 pub mod TableEntries
 pub mod Comparing
 pub mod Going

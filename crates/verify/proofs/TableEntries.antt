@@ -17,7 +17,8 @@ use Rattle.insn.specs.Offsets.{has_offset}
 use Rattle.frames.specs.VerificationType.{class}
 use Rattle.frames.specs.Slots.{to_reference}
 use Rattle.frames.specs.Assignable.{type_answer}
-use Rattle.frames.specs.Conditions.{reason, Conditions, least, is_no, missing_if}
+use Rattle.frames.specs.Conditions as conditions
+use Rattle.frames.specs.Conditions.{reason, number_of, Conditions, lesser, least}
 use Rattle.rules.specs.declared.reason.Reason.{Reason}
 use Rattle.rules.specs.declared.reason.Reason.TheVariants.{OutOfMemory, BadException}
 use Rattle.rules.specs.Reasons.{reason_view}
@@ -92,6 +93,27 @@ module _ (pool : List entries.Entry) (table : List ExceptionHandler) where
 
 -- ---- as they are judged
 
+-- a reason against an entry has no number below 72
+abbrev IsHigh : Option conditions.Reason → Type 0
+IsHigh None = Unit {0}
+IsHigh (Some r) = 72 ≤ number_of r
+
+answer_high : (a : Outcome) → IsHigh (least (answer_conditions 72 a))
+answer_high yes = tt
+answer_high no = omega arith
+answer_high (missing name) = omega arith
+
+first_is : (o : Option conditions.Reason) → IsHigh o → lesser (reason 72) o ≡ reason 72
+first_is None p = refl
+first_is (Some s) p = let e : nat_lt (number_of s) 72 ≡ false = grind (arith, nat_tests, p) in rw e refl
+
+first : (cs : Conditions) → IsHigh (least cs) → least ((reason 72, true) ∷ cs) ≡ Some (reason 72)
+first cs p = ap (λ (r : conditions.Reason). Some r) (first_is (least cs) p)
+
+more : (b : Bool) (cs : Conditions) → IsHigh (least cs) → IsHigh (least ((reason 72, b) ∷ cs))
+more true cs p = subst IsHigh (sym (first cs p)) (omega arith)
+more false cs p = p
+
 module _ (classes : List ClassFact) (m : Method Act) (frames : Frames) where
   abbrev throws : ExceptionEntry → Outcome
   throws e = type_answer classes (to_reference e.caught) (class throwable_name)
@@ -109,22 +131,15 @@ module _ (classes : List ClassFact) (m : Method Act) (frames : Frames) where
   in_place false b c d e others q = cc
 
   out_of_place : (a b c d e : Bool) (answer : Outcome) → ((((a && b) && c) && d) && e) ≡ false → least (five a b c d e (answer_conditions 72 answer)) ≡ Some (reason 72)
+  out_of_place false b c d e answer q =
+      first ((reason 72, not b) ∷ (reason 72, not c) ∷ (reason 72, not d) ∷ (reason 72, not e) ∷ answer_conditions 72 answer)
+      (more (not b) _ (more (not c) _ (more (not d) _ (more (not e) _ (answer_high answer)))))
+  out_of_place true false c d e answer q =
+      first ((reason 72, not c) ∷ (reason 72, not d) ∷ (reason 72, not e) ∷ answer_conditions 72 answer) (more (not c) _ (more (not d) _ (more (not e) _ (answer_high answer))))
+  out_of_place true true false d e answer q = first ((reason 72, not d) ∷ (reason 72, not e) ∷ answer_conditions 72 answer) (more (not d) _ (more (not e) _ (answer_high answer)))
+  out_of_place true true true false e answer q = first ((reason 72, not e) ∷ answer_conditions 72 answer) (more (not e) _ (answer_high answer))
+  out_of_place true true true true false answer q = first (answer_conditions 72 answer) (answer_high answer)
   out_of_place true true true true true answer q = cc
-  out_of_place false false false false false yes q = refl
-  out_of_place a b c d e answer q = by a b c d e answer q
-    where
-      by : (a b c d e : Bool) (answer : Outcome) → ((((a && b) && c) && d) && e) ≡ false → least (five a b c d e (answer_conditions 72 answer)) ≡ Some (reason 72)
-      by true true true true true answer q = cc
-      by true true true true false yes q = refl
-      by true true true true false no q = refl
-      by true true true true false (missing name) q = refl
-      by true true true false true yes q = refl
-      by true true true false true no q = refl
-      by true true true false true (missing name) q = refl
-      by true true true false false yes q = refl
-      by true true true false false no q = refl
-      by true true true false false (missing name) q = refl
-      by a b c d e answer q = refl
 
   module _ (e : ExceptionEntry) where
     pub placed : has_places m frames e ≡ true → least (table_conditions classes m frames e) ≡ least (answer_conditions 72 (throws e))

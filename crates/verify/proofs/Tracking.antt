@@ -253,3 +253,10 @@ begun_covers e at le lt =
     let starts : nat_le e.from at ≡ true = grind (arith, nat_tests, le) in
     let ends : nat_lt at e.to ≡ true = grind (arith, nat_tests, lt) in
     rw (starts, ends) refl
+
+pub covered_ends : (e : ExceptionEntry) (at : ℕ) → covers e at ≡ true → at < e.to
+covered_ends e at c = let q = right_true (nat_le e.from at) (nat_lt at e.to) c in grind (arith, nat_tests, q)
+  where
+    right_true : (a b : Bool) → a && b ≡ true → b ≡ true
+    right_true true b r = r
+    right_true false b r = cc
