@@ -1,5 +1,5 @@
 -- The entries of an exception table, as they are made and as they are judged.
-use Rattle.std.proofs.Common.{◌≡◌, ◌⊎◌, ℕ, ◌+◌, ◌≤◌, ◌<◌, Bool, true, false, not, nat_eq, nat_lt, ◌&&◌, List, [], ◌∷◌, ◌++◌, length, map, get_or, drop, Option, Some, None, Result, Ok, Err, refl, sym, ◌∙◌, ap, subst, arith, inl, inr, slice_get}
+use Rattle.std.proofs.Common.{◌≡◌, ◌⊎◌, ℕ, zero, suc, ◌+◌, ◌≤◌, ◌<◌, Bool, true, false, not, nat_eq, nat_lt, ◌&&◌, List, [], ◌∷◌, ◌++◌, length, map, get_or, drop, Option, Some, None, Result, Ok, Err, refl, sym, ◌∙◌, ap, subst, arith, inl, inr, slice_get}
 use Rattle.std.proofs.lemmas.Bool.Decides.{nat_tests}
 use Rattle.std.proofs.lemmas.List.{drop_more, drop_all, append_assoc, append-nil, map-append}
 use Rattle.std.proofs.lemmas.Option.{slice_get_within}
@@ -68,20 +68,25 @@ module _ (pool : List entries.Entry) (table : List ExceptionHandler) where
 
     numbered_more : (xs : List Entry) (n : ℕ) (e : Entry) → e.place ≡ n + length xs → ((place : ℕ) (x : Entry) → slice_get xs place ≡ Some x → x.place ≡ n + place)
         → (place : ℕ) (x : Entry) → slice_get (xs ++ e ∷ []) place ≡ Some x → x.place ≡ n + place
-    numbered_more [] n e q k 0 x s = let same : e ≡ x = some_same e x s in ap (λ (z : Entry). z.place) (sym same) ∙ q
+    numbered_more [] n e q k zero x s = let same : e ≡ x = some_same e x s in ap (λ (z : Entry). z.place) (sym same) ∙ q
     numbered_more [] n e q k (suc place) x s = cc
-    numbered_more (y ∷ ys) n e q k 0 x s = k 0 x s
+    numbered_more (y ∷ ys) n e q k zero x s = k zero x s
     numbered_more (y ∷ ys) n e q k (suc place) x s =
-        let next = numbered_more ys (n + 1) e (omega (arith, q)) (λ p z r. let z_is = k (suc p) z r in omega (arith, z_is)) place x s in omega (arith, next)
+        let later : e.place ≡ (n + 1) + length ys = omega (arith, q) in
+        let next = numbered_more ys (n + 1) e later (λ p z r. let z_is = k (suc p) z r in omega (arith, z_is)) place x s in
+        omega (arith, next)
 
-    pub made_more : (now : List Entry) (e : Entry) → now ≡ was ++ e ∷ [] → IsEntry pool (handler_view (get_or table i d)) (length was) e → Made pool table (i + 1) now
-    made_more now e pushed is = record {
+    pub made_more : (now : List Entry) (e : Entry) → now ≡ was ++ e ∷ [] → (n : ℕ) → n ≡ length was → IsEntry pool (handler_view (get_or table i d)) n e → Made pool table (i + 1) now
+    made_more now e pushed n len is = record {
       all =
           made.all
           ∙ ap (onto (map entry_view was)) here
           ∙ onto_entry (map entry_view was) (handler_view (get_or table i d)) (entry_view e) (caught_type pool (get_or table i d).catch_type) (exception_entries pool (map handler_view (drop (i + 1) table))) is.caught is.is
           ∙ ap (λ z. onto z (exception_entries pool (map handler_view (drop (i + 1) table)))) (sym (ap (map entry_view) pushed ∙ map-append entry_view was (e ∷ [])));
-      numbered = subst AreNumbered (sym pushed) (λ place x s. numbered_more was 0 e is.numbered made.numbered place x s);
+      numbered = subst AreNumbered (sym pushed) (λ place x s.
+          let first : e.place ≡ 0 + length was = let q = is.numbered in omega (arith, q, len) in
+          let more = numbered_more was 0 e first (λ p z r. let z_is = made.numbered p z r in omega (arith, z_is)) place x s in
+          omega (arith, more));
     }
 
     pub made_not : caught_type pool (get_or table i d).catch_type ≡ None → None ≡ exception_entries pool (map handler_view table)
@@ -114,13 +119,37 @@ more : (b : Bool) (cs : Conditions) → IsHigh (least cs) → IsHigh (least ((re
 more true cs p = subst IsHigh (sym (first cs p)) (omega arith)
 more false cs p = p
 
+-- five conditions of one reason, and what is asked behind them
+abbrev five : (a b c d e : Bool) → Conditions → Conditions
+five a b c d e others = (reason 72, not a) ∷ (reason 72, not b) ∷ (reason 72, not c) ∷ (reason 72, not d) ∷ (reason 72, not e) ∷ others
+
+abbrev one : Bool → Outcome → Conditions
+one e answer = (reason 72, not e) ∷ answer_conditions 72 answer
+
+abbrev two : (d e : Bool) → Outcome → Conditions
+two d e answer = (reason 72, not d) ∷ one e answer
+
+abbrev three : (c d e : Bool) → Outcome → Conditions
+three c d e answer = (reason 72, not c) ∷ two d e answer
+
+abbrev four : (b c d e : Bool) → Outcome → Conditions
+four b c d e answer = (reason 72, not b) ∷ three c d e answer
+
+one_high : (e : Bool) (answer : Outcome) → IsHigh (least (one e answer))
+one_high e answer = more (not e) (answer_conditions 72 answer) (answer_high answer)
+
+two_high : (d e : Bool) (answer : Outcome) → IsHigh (least (two d e answer))
+two_high d e answer = more (not d) (one e answer) (one_high e answer)
+
+three_high : (c d e : Bool) (answer : Outcome) → IsHigh (least (three c d e answer))
+three_high c d e answer = more (not c) (two d e answer) (two_high d e answer)
+
+four_high : (b c d e : Bool) (answer : Outcome) → IsHigh (least (four b c d e answer))
+four_high b c d e answer = more (not b) (three c d e answer) (three_high c d e answer)
+
 module _ (classes : List ClassFact) (m : Method Act) (frames : Frames) where
   abbrev throws : ExceptionEntry → Outcome
   throws e = type_answer classes (to_reference e.caught) (class throwable_name)
-
-  -- five conditions of one reason
-  abbrev five : (a b c d e : Bool) → Conditions → Conditions
-  five a b c d e others = (reason 72, not a) ∷ (reason 72, not b) ∷ (reason 72, not c) ∷ (reason 72, not d) ∷ (reason 72, not e) ∷ others
 
   in_place : (a b c d e : Bool) (others : Conditions) → ((((a && b) && c) && d) && e) ≡ true → least (five a b c d e others) ≡ least others
   in_place true true true true true others q = refl
@@ -131,13 +160,10 @@ module _ (classes : List ClassFact) (m : Method Act) (frames : Frames) where
   in_place false b c d e others q = cc
 
   out_of_place : (a b c d e : Bool) (answer : Outcome) → ((((a && b) && c) && d) && e) ≡ false → least (five a b c d e (answer_conditions 72 answer)) ≡ Some (reason 72)
-  out_of_place false b c d e answer q =
-      first ((reason 72, not b) ∷ (reason 72, not c) ∷ (reason 72, not d) ∷ (reason 72, not e) ∷ answer_conditions 72 answer)
-      (more (not b) _ (more (not c) _ (more (not d) _ (more (not e) _ (answer_high answer)))))
-  out_of_place true false c d e answer q =
-      first ((reason 72, not c) ∷ (reason 72, not d) ∷ (reason 72, not e) ∷ answer_conditions 72 answer) (more (not c) _ (more (not d) _ (more (not e) _ (answer_high answer))))
-  out_of_place true true false d e answer q = first ((reason 72, not d) ∷ (reason 72, not e) ∷ answer_conditions 72 answer) (more (not d) _ (more (not e) _ (answer_high answer)))
-  out_of_place true true true false e answer q = first ((reason 72, not e) ∷ answer_conditions 72 answer) (more (not e) _ (answer_high answer))
+  out_of_place false b c d e answer q = first (four b c d e answer) (four_high b c d e answer)
+  out_of_place true false c d e answer q = first (three c d e answer) (three_high c d e answer)
+  out_of_place true true false d e answer q = first (two d e answer) (two_high d e answer)
+  out_of_place true true true false e answer q = first (one e answer) (one_high e answer)
   out_of_place true true true true false answer q = first (answer_conditions 72 answer) (answer_high answer)
   out_of_place true true true true true answer q = cc
 

@@ -41,4 +41,4 @@ returns g c =
     (when_some _ _ c.in_ok-locals.field-0 c.in-Some.locals c.in-Some.is c.in_ok-locals.ensures).0 in
     let wide = room_as m c.requires.judged types (ap (map type_of) c.deref.ensures.value ∙ c.in_ok-types.ensures) false fits in
     let told = subst (TellsFrames (frames_declared m)) c.in-Ok.is c.in_ok-declared.ensures.told in
-    subst (λ z. Gives z c.pass.result) (sym (with_declared m c.requires.judged classes wide (frames_in c.in-Ok.frames) told)) c.pass.ensures
+    subst (λ z. Gives z c.judge_code.result) (sym (with_declared m c.requires.judged classes wide (frames_in c.in-Ok.frames) told)) c.judge_code.ensures
