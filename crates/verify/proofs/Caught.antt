@@ -152,7 +152,7 @@ module _ (classes : List ClassFact) (frames : Frames) (at : ℕ) (f : FrameFact)
       any : (place : ℕ) (e : ExceptionEntry) → (answer e ≡ yes) ⊎ ((name : List ℕ) × (answer e ≡ missing name) × (from ≤ suc place))
           → (answer e ≡ yes) ⊎ ((name : List ℕ) × (answer e ≡ missing name) × (0 ≤ place))
       any place e (inl y) = inl y
-      any place e (inr m) = inr (m.0, (m.1.0, omega arith))
+      any place e (inr m) = inr (m.0, m.1, omega arith)
 
   asked_missing : (e : ExceptionEntry) (b : Bool) (name : List ℕ) → b ≡ true → answer e ≡ missing name → asked e b ≡ Some (class_missing name)
   asked_missing e true name t m = ap caught_reason m
@@ -163,7 +163,7 @@ module _ (classes : List ClassFact) (frames : Frames) (at : ℕ) (f : FrameFact)
     where
       by : (answer e ≡ yes) ⊎ ((name : List ℕ) × (answer e ≡ missing name) × (suc from ≤ 0)) → caught_reason (answer e) ≡ None
       by (inl y) = ap caught_reason y
-      by (inr m) = absurd (omega (arith, m.1.1))
+      by (inr m) = absurd (omega (arith, m.2))
   early_yes e false from z l = refl
 
   pub first_missing : (es : List ExceptionEntry) (place : ℕ) (e : ExceptionEntry) (name : List ℕ) → slice_get es place ≡ Some e → covers e at ≡ true → answer e ≡ missing name
@@ -178,11 +178,11 @@ module _ (classes : List ClassFact) (frames : Frames) (at : ℕ) (f : FrameFact)
       any : (place : ℕ) (e : ExceptionEntry) → (answer e ≡ yes) ⊎ ((name : List ℕ) × (answer e ≡ missing name) × (0 ≤ suc place))
           → (answer e ≡ yes) ⊎ ((name : List ℕ) × (answer e ≡ missing name) × (0 ≤ place))
       any place e (inl y) = inl y
-      any place e (inr m) = inr (m.0, (m.1.0, omega arith))
+      any place e (inr m) = inr (m.0, m.1, omega arith)
   first_missing (x ∷ es) (suc place) e name i c m l =
       opened x es ∙ ap (λ z. merge z (all es)) (early_yes x (covers x at) place (omega arith) (l 0 x refl)) ∙ first_missing es place e name i c m (λ q e i c. lower q e (l (suc q) e i c))
     where
       lower : (q : ℕ) (e : ExceptionEntry) → (answer e ≡ yes) ⊎ ((name : List ℕ) × (answer e ≡ missing name) × (suc place ≤ suc q))
           → (answer e ≡ yes) ⊎ ((name : List ℕ) × (answer e ≡ missing name) × (place ≤ q))
       lower q e (inl y) = inl y
-      lower q e (inr m) = inr (m.0, (m.1.0, omega (arith, m.1.1)))
+      lower q e (inr m) = inr (m.0, m.1, omega (arith, m.2))

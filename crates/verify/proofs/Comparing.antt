@@ -16,67 +16,68 @@ use Rattle.frames.specs.HeldFrames.{held_locals}
 use Rattle.frames.proofs.Slots.{both_no, both_yes, both_assoc}
 use Rattle.rules.specs.Plans.{Want, Plan, pops, loads, stores, counts, rearranges, loads_element, makes, constructs, calls_special, returns, refuses}
 use Rattle.rules.specs.After.{or_top, local_of, top_of, flag_after, after}
-use Rattle.rules.specs.Rules.{is_uninit_this, constructs_own}
+use Rattle.rules.specs.Rules.{constructs_own}
 
 -- ---- locals
 
-module _ (classes : List ClassFact) where
-  top_last : (t : VerificationType) → type_answer classes t top ≡ yes
-  top_last top = refl
-  top_last int = refl
-  top_last float = refl
-  top_last long = refl
-  top_last double = refl
-  top_last null = refl
-  top_last (class name) = refl
-  top_last (array component) = refl
-  top_last uninit_this = refl
-  top_last (uninit offset) = refl
+pub top_last : (classes : List ClassFact) (t : VerificationType) → type_answer classes t top ≡ yes
+top_last classes top = refl
+top_last classes int = refl
+top_last classes float = refl
+top_last classes long = refl
+top_last classes double = refl
+top_last classes null = refl
+top_last classes (class name) = refl
+top_last classes (array component) = refl
+top_last classes uninit_this = refl
+top_last classes (uninit offset) = refl
 
-  all_top : (xs : List VerificationType) (n : ℕ) → n ≡ length xs → list_answer (type_answer classes) xs (replicate n top) ≡ yes
-  all_top [] zero e = refl
-  all_top [] (suc n) e = absurd (omega (arith, e))
-  all_top (x ∷ xs) zero e = absurd (omega (arith, e))
-  all_top (x ∷ xs) (suc n) e = ap (λ r. both r (list_answer (type_answer classes) xs (replicate n top))) (top_last x) ∙ all_top xs n (omega (arith, e))
+module _ (fits : VerificationType → VerificationType → Outcome) where
+  all_top : ((t : VerificationType) → fits t top ≡ yes) → (xs : List VerificationType) (n : ℕ) → n ≡ length xs → list_answer fits xs (replicate n top) ≡ yes
+  all_top tops [] zero e = refl
+  all_top tops [] (suc n) e = absurd (omega (arith, e))
+  all_top tops (x ∷ xs) zero e = absurd (omega (arith, e))
+  all_top tops (x ∷ xs) (suc n) e = ap (λ r. both r (list_answer fits xs (replicate n top))) (tops x) ∙ all_top tops xs n (omega (arith, e))
 
-  module _ (f : FrameFact) (locals : List VType) (le : length locals ≤ length f.locals) where
+  module _ (f : FrameFact) (locals : List VType) where
     abbrev beyond : List VerificationType
     beyond = replicate (length f.locals - length locals) top
 
     -- those from one place on
     abbrev pub from : ℕ → Outcome
-    from i = list_answer (type_answer classes) (drop i f.locals) (map type_of (drop i locals) ++ beyond)
+    from i = list_answer fits (drop i f.locals) (map type_of (drop i locals) ++ beyond)
 
-    local_at : (i : ℕ) (d : VerificationType) → i < length f.locals → local_of i f ≡ get_or f.locals i d
-    local_at i d lt = ap or_top (slice_get-get_or f.locals i d lt)
+    module _ (le : length locals ≤ length f.locals) where
+      local_at : (i : ℕ) (d : VerificationType) → i < length f.locals → local_of i f ≡ get_or f.locals i d
+      local_at i d lt = ap or_top (slice_get-get_or f.locals i d lt)
 
-    pub from_next : (i : ℕ) (d : VType) → i < length locals → from i ≡ both (type_answer classes (local_of i f) (type_of (get_or locals i d))) (from (i + 1))
-    from_next i d lt =
-        ap (λ (xs : List VerificationType). list_answer (type_answer classes) xs (map type_of (drop i locals) ++ beyond)) (drop_more f.locals i top (omega (arith, lt, le)))
-        ∙ ap (λ (ys : List VType). list_answer (type_answer classes) (get_or f.locals i top ∷ drop (i + 1) f.locals) (map type_of ys ++ beyond)) (drop_more locals i d lt)
-        ∙ ap (λ t. both (type_answer classes t (type_of (get_or locals i d))) (from (i + 1))) (sym (local_at i top (omega (arith, lt, le))))
+      from_next : (i : ℕ) (t : VerificationType) (d : VType) → i < length locals → t ≡ local_of i f → from i ≡ both (fits t (type_of (get_or locals i d))) (from (i + 1))
+      from_next i t d lt e =
+          ap (λ (xs : List VerificationType). list_answer fits xs (map type_of (drop i locals) ++ beyond)) (drop_more f.locals i top (omega (arith, lt, le)))
+          ∙ ap (λ (ys : List VType). list_answer fits (get_or f.locals i top ∷ drop (i + 1) f.locals) (map type_of ys ++ beyond)) (drop_more locals i d lt)
+          ∙ ap (λ z. both (fits z (type_of (get_or locals i d))) (from (i + 1))) (sym (e ∙ local_at i top (omega (arith, lt, le))))
 
-    pub from_end : (i : ℕ) → i ≡ length locals → from i ≡ yes
-    from_end i e =
-        ap (λ (ys : List VType). list_answer (type_answer classes) (drop i f.locals) (map type_of ys ++ beyond)) (drop_all i locals (omega (arith, e)))
-        ∙ all_top (drop i f.locals) (length f.locals - length locals) (let l = length-drop i f.locals in omega (arith, e, l))
+      from_end : ((t : VerificationType) → fits t top ≡ yes) → (i : ℕ) → i ≡ length locals → from i ≡ yes
+      from_end tops i e =
+          ap (λ (ys : List VType). list_answer fits (drop i f.locals) (map type_of ys ++ beyond)) (drop_all i locals (omega (arith, e)))
+          ∙ all_top tops (drop i f.locals) (length f.locals - length locals) (let l = length-drop i f.locals in omega (arith, e, l))
 
-    -- one more is compared
-    pub compared_next : (i : ℕ) (d : VType) (so_far answer now : Outcome) → i < length locals → answer ≡ type_answer classes (local_of i f) (type_of (get_or locals i d))
-        → now ≡ both so_far answer → from 0 ≡ both so_far (from i) → from 0 ≡ both now (from (i + 1))
-    compared_next i d so_far answer now lt a n e =
-        e ∙ ap (both so_far) (from_next i d lt ∙ ap (λ r. both r (from (i + 1))) (sym a)) ∙ sym (both_assoc so_far answer (from (i + 1))) ∙ ap (λ r. both r (from (i + 1))) (sym n)
+      -- one more is compared
+      pub compared_next : (i : ℕ) (t : VerificationType) (d : VType) (so_far answer now : Outcome) → i < length locals → t ≡ local_of i f → answer ≡ fits t (type_of (get_or locals i d))
+          → now ≡ both so_far answer → from 0 ≡ both so_far (from i) → from 0 ≡ both now (from (i + 1))
+      compared_next i t d so_far answer now lt l a n e =
+          e ∙ ap (both so_far) (from_next i t d lt l ∙ ap (λ r. both r (from (i + 1))) (sym a)) ∙ sym (both_assoc so_far answer (from (i + 1))) ∙ ap (λ r. both r (from (i + 1))) (sym n)
 
-    pub compared_no : (i : ℕ) (d : VType) (so_far : Outcome) → i < length locals → no ≡ type_answer classes (local_of i f) (type_of (get_or locals i d))
-        → from 0 ≡ both so_far (from i) → no ≡ from 0
-    compared_no i d so_far lt a e = sym (e ∙ ap (both so_far) (from_next i d lt ∙ ap (λ r. both r (from (i + 1))) (sym a)) ∙ both_no so_far)
+      pub compared_no : (i : ℕ) (t : VerificationType) (d : VType) (so_far : Outcome) → i < length locals → t ≡ local_of i f → no ≡ fits t (type_of (get_or locals i d))
+          → from 0 ≡ both so_far (from i) → no ≡ from 0
+      compared_no i t d so_far lt l a e = sym (e ∙ ap (both so_far) (from_next i t d lt l ∙ ap (λ r. both r (from (i + 1))) (sym a)) ∙ both_no so_far)
 
-    pub compared_all : (i : ℕ) (so_far : Outcome) → i ≡ length locals → from 0 ≡ both so_far (from i) → so_far ≡ from 0
-    compared_all i so_far q e = sym (e ∙ ap (both so_far) (from_end i q) ∙ both_yes so_far)
+      pub compared_all : ((t : VerificationType) → fits t top ≡ yes) → (i : ℕ) (so_far : Outcome) → i ≡ length locals → from 0 ≡ both so_far (from i) → so_far ≡ from 0
+      compared_all tops i so_far q e = sym (e ∙ ap (both so_far) (from_end tops i q) ∙ both_yes so_far)
 
 -- ---- the flag
 
-made_own : (t : VerificationType) (flag : Bool) → is_uninit_this t ≡ false → flag_after t flag ≡ flag
+made_own : (t : VerificationType) (flag : Bool) → constructs_own (constructs [] []) (record { locals = []; stack = t ∷ []; flag = false }) ≡ false → flag_after t flag ≡ flag
 made_own top flag e = refl
 made_own int flag e = refl
 made_own float flag e = refl

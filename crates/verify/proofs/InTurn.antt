@@ -1,6 +1,6 @@
 -- Entries that cover an instruction, compared one after the other.
 use Rattle.std.proofs.Common.{◌≡◌, ◌⊎◌, ℕ, ◌≤◌, ◌<◌, true, List, [], ◌∷◌, ◌++◌, length, Option, Some, None, Result, Ok, Err, refl, sym, ◌∙◌, ap, subst, arith, inl, inr, slice_get}
-use Rattle.std.specs.Prelude.{IfSome, MatchOption, slice_index_or}
+use Rattle.std.specs.Prelude.{IfSome, MatchOption, OnOk, is_ok, slice_index_or, if◌then◌else◌}
 use Rattle.classfile.specs.Methods.{ExceptionEntry, covers}
 use Rattle.hierarchy.specs.Class.{ClassFact}
 use Rattle.hierarchy.specs.Answer.{Outcome, yes, no, missing}
@@ -20,7 +20,7 @@ use Rattle.verify.specs.ExceptionTables.{entry_view}
 use Rattle.verify.specs.Catching.{caught_answer}
 use Rattle.verify.specs.Handling.{IsOwn, HasBegun, Tracks, IsSettled, Follows, AreAhead, IsEarlier, IsLater, IsJudged, IsMissing, Settles, Catches}
 use Rattle.verify.proofs.Caught.{none_against, one_against, first_missing, AreLacking}
-use Rattle.verify.proofs.Tracking.{tracked_later, tracked_without, tracked_settled, taken_begun, Compared, covered_compared, covered_ends, begun_covers}
+use Rattle.verify.proofs.Tracking.{tracked_again, tracked_later, tracked_without, tracked_settled, taken_begun, Compared, covered_compared, covered_ends, begun_covers}
 
 -- some are yet to be compared, and of the others it is known what was answered
 pub record InTurn (classes : List ClassFact) (frames : Frames) (es : List ExceptionEntry) (at : ℕ) (f : FrameFact) (so_far : Option Missing) (h : Handlers) : Type 0 where
@@ -68,7 +68,7 @@ module _ (classes : List ClassFact) (frames : Frames) (es : List ExceptionEntry)
     module _ (name : List ℕ) (now : Missing) (lt : at < x.to) (a : answer (entry_view x) ≡ missing name) (first : IsEarlier so_far x.place name now) where
       no_later : (o : Option Missing) (e : Entry) (q : Outcome) → IfSome o (λ m. now.place ≤ m.place) → IsLater o e q → IsLater (Some now) e q
       no_later None e q b l = absurd l
-      no_later (Some m) e q b l = (l.0, (l.1.0, omega (arith, b, l.1.1)))
+      no_later (Some m) e q b l = (l.0, l.1, omega (arith, b, l.2))
 
       weaker : (e : Entry) → Judged so_far e → Judged (Some now) e
       weaker e j = λ lt. by (j lt)
@@ -78,7 +78,7 @@ module _ (classes : List ClassFact) (frames : Frames) (es : List ExceptionEntry)
           by (inr l) = inr (no_later so_far e (answer (entry_view e)) first.before l)
 
       pub turn_missing : Tracks es at (Judged (Some now)) by_start begun fresh (settled ++ x ∷ [])
-      turn_missing = tracked_settled es at (Judged so_far) by_start begun fresh settled x t (Judged (Some now)) weaker (λ lt. inr (name, (a, first.first)))
+      turn_missing = tracked_settled es at (Judged so_far) by_start begun fresh settled x t (Judged (Some now)) weaker (λ lt. inr (name, a, first.first))
 
       pub lacks_now : IfSome so_far (IsMissing classes frames es at f) → IsMissing classes frames es at f now
       lacks_now was = by first.one
@@ -121,7 +121,7 @@ module _ (classes : List ClassFact) (frames : Frames) (es : List ExceptionEntry)
       told : (e : Entry) (place : ℕ) → e.place ≡ place → (answer (entry_view e) ≡ yes) ⊎ IsLater (Some m) e (answer (entry_view e))
           → (answer (entry_view e) ≡ yes) ⊎ ((name : List ℕ) × (answer (entry_view e) ≡ missing name) × (m.place ≤ place))
       told e place q (inl y) = inl y
-      told e place q (inr l) = inr (l.0, (l.1.0, omega (arith, q, l.1.1)))
+      told e place q (inr l) = inr (l.0, l.1, omega (arith, q, l.2))
 
       lacking : AreLacking classes frames at f es m.place
       lacking = λ place e i c.
@@ -131,21 +131,18 @@ module _ (classes : List ClassFact) (frames : Frames) (es : List ExceptionEntry)
 
   -- ---- what is answered then
 
-  pub catch_done : (h : Handlers) (r : Result (Option Missing) Reason) (o : Option Missing) → r ≡ Ok o → o ≡ None → Settles classes frames es at f h r → Catches classes frames es at f h (Ok tt)
-  catch_done h r o q n s =
-      let k = (subst (Settles classes frames es at f h) (q ∙ ap (λ z. Ok z) n) s).outcome in
+  pub catch_done : (h : Handlers) (o : Option Missing) → o ≡ None → Settles classes frames es at f h (Ok o) → Catches classes frames es at f h (Ok tt)
+  catch_done h o n s =
+      let k = (subst (λ z. Settles classes frames es at f h (Ok z)) n s).outcome in
       record { judged = record { outcome = k.0 }; followed = k.1 }
 
-  pub catch_missing : (h : Handlers) (r : Result (Option Missing) Reason) (o : Option Missing) (m : Missing) → r ≡ Ok o → o ≡ Some m → Settles classes frames es at f h r
-      → Catches classes frames es at f h (Err (ClassMissing m.name))
-  catch_missing h r o m q n s =
-      let k = (subst (Settles classes frames es at f h) (q ∙ ap (λ z. Ok z) n) s).outcome in
+  pub catch_missing : (h : Handlers) (o : Option Missing) (m : Missing) → o ≡ Some m → Settles classes frames es at f h (Ok o) → Catches classes frames es at f h (Err (ClassMissing m.name))
+  catch_missing h o m n s =
+      let k = (subst (λ z. Settles classes frames es at f h (Ok z)) n s).outcome in
       record { judged = record { outcome = inr k }; followed = tt }
 
-  pub catch_reason : (h : Handlers) (r : Result (Option Missing) Reason) (e : Reason) → r ≡ Err e → Settles classes frames es at f h r → Catches classes frames es at f h (Err e)
-  catch_reason h r e q s =
-      let k = (subst (Settles classes frames es at f h) q s).outcome in
-      record { judged = record { outcome = k }; followed = tt }
+  pub catch_reason : (h : Handlers) (e : Reason) → Settles classes frames es at f h (Err e) → Catches classes frames es at f h (Err e)
+  catch_reason h e s = record { judged = record { outcome = s.outcome }; followed = tt }
 
   -- ---- behind a change of the frame
 
@@ -156,3 +153,16 @@ module _ (classes : List ClassFact) (frames : Frames) (es : List ExceptionEntry)
       by f g l b y =
           sym (ap (λ ls. caught_answer classes frames (record { locals = ls; stack = f.stack; flag = f.flag }) (entry_view e)) l
           ∙ ap (λ z. caught_answer classes frames (record { locals = g.locals; stack = f.stack; flag = z }) (entry_view e)) b) ∙ y
+
+-- all are to be compared again, if there was room for them
+pub again_by : {E : Type 0} (es : List ExceptionEntry) (at : ℕ) (was_so now_so : Entry → Type 0) (by_start : List Entry) (begun : ℕ) (fresh settled now left : List Entry) (r : Result Unit E)
+    → now ≡ (if is_ok r then fresh ++ settled else fresh) → left ≡ (if is_ok r then [] else settled)
+    → Tracks es at was_so by_start begun fresh settled → OnOk r (Tracks es at now_so by_start begun now left)
+again_by es at was_so now_so by_start begun fresh settled now left (Ok u) p q t =
+    subst (λ xs. Tracks es at now_so by_start begun xs left) (sym p)
+    (subst (λ xs. Tracks es at now_so by_start begun (fresh ++ settled) xs) (sym q) (tracked_again es at was_so by_start begun fresh settled t now_so))
+again_by es at was_so now_so by_start begun fresh settled now left (Err e) p q t = tt
+
+pub none_left : (xs : List Entry) (n : ℕ) → n ≡ length xs → n ≡ 0 → xs ≡ []
+none_left [] n e z = refl
+none_left (x ∷ xs) n e z = absurd (omega (arith, e, z))

@@ -16,7 +16,7 @@ some_same : {A : Type 0} (a b : A) → Some a ≡ Some b → a ≡ b
 some_same a b e = cc
 
 none_holds : (place : ℕ) → Holds [] place → ⊥
-none_holds place h = absurd (omega (arith, h.among.1.0))
+none_holds place h = absurd (omega (arith, h.among.1))
 
 -- ---- the table before the code
 
@@ -36,8 +36,8 @@ module _ (table sorted : List Entry) (numbered : AreNumbered table) (moved : IsP
   come place e same c = record {
     number = c.0;
     later = omega arith;
-    within = c.1.0;
-    placed = λ d. ap (λ (z : Entry). z.place) (get_or_default sorted c.0 d e c.1.0 ∙ c.1.1) ∙ same;
+    within = c.1;
+    placed = λ d. ap (λ (z : Entry). z.place) (get_or_default sorted c.0 d e c.1 ∙ c.2) ∙ same;
   }
 
   each : (place : ℕ) (e : ExceptionEntry) → slice_get es place ≡ Some e → IsToCome sorted 0 place
@@ -127,8 +127,8 @@ module _ (es : List ExceptionEntry) (at : ℕ) (is_so : Entry → Type 0) (by_st
   tracked_later fresh settled to now_so le weaker t = record {
     own = t.own;
     rises = t.rises;
-    begun_fresh = All-weaker (HasBegun es at) (HasBegun es to) (λ e h. (h.0, h.1 ∙ le)) fresh t.begun_fresh;
-    begun_settled = All-weaker (HasBegun es at) (HasBegun es to) (λ e h. (h.0, h.1 ∙ le)) settled t.begun_settled;
+    begun_fresh = All-weaker (HasBegun es at) (HasBegun es to) (λ e h. (h.0, omega (arith, h.1, le))) fresh t.begun_fresh;
+    begun_settled = All-weaker (HasBegun es at) (HasBegun es to) (λ e h. (h.0, omega (arith, h.1, le))) settled t.begun_settled;
     so = All-weaker is_so now_so weaker settled t.so;
     every = λ place e i lt. t.every place e i (omega (arith, le, lt));
   }
