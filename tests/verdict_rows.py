@@ -3,6 +3,7 @@ from dataclasses import replace
 
 from assembler import NATIVE, OBJECT, STATIC, attribute, code_of, integer, long, name_and_type, named, reference, utf8
 from class_k import K, OBJECT_CLASS, code_f, method_f, with_constant
+from handler_rows import with_handlers
 from object_rows import with_objects
 from reference_rows import with_references
 
@@ -199,10 +200,9 @@ def mapped_verdicts():
             yield f"{sizes} {code} with {body}", files, f"method f {descriptor} {verdict}"
 
 
-def left_out():
-    """Methods that are not judged yet, and those without code."""
+def without_code():
+    """Methods without code."""
     for what, method, verdict in (
-        ("an exception table", method_f(code_f(handlers=[(0, 1, 0, 0)]), flags=STATIC), "refused 60 at 0"),
         ("a native method", method_f(flags=STATIC | NATIVE), "no code"),
     ):
         yield what, [class_of("()V", method, utf8("StackMapTable")), OBJECT_CLASS], f"method f ()V {verdict}"
@@ -241,5 +241,5 @@ def hierarchies():
 
 def verified():
     """What each list of files is, their bytes, and the line of it."""
-    for table in (verdicts, mapped_verdicts, with_references, with_objects, left_out, hierarchies):
+    for table in (verdicts, mapped_verdicts, with_references, with_objects, with_handlers, without_code, hierarchies):
         yield from table()

@@ -22,19 +22,17 @@ use Rattle.verify.specs.declared.verdict.Verdict.TheVariants.{Verified, NoCode, 
 use Rattle.verify.specs.declared.verdict.VerifyFault.{VerifyFault}
 use Rattle.verify.specs.declared.verdict.VerifyFault.TheVariants.{OutOfMemory, NotInHierarchy}
 use Rattle.rules.specs.declared.reason.Reason.{Reason as RuleReason}
-use Rattle.rules.specs.declared.reason.Reason.TheVariants.{NotSupported}
 use Rattle.rules.specs.Reasons.{reason_view}
 use Rattle.verify.specs.TypeSafety.{IsTypeSafe}
 use Rattle.verify.specs.Verdict.{verified, told_of, verdict}
 use Rattle.verify.specs.ClassMethods.{IsMethod, IsTypeSafeIn}
 use Rattle.verify.specs.Steps.{RefusesCode, Gives}
-use Rattle.verify.specs.Judged.{is_judged}
 use Rattle.verify.specs.Listed.{IsListed}
-use Rattle.verify.specs.Answers.{IsLeftOut, HasBadCode, HasVerdict, HasRefusal, IsRefused, AnswersCode, Answers, VerifiesTypeSafe, VerifiedIsSafe}
+use Rattle.verify.specs.Answers.{HasBadCode, HasVerdict, HasRefusal, IsRefused, AnswersCode, Answers, VerifiesTypeSafe, VerifiedIsSafe}
 use Rattle.verify.proofs.Decoded.{decoded_rise, decoded_begins}
 use Rattle.verify.proofs.Verdicts.{verified_is_type_safe, type_safe_is_verified}
 use Rattle.verify.proofs.OneMethod.{methods_are_safe}
-use Rattle.verify.proofs.MethodCode.{code_is, has_code, some_code, judged_alike}
+use Rattle.verify.proofs.MethodCode.{code_is, has_code, some_code}
 
 some_same : {A : Type 0} (a b : A) → Some a ≡ Some b → a ≡ b
 some_same a b e = cc
@@ -42,19 +40,11 @@ some_same a b e = cc
 module _ (classes : List ClassFact) (c : Class) (number : ℕ) where
   -- ---- a method with code
 
-  pub left_out : (method : Method Act) → method_of c number [] ≡ Some method → is_judged method ≡ false
-      → IsRefused classes c number 0 NotSupported
-  left_out method says judged = inl (record { method = method; says = says; left_out = judged; at_zero = refl; told = refl })
-
-  pub bad_code : (method : Method Act) (body : CodeBody) (fault : CodeFault) (r : Result Verdict VerifyFault)
-      → method_of c number [] ≡ Some method → is_judged method ≡ true → code_at c number ≡ Some body
+  pub bad_code : (body : CodeBody) (fault : CodeFault) (r : Result Verdict VerifyFault) → code_at c number ≡ Some body
       → UnlessMemory fault (FaultyCode body.code fault) → RefusesCode fault r → AnswersCode classes c number r
-  bad_code method body fault (Ok v) says judged has faulty x =
+  bad_code body fault (Ok v) has faulty x =
       subst (λ z. AnswersCode classes c number (Ok z)) (sym x.outcome.1)
-      (inr (inl (record {
-        method = method;
-        says = says;
-        judged = judged;
+      (inl (record {
         body = body;
         has_code = has;
         fault = fault;
@@ -62,7 +52,7 @@ module _ (classes : List ClassFact) (c : Class) (number : ℕ) where
             told fault x.outcome.0 faulty;
         there = refl;
         told = refl;
-      })))
+      }))
     where
       told : (fault : CodeFault) → (fault ≡ codes.OutOfMemory → ⊥) → UnlessMemory fault (FaultyCode body.code fault)
           → FaultyCode body.code fault
@@ -72,23 +62,23 @@ module _ (classes : List ClassFact) (c : Class) (number : ℕ) where
       told (codes.BadSwitch at) f h = h
       told (codes.BadWide at) f h = h
       told (codes.NonZeroByte at) f h = h
-  bad_code method body fault (Err e) says judged has faulty x = subst (λ z. AnswersCode classes c number (Err z)) (sym x.outcome.1) tt
+  bad_code body fault (Err e) has faulty x = subst (λ z. AnswersCode classes c number (Err z)) (sym x.outcome.1) tt
 
   pub given : (body : CodeBody) (xs : List (ℕ × Instruction)) (method : Method Act) (r : Result Verdict VerifyFault)
       → code_at c number ≡ Some body → SpellsCode 0 body.code xs
-      → method_of c number (acts xs) ≡ Some method → is_judged method ≡ true → Gives (verdict plan classes method) r
+      → method_of c number (acts xs) ≡ Some method → Gives (verdict plan classes method) r
       → AnswersCode classes c number r
-  given body xs method (Ok Verified) has spelled says judged g =
-      record { body = body; has_code = has; instructions = xs; spelled = spelled; method = method; says = says; judged = judged; told = g }
-  given body xs method (Ok NoCode) has spelled says judged g = g
-  given body xs method (Ok (Refused at why)) has spelled says judged g =
-      inr (inr (record {
+  given body xs method (Ok Verified) has spelled says g =
+      record { body = body; has_code = has; instructions = xs; spelled = spelled; method = method; says = says; told = g }
+  given body xs method (Ok NoCode) has spelled says g = g
+  given body xs method (Ok (Refused at why)) has spelled says g =
+      inr (record {
         refusal = verdict plan classes method;
-        judged = record { body = body; has_code = has; instructions = xs; spelled = spelled; method = method; says = says; judged = judged; told = refl };
+        judged = record { body = body; has_code = has; instructions = xs; spelled = spelled; method = method; says = says; told = refl };
         told = g;
-      }))
-  given body xs method (Err OutOfMemory) has spelled says judged g = tt
-  given body xs method (Err NotInHierarchy) has spelled says judged g = g
+      })
+  given body xs method (Err OutOfMemory) has spelled says g = tt
+  given body xs method (Err NotInHierarchy) has spelled says g = g
 
   -- what is verified is type-safe
   pub type_safe_in : WellFormed c → HasVerdict classes c number verified → IsTypeSafeIn classes c number
@@ -138,7 +128,7 @@ module _ (classes : List ClassFact) (c : Class) (number : ℕ) where
 
   -- ---- what is type-safe is not refused
 
-  module _ (m : Method Act) (i : IsMethod c number m) (judged : is_judged m ≡ true) (safe : IsTypeSafe classes m) where
+  module _ (m : Method Act) (i : IsMethod c number m) (safe : IsTypeSafe classes m) where
     own_code : (body : CodeBody) → code_at c number ≡ Some body → i.body ≡ body
     own_code body e =
         let x = has_code c number body e in
@@ -148,10 +138,6 @@ module _ (classes : List ClassFact) (c : Class) (number : ℕ) where
     none_absent : code_at c number ≡ None → ⊥
     none_absent e = let there : code_at c number ≡ Some i.body =
         ap (option_and_then (λ z. code_of z.attributes)) i.numbered ∙ i.has_code in cc
-
-    not_left_out : (at : ℕ) (why : RuleReason) → IsLeftOut c number at why → ⊥
-    not_left_out at why x = let e : true ≡ false =
-        sym judged ∙ judged_alike c (acts i.instructions) [] m x.method number i.method x.says ∙ x.left_out in cc
 
     not_faulty : (at : ℕ) (why : RuleReason) → HasBadCode c number at why → ⊥
     not_faulty at why x = code_or_fault x.body.code i.instructions x.fault
@@ -185,9 +171,8 @@ module _ (classes : List ClassFact) (c : Class) (number : ℕ) where
         none_told_of x e = cc
 
     refused_never : (at : ℕ) (why : RuleReason) → IsRefused classes c number at why → ⊥
-    refused_never at why (inl x) = not_left_out at why x
-    refused_never at why (inr (inl x)) = not_faulty at why x
-    refused_never at why (inr (inr x)) = not_refused at why x
+    refused_never at why (inl x) = not_faulty at why x
+    refused_never at why (inr x) = not_refused at why x
 
     verifies : IsListed classes c → (r : Result Verdict VerifyFault) → Answers classes c number r
         → MatchResult r (λ v. v ≡ Verified) (λ e. e ≡ OutOfMemory)
@@ -198,4 +183,4 @@ module _ (classes : List ClassFact) (c : Class) (number : ℕ) where
     verifies listed (Err NotInHierarchy) a = absurd (a listed)
 
   pub only_then : (r : Result Verdict VerifyFault) → Answers classes c number r → VerifiesTypeSafe classes c number r
-  only_then r a = λ listed m i judged safe. verifies m i judged safe listed r a
+  only_then r a = λ listed m i safe. verifies m i safe listed r a

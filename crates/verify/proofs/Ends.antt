@@ -1,7 +1,7 @@
--- The least reason against an instruction, by what is judged of it one after the other, where nothing is caught.
+-- The least reason against an instruction, by what is judged of it one after the other.
 use Rattle.std.proofs.Common.{◌≡◌, ◌⊎◌, ℕ, ◌<◌, ◌≤◌, Bool, true, false, ◌&&◌, is_none, nat_lt, ℤ, List, [], ◌∷◌, ◌++◌, Option, Some, None, Result, Ok, Err, refl, sym, ◌∙◌, ap, subst, arith, inl, inr, if◌then◌else◌}
 use Rattle.std.proofs.lemmas.Bool.Decides.{nat_tests}
-use Rattle.classfile.specs.Methods.{Method, ExceptionEntry}
+use Rattle.classfile.specs.Methods.{Method, ExceptionEntry, covers}
 use Rattle.hierarchy.specs.Class.{ClassFact}
 use Rattle.hierarchy.specs.Answer.{Outcome, yes, no, missing}
 use Rattle.insn.specs.Meanings.{Act}
@@ -18,8 +18,8 @@ use Rattle.rules.specs.declared.reason.Reason.{Reason as RuleReason}
 use Rattle.rules.specs.declared.reason.Reason.TheVariants.{OutOfMemory}
 use Rattle.rules.specs.Reasons.{reason_number, reason_view}
 use Rattle.rules.specs.Ways.{goes_on, branch_offsets}
-use Rattle.verify.specs.TypeSafety.{Frames}
-use Rattle.verify.specs.Verdict.{answer_conditions, declared_at, one_target, target_conditions, handler_conditions, is_covered, at_conditions}
+use Rattle.verify.specs.TypeSafety.{Frames, caught_frame}
+use Rattle.verify.specs.Verdict.{answer_conditions, declared_at, one_target, target_conditions, one_handler, handler_conditions, is_covered, at_conditions}
 use Rattle.verify.specs.Steps.{Judges}
 use Rattle.verify.proofs.Going.{IsEarly, IsWay, ways}
 use Rattle.verify.proofs.Merging.{merge, least_append, both_least, view_number, number_some}
@@ -32,7 +32,7 @@ AreLate (c ∷ cs) = (67 ≤ number_of c.0) × AreLate cs
 
 late_append : (cs ds : Conditions) → AreLate cs → AreLate ds → AreLate (cs ++ ds)
 late_append [] ds p q = q
-late_append (c ∷ cs) ds p q = (p.0, late_append cs ds p.1 q)
+late_append p (c ∷ cs) ds p q = (p.0, late_append cs ds p.1 q)
 
 abbrev IsLate : Option Reason → Type 0
 IsLate None = Unit {0}
@@ -75,8 +75,23 @@ target_late classes (Some g) f = answer_late 68 (frame_answer classes f g) (omeg
 targets_late : (classes : List ClassFact) (frames : Frames) (f : FrameFact) (ts : List ℤ) → AreLate (target_conditions classes frames f ts)
 targets_late classes frames f [] = tt
 targets_late classes frames f (t ∷ ts) =
-    late_append (one_target classes (declared_at frames t) f) (target_conditions classes frames f ts) (target_late classes (declared_at frames t) f)
+    late_append p (one_target classes (declared_at frames t) f) (target_conditions classes frames f ts) (target_late classes (declared_at frames t) f)
     (targets_late classes frames f ts)
+
+handler_late : (classes : List ClassFact) (o : Option FrameFact) (f : FrameFact) → AreLate (one_handler classes o f)
+handler_late classes None f = (omega arith, tt)
+handler_late classes (Some g) f = answer_late 73 (frame_answer classes f g) (omega arith)
+
+handlers_late : (classes : List ClassFact) (frames : Frames) (at : ℕ) (f : FrameFact) (es : List ExceptionEntry) → AreLate (handler_conditions classes frames at f es)
+handlers_late classes frames at f [] = tt
+handlers_late classes frames at f (e ∷ es) = late_append p (one (covers e at)) (handler_conditions classes frames at f es) (late (covers e at)) (handlers_late classes frames at f es)
+  where
+    one : Bool → Conditions
+    one b = if b then one_handler classes (at_offset frames e.handler) (caught_frame e f) else []
+
+    late : (b : Bool) → AreLate (one b)
+    late true = handler_late classes (at_offset frames e.handler) (caught_frame e f)
+    late false = tt
 
 -- no reason has the number 0
 no_zero : (e : RuleReason) → Some (reason 0) ≡ Some (reason_view e) → ⊥
@@ -107,98 +122,71 @@ module _ (classes : List ClassFact) (m : Method Act) (frames : Frames) (at : ℕ
   abbrev ways_of : Plan → List ℤ → Conditions
   ways_of p ts = target_conditions classes frames (after m at p f) ts
 
-  abbrev end : Bool → Conditions
-  end b = (reason 71, b) ∷ []
+  abbrev caught : Conditions
+  caught = handler_conditions classes frames at f m.exceptions
 
-  uncovered : (x b : Bool) → least ((reason 71, b) ∷ (reason 75, x && false) ∷ []) ≡ least (end b)
-  uncovered true b = refl
-  uncovered false b = refl
+  -- what is asked besides the rule and the targets
+  abbrev end : Plan → Bool → Conditions
+  end p b = caught ++ ((reason 71, b) ∷ (reason 75, constructs_own p f && is_covered m.exceptions at) ∷ [])
 
-  -- no handlers
-  alone : (p : Plan) (next : Option ℕ) → m.exceptions ≡ []
-      → least (at_conditions classes m frames at p next f)
-      ≡ merge (least (conditions classes m at p f)) (merge (least (ways_of p (targets at p))) (least (end (falls p && is_none next))))
-  alone p next none =
-      ap (λ (z : List ExceptionEntry). least (all z)) none
-      ∙ least_append (conditions classes m at p f) (ways_of p (targets at p) ++ last)
-      ∙ ap (merge (least (conditions classes m at p f)))
-      (least_append (ways_of p (targets at p)) last
-      ∙ ap (merge (least (ways_of p (targets at p)))) (uncovered (constructs_own p f) (falls p && is_none next)))
-    where
-      all : List ExceptionEntry → Conditions
-      all es =
-          conditions classes m at p f
-          ++ (ways_of p (targets at p)
-          ++ (handler_conditions classes frames at f es
-          ++ ((reason 71, falls p && is_none next) ∷ (reason 75, constructs_own p f && is_covered es at) ∷ [])))
-
-      last : Conditions
-      last = (reason 71, falls p && is_none next) ∷ (reason 75, constructs_own p f && false) ∷ []
-
-  both : (p : Plan) (next : Option ℕ) → m.exceptions ≡ []
-      → least (at_conditions classes m frames at p next f)
-      ≡ least (conditions classes m at p f ++ (ways_of p (targets at p) ++ end (falls p && is_none next)))
-  both p next none =
-      let cs = conditions classes m at p f in
-      let ts = ways_of p (targets at p) in
-      let e = end (falls p && is_none next) in
-      alone p next none ∙ ap (merge (least cs)) (sym (least_append ts e)) ∙ sym (least_append cs (ts ++ e))
+  end_late : (p : Plan) (b : Bool) → AreLate (end p b)
+  end_late p b =
+      late_append caught ((reason 71, b) ∷ (reason 75, constructs_own p f && is_covered m.exceptions at) ∷ []) (handlers_late classes frames at f m.exceptions)
+      (omega arith, omega arith, tt)
 
   -- an early reason of the rule is that of all
-  early_all : (p : Plan) (next : Option ℕ) (n : ℕ) → m.exceptions ≡ [] → least (conditions classes m at p f) ≡ Some (reason n) → n < 67
+  early_all : (p : Plan) (next : Option ℕ) (n : ℕ) → least (conditions classes m at p f) ≡ Some (reason n) → n < 67
       → least (at_conditions classes m frames at p next f) ≡ Some (reason n)
-  early_all p next n none e lt =
+  early_all p next n e lt =
       let ts = ways_of p (targets at p) in
-      both p next none
-      ∙ early_first (conditions classes m at p f) (ts ++ end (falls p && is_none next)) n e lt
-      (late_append ts (end (falls p && is_none next)) (targets_late classes frames (after m at p f) (targets at p)) (omega arith, tt))
+      early_first (conditions classes m at p f) (ts ++ end p (falls p && is_none next)) n e lt
+      (late_append ts (end p (falls p && is_none next)) (targets_late classes frames (after m at p f) (targets at p)) (end_late p (falls p && is_none next)))
 
   early_end : (p : Plan) (b : Bool) (n : ℕ) → least (conditions classes m at p f) ≡ Some (reason n) → n < 67
-      → least (conditions classes m at p f ++ end b) ≡ Some (reason n)
-  early_end p b n e lt = early_first (conditions classes m at p f) (end b) n e lt (omega arith, tt)
+      → least (conditions classes m at p f ++ end p b) ≡ Some (reason n)
+  early_end p b n e lt = early_first (conditions classes m at p f) (end p b) n e lt (end_late p b)
 
   -- ---- where the rule refuses
 
-  module _ (a : Act) (p : Plan) (x : IsWay a p) (last : Bool) (next : Option ℕ) (none : m.exceptions ≡ []) (is : is_none next ≡ last) where
+  module _ (a : Act) (p : Plan) (x : IsWay a p) (last : Bool) (next : Option ℕ) (is : is_none next ≡ last) where
     -- with no targets, the end is all that is asked besides
     straight : offsets_of p ≡ [] → goes_on a ≡ falls p
-        → least (conditions classes m at p f ++ end (goes_on a && last)) ≡ least (at_conditions classes m frames at p next f)
+        → least (conditions classes m at p f ++ end p (goes_on a && last)) ≡ least (at_conditions classes m frames at p next f)
     straight o e =
-        ap (λ (z : Bool). least (conditions classes m at p f ++ end (z && last))) e
-        ∙ ap (λ (z : Bool). least (conditions classes m at p f ++ end (falls p && z))) (sym is)
-        ∙ ap (λ (z : List ℤ). least (conditions classes m at p f ++ (ways_of p z ++ end (falls p && is_none next)))) (sym (ap (led_to at) o))
-        ∙ sym (both p next none)
+        ap (λ (z : Bool). least (conditions classes m at p f ++ end p (z && last))) e
+        ∙ ap (λ (z : Bool). least (conditions classes m at p f ++ end p (falls p && z))) (sym is)
+        ∙ ap (λ (z : List ℤ). least (conditions classes m at p f ++ (ways_of p z ++ end p (falls p && is_none next)))) (sym (ap (led_to at) o))
 
     by_early : (n : ℕ) → least (conditions classes m at p f) ≡ Some (reason n) → n < 67
-        → least (conditions classes m at p f ++ end (goes_on a && last)) ≡ least (at_conditions classes m frames at p next f)
-    by_early n e lt = early_end p (goes_on a && last) n e lt ∙ sym (early_all p next n none e lt)
+        → least (conditions classes m at p f ++ end p (goes_on a && last)) ≡ least (at_conditions classes m frames at p next f)
+    by_early n e lt = early_end p (goes_on a && last) n e lt ∙ sym (early_all p next n e lt)
 
     refused_alike : (least (conditions classes m at p f) ≡ None → ⊥)
-        → least (conditions classes m at p f ++ end (goes_on a && last)) ≡ least (at_conditions classes m frames at p next f)
+        → least (conditions classes m at p f ++ end p (goes_on a && last)) ≡ least (at_conditions classes m frames at p next f)
     refused_alike some = by x.early x.calm
       where
         calmly : IsEarly (least (conditions classes m at p f))
-            → least (conditions classes m at p f ++ end (goes_on a && last)) ≡ least (at_conditions classes m frames at p next f)
+            → least (conditions classes m at p f ++ end p (goes_on a && last)) ≡ least (at_conditions classes m frames at p next f)
         calmly (inl e) = absurd (some e)
         calmly (inr r) = by_early r.0 r.1 r.2
 
         by : ((goes_on a ≡ falls p) × (branch_offsets a ≡ offsets_of p)) ⊎ ((n : ℕ) × (p ≡ refuses n) × (n < 67))
             → (offsets_of p ≡ []) ⊎ ((classes : List ClassFact) (m : Method Act) (at : ℕ) (f : FrameFact) → IsEarly (least (conditions classes m at p f)))
-            → least (conditions classes m at p f ++ end (goes_on a && last)) ≡ least (at_conditions classes m frames at p next f)
+            → least (conditions classes m at p f ++ end p (goes_on a && last)) ≡ least (at_conditions classes m frames at p next f)
         by (inr r) calm = by_early r.0 (ap (λ z. least (conditions classes m at z f)) r.1 ∙ refused_least classes m at r.0 f) r.2
         by (inl q) (inl o) = straight o q.0
         by (inl q) (inr calm) = calmly (calm classes m at f)
 
     -- the reason that goes before, of the rule's and the end's
     pub refused_end : (g : FrameFact) (e y : RuleReason) → (e ≡ OutOfMemory) ⊎ (least (conditions classes m at p f) ≡ Some (reason_view e))
-        → ((cs : Conditions) → Judges cs (Err e) → Judges (cs ++ end (goes_on a && last)) (Err y))
+        → ((cs : Conditions) → Judges cs (Err e) → Judges (cs ++ end p (goes_on a && last)) (Err y))
         → Done (at_conditions classes m frames at p next f) (after m at p f) g (Err y)
     refused_end g e y (inr q) all = record { outcome = by (all (conditions classes m at p f) (record { outcome = inr q })).outcome }
       where
         some : least (conditions classes m at p f) ≡ None → ⊥
         some n = let clash : Some (reason_view e) ≡ None = sym q ∙ n in cc
 
-        by : (y ≡ OutOfMemory) ⊎ (least (conditions classes m at p f ++ end (goes_on a && last)) ≡ Some (reason_view y))
+        by : (y ≡ OutOfMemory) ⊎ (least (conditions classes m at p f ++ end p (goes_on a && last)) ≡ Some (reason_view y))
             → (y ≡ OutOfMemory) ⊎ (least (at_conditions classes m frames at p next f) ≡ Some (reason_view y))
         by (inl z) = inl z
         by (inr z) = inr (sym (refused_alike some) ∙ z)
@@ -207,11 +195,10 @@ module _ (classes : List ClassFact) (m : Method Act) (frames : Frames) (at : ℕ
         early_one : Conditions
         early_one = (reason 0, true) ∷ []
 
-        zero_first : (b : Bool) → least (early_one ++ end b) ≡ Some (reason 0)
-        zero_first true = refl
-        zero_first false = refl
+        zero_first : (b : Bool) → least (early_one ++ end p b) ≡ Some (reason 0)
+        zero_first b = early_first early_one (end p b) 0 refl (omega arith) (end_late p b)
 
-        by : (y ≡ OutOfMemory) ⊎ (least (early_one ++ end (goes_on a && last)) ≡ Some (reason_view y))
+        by : (y ≡ OutOfMemory) ⊎ (least (early_one ++ end p (goes_on a && last)) ≡ Some (reason_view y))
             → (y ≡ OutOfMemory) ⊎ (least (at_conditions classes m frames at p next f) ≡ Some (reason_view y))
         by (inl z) = inl z
         by (inr z) = absurd (no_zero y (sym (zero_first (goes_on a && last)) ∙ z))
@@ -219,31 +206,30 @@ module _ (classes : List ClassFact) (m : Method Act) (frames : Frames) (at : ℕ
     -- ---- where it does not
 
     pub done_ways : (g : FrameFact) (r : Result Unit RuleReason) → least (conditions classes m at p f) ≡ None → g ≡ after m at p f
-        → Judges (target_conditions classes frames g (led_to at (branch_offsets a)) ++ end (goes_on a && last)) r
+        → Judges (target_conditions classes frames g (led_to at (branch_offsets a)) ++ end p (goes_on a && last)) r
         → Done (at_conditions classes m frames at p next f) (after m at p f) g r
     done_ways g r e q j = by r j
       where
         way : (goes_on a ≡ falls p) × (branch_offsets a ≡ offsets_of p)
         way = as_act a p x e
 
-        same : least (target_conditions classes frames g (led_to at (branch_offsets a)) ++ end (goes_on a && last))
+        same : least (target_conditions classes frames g (led_to at (branch_offsets a)) ++ end p (goes_on a && last))
             ≡ least (at_conditions classes m frames at p next f)
         same =
-            ap (λ (z : FrameFact). least (target_conditions classes frames z (led_to at (branch_offsets a)) ++ end (goes_on a && last))) q
-            ∙ ap (λ (z : List ℤ). least (ways_of p (led_to at z) ++ end (goes_on a && last))) way.1
-            ∙ ap (λ (z : Bool). least (ways_of p (targets at p) ++ end (z && last))) way.0
-            ∙ ap (λ (z : Bool). least (ways_of p (targets at p) ++ end (falls p && z))) (sym is)
-            ∙ sym (both p next none
-            ∙ both_least (conditions classes m at p f) (ways_of p (targets at p) ++ end (falls p && is_none next)) None
-            (least (ways_of p (targets at p) ++ end (falls p && is_none next))) e refl)
+            ap (λ (z : FrameFact). least (target_conditions classes frames z (led_to at (branch_offsets a)) ++ end p (goes_on a && last))) q
+            ∙ ap (λ (z : List ℤ). least (ways_of p (led_to at z) ++ end p (goes_on a && last))) way.1
+            ∙ ap (λ (z : Bool). least (ways_of p (targets at p) ++ end p (z && last))) way.0
+            ∙ ap (λ (z : Bool). least (ways_of p (targets at p) ++ end p (falls p && z))) (sym is)
+            ∙ sym (both_least (conditions classes m at p f) (ways_of p (targets at p) ++ end p (falls p && is_none next)) None
+            (least (ways_of p (targets at p) ++ end p (falls p && is_none next))) e refl)
 
         by : (r : Result Unit RuleReason)
-            → Judges (target_conditions classes frames g (led_to at (branch_offsets a)) ++ end (goes_on a && last)) r
+            → Judges (target_conditions classes frames g (led_to at (branch_offsets a)) ++ end p (goes_on a && last)) r
             → Done (at_conditions classes m frames at p next f) (after m at p f) g r
         by (Ok u) j = record { outcome = (sym same ∙ j.outcome, q) }
         by (Err e) j = record { outcome = told j.outcome }
           where
-            told : (e ≡ OutOfMemory) ⊎ (least (target_conditions classes frames g (led_to at (branch_offsets a)) ++ end (goes_on a && last)) ≡ Some (reason_view e))
+            told : (e ≡ OutOfMemory) ⊎ (least (target_conditions classes frames g (led_to at (branch_offsets a)) ++ end p (goes_on a && last)) ≡ Some (reason_view e))
                 → (e ≡ OutOfMemory) ⊎ (least (at_conditions classes m frames at p next f) ≡ Some (reason_view e))
             told (inl z) = inl z
             told (inr z) = inr (sym same ∙ z)

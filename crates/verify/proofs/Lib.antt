@@ -21,6 +21,11 @@ pub mod MapFaults
 pub mod MapReading
 pub mod Decoded
 pub mod Merging
+pub mod Caught
+pub mod Tracking
+pub mod InTurn
+pub mod TableEntries
+pub mod Comparing
 pub mod Going
 pub mod Ends
 pub mod Repeated

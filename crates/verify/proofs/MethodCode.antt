@@ -17,7 +17,6 @@ use Rattle.classfile.proofs.Places.{method_is}
 use Rattle.classfile.proofs.FormedNames.{none_holds, left_not, right_not}
 use Rattle.classfile.proofs.FormedMethods.{NamesMethod, formed_method}
 use Rattle.insn.specs.Meanings.{Act}
-use Rattle.verify.specs.Judged.{is_empty, is_judged}
 
 some_same : {A : Type 0} (a b : A) → Some a ≡ Some b → a ≡ b
 some_same a b e = cc
@@ -64,60 +63,6 @@ little_code c formed number body e =
     let fits = right_not (nat_eq (length body.code) 0) (nat_lt 65535 (length body.code))
     (length_good c formed number body (has_code c number body e)) in
     grind (arith, nat_tests, fits)
-
--- ---- the exception table: there are as many entries as items
-
-entry_there : (h : Handler) (t : Option ReferenceType) (others : Option (List ExceptionEntry)) (es : List ExceptionEntry)
-    → entry_with h t others ≡ Some es → is_empty es ≡ false
-entry_there h (Some t) (Some others) es e = sym (ap is_empty (some_same _ es e))
-entry_there h (Some t) None es e = cc
-entry_there h None others es e = cc
-
-pub entries_alike : (pool : List Entry) (hs : List Handler) (es : List ExceptionEntry) → exception_entries pool hs ≡ Some es
-    → is_empty (or_empty (exception_entries pool hs)) ≡ is_empty hs
-entries_alike pool [] es e = refl
-entries_alike pool (h ∷ hs) es e =
-    ap (λ o. is_empty (or_empty o)) e ∙ entry_there h (caught_type pool h.catch_type) (exception_entries pool hs) es e
-
--- ---- what is judged does not hang on what the code says
-
-module _ {A B : Type 0} (c : Class) (a : List (ℕ × A)) (b : List (ℕ × B)) (m : Method A) (n : Method B) where
-  with_alike : (member : Member) (body : CodeBody) (class name : Option (List ℕ)) (type : Option MethodDescriptor)
-      (exceptions : Option (List ExceptionEntry))
-      → method_with c member a body class name type exceptions ≡ Some m → method_with c member b body class name type exceptions ≡ Some n
-      → is_judged m ≡ is_judged n
-  with_alike member body (Some class) (Some name) (Some type) (Some exceptions) p q =
-      sym (ap is_judged (some_same _ m p)) ∙ ap is_judged (some_same _ n q)
-  with_alike member body None name type exceptions p q = cc
-  with_alike member body (Some class) None type exceptions p q = cc
-  with_alike member body (Some class) (Some name) None exceptions p q = cc
-  with_alike member body (Some class) (Some name) (Some type) None p q = cc
-
-  bodies_alike : (member : Member) (o : Option CodeBody) (f : CodeBody → Option (Method A)) (g : CodeBody → Option (Method B))
-      → ((x : CodeBody) → f x ≡ Some m → g x ≡ Some n → is_judged m ≡ is_judged n)
-      → option_and_then f o ≡ Some m → option_and_then g o ≡ Some n → is_judged m ≡ is_judged n
-  bodies_alike member (Some x) f g k p q = k x p q
-  bodies_alike member None f g k p q = cc
-
-  members_alike : (o : Option Member) → option_and_then (method_from c a) o ≡ Some m → option_and_then (method_from c b) o ≡ Some n
-      → is_judged m ≡ is_judged n
-  members_alike (Some member) p q = bodies_alike member (code_of member.attributes) _ _ (λ x p q. with_alike member x _ _ _ _ p q) p q
-  members_alike None p q = cc
-
-  pub judged_alike : (number : ℕ) → method_of c number a ≡ Some m → method_of c number b ≡ Some n → is_judged m ≡ is_judged n
-  judged_alike number p q = members_alike (slice_get c.methods number) p q
-
--- ---- its exception table
-
-module _ (c : Class) (formed : WellFormed c) (number : ℕ) (body : CodeBody) (coded : code_at c number ≡ Some body) where
-  code : HasCode c number body
-  code = has_code c number body coded
-
-  names : NamesMethod c code.member body
-  names = formed_method c formed number code.member body code.numbered code.has_code
-
-  pub tables_alike : is_empty (or_empty (exception_entries c.constant_pool body.exception_table)) ≡ is_empty body.exception_table
-  tables_alike = entries_alike c.constant_pool body.exception_table names.entries names.entries_are
 
 -- ---- the code of a class's method
 

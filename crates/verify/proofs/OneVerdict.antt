@@ -23,17 +23,13 @@ use Rattle.verify.specs.declared.report.MethodVerdict.{MethodVerdict}
 use Rattle.verify.specs.Verdict as verdicts
 use Rattle.verify.specs.Verdict.{verified, told_of, verdict}
 use Rattle.verify.specs.Steps.{place_of}
-use Rattle.verify.specs.Answers.{IsLeftOut, HasBadCode, HasVerdict, HasRefusal, IsRefused}
+use Rattle.verify.specs.Answers.{HasBadCode, HasVerdict, HasRefusal, IsRefused}
 use Rattle.verify.specs.Reports.{IsReported}
 use Rattle.verify.specs.OneVerdict.{AreSameVerdict, OneVerdict, IsSameLine, OneReport}
 use Rattle.verify.proofs.Merging.{view_number}
-use Rattle.verify.proofs.MethodCode.{judged_alike}
 
 some_same : {A : Type 0} (a b : A) → Some a ≡ Some b → a ≡ b
 some_same a b e = cc
-
-true_false : true ≡ false → ⊥
-true_false e = cc
 
 none_some : {A : Type 0} (a : A) → None ≡ Some a → ⊥
 none_some a e = cc
@@ -69,15 +65,7 @@ module _ (classes : List ClassFact) (c : Class) (number : ℕ) where
         same.1,
       )
 
-  -- ---- a method that is left out is not judged, and code that is faulty spells nothing
-
-  left_out_or_told : (at : ℕ) (why : Reason) (v : verdicts.Verdict) → IsLeftOut c number at why → HasVerdict classes c number v → ⊥
-  left_out_or_told at why v x y = true_false
-      (sym y.judged ∙ judged_alike c (acts y.instructions) [] y.method x.method number y.says x.says ∙ x.left_out)
-
-  left_out_or_bad : (at there : ℕ) (why other : Reason) → IsLeftOut c number at why → HasBadCode c number there other → ⊥
-  left_out_or_bad at there why other x y = true_false
-      (sym y.judged ∙ judged_alike c [] [] y.method x.method number y.says x.says ∙ x.left_out)
+  -- ---- code that is faulty spells nothing
 
   bad_or_told : (at : ℕ) (why : Reason) (v : verdicts.Verdict) → HasBadCode c number at why → HasVerdict classes c number v → ⊥
   bad_or_told at why v x y =
@@ -96,36 +84,20 @@ module _ (classes : List ClassFact) (c : Class) (number : ℕ) where
 
   both_refused : (at there : ℕ) (why other : Reason) → IsRefused classes c number at why → IsRefused classes c number there other
       → Same at why there other
-  both_refused at there why other (inl x) (inl y) = by_reason at there why other (x.at_zero ∙ sym y.at_zero) (x.told ∙ sym y.told)
-  both_refused at there why other (inl x) (inr (inl y)) = absurd (left_out_or_bad at there why other x y)
-  both_refused at there why other (inl x) (inr (inr y)) = absurd (left_out_or_told at why y.refusal x y.judged)
-  both_refused at there why other (inr (inl x)) (inl y) = absurd (left_out_or_bad there at other why y x)
-  both_refused at there why other (inr (inl x)) (inr (inl y)) = both_bad at there why other x y
-  both_refused at there why other (inr (inl x)) (inr (inr y)) = absurd (bad_or_told at why y.refusal x y.judged)
-  both_refused at there why other (inr (inr x)) (inl y) = absurd (left_out_or_told there other x.refusal y x.judged)
-  both_refused at there why other (inr (inr x)) (inr (inl y)) = absurd (bad_or_told there other x.refusal y x.judged)
-  both_refused at there why other (inr (inr x)) (inr (inr y)) = both_told at there why other x y
+  both_refused at there why other (inl x) (inl y) = both_bad at there why other x y
+  both_refused at there why other (inl x) (inr y) = absurd (bad_or_told at why y.refusal x y.judged)
+  both_refused at there why other (inr x) (inl y) = absurd (bad_or_told there other x.refusal y x.judged)
+  both_refused at there why other (inr x) (inr y) = both_told at there why other x y
 
   not_both : (at : ℕ) (why : Reason) → HasVerdict classes c number verified → IsRefused classes c number at why → ⊥
-  not_both at why x (inl y) = left_out_or_told at why verified y x
-  not_both at why x (inr (inl y)) = bad_or_told at why verified y x
-  not_both at why x (inr (inr y)) = none_some (at, reason_view why) (ap told_of (one_told verified y.refusal x y.judged) ∙ y.told)
+  not_both at why x (inl y) = bad_or_told at why verified y x
+  not_both at why x (inr y) = none_some (at, reason_view why) (ap told_of (one_told verified y.refusal x y.judged) ∙ y.told)
 
   -- ---- a method without code is not refused
 
-  no_body : (m : Method Act) (o : Option CodeBody) (k : CodeBody → Option (Method Act)) → o ≡ None → option_and_then k o ≡ Some m → ⊥
-  no_body m None k p q = none_some m q
-  no_body m (Some body) k p q = none_some body (sym p)
-
-  no_method : (m : Method Act) (o : Option Member) → option_and_then (λ z. code_of z.attributes) o ≡ None
-      → option_and_then (method_from c []) o ≡ Some m → ⊥
-  no_method m None p q = none_some m q
-  no_method m (Some member) p q = no_body m (code_of member.attributes) _ p q
-
   refused_code : (at : ℕ) (why : Reason) → code_at c number ≡ None → IsRefused classes c number at why → ⊥
-  refused_code at why none (inl x) = no_method x.method (slice_get c.methods number) none x.says
-  refused_code at why none (inr (inl x)) = none_some x.body (sym none ∙ x.has_code)
-  refused_code at why none (inr (inr x)) = none_some x.judged.body (sym none ∙ x.judged.has_code)
+  refused_code at why none (inl x) = none_some x.body (sym none ∙ x.has_code)
+  refused_code at why none (inr x) = none_some x.judged.body (sym none ∙ x.judged.has_code)
 
 pub one_verdict : OneVerdict
 one_verdict classes c number Verified Verified p q = tt

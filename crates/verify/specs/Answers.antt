@@ -11,7 +11,7 @@ use Rattle.insn.specs.Code.{SpellsCode, FaultyCode}
 use Rattle.insn.specs.Meanings.{Act}
 use Rattle.insn.specs.Offsets.{acts}
 use Rattle.rules.specs.declared.reason.Reason.{Reason}
-use Rattle.rules.specs.declared.reason.Reason.TheVariants.{NotSupported, BadCode}
+use Rattle.rules.specs.declared.reason.Reason.TheVariants.{BadCode}
 use Rattle.rules.specs.Reasons.{reason_view}
 use Rattle.rules.specs.Table.{plan}
 use Rattle.verify.specs.declared.verdict.Verdict.{Verdict}
@@ -23,22 +23,10 @@ use Rattle.verify.specs.Verdict as verdicts
 use Rattle.verify.specs.Verdict.{verified, told_of, verdict}
 use Rattle.verify.specs.ClassMethods.{IsMethod, IsTypeSafeIn, IsSafeIn}
 use Rattle.verify.specs.Steps.{place_of}
-use Rattle.verify.specs.Judged.{is_judged}
 use Rattle.verify.specs.Listed.{IsListed}
-
--- Whatever its code says, it is none of the methods that are judged yet: 60 at 0.
-pub record IsLeftOut (c : Class) (number : ℕ) (at : ℕ) (why : Reason) : Type 0 where
-  pub method : Method Act
-  pub says : method_of c number [] ≡ Some method
-  pub left_out : is_judged method ≡ false
-  pub at_zero : at ≡ 0
-  pub told : why ≡ NotSupported
 
 -- Its bytes are no code: 79 where the first instruction at fault begins, with the number of its fault.
 pub record HasBadCode (c : Class) (number : ℕ) (at : ℕ) (why : Reason) : Type 0 where
-  pub method : Method Act
-  pub says : method_of c number [] ≡ Some method
-  pub judged : is_judged method ≡ true
   pub body : CodeBody
   pub has_code : code_at c number ≡ Some body
   pub fault : CodeFault
@@ -54,7 +42,6 @@ pub record HasVerdict (classes : List ClassFact) (c : Class) (number : ℕ) (v :
   pub spelled : SpellsCode 0 body.code instructions
   pub method : Method Act
   pub says : method_of c number (acts instructions) ≡ Some method
-  pub judged : is_judged method ≡ true
   pub told : verdict plan classes method ≡ v
 
 -- The verdict refuses it, there and for this reason.
@@ -64,8 +51,7 @@ pub record HasRefusal (classes : List ClassFact) (c : Class) (number : ℕ) (at 
   pub told : told_of refusal ≡ Some (at, reason_view why)
 
 abbrev pub IsRefused : List ClassFact → Class → ℕ → ℕ → Reason → Type 0
-IsRefused classes c number at why =
-    IsLeftOut c number at why ⊎ (HasBadCode c number at why ⊎ HasRefusal classes c number at why)
+IsRefused classes c number at why = HasBadCode c number at why ⊎ HasRefusal classes c number at why
 
 -- a method with a Code attribute
 abbrev pub AnswersCode : List ClassFact → Class → ℕ → Result Verdict VerifyFault → Type 0
@@ -75,8 +61,7 @@ AnswersCode classes c number (Ok (Refused at why)) = IsRefused classes c number 
 AnswersCode classes c number (Err OutOfMemory) = Unit {0}
 AnswersCode classes c number (Err NotInHierarchy) = ⊥
 
--- Any method. 80 where the hierarchy has not this class as it is; that goes first. A method that is verified is one of those that
--- are judged yet.
+-- Any method. 80 where the hierarchy has not this class as it is; that goes first.
 abbrev pub Answers : List ClassFact → Class → ℕ → Result Verdict VerifyFault → Type 0
 Answers classes c number (Ok Verified) = IsListed classes c × IsTypeSafeIn classes c number × HasVerdict classes c number verified
 Answers classes c number (Ok NoCode) = IsListed classes c × (code_at c number ≡ None)
@@ -84,10 +69,10 @@ Answers classes c number (Ok (Refused at why)) = IsListed classes c × IsRefused
 Answers classes c number (Err OutOfMemory) = Unit {0}
 Answers classes c number (Err NotInHierarchy) = IsListed classes c → ⊥
 
--- A method that is type-safe is verified, unless memory runs out, if it is one of those that are judged yet.
+-- A method that is type-safe is verified, unless memory runs out.
 abbrev pub VerifiesTypeSafe : List ClassFact → Class → ℕ → Result Verdict VerifyFault → Type 0
 VerifiesTypeSafe classes c number r =
-    IsListed classes c → (m : Method Act) → IsMethod c number m → is_judged m ≡ true → IsTypeSafe classes m
+    IsListed classes c → (m : Method Act) → IsMethod c number m → IsTypeSafe classes m
     → MatchResult r (λ v. v ≡ Verified) (λ e. e ≡ OutOfMemory)
 
 -- A method that is verified is safe, in every world that extends the hierarchy.

@@ -21,3 +21,8 @@ Fits classes t f k = IsOf t k × (list_answer (type_answer classes) f.locals (de
 pub record IsKnown (classes : List ClassFact) (t : DeclaredFrames) (f : FrameFact) (known : Known) : Type 0 where
   pub kept : IfSome known.kept (Keeps t f)
   pub fits : IfSome known.fits (Fits classes t f)
+
+-- the same frame but for its stack
+pub record IsSameBeneath (f g : FrameFact) : Type 0 where
+  pub locals : f.locals ≡ g.locals
+  pub flag : f.flag ≡ g.flag

@@ -20,3 +20,6 @@ pub mod Turns
 pub mod PlaceSets
 pub mod Targets
 pub mod Keeping
+pub mod ExceptionTables
+pub mod Catching
+pub mod Handling

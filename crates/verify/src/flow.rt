@@ -1,5 +1,5 @@
 //! From one instruction to the next.
-ghost use Rattle.std.specs.Prelude.{◌≡◌, ◌++◌, ◌&&◌, [], ◌∷◌, option_map, length, IfSome, OnOk, Err};
+ghost use Rattle.std.specs.Prelude.{◌≡◌, ◌++◌, ◌&&◌, [], ◌∷◌, option_map, length, IfSome, OnOk, IsOk, Err};
 ghost use Rattle.hierarchy.specs.Answer.{outcome_of};
 ghost use Rattle.frames.specs.Conditions.{Conditions, reason};
 ghost use Rattle.frames.specs.DeclaredTables.{declared_view, AreKept, AreFit};
@@ -54,15 +54,17 @@ pub fn enter<'a, C: Classes>(
     Ok(())
 }
 
-/// 71 where the last instruction falls through.
-pub fn check_end<'a>(falls: bool, last: bool) -> Result<(), Reason<'a>>
-    ensures { Judges ((reason 71, falls && last) ∷ []) result }
+/// 71 where the last instruction falls through, and 75 where an entry covers a constructor's call on the own object.
+pub fn check_end<'a>(falls: bool, last: bool, covered: bool) -> Result<(), Reason<'a>>
+    ensures { Judges ((reason 71, falls && last) ∷ (reason 75, covered) ∷ []) result }
 {
     if falls && last {
-        Err(Reason::FallsOff)
-    } else {
-        Ok(())
+        return Err(Reason::FallsOff);
     }
+    if covered {
+        return Err(Reason::ConstructorCovered);
+    }
+    Ok(())
 }
 
 /// The lesser of two reasons, if there is another.
@@ -84,7 +86,8 @@ pub fn together<'a>(
     one: Result<(), Reason<'a>>,
     other: Result<(), Reason<'a>>,
 ) -> Result<(), Reason<'a>>
-    ensures { (cs ds : Conditions) → Judges cs one.entry → Judges ds other.entry → Judges (cs ++ ds) result }
+    ensures judged { (cs ds : Conditions) → Judges cs one.entry → Judges ds other.entry → Judges (cs ++ ds) result }
+    ensures both { OnOk result (IsOk one.entry × IsOk other.entry) }
 {
     match one {
         Ok(()) => other,

@@ -1,5 +1,5 @@
 //! One pass over a method's code.
-ghost use Rattle.std.specs.Prelude.{◌≡◌, ◌≤◌, ℕ, Option, is_none, List, [], length, OnOk};
+ghost use Rattle.std.specs.Prelude.{◌≡◌, ◌≤◌, ◌&&◌, ℕ, Option, is_none, List, length, IfOk, OnOk, IsOk};
 ghost use Rattle.layout.specs.declared.limits.TheConstants.{MAX_CODE_BYTES};
 ghost use Rattle.insn.specs.Instructions.{Instruction};
 ghost use Rattle.insn.specs.Code.{SpellsCode};
@@ -8,17 +8,23 @@ ghost use Rattle.frames.specs.DeclaredTables.{frames_in, locals_in};
 ghost use Rattle.frames.specs.MarkedCode.{code_in};
 ghost use Rattle.rules.specs.Table.{plan};
 ghost use Rattle.rules.specs.After.{after};
+ghost use Rattle.rules.specs.Rules.{constructs_own};
+ghost use Rattle.classfile.specs.Methods.{ExceptionEntry};
+ghost use Rattle.hierarchy.specs.Class.{ClassFact};
 ghost use Rattle.rules.specs.Bodies.{method_view};
 ghost use Rattle.rules.specs.Outcomes.{Done};
 ghost use Rattle.rules.specs.Held.{held};
 ghost use Rattle.rules.specs.Ways.{goes_on};
 ghost use Rattle.verify.specs.InitialFrames.{initial_frame};
-ghost use Rattle.verify.specs.Verdict.{at_conditions, code_judged};
-ghost use Rattle.verify.specs.Steps.{Gives};
+ghost use Rattle.verify.specs.Verdict.{handler_conditions, at_conditions, code_judged, is_covered};
+ghost use Rattle.verify.specs.Steps.{Judges, Gives};
 ghost use Rattle.verify.specs.Keeping.{IsKnown};
+ghost use Rattle.verify.specs.Handling.{AreAhead, Follows};
+ghost use Rattle.verify.specs.TypeSafety.{Frames};
 
 use crate::branching::check_targets;
 use crate::flow::{check_end, enter, first_reason, together};
+use crate::handlers::Handlers;
 use crate::keeping::Known;
 use crate::place_set::PlaceSet;
 use crate::refusal::refuse;
@@ -27,11 +33,11 @@ use classfile::CodeMethod;
 use frames::{CodeStarts, DeclaredFrames};
 use hierarchy::Classes;
 use insn::{Act, Instructions, act};
-use rules::{Reason, Working, branches_by, goes_on, run};
-use std::alloc::Global;
+use rules::{Reason, Working, branches_by, constructs_own, goes_on, keeps_locals, run};
+use std::alloc::{AllocError, Global};
 
 /// Judges an instruction in the frame before it, which becomes the frame after. Of the frame at the next start nothing is asked. What is
-/// known of locals is known of the frame after.
+/// caught in the frame before was judged. What is known of locals is known of the frame after.
 fn judge<'n, 'a, C: Classes>(
     alloc: Global,
     method: &CodeMethod<'_, 'a>,
@@ -40,6 +46,8 @@ fn judge<'n, 'a, C: Classes>(
     act: Act<'a>,
     falls: bool,
     last: bool,
+    caught: Result<(), Reason<'a>>,
+    covered: bool,
     frames: &'n DeclaredFrames<'a>,
     known: &mut Known<'n, 'a>,
     seen: &mut PlaceSet,
@@ -50,23 +58,46 @@ fn judge<'n, 'a, C: Classes>(
     requires starts { code_in starts.now ≡ method.now.code.now.code.now }
     requires declared { locals_in frames.now ≡ method.now.code.now.max_locals }
     requires known { let m = method_view method.now in IsKnown (C.content classes.now) frames.now (after m at (plan m (act_view act)) (held frame.old)) known.old }
-    requires no_exceptions { (method_view method.now).exceptions ≡ [] }
+    requires caught { let m = method_view method.now in Judges (handler_conditions (C.content classes.now) (frames_in frames.now) at (held frame.old) m.exceptions) caught }
+    requires covered { let m = method_view method.now in covered ≡ (constructs_own (plan m (act_view act)) (held frame.old) && is_covered m.exceptions at) }
     requires falls { falls ≡ goes_on (act_view act) }
     ensures known { OnOk result (IsKnown (C.content classes.now) frames.now (held frame.new) known.new) }
     ensures judged { (next : Option ℕ) → is_none next ≡ last →
         let m = method_view method.now in let f = held frame.old in
         let p = plan m (act_view act.entry) in
         Done (at_conditions (C.content classes.now) m (frames_in frames.now) at p next f) (after m at p f) (held frame.new) result }
+    ensures caught { OnOk result (IsOk caught.entry) }
 {
-    let end = check_end(falls, last);
+    let aside = together(caught, check_end(falls, last, covered));
     let branches = branches_by(&act);
     match run(alloc, method, starts, at, act, frame, classes) {
         Ok(()) => together(
             check_targets(at, branches, frame, frames, known, seen, classes),
-            end,
+            aside,
         ),
-        Err(reason) => Err(first_reason(reason, end)),
+        Err(reason) => Err(first_reason(reason, aside)),
     }
+}
+
+/// Whether an entry of the exception table covers an instruction that calls a constructor on the own object. The entries have come to its
+/// offset.
+fn covers_constructor<'a>(
+    alloc: Global,
+    method: &CodeMethod<'_, 'a>,
+    at: u16,
+    act: &Act<'a>,
+    handlers: &mut Handlers<'a>,
+    frame: &Working<'a>,
+) -> Result<bool, AllocError>
+    ensures { (cs : List ClassFact) (frames : Frames) (es : List ExceptionEntry) → let f = held frame.now in
+        Follows cs frames es at f handlers.old → AreAhead at handlers.old
+        → IfOk result (λ covered. (covered ≡ (constructs_own (plan (method_view method.now) (act_view act.now)) f && is_covered es at))
+            × Follows cs frames es at f handlers.new × AreAhead at handlers.new) }
+{
+    if !constructs_own(alloc, method, act, frame)? {
+        return Ok(false);
+    }
+    handlers.covers(at)
 }
 
 /// Judges code, by one pass over its bytes that carries one frame, the one with which the method begins.
@@ -75,6 +106,7 @@ pub fn pass<'a, C: Classes>(
     method: &CodeMethod<'_, 'a>,
     starts: &CodeStarts<'_>,
     frames: &DeclaredFrames<'a>,
+    handlers: &mut Handlers<'a>,
     seen: &mut PlaceSet,
     frame: &mut Working<'a>,
     classes: &C,
@@ -83,7 +115,7 @@ pub fn pass<'a, C: Classes>(
     requires locals { length (held frame.old).locals ≡ method.now.code.now.max_locals }
     requires starts { code_in starts.now ≡ method.now.code.now.code.now }
     requires declared { locals_in frames.now ≡ method.now.code.now.max_locals }
-    requires no_exceptions { (method_view method.now).exceptions ≡ [] }
+    requires handlers { let m = method_view method.now in Follows (C.content classes.now) (frames_in frames.now) m.exceptions 0 (held frame.old) handlers.old }
     requires spelled { (xs : List (ℕ × Instruction)) × SpellsCode 0 method.now.code.now.code.now xs }
     requires few { length method.now.code.now.code.now ≤ MAX_CODE_BYTES }
     ensures { Gives (code_judged plan (C.content classes.now) (method_view method.now) (frames_in frames.now)) result }
@@ -97,15 +129,22 @@ pub fn pass<'a, C: Classes>(
         };
         let at = at as u16;
         let declared = frames.find(u32::from(at));
+        let same = known.keeps(frame.flag(), declared);
         if let Err(reason) = enter(comes, declared, known.kept, known.fitting(), frame, classes) {
             return refuse(at, reason);
         }
+        handlers.behind(same)?;
+        known = known.here(declared);
         let act = act(&insn);
+        handlers.come_to(at)?;
+        let covered = covers_constructor(alloc, method, at, &act, handlers, frame)?;
+        let caught = handlers.catch(at, frame, frames, &mut known, classes);
         comes = goes_on(&act);
-        known = known.here(declared).behind(&act);
+        known = known.behind(&act);
+        handlers.behind(keeps_locals(&act))?;
         let last = code.is_at_end();
         let judged = judge(
-            alloc, method, starts, at, act, comes, last, frames, &mut known, seen, frame, classes,
+            alloc, method, starts, at, act, comes, last, caught, covered, frames, &mut known, seen, frame, classes,
         );
         if let Err(reason) = judged {
             return refuse(at, reason);

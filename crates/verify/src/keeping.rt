@@ -25,7 +25,10 @@ impl<'n, 'a> Known<'n, 'a> {
     ghost use Rattle.rules.specs.After.{after};
     ghost use Rattle.rules.specs.Table.{plan};
     ghost use Rattle.verify.specs.Verdict.{entered};
-    ghost use Rattle.verify.specs.Keeping.{IsKnown, Fits};
+    ghost use Rattle.hierarchy.specs.Answer.{yes};
+    ghost use Rattle.frames.specs.Assignable.{type_answer};
+    ghost use Rattle.frames.specs.FrameAssignable.{list_answer};
+    ghost use Rattle.verify.specs.Keeping.{IsKnown, Fits, IsSameBeneath};
 
     /// Nothing.
     pub fn nothing() -> Known<'n, 'a>
@@ -54,6 +57,28 @@ impl<'n, 'a> Known<'n, 'a> {
         match self.kept {
             Some(kept) => declared.keeps_locals_of(&kept),
             None => false,
+        }
+    }
+
+    /// Whether the locals are known to fit those of a declared frame.
+    pub fn is_fit_by(self, declared: &Declared<'n, 'a>) -> bool
+        ensures { (cs : List ClassFact) (t : DeclaredFrames) (f : FrameFact) → result ≡ true → IsOf t declared.now → IsKnown cs t f self.entry
+            → list_answer (type_answer cs) f.locals (declared_view declared.now).locals ≡ yes }
+    {
+        match self.fitting() {
+            Some(fits) => declared.keeps_locals_of(&fits),
+            None => false,
+        }
+    }
+
+    /// Whether a frame with this flag keeps its locals and the flag where a frame is declared and taken on, or none is.
+    pub fn keeps(self, flag: bool, declared: Option<Declared<'n, 'a>>) -> bool
+        ensures { (cs : List ClassFact) (t : DeclaredFrames) (f : FrameFact) → result ≡ true → f.flag ≡ flag → IfSome declared.entry (IsOf t) → IsKnown cs t f self.entry
+            → IsSameBeneath f (entered f (option_map declared_view declared.entry)) }
+    {
+        match declared {
+            Some(frame) => self.is_kept_by(&frame) && frame.flag() == flag,
+            None => true,
         }
     }
 

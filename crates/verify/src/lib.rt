@@ -12,6 +12,8 @@
 //! - `initial`: the frame with which a method begins.
 //! - `judging`: one pass over a method's code, against the verdict in specs/Verdict.antt.
 //! - `flow`, `branching`: from one instruction to the next, and to its targets.
+//! - `exceptions`: the exception table, which is judged before the code.
+//! - `handlers`, `catching`: the exception handlers while the pass goes on, and the frame that comes to one.
 //! - `keeping`: what is known of the locals of the running frame.
 //! - `place_set`: which declared frames were compared.
 //! - `stack_maps`: the frames that a stack map declares.
@@ -21,9 +23,12 @@
 
 mod among;
 mod branching;
+mod catching;
+mod exceptions;
 mod files;
 mod final_super;
 mod flow;
+mod handlers;
 mod initial;
 mod judging;
 mod keeping;

@@ -1,5 +1,5 @@
 //! The verdict on a method.
-ghost use Rattle.std.specs.Prelude.{◌≡◌, ◌<◌, ◌≤◌, ℕ, true, List, [], map, length, Some, IfOk, IfErr};
+ghost use Rattle.std.specs.Prelude.{◌≡◌, ◌<◌, ◌≤◌, ℕ, true, List, [], map, length, Some, Ok, IfOk, IfErr};
 ghost use Rattle.layout.specs.declared.limits.TheConstants.{MAX_CODE_BYTES};
 ghost use Rattle.names.specs.Types.{type_of, method_of};
 ghost use Rattle.classfile.specs.MethodParts.{code_at};
@@ -9,14 +9,19 @@ ghost use Rattle.classfile.specs.WellFormed.{WellFormed};
 ghost use Rattle.insn.specs.Instructions.{Instruction};
 ghost use Rattle.insn.specs.Code.{SpellsCode};
 ghost use Rattle.rules.specs.Bodies.{method_view};
+ghost use Rattle.rules.specs.Held.{held};
 ghost use Rattle.rules.specs.Table.{plan};
+ghost use Rattle.frames.specs.DeclaredTables.{frames_in, locals_in};
+ghost use Rattle.frames.specs.MarkedCode.{code_in};
 ghost use Rattle.verify.specs.declared.verdict.VerifyFault.TheVariants.{OutOfMemory};
-ghost use Rattle.verify.specs.Verdict.{verdict};
+ghost use Rattle.verify.specs.InitialFrames.{initial_frame};
+ghost use Rattle.verify.specs.Verdict.{with_frames, verdict};
 ghost use Rattle.verify.specs.Steps.{Gives};
-ghost use Rattle.verify.specs.Judged.{is_judged};
 ghost use Rattle.verify.specs.Listed.{IsListed};
 ghost use Rattle.verify.specs.Answers.{AnswersCode, Answers, VerifiesTypeSafe, VerifiedIsSafe};
 
+use crate::exceptions::{check_table, exceptions};
+use crate::handlers::Handlers;
 use crate::initial::{begins_uninitialized, initial_locals, initial_types};
 use crate::judging::pass;
 use crate::listing::is_listed;
@@ -25,21 +30,12 @@ use crate::refusal::{refuse, refuse_code};
 use crate::stack_maps::declared_frames;
 use crate::verdict::{Verdict, VerifyFault};
 use classfile::{CodeMethod, Formed};
-use frames::CodeStarts;
+use frames::{CodeStarts, DeclaredFrames};
 use hierarchy::Classes;
 use insn::count_instructions;
 use names::{FieldType, MethodType, method_type};
 use rules::{Reason, Working};
 use std::alloc::Global;
-
-/// Whether the method is one of those that are judged yet.
-fn is_judged(method: &CodeMethod<'_, '_>) -> bool
-    requires formed { WellFormed (class_view method.now.class.now) }
-    requires coded { code_at (class_view method.now.class.now) method.now.number ≡ Some (code_view method.now.code.now) }
-    ensures { result ≡ is_judged {A = ℕ} (code_method_view method.now []) }
-{
-    method.code.exception_table.is_empty()
-}
 
 /// The types that a method's descriptor names. The only refusal is want of memory.
 fn types_of<'a>(alloc: Global, method: &CodeMethod<'_, 'a>) -> Result<MethodType<'a>, VerifyFault>
@@ -53,8 +49,37 @@ fn types_of<'a>(alloc: Global, method: &CodeMethod<'_, 'a>) -> Result<MethodType
     }
 }
 
-/// Judges a method by its receiver and parameters, its stack map and its instructions: 64 where they do not fit, 78 where the map is refused,
-/// and then by one pass.
+/// Judges a method by its exception table, under the frames that its stack map declares, and then its instructions by one pass.
+fn judge_code<'a, C: Classes>(
+    alloc: Global,
+    method: &CodeMethod<'_, 'a>,
+    starts: &CodeStarts<'_>,
+    frames: &DeclaredFrames<'a>,
+    frame: &mut Working<'a>,
+    classes: &C,
+) -> Result<Verdict<'a>, VerifyFault>
+    requires initial { held frame.old ≡ initial_frame (method_view method.now) }
+    requires locals { length (held frame.old).locals ≡ method.now.code.now.max_locals }
+    requires starts { code_in starts.now ≡ method.now.code.now.code.now }
+    requires declared { locals_in frames.now ≡ method.now.code.now.max_locals }
+    requires spelled { (xs : List (ℕ × Instruction)) × SpellsCode 0 method.now.code.now.code.now xs }
+    requires few { length method.now.code.now.code.now ≤ MAX_CODE_BYTES }
+    ensures { let m = method_view method.now in Gives (with_frames plan (C.content classes.now) m (Ok (frames_in frames.now))) result }
+{
+    let table = exceptions(alloc, method)?;
+    if let Err(reason) = check_table(&table, method, starts, frames, classes) {
+        return refuse(0, reason);
+    }
+    let mut handlers = Handlers::new(alloc, table)?;
+    let mut seen = PlaceSet::new(alloc);
+    seen.start(frames.len())?;
+    pass(
+        alloc, method, starts, frames, &mut handlers, &mut seen, frame, classes,
+    )
+}
+
+/// Judges a method by its receiver and parameters, its stack map, its exception table and its instructions: 64 where they do not fit, 78
+/// where the map is refused, and then by the table and by one pass.
 fn judge_body<'a, C: Classes>(
     alloc: Global,
     method: &CodeMethod<'_, 'a>,
@@ -62,7 +87,6 @@ fn judge_body<'a, C: Classes>(
     frame: &mut Working<'a>,
     classes: &C,
 ) -> Result<Verdict<'a>, VerifyFault>
-    requires judged { is_judged (method_view method.now) ≡ true }
     requires parameters { (method_view method.now).type.params ≡ map type_of parameters.now }
     requires spelled { (xs : List (ℕ × Instruction)) × SpellsCode 0 method.now.code.now.code.now xs }
     requires few { length method.now.code.now.code.now ≤ MAX_CODE_BYTES }
@@ -79,10 +103,8 @@ fn judge_body<'a, C: Classes>(
         Ok(frames) => frames,
         Err(fault) => return refuse(0, Reason::BadStackMap { fault }),
     };
-    let mut seen = PlaceSet::new(alloc);
-    seen.start(frames.len())?;
     frame.start(&locals, max_locals, begins_uninitialized(method))?;
-    pass(alloc, method, &starts, &frames, &mut seen, frame, classes)
+    judge_code(alloc, method, &starts, &frames, frame, classes)
 }
 
 /// The verdict on a method with code.
@@ -96,12 +118,6 @@ fn verify_code<'a, C: Classes>(
     requires coded { code_at (class_view method.class.now) method.number ≡ Some (code_view method.code.now) }
     ensures { AnswersCode (C.content classes.now) (class_view method.entry.class.now) method.entry.number result }
 {
-    if !is_judged(&method) {
-        return Ok(Verdict::Refused {
-            at: 0,
-            reason: Reason::NotSupported,
-        });
-    }
     match count_instructions(method.code.code) {
         Ok(_) => {}
         Err(fault) => return refuse_code(fault),
@@ -133,13 +149,13 @@ pub fn verify_listed<'a, C: Classes>(
 ///
 /// A method without a Code attribute has none. The first of these steps that refuses says why and where:
 ///
-/// - 60 at 0: the method has an exception table;
 /// - 79 where the first instruction at fault begins, with the number of its fault (31 to 35);
 /// - 64 at 0: the receiver and the parameters do not fit into max_locals;
 /// - 78 at 0, with the number of its fault: the stack map is refused, by its bytes (2, 12, 47, 48) or by an entry (8, 9, 49 to 53);
+/// - 72 or 77 at 0: an entry of the exception table is refused, the first one by the frames that are declared and by what it catches;
 /// - at the first instruction that is refused: 69 or 77 where the frame that comes in is not assignable to the one that is declared
-///   there, 70 where none comes and none is declared; then the least number that holds of what its rule refuses (60 to 66, 74, 76, 77), 67
-///   and 68 for its targets, and 71 where the last one goes on.
+///   there, 70 where none comes and none is declared; then the least number that holds of what its rule refuses (60 to 66, 74, 76, 77), 67,
+///   68 and 77 for its targets, 73 and 77 for the handlers of the entries that cover it, and 71 where the last one goes on.
 ///
 /// Before all that, 80 where the hierarchy has no class with exactly this class's summary; and 1 where memory ran out.
 pub fn verify_method<'a, C: Classes>(

@@ -34,7 +34,7 @@ loop-target-preserved-in-Some-check_target g c =
           c.in-Some-check_target.answer c.together-so_far.result
           (subst (Compares classes frames f c.in-Some.target c.loop-target.seen c.check_target.new.seen) c.in-Some-check_target.is
           (subst (λ t. Compares classes frames f t c.loop-target.seen c.check_target.new.seen c.check_target.result) (to_z-of_z w64 _ fits) c.check_target.ensures.compared))
-          c.together-so_far.ensures;
+          c.together-so_far.ensures.judged;
       known = c.check_target.ensures.known;
     }
 

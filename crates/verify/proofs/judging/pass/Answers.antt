@@ -15,6 +15,7 @@ use Rattle.rules.specs.Table.{plan}
 use Rattle.rules.specs.Ways.{goes_on}
 use Rattle.frames.specs.DeclaredTables.{frames_in, declared_view}
 use Rattle.verify.specs.Keeping.{IsKnown}
+use Rattle.verify.specs.Handling.{Follows}
 use Rattle.verify.specs.Steps.{Enters}
 use Rattle.verify.specs.Verdict.{entered, at_conditions, code_judged}
 use Rattle.verify.proofs.Onward.{left, steps, no_stop, at_end, step_within, last_is, keeps_length, stops_in, stops_at, goes_done}
@@ -37,6 +38,7 @@ loop-step-init g c =
       };
       locals = c.requires.locals;
       known = c.nothing-known.ensures (g.C.Classes.content c.args.classes.now) c.args.frames.now (held c.args.frame.now);
+      handlers = subst (λ n. Follows classes frames m.exceptions n (held c.args.frame.now) c.args.handlers.now) (sym (ap (λ (p : Place). p.at) c.new-code.ensures)) c.requires.handlers;
     }
 
 pub enter-requires-clause-kept : goal.enter-requires-clause-kept
@@ -50,16 +52,19 @@ enter-requires-clause-fits g c =
     fit_here classes c.args.frames.now f c.find-declared.result c.fitting.result c.find-declared.ensures.own
     (c.fitting.ensures classes c.args.frames.now f c.loop-step.invariant.known)
 
-pub judge-judged-requires-clause-known : goal.judge-judged-requires-clause-known
-judge-judged-requires-clause-known g c =
+pub catch-caught-requires-clause-known : goal.catch-caught-requires-clause-known
+catch-caught-requires-clause-known g c =
     let classes = g.C.Classes.content c.args.classes.now in
     let t = c.args.frames.now in
     let f = held c.loop-step.frame in
     let now = held c.enter.new.frame in
     let declared = option_map declared_view c.find-declared.result in
     let came = (subst (Enters classes c.loop-step.comes f declared now) c.in_default-enter.is c.enter.ensures.entered).outcome in
-    c.behind-known.ensures classes t (method_view c.args.method.now) c.in-Ok.at now
-    (known_same classes t (entered f declared) now c.here.result (sym came.1) (c.here.ensures classes t f c.find-declared.ensures.own c.loop-step.invariant.known))
+    known_same classes t (entered f declared) now c.here-known.result (sym came.1) (c.here-known.ensures classes t f c.find-declared.ensures.own c.loop-step.invariant.known)
+
+pub judge-judged-requires-clause-known : goal.judge-judged-requires-clause-known
+judge-judged-requires-clause-known g c =
+    c.behind-known.ensures (g.C.Classes.content c.args.classes.now) c.args.frames.now (method_view c.args.method.now) c.in-Ok.at (held c.enter.new.frame) c.catch-caught.ensures.known
 
 pub unreachable-requires : goal.unreachable-requires
 unreachable-requires g c =

@@ -4,6 +4,7 @@ use Rattle.rules.specs.Held.{held}
 use Rattle.rules.specs.Table.{plan}
 use Rattle.rules.specs.Bodies.{method_view}
 use Rattle.verify.specs.Keeping.{IsKnown}
+use Rattle.verify.specs.Handling.{Follows}
 use Rattle.verify.specs.Verdict.{code_judged}
 use Rattle.verify.proofs.Onward.{Remains}
 use Rattle.verify.proofs.judging.pass.Given as goal
@@ -15,6 +16,7 @@ invariant-loop-step g l = record {
       (code_judged plan (g.C.Classes.content l.classes) (method_view l.method) (frames_in l.frames));
   locals : length (held l.frame).locals ≡ l.method.code.now.max_locals;
   known : IsKnown (g.C.Classes.content l.classes) l.frames (held l.frame) l.known;
+  handlers : Follows (g.C.Classes.content l.classes) (frames_in l.frames) (method_view l.method).exceptions l.code.at (held l.frame) l.handlers;
 }
 
 abbrev pub decreases-loop-step : goal.decreases-loop-step

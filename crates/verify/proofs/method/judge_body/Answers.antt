@@ -16,8 +16,8 @@ returns-in_default g c =
     let classes = g.C.Classes.content c.args.classes.now in
     let m = method_view c.args.method.now in
     c.refuse.ensures (verdict plan classes m)
-    (inr (ap told_of (too_narrow m c.requires.judged classes
-    (room_as m c.requires.judged (map type_of c.deref.result.now) (ap (map type_of) c.deref.ensures.value ∙ c.in_ok-types.ensures) true
+    (inr (ap told_of (too_narrow m classes
+    (room_as m (map type_of c.deref.result.now) (ap (map type_of) c.deref.ensures.value ∙ c.in_ok-types.ensures) true
     (when_none _ _ c.in_ok-locals.field-0 c.in_default.is c.in_ok-locals.ensures)))))
 
 pub returns-in-Err : goal.returns-in-Err
@@ -27,10 +27,10 @@ returns-in-Err g c =
     let types = map type_of c.deref.result.now in
     let fits : nat_lt c.args.method.now.code.now.max_locals (length (in_locals types)) ≡ false =
     (when_some _ _ c.in_ok-locals.field-0 c.in-Some.locals c.in-Some.is c.in_ok-locals.ensures).0 in
-    let wide = room_as m c.requires.judged types (ap (map type_of) c.deref.ensures.value ∙ c.in_ok-types.ensures) false fits in
+    let wide = room_as m types (ap (map type_of) c.deref.ensures.value ∙ c.in_ok-types.ensures) false fits in
     let told = subst (TellsFrames (frames_declared m)) c.in-Err.is c.in_ok-declared.ensures.told in
     c.refuse-in-Err.ensures (verdict plan classes m)
-    (inr (map_told m c.requires.judged classes wide told.0 told.1 ∙ ap (λ n. Some (0, with_fault bad_stack_map n)) (sym told.2)))
+    (inr (map_told m classes wide told.0 told.1 ∙ ap (λ n. Some (0, with_fault bad_stack_map n)) (sym told.2)))
 
 pub returns : goal.returns
 returns g c =
@@ -39,6 +39,6 @@ returns g c =
     let types = map type_of c.deref.result.now in
     let fits : nat_lt c.args.method.now.code.now.max_locals (length (in_locals types)) ≡ false =
     (when_some _ _ c.in_ok-locals.field-0 c.in-Some.locals c.in-Some.is c.in_ok-locals.ensures).0 in
-    let wide = room_as m c.requires.judged types (ap (map type_of) c.deref.ensures.value ∙ c.in_ok-types.ensures) false fits in
+    let wide = room_as m types (ap (map type_of) c.deref.ensures.value ∙ c.in_ok-types.ensures) false fits in
     let told = subst (TellsFrames (frames_declared m)) c.in-Ok.is c.in_ok-declared.ensures.told in
-    subst (λ z. Gives z c.pass.result) (sym (with_declared m c.requires.judged classes wide (frames_in c.in-Ok.frames) told)) c.pass.ensures
+    subst (λ z. Gives z c.judge_code.result) (sym (with_declared m classes wide (frames_in c.in-Ok.frames) told)) c.judge_code.ensures

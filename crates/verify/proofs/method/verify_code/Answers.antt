@@ -11,15 +11,8 @@ use Rattle.insn.specs.Readings.{instructions_in}
 use Rattle.verify.proofs.MethodCode.{little_code}
 use Rattle.insn.proofs.CodeLaws.{unless_memory}
 use Rattle.verify.proofs.Decoded.{read_spelled}
-use Rattle.verify.proofs.Answering.{left_out, bad_code, given}
+use Rattle.verify.proofs.Answering.{bad_code, given}
 use Rattle.verify.proofs.method.verify_code.Goals as goal
-
-pub returns-then-not-is_judged : goal.returns-then-not-is_judged
-returns-then-not-is_judged g c =
-    let m = c.args.method in
-    left_out (g.C.Classes.content c.args.classes.now) (class_view m.class.now) m.number (code_method_view {A = Act} m [])
-    (method_says {A = Act} (class_view m.class.now) m.number (code_view m.code.now) m.is_static m.is_init
-    (option_map type_of m.result_type) m.is_method []) (sym c.is_judged.ensures ∙ c.if-not-is_judged.true)
 
 pub judge_body-requires-clause-few : goal.judge_body-requires-clause-few
 judge_body-requires-clause-few g c = let m = c.args.method in
@@ -28,10 +21,7 @@ judge_body-requires-clause-few g c = let m = c.args.method in
 pub returns-in-Err : goal.returns-in-Err
 returns-in-Err g c =
     let m = c.args.method in
-    bad_code (g.C.Classes.content c.args.classes.now) (class_view m.class.now) m.number (code_method_view {A = Act} m [])
-    (code_view m.code.now) c.in-Err.fault c.refuse_code.result
-    (method_says {A = Act} (class_view m.class.now) m.number (code_view m.code.now) m.is_static m.is_init
-    (option_map type_of m.result_type) m.is_method []) (sym c.is_judged.ensures ∙ c.if-not-is_judged.false) c.requires.coded
+    bad_code (g.C.Classes.content c.args.classes.now) (class_view m.class.now) m.number (code_view m.code.now) c.in-Err.fault c.refuse_code.result c.requires.coded
     (unless_memory c.in-Err.fault c.in-Err.ensures.fault) c.refuse_code.ensures
 
 pub returns : goal.returns
@@ -43,5 +33,5 @@ returns g c =
     given (g.C.Classes.content c.args.classes.now) (class_view m.class.now) m.number (code_view m.code.now) xs
     (code_method_view {A = Act} m (acts xs)) c.judge_body.result c.requires.coded spelled
     (method_says {A = Act} (class_view m.class.now) m.number (code_view m.code.now) m.is_static m.is_init
-    (option_map type_of m.result_type) m.is_method (acts xs)) (sym c.is_judged.ensures ∙ c.if-not-is_judged.false)
+    (option_map type_of m.result_type) m.is_method (acts xs))
     c.judge_body.ensures

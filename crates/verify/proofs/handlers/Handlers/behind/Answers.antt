@@ -1,0 +1,11 @@
+use Rattle.std.proofs.Common.{[], ◌++◌, Result, Ok, Err, OnOk, List, sym, subst}
+use Rattle.verify.specs.declared.exceptions.Entry.{Entry}
+use Rattle.verify.specs.Handling.{Tracks, IsSettled}
+use Rattle.verify.proofs.Tracking.{tracked_again}
+use Rattle.verify.proofs.InTurn.{again_by}
+use Rattle.verify.proofs.handlers.Handlers.behind.Goals as goal
+
+pub returns : goal.returns
+returns c = λ cs frames es at f g same t.
+    again_by es at (IsSettled cs frames at f) (IsSettled cs frames at g) c.args.self.now.by_start.items c.args.self.now.begun c.args.self.now.fresh.items c.args.self.now.settled.items
+    c.append.new.self.items c.append.new.other.items c.append.result c.append.ensures.items c.append.ensures.other_items t

@@ -1,0 +1,32 @@
+use Rattle.std.proofs.Common.{◌≡◌, Result, Ok, Err, sym, ap, subst, inl, inr, ◌⊎◌, ◌∙◌, Some}
+use Rattle.classfile.specs.Methods.{ExceptionEntry}
+use Rattle.frames.specs.DeclaredTables.{frames_in}
+use Rattle.rules.specs.Held.{held}
+use Rattle.rules.specs.Bodies.{method_view}
+use Rattle.rules.specs.Table.{plan}
+use Rattle.rules.specs.declared.reason.Reason.{Reason}
+use Rattle.rules.specs.declared.reason.Reason.TheVariants.{OutOfMemory}
+use Rattle.rules.specs.Reasons.{reason_view}
+use Rattle.verify.specs.ExceptionTables.{JudgesTable}
+use Rattle.verify.specs.Handling.{Follows}
+use Rattle.verify.specs.Verdict.{refused, told_of, table_judged, code_judged}
+use Rattle.verify.specs.Steps.{Gives}
+use Rattle.verify.proofs.method.judge_code.Goals as goal
+
+pub returns-in-Err : goal.returns-in-Err
+returns-in-Err g c =
+    let classes = g.C.Classes.content c.args.classes.now in
+    let m = method_view c.args.method.now in
+    let frames = frames_in c.args.frames.now in
+    let rest = code_judged plan classes m frames in
+    let judged = (subst (JudgesTable classes m frames m.exceptions) c.in-Err.is (subst (λ es. JudgesTable classes m frames es c.check_table.result) c.in_ok-table.ensures.all c.check_table.ensures)).outcome in
+    c.refuse.ensures (table_judged classes m frames m.exceptions rest)
+    (elim judged [ inl out ↦ inl out | inr why ↦ inr (ap told_of (why rest)) ])
+
+pub returns : goal.returns
+returns g c =
+    let classes = g.C.Classes.content c.args.classes.now in
+    let m = method_view c.args.method.now in
+    let frames = frames_in c.args.frames.now in
+    let judged = (subst (JudgesTable classes m frames m.exceptions) c.in_default.is (subst (λ es. JudgesTable classes m frames es c.check_table.result) c.in_ok-table.ensures.all c.check_table.ensures)).outcome in
+    subst (λ z. Gives z c.pass.result) (sym (judged (code_judged plan classes m frames))) c.pass.ensures

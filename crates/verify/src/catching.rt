@@ -1,0 +1,135 @@
+//! The frame in which an instruction raises, where an entry of the exception table leads (JVMS 4.10.1.6).
+ghost use Rattle.std.specs.Prelude.{◌≡◌, ◌≤◌, ◌∷◌, [], ℕ, length, map, reverse, option_map, IfOk, IfSome, OnOk};
+ghost use Rattle.hierarchy.specs.Answer.{outcome_of};
+ghost use Rattle.names.specs.References.{reference_view};
+ghost use Rattle.frames.specs.VerificationType.{type_of};
+ghost use Rattle.frames.specs.Slots.{to_reference};
+ghost use Rattle.frames.specs.Assignable.{type_answer};
+ghost use Rattle.frames.specs.FrameAssignable.{item_answer, list_answer, stack_answer, frame_answer};
+ghost use Rattle.frames.specs.DeclaredTables.{frames_in, locals_in, declared_view, IsOf};
+ghost use Rattle.frames.specs.HeldFrames.{held_locals};
+ghost use Rattle.rules.specs.After.{with_stack};
+ghost use Rattle.rules.specs.Held.{held};
+ghost use Rattle.verify.specs.ExceptionTables.{entry_view};
+ghost use Rattle.verify.specs.Catching.{caught_answer};
+ghost use Rattle.verify.specs.Keeping.{IsKnown};
+
+use crate::exceptions::Entry;
+use crate::keeping::Known;
+use frames::{Declared, DeclaredFrames, VType, assignable, both, reference_to, width};
+use hierarchy::{Answer, Classes};
+use names::RefType;
+use rules::Working;
+use std::alloc::AllocError;
+
+/// A stack with what is caught alone on it, to a stack from the bottom up.
+fn stack_answer<'a, C: Classes>(
+    caught: RefType<'a>,
+    stack: &[VType<'a>],
+    classes: &C,
+) -> Answer<'a>
+    ensures { outcome_of result ≡ stack_answer (item_answer (C.content classes.now)) (to_reference (reference_view caught.entry) ∷ []) (reverse (map type_of stack.now)) }
+{
+    match stack {
+        [item] => {
+            if width(item) != 1 {
+                return Answer::No;
+            }
+            assignable(&reference_to(caught), item, classes)
+        }
+        _ => Answer::No,
+    }
+}
+
+/// The locals of a frame to these, all beyond them being top.
+fn locals_answer<'a, C: Classes>(
+    frame: &Working<'a>,
+    locals: &[VType<'a>],
+    classes: &C,
+) -> Answer<'a>
+    requires { length locals.now ≤ length (held frame.now).locals }
+    ensures { let f = held frame.now in
+        outcome_of result ≡ list_answer (type_answer (C.content classes.now)) f.locals (held_locals locals.now (length f.locals)) }
+{
+    let mut so_far = Answer::Yes;
+    for i in 0..locals.len() {
+        let answer = assignable(&frame.local(i), &locals[i], classes);
+        if let Answer::No = answer {
+            return Answer::No;
+        }
+        so_far = both(so_far, answer);
+    }
+    so_far
+}
+
+/// The locals of a frame to those of a declared one. They are not compared where they are known to fit them.
+fn declared_answer<'n, 'a, C: Classes>(
+    frame: &Working<'a>,
+    declared: &Declared<'n, 'a>,
+    known: &mut Known<'n, 'a>,
+    room: &mut Vec<VType<'a>>,
+    classes: &C,
+) -> Result<Answer<'a>, AllocError>
+    requires size { length (declared_view declared.now).locals ≡ length (held frame.now).locals }
+    ensures told { (t : DeclaredFrames) → IsOf t declared.now → IsKnown (C.content classes.now) t (held frame.now) known.old
+        → IfOk result (λ a. outcome_of a ≡ list_answer (type_answer (C.content classes.now)) (held frame.now).locals (declared_view declared.now).locals) }
+    ensures known { (t : DeclaredFrames) → IsOf t declared.now → IsKnown (C.content classes.now) t (held frame.now) known.old
+        → IsKnown (C.content classes.now) t (held frame.now) known.new }
+{
+    if known.is_fit_by(declared) {
+        return Ok(Answer::Yes);
+    }
+    declared.write_locals(None, room)?;
+    let answer = locals_answer(frame, room, classes);
+    if let Answer::Yes = answer {
+        known.fits = Some(*declared);
+    }
+    Ok(answer)
+}
+
+/// The frame with what is caught alone on its stack, to a declared frame.
+fn frame_answer<'n, 'a, C: Classes>(
+    caught: RefType<'a>,
+    frame: &Working<'a>,
+    declared: &Declared<'n, 'a>,
+    known: &mut Known<'n, 'a>,
+    room: &mut Vec<VType<'a>>,
+    classes: &C,
+) -> Result<Answer<'a>, AllocError>
+    requires size { length (declared_view declared.now).locals ≡ length (held frame.now).locals }
+    ensures told { (t : DeclaredFrames) → IsOf t declared.now → IsKnown (C.content classes.now) t (held frame.now) known.old
+        → IfOk result (λ a. outcome_of a ≡ frame_answer (C.content classes.now) (with_stack (held frame.now) (to_reference (reference_view caught.entry) ∷ [])) (declared_view declared.now)) }
+    ensures known { (t : DeclaredFrames) → IsOf t declared.now → IsKnown (C.content classes.now) t (held frame.now) known.old
+        → IsKnown (C.content classes.now) t (held frame.now) known.new }
+{
+    if frame.flag() && !declared.flag() {
+        return Ok(Answer::No);
+    }
+    declared.write_stack(room)?;
+    let stack = stack_answer(caught, room, classes);
+    if let Answer::No = stack {
+        return Ok(Answer::No);
+    }
+    let locals = declared_answer(frame, declared, known, room, classes)?;
+    Ok(both(locals, stack))
+}
+
+/// The frame with what an entry catches alone on its stack, to that of the handler. In `room` the handler's frame is written.
+pub fn caught_answer<'n, 'a, C: Classes>(
+    entry: &Entry<'a>,
+    frame: &Working<'a>,
+    frames: &'n DeclaredFrames<'a>,
+    known: &mut Known<'n, 'a>,
+    room: &mut Vec<VType<'a>>,
+    classes: &C,
+) -> Result<Answer<'a>, AllocError>
+    requires size { length (held frame.now).locals ≡ locals_in frames.now }
+    requires known { IsKnown (C.content classes.now) frames.now (held frame.now) known.old }
+    ensures told { IfOk result (λ a. outcome_of a ≡ caught_answer (C.content classes.now) (frames_in frames.now) (held frame.now) (entry_view entry.now)) }
+    ensures known { IsKnown (C.content classes.now) frames.now (held frame.now) known.new }
+{
+    match frames.find(u32::from(entry.handler)) {
+        None => Ok(Answer::No),
+        Some(declared) => frame_answer(entry.caught, frame, &declared, known, room, classes),
+    }
+}
