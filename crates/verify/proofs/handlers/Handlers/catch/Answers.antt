@@ -1,3 +1,4 @@
+use Rattle.std.proofs.lemmas.Result.{err_from_is_err_and}
 use Rattle.frames.specs.DeclaredTables.{frames_in}
 use Rattle.rules.specs.Held.{held}
 use Rattle.verify.proofs.InTurn.{catch_done, catch_missing, catch_reason}
@@ -9,7 +10,9 @@ returns-in_err-settle-clause-caught g c = λ es t.
     let frames = frames_in c.args.frames.now in
     let f = held c.args.frame.now in
     let (follows, ahead) = c.in_ok-come_to.ensures classes frames es f t in
-    catch_reason classes frames es c.args.at f c.settle.new.self _ (c.in_err-settle.ensures.settled es follows ahead)
+    let p = err_from_is_err_and c.from_residual-in_err-settle.result c.from_residual-in_err-settle.ensures.1 in
+    rw (p.1, p.2)
+    (catch_reason classes frames es c.args.at f c.settle.new.self c.in_err-settle.field-0.0 (c.in_err-settle.ensures.settled es follows ahead))
 
 pub returns-in-None-clause-caught : goal.returns-in-None-clause-caught
 returns-in-None-clause-caught g c = λ es t.
