@@ -1,6 +1,6 @@
 -- Entries that cover an instruction, compared one after the other.
 use Rattle.std.proofs.Common.{◌≡◌, ◌⊎◌, ℕ, ◌≤◌, ◌<◌, true, List, [], ◌∷◌, ◌++◌, length, Option, Some, None, Result, Ok, Err, refl, sym, ◌∙◌, ap, subst, arith, inl, inr, slice_get}
-use Rattle.std.specs.Prelude.{IfSome, MatchOption, OnOk, is_ok, slice_index_or, if◌then◌else◌}
+use Rattle.std.specs.Prelude.{IfSome, MatchOption, OnOk, IsOk, is_ok, slice_index_or, if◌then◌else◌}
 use Rattle.classfile.specs.Methods.{ExceptionEntry, covers}
 use Rattle.hierarchy.specs.Class.{ClassFact}
 use Rattle.hierarchy.specs.Answer.{Outcome, yes, no, missing}
@@ -166,3 +166,14 @@ again_by es at was_so now_so by_start begun fresh settled now left (Err e) p q t
 pub none_left : (xs : List Entry) (n : ℕ) → n ≡ length xs → n ≡ 0 → xs ≡ []
 none_left [] n e z = refl
 none_left (x ∷ xs) n e z = absurd (omega (arith, e, z))
+
+-- the same at a later offset
+pub follows_later : (classes : List ClassFact) (frames : Frames) (es : List ExceptionEntry) (at to : ℕ) (f : FrameFact) (h : Handlers) → at ≤ to
+    → Follows classes frames es at f h → Follows classes frames es to f h
+follows_later classes frames es at to f h le t =
+    tracked_later es at (IsSettled classes frames at f) h.by_start.items h.begun h.fresh.items h.settled.items to (IsSettled classes frames to f) le
+    (λ e s lt. s (omega (arith, le, lt))) t
+
+pub when_ok : {T E : Type 0} (P : Type 0) (r : Result T E) → IsOk r → OnOk r P → P
+when_ok P (Ok x) e p = p
+when_ok P (Err x) e p = cc

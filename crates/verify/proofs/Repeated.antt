@@ -17,7 +17,7 @@ use Rattle.verify.specs.Steps.{Judges}
 use Rattle.verify.specs.Targets.{IsPlace, WasSeen, Compares}
 use Rattle.std.specs.Prelude.{int_lt}
 use Rattle.insn.specs.Offsets.{StartsRise}
-use Rattle.machine.proofs.Targets.{past_last}
+use Rattle.insn.proofs.Places.{past_last}
 use Rattle.verify.proofs.Merging.{merge, least_append}
 
 -- the second adds nothing to the first

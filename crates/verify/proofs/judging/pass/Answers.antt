@@ -12,13 +12,16 @@ use Rattle.rules.specs.declared.reason.Reason.{Reason}
 use Rattle.rules.specs.Held.{held}
 use Rattle.rules.specs.Outcomes.{Done}
 use Rattle.rules.specs.Table.{plan}
-use Rattle.rules.specs.Ways.{goes_on}
+use Rattle.rules.specs.Ways.{goes_on, keeps_locals}
 use Rattle.frames.specs.DeclaredTables.{frames_in, declared_view}
-use Rattle.verify.specs.Keeping.{IsKnown}
+use Rattle.verify.specs.Keeping.{IsKnown, IsSameBeneath}
 use Rattle.verify.specs.Handling.{Follows}
 use Rattle.verify.specs.Steps.{Enters}
 use Rattle.verify.specs.Verdict.{entered, at_conditions, code_judged}
 use Rattle.verify.proofs.Onward.{left, steps, no_stop, at_end, step_within, last_is, keeps_length, stops_in, stops_at, goes_done}
+use Rattle.std.specs.Prelude.{IsOk}
+use Rattle.verify.proofs.InTurn.{follows_later, when_ok}
+use Rattle.verify.proofs.Comparing.{same_behind}
 use Rattle.verify.proofs.Kept.{known_same, kept_here, fit_here}
 use Rattle.verify.proofs.judging.pass.Goals as goal
 
@@ -65,6 +68,41 @@ catch-caught-requires-clause-known g c =
 pub judge-judged-requires-clause-known : goal.judge-judged-requires-clause-known
 judge-judged-requires-clause-known g c =
     c.behind-known.ensures (g.C.Classes.content c.args.classes.now) c.args.frames.now (method_view c.args.method.now) c.in-Ok.at (held c.enter.new.frame) c.catch-caught.ensures.known
+
+pub judge-judged-requires-clause-caught : goal.judge-judged-requires-clause-caught
+judge-judged-requires-clause-caught g c =
+    let classes = g.C.Classes.content c.args.classes.now in
+    let m = method_view c.args.method.now in
+    let frames = frames_in c.args.frames.now in
+    let f = held c.loop-step.frame in
+    let now = held c.enter.new.frame in
+    let x : ℕ × Insn = (c.in-Ok.at, c.in-Ok.insn) in
+    let here = (step_within located c.loop-step.code c.next.new.self c.in-Some.step x c.in-Some.ensures.steps c.in-Ok.is).0 in
+    let declared = option_map declared_view c.find-declared.result in
+    let came = (subst (Enters classes c.loop-step.comes f declared now) c.in_default-enter.is c.enter.ensures.entered).outcome in
+    let before = subst (λ n. Follows classes frames m.exceptions n f c.loop-step.handlers) here c.loop-step.invariant.handlers in
+    let same = λ (e : c.keeps-same.result ≡ true). subst (IsSameBeneath f) (sym came.1) (c.keeps-same.ensures classes c.args.frames.now f e (sym c.flag.ensures) c.find-declared.ensures.own c.loop-step.invariant.known) in
+    let followed = c.in_ok-behind.ensures classes frames m.exceptions x.0 f now same before in
+    let arrived = c.in_ok-come_to.ensures classes frames m.exceptions now followed in
+    let looked = c.in_ok-covered.ensures classes frames m.exceptions arrived.0 arrived.1 in
+    (c.catch-caught.ensures.caught m.exceptions looked.1 looked.2).judged
+
+pub judge-judged-requires-clause-covered : goal.judge-judged-requires-clause-covered
+judge-judged-requires-clause-covered g c =
+    let classes = g.C.Classes.content c.args.classes.now in
+    let m = method_view c.args.method.now in
+    let frames = frames_in c.args.frames.now in
+    let f = held c.loop-step.frame in
+    let now = held c.enter.new.frame in
+    let x : ℕ × Insn = (c.in-Ok.at, c.in-Ok.insn) in
+    let here = (step_within located c.loop-step.code c.next.new.self c.in-Some.step x c.in-Some.ensures.steps c.in-Ok.is).0 in
+    let declared = option_map declared_view c.find-declared.result in
+    let came = (subst (Enters classes c.loop-step.comes f declared now) c.in_default-enter.is c.enter.ensures.entered).outcome in
+    let before = subst (λ n. Follows classes frames m.exceptions n f c.loop-step.handlers) here c.loop-step.invariant.handlers in
+    let same = λ (e : c.keeps-same.result ≡ true). subst (IsSameBeneath f) (sym came.1) (c.keeps-same.ensures classes c.args.frames.now f e (sym c.flag.ensures) c.find-declared.ensures.own c.loop-step.invariant.known) in
+    let followed = c.in_ok-behind.ensures classes frames m.exceptions x.0 f now same before in
+    let arrived = c.in_ok-come_to.ensures classes frames m.exceptions now followed in
+    (c.in_ok-covered.ensures classes frames m.exceptions arrived.0 arrived.1).0
 
 pub unreachable-requires : goal.unreachable-requires
 unreachable-requires g c =
@@ -130,6 +168,18 @@ loop-step-preserved g c =
     subst (λ b. Done (at_conditions classes m frames x.0 (plan m b) next g1) (after m x.0 (plan m b) g1) (held c.judge-judged.new.frame) c.judge-judged.result) c.act-act.ensures
     (c.judge-judged.ensures.judged next (last_is c.next.new.self one.others one.read ∙ sym c.is_at_end-last.ensures)) in
     let well = subst (Done (at_conditions classes m frames x.0 (plan m a.1) next g1) (after m x.0 (plan m a.1) g1) (held c.judge-judged.new.frame)) c.in_default-judged.is done in
+    let within = step_within located c.loop-step.code c.next.new.self c.in-Some.step x c.in-Some.ensures.steps c.in-Ok.is in
+    let declared = option_map declared_view c.find-declared.result in
+    let entered_now = (subst (Enters classes comes f declared g1) c.in_default-enter.is c.enter.ensures.entered).outcome in
+    let before = subst (λ n. Follows classes frames m.exceptions n f c.loop-step.handlers) within.0 c.loop-step.invariant.handlers in
+    let same_in = λ (e : c.keeps-same.result ≡ true). subst (IsSameBeneath f) (sym entered_now.1) (c.keeps-same.ensures classes c.args.frames.now f e (sym c.flag.ensures) c.find-declared.ensures.own c.loop-step.invariant.known) in
+    let followed = c.in_ok-behind.ensures classes frames m.exceptions x.0 f g1 same_in before in
+    let ok = subst (λ (r : Result Unit Reason). OnOk r (IsOk c.catch-caught.result)) c.in_default-judged.is c.judge-judged.ensures.caught in
+    let arrived = c.in_ok-come_to.ensures classes frames m.exceptions g1 followed in
+    let looked = c.in_ok-covered.ensures classes frames m.exceptions arrived.0 arrived.1 in
+    let caught = when_ok (Follows classes frames m.exceptions x.0 g1 c.catch-caught.new.self) c.catch-caught.result ok (c.catch-caught.ensures.caught m.exceptions looked.1 looked.2).followed in
+    let same_out = λ (e : c.keeps_locals.result ≡ true). same_behind m x.0 a.1 g1 (held c.judge-judged.new.frame) (sym (ap keeps_locals c.act-act.ensures) ∙ sym c.keeps_locals.ensures ∙ e) well.outcome.1 in
+    let behind = c.in_ok-behind-2.ensures classes frames m.exceptions x.0 g1 (held c.judge-judged.new.frame) same_out caught in
     record {
       left = record {
         instructions = one.others;
@@ -144,6 +194,7 @@ loop-step-preserved g c =
           keeps_length m x.0 (plan m a.1) g1 (held c.judge-judged.new.frame) c.args.method.now.code.now.max_locals
           (c.in_default-enter.ensures.locals ∙ c.loop-step.invariant.locals) well.outcome.1;
       known = subst (λ (r : Result Unit Reason). OnOk r (IsKnown classes c.args.frames.now (held c.judge-judged.new.frame) c.judge-judged.new.known)) c.in_default-judged.is c.judge-judged.ensures.known;
+      handlers = follows_later classes frames m.exceptions x.0 c.next.new.self.at (held c.judge-judged.new.frame) c.behind-in-Some.new.self (omega (arith, within.0, within.1, within.2)) behind;
     }
 
 pub returns : goal.returns

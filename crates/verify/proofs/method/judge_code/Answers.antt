@@ -1,4 +1,4 @@
-use Rattle.std.proofs.Common.{◌≡◌, Result, Ok, Err, sym, ap, subst, inl, inr, ◌⊎◌, ◌∙◌, Some}
+use Rattle.std.proofs.Common.{◌≡◌, List, Result, Ok, Err, sym, ap, subst, inl, inr, ◌⊎◌, ◌∙◌, Some, map}
 use Rattle.classfile.specs.Methods.{ExceptionEntry}
 use Rattle.frames.specs.DeclaredTables.{frames_in}
 use Rattle.rules.specs.Held.{held}
@@ -7,7 +7,7 @@ use Rattle.rules.specs.Table.{plan}
 use Rattle.rules.specs.declared.reason.Reason.{Reason}
 use Rattle.rules.specs.declared.reason.Reason.TheVariants.{OutOfMemory}
 use Rattle.rules.specs.Reasons.{reason_view}
-use Rattle.verify.specs.ExceptionTables.{JudgesTable}
+use Rattle.verify.specs.ExceptionTables.{entry_view, JudgesTable}
 use Rattle.verify.specs.Handling.{Follows}
 use Rattle.verify.specs.Verdict.{refused, told_of, table_judged, code_judged}
 use Rattle.verify.specs.Steps.{Gives}
@@ -19,7 +19,7 @@ returns-in-Err g c =
     let m = method_view c.args.method.now in
     let frames = frames_in c.args.frames.now in
     let rest = code_judged plan classes m frames in
-    let judged = (subst (JudgesTable classes m frames m.exceptions) c.in-Err.is (subst (λ es. JudgesTable classes m frames es c.check_table.result) c.in_ok-table.ensures.all c.check_table.ensures)).outcome in
+    let judged = (subst (JudgesTable classes m frames m.exceptions) c.in-Err.is (subst (λ es. JudgesTable classes m frames es c.check_table.result) (ap (map entry_view) c.deref.ensures.value ∙ c.in_ok-table.ensures.all) c.check_table.ensures)).outcome in
     c.refuse.ensures (table_judged classes m frames m.exceptions rest)
     (elim judged [ inl out ↦ inl out | inr why ↦ inr (ap told_of (why rest)) ])
 
@@ -28,5 +28,12 @@ returns g c =
     let classes = g.C.Classes.content c.args.classes.now in
     let m = method_view c.args.method.now in
     let frames = frames_in c.args.frames.now in
-    let judged = (subst (JudgesTable classes m frames m.exceptions) c.in_default.is (subst (λ es. JudgesTable classes m frames es c.check_table.result) c.in_ok-table.ensures.all c.check_table.ensures)).outcome in
+    let judged = (subst (JudgesTable classes m frames m.exceptions) c.in_default.is (subst (λ es. JudgesTable classes m frames es c.check_table.result) (ap (map entry_view) c.deref.ensures.value ∙ c.in_ok-table.ensures.all) c.check_table.ensures)).outcome in
     subst (λ z. Gives z c.pass.result) (sym (judged (code_judged plan classes m frames))) c.pass.ensures
+
+pub pass-requires-clause-handlers : goal.pass-requires-clause-handlers
+pass-requires-clause-handlers g c =
+    let classes = g.C.Classes.content c.args.classes.now in
+    let frames = frames_in c.args.frames.now in
+    let f = held c.args.frame.now in
+    subst (λ (es : List ExceptionEntry). Follows classes frames es 0 f c.in_ok-handlers.handlers) c.in_ok-table.ensures.all (c.in_ok-handlers.ensures classes frames f)
