@@ -24,9 +24,15 @@ def stack_map(entries):
     return struct.pack(">H", len(entries)) + b"".join(entries)
 
 
-def method(name, code, max_stack, max_locals, body_of_map=None):
-    """A static method ()V of this code, whose name is the entry of this index, with this body of a StackMapTable if one is given."""
+def handler(start, end, to):
+    """An entry of an exception table that catches all."""
+    return struct.pack(">HHHH", start, end, to, 0)
+
+
+def method(name, code, max_stack, max_locals, body_of_map=None, handlers=()):
+    """A static method ()V of this code, whose name is the entry of this index, with this body of a StackMapTable if one is given, and with
+    these entries of an exception table."""
     nested = [] if body_of_map is None else [struct.pack(">HI", 7, len(body_of_map)) + body_of_map]
-    behind = bytes(2) + struct.pack(">H", len(nested)) + b"".join(nested)
+    behind = struct.pack(">H", len(handlers)) + b"".join(handlers) + struct.pack(">H", len(nested)) + b"".join(nested)
     body = struct.pack(">HHI", max_stack, max_locals, len(code)) + code + behind
     return struct.pack(">HHHHHI", 9, name, 5, 1, 6, len(body)) + body
