@@ -5,7 +5,7 @@ use Rattle.classfile.specs.Methods.{Method, ExceptionEntry, covers}
 use Rattle.hierarchy.specs.Class.{ClassFact}
 use Rattle.hierarchy.specs.Answer.{Outcome, yes, no, missing}
 use Rattle.insn.specs.Meanings.{Act}
-use Rattle.insn.specs.Offsets.{led_to}
+use Rattle.insn.specs.Offsets.{at_offset, led_to}
 use Rattle.frames.specs.FrameFact.{FrameFact}
 use Rattle.frames.specs.FrameAssignable.{frame_answer}
 use Rattle.frames.specs.Conditions.{Reason, reason, number_of, Conditions, lesser, least}
@@ -32,7 +32,7 @@ AreLate (c ∷ cs) = (67 ≤ number_of c.0) × AreLate cs
 
 late_append : (cs ds : Conditions) → AreLate cs → AreLate ds → AreLate (cs ++ ds)
 late_append [] ds p q = q
-late_append p (c ∷ cs) ds p q = (p.0, late_append cs ds p.1 q)
+late_append (c ∷ cs) ds p q = (p.0, late_append cs ds p.1 q)
 
 abbrev IsLate : Option Reason → Type 0
 IsLate None = Unit {0}
@@ -75,7 +75,7 @@ target_late classes (Some g) f = answer_late 68 (frame_answer classes f g) (omeg
 targets_late : (classes : List ClassFact) (frames : Frames) (f : FrameFact) (ts : List ℤ) → AreLate (target_conditions classes frames f ts)
 targets_late classes frames f [] = tt
 targets_late classes frames f (t ∷ ts) =
-    late_append p (one_target classes (declared_at frames t) f) (target_conditions classes frames f ts) (target_late classes (declared_at frames t) f)
+    late_append (one_target classes (declared_at frames t) f) (target_conditions classes frames f ts) (target_late classes (declared_at frames t) f)
     (targets_late classes frames f ts)
 
 handler_late : (classes : List ClassFact) (o : Option FrameFact) (f : FrameFact) → AreLate (one_handler classes o f)
@@ -84,7 +84,7 @@ handler_late classes (Some g) f = answer_late 73 (frame_answer classes f g) (ome
 
 handlers_late : (classes : List ClassFact) (frames : Frames) (at : ℕ) (f : FrameFact) (es : List ExceptionEntry) → AreLate (handler_conditions classes frames at f es)
 handlers_late classes frames at f [] = tt
-handlers_late classes frames at f (e ∷ es) = late_append p (one (covers e at)) (handler_conditions classes frames at f es) (late (covers e at)) (handlers_late classes frames at f es)
+handlers_late classes frames at f (e ∷ es) = late_append (one (covers e at)) (handler_conditions classes frames at f es) (late (covers e at)) (handlers_late classes frames at f es)
   where
     one : Bool → Conditions
     one b = if b then one_handler classes (at_offset frames e.handler) (caught_frame e f) else []
@@ -132,7 +132,7 @@ module _ (classes : List ClassFact) (m : Method Act) (frames : Frames) (at : ℕ
   end_late : (p : Plan) (b : Bool) → AreLate (end p b)
   end_late p b =
       late_append caught ((reason 71, b) ∷ (reason 75, constructs_own p f && is_covered m.exceptions at) ∷ []) (handlers_late classes frames at f m.exceptions)
-      (omega arith, omega arith, tt)
+      (omega arith, (omega arith, tt))
 
   -- an early reason of the rule is that of all
   early_all : (p : Plan) (next : Option ℕ) (n : ℕ) → least (conditions classes m at p f) ≡ Some (reason n) → n < 67

@@ -282,11 +282,11 @@ any_covers (x ∷ es) at (suc place) e i c = ap (λ b. covers x at || b) (any_co
 
 none_covers : (es : List ExceptionEntry) (at : ℕ) → ((place : ℕ) (e : ExceptionEntry) → slice_get es place ≡ Some e → covers e at ≡ true → ⊥) → is_covered es at ≡ false
 none_covers [] at h = refl
-none_covers (x ∷ es) at h = by (covers x at) (h 0 x refl)
+none_covers (x ∷ es) at h = neither (covers x at) (is_covered es at) (h 0 x refl) (none_covers es at (λ place e i. h (suc place) e i))
   where
-    by : (b : Bool) → (b ≡ true → ⊥) → (b || is_covered es at) ≡ false
-    by true f = absurd (f refl)
-    by false f = none_covers es at (λ place e i. h (suc place) e i)
+    neither : (a b : Bool) → (a ≡ true → ⊥) → b ≡ false → (a || b) ≡ false
+    neither true b f e = absurd (f refl)
+    neither false b f e = e
 
 module _ (es : List ExceptionEntry) (at : ℕ) (is_so : Entry → Type 0) (by_start : List Entry) (begun : ℕ) where
   -- one has begun and has not ended

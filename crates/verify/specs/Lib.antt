@@ -8,7 +8,6 @@ pub mod Refusals
 pub mod Steps
 pub mod Listed
 pub mod FinalSuper
-pub mod Judged
 pub mod Answers
 pub mod Reports
 pub mod OneVerdict

@@ -9,7 +9,7 @@ returns-in_err-settle-clause-caught g c = λ es follows ahead.
     let classes = g.C.Classes.content c.args.classes.now in
     let frames = frames_in c.args.frames.now in
     let f = held c.args.frame.now in
-    let p = err_from_is_err_and c.from_residual-in_err-settle.result c.from_residual-in_err-settle.ensures.1 in
+    let p = err_from_is_err_and c.from_residual.result c.from_residual.ensures.1 in
     rw (p.1, p.2)
     (catch_reason classes frames es c.args.at f c.settle.new.self c.in_err-settle.field-0.0 (c.in_err-settle.ensures.settled es follows ahead))
 
