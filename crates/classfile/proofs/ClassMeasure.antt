@@ -123,7 +123,7 @@ member_measure : (pool : List Entry) (place : Location) (m : Member) → Measure
 member_measure pool place m = measured_append (three_measure m.access_flags m.name m.descriptor) (measured_table (attribute_measure pool place) m.attributes)
 
 component_measure : (pool : List Entry) (c : Component) → Measured (component_pieces pool c) (component_fits c) (component_size c)
-component_measure pool c = measured_append (measured_2 c.name) (measured_append (measured_2 c.descriptor) (measured_table (attribute_measure pool location.RecordComponent) c.attributes))
+component_measure pool c = measured_append (measured_append (measured_2 c.name) (measured_2 c.descriptor)) (measured_table (attribute_measure pool location.RecordComponent) c.attributes)
 
 class_attribute_measure : (pool : List Entry) (place : Location) (x : ClassAttribute) → Measured (class_attribute_pieces pool place x) (class_attribute_fits x) (class_attribute_size x)
 class_attribute_measure pool place (by_field name components) =

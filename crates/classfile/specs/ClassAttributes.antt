@@ -8,7 +8,7 @@ use Rattle.classfile.specs.Values.{Component, ClassAttribute}
 
 -- the numbers of two bytes each, one behind the other
 abbrev pub numbers_in : List ℕ → List ℕ
-numbers_in (high ∷ low ∷ bytes) = high * 256 + low ∷ numbers_in bytes
+numbers_in (high ∷ low ∷ bytes) = (high * 256 + low) ∷ numbers_in bytes
 numbers_in bytes = []
 
 -- those behind a count of two bytes

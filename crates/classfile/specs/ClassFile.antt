@@ -74,10 +74,13 @@ member pool place = andthen three (λ head. andthen (attributes pool place) (λ 
 unfoldable pub members : List Entry → Location → Format (List Member)
 members pool place = table (member pool place)
 
+unfoldable pub two : Format (ℕ × ℕ)
+two = andthen (number 2) (λ a. andthen (number 2) (λ b. done (a, b)))
+
 -- a component of a record: the indices of its name and descriptor, and its attributes
 unfoldable pub component : List Entry → Format Component
-component pool = andthen (number 2) (λ name. andthen (number 2) (λ descriptor. andthen (attributes pool location.RecordComponent) (λ attributes.
-    done (record { name = name; descriptor = descriptor; attributes = attributes }))))
+component pool = andthen two (λ head. andthen (attributes pool location.RecordComponent) (λ attributes.
+    done (record { name = head.0; descriptor = head.1; attributes = attributes })))
 
 -- the body of a Record attribute
 unfoldable pub components : List Entry → Format (List Component)

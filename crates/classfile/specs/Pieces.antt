@@ -15,7 +15,7 @@ use Rattle.classfile.specs.declared.location.Location.TheVariants as location
 use Rattle.classfile.specs.Locations.{is_code, is_stack_map, is_record}
 use Rattle.classfile.specs.Layouts.{is_laid_out}
 use Rattle.classfile.specs.Values.{Handler, Nested, CodeBody, Attribute, Member, Component, ClassAttribute, Class}
-use Rattle.classfile.specs.ClassFile.{Sizes, kept, handler, nested, sizes, handlers, nested_attributes, code, attribute, attributes, three, member, members, component, components, class_attribute, class_attributes, is_version, version, interfaces, class}
+use Rattle.classfile.specs.ClassFile.{Sizes, kept, handler, nested, sizes, handlers, nested_attributes, code, attribute, attributes, three, member, members, two, component, components, class_attribute, class_attributes, is_version, version, interfaces, class}
 
 -- ---- what each part is written as
 
@@ -51,8 +51,11 @@ three_pieces x = field 2 x.0 ++ (field 2 x.1 ++ field 2 x.2)
 abbrev pub member_pieces : List Entry → Location → Member → List Piece
 member_pieces pool place m = three_pieces (m.access_flags, m.name, m.descriptor) ++ counted (attribute_pieces pool place) m.attributes
 
+abbrev pub two_pieces : ℕ × ℕ → List Piece
+two_pieces x = field 2 x.0 ++ field 2 x.1
+
 abbrev pub component_pieces : List Entry → Component → List Piece
-component_pieces pool c = field 2 c.name ++ (field 2 c.descriptor ++ counted (attribute_pieces pool location.RecordComponent) c.attributes)
+component_pieces pool c = two_pieces (c.name, c.descriptor) ++ counted (attribute_pieces pool location.RecordComponent) c.attributes
 
 abbrev pub class_attribute_pieces : List Entry → Location → ClassAttribute → List Piece
 class_attribute_pieces pool place = headed_pieces (is_record pool place) (is_laid_out pool place) (counted (component_pieces pool))
@@ -204,13 +207,17 @@ pub writes_members : (pool : List Entry) (place : Location) → Writes (members 
 unfolding members
 writes_members pool place = made_counted number_2 (writes_member pool place)
 
-component_of : ℕ → ℕ → List Attribute → Component
-component_of name descriptor attributes = record { name = name; descriptor = descriptor; attributes = attributes }
+pair : ℕ → ℕ → ℕ × ℕ
+pair a b = (a, b)
+
+pub writes_two : Writes two two_pieces
+unfolding two pair
+writes_two = made_whole {A = ℕ × ℕ} (λ x. x) (λ x. refl) (λ a. refl) (made_then _ (made_number 2 number_2) (λ a. made_last (λ b. pair a b) (made_number 2 number_2)))
 
 pub writes_component : (pool : List Entry) → Writes (component pool) (component_pieces pool)
-unfolding component component_of
-writes_component pool = made_whole {A = ℕ × (ℕ × List Attribute)} (λ c. (c.name, (c.descriptor, c.attributes))) (λ c. refl) (λ a. refl)
-    (made_then _ (made_number 2 number_2) (λ n. made_then _ (made_number 2 number_2) (λ d. made_last (λ a. component_of n d a) (writes_attributes pool location.RecordComponent))))
+unfolding component
+writes_component pool = made_whole {A = (ℕ × ℕ) × List Attribute} (λ c. ((c.name, c.descriptor), c.attributes)) (λ c. refl) (λ a. refl)
+    (made_then _ writes_two (λ h. made_last _ (writes_attributes pool location.RecordComponent)))
 
 pub writes_components : (pool : List Entry) → Writes (components pool) (counted (component_pieces pool))
 unfolding components

@@ -105,10 +105,10 @@ abbrev pub member_size : Member → ℕ
 member_size m = 6 + table_size attribute_size m.attributes
 
 abbrev pub component_fits : Component → Bool
-component_fits c = is_u2 c.name && (is_u2 c.descriptor && table_fits attribute_fits c.attributes)
+component_fits c = (is_u2 c.name && is_u2 c.descriptor) && table_fits attribute_fits c.attributes
 
 abbrev pub component_size : Component → ℕ
-component_size c = 2 + (2 + table_size attribute_size c.attributes)
+component_size c = 4 + table_size attribute_size c.attributes
 
 abbrev pub class_attribute_fits : ClassAttribute → Bool
 class_attribute_fits (by_field name components) = is_u2 name && table_fits component_fits components

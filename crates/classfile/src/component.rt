@@ -3,7 +3,7 @@ ghost use Rattle.std.specs.Prelude.{◌≡◌, ◌+◌, ◌<◌, ◌^◌, length
 ghost use Rattle.layout.specs.Faults.{GoesOn, Settles};
 ghost use Rattle.layout.specs.PieceLaws.{counted};
 ghost use Rattle.layout.specs.Pieces.{Goes};
-ghost use Rattle.classfile.specs.ClassFile.{components};
+ghost use Rattle.classfile.specs.ClassFile.{two, components};
 ghost use Rattle.classfile.specs.Pieces.{component_pieces};
 ghost use Rattle.classfile.specs.Views.{component_view};
 
@@ -24,6 +24,16 @@ pub struct Component<'a> {
     pub descriptor: u16,
     /// The attributes item.
     pub attributes: Vec<Attribute<'a>>,
+}
+
+/// Two numbers of two bytes.
+#[tactic(auto, unfolding(crate::specs::ClassFile::two))]
+fn two(cursor: &mut Cursor<'_>) -> Result<(u16, u16), ReadFault>
+    ensures { GoesOn two (λ x. x) cursor.old cursor.new result }
+{
+    let first = cursor.u2()?;
+    let second = cursor.u2()?;
+    Ok((first, second))
 }
 
 impl<'a> Item<'a> for Component<'a> {
@@ -47,8 +57,7 @@ impl<'a> Item<'a> for Component<'a> {
         _location: Location,
         cursor: &mut Cursor<'a>,
     ) -> Result<Self, ReadFault> {
-        let name = cursor.u2()?;
-        let descriptor = cursor.u2()?;
+        let (name, descriptor) = two(cursor)?;
         let attributes = attributes(alloc, pool, Location::RecordComponent, cursor)?;
         Ok(Component {
             name,
