@@ -2,7 +2,7 @@
 use Rattle.std.specs.Prelude.{ℕ, ◌+◌, ◌*◌, if◌then◌else◌, List, [], ◌∷◌}
 use Rattle.layout.specs.PieceLaws.{fields as by_field, raw}
 use Rattle.pool.specs.Entries.{Entry}
-use Rattle.classfile.specs.declared.location.Location.{Location}
+use Rattle.classfile.specs.declared.location.Location.TheVariants as location
 use Rattle.classfile.specs.Locations.{is_permitted_subclasses}
 use Rattle.classfile.specs.Values.{Component, ClassAttribute}
 
@@ -21,7 +21,7 @@ abbrev pub components_of : ClassAttribute → List Component
 components_of (by_field name components) = components
 components_of (raw name body) = []
 
--- the indices of the classes that an attribute permits; one that is no PermittedSubclasses permits none
-abbrev pub permitted_of : List Entry → Location → ClassAttribute → List ℕ
-permitted_of pool place (by_field name components) = []
-permitted_of pool place (raw name body) = if is_permitted_subclasses pool place name then counted_in body else []
+-- the indices of the classes that an attribute permits, in a class file of this major version; one that is no PermittedSubclasses permits none
+abbrev pub permitted_of : ℕ → List Entry → ClassAttribute → List ℕ
+permitted_of major pool (by_field name components) = []
+permitted_of major pool (raw name body) = if is_permitted_subclasses pool (location.Class major) name then counted_in body else []

@@ -111,7 +111,6 @@ impl<'a> Item<'a> for ClassAttribute<'a> {
 
 impl<'a> ClassAttribute<'a> {
     ghost use Rattle.classfile.specs.ClassAttributes.{components_of, numbers_in, permitted_of};
-    ghost use Rattle.classfile.specs.declared.location.Location.TheVariants as locations;
 
     /// The components of a Record attribute (JVMS 4.7.30); none of another.
     pub fn components(&self) -> &[Component<'a>]
@@ -126,7 +125,7 @@ impl<'a> ClassAttribute<'a> {
     /// The classes item of a PermittedSubclasses attribute (JVMS 4.7.31) in a class file of this pool and major version: in
     /// each two bytes the index of a Class. Nothing of another attribute.
     pub fn permitted_subclasses(&self, pool: &Pool<'_>, major: u16) -> &'a [u8]
-        ensures { numbers_in result.now ≡ permitted_of pool.now (locations.Class major) (class_attribute_view self.now) }
+        ensures { numbers_in result.now ≡ permitted_of major pool.now (class_attribute_view self.now) }
     {
         let ClassAttribute::Raw { name, body } = self else {
             return &[];
