@@ -1,6 +1,7 @@
 //! The lines of a class's attributes: the components of a record (JVMS 4.7.30) and what a sealed class permits (4.7.31).
-ghost use Rattle.std.specs.Prelude.{◌≡◌, map};
+ghost use Rattle.std.specs.Prelude.{◌≡◌, ◌<◌, [], ◌∷◌, IfSome, length, map};
 ghost use Rattle.std.specs.List.{flat_map};
+ghost use Rattle.std.specs.Option.{option_map_or};
 ghost use Rattle.classfile.specs.ClassAttributes.{numbers_in};
 ghost use Rattle.classfile.specs.Views.{component_view, class_attribute_view};
 ghost use Rattle.printing.specs.Writing.{Writes};
@@ -77,13 +78,23 @@ impl<'p, 'a> Print for Permits<'p, 'a> {
     }
 }
 
+/// The number of two bytes in front, and the bytes behind it.
+fn first_number(bytes: &[u8]) -> Option<(u16, &[u8])>
+    ensures number { option_map_or (λ x. x.0 ∷ numbers_in x.1.now) result [] ≡ numbers_in bytes.entry.now }
+    ensures shorter { IfSome result (λ x. length x.1.now < length bytes.entry.now) }
+{
+    let [high, low, others @ ..] = bytes else {
+        return None;
+    };
+    Some((u16::from(*high) * 256 + u16::from(*low), others))
+}
+
 /// The lines of classes that are permitted, of each its index in two bytes.
 fn put_permitted<W: Write>(pool: &Pool<'_>, indices: &[u8], out: &mut W) -> Result<(), WriteFailed>
     ensures { Writes (W.contents out.old) (W.contents out.new) (flat_map (permits_line pool.now) (numbers_in indices.now)) result }
 {
     let mut rest = indices;
-    while let [high, low, others @ ..] = rest {
-        let index = u16::from(*high) * 256 + u16::from(*low);
+    while let Some((index, others)) = first_number(rest) {
         match Permits(ClassName { pool, index }).put(out) {
             Ok(()) => rest = others,
             Err(failed) => return Err(failed),
