@@ -1,11 +1,12 @@
 use crate::making::{K, are_written};
 use classfile::{
-    Attribute, ClassFile, CodeAttr, Member, NestedAttribute, class_or_fault, decode, encode,
-    formed_has_names, formed_or_faulty, least_rule_is_told, no_fault_in_class, no_fault_in_formed,
-    one_class, one_fault, one_first_fault, one_spelling, tests_are_forms,
+    Attribute, ClassAttribute, ClassFile, CodeAttr, Component, Member, NestedAttribute,
+    class_or_fault, decode, encode, formed_has_names, formed_or_faulty, least_rule_is_told,
+    no_fault_in_class, no_fault_in_formed, one_class, one_fault, one_first_fault, one_spelling,
+    tests_are_forms,
 };
 use layout::{ReadFault, WriteFault};
-use std::alloc::{AllocError, Global};
+use std::alloc::Global;
 use std::test::*;
 
 /// The class with a StackMapTable of no frames in its Code attribute.
@@ -106,24 +107,17 @@ fn refused_to_write(rt: HostRuntime) {
     assert!(rt; write_fault(alloc, 51, 65_536) == Some(WriteFault::DoesNotFit));
 }
 
-/// Attributes of which one is named `Code`, with a body that is none.
-fn raw_code(alloc: Global) -> Result<Vec<Attribute<'static>>, AllocError> {
-    let raw = Attribute::Raw {
-        name: 7,
-        body: &[1, 2],
-    };
-    let mut attributes = Vec::new(alloc);
-    attributes.push(raw)?;
-    Ok(attributes)
-}
-
-/// K with such attributes of the class, or of its method.
+/// K with an attribute of the class, or of its method, that is named `Code` and whose body is none.
 fn with_raw_code(alloc: Global, of_method: bool) -> Option<ClassFile<'static>> {
+    let (name, body) = (7, [1, 2].as_slice());
     let mut class = decode(alloc, &K).ok()?;
-    let attributes = raw_code(alloc).ok()?;
-    match class.methods.first_mut() {
-        Some(method) if of_method => method.attributes = attributes,
-        _ => class.attributes = attributes,
+    if of_method {
+        let method = class.methods.first_mut()?;
+        method.attributes.clear();
+        method.attributes.push(Attribute::Raw { name, body }).ok()?;
+    } else {
+        let raw = ClassAttribute::Raw { name, body };
+        class.attributes.push(raw).ok()?;
     }
     Some(class)
 }
