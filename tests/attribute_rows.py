@@ -1,26 +1,28 @@
 """Classes with each attribute of numbers, whole and broken at each of its numbers, and what `classck check` says of them: JVMS 4.7."""
 from dataclasses import replace
 
-from assembler import attribute, integer, member, u2, utf8
+from assembler import attribute, integer, listed, member, u2, utf8
 from attribute_table import rows
 from class_k import CONSTANTS, K, code_f, method_f
 
-# The index of the attribute's name; behind it stand an Integer at 9 and the text `I` at 10.
-NAME = 8
+# The index of the attribute's name; behind it stand an Integer at 9, the text `I` at 10 and the name of Record at 11.
+NAME, RECORD = 8, 11
 # By the letters of attribute_table.py: an index or a number that may stand there, and one of another kind.
 SOUND = {"n": 7, "u": 2, "U": 4, "v": 9, "c": 1, "C": 3}
 OTHER = {"u": 1, "U": 3, "v": 2, "c": 2, "C": 4}
-BROKEN_AT = {"class": "class", "field": "field 0", "method": "method 0", "code": "method 0"}
+BROKEN_AT = {"class": "class", "field": "field 0", "method": "method 0", "code": "method 0", "component": "class"}
 
 
-def with_attributes(place, name, *attributes, major=55):
+def with_attributes(place, name, *attributes, major=61):
     """K with these attributes in a table of this place, and a field."""
-    own = {"class": [], "field": [], "method": [code_f()], "code": []}
+    own = {"class": [], "field": [], "method": [code_f()], "code": [], "component": []}
     own[place] = own[place] + list(attributes)
+    if place == "component":
+        own["class"] = [attribute(RECORD, listed([u2(5) + u2(10) + listed(own["component"])]))]
     method = [code_f(nested=own["code"])] if place == "code" else own["method"]
     return replace(
         K,
-        constants=[*CONSTANTS, utf8(name), integer(5), utf8("I")],
+        constants=[*CONSTANTS, utf8(name), integer(5), utf8("I"), utf8("Record")],
         fields=[member(0, 5, 10, *own["field"])],
         methods=[method_f(*method)],
         attributes=own["class"],

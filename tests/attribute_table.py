@@ -15,7 +15,9 @@ SourceFile          class               51  once   u
 InnerClasses        class               51  once   *cCUn
 NestHost            class               55  once   c
 NestMembers         class               55  once   *c
+PermittedSubclasses class               61  once   *c
 Signature           class,field,method  51  once   u
+Signature           component           51  once   u
 Deprecated          class,field,method  51  often
 Synthetic           class,field,method  51  often
 LineNumberTable     code                51  often  *nn

@@ -45,7 +45,9 @@ def layouts():
         (56, 0, "ok"),
         (56, 7, "refused 11 56.7"),
         (60, 0, "ok"),
-        (61, 0, "refused 11 61.0"),
+        (61, 0, "ok"),
+        (61, 1, "refused 11 61.1"),
+        (62, 0, "refused 11 62.0"),
     ):
         yield f"version {major}.{minor}", replace(K, major=major, minor=minor).data(), line
 

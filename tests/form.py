@@ -129,13 +129,15 @@ def reference_rules(pool, tag, owner, name_and_type):
 
 
 def attribute_rules(pool, attributes):
-    """What is wrong with attributes: their names, the indices among their numbers, and what Code attributes hold (4.7)."""
+    """What is wrong with attributes: their names, the indices among their numbers, and what Code and Record attributes hold (4.7)."""
     rules = set()
     codes = [it["code"] for it in attributes if it["code"] is not None]
     for it in attributes:
         rules |= pool.asked(it["name"], UTF8)
         for letter, number in it["numbers"]:
             rules |= number_rules(pool, letter, number)
+        for name, descriptor, own in it["components"]:
+            rules |= pool.asked(name, UTF8) | pool.asked(descriptor, UTF8) | attribute_rules(pool, own)
     for length, catches, nested in codes:
         rules |= attribute_rules(pool, nested)
         for catch in catches:

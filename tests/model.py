@@ -123,8 +123,17 @@ def numbers_of(reader, letters):
     return [(letter, reader.number(2)) for _ in range(count) for letter in letters.strip("*")]
 
 
+def components(reader, constants):
+    """The body of a Record attribute (4.7.30): of each component its name, its descriptor and its attributes."""
+    found = []
+    for _ in range(reader.number(2)):
+        name, descriptor = reader.number(2), reader.number(2)
+        found.append((name, descriptor, attributes(reader, constants, "component")))
+    return found
+
+
 def attributes(reader, constants, place, major=51):
-    """Attributes: the name's index and the name of each, what a Code attribute holds, and numbers, where it is one of these."""
+    """Attributes: the name's index and the name of each, what a Code or a Record attribute holds, and numbers, where it is one of these."""
     found = []
     for _ in range(reader.number(2)):
         name_at = reader.at
@@ -134,11 +143,14 @@ def attributes(reader, constants, place, major=51):
         reader.part(size)
         text = text_at(constants, name)
         is_code, row = (place, text) == ("method", b"Code"), row_of(place, text, major)
-        one = {"name": name, "text": text, "code": None, "once": False, "numbers": []}
-        if is_code or row is not None:
+        is_record = (place, text) == ("class", b"Record") and major >= 60
+        one = {"name": name, "text": text, "code": None, "components": [], "once": is_record, "numbers": []}
+        if is_code or is_record or row is not None:
             outer, reader.at, reader.end, reader.name_at = (reader.end, reader.name_at), start, start + size, name_at
             if is_code:
                 one |= {"code": code(reader, constants)}
+            elif is_record:
+                one |= {"components": components(reader, constants)}
             else:
                 one |= {"once": row[0], "numbers": numbers_of(reader, row[1])}
             if reader.at != reader.end:
@@ -162,7 +174,7 @@ def class_file(reader):
     if reader.number(4) != 0xCAFEBABE:
         raise Refused("10")
     minor, major = reader.number(2), reader.number(2)
-    if not 51 <= major <= 60 or (major > 55 and minor):
+    if not 51 <= major <= 61 or (major > 55 and minor):
         raise Refused(f"11 {major}.{minor}")
     constants = pool(reader)
     flags, this, above = (reader.number(2) for _ in range(3))

@@ -10,12 +10,12 @@ use Rattle.pool.specs.Kinds.{kind_number}
 use Rattle.pool.specs.Entries.{Entry, Utf8, Integer, Float, Long, Double, Class as ClassEntry, String, Fieldref, Methodref, InterfaceMethodref, NameAndType, MethodHandle, MethodType, Dynamic, InvokeDynamic, Unusable, text_pieces, entry_pieces, second_pieces, indexed_pieces, entries_pieces, pool_pieces, is_wide}
 use Rattle.classfile.specs.declared.location.Location.{Location}
 use Rattle.classfile.specs.declared.location.Location.TheVariants as location
-use Rattle.classfile.specs.Locations.{is_code, is_stack_map}
+use Rattle.classfile.specs.Locations.{is_code, is_stack_map, is_record}
 use Rattle.classfile.specs.Layouts.{is_laid_out}
-use Rattle.classfile.specs.Values.{Handler, Nested, CodeBody, Attribute, Member, Class}
+use Rattle.classfile.specs.Values.{Handler, Nested, CodeBody, Attribute, Member, Component, ClassAttribute, Class}
 use Rattle.classfile.specs.ClassFile.{is_version}
-use Rattle.classfile.specs.Pieces.{handler_pieces, nested_pieces, code_pieces, attribute_pieces, member_pieces, class_pieces}
-use Rattle.classfile.specs.Sizes.{is_u2, total, entry_fits, entry_size, pool_fits, pool_size, handler_fits, nested_fits, nested_size, code_fits, code_size, attribute_fits, attribute_size, member_fits, member_size, class_fits, class_size}
+use Rattle.classfile.specs.Pieces.{handler_pieces, nested_pieces, code_pieces, attribute_pieces, member_pieces, component_pieces, class_attribute_pieces, class_pieces}
+use Rattle.classfile.specs.Sizes.{is_u2, total, entry_fits, entry_size, pool_fits, pool_size, handler_fits, nested_fits, nested_size, code_fits, code_size, attribute_fits, attribute_size, member_fits, member_size, component_fits, component_size, class_attribute_fits, class_attribute_size, class_fits, class_size}
 use Rattle.classfile.proofs.Measures.{Measured, measured_append, measured_none, measured_plain, measured_unspelled, measured_marked, measured_1, measured_2, measured_4, measured_lengthened, measured_table}
 
 and_true : (b : Bool) → (b && true) ≡ b
@@ -122,6 +122,14 @@ three_measure a b c = measured_append (measured_2 a) (measured_append (measured_
 member_measure : (pool : List Entry) (place : Location) (m : Member) → Measured (member_pieces pool place m) (member_fits m) (member_size m)
 member_measure pool place m = measured_append (three_measure m.access_flags m.name m.descriptor) (measured_table (attribute_measure pool place) m.attributes)
 
+component_measure : (pool : List Entry) (c : Component) → Measured (component_pieces pool c) (component_fits c) (component_size c)
+component_measure pool c = measured_append (measured_append (measured_2 c.name) (measured_2 c.descriptor)) (measured_table (attribute_measure pool location.RecordComponent) c.attributes)
+
+class_attribute_measure : (pool : List Entry) (place : Location) (x : ClassAttribute) → Measured (class_attribute_pieces pool place x) (class_attribute_fits x) (class_attribute_size x)
+class_attribute_measure pool place (by_field name components) =
+    measured_append (measured_2 name) (measured_lengthened (measured_marked (is_record pool place name) (measured_table (component_measure pool) components)))
+class_attribute_measure pool place (raw name body) = kept_measure name (unlike (is_record pool place name) && is_laid_out pool place name body) body
+
 pub class_measure : (c : Class) → Measured (class_pieces c) (class_fits c) (class_size c)
 unfolding class_pieces
 class_measure c =
@@ -131,4 +139,4 @@ class_measure c =
     (measured_append (measured_table measured_2 c.interfaces)
     (measured_append (measured_table (member_measure c.constant_pool location.Field) c.fields)
     (measured_append (measured_table (member_measure c.constant_pool location.Method) c.methods)
-    (measured_table (attribute_measure c.constant_pool (location.Class c.major_version)) c.attributes))))))
+    (measured_table (class_attribute_measure c.constant_pool (location.Class c.major_version)) c.attributes))))))

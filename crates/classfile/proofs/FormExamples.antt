@@ -7,14 +7,15 @@ use Rattle.pool.specs.Entries as entries
 use Rattle.pool.specs.Lookups.{entry_at, text_at, class_name_at, named, name_and_type_at}
 use Rattle.classfile.specs.declared.indices.ConstantKind.TheVariants as kinds
 use Rattle.classfile.specs.declared.location.Location.TheVariants as locations
-use Rattle.classfile.specs.Values.{Handler, Nested, CodeBody, Attribute, Member, Class}
+use Rattle.classfile.specs.Values.{Handler, Nested, CodeBody, Attribute, Member, Component, ClassAttribute, Class}
 use Rattle.classfile.specs.Indices.{is_of, is_bad, is_bad_unless_zero, is_other}
 use Rattle.classfile.specs.Naming.{begins_with, is_array_name, is_class_name, is_unqualified_name, is_method_name, is_init, is_clinit, is_field_descriptor, is_method_descriptor, is_void_descriptor}
-use Rattle.classfile.specs.Locations.{is_named, is_code, is_stack_map}
+use Rattle.classfile.specs.Locations.{is_named, is_code, is_stack_map, is_record, is_permitted_subclasses}
 use Rattle.classfile.specs.Flags.{has, are_bad_interface_flags, are_bad_other_class_flags, are_bad_class_flags, has_two_accesses, are_bad_field_flags, is_abstract_with_body, is_no_initializer, are_bad_method_flags}
 use Rattle.classfile.specs.ConstantForm.{names_class, is_no_class_name, is_array_class, is_no_unqualified_name, is_no_descriptor, is_no_field_descriptor, is_no_method_descriptor, is_no_field, is_no_method, is_no_method_of_class, is_special, is_no_method_name, has_bad, has_other, texts_have_bad, texts_have_other}
 use Rattle.classfile.specs.NumberForm.{numbers_break, is_of_row, row_stands_twice, numbers_stand_twice}
 use Rattle.classfile.specs.AttributeForm.{handlers_have_bad, handlers_have_other, nested_have_bad, nested_have_other, head_has_bad, head_has_other, code_has_bad, code_has_other, attribute_has_bad, attribute_has_other, attributes_have_bad, attributes_have_other, have_bad_length, has_two_stack_maps, code_stands_twice, stack_map_stands_twice, have_twice}
+use Rattle.classfile.specs.RecordForm.{component_has_bad, component_has_other, component_has_twice, components_have_bad, components_have_other, components_have_twice, class_attribute_has_bad, class_attribute_has_other, class_attributes_have_bad, class_attributes_have_other, record_stands_twice, records_have_twice, class_attributes_have_twice}
 use Rattle.classfile.specs.MemberForm.{member_has_bad, member_has_other, may_name_method, is_bad_method_name, is_badly_described, is_instance_initializer, is_class_initializer, is_badly_flagged, has_body, has_code}
 use Rattle.classfile.specs.ClassForm.{is_object, leads_to_object, leads_elsewhere, interfaces_have_bad, interfaces_have_other, interfaces_have_array, class_has_bad, class_has_other, class_has_array, has_bad_super}
 
@@ -177,6 +178,45 @@ members :
 unfolding member_has_bad member_has_other is_bad_method_name is_badly_described is_instance_initializer is_class_initializer is_badly_flagged has_body texts_have_bad texts_have_other attributes_have_bad attributes_have_other head_has_bad head_has_other numbers_break is_bad is_other entry_at text_at named has has_two_accesses is_abstract_with_body is_no_initializer are_bad_method_flags read_class read_base read_field read_params read_result read_method field_answer method_answer
 members = refl
 
+-- ---- records and sealed classes
+
+-- #1 the name of Record, #2 and #3 a name and a descriptor, #4 that of Signature, #5 a class, #6 that of PermittedSubclasses
+abbrev names_of_attributes : List entries.Entry
+names_of_attributes =
+    entries.Utf8 (codes "Record") ∷ entries.Utf8 (codes "x") ∷ entries.Utf8 (codes "I") ∷ entries.Utf8 (codes "Signature") ∷ entries.Class 2
+    ∷ entries.Utf8 (codes "PermittedSubclasses") ∷ []
+
+abbrev component : (name : ℕ) → List Attribute → Component
+component name attributes = record { name = name; descriptor = 3; attributes = attributes }
+
+abbrev recorded : List Component → ClassAttribute
+recorded components = by_field 1 components
+
+abbrev signed : (text : ℕ) → Attribute
+signed text = raw 4 (0 ∷ text ∷ [])
+
+abbrev permitting : (class : ℕ) → ClassAttribute
+permitting class = raw 6 (0 ∷ 1 ∷ 0 ∷ class ∷ [])
+
+records :
+    ((is_record names_of_attributes (locations.Class 60) 1, is_record names_of_attributes (locations.Class 59) 1)
+    ∷ (is_record names_of_attributes (locations.Class 61) 1, is_record names_of_attributes locations.Method 1)
+    ∷ (is_permitted_subclasses names_of_attributes (locations.Class 61) 6, is_permitted_subclasses names_of_attributes (locations.Class 60) 6)
+    ∷ (component_has_bad names_of_attributes (component 0 []), component_has_bad names_of_attributes (component 2 []))
+    ∷ (component_has_bad names_of_attributes (component 2 (signed 9 ∷ [])), component_has_bad names_of_attributes (component 2 (signed 3 ∷ [])))
+    ∷ (component_has_other names_of_attributes (component 5 []), component_has_other names_of_attributes (component 2 []))
+    ∷ (component_has_twice names_of_attributes (component 2 (signed 3 ∷ signed 3 ∷ [])), component_has_twice names_of_attributes (component 2 (signed 3 ∷ [])))
+    ∷ (class_attributes_have_bad names_of_attributes (locations.Class 60) (recorded (component 0 [] ∷ []) ∷ []), class_attributes_have_bad names_of_attributes (locations.Class 60) (recorded [] ∷ []))
+    ∷ (class_attributes_have_bad names_of_attributes (locations.Class 61) (permitting 0 ∷ []), class_attributes_have_bad names_of_attributes (locations.Class 60) (permitting 0 ∷ []))
+    ∷ (class_attributes_have_other names_of_attributes (locations.Class 60) (recorded (component 5 [] ∷ []) ∷ []), class_attributes_have_other names_of_attributes (locations.Class 60) (recorded [] ∷ []))
+    ∷ (class_attributes_have_other names_of_attributes (locations.Class 61) (permitting 2 ∷ []), class_attributes_have_other names_of_attributes (locations.Class 61) (permitting 5 ∷ []))
+    ∷ (class_attributes_have_twice names_of_attributes (locations.Class 60) (recorded [] ∷ recorded [] ∷ []), class_attributes_have_twice names_of_attributes (locations.Class 60) (recorded (component 2 (signed 3 ∷ []) ∷ component 2 (signed 3 ∷ []) ∷ []) ∷ []))
+    ∷ (class_attributes_have_twice names_of_attributes (locations.Class 60) (recorded (component 2 (signed 3 ∷ signed 3 ∷ []) ∷ []) ∷ []), class_attributes_have_twice names_of_attributes (locations.Class 60) (recorded [] ∷ permitting 5 ∷ []))
+    ∷ (class_attributes_have_twice names_of_attributes (locations.Class 61) (permitting 5 ∷ permitting 5 ∷ []), class_attributes_have_twice names_of_attributes (locations.Class 60) (permitting 5 ∷ permitting 5 ∷ []))
+    ∷ []) ≡ told 14
+unfolding component_has_bad component_has_other component_has_twice components_have_bad components_have_other components_have_twice class_attribute_has_bad class_attribute_has_other class_attributes_have_bad class_attributes_have_other record_stands_twice records_have_twice class_attributes_have_twice texts_have_bad texts_have_other attribute_has_bad attribute_has_other attributes_have_bad attributes_have_other head_has_bad head_has_other numbers_break is_of_row row_stands_twice numbers_stand_twice is_bad is_other entry_at text_at
+records = refl
+
 -- ---- the class itself
 
 abbrev class : (access_flags this_class super_class : ℕ) → List ℕ → Class
@@ -209,5 +249,5 @@ classes :
     ∷ (has_bad_super (class 0 5 1 []), has_bad_super (class 0 5 0 []))
     ∷ (has_bad_super (class 0x0600 1 1 []), has_bad_super (class 0x0600 1 5 []))
     ∷ []) ≡ told 14
-unfolding leads_to_object leads_elsewhere interfaces_have_bad interfaces_have_other interfaces_have_array class_has_bad class_has_other class_has_array has_bad_super attributes_have_bad attributes_have_other is_array_class is_bad is_other has entry_at text_at class_name_at
+unfolding leads_to_object leads_elsewhere interfaces_have_bad interfaces_have_other interfaces_have_array class_has_bad class_has_other class_has_array has_bad_super class_attributes_have_bad class_attributes_have_other is_array_class is_bad is_other has entry_at text_at class_name_at
 classes = refl

@@ -10,9 +10,9 @@ use Rattle.layout.specs.declared.fault.ReadFault.TheVariants.{AttributeLength, B
 use Rattle.pool.specs.Entries.{Entry, pool}
 use Rattle.classfile.specs.declared.location.Location.{Location}
 use Rattle.classfile.specs.declared.location.Location.TheVariants as location
-use Rattle.classfile.specs.Locations.{is_code, is_stack_map}
+use Rattle.classfile.specs.Locations.{is_code, is_stack_map, is_record}
 use Rattle.classfile.specs.Layouts.{is_laid_out}
-use Rattle.classfile.specs.Values.{Handler, Nested, CodeBody, Attribute, Member, Class}
+use Rattle.classfile.specs.Values.{Handler, Nested, CodeBody, Attribute, Member, Component, ClassAttribute, Class}
 
 -- a table: a count of two bytes, and so many items
 abbrev pub table : {V : Type 0} → Format V → Format (List V)
@@ -74,9 +74,30 @@ member pool place = andthen three (λ head. andthen (attributes pool place) (λ 
 unfoldable pub members : List Entry → Location → Format (List Member)
 members pool place = table (member pool place)
 
--- major versions 51 to 55 with any minor version, 56 to 60 with 0
+unfoldable pub two : Format (ℕ × ℕ)
+two = andthen (number 2) (λ a. andthen (number 2) (λ b. done (a, b)))
+
+-- a component of a record: the indices of its name and descriptor, and its attributes
+unfoldable pub component : List Entry → Format Component
+component pool = andthen two (λ head. andthen (attributes pool location.RecordComponent) (λ attributes.
+    done (record { name = head.0; descriptor = head.1; attributes = attributes })))
+
+-- the body of a Record attribute
+unfoldable pub components : List Entry → Format (List Component)
+components pool = table (component pool)
+
+-- an attribute of a class: its name's index, the length of its body, and the body, whose parts are read where it is a Record attribute
+unfoldable pub class_attribute : List Entry → Location → Format ClassAttribute
+class_attribute pool place = andthen (number 2) (λ name. andthen (number 4) (λ n. part n (λ body.
+    if is_record pool place name then inside n body (components pool) (λ c. done (by_field name c))
+    else kept (is_laid_out pool place name body) n (raw name body))))
+
+unfoldable pub class_attributes : List Entry → Location → Format (List ClassAttribute)
+class_attributes pool place = table (class_attribute pool place)
+
+-- major versions 51 to 55 with any minor version, 56 to 61 with 0
 abbrev pub is_version : ℕ → ℕ → Bool
-is_version minor major = nat_le 51 major && nat_le major 60 && (nat_le major 55 || nat_eq minor 0)
+is_version minor major = nat_le 51 major && nat_le major 61 && (nat_le major 55 || nat_eq minor 0)
 
 -- the magic number and the version, the minor one first
 unfoldable pub version : Format (ℕ × ℕ)
@@ -89,7 +110,7 @@ interfaces = table (number 2)
 
 unfoldable pub class : Format Class
 class = andthen version (λ version. andthen pool (λ pool. andthen three (λ head. andthen interfaces (λ interfaces.
-    andthen (members pool location.Field) (λ fields. andthen (members pool location.Method) (λ methods. andthen (attributes pool (location.Class version.1)) (λ attributes.
+    andthen (members pool location.Field) (λ fields. andthen (members pool location.Method) (λ methods. andthen (class_attributes pool (location.Class version.1)) (λ attributes.
     done (record {
       minor_version = version.0;
       major_version = version.1;

@@ -12,8 +12,7 @@ use Rattle.classfile.specs.Indices.{is_bad, is_bad_unless_zero, is_other, on_cla
 use Rattle.classfile.specs.ConstantForm.{is_array_class}
 use Rattle.classfile.specs.Flags.{has, INTERFACE, are_bad_class_flags}
 use Rattle.classfile.specs.declared.location.Location.TheVariants as location
-use Rattle.classfile.specs.NumberForm.{numbers_stand_twice}
-use Rattle.classfile.specs.AttributeForm.{attributes_have_bad, attributes_have_other}
+use Rattle.classfile.specs.RecordForm.{class_attributes_have_bad, class_attributes_have_other, class_attributes_have_twice}
 
 -- the name of the class above all others
 abbrev pub is_object : List ℕ → Bool
@@ -40,12 +39,12 @@ interfaces_have_array pool interfaces = list_any (is_array_class pool) interface
 unfoldable pub class_has_bad : Class → Bool
 class_has_bad c =
     is_bad c.constant_pool c.this_class || is_bad_unless_zero c.constant_pool c.super_class
-    || interfaces_have_bad c.constant_pool c.interfaces || attributes_have_bad c.constant_pool (location.Class c.major_version) c.attributes
+    || interfaces_have_bad c.constant_pool c.interfaces || class_attributes_have_bad c.constant_pool (location.Class c.major_version) c.attributes
 
 unfoldable pub class_has_other : Class → Bool
 class_has_other c =
     is_other c.constant_pool kinds.Class c.this_class || is_other c.constant_pool kinds.Class c.super_class
-    || interfaces_have_other c.constant_pool c.interfaces || attributes_have_other c.constant_pool (location.Class c.major_version) c.attributes
+    || interfaces_have_other c.constant_pool c.interfaces || class_attributes_have_other c.constant_pool (location.Class c.major_version) c.attributes
 
 -- the class, its superclass or one of its interfaces is an array
 unfoldable pub class_has_array : Class → Bool
@@ -77,5 +76,5 @@ class_conditions c =
     ∷ (BadName, class_has_array c)
     ∷ (BadFlags, are_bad_class_flags c.access_flags)
     ∷ (BadSuper, has_bad_super c)
-    ∷ (AttributeTwice, numbers_stand_twice c.constant_pool (location.Class c.major_version) c.attributes)
+    ∷ (AttributeTwice, class_attributes_have_twice c.constant_pool (location.Class c.major_version) c.attributes)
     ∷ []

@@ -4,7 +4,7 @@ use Rattle.pool.specs.declared.fault.PoolFault.{PoolFault}
 use Rattle.pool.specs.Entries.{Entry}
 use Rattle.pool.specs.Lookups.{text_at}
 use Rattle.classfile.specs.declared.location.Location.{Location}
-use Rattle.classfile.specs.declared.location.Location.TheVariants.{Class, Field, Method, Code}
+use Rattle.classfile.specs.declared.location.Location.TheVariants.{Class, Field, Method, Code, RecordComponent}
 use Rattle.classfile.specs.declared.layouts.Column.{Column}
 use Rattle.classfile.specs.declared.layouts.Column.TheVariants as columns
 use Rattle.classfile.specs.declared.layouts.Column.TheVariants.{Plain, Text, TextOrZero, ClassOrZero, Value}
@@ -35,17 +35,27 @@ often name columns = record { name = name; first_major = 51; once = false; count
 abbrev mark : List ℕ → Row
 mark name = record { name = name; first_major = 51; once = false; counted = false; columns = [] }
 
+-- one row of a text, in each of the tables that may have a generic signature (4.7.9)
+abbrev pub signature : Row
+signature = one 51 (codes "Signature") (Text ∷ [])
+
 -- those of classes, fields and methods alike (4.7.9, 4.7.15, 4.7.8)
 abbrev pub shared : List Row
-shared = one 51 (codes "Signature") (Text ∷ []) ∷ mark (codes "Deprecated") ∷ mark (codes "Synthetic") ∷ []
+shared = signature ∷ mark (codes "Deprecated") ∷ mark (codes "Synthetic") ∷ []
 
--- those of classes (4.7.10, 4.7.6, 4.7.28, 4.7.29), fields (4.7.2), methods (4.7.5) and Code attributes (4.7.12, 4.7.13)
+-- the classes that may extend a sealed one (4.7.31)
+abbrev pub permitted_subclasses : Row
+permitted_subclasses = counted 61 (codes "PermittedSubclasses") (columns.Class ∷ [])
+
+-- those of classes (4.7.10, 4.7.6, 4.7.28, 4.7.29, 4.7.31), fields (4.7.2), methods (4.7.5), Code attributes (4.7.12, 4.7.13) and record
+-- components (4.7.30)
 abbrev pub rows : Location → List Row
 rows (Class major) =
     one 51 (codes "SourceFile") (Text ∷ [])
     ∷ counted 51 (codes "InnerClasses") (columns.Class ∷ ClassOrZero ∷ TextOrZero ∷ Plain ∷ [])
     ∷ one 55 (codes "NestHost") (columns.Class ∷ [])
     ∷ counted 55 (codes "NestMembers") (columns.Class ∷ [])
+    ∷ permitted_subclasses
     ∷ shared
 rows Field = one 51 (codes "ConstantValue") (Value ∷ []) ∷ shared
 rows Method = counted 51 (codes "Exceptions") (columns.Class ∷ []) ∷ shared
@@ -53,6 +63,7 @@ rows Code =
     often (codes "LineNumberTable") (Plain ∷ Plain ∷ [])
     ∷ often (codes "LocalVariableTable") (Plain ∷ Plain ∷ Text ∷ Text ∷ Plain ∷ [])
     ∷ []
+rows RecordComponent = signature ∷ []
 
 -- the version on which it hangs what stands there; it does so in the attributes of classes alone
 abbrev pub major_at : Location → ℕ
@@ -60,6 +71,7 @@ major_at (Class major) = major
 major_at Field = 51
 major_at Method = 51
 major_at Code = 51
+major_at RecordComponent = 51
 
 -- the row of this name in class files of this version
 abbrev pub is_row : ℕ → List ℕ → Row → Bool

@@ -1,4 +1,5 @@
 pub mod AttributeForm
+pub mod ClassAttributes
 pub mod ClassFile
 pub mod ClassForm
 pub mod CodeMethods
@@ -18,6 +19,7 @@ pub mod Methods
 pub mod Naming
 pub mod NumberForm
 pub mod Pieces
+pub mod RecordForm
 pub mod Seen
 pub mod Sizes
 pub mod Values

@@ -1,10 +1,10 @@
 -- Which attributes are read by field, by their name and the table that they stand in (JVMS 4.7, table 4.7-C).
-use Rattle.std.specs.Prelude.{ℕ, Bool, false, List, nat_eq, Result, Ok, Err, codes}
+use Rattle.std.specs.Prelude.{ℕ, Bool, false, ◌&&◌, List, nat_eq, nat_le, Result, Ok, Err, codes}
 use Rattle.pool.specs.declared.fault.PoolFault.{PoolFault}
 use Rattle.pool.specs.Entries.{Entry}
 use Rattle.pool.specs.Lookups.{text_at}
 use Rattle.classfile.specs.declared.location.Location.{Location}
-use Rattle.classfile.specs.declared.location.Location.TheVariants.{Class, Field, Method, Code}
+use Rattle.classfile.specs.declared.location.Location.TheVariants.{Class, Field, Method, Code, RecordComponent}
 use lib.Pointwise.{pointwise}
 
 -- a text was found, and it is this one
@@ -22,6 +22,7 @@ is_code pool Method name = is_named pool name (codes "Code")
 is_code pool (Class major) name = false
 is_code pool Field name = false
 is_code pool Code name = false
+is_code pool RecordComponent name = false
 
 -- a StackMapTable stands in a Code attribute (4.7.4)
 abbrev pub is_stack_map : List Entry → Location → ℕ → Bool
@@ -29,3 +30,20 @@ is_stack_map pool Code name = is_named pool name (codes "StackMapTable")
 is_stack_map pool (Class major) name = false
 is_stack_map pool Field name = false
 is_stack_map pool Method name = false
+is_stack_map pool RecordComponent name = false
+
+-- a Record stands in a class, of major version 60 or above (4.7.30)
+abbrev pub is_record : List Entry → Location → ℕ → Bool
+is_record pool (Class major) name = nat_le 60 major && is_named pool name (codes "Record")
+is_record pool Field name = false
+is_record pool Method name = false
+is_record pool Code name = false
+is_record pool RecordComponent name = false
+
+-- a PermittedSubclasses stands in a class, of major version 61 or above (4.7.31)
+abbrev pub is_permitted_subclasses : List Entry → Location → ℕ → Bool
+is_permitted_subclasses pool (Class major) name = nat_le 61 major && is_named pool name (codes "PermittedSubclasses")
+is_permitted_subclasses pool Field name = false
+is_permitted_subclasses pool Method name = false
+is_permitted_subclasses pool Code name = false
+is_permitted_subclasses pool RecordComponent name = false

@@ -82,9 +82,13 @@ numbers_break pool place rule name body = body_breaks_if (breaks pool rule) (row
 
 -- ---- attributes that may stand once
 
+-- the row is that of the name at this index
+abbrev pub is_row_named : List Entry → Location → Row → ℕ → Bool
+is_row_named pool place row name = on_text pool name (λ t. is_row (major_at place) t row)
+
 -- the attribute is that of the row
 unfoldable pub is_of_row : {A : Type 0} → List Entry → Location → Row → Either A → Bool
-is_of_row pool place row attribute = on_kept (λ name body. on_text pool name (λ t. is_row (major_at place) t row)) attribute
+is_of_row pool place row attribute = on_kept (λ name body. is_row_named pool place row name) attribute
 
 unfoldable pub row_stands_twice : {A : Type 0} → List Entry → Location → List (Either A) → Row → Bool
 row_stands_twice pool place attributes row = row.once && nat_lt 1 (count_by (is_of_row pool place row) attributes)

@@ -12,10 +12,10 @@ use Rattle.pool.specs.Entries.{Entry, pool_pieces}
 use Rattle.pool.specs.EntryLaws.{writes_pool}
 use Rattle.classfile.specs.declared.location.Location.{Location}
 use Rattle.classfile.specs.declared.location.Location.TheVariants as location
-use Rattle.classfile.specs.Locations.{is_code, is_stack_map}
+use Rattle.classfile.specs.Locations.{is_code, is_stack_map, is_record}
 use Rattle.classfile.specs.Layouts.{is_laid_out}
-use Rattle.classfile.specs.Values.{Handler, Nested, CodeBody, Attribute, Member, Class}
-use Rattle.classfile.specs.ClassFile.{Sizes, kept, handler, nested, sizes, handlers, nested_attributes, code, attribute, attributes, three, member, members, is_version, version, interfaces, class}
+use Rattle.classfile.specs.Values.{Handler, Nested, CodeBody, Attribute, Member, Component, ClassAttribute, Class}
+use Rattle.classfile.specs.ClassFile.{Sizes, kept, handler, nested, sizes, handlers, nested_attributes, code, attribute, attributes, three, member, members, two, component, components, class_attribute, class_attributes, is_version, version, interfaces, class}
 
 -- ---- what each part is written as
 
@@ -51,6 +51,15 @@ three_pieces x = field 2 x.0 ++ (field 2 x.1 ++ field 2 x.2)
 abbrev pub member_pieces : List Entry → Location → Member → List Piece
 member_pieces pool place m = three_pieces (m.access_flags, m.name, m.descriptor) ++ counted (attribute_pieces pool place) m.attributes
 
+abbrev pub two_pieces : ℕ × ℕ → List Piece
+two_pieces x = field 2 x.0 ++ field 2 x.1
+
+abbrev pub component_pieces : List Entry → Component → List Piece
+component_pieces pool c = two_pieces (c.name, c.descriptor) ++ counted (attribute_pieces pool location.RecordComponent) c.attributes
+
+abbrev pub class_attribute_pieces : List Entry → Location → ClassAttribute → List Piece
+class_attribute_pieces pool place = headed_pieces (is_record pool place) (is_laid_out pool place) (counted (component_pieces pool))
+
 -- the magic number, the minor and the major version
 abbrev pub version_pieces : ℕ × ℕ → List Piece
 version_pieces v = field 4 0xCAFEBABE ++ (field 2 v.0 ++ marked (is_version v.0 v.1) (field 2 v.1))
@@ -59,7 +68,7 @@ version_pieces v = field 4 0xCAFEBABE ++ (field 2 v.0 ++ marked (is_version v.0 
 abbrev pub tables_pieces : List Entry → Class → List Piece
 tables_pieces pool c =
     counted (member_pieces pool location.Field) c.fields
-    ++ (counted (member_pieces pool location.Method) c.methods ++ counted (attribute_pieces pool (location.Class c.major_version)) c.attributes)
+    ++ (counted (member_pieces pool location.Method) c.methods ++ counted (class_attribute_pieces pool (location.Class c.major_version)) c.attributes)
 
 abbrev pub behind_pool_pieces : List Entry → Class → List Piece
 behind_pool_pieces pool c =
@@ -198,6 +207,30 @@ pub writes_members : (pool : List Entry) (place : Location) → Writes (members 
 unfolding members
 writes_members pool place = made_counted number_2 (writes_member pool place)
 
+pair : ℕ → ℕ → ℕ × ℕ
+pair a b = (a, b)
+
+pub writes_two : Writes two two_pieces
+unfolding two pair
+writes_two = made_whole {A = ℕ × ℕ} (λ x. x) (λ x. refl) (λ a. refl) (made_then _ (made_number 2 number_2) (λ a. made_last (λ b. pair a b) (made_number 2 number_2)))
+
+pub writes_component : (pool : List Entry) → Writes (component pool) (component_pieces pool)
+unfolding component
+writes_component pool = made_whole {A = (ℕ × ℕ) × List Attribute} (λ c. ((c.name, c.descriptor), c.attributes)) (λ c. refl) (λ a. refl)
+    (made_then _ writes_two (λ h. made_last _ (writes_attributes pool location.RecordComponent)))
+
+pub writes_components : (pool : List Entry) → Writes (components pool) (counted (component_pieces pool))
+unfolding components
+writes_components pool = made_counted number_2 (writes_component pool)
+
+pub writes_class_attribute : (pool : List Entry) (place : Location) → Writes (class_attribute pool place) (class_attribute_pieces pool place)
+unfolding class_attribute
+writes_class_attribute pool place = made_headed number_2 number_4 (bodies_of (is_record pool place) (is_laid_out pool place) (inside_by_field (writes_components pool)))
+
+pub writes_class_attributes : (pool : List Entry) (place : Location) → Writes (class_attributes pool place) (counted (class_attribute_pieces pool place))
+unfolding class_attributes
+writes_class_attributes pool place = made_counted number_2 (writes_class_attribute pool place)
+
 pub writes_interfaces : Writes interfaces (counted (field 2))
 unfolding interfaces
 writes_interfaces = made_counted number_2 (made_number 2 number_2)
@@ -283,7 +316,7 @@ writes_version = record { has = has; only = only }
 
 pub writes_class : Writes class class_pieces
 unfolding class class_pieces
-writes_class = made_whole {A = (ℕ × ℕ) × (List Entry × ((ℕ × ℕ × ℕ) × (List ℕ × (List Member × (List Member × List Attribute)))))}
+writes_class = made_whole {A = (ℕ × ℕ) × (List Entry × ((ℕ × ℕ × ℕ) × (List ℕ × (List Member × (List Member × List ClassAttribute)))))}
     (λ c. ((c.minor_version, c.major_version), (c.constant_pool, ((c.access_flags, c.this_class, c.super_class), (c.interfaces, (c.fields, (c.methods, c.attributes))))))) (λ c. refl) (λ a. refl)
     (made_then _ writes_version (λ v. made_then _ writes_pool (λ pool. made_then _ writes_three (λ head. made_then _ writes_interfaces (λ i.
-    made_then _ (writes_members pool location.Field) (λ f. made_then _ (writes_members pool location.Method) (λ m. made_last _ (writes_attributes pool (location.Class v.1)))))))))
+    made_then _ (writes_members pool location.Field) (λ f. made_then _ (writes_members pool location.Method) (λ m. made_last _ (writes_class_attributes pool (location.Class v.1)))))))))

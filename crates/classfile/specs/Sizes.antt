@@ -4,7 +4,7 @@ use Rattle.std.specs.Prelude.{ℕ, ◌+◌, Bool, true, ◌&&◌, List, [], ◌�
 use Rattle.std.specs.List.{list_all}
 use Rattle.layout.specs.PieceLaws.{fields as by_field, raw}
 use Rattle.pool.specs.Entries.{Entry, Utf8, Integer, Float, Long, Double, Class as ClassEntry, String, Fieldref, Methodref, InterfaceMethodref, NameAndType, MethodHandle, MethodType, Dynamic, InvokeDynamic, Unusable}
-use Rattle.classfile.specs.Values.{Handler, Nested, CodeBody, Attribute, Member, Class}
+use Rattle.classfile.specs.Values.{Handler, Nested, CodeBody, Attribute, Member, Component, ClassAttribute, Class}
 
 -- numbers of two and of four bytes
 abbrev pub is_u2 : ℕ → Bool
@@ -104,6 +104,20 @@ member_fits m = (is_u2 m.access_flags && (is_u2 m.name && is_u2 m.descriptor)) &
 abbrev pub member_size : Member → ℕ
 member_size m = 6 + table_size attribute_size m.attributes
 
+abbrev pub component_fits : Component → Bool
+component_fits c = (is_u2 c.name && is_u2 c.descriptor) && table_fits attribute_fits c.attributes
+
+abbrev pub component_size : Component → ℕ
+component_size c = 4 + table_size attribute_size c.attributes
+
+abbrev pub class_attribute_fits : ClassAttribute → Bool
+class_attribute_fits (by_field name components) = is_u2 name && table_fits component_fits components
+class_attribute_fits (raw name body) = is_u2 name
+
+abbrev pub class_attribute_size : ClassAttribute → ℕ
+class_attribute_size (by_field name components) = 2 + (4 + table_size component_size components)
+class_attribute_size (raw name body) = 2 + (4 + length body)
+
 abbrev pub class_fits : Class → Bool
 class_fits c =
     (is_u2 c.minor_version && is_u2 c.major_version)
@@ -111,11 +125,11 @@ class_fits c =
     && ((is_u2 c.access_flags && (is_u2 c.this_class && is_u2 c.super_class))
     && (table_fits is_u2 c.interfaces
     && (table_fits member_fits c.fields
-    && (table_fits member_fits c.methods && table_fits attribute_fits c.attributes)))))
+    && (table_fits member_fits c.methods && table_fits class_attribute_fits c.attributes)))))
 
 abbrev pub class_size : Class → ℕ
 class_size c =
     8 + (pool_size c.constant_pool
     + (6 + (table_size (λ n. 2) c.interfaces
     + (table_size member_size c.fields
-    + (table_size member_size c.methods + table_size attribute_size c.attributes)))))
+    + (table_size member_size c.methods + table_size class_attribute_size c.attributes)))))

@@ -23,7 +23,7 @@ pub record CodeBody : Type 0 where
   pub exception_table : List Handler
   pub attributes : List Nested
 
--- an attribute of a class, field or method: Code, or another (4.7)
+-- an attribute of a field, a method or a record component: Code, or another (4.7)
 abbrev pub Attribute : Type 0
 Attribute = Either CodeBody
 
@@ -33,6 +33,16 @@ pub record Member : Type 0 where
   pub name : ℕ
   pub descriptor : ℕ
   pub attributes : List Attribute
+
+-- a component of a record (4.7.30)
+pub record Component : Type 0 where
+  pub name : ℕ
+  pub descriptor : ℕ
+  pub attributes : List Attribute
+
+-- an attribute of a class: Record by its components, or another (4.7)
+abbrev pub ClassAttribute : Type 0
+ClassAttribute = Either (List Component)
 
 -- a class file (4.1)
 pub record Class : Type 0 where
@@ -45,4 +55,4 @@ pub record Class : Type 0 where
   pub interfaces : List ℕ
   pub fields : List Member
   pub methods : List Member
-  pub attributes : List Attribute
+  pub attributes : List ClassAttribute

@@ -3,6 +3,9 @@ use Rattle.std.specs.Prelude.{map}
 use Rattle.layout.specs.PieceLaws.{fields as by_field, raw}
 use Rattle.classfile.specs.declared.attribute.Attribute.{Attribute}
 use Rattle.classfile.specs.declared.attribute.Attribute.TheVariants as attributes
+use Rattle.classfile.specs.declared.class_attribute.ClassAttribute.{ClassAttribute}
+use Rattle.classfile.specs.declared.class_attribute.ClassAttribute.TheVariants as class_attributes
+use Rattle.classfile.specs.declared.component.Component.{Component}
 use Rattle.classfile.specs.declared.code.CodeAttr.{CodeAttr}
 use Rattle.classfile.specs.declared.code.ExceptionHandler.{ExceptionHandler}
 use Rattle.classfile.specs.declared.nested.NestedAttribute.{NestedAttribute}
@@ -28,6 +31,13 @@ attribute_view (attributes.Raw name body) = raw name body.now
 abbrev pub member_view : Member → values.Member
 member_view m = record { access_flags = m.access_flags; name = m.name; descriptor = m.descriptor; attributes = map attribute_view m.attributes.items }
 
+abbrev pub component_view : Component → values.Component
+component_view c = record { name = c.name; descriptor = c.descriptor; attributes = map attribute_view c.attributes.items }
+
+abbrev pub class_attribute_view : ClassAttribute → values.ClassAttribute
+class_attribute_view (class_attributes.Record name components) = by_field name (map component_view components.items)
+class_attribute_view (class_attributes.Raw name body) = raw name body.now
+
 abbrev pub class_view : ClassFile → values.Class
 class_view c = record {
   minor_version = c.minor_version;
@@ -39,5 +49,5 @@ class_view c = record {
   interfaces = map (λ n. n) c.interfaces.items;
   fields = map member_view c.fields.items;
   methods = map member_view c.methods.items;
-  attributes = map attribute_view c.attributes.items;
+  attributes = map class_attribute_view c.attributes.items;
 }

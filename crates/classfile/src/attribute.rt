@@ -1,4 +1,4 @@
-//! Attributes of classes, fields and methods (JVMS 4.7).
+//! Attributes of fields, methods and components of records (JVMS 4.7).
 ghost use Rattle.std.specs.Prelude.{◌≡◌, ◌++◌};
 ghost use Rattle.layout.specs.Pieces.{Goes, field, lengthened, marked};
 ghost use Rattle.classfile.specs.Pieces.{code_pieces};
@@ -13,7 +13,7 @@ use layout::{Cursor, Output, ReadFault, WriteFault};
 use pool::Pool;
 use std::alloc::Global;
 
-/// An attribute of a class, field or method. The name is the index of a Utf8 constant where the class is well formed.
+/// An attribute of a field, a method or a component of a record. The name is the index of a Utf8 constant where the class is well formed.
 #[derive(Drop)]
 pub enum Attribute<'a> {
     /// A Code attribute (4.7.3), which stands in a method alone.

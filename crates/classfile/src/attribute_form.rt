@@ -2,18 +2,16 @@
 ghost use Rattle.std.specs.Prelude.{◌≡◌, map};
 ghost use Rattle.classfile.specs.AttributeForm.{is_by_field, on_body, head_has_bad, head_has_other, handlers_have_bad, handlers_have_other, nested_have_bad, nested_have_other, code_has_bad, code_has_other, has_bad_length, has_two_stack_maps, attribute_has_bad, attribute_has_other, attributes_have_bad, attributes_have_other, have_bad_length, code_stands_twice, stack_map_stands_twice, have_twice};
 ghost use Rattle.classfile.specs.MemberForm.{has_code};
-ghost use Rattle.classfile.specs.NumberForm.{is_of_row, row_stands_twice, numbers_stand_twice};
-ghost use Rattle.classfile.specs.LayoutViews.{row_view};
 ghost use Rattle.classfile.specs.declared.location.Location.TheVariants as location;
 ghost use Rattle.classfile.specs.Views.{attribute_view, handler_view, nested_view, code_view};
 
 use crate::attribute::Attribute;
 use crate::code::{CodeAttr, ExceptionHandler};
 use crate::indices::{ConstantKind, is_bad, is_bad_unless_zero, is_other};
-use crate::layouts::{Row, is_row, major_at, rows};
 use crate::location::Location;
 use crate::nested::NestedAttribute;
 use crate::number_form::{IndexRule, numbers_break};
+use crate::once::numbers_stand_twice;
 use pool::Pool;
 
 #[tactic(auto, unfolding(crate::specs::AttributeForm::head_has_bad))]
@@ -214,51 +212,6 @@ fn stack_map_stands_twice(attributes: &[Attribute<'_>]) -> bool
     ensures { result ≡ stack_map_stands_twice (map attribute_view attributes.now) }
 {
     attributes.iter().any(|a| code_has_two_stack_maps(a))
-}
-
-/// Whether the attribute is that of the row.
-#[tactic(auto, unfolding(crate::specs::NumberForm::is_of_row))]
-fn is_of_row(pool: &Pool<'_>, location: Location, row: &Row, attribute: &Attribute<'_>) -> bool
-    ensures { result ≡ is_of_row pool.now location (row_view row.now) (attribute_view attribute.now) }
-{
-    match attribute {
-        Attribute::Code { .. } => false,
-        Attribute::Raw { name, .. } => match pool.text(*name) {
-            Ok(text) => is_row(row, major_at(location), text.bytes()),
-            Err(_) => false,
-        },
-    }
-}
-
-#[tactic(auto, unfolding(crate::specs::NumberForm::row_stands_twice))]
-fn row_stands_twice(
-    pool: &Pool<'_>,
-    location: Location,
-    attributes: &[Attribute<'_>],
-    row: &Row,
-) -> bool
-    ensures { result ≡ row_stands_twice pool.now location (map attribute_view attributes.now) (row_view row.now) }
-{
-    row.once
-        && attributes
-            .iter()
-            .filter(|a| is_of_row(pool, location, row, a))
-            .count()
-            > 1
-}
-
-/// Whether two attributes of numbers are among them of which there may be one.
-#[tactic(auto, unfolding(crate::specs::NumberForm::numbers_stand_twice))]
-pub fn numbers_stand_twice(
-    pool: &Pool<'_>,
-    location: Location,
-    attributes: &[Attribute<'_>],
-) -> bool
-    ensures { result ≡ numbers_stand_twice pool.now location (map attribute_view attributes.now) }
-{
-    rows(location)
-        .iter()
-        .any(|row| row_stands_twice(pool, location, attributes, row))
 }
 
 /// Whether two attributes of a method are among them of which there may be one, or in a Code attribute two StackMapTables.

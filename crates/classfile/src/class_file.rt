@@ -2,13 +2,13 @@
 ghost use Rattle.std.specs.Prelude.{◌≡◌, map};
 ghost use Rattle.layout.specs.Faults.{GoesOn};
 ghost use Rattle.layout.specs.Pieces.{Goes, field, marked};
-ghost use Rattle.classfile.specs.ClassFile.{interfaces, members, is_version, version, class};
+ghost use Rattle.classfile.specs.ClassFile.{interfaces, members, class_attributes, is_version, version, class};
 ghost use Rattle.classfile.specs.Pieces.{version_pieces, tables_pieces, behind_pool_pieces, pieces_with, class_pieces};
-ghost use Rattle.classfile.specs.Views.{member_view, class_view};
+ghost use Rattle.classfile.specs.Views.{member_view, class_attribute_view, class_view};
 
-use crate::attribute::Attribute;
+use crate::class_attribute::ClassAttribute;
 use crate::location::Location;
-use crate::member::{Member, attributes, put_three, three};
+use crate::member::{Member, put_three, three};
 use crate::table::{Item, put_table, take_table};
 use layout::{Cursor, Output, ReadFault, WriteFault};
 use pool::{Pool, put_pool, read_pool};
@@ -36,7 +36,7 @@ pub struct ClassFile<'a> {
     /// The methods item.
     pub methods: Vec<Member<'a>>,
     /// The attributes item.
-    pub attributes: Vec<Attribute<'a>>,
+    pub attributes: Vec<ClassAttribute<'a>>,
 }
 
 impl<'a> Item<'a> for u16 {
@@ -73,7 +73,7 @@ impl<'a> Item<'a> for u16 {
 fn is_version(minor: u16, major: u16) -> bool
     ensures { result ≡ is_version minor major }
 {
-    major >= 51 && major <= 60 && (major <= 55 || minor == 0)
+    major >= 51 && major <= 61 && (major <= 55 || minor == 0)
 }
 
 /// The magic number and the version.
@@ -116,6 +116,18 @@ fn members<'a>(
     take_table::<Member<'a>>(alloc, pool, location, cursor)
 }
 
+#[tactic(auto, unfolding(crate::specs::ClassFile::class_attributes))]
+fn class_attributes<'a>(
+    alloc: Global,
+    pool: &Pool<'a>,
+    location: Location,
+    cursor: &mut Cursor<'a>,
+) -> Result<Vec<ClassAttribute<'a>>, ReadFault>
+    ensures { GoesOn (class_attributes pool.now location) (λ v. map class_attribute_view v.items) cursor.old cursor.new result }
+{
+    take_table::<ClassAttribute<'a>>(alloc, pool, location, cursor)
+}
+
 /// A class file, from its magic number to its attributes.
 #[tactic(auto, using(crate::proofs::Steps::steps), unfolding(crate::specs::ClassFile::class))]
 pub fn class<'a>(alloc: Global, cursor: &mut Cursor<'a>) -> Result<ClassFile<'a>, ReadFault>
@@ -130,7 +142,7 @@ pub fn class<'a>(alloc: Global, cursor: &mut Cursor<'a>) -> Result<ClassFile<'a>
     let location = Location::Class {
         major: major_version,
     };
-    let attributes = attributes(alloc, &constant_pool, location, cursor)?;
+    let attributes = class_attributes(alloc, &constant_pool, location, cursor)?;
     Ok(ClassFile {
         minor_version,
         major_version,

@@ -5,13 +5,15 @@ ghost use Rattle.classfile.specs.ClassForm.{is_object, interfaces_have_bad, inte
 ghost use Rattle.classfile.specs.Views.{class_view};
 ghost use Rattle.classfile.specs.declared.location.Location.TheVariants as locations;
 
-use crate::attribute_form::{attributes_have_bad, attributes_have_other, numbers_stand_twice};
 use crate::class_file::ClassFile;
 use crate::constant_form::is_array_class;
 use crate::flags::{INTERFACE, are_bad_class_flags, has};
 use crate::form_fault::FormRule;
 use crate::indices::{ConstantKind, is_bad, is_bad_unless_zero, is_other};
 use crate::location::Location;
+use crate::record_form::{
+    class_attributes_have_bad, class_attributes_have_other, class_attributes_have_twice,
+};
 use names::{OBJECT, Text};
 use pool::Pool;
 
@@ -81,7 +83,7 @@ fn class_has_bad(class: &ClassFile<'_>) -> bool
     is_bad(pool, class.this_class)
         || is_bad_unless_zero(pool, class.super_class)
         || interfaces_have_bad(pool, &class.interfaces)
-        || attributes_have_bad(pool, location(class), &class.attributes)
+        || class_attributes_have_bad(pool, location(class), &class.attributes)
 }
 
 #[tactic(auto, unfolding(crate::specs::ClassForm::class_has_other))]
@@ -92,7 +94,7 @@ fn class_has_other(class: &ClassFile<'_>) -> bool
     is_other(pool, ConstantKind::Class, class.this_class)
         || is_other(pool, ConstantKind::Class, class.super_class)
         || interfaces_have_other(pool, &class.interfaces)
-        || attributes_have_other(pool, location(class), &class.attributes)
+        || class_attributes_have_other(pool, location(class), &class.attributes)
 }
 
 #[tactic(auto, unfolding(crate::specs::ClassForm::class_has_array))]
@@ -132,7 +134,11 @@ pub fn class_rule(class: &ClassFile<'_>) -> Option<FormRule>
         Some(FormRule::BadFlags)
     } else if has_bad_super(class) {
         Some(FormRule::BadSuper)
-    } else if numbers_stand_twice(&class.constant_pool, location(class), &class.attributes) {
+    } else if class_attributes_have_twice(
+        &class.constant_pool,
+        location(class),
+        &class.attributes,
+    ) {
         Some(FormRule::AttributeTwice)
     } else {
         None

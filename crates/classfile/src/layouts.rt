@@ -46,14 +46,15 @@ macro_rules! attributes {
 }
 
 /// Of classes.
-static CLASS_ROWS: [Row; 7] = attributes! {
-    "SourceFile"   51 true  false [Text];
-    "InnerClasses" 51 true  true  [Class, ClassOrZero, TextOrZero, Plain];
-    "NestHost"     55 true  false [Class];
-    "NestMembers"  55 true  true  [Class];
-    "Signature"    51 true  false [Text];
-    "Deprecated"   51 false false [];
-    "Synthetic"    51 false false [];
+static CLASS_ROWS: [Row; 8] = attributes! {
+    "SourceFile"          51 true  false [Text];
+    "InnerClasses"        51 true  true  [Class, ClassOrZero, TextOrZero, Plain];
+    "NestHost"            55 true  false [Class];
+    "NestMembers"         55 true  true  [Class];
+    "PermittedSubclasses" 61 true  true  [Class];
+    "Signature"           51 true  false [Text];
+    "Deprecated"          51 false false [];
+    "Synthetic"           51 false false [];
 };
 
 /// Of fields.
@@ -78,6 +79,11 @@ static CODE_ROWS: [Row; 2] = attributes! {
     "LocalVariableTable" 51 false true [Plain, Plain, Text, Text, Plain];
 };
 
+/// Of components of records.
+static COMPONENT_ROWS: [Row; 1] = attributes! {
+    "Signature" 51 true false [Text];
+};
+
 /// The attributes of numbers that may stand in a table.
 pub fn rows(location: Location) -> &'static [Row]
     ensures { map row_view result.now ≡ rows location }
@@ -87,6 +93,7 @@ pub fn rows(location: Location) -> &'static [Row]
         Location::Field => &FIELD_ROWS,
         Location::Method => &METHOD_ROWS,
         Location::Code => &CODE_ROWS,
+        Location::RecordComponent => &COMPONENT_ROWS,
     }
 }
 
@@ -115,7 +122,7 @@ pub fn major_at(location: Location) -> u16
 {
     match location {
         Location::Class { major } => major,
-        Location::Field | Location::Method | Location::Code => 51,
+        Location::Field | Location::Method | Location::Code | Location::RecordComponent => 51,
     }
 }
 

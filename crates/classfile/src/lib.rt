@@ -11,7 +11,8 @@
 //! |---|---|
 //! | `class_file` | [`ClassFile`], its version and what stands behind its pool |
 //! | `member` | [`Member`], a field or a method |
-//! | `attribute` | [`Attribute`] of a class, field or method |
+//! | `attribute` | [`Attribute`] of a field, a method or a component of a record |
+//! | `class_attribute`, `component` | [`ClassAttribute`], and the [`Component`]s of a record |
 //! | `code` | [`CodeAttr`] and its [`ExceptionHandler`]s |
 //! | `code_method` | [`CodeMethod`], a method of a well-formed class as its instructions see it |
 //! | `nested` | [`NestedAttribute`], an attribute of a Code attribute |
@@ -23,7 +24,8 @@
 //! | `form` | [`form_check`], [`Formed`], and the places one after the other |
 //! | `form_fault` | [`FormRule`], [`Place`] and [`FormFault`] |
 //! | `constant_form`, `class_form`, `member_form`, `attribute_form` | which rule is broken at a place |
-//! | `number_form` | which rule is broken by an index in an attribute of numbers |
+//! | `number_form`, `once` | which rule is broken by an index in an attribute of numbers, and whether one stands twice |
+//! | `record_form` | which rule is broken by the attributes of a class |
 //! | `indices`, `naming`, `flags` | what an index leads to, forms of names and descriptors, access flags |
 //! | `signatures` | the names and descriptors that were met |
 //! | `form_laws` | what the rules mean, and that there is one first fault |
@@ -31,10 +33,12 @@
 
 mod attribute;
 mod attribute_form;
+mod class_attribute;
 mod class_file;
 mod class_form;
 mod code;
 mod code_method;
+mod component;
 mod constant_form;
 mod decoding;
 mod encoding;
@@ -51,13 +55,17 @@ mod member_form;
 mod naming;
 mod nested;
 mod number_form;
+mod once;
+mod record_form;
 mod signatures;
 mod table;
 
 pub use attribute::Attribute;
+pub use class_attribute::ClassAttribute;
 pub use class_file::ClassFile;
 pub use code::{CodeAttr, ExceptionHandler};
 pub use code_method::CodeMethod;
+pub use component::Component;
 pub use decoding::decode;
 pub use encoding::encode;
 pub use form::{Formed, form_check};

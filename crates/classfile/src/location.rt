@@ -1,6 +1,6 @@
 //! Where an attribute stands, and whether its body is read by field there (JVMS 4.7, table 4.7-C).
 ghost use Rattle.std.specs.Prelude.{◌≡◌};
-ghost use Rattle.classfile.specs.Locations.{is_named, is_code, is_stack_map};
+ghost use Rattle.classfile.specs.Locations.{is_named, is_code, is_stack_map, is_record, is_permitted_subclasses};
 
 use pool::Pool;
 
@@ -15,6 +15,8 @@ pub enum Location {
     Method,
     /// The attributes of a Code attribute.
     Code,
+    /// The attributes of a component of a record.
+    RecordComponent,
 }
 
 /// Whether the index names this text.
@@ -33,7 +35,8 @@ pub fn is_code(pool: &Pool<'_>, location: Location, name: u16) -> bool
 {
     match location {
         Location::Method => is_named(pool, name, b"Code"),
-        Location::Class { .. } | Location::Field | Location::Code => false,
+        Location::Class { .. } | Location::Field | Location::Code | Location::RecordComponent =>
+            false,
     }
 }
 
@@ -43,6 +46,27 @@ pub fn is_stack_map(pool: &Pool<'_>, location: Location, name: u16) -> bool
 {
     match location {
         Location::Code => is_named(pool, name, b"StackMapTable"),
-        Location::Class { .. } | Location::Field | Location::Method => false,
+        Location::Class { .. } | Location::Field | Location::Method | Location::RecordComponent =>
+            false,
+    }
+}
+
+/// Whether an attribute of this name is read as a Record attribute here.
+pub fn is_record(pool: &Pool<'_>, location: Location, name: u16) -> bool
+    ensures { result ≡ is_record pool.now location name }
+{
+    match location {
+        Location::Class { major } => major >= 60 && is_named(pool, name, b"Record"),
+        Location::Field | Location::Method | Location::Code | Location::RecordComponent => false,
+    }
+}
+
+/// Whether an attribute of this name is a PermittedSubclasses here.
+pub fn is_permitted_subclasses(pool: &Pool<'_>, location: Location, name: u16) -> bool
+    ensures { result ≡ is_permitted_subclasses pool.now location name }
+{
+    match location {
+        Location::Class { major } => major >= 61 && is_named(pool, name, b"PermittedSubclasses"),
+        Location::Field | Location::Method | Location::Code | Location::RecordComponent => false,
     }
 }

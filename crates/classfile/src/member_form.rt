@@ -8,7 +8,6 @@ ghost use Rattle.pool.specs.Views.{name_and_type_view};
 
 use crate::attribute_form::{
     attributes_have_bad, attributes_have_other, has_code, have_bad_length, have_twice,
-    numbers_stand_twice,
 };
 use crate::constant_form::{
     is_no_field_descriptor, is_no_unqualified_name, texts_have_bad, texts_have_other,
@@ -18,6 +17,7 @@ use crate::form_fault::FormRule;
 use crate::location::Location;
 use crate::member::Member;
 use crate::naming::{fits_method, is_clinit, is_init, is_method_name};
+use crate::once::numbers_stand_twice;
 use names::Text;
 use pool::{NameAndType, Pool, PoolFault};
 use std::alloc::{AllocError, Global};

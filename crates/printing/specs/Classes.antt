@@ -2,7 +2,8 @@
 use Rattle.std.specs.Prelude.{ℕ, Bool, false, is_some, nat_eq, if◌then◌else◌, List, [], ◌++◌, codes, decimal, Option, Some, None, Ok, Err}
 use Rattle.std.specs.List.{flat_map, list_any}
 use Rattle.pool.specs.Entries.{Entry}
-use Rattle.classfile.specs.Values.{Handler, CodeBody, Member, Class}
+use Rattle.classfile.specs.ClassAttributes.{components_of, permitted_of}
+use Rattle.classfile.specs.Values.{Handler, CodeBody, Member, Component, ClassAttribute, Class}
 use Rattle.classfile.specs.Methods.{code_of}
 use Rattle.insn.specs.declared.fault.CodeFault.{CodeFault}
 use Rattle.insn.specs.Readings.{Reading, reading_of}
@@ -79,10 +80,30 @@ super_line c = codes "super " ++ (super_text c.constant_pool c.super_class ++ co
 abbrev pub interface_line : List Entry → ℕ → List ℕ
 interface_line pool index = codes "interface " ++ (class_text pool index ++ codes "\n")
 
+-- a component of a record (4.7.30)
+abbrev pub component_line : List Entry → Component → List ℕ
+component_line pool c = codes "component " ++ (constant_text pool c.name ++ (codes " " ++ (constant_text pool c.descriptor ++ codes "\n")))
+
+abbrev pub component_lines : List Entry → ClassAttribute → List ℕ
+component_lines pool attribute = flat_map (component_line pool) (components_of attribute)
+
+-- a class that may extend a sealed one directly (4.7.31)
+abbrev pub permits_line : List Entry → ℕ → List ℕ
+permits_line pool index = codes "permits " ++ (class_text pool index ++ codes "\n")
+
+-- such attributes are known from a major version on
+abbrev pub permits_lines : ℕ → List Entry → ClassAttribute → List ℕ
+permits_lines major pool attribute = flat_map (permits_line pool) (permitted_of major pool attribute)
+
+-- all components, and then all that is permitted
+abbrev pub attribute_lines : ℕ → List Entry → List ClassAttribute → List ℕ
+attribute_lines major pool attributes = flat_map (component_lines pool) attributes ++ flat_map (permits_lines major pool) attributes
+
 abbrev pub class_lines : Class → List ℕ
 class_lines c =
     class_line c ++ (super_line c ++ (flat_map (interface_line c.constant_pool) c.interfaces
-    ++ (flat_map (field_line c.constant_pool) c.fields ++ flat_map (method_lines c.constant_pool) c.methods)))
+    ++ (attribute_lines c.major_version c.constant_pool c.attributes
+    ++ (flat_map (field_line c.constant_pool) c.fields ++ flat_map (method_lines c.constant_pool) c.methods))))
 
 -- the code of a method is refused
 abbrev pub has_refused : Class → Bool

@@ -9,9 +9,11 @@
 //! - `faults`: why something is refused, and where.
 //! - `instruction`: the line of an instruction.
 //! - `code`: the lines of a method's code.
+//! - `class_attributes`: the lines of records and sealed classes.
 //! - `listing`: the lines of a class file.
 #![tactic(auto)]
 
+mod class_attributes;
 mod code;
 mod faults;
 mod instruction;

@@ -6,6 +6,7 @@ ghost use Rattle.classfile.specs.Views.{member_view, class_view};
 ghost use Rattle.printing.specs.Writing.{Writes};
 ghost use Rattle.printing.specs.Classes.{member_line, field_line, method_lines, lines_of_code, is_refused_method, class_line, super_text, super_line, interface_line, class_lines, has_refused};
 
+use crate::class_attributes::ClassAttributes;
 use crate::code::{Code, code_fault};
 use crate::name::{ClassName, ConstantText, Hexadecimal};
 use crate::print::{Lines, Number, Print, Then, Word, WriteFailed, put_lines};
@@ -157,8 +158,8 @@ impl<'p, 'a> Print for Interfaces<'p, 'a> {
     }
 }
 
-/// The lines of a class file: the class with its version and flags, its superclass, interfaces, fields and methods, and
-/// behind each method that has code the lines of this code.
+/// The lines of a class file: the class with its version and flags, its superclass, interfaces, the components of a record
+/// and the classes that a sealed class permits, fields and methods, and behind each method that has code the lines of this code.
 #[derive(Clone, Copy)]
 pub struct Listing<'c, 'a>(pub &'c ClassFile<'a>);
 
@@ -240,9 +241,17 @@ impl<'c, 'a> Print for Listing<'c, 'a> {
             pool,
             members: &class.methods,
         };
+        let attributes = ClassAttributes {
+            major: class.major_version,
+            pool,
+            attributes: &class.attributes,
+        };
         Then(
             Head(class),
-            Then(Above(class), Then(interfaces, Then(fields, methods))),
+            Then(
+                Above(class),
+                Then(interfaces, Then(attributes, Then(fields, methods))),
+            ),
         )
         .put(out)
     }

@@ -1,11 +1,12 @@
 use crate::making::{K, are_written};
 use classfile::{
-    Attribute, ClassFile, CodeAttr, Member, NestedAttribute, class_or_fault, decode, encode,
-    formed_has_names, formed_or_faulty, least_rule_is_told, no_fault_in_class, no_fault_in_formed,
-    one_class, one_fault, one_first_fault, one_spelling, tests_are_forms,
+    Attribute, ClassAttribute, ClassFile, CodeAttr, Component, Member, NestedAttribute,
+    class_or_fault, decode, encode, formed_has_names, formed_or_faulty, least_rule_is_told,
+    no_fault_in_class, no_fault_in_formed, one_class, one_fault, one_first_fault, one_spelling,
+    tests_are_forms,
 };
 use layout::{ReadFault, WriteFault};
-use std::alloc::{AllocError, Global};
+use std::alloc::Global;
 use std::test::*;
 
 /// The class with a StackMapTable of no frames in its Code attribute.
@@ -106,24 +107,17 @@ fn refused_to_write(rt: HostRuntime) {
     assert!(rt; write_fault(alloc, 51, 65_536) == Some(WriteFault::DoesNotFit));
 }
 
-/// Attributes of which one is named `Code`, with a body that is none.
-fn raw_code(alloc: Global) -> Result<Vec<Attribute<'static>>, AllocError> {
-    let raw = Attribute::Raw {
-        name: 7,
-        body: &[1, 2],
-    };
-    let mut attributes = Vec::new(alloc);
-    attributes.push(raw)?;
-    Ok(attributes)
-}
-
-/// K with such attributes of the class, or of its method.
+/// K with an attribute of the class, or of its method, that is named `Code` and whose body is none.
 fn with_raw_code(alloc: Global, of_method: bool) -> Option<ClassFile<'static>> {
+    let (name, body) = (7, [1, 2].as_slice());
     let mut class = decode(alloc, &K).ok()?;
-    let attributes = raw_code(alloc).ok()?;
-    match class.methods.first_mut() {
-        Some(method) if of_method => method.attributes = attributes,
-        _ => class.attributes = attributes,
+    if of_method {
+        let method = class.methods.first_mut()?;
+        method.attributes.clear();
+        method.attributes.push(Attribute::Raw { name, body }).ok()?;
+    } else {
+        let raw = ClassAttribute::Raw { name, body };
+        class.attributes.push(raw).ok()?;
     }
     Some(class)
 }
@@ -180,4 +174,73 @@ fn attributes_of_numbers(rt: HostRuntime) {
     assert!(rt; is_constant_written(alloc, &[2]) == Some(false));
     assert!(rt; is_constant_written(alloc, &[]) == Some(false));
     assert!(rt; is_constant_written(alloc, &[0, 2, 0]) == Some(false));
+}
+
+/// K as a record of one component, of major version 60.
+const RECORD: [u8; 120] = [
+    0xCA, 0xFE, 0xBA, 0xBE, 0, 0, 0, 0x3C, 0, 9, 7, 0, 2, 1, 0, 1, 0x4B, 7, 0, 4, 1, 0, 0x10, 0x6A,
+    0x61, 0x76, 0x61, 0x2F, 0x6C, 0x61, 0x6E, 0x67, 0x2F, 0x4F, 0x62, 0x6A, 0x65, 0x63, 0x74, 1, 0,
+    1, 0x66, 1, 0, 3, 0x28, 0x29, 0x56, 1, 0, 4, 0x43, 0x6F, 0x64, 0x65, 1, 0, 6, 0x52, 0x65, 0x63,
+    0x6F, 0x72, 0x64, 0, 0x21, 0, 1, 0, 3, 0, 0, 0, 0, 0, 1, 0, 9, 0, 5, 0, 6, 0, 1, 0, 7, 0, 0, 0,
+    0x0D, 0, 0, 0, 0, 0, 0, 0, 1, 0xB1, 0, 0, 0, 0, 0, 1, 0, 8, 0, 0, 0, 8, 0, 1, 0, 5, 0, 6, 0, 0,
+];
+
+/// Whether the one attribute of the class is a Record of one component.
+fn is_recorded(class: &ClassFile<'_>) -> bool {
+    match class.attributes.as_slice() {
+        [record] => {
+            let permitted = record.permitted_subclasses(&class.constant_pool, 61);
+            permitted.is_empty()
+                && matches!(
+                    record.components(),
+                    [Component {
+                        name: 5,
+                        descriptor: 6,
+                        ..
+                    }]
+                )
+        }
+        _ => false,
+    }
+}
+
+/// Whether the record is read and written; or memory ran out, where it may.
+fn is_record_read(alloc: Global, may_fail: bool) -> bool {
+    match decode(alloc, &RECORD) {
+        Ok(class) => {
+            is_recorded(&class) && are_written(encode(alloc, &class), &RECORD, may_fail)
+        }
+        Err(fault) => may_fail && matches!(fault, ReadFault::OutOfMemory),
+    }
+}
+
+#[test]
+fn a_record_both_ways(rt: HostRuntime) {
+    assert!(rt; is_record_read(rt.alloc(), false));
+}
+
+/// Where memory runs out each call answers 1, and otherwise as ever.
+#[test]
+fn memory_runs_out_in_a_record(rt: HostRuntime) {
+    assert!(rt; is_record_read(rt.alloc(), true));
+}
+
+/// Whether the record is written as one of this major version, or no bytes spell it; nothing where memory runs out.
+fn is_record_written(alloc: Global, major: u16) -> Option<bool> {
+    let mut class = decode(alloc, &RECORD).ok()?;
+    class.major_version = major;
+    match encode(alloc, &class) {
+        Ok(_) => Some(true),
+        Err(WriteFault::HasNoSpelling) => Some(false),
+        Err(_) => None,
+    }
+}
+
+/// A Record is read by field from major version 60 on, so below it no bytes spell one that is.
+#[test]
+fn a_record_below_its_version(rt: HostRuntime) {
+    let alloc = rt.alloc();
+    assert!(rt; is_record_written(alloc, 59) == Some(false));
+    assert!(rt; is_record_written(alloc, 60) == Some(true));
+    assert!(rt; is_record_written(alloc, 61) == Some(true));
 }
