@@ -21,6 +21,15 @@ const INIT: [u8; 102] = [
     0, 2, 0, 0, 0, 1, 0xB1, 0, 0, 0, 0, 0, 0,
 ];
 
+/// The same with the constants 8 and 9 for Object's `<init>`, and a method that calls that.
+const CONSTRUCTING: [u8; 114] = [
+    0xCA, 0xFE, 0xBA, 0xBE, 0, 0, 0, 0x34, 0, 10, 7, 0, 2, 1, 0, 1, 0x4B, 7, 0, 4, 1, 0, 0x10, 0x6A,
+    0x61, 0x76, 0x61, 0x2F, 0x6C, 0x61, 0x6E, 0x67, 0x2F, 0x4F, 0x62, 0x6A, 0x65, 0x63, 0x74, 1, 0,
+    6, 0x3C, 0x69, 0x6E, 0x69, 0x74, 0x3E, 1, 0, 3, 0x28, 0x29, 0x56, 1, 0, 4, 0x43, 0x6F, 0x64,
+    0x65, 12, 0, 5, 0, 6, 10, 0, 3, 0, 8, 0, 0x21, 0, 1, 0, 3, 0, 0, 0, 0, 0, 1, 0, 0, 0, 5, 0, 6,
+    0, 1, 0, 7, 0, 0, 0, 0x0F, 0, 4, 0, 2, 0, 0, 0, 3, 0xB7, 0, 9, 0, 0, 0, 0, 0, 0,
+];
+
 /// The same class file with this byte as the method's code.
 fn with(code: u8) -> [u8; 102] {
     let mut bytes = INIT;
@@ -87,7 +96,7 @@ fn judge_class<'a>(alloc: Global, class: &ClassFile<'a>, frame: &Frame<'a>) -> J
 
 /// What the rule says of the instruction in `<init>` of this class file, before which these types stand on the stack and
 /// nothing is known of the local variables.
-fn judge<'a>(alloc: Global, bytes: &'a [u8; 102], stack: &[VType<'a>], flag: bool) -> Judged<'a> {
+fn judge<'a>(alloc: Global, bytes: &'a [u8], stack: &[VType<'a>], flag: bool) -> Judged<'a> {
     let before = frame(alloc, &[VType::Top, VType::Top], stack, flag);
     match (decode(alloc, bytes), before) {
         (Ok(class), Ok(before)) => judge_class(alloc, &class, &before),
@@ -125,6 +134,25 @@ fn ends(alloc: Global, flag: bool) -> Result<bool, u8> {
 fn returns(rt: HostRuntime) {
     assert!(rt; ends(rt.alloc(), false) == Ok(true));
     assert!(rt; ends(rt.alloc(), true) == Err(74));
+}
+
+/// Whether the own object is initialized then, and its reference taken.
+fn readies(judged: Judged<'_>) -> bool {
+    match judged {
+        Ok(after) => after.own && !after.frame.flag && after.frame.stack.is_empty(),
+        Err(_) => false,
+    }
+}
+
+/// A constructor is called on the own object, and on no object that is initialized.
+#[test]
+fn constructors(rt: HostRuntime) {
+    let alloc = rt.alloc();
+    let called = judge(alloc, &CONSTRUCTING, &[VType::UninitThis], true);
+    assert!(rt; readies(called));
+    let ready = judge(alloc, &CONSTRUCTING, &[VType::Class(b"K")], false);
+    assert!(rt; matches!(ready, Err(62)));
+    assert!(rt; matches!(judge(alloc, &CONSTRUCTING, &[], true), Err(61)));
 }
 
 /// Whether a `goto` and a `nop` go the right ways.

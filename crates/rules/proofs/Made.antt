@@ -128,7 +128,7 @@ no_call (calls_special type wants gives) f e = refl
 no_call returns f e = refl
 no_call (refuses n) f e = refl
 
-never : (m : Method Act) (a : Act) (f : FrameFact) → keeps_locals a ≡ true → constructs_own (plan m a) f ≡ false
+pub never : (m : Method Act) (a : Act) (f : FrameFact) → keeps_locals a ≡ true → constructs_own (plan m a) f ≡ false
 never m a f e = no_call (plan m a) f (by_plan m a e)
 
 never_new : (f : FrameFact) (t : Option ReferenceType) → constructs_own (new_object t) f ≡ false

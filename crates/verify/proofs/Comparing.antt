@@ -20,7 +20,7 @@ use Rattle.rules.specs.Rules.{constructs_own}
 use Rattle.rules.specs.Table.{plan}
 use Rattle.rules.specs.Ways.{keeps_locals}
 use Rattle.rules.proofs.Keeping.{locals_kept}
-use Rattle.rules.proofs.Directions.{way_of}
+use Rattle.rules.proofs.Made.{never}
 use Rattle.verify.specs.Keeping.{IsSameBeneath}
 
 -- ---- locals
@@ -143,5 +143,5 @@ stacks_differ classes f g flags s =
 pub same_behind : (m : Method Act) (at : ℕ) (a : Act) (f now : FrameFact) → keeps_locals a ≡ true → now ≡ after m at (plan m a) f → IsSameBeneath f now
 same_behind m at a f now keeps is = record {
   locals = sym (ap (λ (z : FrameFact). z.locals) is ∙ locals_kept m at a f keeps);
-  flag = sym (ap (λ (z : FrameFact). z.flag) is ∙ flag_kept m at (plan m a) f ((way_of m a).own f));
+  flag = sym (ap (λ (z : FrameFact). z.flag) is ∙ flag_kept m at (plan m a) f (never m a f keeps));
 }

@@ -9,13 +9,13 @@ use Rattle.verify.specs.Verdict.{is_covered}
 use Rattle.verify.proofs.judging.covers_constructor.Goals as goal
 
 -- where the first holds, both are the second
-both_are : {E : Type 0} (own covered : Bool) (r : Result Bool E) (Rest : Type 0) → own ≡ true → IfOk r (λ b. (b ≡ covered) × Rest) → IfOk r (λ b. (b ≡ (own && covered)) × Rest)
-both_are own covered (Ok b) Rest e h = (h.0 ∙ ap (λ o. o && covered) (sym e), h.1)
-both_are own covered (Err x) Rest e h = tt
+both_are : {E : Type 0} (own covered : Bool) (r : Result Bool E) (R S : Type 0) → own ≡ true → IfOk r (λ b. (b ≡ covered) × R × S) → IfOk r (λ b. (b ≡ (own && covered)) × R × S)
+both_are own covered (Ok b) R S e h = (h.0 ∙ ap (λ o. o && covered) (sym e), h.1, h.2)
+both_are own covered (Err x) R S e h = tt
 
 pub returns : goal.returns
 returns c = λ cs frames es t ahead.
     let f = held c.args.frame.now in
     both_are (constructs_own (plan (method_view c.args.method.now) (act_view c.args.act.now)) f) (is_covered es c.args.at) c.covers.result
-    (Follows cs frames es c.args.at f c.covers.new.self × AreAhead c.args.at c.covers.new.self)
+    (Follows cs frames es c.args.at f c.covers.new.self) (AreAhead c.args.at c.covers.new.self)
     (sym c.in_ok-constructs_own.ensures ∙ c.if-not-branch.false) (c.covers.ensures cs frames es f t ahead)
