@@ -5,9 +5,9 @@ use hierarchy::{Chains, summary_of};
 use std::alloc::{AllocError, Global};
 use std::test::*;
 use verify::{
-    ClassFault, MethodVerdict, Report, Verdict, VerifyFault, map_refused_where,
-    one_report, one_verdict, refused_where, type_safe_is_safe, type_safe_is_verified,
-    verified_is_type_safe, verify_class, verify_method, verify_methods,
+    ClassFault, MethodVerdict, Report, Verdict, VerifyFault, map_refused_where, one_report,
+    one_verdict, refused_where, type_safe_is_safe, type_safe_is_verified, verified_is_type_safe,
+    verify_class, verify_method, verify_methods,
 };
 
 #[test]

@@ -1,6 +1,6 @@
 -- The conditions of `new` and of a constructor's call, judged one after the other.
-use Rattle.std.specs.Prelude.{not, ◌&&◌}
-use Rattle.std.proofs.Common.{◌≡◌, ◌⊎◌, ℕ, Bool, true, false, List, [], ◌∷◌, Some, None, Result, map, refl, sym, ◌∙◌, ap, subst}
+use Rattle.std.specs.Prelude.{not}
+use Rattle.std.proofs.Common.{◌≡◌, ℕ, Bool, true, false, List, [], ◌∷◌, Some, Result, map, refl, sym, ◌∙◌, ap, subst}
 use Rattle.classfile.specs.Methods.{Method}
 use Rattle.hierarchy.specs.Class.{ClassFact}
 use Rattle.hierarchy.specs.Answer.{Outcome, yes, no, missing}
@@ -11,7 +11,7 @@ use Rattle.frames.specs.FrameFact.{FrameFact}
 use Rattle.frames.specs.Conditions.{reason, Conditions, least, is_no, missing_if}
 use Rattle.rules.specs.declared.reason.Reason.{Reason}
 use Rattle.rules.specs.Plans.{Want, any_reference, constructs, makes}
-use Rattle.rules.specs.After.{after, with_stack, top_of, rest_of, forgotten, initialized, class_after, flag_after, constructed}
+use Rattle.rules.specs.After.{after, top_of, rest_of, forgotten, initialized, class_after, flag_after, constructed}
 use Rattle.rules.specs.Replacing.{initialized_frame}
 use Rattle.rules.specs.Rules.{is_short, operands, may_construct, is_too_wide, is_on_stack, conditions}
 use Rattle.rules.specs.Outcomes.{Done, TookOff, pushed, settled}

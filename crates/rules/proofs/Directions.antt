@@ -1,6 +1,6 @@
 -- Where the plan of an instruction goes: as its act says, whatever the method; or there is no rule, for a reason that goes before all that is not
 -- the rule's.
-use Rattle.std.proofs.Common.{◌≡◌, ◌⊎◌, ◌∙◌, ℕ, ◌<◌, Bool, true, false, List, [], ◌∷◌, Option, Some, None, refl, sym, ap, arith, inl, inr, if◌then◌else◌}
+use Rattle.std.proofs.Common.{◌≡◌, ◌⊎◌, ◌∙◌, ℕ, ◌<◌, Bool, true, false, List, [], ◌∷◌, Option, Some, None, refl, sym, arith, inl, inr, if◌then◌else◌}
 use Rattle.names.specs.declared.base.Primitive.{Primitive}
 use Rattle.names.specs.Descriptors.{FieldDescriptor, primitive, class as class_descriptor, array as array_descriptor}
 use Rattle.std.specs.Prelude.{nat_lt, not, ◌&&◌}

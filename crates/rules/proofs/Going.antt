@@ -1,5 +1,5 @@
 -- Where an instruction goes that is not refused: as its act says, whatever the method.
-use Rattle.std.proofs.Common.{◌≡◌, ◌⊎◌, ◌∙◌, ℕ, Bool, false, List, Some, None, Ok, Err, inl, inr, sym, ap, subst}
+use Rattle.std.proofs.Common.{◌≡◌, ◌⊎◌, ◌∙◌, ℕ, Bool, List, Some, None, Ok, Err, inl, inr, ap, subst}
 use Rattle.classfile.specs.Methods.{Method}
 use Rattle.hierarchy.specs.Class.{ClassFact}
 use Rattle.insn.specs.Meanings.{Act}

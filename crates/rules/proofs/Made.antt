@@ -1,5 +1,5 @@
 -- What no instruction does but `new`, which makes an object of a class, and `invokespecial`, which calls constructors.
-use Rattle.std.proofs.Common.{◌≡◌, ℕ, zero, suc, ◌+◌, ◌-◌, ◌<◌, ◌≤◌, Bool, true, false, List, [], ◌∷◌, length, get_or, drop, map, reverse, Option, Some, None, refl, sym, ap, ◌∙◌, arith, if◌then◌else◌}
+use Rattle.std.proofs.Common.{◌≡◌, ℕ, zero, suc, ◌+◌, ◌-◌, ◌<◌, ◌≤◌, Bool, true, false, List, [], ◌∷◌, length, get_or, drop, map, Option, Some, None, refl, sym, ap, ◌∙◌, arith, if◌then◌else◌}
 use Rattle.std.proofs.lemmas.List.{drop_all, length-map, length-reverse, get_or-reverse, get_or-map}
 use Rattle.std.specs.Prelude.{not, ◌&&◌}
 use Rattle.names.specs.Descriptors.{FieldDescriptor}

@@ -47,11 +47,11 @@ module _ (r : VerificationType → VerificationType) (old now : List VType) wher
   replaced_next n x d lt e so = record {
     size = length_set now n x ∙ so.size;
     types =
-      map-set type_of now n x
-      ∙ ap (λ t. set (map type_of now) n t) (e ∙ ap r (sym (get_or-map type_of now n d (type_of d) lt) ∙ ap (λ ts. get_or ts n (type_of d)) so.types ∙ changed_here r n (map type_of old) (type_of d)))
-      ∙ ap (λ ts. set ts n (r (get_or (map type_of old) n (type_of d)))) so.types
-      ∙ changed_more r n (map type_of old) (type_of d) (omega (arith, lt, so.size, length-map old type_of))
-      ∙ (let same : suc n ≡ n + 1 = omega arith in ap (λ k. changed r k (map type_of old)) same);
+        map-set type_of now n x
+        ∙ ap (λ t. set (map type_of now) n t) (e ∙ ap r (sym (get_or-map type_of now n d (type_of d) lt) ∙ ap (λ ts. get_or ts n (type_of d)) so.types ∙ changed_here r n (map type_of old) (type_of d)))
+        ∙ ap (λ ts. set ts n (r (get_or (map type_of old) n (type_of d)))) so.types
+        ∙ changed_more r n (map type_of old) (type_of d) (omega (arith, lt, so.size, length-map old type_of))
+        ∙ (let same : suc n ≡ n + 1 = omega arith in ap (λ k. changed r k (map type_of old)) same);
   }
     where
       length_set : {A : Type 0} (xs : List A) (k : ℕ) (y : A) → length (set xs k y) ≡ length xs

@@ -5,7 +5,6 @@ use Rattle.classfile.specs.Methods.{Method}
 use Rattle.hierarchy.specs.Class.{ClassFact}
 use Rattle.hierarchy.specs.Answer.{Outcome, yes, no, missing}
 use Rattle.insn.specs.Meanings.{Act}
-use Rattle.insn.specs.Stacks.{beneath}
 use Rattle.frames.specs.VerificationType.{VerificationType, class}
 use Rattle.frames.specs.FrameFact.{FrameFact}
 use Rattle.frames.specs.Assignable.{type_answer}
@@ -14,7 +13,7 @@ use Rattle.frames.specs.Slots.{to_reference}
 use Rattle.frames.specs.Conditions.{reason, Conditions, least, is_no, missing_if}
 use Rattle.rules.specs.declared.reason.Reason.{Reason}
 use Rattle.rules.specs.Plans.{Want, calls_special}
-use Rattle.rules.specs.After.{after, with_stack}
+use Rattle.rules.specs.After.{after}
 use Rattle.rules.specs.Rules.{is_short, operands, is_too_wide, conditions}
 use Rattle.rules.specs.Outcomes.{Done, TookOff, pushed, settled}
 use Rattle.rules.proofs.Settling.{with_depth, redone}

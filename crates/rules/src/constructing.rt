@@ -75,11 +75,7 @@ fn may_construct<S: Starts>(
 }
 
 /// The class that the object is of once the constructor has returned.
-fn class_after<'a>(
-    method: &CodeMethod<'_, 'a>,
-    name: &'a [u8],
-    object: &VType<'_>,
-) -> &'a [u8]
+fn class_after<'a>(method: &CodeMethod<'_, 'a>, name: &'a [u8], object: &VType<'_>) -> &'a [u8]
     ensures { result.now ≡ class_after (method_view method.now) name.now (type_of object.now) }
 {
     match *object {

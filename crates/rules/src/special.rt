@@ -11,7 +11,9 @@ ghost use Rattle.rules.specs.Bodies.{method_view};
 ghost use Rattle.rules.specs.Held.{held};
 ghost use Rattle.rules.specs.Outcomes.{Done};
 
-use crate::calls::{arguments_on, has_room_for_receiver, is_init, is_of_class, may_name, result_of};
+use crate::calls::{
+    arguments_on, has_room_for_receiver, is_init, is_of_class, may_name, result_of,
+};
 use crate::constructing::constructs;
 use crate::declaring_class::own_class;
 use crate::families::settle;

@@ -1,5 +1,5 @@
 -- From the verdict on a method's instructions to the answer.
-use Rattle.std.proofs.Common.{◌≡◌, ℕ, true, false, List, [], Some, None, Result, Ok, Err, refl, sym, ◌∙◌, ap, subst, inl, inr}
+use Rattle.std.proofs.Common.{◌≡◌, ℕ, List, Some, None, Result, Ok, Err, refl, sym, ◌∙◌, ap, subst, inl, inr}
 use Rattle.std.specs.Prelude.{MatchResult}
 use Rattle.std.specs.Option.{option_and_then}
 use Rattle.classfile.specs.Values.{CodeBody, Class}

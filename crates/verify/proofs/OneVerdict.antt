@@ -1,16 +1,13 @@
 -- The cases of an answer exclude each other, and each gives one verdict.
-use Rattle.std.proofs.Common.{◌≡◌, ℕ, true, false, List, [], Option, Some, None, Result, Ok, sym, ◌∙◌, ap, subst, inl, inr}
-use Rattle.std.specs.Prelude.{slice_get}
-use Rattle.std.specs.Option.{option_and_then}
+use Rattle.std.proofs.Common.{◌≡◌, ℕ, List, Some, None, Result, Ok, sym, ◌∙◌, ap, subst, inl, inr}
 use Rattle.pool.specs.declared.fault.PoolFault.{PoolFault}
 use Rattle.pool.specs.Lookups.{Named, named}
-use Rattle.classfile.specs.Values.{CodeBody, Member, Class}
-use Rattle.classfile.specs.Methods.{Method, code_of, method_from, method_of}
+use Rattle.classfile.specs.Values.{Class}
+use Rattle.classfile.specs.Methods.{method_of}
 use Rattle.classfile.specs.MethodParts.{code_at}
 use Rattle.hierarchy.specs.Class.{ClassFact}
 use Rattle.insn.specs.Faults.{code_fault_number}
 use Rattle.insn.specs.Code.{SpellsCode, FaultyCode}
-use Rattle.insn.specs.Meanings.{Act}
 use Rattle.insn.specs.Offsets.{acts}
 use Rattle.rules.specs.Table.{plan}
 use Rattle.insn.proofs.CodeLaws.{one_code, code_or_fault, one_fault}

@@ -92,7 +92,7 @@ fn covers_constructor<'a>(
     ensures { (cs : List ClassFact) (frames : Frames) (es : List ExceptionEntry) → let f = held frame.now in
         Follows cs frames es at f handlers.old → AreAhead at handlers.old
         → IfOk result (λ covered. (covered ≡ (constructs_own (plan (method_view method.now) (act_view act.now)) f && is_covered es at))
-            × Follows cs frames es at f handlers.new × AreAhead at handlers.new) }
+        × Follows cs frames es at f handlers.new × AreAhead at handlers.new) }
 {
     if !constructs_own(alloc, method, act, frame)? {
         return Ok(false);
@@ -144,7 +144,8 @@ pub fn pass<'a, C: Classes>(
         handlers.behind(keeps_locals(&act))?;
         let last = code.is_at_end();
         let judged = judge(
-            alloc, method, starts, at, act, comes, last, caught, covered, frames, &mut known, seen, frame, classes,
+            alloc, method, starts, at, act, comes, last, caught, covered, frames, &mut known, seen,
+            frame, classes,
         );
         if let Err(reason) = judged {
             return refuse(at, reason);

@@ -45,8 +45,8 @@ mod verdict;
 pub use among::{AmongFault, verify_among};
 pub use files::{FileFault, FileRead, class_file};
 pub use laws::{
-    map_refused_where, one_report, one_verdict, refused_where,
-    type_safe_is_verified, verified_is_type_safe,
+    map_refused_where, one_report, one_verdict, refused_where, type_safe_is_verified,
+    verified_is_type_safe,
 };
 pub use method::verify_method;
 pub use report::{ClassFault, MethodVerdict, Report, verify_class, verify_methods};

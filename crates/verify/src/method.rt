@@ -74,7 +74,14 @@ fn judge_code<'a, C: Classes>(
     let mut seen = PlaceSet::new(alloc);
     seen.start(frames.len())?;
     pass(
-        alloc, method, starts, frames, &mut handlers, &mut seen, frame, classes,
+        alloc,
+        method,
+        starts,
+        frames,
+        &mut handlers,
+        &mut seen,
+        frame,
+        classes,
     )
 }
 

@@ -1,4 +1,4 @@
-use Rattle.std.proofs.Common.{true, [], ◌∷◌, subst}
+use Rattle.std.proofs.Common.{[], ◌∷◌, subst}
 use Rattle.names.specs.StandardNames.{object_name}
 use Rattle.insn.specs.declared.operation.Kind.TheVariants.{Int}
 use Rattle.rules.specs.After.{after}

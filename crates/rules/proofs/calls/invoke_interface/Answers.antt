@@ -1,6 +1,5 @@
 use Rattle.std.proofs.Common.{ap, sym, ◌∙◌}
-use Rattle.std.specs.Prelude.{not, ◌&&◌, option_map}
-use Rattle.names.specs.ReferenceTypes.{is_class_type}
+use Rattle.std.specs.Prelude.{option_map}
 use Rattle.pool.specs.Members.{method_at}
 use Rattle.pool.specs.MemberViews.{method_constant_view}
 use Rattle.rules.specs.Bodies.{method_view}

@@ -1,4 +1,4 @@
-use Rattle.std.proofs.Common.{◌≡◌, ℕ, List, [], map, inr, sym, ap, subst, ◌∙◌}
+use Rattle.std.proofs.Common.{◌≡◌, List, [], map, inr, sym, ap, subst, ◌∙◌}
 use Rattle.names.specs.declared.descriptor.FieldType.{FieldType}
 use Rattle.names.specs.Types.{type_of as descriptor_of}
 use Rattle.hierarchy.specs.Answer.{outcome_of}
@@ -42,8 +42,10 @@ returns-then-not-may_construct g c = λ at.
     let same : map want_view c.deref-2.result.now ≡ arguments_on (map descriptor_of params) [] =
     ap (map want_view) c.deref-2.ensures.value ∙ c.in_ok-wants.ensures ∙ ap (λ (z : List FieldType). arguments_on (map descriptor_of z) []) c.deref.ensures.value in
     let taken = subst (λ (z : List Want). TookOff cs z f (outcome_of c.in-Some.answer) (held c.take.new.frame)) same c.in-Some.ensures in
-    record { outcome = inr (constructs_may_not cs (method_view c.args.method.now) at c.args.name.now ws f (outcome_of c.in-Some.answer) (held c.take.new.frame) taken
-      (type_of c.in-Some-pop.object) (held c.pop.new.self) c.in-Some-pop.ensures (sym c.may_construct.ensures ∙ c.if-not-may_construct.true)) }
+    record {
+      outcome = inr (constructs_may_not cs (method_view c.args.method.now) at c.args.name.now ws f (outcome_of c.in-Some.answer) (held c.take.new.frame) taken
+          (type_of c.in-Some-pop.object) (held c.pop.new.self) c.in-Some-pop.ensures (sym c.may_construct.ensures ∙ c.if-not-may_construct.true));
+    }
 
 pub returns-in-No : goal.returns-in-No
 returns-in-No g c = λ at.
@@ -54,8 +56,10 @@ returns-in-No g c = λ at.
     let same : map want_view c.deref-2.result.now ≡ arguments_on (map descriptor_of params) [] =
     ap (map want_view) c.deref-2.ensures.value ∙ c.in_ok-wants.ensures ∙ ap (λ (z : List FieldType). arguments_on (map descriptor_of z) []) c.deref.ensures.value in
     let taken = subst (λ (z : List Want). TookOff cs z f (outcome_of c.in-Some.answer) (held c.take.new.frame)) same c.in-Some.ensures in
-    record { outcome = inr (constructs_no cs (method_view c.args.method.now) at c.args.name.now ws f (outcome_of c.in-Some.answer) (held c.take.new.frame) taken
-      (type_of c.in-Some-pop.object) (held c.pop.new.self) c.in-Some-pop.ensures (ap outcome_of c.in-No.is)) }
+    record {
+      outcome = inr (constructs_no cs (method_view c.args.method.now) at c.args.name.now ws f (outcome_of c.in-Some.answer) (held c.take.new.frame) taken
+          (type_of c.in-Some-pop.object) (held c.pop.new.self) c.in-Some-pop.ensures (ap outcome_of c.in-No.is));
+    }
 
 pub returns : goal.returns
 returns g c = λ at.

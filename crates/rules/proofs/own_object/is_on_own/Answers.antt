@@ -14,5 +14,5 @@ returns c =
     let count : params.len ≡ length (map type_of params.items) = omega (arith, length-map params.items type_of, params.ok.0) in
     c.is_own.ensures.own
     ∙ ap is_uninit_this (c.item_beneath.ensures ∙ ap (λ s. top_of (drop c.len.result s)) c.stack.ensures
-      ∙ ap (λ n. top_of (drop n (held c.args.frame.now).stack)) c.len.ensures
-      ∙ ap top_of (beneath_arguments (map type_of params.items) params.len (held c.args.frame.now).stack count))
+    ∙ ap (λ n. top_of (drop n (held c.args.frame.now).stack)) c.len.ensures
+    ∙ ap top_of (beneath_arguments (map type_of params.items) params.len (held c.args.frame.now).stack count))

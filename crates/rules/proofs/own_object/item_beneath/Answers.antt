@@ -1,5 +1,5 @@
 use Rattle.std.proofs.Common.{arith}
-use Rattle.rules.proofs.Made.{item_at, no_item}
+use Rattle.rules.proofs.Made.{item_at}
 use Rattle.rules.proofs.own_object.item_beneath.Goals as goal
 
 pub returns-then-count-stack : goal.returns-then-count-stack

@@ -1,4 +1,4 @@
-use Rattle.std.proofs.Common.{refl, arith}
+use Rattle.std.proofs.Common.{arith}
 use Rattle.frames.specs.VerificationType.{type_of}
 use Rattle.rules.specs.Replacing.{replaced}
 use Rattle.rules.proofs.Replaced.{replaced_next, replaced_end}

@@ -1,4 +1,3 @@
-use Rattle.std.proofs.Common.{[], sym, ◌∙◌}
 use Rattle.std.specs.Option.{option_map}
 use Rattle.names.specs.Types.{type_of}
 use Rattle.classfile.specs.CodeMethods.{code_method_view}

@@ -1,12 +1,11 @@
-use Rattle.std.proofs.Common.{◌≡◌, ℕ, ◌+◌, Bool, List, length, map, refl, sym, ap, subst, arith, ◌∙◌}
+use Rattle.std.proofs.Common.{◌≡◌, ℕ, ◌+◌, Bool, List, map, sym, ap, subst, arith, ◌∙◌}
 use Rattle.std.specs.Vec.{with_items}
 use Rattle.std.proofs.lemmas.List.{with_items_is}
 use Rattle.frames.specs.declared.vtype.VType.{VType}
 use Rattle.frames.specs.VerificationType.{VerificationType, type_of, class}
 use Rattle.frames.specs.FrameFact.{FrameFact}
 use Rattle.rules.specs.Replacing.{replaced}
-use Rattle.rules.specs.Views.{stack_of}
-use Rattle.rules.specs.Working.{IsCounted, held_frame, held_locals}
+use Rattle.rules.specs.Working.{IsCounted, held_frame}
 use Rattle.rules.proofs.Replaced.{replaced_length, stack_replaced, held_replaced, units_replaced, replaced_width, top_stays}
 use Rattle.rules.proofs.working.Working.initialize.Goals as goal
 

@@ -1,4 +1,4 @@
-use Rattle.std.proofs.Common.{◌≡◌, ◌++◌, [], ◌∷◌, List, refl, sym, ◌∙◌, ap, subst, arith}
+use Rattle.std.proofs.Common.{[], List, sym, ◌∙◌, subst, arith}
 use Rattle.std.proofs.lemmas.List.{append-nil}
 use Rattle.verify.specs.declared.exceptions.Entry.{Entry}
 use Rattle.verify.specs.Handling.{Tracks, IsSettled}
@@ -44,5 +44,5 @@ returns c = λ cs frames es f t ahead.
     let empty = none_left c.pop.new.self.items c.pop.new.self.len c.pop.new.self.ok.0 c.in_default.ensures.cases.1 in
     let left = subst (λ (xs : List Entry). Tracks es c.args.at so h.by_start.items h.begun xs h.settled.items) (c.in_default.ensures.items ∙ append-nil c.pop.new.self.items) was in
     let bare = subst (λ (xs : List Entry). Tracks es c.args.at so h.by_start.items h.begun xs []) empty
-        (subst (λ (xs : List Entry). Tracks es c.args.at so h.by_start.items h.begun c.pop.new.self.items xs) none left) in
+    (subst (λ (xs : List Entry). Tracks es c.args.at so h.by_start.items h.begun c.pop.new.self.items xs) none left) in
     (sym (ended_cover_none es c.args.at so h.by_start.items h.begun bare on), left, on)
