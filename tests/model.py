@@ -17,7 +17,9 @@ class Refused(Exception):
 class Reader:
     """Bytes that are read from left to right; `end` is where the innermost body ends, `name_at` where its attribute begins.
 
-    `short` gathers where numbers of two bytes stand: counts, flags and indices.
+    `short` gathers where numbers of two bytes stand: counts, flags and indices; `items` the fields, methods, components and attributes, each by its place, its end,
+    the place of its table's count and those of the lengths of what it stands in; `codes` the code of methods, by the place of its length, its end and such lengths; `flags`
+    the access flags, those of the class last, behind which stand the indices of the class and its superclass.
     """
 
     def __init__(self, data):
@@ -26,6 +28,10 @@ class Reader:
         self.end = len(data)
         self.name_at = None
         self.short = []
+        self.items = []
+        self.codes = []
+        self.flags = []
+        self.lengths = ()
 
     def part(self, size):
         if self.at + size > self.end:
@@ -88,6 +94,16 @@ def constant(reader, is_last):
     return tag, [reader.number(size) for size in BODIES[tag]], None
 
 
+def counted(reader, item):
+    """A table: a count of two bytes, and so many items."""
+    count_at, found = reader.at, []
+    for _ in range(reader.number(2)):
+        start = reader.at
+        found.append(item())
+        reader.items.append((start, reader.at, count_at, reader.lengths))
+    return found
+
+
 def pool(reader):
     """The constants by their indices."""
     at = reader.at
@@ -105,8 +121,10 @@ def code(reader, constants):
     """The body of a Code attribute (4.7.3): the length of its code, the classes that it catches, and its attributes."""
     reader.number(2)
     reader.number(2)
+    length_at = reader.at
     length = reader.number(4)
     reader.part(length)
+    reader.codes.append((length_at, reader.at, reader.lengths))
     catches = []
     for _ in range(reader.number(2)):
         catches.append([reader.number(2) for _ in range(4)][3])
@@ -125,48 +143,48 @@ def numbers_of(reader, letters):
 
 def components(reader, constants):
     """The body of a Record attribute (4.7.30): of each component its name, its descriptor and its attributes."""
-    found = []
-    for _ in range(reader.number(2)):
-        name, descriptor = reader.number(2), reader.number(2)
-        found.append((name, descriptor, attributes(reader, constants, "component")))
-    return found
+    return counted(reader, lambda: (reader.number(2), reader.number(2), attributes(reader, constants, "component")))
+
+
+def attribute(reader, constants, place, major):
+    """An attribute: the index of its name and the name, what a Code or a Record attribute holds, and numbers, where it is one of these."""
+    name_at = reader.at
+    name = reader.number(2)
+    size = reader.number(4)
+    start = reader.at
+    reader.part(size)
+    text = text_at(constants, name)
+    is_code, row = (place, text) == ("method", b"Code"), row_of(place, text, major)
+    is_record = (place, text) == ("class", b"Record") and major >= 60
+    one = {"name": name, "text": text, "code": None, "components": [], "once": is_record, "numbers": []}
+    if is_code or is_record or row is not None:
+        outer = reader.end, reader.name_at, reader.lengths
+        reader.at, reader.end, reader.name_at, reader.lengths = start, start + size, name_at, (*reader.lengths, name_at + 2)
+        if is_code:
+            one |= {"code": code(reader, constants)}
+        elif is_record:
+            one |= {"components": components(reader, constants)}
+        else:
+            one |= {"once": row[0], "numbers": numbers_of(reader, row[1])}
+        if reader.at != reader.end:
+            raise Refused(f"12 at {name_at}")
+        reader.end, reader.name_at, reader.lengths = outer
+    return one
 
 
 def attributes(reader, constants, place, major=51):
-    """Attributes: the name's index and the name of each, what a Code or a Record attribute holds, and numbers, where it is one of these."""
-    found = []
-    for _ in range(reader.number(2)):
-        name_at = reader.at
-        name = reader.number(2)
-        size = reader.number(4)
-        start = reader.at
-        reader.part(size)
-        text = text_at(constants, name)
-        is_code, row = (place, text) == ("method", b"Code"), row_of(place, text, major)
-        is_record = (place, text) == ("class", b"Record") and major >= 60
-        one = {"name": name, "text": text, "code": None, "components": [], "once": is_record, "numbers": []}
-        if is_code or is_record or row is not None:
-            outer, reader.at, reader.end, reader.name_at = (reader.end, reader.name_at), start, start + size, name_at
-            if is_code:
-                one |= {"code": code(reader, constants)}
-            elif is_record:
-                one |= {"components": components(reader, constants)}
-            else:
-                one |= {"once": row[0], "numbers": numbers_of(reader, row[1])}
-            if reader.at != reader.end:
-                raise Refused(f"12 at {name_at}")
-            reader.end, reader.name_at = outer
-        found.append(one)
-    return found
+    return counted(reader, lambda: attribute(reader, constants, place, major))
+
+
+def member(reader, constants, place):
+    """A field or a method."""
+    reader.flags.append(reader.at)
+    flags, name, descriptor = (reader.number(2) for _ in range(3))
+    return {"flags": flags, "name": name, "descriptor": descriptor, "attributes": attributes(reader, constants, place)}
 
 
 def members(reader, constants, place):
-    """Fields or methods."""
-    found = []
-    for _ in range(reader.number(2)):
-        flags, name, descriptor = (reader.number(2) for _ in range(3))
-        found.append({"flags": flags, "name": name, "descriptor": descriptor, "attributes": attributes(reader, constants, place)})
-    return found
+    return counted(reader, lambda: member(reader, constants, place))
 
 
 def class_file(reader):
@@ -177,10 +195,12 @@ def class_file(reader):
     if not 51 <= major <= 61 or (major > 55 and minor):
         raise Refused(f"11 {major}.{minor}")
     constants = pool(reader)
+    flags_at = reader.at
     flags, this, above = (reader.number(2) for _ in range(3))
     interfaces = [reader.number(2) for _ in range(reader.number(2))]
     fields = members(reader, constants, "field")
     methods = members(reader, constants, "method")
+    reader.flags.append(flags_at)
     file = {"major": major, "constants": constants, "flags": flags, "this": this, "super": above}
     file |= {"interfaces": interfaces, "fields": fields, "methods": methods}
     file["attributes"] = attributes(reader, constants, "class", major)
@@ -189,11 +209,11 @@ def class_file(reader):
     return file
 
 
-def short_numbers(data):
-    """Where a class file has numbers of two bytes."""
+def places(data):
+    """The reader of a class file, with the places that it gathered."""
     reader = Reader(data)
     class_file(reader)
-    return reader.short
+    return reader
 
 
 def check(data):

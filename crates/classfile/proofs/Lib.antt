@@ -7,6 +7,7 @@ pub mod FormExamples
 pub mod FormedMethods
 pub mod FormedNames
 pub mod FormedOrFaulty
+pub mod Judged
 pub mod LeastRules
 pub mod Measures
 pub mod MethodLaws

@@ -16,12 +16,14 @@ pub mod Locations
 pub mod MemberForm
 pub mod MethodParts
 pub mod Methods
+pub mod NamedAt
 pub mod Naming
 pub mod NumberForm
 pub mod Pieces
 pub mod RecordForm
 pub mod Seen
 pub mod Sizes
+pub mod TextForms
 pub mod Values
 pub mod Views
 pub mod WellFormed

@@ -1,5 +1,6 @@
 //! Whether a class file is well formed (JVMS 4.1 to 4.7).
 ghost use Rattle.std.specs.Prelude.{◌≡◌, IfOk, IfErr, MatchResult};
+ghost use Rattle.classfile.specs.TextForms.{AreForms};
 ghost use Rattle.classfile.specs.Views.{class_view};
 ghost use Rattle.classfile.specs.WellFormed.{WellFormed, Passes, TellsFirst};
 ghost use Rattle.classfile.specs.declared.form_fault.FormFault.TheVariants.{OutOfMemory};
@@ -12,6 +13,7 @@ use crate::flags::{INTERFACE, has};
 use crate::form_fault::{FormFault, Place};
 use crate::member_form::{field_rule, method_rule};
 use crate::signatures::Signatures;
+use crate::text_forms::TextForms;
 use std::alloc::Global;
 
 /// A class file that is well formed.
@@ -31,12 +33,13 @@ impl<'c, 'a> Formed<'c, 'a> {
     }
 }
 
-fn pool_form(alloc: Global, class: &ClassFile<'_>) -> Result<(), FormFault>
+fn pool_form(class: &ClassFile<'_>, forms: &TextForms) -> Result<(), FormFault>
+    requires { AreForms class.now.constant_pool forms.now }
     ensures { Passes (class_view class.now) (λ n. places.Pool n) result }
 {
     let pool = &class.constant_pool;
     for (place, constant) in pool.constants().iter().enumerate() {
-        if let Some(rule) = constant_rule(alloc, class.major_version, pool, constant)? {
+        if let Some(rule) = constant_rule(class.major_version, pool, forms, constant) {
             return Err(FormFault::Broken {
                 rule,
                 place: Place::Pool(place + 1),
@@ -58,14 +61,15 @@ fn class_form(class: &ClassFile<'_>) -> Result<(), FormFault>
     }
 }
 
-fn fields_form(alloc: Global, class: &ClassFile<'_>) -> Result<(), FormFault>
+fn fields_form(alloc: Global, class: &ClassFile<'_>, forms: &TextForms) -> Result<(), FormFault>
+    requires { AreForms class.now.constant_pool forms.now }
     ensures { Passes (class_view class.now) (λ n. places.Field n) result }
 {
     let pool = &class.constant_pool;
     let mut seen = Signatures::new(alloc);
     for (n, field) in class.fields.iter().enumerate() {
         let repeated = seen.meet_member(pool, field)?;
-        if let Some(rule) = field_rule(pool, repeated, field) {
+        if let Some(rule) = field_rule(pool, forms, repeated, field) {
             return Err(FormFault::Broken {
                 rule,
                 place: Place::Field(n),
@@ -75,7 +79,8 @@ fn fields_form(alloc: Global, class: &ClassFile<'_>) -> Result<(), FormFault>
     Ok(())
 }
 
-fn methods_form(alloc: Global, class: &ClassFile<'_>) -> Result<(), FormFault>
+fn methods_form(alloc: Global, class: &ClassFile<'_>, forms: &TextForms) -> Result<(), FormFault>
+    requires { AreForms class.now.constant_pool forms.now }
     ensures { Passes (class_view class.now) (λ n. places.Method n) result }
 {
     let pool = &class.constant_pool;
@@ -83,7 +88,7 @@ fn methods_form(alloc: Global, class: &ClassFile<'_>) -> Result<(), FormFault>
     let mut seen = Signatures::new(alloc);
     for (n, method) in class.methods.iter().enumerate() {
         let repeated = seen.meet_member(pool, method)?;
-        if let Some(rule) = method_rule(alloc, pool, interface, repeated, method)? {
+        if let Some(rule) = method_rule(pool, forms, interface, repeated, method) {
             return Err(FormFault::Broken {
                 rule,
                 place: Place::Method(n),
@@ -97,10 +102,11 @@ fn methods_form(alloc: Global, class: &ClassFile<'_>) -> Result<(), FormFault>
 fn places_form(alloc: Global, class: &ClassFile<'_>) -> Result<(), FormFault>
     ensures { MatchResult result (λ _. WellFormed (class_view class.now)) (TellsFirst (class_view class.now)) }
 {
-    pool_form(alloc, class)?;
+    let forms = TextForms::new(alloc, &class.constant_pool)?;
+    pool_form(class, &forms)?;
     class_form(class)?;
-    fields_form(alloc, class)?;
-    methods_form(alloc, class)
+    fields_form(alloc, class, &forms)?;
+    methods_form(alloc, class, &forms)
 }
 
 /// Whether the class file is well formed: the entries of its pool (JVMS 4.4), the class itself (4.1), its fields (4.5),

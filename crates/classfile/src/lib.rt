@@ -26,6 +26,7 @@
 //! | `constant_form`, `class_form`, `member_form`, `attribute_form` | which rule is broken at a place |
 //! | `number_form`, `once` | which rule is broken by an index in an attribute of numbers, and whether one stands twice |
 //! | `record_form` | which rule is broken by the attributes of a class |
+//! | `text_forms` | of which forms each text of the pool is, judged once |
 //! | `indices`, `naming`, `flags` | what an index leads to, forms of names and descriptors, access flags |
 //! | `signatures` | the names and descriptors that were met |
 //! | `form_laws` | what the rules mean, and that there is one first fault |
@@ -59,6 +60,7 @@ mod once;
 mod record_form;
 mod signatures;
 mod table;
+mod text_forms;
 
 pub use attribute::Attribute;
 pub use class_attribute::ClassAttribute;

@@ -1,7 +1,8 @@
 //! Which rule a field or a method breaks (JVMS 4.5, 4.6).
-ghost use Rattle.std.specs.Prelude.{◌≡◌, IfOk};
+ghost use Rattle.std.specs.Prelude.{◌≡◌};
 ghost use Rattle.classfile.specs.Conditions.{broken_rule};
 ghost use Rattle.classfile.specs.MemberForm.{member_has_bad, member_has_other, field_conditions, may_name_method, is_bad_method_name, may_describe_method, is_badly_described, is_instance_initializer, is_class_initializer, is_badly_flagged, has_body, body_conditions, method_conditions};
+ghost use Rattle.classfile.specs.TextForms.{form_of, AreForms};
 ghost use Rattle.classfile.specs.Views.{member_view};
 ghost use Rattle.pool.specs.Lookups.{Answers, named};
 ghost use Rattle.pool.specs.Views.{name_and_type_view};
@@ -16,11 +17,11 @@ use crate::flags::{ABSTRACT, NATIVE, STATIC, are_bad_field_flags, are_bad_method
 use crate::form_fault::FormRule;
 use crate::location::Location;
 use crate::member::Member;
-use crate::naming::{fits_method, is_clinit, is_init, is_method_name};
+use crate::naming::{is_clinit, is_init};
 use crate::once::numbers_stand_twice;
+use crate::text_forms::{TextForm, TextForms, fits_method};
 use names::Text;
 use pool::{NameAndType, Pool, PoolFault};
-use std::alloc::{AllocError, Global};
 
 #[tactic(auto, unfolding(crate::specs::MemberForm::member_has_bad))]
 fn member_has_bad(pool: &Pool<'_>, location: Location, member: &Member<'_>) -> bool
@@ -39,16 +40,22 @@ fn member_has_other(pool: &Pool<'_>, location: Location, member: &Member<'_>) ->
 }
 
 /// The rule that a field breaks; `repeated` where an earlier one has its name and descriptor.
-pub fn field_rule(pool: &Pool<'_>, repeated: bool, field: &Member<'_>) -> Option<FormRule>
+pub fn field_rule(
+    pool: &Pool<'_>,
+    forms: &TextForms,
+    repeated: bool,
+    field: &Member<'_>,
+) -> Option<FormRule>
+    requires { AreForms pool.now forms.now }
     ensures { result ≡ broken_rule (field_conditions pool.now repeated (member_view field.now)) }
 {
     if member_has_bad(pool, Location::Field, field) {
         Some(FormRule::BadIndex)
     } else if member_has_other(pool, Location::Field, field) {
         Some(FormRule::WrongKind)
-    } else if is_no_unqualified_name(pool, field.name) {
+    } else if is_no_unqualified_name(pool, forms, field.name) {
         Some(FormRule::BadName)
-    } else if is_no_field_descriptor(pool, field.descriptor) {
+    } else if is_no_field_descriptor(pool, forms, field.descriptor) {
         Some(FormRule::BadDescriptor)
     } else if are_bad_field_flags(field.access_flags) {
         Some(FormRule::BadFlags)
@@ -61,37 +68,36 @@ pub fn field_rule(pool: &Pool<'_>, repeated: bool, field: &Member<'_>) -> Option
     }
 }
 
-fn may_name_method(interface: bool, name: Text<'_>) -> bool
+fn may_name_method(interface: bool, name: Text<'_>, form: TextForm) -> bool
+    requires { form ≡ form_of name.bytes.now }
     ensures { result ≡ may_name_method interface name.entry.bytes.now }
 {
     if is_init(name) {
         !interface
     } else {
-        is_clinit(name) || is_method_name(name)
+        is_clinit(name) || form.method_name
     }
 }
 
 #[tactic(auto, unfolding(crate::specs::MemberForm::is_bad_method_name))]
-fn is_bad_method_name(pool: &Pool<'_>, interface: bool, index: u16) -> bool
+fn is_bad_method_name(pool: &Pool<'_>, forms: &TextForms, interface: bool, index: u16) -> bool
+    requires { AreForms pool.now forms.now }
     ensures { result ≡ is_bad_method_name pool.now interface index }
 {
     match pool.text(index) {
-        Ok(name) => !may_name_method(interface, name),
+        Ok(name) => !may_name_method(interface, name, forms.of(pool, index, name)),
         Err(_) => false,
     }
 }
 
-fn may_describe_method(
-    alloc: Global,
-    receiver: bool,
-    named: NameAndType<'_>,
-) -> Result<bool, AllocError>
-    ensures { IfOk result (λ b. b ≡ may_describe_method receiver (name_and_type_view named.entry)) }
+fn may_describe_method(receiver: bool, named: NameAndType<'_>, form: TextForm) -> bool
+    requires { form ≡ form_of named.descriptor.bytes.now }
+    ensures { result ≡ may_describe_method receiver (name_and_type_view named.entry) }
 {
     if is_clinit(named.name) {
-        Ok(named.descriptor.bytes() == b"()V".as_slice())
+        named.descriptor.bytes() == b"()V".as_slice()
     } else {
-        fits_method(alloc, receiver, named.name, named.descriptor)
+        fits_method(receiver, named.name, named.descriptor, form)
     }
 }
 
@@ -105,21 +111,20 @@ pub fn texts<'a>(pool: &Pool<'a>, member: &Member<'_>) -> Result<NameAndType<'a>
     Ok(NameAndType { name, descriptor })
 }
 
-#[tactic(auto, unfolding(crate::specs::MemberForm::is_badly_described))]
-fn is_badly_described(
-    alloc: Global,
-    pool: &Pool<'_>,
-    method: &Member<'_>,
-) -> Result<bool, AllocError>
-    ensures { IfOk result (λ b. b ≡ is_badly_described pool.now (member_view method.now)) }
+#[tactic(auto, unfolding(crate::specs::MemberForm::is_badly_described, pool::specs::Lookups::named))]
+fn is_badly_described(pool: &Pool<'_>, forms: &TextForms, method: &Member<'_>) -> bool
+    requires { AreForms pool.now forms.now }
+    ensures { result ≡ is_badly_described pool.now (member_view method.now) }
 {
-    match texts(pool, method) {
-        Ok(named) => {
-            let receiver = !has(method.access_flags, STATIC);
-            Ok(!may_describe_method(alloc, receiver, named)?)
-        }
-        Err(_) => Ok(false),
-    }
+    let Ok(name) = pool.text(method.name) else {
+        return false;
+    };
+    let Ok(descriptor) = pool.text(method.descriptor) else {
+        return false;
+    };
+    let receiver = !has(method.access_flags, STATIC);
+    let form = forms.of(pool, method.descriptor, descriptor);
+    !may_describe_method(receiver, NameAndType { name, descriptor }, form)
 }
 
 #[tactic(auto, unfolding(crate::specs::MemberForm::is_instance_initializer))]
@@ -164,21 +169,22 @@ fn has_body(pool: &Pool<'_>, method: &Member<'_>) -> bool
 /// The rule that a method breaks in a class or in an interface; `repeated` where an earlier one has its name and
 /// descriptor.
 pub fn method_rule(
-    alloc: Global,
     pool: &Pool<'_>,
+    forms: &TextForms,
     interface: bool,
     repeated: bool,
     method: &Member<'_>,
-) -> Result<Option<FormRule>, AllocError>
-    ensures { IfOk result (λ r. r ≡ broken_rule (method_conditions pool.now interface repeated (member_view method.now))) }
+) -> Option<FormRule>
+    requires { AreForms pool.now forms.now }
+    ensures { result ≡ broken_rule (method_conditions pool.now interface repeated (member_view method.now)) }
 {
-    let rule = if member_has_bad(pool, Location::Method, method) {
+    if member_has_bad(pool, Location::Method, method) {
         Some(FormRule::BadIndex)
     } else if member_has_other(pool, Location::Method, method) {
         Some(FormRule::WrongKind)
-    } else if is_bad_method_name(pool, interface, method.name) {
+    } else if is_bad_method_name(pool, forms, interface, method.name) {
         Some(FormRule::BadName)
-    } else if is_badly_described(alloc, pool, method)? {
+    } else if is_badly_described(pool, forms, method) {
         Some(FormRule::BadDescriptor)
     } else if is_badly_flagged(pool, method) {
         Some(FormRule::BadFlags)
@@ -186,8 +192,7 @@ pub fn method_rule(
         Some(FormRule::Twice)
     } else {
         body_rule(pool, method)
-    };
-    Ok(rule)
+    }
 }
 
 /// The rule that a method breaks by its attributes.

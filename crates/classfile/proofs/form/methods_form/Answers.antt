@@ -15,7 +15,7 @@ returns-in-Some c =
     let met = c.in_ok-repeated.ensures in
     let here : slice_get k.methods n ≡ Some m =
     ap (λ l. slice_get (map member_view l) n) (sym c.deref-method-items.ensures.value) ∙ viewed_at member_view c.deref-method-items.result.now n c.method-item.result c.loop-n-test.true c.method-item.is in
-    (n, refl, method_told k n m c.has-interface.result c.in_ok-repeated.repeated here c.has-interface.ensures (met.repeats (take n k.methods) c.loop-n.invariant.met) ∙ sym c.in_ok-rule.ensures ∙ c.in-Some.is, c.loop-n.invariant.none)
+    (n, refl, method_told k n m c.has-interface.result c.in_ok-repeated.repeated here c.has-interface.ensures (met.repeats (take n k.methods) c.loop-n.invariant.met) ∙ sym c.method_rule.ensures ∙ c.in-Some.is, c.loop-n.invariant.none)
 
 pub loop-n-preserved : goal.loop-n-preserved
 loop-n-preserved c =
@@ -27,7 +27,7 @@ loop-n-preserved c =
     ap (λ l. slice_get (map member_view l) n) (sym c.deref-method-items.ensures.value) ∙ viewed_at member_view c.deref-method-items.result.now n c.method-item.result c.loop-n-test.true c.method-item.is in
     record {
       met = subst (λ l. AreSeen k.constant_pool l c.meet_member.new.self) (sym (take_one_more k.methods n m here)) (met.seen (take n k.methods) c.loop-n.invariant.met);
-      none = none_more k (λ i. places.Method i) n c.loop-n.invariant.none (method_told k n m c.has-interface.result c.in_ok-repeated.repeated here c.has-interface.ensures (met.repeats (take n k.methods) c.loop-n.invariant.met) ∙ sym c.in_ok-rule.ensures ∙ c.in_default.is);
+      none = none_more k (λ i. places.Method i) n c.loop-n.invariant.none (method_told k n m c.has-interface.result c.in_ok-repeated.repeated here c.has-interface.ensures (met.repeats (take n k.methods) c.loop-n.invariant.met) ∙ sym c.method_rule.ensures ∙ c.in_default.is);
     }
 
 pub returns : goal.returns

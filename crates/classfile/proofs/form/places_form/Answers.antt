@@ -5,7 +5,7 @@ use Rattle.classfile.proofs.form.places_form.Goals as goal
 
 pub returns-in_err-pool_form : goal.returns-in_err-pool_form
 returns-in_err-pool_form c =
-    let p = err_from_is_err_and c.from_residual.result c.from_residual.ensures.1 in
+    let p = err_from_is_err_and c.from_residual-in_err-pool_form.result c.from_residual-in_err-pool_form.ensures.1 in
     rw (p.1, p.2) (pool_told (class_view c.args.class.now) c.in_err-pool_form.field-0.0 c.in_err-pool_form.ensures)
 
 pub returns-in_err-class_form : goal.returns-in_err-class_form

@@ -14,7 +14,7 @@ returns-in-Some c =
     let constants = c.constants-constant-items in
     let here : slice_get k.constant_pool at ≡ Some (view c.constant-item.result) =
     ap (λ l. slice_get l at) (sym constants.ensures) ∙ viewed_at view constants.result.now at c.constant-item.result c.loop-place-test.true c.constant-item.is in
-    (at + 1, refl, entry_is k at (view c.constant-item.result) here ∙ sym c.in_ok-rule.ensures ∙ c.in-Some.is, earlier_entries k at c.loop-place.invariant)
+    (at + 1, refl, entry_is k at (view c.constant-item.result) here ∙ sym c.constant_rule.ensures ∙ c.in-Some.is, earlier_entries k at c.loop-place.invariant)
 
 pub loop-place-preserved : goal.loop-place-preserved
 loop-place-preserved c =
@@ -23,7 +23,7 @@ loop-place-preserved c =
     let constants = c.constants-constant-items in
     let here : slice_get k.constant_pool at ≡ Some (view c.constant-item.result) =
     ap (λ l. slice_get l at) (sym constants.ensures) ∙ viewed_at view constants.result.now at c.constant-item.result c.loop-place-test.true c.constant-item.is in
-    none_more k (λ n. places.Pool (n + 1)) at c.loop-place.invariant (entry_is k at (view c.constant-item.result) here ∙ sym c.in_ok-rule.ensures ∙ c.in_default.is)
+    none_more k (λ n. places.Pool (n + 1)) at c.loop-place.invariant (entry_is k at (view c.constant-item.result) here ∙ sym c.constant_rule.ensures ∙ c.in_default.is)
 
 pub returns : goal.returns
 returns c =

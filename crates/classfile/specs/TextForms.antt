@@ -1,0 +1,28 @@
+-- Of which forms a text is (JVMS 4.2, 4.3), as it is kept for each entry of a constant pool that is a text, so that each is judged once.
+-- Words of the code's own steps.
+use Rattle.std.specs.Prelude.{◌≡◌, ℕ, false, true, List, Option, Some, None, map}
+use Rattle.pool.specs.Entries.{Entry, Utf8}
+use Rattle.classfile.specs.declared.text_forms.TextForm.{TextForm}
+use Rattle.classfile.specs.declared.text_forms.TextForms.{TextForms}
+use Rattle.classfile.specs.Naming.{is_unqualified_name, is_method_name, is_field_descriptor, is_method_descriptor, is_void_descriptor}
+use Rattle.classfile.specs.ConstantForm.{names_class}
+
+abbrev pub form_of : List ℕ → TextForm
+form_of text = record {
+  names_class = names_class text;
+  unqualified_name = is_unqualified_name text;
+  method_name = is_method_name text;
+  field_descriptor = is_field_descriptor text;
+  method_descriptor = is_method_descriptor false text;
+  void_descriptor = is_void_descriptor false text;
+  receiver_descriptor = is_method_descriptor true text;
+  void_receiver_descriptor = is_void_descriptor true text;
+}
+
+abbrev pub entry_form : Entry → Option TextForm
+entry_form (Utf8 bytes) = Some (form_of bytes)
+entry_form e = None
+
+-- the forms of all texts of the pool, each at its entry
+abbrev pub AreForms : List Entry → TextForms → Type 0
+AreForms pool forms = forms.forms.items ≡ map entry_form pool

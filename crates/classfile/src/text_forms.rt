@@ -1,0 +1,116 @@
+//! Of which forms the texts of a constant pool are (JVMS 4.2, 4.3): each is judged once, however many constants and members name it.
+ghost use Rattle.std.specs.Prelude.{◌≡◌, Ok, IfOk};
+ghost use Rattle.pool.specs.Lookups.{text_at};
+ghost use Rattle.classfile.specs.Naming.{is_method_descriptor, is_void_descriptor, fits_method};
+ghost use Rattle.pool.specs.Views.{view};
+ghost use Rattle.classfile.specs.TextForms.{form_of, entry_form, AreForms};
+
+use crate::naming::{
+    is_array_name, is_class_name, is_field_descriptor, is_init, is_method_name, is_unqualified_name,
+};
+use names::{NameFault, Text, method_type};
+use pool::{Constant, Pool};
+use std::alloc::{AllocError, Global};
+
+/// Of which forms a text is.
+#[derive(Clone, Copy)]
+pub struct TextForm {
+    /// The name of a class or interface, or the descriptor of an array.
+    pub names_class: bool,
+    /// An unqualified name.
+    pub unqualified_name: bool,
+    /// The name of a method that is not special.
+    pub method_name: bool,
+    /// The descriptor of a field.
+    pub field_descriptor: bool,
+    /// The descriptor of a method, within the limits without a receiver.
+    pub method_descriptor: bool,
+    /// The same, and there is no result.
+    pub void_descriptor: bool,
+    /// The descriptor of a method, within the limits with a receiver.
+    pub receiver_descriptor: bool,
+    /// The same, and there is no result.
+    pub void_receiver_descriptor: bool,
+}
+
+/// Whether the text is the descriptor of a method, and whether of one without a result.
+fn method_forms(alloc: Global, text: Text<'_>, receiver: bool) -> Result<(bool, bool), AllocError>
+    ensures { IfOk result (λ r. r ≡ (is_method_descriptor receiver text.entry.bytes.now, is_void_descriptor receiver text.entry.bytes.now)) }
+{
+    match method_type(alloc, text, receiver) {
+        Ok(method) => Ok((true, method.result.is_none())),
+        Err(NameFault::OutOfMemory) => Err(AllocError),
+        Err(_) => Ok((false, false)),
+    }
+}
+
+fn form_of(alloc: Global, text: Text<'_>) -> Result<TextForm, AllocError>
+    ensures { IfOk result (λ f. f ≡ form_of text.entry.bytes.now) }
+{
+    let field_descriptor = is_field_descriptor(text);
+    let (method_descriptor, void_descriptor) = method_forms(alloc, text, false)?;
+    let (receiver_descriptor, void_receiver_descriptor) = method_forms(alloc, text, true)?;
+    Ok(TextForm {
+        names_class: is_class_name(text) || (is_array_name(text) && field_descriptor),
+        unqualified_name: is_unqualified_name(text),
+        method_name: is_method_name(text),
+        field_descriptor,
+        method_descriptor,
+        void_descriptor,
+        receiver_descriptor,
+        void_receiver_descriptor,
+    })
+}
+
+/// The forms of all texts of a pool.
+#[derive(Drop)]
+pub struct TextForms {
+    forms: Vec<Option<TextForm>>,
+}
+
+fn entry_form(alloc: Global, constant: &Constant<'_>) -> Result<Option<TextForm>, AllocError>
+    ensures { IfOk result (λ f. f ≡ entry_form (view constant.now)) }
+{
+    match constant {
+        Constant::Utf8(text) => Ok(Some(form_of(alloc, *text)?)),
+        _ => Ok(None),
+    }
+}
+
+impl TextForms {
+    /// Judges each text of the pool.
+    pub fn new(alloc: Global, pool: &Pool<'_>) -> Result<TextForms, AllocError>
+        ensures { IfOk result (AreForms pool.now) }
+    {
+        let constants = pool.constants();
+        let mut forms = Vec::with_capacity(alloc, constants.len())?;
+        for constant in constants {
+            forms.push(entry_form(alloc, constant)?)?;
+        }
+        Ok(TextForms { forms })
+    }
+
+    /// The forms of the text at this index.
+    pub fn of(&self, pool: &Pool<'_>, index: u16, text: Text<'_>) -> TextForm
+        requires kept { AreForms pool.now self.now }
+        requires text { text_at pool.now index ≡ Ok text.bytes.now }
+        ensures { result ≡ form_of text.entry.bytes.now }
+    {
+        let place = usize::from(index) - 1;
+        self.forms[place].unwrap()
+    }
+}
+
+/// Whether a method of this name may have the descriptor, which is of this form.
+pub fn fits_method(receiver: bool, name: Text<'_>, _descriptor: Text<'_>, form: TextForm) -> bool
+    requires { form ≡ form_of _descriptor.bytes.now }
+    ensures { result ≡ fits_method receiver name.entry.bytes.now _descriptor.entry.bytes.now }
+{
+    let void = is_init(name);
+    match (receiver, void) {
+        (false, false) => form.method_descriptor,
+        (false, true) => form.void_descriptor,
+        (true, false) => form.receiver_descriptor,
+        (true, true) => form.void_receiver_descriptor,
+    }
+}
