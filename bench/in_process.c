@@ -57,7 +57,6 @@ int main(void) {
         fclose(file);
         if (count == places) ends = realloc(ends, (places *= 2) * sizeof *ends);
         size_t start = count ? ends[count - 1] : 0;
-        if (length > start + 7 && bytes[start + 7] == 61) bytes[start + 7] = 60; /* the highest that is taken yet */
         ends[count++] = (uint32_t)length;
     }
     double t[6];
