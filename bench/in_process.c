@@ -56,7 +56,6 @@ int main(void) {
         }
         fclose(file);
         if (count == places) ends = realloc(ends, (places *= 2) * sizeof *ends);
-        size_t start = count ? ends[count - 1] : 0;
         ends[count++] = (uint32_t)length;
     }
     double t[6];
