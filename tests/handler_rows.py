@@ -76,6 +76,23 @@ ROWS = """
 (I)V 1 1 | nop; fconst_0; fstore_0; nop; return; pop; return; pop; return | 0002 4507[class java/lang/Throwable] ff0001 0001 02 0001 07[class java/lang/Throwable] | 3 5 7 any, 0 4 5 any | refused 73 at 3
 """
 
+# The same of a constructor of K, which is directly below Object: no entry covers its call of a constructor on the own object. Behind that the own object
+# is no longer one that is not initialized, and before it the handler's frame has to have that.
+OF_CONSTRUCTORS = """
+()V 1 1 | aload_0; invokespecial [method java/lang/Object <init> ()V]; return; athrow | 0001 ff0005 0001 06 0001 07[class java/lang/Throwable] | 0 1 5 any | verified
+()V 1 1 | aload_0; invokespecial [method java/lang/Object <init> ()V]; return; athrow | 0001 ff0005 0001 06 0001 07[class java/lang/Throwable] | 0 4 5 any | refused 75 at 1
+()V 1 1 | aload_0; invokespecial [method java/lang/Object <init> ()V]; return; athrow | 0001 ff0005 0001 06 0001 07[class java/lang/Throwable] | 1 4 5 any | refused 75 at 1
+()V 1 1 | aload_0; invokespecial [method java/lang/Object <init> ()V]; return; athrow | 0001 ff0005 0001 06 0001 07[class java/lang/Throwable] | 0 1 5 any, 1 4 5 any | refused 75 at 1
+()V 1 1 | aload_0; invokespecial [method java/lang/Object <init> ()V]; return; athrow | 0001 ff0005 0001 06 0001 07[class java/lang/Throwable] | 4 5 5 any | refused 73 at 4
+()V 1 1 | aload_0; invokespecial [method java/lang/Object <init> ()V]; return; athrow | 0001 4507[class java/lang/Throwable] | 4 5 5 any | refused 73 at 4
+()V 1 1 | aload_0; invokespecial [method java/lang/Object <init> ()V]; return; athrow | 0001 ff0005 0000 0001 07[class java/lang/Throwable] | 4 5 5 any | verified
+()V 1 1 | aload_0; invokespecial [method java/lang/Object <init> ()V]; return; athrow | 0001 ff0005 0000 0001 07[class java/lang/Throwable] | 0 1 5 any | refused 73 at 0
+()V 1 1 | aload_0; invokespecial [method java/lang/Object <init> ()V]; return; athrow | 0001 ff0005 0000 0001 07[class java/lang/Throwable] | 0 4 5 any | refused 73 at 0
+()V 1 1 | aload_0; invokespecial [method java/lang/Object <init> ()V]; return; athrow | 0001 ff0005 0000 0001 07[class java/lang/Throwable] | 1 4 5 any | refused 73 at 1
+()V 1 1 | aload_0; invokespecial [method java/lang/Object <init> (I)V]; return; athrow | 0001 ff0005 0001 06 0001 07[class java/lang/Throwable] | 0 4 5 any | refused 61 at 1
+()V 2 1 | aload_0; new [class java/lang/Object]; invokespecial [method java/lang/Object <init> ()V]; invokespecial [method java/lang/Object <init> ()V]; return; athrow | 0001 ff000b 0001 06 0001 07[class java/lang/Throwable] | 0 7 11 any | verified
+"""
+
 
 def mapped(body, constants):
     """The bytes of a stack map, in which words in brackets are the indices of constants."""
@@ -93,17 +110,22 @@ def handler(words, constants):
     return int(start), int(end), int(to), 0 if caught == "any" else constants.owner(caught)
 
 
-def with_handlers():
-    """A static method's descriptor, code and exception table, the files of the class that has it alone, and its verdict."""
-    for line in ROWS.strip().splitlines():
+def rows_of(table, name, flags):
+    for line in table.strip().splitlines():
         if line.startswith("#"):
             continue
         sizes, code, body, entries, verdict = (it.strip() for it in line.split("|"))
         descriptor, stack, variables = sizes.split()
-        constants = Constants(descriptor)
+        constants = Constants(descriptor, name)
         data = assembled(code, constants)
         nested = [attribute(constants.text("StackMapTable"), mapped(body, constants))]
-        table = [handler(it, constants) for it in entries.split(",")]
-        code_attribute = code_f(data, stack=int(stack), variables=int(variables), handlers=table, nested=nested)
-        k = replace(K, constants=constants.items, methods=[method_f(code_attribute, flags=STATIC)])
-        yield f"{sizes} {code} with {entries}", [k.data(), *KNOWN], f"method f {descriptor} {verdict}"
+        handlers = [handler(it, constants) for it in entries.split(",")]
+        code_attribute = code_f(data, stack=int(stack), variables=int(variables), handlers=handlers, nested=nested)
+        k = replace(K, constants=constants.items, methods=[method_f(code_attribute, flags=flags)])
+        yield f"{name} {sizes} {code} with {entries}", [k.data(), *KNOWN], f"method {name} {descriptor} {verdict}"
+
+
+def with_handlers():
+    """What each method is, the files of the class that has it alone, and its verdict."""
+    yield from rows_of(ROWS, "f", STATIC)
+    yield from rows_of(OF_CONSTRUCTORS, "<init>", 0)
