@@ -7,7 +7,7 @@ use Rattle.hierarchy.specs.Answer.{Outcome, yes, no, missing}
 use Rattle.insn.specs.Offsets.{at_offset}
 use Rattle.frames.specs.FrameFact.{FrameFact}
 use Rattle.frames.specs.FrameAssignable.{frame_answer}
-use Rattle.frames.specs.Conditions.{Reason, reason, class_missing, number_of, Conditions, lesser, least}
+use Rattle.frames.specs.Conditions.{Reason, reason, class_missing, number_of, lesser, least}
 use Rattle.verify.specs.TypeSafety.{Frames, caught_frame}
 use Rattle.verify.specs.Verdict.{answer_conditions, one_handler, handler_conditions}
 use Rattle.verify.specs.Catching.{answer_at, caught_answer, caught_reason}

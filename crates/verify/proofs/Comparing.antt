@@ -1,5 +1,5 @@
 -- The frame that comes to a handler, by its parts.
-use Rattle.std.proofs.Common.{◌≡◌, ℕ, zero, suc, ◌+◌, ◌-◌, ◌≤◌, ◌<◌, Bool, true, false, List, [], ◌∷◌, ◌++◌, length, map, reverse, replicate, drop, get_or, Option, Some, None, refl, sym, ◌∙◌, ap, subst, arith, slice_get}
+use Rattle.std.proofs.Common.{◌≡◌, ℕ, zero, suc, ◌+◌, ◌-◌, ◌≤◌, ◌<◌, Bool, true, false, List, [], ◌∷◌, ◌++◌, length, map, replicate, drop, get_or, refl, sym, ◌∙◌, ap, arith}
 use Rattle.std.proofs.lemmas.List.{drop_more, drop_all, length-drop}
 use Rattle.std.proofs.lemmas.Option.{slice_get-get_or}
 use Rattle.classfile.specs.Methods.{Method}
@@ -11,10 +11,9 @@ use Rattle.frames.specs.declared.vtype.VType.{VType}
 use Rattle.frames.specs.VerificationType.{VerificationType, top, int, float, long, double, null, class, array, uninit_this, uninit, type_of}
 use Rattle.frames.specs.FrameFact.{FrameFact}
 use Rattle.frames.specs.Assignable.{type_answer}
-use Rattle.frames.specs.FrameAssignable.{both, width_of, item_answer, list_answer, stack_answer, flag_answer, frame_answer}
-use Rattle.frames.specs.HeldFrames.{held_locals}
+use Rattle.frames.specs.FrameAssignable.{both, item_answer, list_answer, stack_answer, flag_answer, frame_answer}
 use Rattle.frames.proofs.Slots.{both_no, both_yes, both_assoc}
-use Rattle.rules.specs.Plans.{Want, Plan, pops, loads, stores, counts, rearranges, loads_element, makes, constructs, calls_special, returns, refuses}
+use Rattle.rules.specs.Plans.{Plan, pops, loads, stores, counts, rearranges, loads_element, makes, constructs, calls_special, returns, refuses}
 use Rattle.rules.specs.After.{or_top, local_of, top_of, flag_after, after}
 use Rattle.rules.specs.Rules.{constructs_own}
 use Rattle.rules.specs.Table.{plan_yet}

@@ -1,17 +1,15 @@
 -- The least reason against an instruction, by what is judged of it one after the other, where it is no constructor's call on the own object.
-use Rattle.std.proofs.Common.{◌≡◌, ◌⊎◌, ℕ, ◌<◌, ◌≤◌, Bool, true, false, ◌&&◌, is_none, nat_lt, ℤ, List, [], ◌∷◌, ◌++◌, Option, Some, None, Result, Ok, Err, refl, sym, ◌∙◌, ap, subst, arith, inl, inr, if◌then◌else◌}
+use Rattle.std.proofs.Common.{◌≡◌, ◌⊎◌, ℕ, ◌<◌, ◌≤◌, Bool, true, false, ◌&&◌, is_none, nat_lt, ℤ, List, [], ◌∷◌, ◌++◌, Option, Some, None, Result, Ok, Err, refl, sym, ◌∙◌, ap, arith, inl, inr, if◌then◌else◌}
 use Rattle.std.proofs.lemmas.Bool.Decides.{nat_tests}
 use Rattle.classfile.specs.Methods.{Method, ExceptionEntry, covers}
 use Rattle.hierarchy.specs.Class.{ClassFact}
 use Rattle.hierarchy.specs.Answer.{Outcome, yes, no, missing}
 use Rattle.insn.specs.Meanings.{Act}
 use Rattle.insn.specs.Offsets.{at_offset, led_to}
-use Rattle.insn.specs.Supported.{as_supported}
 use Rattle.frames.specs.FrameFact.{FrameFact}
 use Rattle.frames.specs.FrameAssignable.{frame_answer}
 use Rattle.frames.specs.Conditions.{Reason, reason, number_of, Conditions, lesser, least}
 use Rattle.rules.specs.Plans.{Plan, refuses, falls, offsets_of, targets}
-use Rattle.rules.specs.Table.{plan}
 use Rattle.rules.specs.After.{after}
 use Rattle.rules.specs.Rules.{conditions, constructs_own}
 use Rattle.rules.specs.Outcomes.{Done}
@@ -22,7 +20,7 @@ use Rattle.rules.specs.Ways.{goes_on, branch_offsets}
 use Rattle.verify.specs.TypeSafety.{Frames, caught_frame}
 use Rattle.verify.specs.Verdict.{answer_conditions, declared_at, one_target, target_conditions, one_handler, handler_conditions, is_covered, at_conditions}
 use Rattle.verify.specs.Steps.{Judges}
-use Rattle.verify.proofs.Going.{IsEarly, IsWay, ways}
+use Rattle.verify.proofs.Going.{IsEarly, IsWay}
 use Rattle.verify.proofs.Merging.{merge, least_append, both_least, view_number, number_some}
 
 -- ---- reasons that are not a rule's come late

@@ -1,26 +1,25 @@
 -- Entries that cover an instruction, compared one after the other.
 use Rattle.std.proofs.Common.{◌≡◌, ◌⊎◌, ℕ, ◌≤◌, ◌<◌, true, List, [], ◌∷◌, ◌++◌, length, Option, Some, None, Result, Ok, Err, refl, sym, ◌∙◌, ap, subst, arith, inl, inr, slice_get}
-use Rattle.std.specs.Prelude.{IfSome, MatchOption, OnOk, IsOk, is_ok, slice_index_or, if◌then◌else◌}
+use Rattle.std.specs.Prelude.{IfSome, OnOk, IsOk, is_ok, if◌then◌else◌}
 use Rattle.classfile.specs.Methods.{ExceptionEntry, covers}
 use Rattle.hierarchy.specs.Class.{ClassFact}
 use Rattle.hierarchy.specs.Answer.{Outcome, yes, no, missing}
 use Rattle.frames.specs.FrameFact.{FrameFact}
-use Rattle.frames.specs.Conditions.{reason, class_missing, least}
+use Rattle.frames.specs.Conditions.{least}
 use Rattle.rules.specs.declared.reason.Reason.{Reason}
-use Rattle.rules.specs.declared.reason.Reason.TheVariants.{OutOfMemory, HandlerNotAssignable, ClassMissing}
+use Rattle.rules.specs.declared.reason.Reason.TheVariants.{HandlerNotAssignable, ClassMissing}
 use Rattle.rules.specs.Reasons.{reason_view}
 use Rattle.verify.specs.declared.exceptions.Entry.{Entry}
 use Rattle.verify.specs.declared.handlers.Handlers.{Handlers}
 use Rattle.verify.specs.declared.handlers.Missing.{Missing}
 use Rattle.verify.specs.TypeSafety.{Frames}
 use Rattle.verify.specs.Verdict.{handler_conditions}
-use Rattle.verify.specs.Steps.{Judges}
 use Rattle.verify.specs.Keeping.{IsSameBeneath}
 use Rattle.verify.specs.ExceptionTables.{entry_view}
 use Rattle.verify.specs.Catching.{caught_answer}
-use Rattle.verify.specs.Handling.{IsOwn, HasBegun, Tracks, IsSettled, Follows, AreAhead, IsEarlier, IsLater, IsJudged, IsMissing, Settles, Catches}
+use Rattle.verify.specs.Handling.{Tracks, IsSettled, Follows, AreAhead, IsEarlier, IsLater, IsJudged, IsMissing, Settles, Catches}
 use Rattle.verify.proofs.Caught.{none_against, one_against, first_missing, AreLacking}
-use Rattle.verify.proofs.Tracking.{tracked_again, tracked_later, tracked_without, tracked_settled, taken_begun, Compared, covered_compared, covered_ends, begun_covers}
+use Rattle.verify.proofs.Tracking.{tracked_again, tracked_later, tracked_without, tracked_settled, taken_begun, covered_compared, covered_ends, begun_covers}
 
 -- some are yet to be compared, and of the others it is known what was answered
 pub record InTurn (classes : List ClassFact) (frames : Frames) (es : List ExceptionEntry) (at : ℕ) (f : FrameFact) (so_far : Option Missing) (h : Handlers) : Type 0 where

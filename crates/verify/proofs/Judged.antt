@@ -1,22 +1,19 @@
 -- The verdict on a method that is judged.
-use Rattle.std.proofs.Common.{◌≡◌, ℕ, Bool, true, false, not, ◌&&◌, is_none, nat_eq, nat_lt, List, [], ◌∷◌, ◌++◌, map, length, Option, Some, None, Ok, Err, refl, sym, ◌∙◌, ap, subst, arith}
+use Rattle.std.proofs.Common.{◌≡◌, ℕ, Bool, true, false, not, ◌&&◌, nat_lt, List, [], length, Option, Some, None, Ok, Err, refl, sym, ◌∙◌, ap, subst}
 use Rattle.std.specs.Prelude.{MatchOption}
-use Rattle.std.proofs.lemmas.Bool.Decides.{nat_tests}
-use Rattle.std.specs.Option.{is_some}
 use Rattle.std.specs.Prelude.{bytes_eq, if◌then◌else◌}
 use Rattle.names.specs.StandardNames.{object_name}
-use Rattle.classfile.specs.Methods.{Method, ExceptionEntry, no_receiver, ready_receiver, own_receiver, receiver_of}
+use Rattle.classfile.specs.Methods.{Method, no_receiver, ready_receiver, own_receiver, receiver_of}
 use Rattle.hierarchy.specs.Class.{ClassFact}
 use Rattle.insn.specs.Meanings.{Act}
 use Rattle.frames.specs.VerificationType.{VerificationType}
-use Rattle.frames.specs.FrameFact.{FrameFact}
 use Rattle.frames.specs.Slots.{in_locals}
 use Rattle.frames.specs.Conditions.{reason, with_fault}
 use Rattle.rules.specs.ReasonNumbers.{bad_stack_map}
 use Rattle.rules.specs.Table.{plan_yet}
 use Rattle.verify.specs.InitialFrames.{initial_types, is_uninitialized}
 use Rattle.verify.specs.TypeSafety.{Frames}
-use Rattle.verify.specs.Verdict.{refused, map_refused, MapRefusal, map_fault_number, told_of, frames_of, entries_read, frames_declared, table_judged, code_judged, with_frames, verdict}
+use Rattle.verify.specs.Verdict.{refused, map_refused, MapRefusal, map_fault_number, told_of, frames_of, entries_read, frames_declared, with_frames, verdict}
 use Rattle.verify.specs.Judged.{is_judged}
 
 not_true : (b : Bool) → not b ≡ true → b ≡ false

@@ -4,18 +4,15 @@ use Rattle.std.proofs.lemmas.Bool.Decides.{nat_tests}
 use Rattle.std.specs.List.{list_any}
 use Rattle.std.specs.Option.{option_and_then}
 use Rattle.layout.specs.PieceLaws.{fields as by_field, raw}
-use Rattle.pool.specs.Entries.{Entry}
 use Rattle.names.specs.Descriptors.{MethodDescriptor}
-use Rattle.names.specs.ReferenceTypes.{ReferenceType}
 use Rattle.classfile.specs.declared.form_fault.Place.TheVariants as places
-use Rattle.classfile.specs.Values.{Handler, CodeBody, Attribute, Member, Class}
-use Rattle.classfile.specs.Methods.{Method, ExceptionEntry, code_of, caught_type, entry_with, exception_entries, method_with, method_from, method_of}
-use Rattle.classfile.specs.MethodParts.{or_empty, code_at}
+use Rattle.classfile.specs.Values.{CodeBody, Attribute, Member, Class}
+use Rattle.classfile.specs.Methods.{Method, ExceptionEntry, code_of, method_with, method_from, method_of}
+use Rattle.classfile.specs.MethodParts.{code_at}
 use Rattle.classfile.specs.AttributeForm.{on_body, has_bad_length, have_bad_length}
 use Rattle.classfile.specs.WellFormed.{WellFormed, conditions_of_method}
 use Rattle.classfile.proofs.Places.{method_is}
 use Rattle.classfile.proofs.FormedNames.{none_holds, left_not, right_not}
-use Rattle.classfile.proofs.FormedMethods.{NamesMethod, formed_method}
 use Rattle.verify.specs.Judged.{is_judged}
 
 some_same : {A : Type 0} (a b : A) → Some a ≡ Some b → a ≡ b

@@ -6,7 +6,7 @@ use Rattle.frames.specs.declared.vtype.VType.{VType}
 use Rattle.frames.specs.declared.vtype.VType.TheVariants.{Top}
 use Rattle.frames.specs.VerificationType.{VerificationType, top, long, double, type_of}
 use Rattle.frames.specs.FrameAssignable.{width_of}
-use Rattle.frames.specs.Slots.{is_wide, descriptor_type, in_locals, all_locals}
+use Rattle.frames.specs.Slots.{is_wide, in_locals, all_locals}
 
 pub wide_local : (t : VerificationType) → width_of t ≡ 2 → in_locals (t ∷ []) ≡ t ∷ top ∷ []
 wide_local t e = by t e

@@ -4,7 +4,6 @@ use Rattle.std.proofs.lemmas.Bool.Decides.{nat_tests}
 use Rattle.std.proofs.lemmas.List.{append_assoc, append-nil}
 use Rattle.hierarchy.specs.Class.{ClassFact}
 use Rattle.frames.specs.FrameFact.{FrameFact}
-use Rattle.frames.specs.FrameAssignable.{frame_answer}
 use Rattle.frames.specs.Conditions.{Reason as Refusing, number_of, Conditions, lesser, least}
 use Rattle.rules.specs.declared.reason.Reason.{Reason}
 use Rattle.rules.specs.declared.reason.Reason.TheVariants.{OutOfMemory}
@@ -14,7 +13,7 @@ use Rattle.verify.specs.PlaceSets.{has}
 use Rattle.verify.specs.TypeSafety.{Frames}
 use Rattle.verify.specs.Verdict.{declared_at, one_target, target_conditions}
 use Rattle.verify.specs.Steps.{Judges}
-use Rattle.verify.specs.Targets.{IsPlace, WasSeen, Compares}
+use Rattle.verify.specs.Targets.{IsPlace, Compares}
 use Rattle.std.specs.Prelude.{int_lt}
 use Rattle.insn.specs.Offsets.{StartsRise}
 use Rattle.machine.proofs.Targets.{past_last}

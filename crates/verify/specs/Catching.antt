@@ -1,5 +1,5 @@
 -- What is answered of the frame in which an instruction raises, where an entry of the exception table leads (JVMS 4.10.1.6).
-use Rattle.std.specs.Prelude.{ℕ, List, Option, Some, None}
+use Rattle.std.specs.Prelude.{List, Option, Some, None}
 use Rattle.classfile.specs.Methods.{ExceptionEntry}
 use Rattle.hierarchy.specs.Class.{ClassFact}
 use Rattle.hierarchy.specs.Answer.{Outcome, yes, no, missing}

@@ -1,5 +1,5 @@
 -- The entries of an exception table while a pass goes over the code: which are to come, and which are compared with the frame as it is.
-use Rattle.std.specs.Prelude.{◌≡◌, ◌⊎◌, ℕ, ◌≤◌, ◌<◌, true, List, [], length, slice_get, slice_index_or, Option, Some, None, Result, IfSome, OnOk, MatchResult, MatchOption, All, Contains}
+use Rattle.std.specs.Prelude.{◌≡◌, ◌⊎◌, ℕ, ◌≤◌, ◌<◌, true, List, length, slice_get, slice_index_or, Option, Some, None, Result, IfSome, OnOk, MatchResult, MatchOption, All, Contains}
 use Rattle.std.specs.List.Sorted.{IsNonDecreasingBy}
 use Rattle.classfile.specs.Methods.{ExceptionEntry, covers}
 use Rattle.hierarchy.specs.Class.{ClassFact}

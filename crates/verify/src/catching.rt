@@ -23,11 +23,7 @@ use rules::Working;
 use std::alloc::AllocError;
 
 /// A stack with what is caught alone on it, to a stack from the bottom up.
-fn stack_answer<'a, C: Classes>(
-    caught: RefType<'a>,
-    stack: &[VType<'a>],
-    classes: &C,
-) -> Answer<'a>
+fn stack_answer<'a, C: Classes>(caught: RefType<'a>, stack: &[VType<'a>], classes: &C) -> Answer<'a>
     ensures { outcome_of result ≡ stack_answer (item_answer (C.content classes.now)) (to_reference (reference_view caught.entry) ∷ []) (reverse (map type_of stack.now)) }
 {
     match stack {

@@ -78,7 +78,15 @@ fn judge_code<'a, C: Classes>(
     let mut handlers = Handlers::new(alloc, table)?;
     let mut seen = PlaceSet::new(alloc);
     seen.start(frames.len())?;
-    pass(alloc, method, frames, &mut handlers, &mut seen, frame, classes)
+    pass(
+        alloc,
+        method,
+        frames,
+        &mut handlers,
+        &mut seen,
+        frame,
+        classes,
+    )
 }
 
 /// Judges a method by its receiver and parameters, its stack map, its exception table and its instructions: 64 where they do not fit, 78

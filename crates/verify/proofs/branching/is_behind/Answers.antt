@@ -1,4 +1,4 @@
-use Rattle.std.proofs.Common.{◌≡◌, true, pos, ◌-◌, ◌∙◌, sym, length, arith}
+use Rattle.std.proofs.Common.{◌≡◌, true, pos, ◌-◌, sym, arith}
 use Rattle.std.specs.Prelude.{int_lt}
 use Rattle.frames.specs.DeclaredTables.{frames_in, declared_view, frames_rise}
 use Rattle.verify.proofs.Repeated.{none_behind}

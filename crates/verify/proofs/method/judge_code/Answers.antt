@@ -1,15 +1,12 @@
-use Rattle.std.proofs.Common.{◌≡◌, List, Result, Ok, Err, sym, ap, subst, inl, inr, ◌⊎◌, ◌∙◌, Some, map}
+use Rattle.std.proofs.Common.{List, sym, ap, subst, inl, inr, ◌∙◌, map}
 use Rattle.classfile.specs.Methods.{ExceptionEntry}
 use Rattle.frames.specs.DeclaredTables.{frames_in}
 use Rattle.rules.specs.Held.{held}
 use Rattle.rules.specs.Bodies.{method_view}
 use Rattle.rules.specs.Table.{plan_yet}
-use Rattle.rules.specs.declared.reason.Reason.{Reason}
-use Rattle.rules.specs.declared.reason.Reason.TheVariants.{OutOfMemory}
-use Rattle.rules.specs.Reasons.{reason_view}
 use Rattle.verify.specs.ExceptionTables.{entry_view, JudgesTable}
 use Rattle.verify.specs.Handling.{Follows}
-use Rattle.verify.specs.Verdict.{refused, told_of, table_judged, code_judged}
+use Rattle.verify.specs.Verdict.{told_of, table_judged, code_judged}
 use Rattle.verify.specs.Steps.{Gives}
 use Rattle.verify.proofs.method.judge_code.Goals as goal
 

@@ -1,7 +1,4 @@
-use Rattle.std.proofs.Common.{[], ◌++◌, Result, Ok, Err, OnOk, List, sym, subst}
-use Rattle.verify.specs.declared.exceptions.Entry.{Entry}
-use Rattle.verify.specs.Handling.{Tracks, IsSettled}
-use Rattle.verify.proofs.Tracking.{tracked_again}
+use Rattle.verify.specs.Handling.{IsSettled}
 use Rattle.verify.proofs.InTurn.{again_by}
 use Rattle.verify.proofs.handlers.Handlers.behind.Goals as goal
 

@@ -1,4 +1,4 @@
-use Rattle.std.proofs.Common.{◌≡◌, ◌<◌, [], ◌∷◌, ◌++◌, List, Some, refl, sym, ◌∙◌, ap, subst, arith, inr}
+use Rattle.std.proofs.Common.{◌<◌, List, Some, sym, ◌∙◌, ap, subst, arith, inr}
 use Rattle.std.specs.Prelude.{IfSome}
 use Rattle.std.proofs.lemmas.List.{append-nil}
 use Rattle.hierarchy.specs.Answer.{outcome_of}
@@ -39,8 +39,10 @@ returns-in-No-clause-settled g c = λ es t ahead.
     let was = c.loop-entry.invariant.turn es t ahead in
     let taken = subst (λ (xs : List Entry). Tracks es c.args.at (IsJudged classes frames c.args.at f so_far) h.by_start.items h.begun xs h.settled.items) c.in-Some.ensures.items was.tracks in
     let lt : c.args.at < c.in-Some.entry.to = omega (arith, c.if-entry-at.false) in
-    record { outcome = inr (turn_no classes frames es c.args.at f so_far h.by_start.items h.begun c.pop.new.self.items h.settled.items c.in-Some.entry taken lt
-        (sym c.in_ok-caught_answer.ensures.told ∙ ap outcome_of c.in-No.is)) }
+    record {
+      outcome = inr (turn_no classes frames es c.args.at f so_far h.by_start.items h.begun c.pop.new.self.items h.settled.items c.in-Some.entry taken lt
+          (sym c.in_ok-caught_answer.ensures.told ∙ ap outcome_of c.in-No.is));
+    }
 
 pub loop-entry-preserved : goal.loop-entry-preserved
 loop-entry-preserved g c =
@@ -59,7 +61,7 @@ loop-entry-preserved g c =
           let taken = subst (λ (xs : List Entry). Tracks es c.args.at (IsJudged classes frames c.args.at f so_far) h.by_start.items h.begun xs h.settled.items) c.in-Some.ensures.items was.tracks in
           let told = sym c.in_ok-caught_answer.ensures.told in
           elim c.match-branch-2.branch [
-            in-Yes w ↦ record {
+            | in-Yes w ↦ record {
               tracks =
                   subst (λ o. Tracks es c.args.at (IsJudged classes frames c.args.at f o) h.by_start.items h.begun popped c.push.new.self.items) (sym w.missing-is)
                   (subst (λ (xs : List Entry). Tracks es c.args.at (IsJudged classes frames c.args.at f so_far) h.by_start.items h.begun popped xs) (sym c.in_ok-push.ensures.items)
