@@ -24,7 +24,8 @@ ROWS = """
 ()V 1 0 | return; pop; return | 0001 4107[class A] | 0 1 1 any | refused 73 at 0
 ()V 1 0 | return; pop; return | 0001 4101 | 0 1 1 any | refused 73 at 0
 ()V 1 0 | return; pop; return | 0001 4105 | 0 1 1 any | refused 73 at 0
-()V 1 0 | return; pop; return | 0001 4100 | 0 1 1 any | verified
+()V 1 0 | return; return | 0001 4100 | 0 1 1 any | verified
+()V 1 0 | return; pop; return | 0001 4100 | 0 1 1 any | refused 62 at 1
 ()V 2 0 | return; pop; return | 0001 4104 | 0 1 1 any | refused 73 at 0
 ()V 1 0 | return; return | 0001 01 | 0 1 1 any | refused 73 at 0
 ()V 2 0 | return; pop; pop; return | 0001 ff0001 0000 0002 07[class java/lang/Throwable] 07[class java/lang/Throwable] | 0 1 1 any | refused 73 at 0
