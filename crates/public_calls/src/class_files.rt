@@ -185,23 +185,21 @@ const RECORD: [u8; 120] = [
     0x0D, 0, 0, 0, 0, 0, 0, 0, 1, 0xB1, 0, 0, 0, 0, 0, 1, 0, 8, 0, 0, 0, 8, 0, 1, 0, 5, 0, 6, 0, 0,
 ];
 
-/// Whether the one attribute of the class is a Record of one component.
+/// Whether the component has the name and the descriptor of the method of K.
+fn is_component(component: &Component<'_>) -> bool {
+    component.name == 5 && component.descriptor == 6 && component.attributes.is_empty()
+}
+
+/// Whether the one attribute of the class is a Record of one such component.
 fn is_recorded(class: &ClassFile<'_>) -> bool {
-    match class.attributes.as_slice() {
-        [record] => {
-            let permitted = record.permitted_subclasses(&class.constant_pool, 61);
-            permitted.is_empty()
-                && matches!(
-                    record.components(),
-                    [Component {
-                        name: 5,
-                        descriptor: 6,
-                        ..
-                    }]
-                )
-        }
-        _ => false,
-    }
+    let [record] = class.attributes.as_slice() else {
+        return false;
+    };
+    let [component] = record.components() else {
+        return false;
+    };
+    let permitted = record.permitted_subclasses(&class.constant_pool, 61);
+    permitted.is_empty() && is_component(component)
 }
 
 /// Whether the record is read and written; or memory ran out, where it may.
