@@ -1,5 +1,5 @@
 -- The machine's choices, beginnings and worlds.
-use Rattle.std.proofs.Common.{◌≡◌, ◌≢◌, ℕ, ℤ, pos, ◌+ℤ◌, Bool, true, false, List, [], ◌∷◌, slice_get, Option, Some, None, if◌then◌else◌, ◌⊎◌, inl, inr, sym, ap, refl, ◌∙◌, subst, ne_eqb, option_map}
+use Rattle.std.proofs.Common.{◌≡◌, ◌≢◌, ℕ, ℤ, pos, ◌+ℤ◌, Bool, true, false, List, [], ◌∷◌, length, slice_get, Option, Some, None, if◌then◌else◌, ◌⊎◌, inl, inr, sym, ap, refl, ◌∙◌, subst, ne_eqb, option_map}
 use Rattle.std.specs.Str.{bytes_eq}
 use Rattle.std.proofs.lemmas.Slice.Eq.{bytes_eq-Decides}
 use Rattle.names.specs.ReferenceTypes.{ReferenceType, class_type, array_type}
@@ -11,22 +11,24 @@ use Rattle.hierarchy.specs.Rules.{IsHierarchy}
 use Rattle.hierarchy.specs.Extends.{Extends}
 use Rattle.hierarchy.proofs.Worlds.{itself}
 use Rattle.insn.specs.Meanings.{Act}
-use Rattle.insn.specs.Offsets.{at_offset, IsAmong, led_to}
+use Rattle.insn.specs.Offsets.{at_offset, next_offset, IsAmong, led_to}
 use Rattle.names.specs.Descriptors.{FieldDescriptor, primitive, class as class_descriptor, array as array_descriptor}
 use Rattle.insn.specs.Stacks.{computed_as}
 use Rattle.machine.specs.Values.{Value, number, null, reference}
-use Rattle.machine.specs.Heap.{Status, ready, made, this, Object, object, Heap, with_object, IsBelow, FitsField, IsFresh, with_fresh}
+use Rattle.machine.specs.Heap.{Status, ready, made, this, Object, object, Heap, with_object, IsBelow, FitsReference, FitsField, IsFresh, with_fresh}
 use Rattle.machine.specs.Tasks as tasks
 use Rattle.machine.specs.Tasks.{Need, Reply, Task, task, targets, needs_of}
 use Rattle.machine.specs.Demands.{State, AllMeet, IsMade, IsOwn, MeetsRest, IsNoFault}
 use Rattle.machine.specs.Steps.{Replies, IsNull, moved_with, IsLive, IsLast, Does, IsBranch}
 use Rattle.machine.specs.Runs.{Receives}
-use Rattle.machine.specs.Breadth.{AreNew, IsNotNull, IsWay, IsReturn, IsReceiver, with_new, MayGoOn, IsReplied, IsElement, IsAnswer, MakesNone, HasStep, HasChoices, StepBreadth, StartBreadth, with_class, interface_entry, class_entry, WorldBreadth}
+use Rattle.machine.specs.ByAct.{Asks, jumps, asks}
+use Rattle.machine.specs.Breadth.{AreNew, IsNotNull, Passes, IsReceiver, with_new, MayGoOn, IsElement, IsAnswer, MakesNone, IsWay, IsTold, HasStep, HasChoices, StepBreadth, StartBreadth, with_class, interface_entry, class_entry, WorldBreadth}
 use Rattle.machine.proofs.Flows.{Flows, flows}
+use Rattle.machine.proofs.Outlook.{Outlook, outlook, outlook_of, leaves_it, asks_in, reply_asks, seen}
 
 -- ---- fresh objects leave the others
 
-keeps_one : (h : Heap) (a b : ℕ) (o x : Object) → h a ≡ None → h b ≡ Some x → with_object h a o b ≡ Some x
+pub keeps_one : (h : Heap) (a b : ℕ) (o x : Object) → h a ≡ None → h b ≡ Some x → with_object h a o b ≡ Some x
 keeps_one h a b o x n e = rw (ne_eqb a b apart) e
   where
     apart : a ≡ b → ⊥
@@ -60,22 +62,10 @@ live_where : (l : Option ℕ) (vs : List Value) → IsNotNull l vs → IsLive l 
 live_where None vs n = tt
 live_where (Some i) vs n = λ k. n (null_where (slice_get vs i) k)
 
-last_where : (t : Task) → IsReturn t → IsLast t
+last_where : (t : Task) → leaves_it t ≡ true → IsLast t
 last_where (tasks.leaves ns) r = tt
 last_where tasks.ends r = tt
-last_where (tasks.operates ns l r os b) e = elim e [ ]
-last_where (tasks.calls_special c ns l r) e = elim e [ ]
-last_where (tasks.reads n i) e = elim e [ ]
-last_where (tasks.writes n i k) e = elim e [ ]
-last_where (tasks.increments i) e = elim e [ ]
-last_where (tasks.moves fs) e = elim e [ ]
-last_where tasks.takes_element e = elim e [ ]
-last_where (tasks.passes r) e = elim e [ ]
-last_where (tasks.creates c) e = elim e [ ]
-last_where (tasks.makes_array ns r) e = elim e [ ]
-last_where (tasks.initializes c ns) e = elim e [ ]
-last_where (tasks.throws n) e = elim e [ ]
-last_where tasks.stuck e = elim e [ ]
+last_where _ r = cc
 
 receives_where : (w : World) (m : Method Act) (h : Heap) (own : ℕ) (r : Receiver) (vs : List Value) → IsReceiver w m h own r vs → Receives w m h own r vs
 receives_where w m h own no_receiver vs i = i
@@ -84,11 +74,25 @@ receives_where w m h own own_receiver vs i = i
 
 -- ---- what an instruction does
 
-replies : (w : World) (h : Heap) (r : Reply) (answer : Option Value) → IsReplied w h r answer → (vs : List Value) × Replies w h r answer vs
-replies w h tasks.no_reply answer e = ([], (e, refl))
-replies w h (tasks.gives_number k) answer e = (number k ∷ [], (e, refl))
-replies w h tasks.gives_null answer e = (null ∷ [], (e, refl))
-replies w h (tasks.gives_answer t) answer e = (e.0 ∷ [], (e.0, e.1, e.2, refl))
+-- what is asked of the choices, and of the answer, as a task is seen
+abbrev pub MayBy : World → Outlook → State → Type 0
+MayBy w x s = (x.returns ≡ false) × (x.throws ≡ false) × IsNotNull x.object s.stack × Passes w s.heap x.casts s.stack
+
+abbrev pub WayBy : Method Act → ℕ → Outlook → ℕ → Type 0
+WayBy m from x to = IsAmong (pos to) (led_to from x.jumps) ⊎ ((x.follows ≡ true) × (next_offset m.code from ≡ Some to))
+
+pub true_false : true ≡ false → ⊥
+true_false e = cc
+
+replies : (w : World) (s : State) (r : Reply) (n : ℕ) (answer : Option Value) → IsAnswer w s (reply_asks r n) answer → (vs : List Value) × Replies w s.heap r answer vs
+replies w s tasks.no_reply n answer e = ([], (e, refl))
+replies w s (tasks.gives_number k) n answer e = (number k ∷ [], (e, refl))
+replies w s tasks.gives_null n answer e = (null ∷ [], (e, refl))
+replies w s (tasks.gives_answer t) n answer e = (e.0 ∷ [], (e.0, e.1, e.2, refl))
+
+passed : (w : World) (h : Heap) (t : ReferenceType) (vs : List Value) → Passes w h (Some t) vs → (v : Value) × (rest : List Value) × (vs ≡ v ∷ rest) × FitsReference w h t v
+passed w h t [] f = elim f [ ]
+passed w h t (v ∷ vs) f = (v, vs, refl, f)
 
 first_one : (w : World) (h : Heap) (n : Need) (vs : List Value) → AllMeet w h (n ∷ []) vs → (v : Value) × (rest : List Value) × (vs ≡ v ∷ rest)
 first_one w h n (v ∷ vs) f = (v, vs, refl)
@@ -104,9 +108,9 @@ made_there m h c a (inl i) = (class_type c, made, i.here)
 made_there m h c a (inr i) = (i.type, this, i.here)
 
 module _ (w : World) (m : Method Act) (s : State) (fresh : List (ℕ × ReferenceType)) (f : IsFresh s.heap fresh) where
-  does : (t : Task) (answer : Option Value) (to : ℕ) → AllMeet w s.heap (needs_of t) s.stack → MeetsRest w m t s → MayGoOn w t (with_new s fresh) → IsAnswer w t (with_new s fresh) answer → (u : State) × Does w t (with_new s fresh) answer to u
-  does (tasks.operates ns l r os b) answer to am mr go_on an = let k = replies w (with_fresh s.heap fresh) r answer an in (_, (live_where l s.stack go_on, (k.0, k.1, refl)))
-  does (tasks.calls_special c ns l r) answer to am mr go_on an = let k = replies w (with_fresh s.heap fresh) r answer an in (_, (live_where l s.stack go_on, (k.0, k.1, refl)))
+  does : (t : Task) (answer : Option Value) (to : ℕ) → AllMeet w s.heap (needs_of t) s.stack → MeetsRest w m t s → MayBy w (outlook_of t) (with_new s fresh) → IsAnswer w (with_new s fresh) (asks_in t) answer → (u : State) × Does w t (with_new s fresh) answer to u
+  does (tasks.operates ns l r os b) answer to am mr go_on an = let k = replies w (with_new s fresh) r (length ns) answer an in (_, (live_where l s.stack go_on.2, (k.0, k.1, refl)))
+  does (tasks.calls_special c ns l r) answer to am mr go_on an = let k = replies w (with_new s fresh) r (length ns) answer an in (_, (live_where l s.stack go_on.2, (k.0, k.1, refl)))
   does (tasks.reads n i) answer to am mr go_on an = (_, (mr.value, mr.here, an, refl))
   does (tasks.writes n i k) answer to am mr go_on an = let q = first_one w s.heap n s.stack am in (_, (q.0, q.1, q.2, an, refl))
   does (tasks.increments i) answer to am mr go_on an = (_, (an, refl))
@@ -114,16 +118,18 @@ module _ (w : World) (m : Method Act) (s : State) (fresh : List (ℕ × Referenc
   does tasks.takes_element answer to am mr go_on an =
       let q = second_one s.stack an.address an.array in
       (_, (q.0, an.address, an.component, q.1, an.value, q.2, an.type, an.fits, an.is, refl))
-  does (tasks.passes r) answer to am mr go_on an = (_, (go_on.0, go_on.1, go_on.2, go_on.3, an, refl))
+  does (tasks.passes r) answer to am mr go_on an =
+      let q = passed w (with_fresh s.heap fresh) r s.stack go_on.3 in
+      (_, (q.0, q.1, q.2, q.3, an, refl))
   does (tasks.creates c) answer to am mr go_on an = (_, (an.address, an.is, an.unused, an.in_range, refl))
   does (tasks.makes_array ns r) answer to am mr go_on an = (_, (an.address, an.is, an.unused, an.in_range, refl))
   does (tasks.initializes c ns) answer to am mr go_on an =
       let i = made_there m s.heap c mr.address mr.uninitialized in
       (_, (mr.address, mr.rest, i.0, i.1, mr.here, keeps fresh s.heap mr.address (object i.0 i.1) f i.2, an, refl))
-  does (tasks.leaves ns) answer to am mr go_on an = elim go_on [ ]
-  does (tasks.throws n) answer to am mr go_on an = elim go_on [ ]
-  does tasks.ends answer to am mr go_on an = elim go_on [ ]
-  does tasks.stuck answer to am mr go_on an = elim go_on [ ]
+  does (tasks.leaves ns) answer to am mr go_on an = absurd (true_false go_on.0)
+  does (tasks.throws n) answer to am mr go_on an = absurd (true_false go_on.1)
+  does tasks.ends answer to am mr go_on an = absurd (true_false go_on.0)
+  does tasks.stuck answer to am mr go_on an = elim mr [ ]
 
   -- ---- something to answer
 
@@ -132,11 +138,11 @@ module _ (w : World) (m : Method Act) (s : State) (fresh : List (ℕ × Referenc
   field_value (class_descriptor n) = (null, tt)
   field_value (array_descriptor c) = (null, tt)
 
-  reply : (r : Reply) → (answer : Option Value) × IsReplied w (with_fresh s.heap fresh) r answer
-  reply tasks.no_reply = (None, refl)
-  reply (tasks.gives_number k) = (None, refl)
-  reply tasks.gives_null = (None, refl)
-  reply (tasks.gives_answer t) = let v = field_value t in (Some v.0, (v.0, refl, v.1))
+  reply : (r : Reply) (n : ℕ) → (answer : Option Value) × IsAnswer w (with_new s fresh) (reply_asks r n) answer
+  reply tasks.no_reply n = (None, refl)
+  reply (tasks.gives_number k) n = (None, refl)
+  reply tasks.gives_null n = (None, refl)
+  reply (tasks.gives_answer t) n = let v = field_value t in (Some v.0, (v.0, refl, v.1))
 
   element_at : (vs : List Value) → vs ≡ s.stack → AllMeet w s.heap (needs_of tasks.takes_element) vs → IsNotNull (Some 1) vs → (answer : Option Value) × IsElement w (with_new s fresh) answer
   element_at [] e am live = elim am [ ]
@@ -160,86 +166,125 @@ module _ (w : World) (m : Method Act) (s : State) (fresh : List (ℕ × Referenc
         },
       )
 
-  answered : (t : Task) → AllMeet w s.heap (needs_of t) s.stack → MayGoOn w t (with_new s fresh) → MakesNone t → (answer : Option Value) × IsAnswer w t (with_new s fresh) answer
-  answered (tasks.operates ns l r os b) am go_on none = reply r
-  answered (tasks.calls_special c ns l r) am go_on none = reply r
+  answered : (t : Task) → AllMeet w s.heap (needs_of t) s.stack → MayBy w (outlook_of t) (with_new s fresh) → MakesNone (asks_in t) → (answer : Option Value) × IsAnswer w (with_new s fresh) (asks_in t) answer
+  answered (tasks.operates ns l r os b) am go_on none = reply r (length ns)
+  answered (tasks.calls_special c ns l r) am go_on none = reply r (length ns)
   answered (tasks.reads n i) am go_on none = (None, refl)
   answered (tasks.writes n i k) am go_on none = (None, refl)
   answered (tasks.increments i) am go_on none = (None, refl)
   answered (tasks.moves fs) am go_on none = (None, refl)
-  answered tasks.takes_element am go_on none = element_at s.stack refl am go_on
+  answered tasks.takes_element am go_on none = element_at s.stack refl am go_on.2
   answered (tasks.passes r) am go_on none = (None, refl)
   answered (tasks.creates c) am go_on none = elim none [ ]
   answered (tasks.makes_array ns r) am go_on none = elim none [ ]
   answered (tasks.initializes c ns) am go_on none = (None, refl)
-  answered (tasks.leaves ns) am go_on none = elim go_on [ ]
-  answered (tasks.throws x) am go_on none = elim go_on [ ]
-  answered tasks.ends am go_on none = elim go_on [ ]
-  answered tasks.stuck am go_on none = elim go_on [ ]
+  answered (tasks.leaves ns) am go_on none = (None, refl)
+  answered (tasks.throws x) am go_on none = (None, refl)
+  answered tasks.ends am go_on none = (None, refl)
+  answered tasks.stuck am go_on none = (None, refl)
 
-  branch_to : (ts : List ℤ) (to : ℕ) → (branch : Option ℕ) × IsBranch ts branch to
-  branch_to [] to = (None, refl)
-  branch_to (t ∷ ts) to = (Some to, refl)
+  told_to : (os : List ℤ) (to : ℕ) → (branch : Option ℕ) × IsTold os branch to × IsBranch (led_to s.at os) branch to
+  told_to [] to = (None, refl, refl)
+  told_to (o ∷ os) to = (Some to, refl, refl)
 
   module _ (n : IsNoFault w m s) (act : Act) (here : at_offset m.code s.at ≡ Some act) where
     same_act : n.act ≡ act
     same_act = let q : Some n.act ≡ Some act = sym n.here ∙ here in cc
 
-    step : MayGoOn w (task m act) (with_new s fresh) → (answer : Option Value) → IsAnswer w (task m act) (with_new s fresh) answer → (to : ℕ) → IsWay m s.at (task m act) to → HasStep w m s act fresh answer to
+    not_stuck : task m act ≡ tasks.stuck → ⊥
+    not_stuck e = subst (λ t. MeetsRest w m t s) e (subst (λ a. MeetsRest w m (task m a) s) same_act n.operands.others)
+
+    same : outlook_of (task m act) ≡ outlook m act
+    same = seen m act not_stuck
+
+    may_by : MayGoOn w m act (with_new s fresh) → MayBy w (outlook_of (task m act)) (with_new s fresh)
+    may_by go_on = subst (λ x. MayBy w x (with_new s fresh)) (sym same) go_on
+
+    all_meet : AllMeet w s.heap (needs_of (task m act)) s.stack
+    all_meet = subst (λ a. AllMeet w s.heap (needs_of (task m a)) s.stack) same_act n.operands.operands
+
+    step : MayGoOn w m act (with_new s fresh) → (answer : Option Value) → IsAnswer w (with_new s fresh) (asks m act) answer → (to : ℕ) → IsWay m s.at act to → HasStep w m s act fresh answer to
     step go_on answer an to goes =
-        let am = subst (λ a. AllMeet w s.heap (needs_of (task m a)) s.stack) same_act n.operands.operands in
         let mr = subst (λ a. MeetsRest w m (task m a) s) same_act n.operands.others in
-        let d = does (task m act) answer to am mr go_on an in
-        let b = branch_to (targets s.at (task m act)) to in
+        let d = does (task m act) answer to all_meet mr (may_by go_on) (subst (λ x. IsAnswer w (with_new s fresh) x.asks answer) (sym same) an) in
+        let b = told_to (jumps act) to in
         record {
           branch = b.0;
-          given = b.1;
+          told = b.1;
           state = d.0;
-          happens = (n, record { act = act; here = here; unused = f; to = to; branches = b.1; goes = goes; does = d.1 });
+          happens = (
+            n,
+            record {
+              act = act;
+              here = here;
+              unused = f;
+              to = to;
+              branches = subst (λ x. IsBranch (led_to s.at x.jumps) b.0 to) (sym same) b.2;
+              goes = subst (λ x. WayBy m s.at x to) (sym same) goes;
+              does = d.1;
+            },
+          );
         }
 
     -- ---- somewhere to go
 
-    on : tasks.falls (task m act) ≡ true → (to : ℕ) × IsWay m s.at (task m act) to
+    on : tasks.falls (task m act) ≡ true → (to : ℕ) × WayBy m s.at (outlook_of (task m act)) to
     on e = let k = n.control.next (subst (λ a. tasks.falls (task m a) ≡ true) (sym same_act) e) in (k.0, inr (e, k.1))
 
-    along : (z : ℤ) (zs : List ℤ) → tasks.offsets_of (task m act) ≡ z ∷ zs → (to : ℕ) × IsWay m s.at (task m act) to
+    along : (z : ℤ) (zs : List ℤ) → tasks.offsets_of (task m act) ≡ z ∷ zs → (to : ℕ) × WayBy m s.at (outlook_of (task m act)) to
     along z zs e =
         let t : ℤ = pos s.at +ℤ z in
         let i : IsAmong t (targets s.at (task m act)) = subst (λ os. IsAmong t (led_to s.at os)) (sym e) (inl refl) in
         let k = n.control.branches t (subst (λ a. IsAmong t (targets s.at (task m a))) (sym same_act) i) in
         (k.0, inl (subst (λ u. IsAmong u (targets s.at (task m act))) k.1 i))
 
-    ways : (t : Task) → Flows t → MayGoOn w t (with_new s fresh) → (tasks.falls t ≡ true) ⊎ ((z : ℤ) × (zs : List ℤ) × (tasks.offsets_of t ≡ z ∷ zs))
-    ways (tasks.operates ns l r os b) f go_on = f
-    ways (tasks.calls_special c ns l r) f go_on = inl refl
-    ways (tasks.reads n i) f go_on = inl refl
-    ways (tasks.writes n i k) f go_on = inl refl
-    ways (tasks.increments i) f go_on = inl refl
-    ways (tasks.moves fs) f go_on = inl refl
-    ways tasks.takes_element f go_on = inl refl
-    ways (tasks.passes r) f go_on = inl refl
-    ways (tasks.creates c) f go_on = inl refl
-    ways (tasks.makes_array ns r) f go_on = inl refl
-    ways (tasks.initializes c ns) f go_on = inl refl
-    ways (tasks.leaves ns) f go_on = elim go_on [ ]
-    ways (tasks.throws x) f go_on = elim go_on [ ]
-    ways tasks.ends f go_on = elim go_on [ ]
-    ways tasks.stuck f go_on = elim go_on [ ]
+    ways : (t : Task) → Flows t → MayBy w (outlook_of t) (with_new s fresh) → (t ≡ tasks.stuck → ⊥) → (tasks.falls t ≡ true) ⊎ ((z : ℤ) × (zs : List ℤ) × (tasks.offsets_of t ≡ z ∷ zs))
+    ways (tasks.operates ns l r os b) f go_on e = f
+    ways (tasks.calls_special c ns l r) f go_on e = inl refl
+    ways (tasks.reads n i) f go_on e = inl refl
+    ways (tasks.writes n i k) f go_on e = inl refl
+    ways (tasks.increments i) f go_on e = inl refl
+    ways (tasks.moves fs) f go_on e = inl refl
+    ways tasks.takes_element f go_on e = inl refl
+    ways (tasks.passes r) f go_on e = inl refl
+    ways (tasks.creates c) f go_on e = inl refl
+    ways (tasks.makes_array ns r) f go_on e = inl refl
+    ways (tasks.initializes c ns) f go_on e = inl refl
+    ways (tasks.leaves ns) f go_on e = absurd (true_false go_on.0)
+    ways (tasks.throws x) f go_on e = absurd (true_false go_on.1)
+    ways tasks.ends f go_on e = absurd (true_false go_on.0)
+    ways tasks.stuck f go_on e = absurd (e refl)
 
-    somewhere : MayGoOn w (task m act) (with_new s fresh) → (to : ℕ) × IsWay m s.at (task m act) to
-    somewhere go_on = by (ways (task m act) (flows m act) go_on)
+    somewhere : MayGoOn w m act (with_new s fresh) → (to : ℕ) × IsWay m s.at act to
+    somewhere go_on =
+        let k = by (ways (task m act) (flows m act) (may_by go_on) not_stuck) in
+        (k.0, subst (λ x. WayBy m s.at x k.0) same k.1)
       where
-        by : (tasks.falls (task m act) ≡ true) ⊎ ((z : ℤ) × (zs : List ℤ) × (tasks.offsets_of (task m act) ≡ z ∷ zs)) → (to : ℕ) × IsWay m s.at (task m act) to
+        by : (tasks.falls (task m act) ≡ true) ⊎ ((z : ℤ) × (zs : List ℤ) × (tasks.offsets_of (task m act) ≡ z ∷ zs)) → (to : ℕ) × WayBy m s.at (outlook_of (task m act)) to
         by (inl e) = on e
         by (inr e) = along e.0 e.1 e.2
+
+    something : MayGoOn w m act (with_new s fresh) → MakesNone (asks m act) → (answer : Option Value) × IsAnswer w (with_new s fresh) (asks m act) answer
+    something go_on none =
+        let k = answered (task m act) all_meet (may_by go_on) (subst (λ x. MakesNone x.asks) (sym same) none) in
+        (k.0, subst (λ x. IsAnswer w (with_new s fresh) x.asks k.0) same k.1)
 
     choices : HasChoices w m s act fresh
     choices = record {
       steps = step;
       somewhere = somewhere;
-      answered = λ go_on none. answered (task m act) (subst (λ a. AllMeet w s.heap (needs_of (task m a)) s.stack) same_act n.operands.operands) go_on none;
-      returns = λ l. (n, record { act = act; here = here; unused = f; no_branch = refl; no_answer = refl; last = last_where (task m act) l });
+      answered = something;
+      returns = λ l. (
+        n,
+        record {
+          act = act;
+          here = here;
+          unused = f;
+          no_branch = refl;
+          no_answer = refl;
+          last = last_where (task m act) (subst (λ x. x.returns ≡ true) (sym same) l);
+        },
+      );
       raises = λ a x at b. (
         (n, record { unused = f; type = x; here = at; throwable = b }),
         λ k e which covered catches. (
@@ -274,9 +319,6 @@ start_breadth w m heap own receiver args received fit enough objects none only =
 
 some_same : (a b : Entry) → Some a ≡ Some b → a ≡ b
 some_same a b e = cc
-
-true_false : true ≡ false → ⊥
-true_false e = cc
 
 module _ (classes : List ClassFact) (h : IsHierarchy classes) (name : List ℕ) (absent : IsAbsent classes name) where
   old : Extends (world_of classes) classes

@@ -1,5 +1,7 @@
 mod Flows
+mod Outlook
 mod Breadth
+mod Bounds
 mod Types
 mod Stacks
 mod Addresses

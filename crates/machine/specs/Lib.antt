@@ -4,6 +4,7 @@ pub mod Tasks
 pub mod Demands
 pub mod Steps
 pub mod Runs
+pub mod ByAct
 pub mod Breadth
 pub mod Views
 pub mod Bodies

@@ -7,6 +7,7 @@ use Rattle.insn.specs.Offsets.{at_offset, first_offset, next_offset}
 use Rattle.hierarchy.specs.Answer.{yes}
 use Rattle.frames.specs.FrameFact.{FrameFact}
 use Rattle.frames.specs.FrameAssignable.{frame_answer}
+use Rattle.frames.specs.Conditions.{least}
 use Rattle.frames.proofs.Frames.{frame_itself}
 use Rattle.rules.specs.Plans.{falls}
 use Rattle.rules.specs.Table.{Plans}
@@ -49,21 +50,48 @@ module _ (plan : Plans) (classes : List ClassFact) (m : Method Act) (frames : Fr
   abbrev pub AreFine : List (ℕ × Act) → Type 0
   AreFine cs = (at : ℕ) (act : Act) → at_offset cs at ≡ Some act → IsFineIn plan classes m frames table cs at act
 
-  rest_fine : (c : ℕ × Act) (cs : List (ℕ × Act)) → at_offset cs c.0 ≡ None → AreFine (c ∷ cs) → AreFine cs
-  rest_fine c cs apart x p act e =
+  -- what is fine behind an instruction is so in the rest of the code
+  pub fine_behind : (c : ℕ × Act) (cs : List (ℕ × Act)) (p : ℕ) (act : Act) → at_offset cs c.0 ≡ None → at_offset cs p ≡ Some act
+      → (at_offset (c ∷ cs) p ≡ Some act) × (next_offset (c ∷ cs) p ≡ next_offset cs p) × (IsFineIn plan classes m frames table (c ∷ cs) p act → IsFineIn plan classes m frames table cs p act)
+  fine_behind c cs p act apart e =
       let n : nat_eq c.0 p ≡ false = ne_eqb c.0 p (λ q. clash act (sym apart ∙ ap (at_offset cs) q ∙ e)) in
-      let here : at_offset (c ∷ cs) p ≡ Some act = rw n e in
       let next : next_offset (c ∷ cs) p ≡ next_offset cs p = rw n refl in
-      let y = x p act here in
-      record {
-        fine = y.fine;
-        next = λ t. let z = y.next t in (z.0, sym next ∙ z.1, z.2);
-        alone = λ t to i. y.alone t to (next ∙ i);
-        own = y.own;
-      }
+      (
+        rw n e,
+        next,
+        λ y. record {
+          fine = y.fine;
+          next = λ t. let z = y.next t in (z.0, sym next ∙ z.1, z.2);
+          alone = λ t to i. y.alone t to (next ∙ i);
+          own = y.own;
+        },
+      )
     where
       clash : (act : Act) → None ≡ Some act → ⊥
       clash act e = cc
+
+  rest_fine : (c : ℕ × Act) (cs : List (ℕ × Act)) → at_offset cs c.0 ≡ None → AreFine (c ∷ cs) → AreFine cs
+  rest_fine c cs apart x p act e = let y = fine_behind c cs p act apart e in y.2 (x p act y.0)
+
+  -- an instruction that is fine, in front of others
+  pub module _ (c : ℕ × Act) (cs : List (ℕ × Act)) (f : FrameFact) (there : table c.0 ≡ f) (now : IsFineIn plan classes m frames table (c ∷ cs) c.0 c.1) where
+    pub behind : next_offset (c ∷ cs) c.0 ≡ first_offset cs
+    behind = rw (eq-eqb c.0 c.0 refl) refl
+
+    pub none_here : least (at_conditions classes m frames c.0 (plan m c.1) (first_offset cs) f) ≡ None
+    none_here =
+        none_told (at_conditions classes m frames c.0 (plan m c.1) (first_offset cs) f) (of_fine classes m frames c.0 (plan m c.1) (first_offset cs) f
+        (subst (λ z. IsFine classes m frames c.0 (plan m c.1) z) there now.fine) (λ t. let z = now.next t in (z.0, sym behind ∙ z.1)))
+
+    pub at_next : (p : ℕ) → first_offset cs ≡ Some p → ((k : FrameFact) → at_offset frames p ≡ Some k → table p ≡ k) → (b : Bool) → falls (plan m c.1) ≡ b
+        → (entry classes b (after m c.0 (plan m c.1) f) (at_offset frames p) ≡ None) × (table p ≡ entered (after m c.0 (plan m c.1) f) (at_offset frames p))
+    at_next p i own true e =
+        let z = now.next e in
+        let w : Some z.0 ≡ Some p = sym z.1 ∙ (behind ∙ i) in
+        let q : z.0 ≡ p = cc in
+        comes_none p (after m c.0 (plan m c.1) f) (at_offset frames p) refl own
+        (subst (λ v. Comes classes frames table (after m c.0 (plan m c.1) f) v) q (subst (λ v. Comes classes frames table (after m c.0 (plan m c.1) v) z.0) there z.2))
+    at_next p i own false e = alone_none p (after m c.0 (plan m c.1) f) (at_offset frames p) refl own (now.alone e p (behind ∙ i))
 
   pub onward : (cs : List (ℕ × Act)) (b : Bool) (g : FrameFact) → ((p : ℕ) → first_offset cs ≡ Some p → (entry classes b g (at_offset frames p) ≡ None) × (table p ≡ entered g (at_offset frames p)))
       → ((k : FrameFact) → ((p : ℕ) → first_offset cs ≡ Some p → table p ≡ k) → passes plan classes m frames cs k ≡ verified)
@@ -77,10 +105,9 @@ module _ (plan : Plans) (classes : List ClassFact) (m : Method Act) (frames : Fr
   pub passes_all : (cs : List (ℕ × Act)) (f : FrameFact) → AreApart cs → AreFine cs → ((p : ℕ) → first_offset cs ≡ Some p → table p ≡ f) → passes plan classes m frames cs f ≡ verified
   passes_all [] f apart x head = refl
   passes_all (c ∷ cs) f apart x head =
-      ap (λ z. refused_or z c.0 (arrives classes frames cs (falls (plan m c.1)) (after m c.0 (plan m c.1) f) (passes plan classes m frames cs)))
-      (none_told (at_conditions classes m frames c.0 (plan m c.1) (first_offset cs) f) (of_fine classes m frames c.0 (plan m c.1) (first_offset cs) f
-      (subst (λ z. IsFine classes m frames c.0 (plan m c.1) z) there now.fine) (λ t. let z = now.next t in (z.0, sym behind ∙ z.1))))
-      ∙ onward cs (falls (plan m c.1)) (after m c.0 (plan m c.1) f) (λ p i. at_next p i (falls (plan m c.1)) refl) (λ k n. passes_all cs k apart.1 (rest_fine c cs apart.0 x) n)
+      ap (λ z. refused_or z c.0 (arrives classes frames cs (falls (plan m c.1)) (after m c.0 (plan m c.1) f) (passes plan classes m frames cs))) (none_here c cs f there now)
+      ∙ onward cs (falls (plan m c.1)) (after m c.0 (plan m c.1) f) (λ p i. at_next c cs f there now p i (own p i) (falls (plan m c.1)) refl)
+      (λ k n. passes_all cs k apart.1 (rest_fine c cs apart.0 x) n)
     where
       there : table c.0 ≡ f
       there = head c.0 refl
@@ -88,21 +115,8 @@ module _ (plan : Plans) (classes : List ClassFact) (m : Method Act) (frames : Fr
       here : at_offset (c ∷ cs) c.0 ≡ Some c.1
       here = rw (eq-eqb c.0 c.0 refl) refl
 
-      behind : next_offset (c ∷ cs) c.0 ≡ first_offset cs
-      behind = rw (eq-eqb c.0 c.0 refl) refl
-
       now : IsFineIn plan classes m frames table (c ∷ cs) c.0 c.1
       now = x c.0 c.1 here
 
       own : (p : ℕ) → first_offset cs ≡ Some p → (k : FrameFact) → at_offset frames p ≡ Some k → table p ≡ k
       own p i = let s = at_first cs p i in (rest_fine c cs apart.0 x p s.0 s.1).own
-
-      at_next : (p : ℕ) → first_offset cs ≡ Some p → (b : Bool) → falls (plan m c.1) ≡ b
-          → (entry classes b (after m c.0 (plan m c.1) f) (at_offset frames p) ≡ None) × (table p ≡ entered (after m c.0 (plan m c.1) f) (at_offset frames p))
-      at_next p i true e =
-          let z = now.next e in
-          let w : Some z.0 ≡ Some p = sym z.1 ∙ (behind ∙ i) in
-          let q : z.0 ≡ p = cc in
-          comes_none p (after m c.0 (plan m c.1) f) (at_offset frames p) refl (own p i)
-          (subst (λ v. Comes classes frames table (after m c.0 (plan m c.1) f) v) q (subst (λ v. Comes classes frames table (after m c.0 (plan m c.1) v) z.0) there z.2))
-      at_next p i false e = alone_none p (after m c.0 (plan m c.1) f) (at_offset frames p) refl (own p i) (now.alone e p (behind ∙ i))

@@ -17,6 +17,8 @@ pub mod Following
 pub mod Premises
 pub mod Verdicts
 pub mod Refusing
+mod Refused
+mod FitsBreadth
 pub mod MapFaults
 pub mod MapReading
 pub mod Decoded

@@ -1,8 +1,9 @@
 -- Where a stack map is refused, it has a fault.
-use Rattle.std.proofs.Common.{◌≡◌, ℕ, zero, suc, ◌<◌, ◌≤◌, Bool, true, false, nat_eq, nat_lt, List, [], ◌∷◌, length, Option, Some, None, Result, Ok, Err, refl, sym, ◌∙◌, ap, subst, inl, inr, arith, if◌then◌else◌, ltb-false}
+use Rattle.std.proofs.Common.{◌≡◌, ℕ, zero, suc, ◌<◌, ◌≤◌, Bool, true, false, nat_eq, nat_lt, List, [], ◌∷◌, length, Option, Some, None, Result, Ok, Err, refl, sym, ◌∙◌, ap, subst, inl, inr, arith, if◌then◌else◌, ltb-false, le-ltb}
 use Rattle.std.proofs.lemmas.Bool.{eqb-false}
 use Rattle.layout.specs.Place.{Place}
 use Rattle.layout.specs.Format.{reads}
+use Rattle.layout.specs.Whole.{no_fault_in_whole, one_whole_fault}
 use Rattle.layout.specs.FormatLaws.{reads_spells, reads_fault}
 use Rattle.layout.specs.declared.fault.ReadFault.{ReadFault}
 use Rattle.layout.specs.declared.fault.ReadFault.TheVariants.{AttributeLength}
@@ -20,9 +21,9 @@ use Rattle.rules.specs.Table.{Plans}
 use Rattle.rules.specs.After.{after}
 use Rattle.verify.specs.InitialFrames.{initial_types, initial_frame}
 use Rattle.verify.specs.TypeSafety.{Frames}
-use Rattle.verify.specs.Verdict.{MapRefusal, unreadable, undeclared, Verdict, refused, map_refused, refused_or, all_entries, entries_read, or_undeclared, frames_of, frames_declared, entry, entered, arrives, at_conditions, passes, code_judged, table_conditions, table_judged, with_frames}
+use Rattle.verify.specs.Verdict.{MapRefusal, unreadable, undeclared, Verdict, refused, map_refused, refused_or, all_entries, entries_read, or_undeclared, frames_of, frames_declared, entry, entered, arrives, at_conditions, passes, code_judged, table_conditions, table_judged, with_frames, verdict}
 use Rattle.verify.specs.Refusals.{IsMapFault, MapRefusedWhere}
-use Rattle.verify.proofs.Premises.{entries_spelled}
+use Rattle.verify.proofs.Premises.{entries_spelled, entries_there}
 
 body_fault : (body : List ℕ) (fault : ReadFault) (r : Result (List MapEntry × Place) ReadFault) → reads stack_map 0 body ≡ r → all_entries r ≡ Err fault → MapFault body fault
 body_fault body fault (Err e) r h = let same : e ≡ fault = cc in inl (reads_fault stack_map 0 body fault (r ∙ ap (λ (z : ReadFault). Err z) same))
@@ -92,8 +93,8 @@ module _ (plan : Plans) (classes : List ClassFact) (m : Method Act) (frames : Fr
   table_clash [] rest f e = f e
   table_clash (x ∷ es) rest f e = reason_clash (least (table_conditions classes m frames x)) 0 (table_judged classes m frames es rest) (table_clash es rest f) e
 
-pub map_refused_where : MapRefusedWhere
-map_refused_where plan classes m why v = by (nat_lt m.max_locals (length (in_locals (initial_types m)))) refl v
+map_refused_why : (plan : Plans) (classes : List ClassFact) (m : Method Act) (why : MapRefusal) → verdict plan classes m ≡ map_refused why → (length (in_locals (initial_types m)) ≤ m.max_locals) × IsMapFault m why
+map_refused_why plan classes m why v = by (nat_lt m.max_locals (length (in_locals (initial_types m)))) refl v
   where
     on : (r : Result Frames MapRefusal) → frames_declared m ≡ r → with_frames plan classes m r ≡ map_refused why → IsMapFault m why
     on (Ok frames) r w =
@@ -104,3 +105,24 @@ map_refused_where plan classes m why v = by (nat_lt m.max_locals (length (in_loc
         → (length (in_locals (initial_types m)) ≤ m.max_locals) × IsMapFault m why
     by true b w = cc
     by false b w = (ltb-false m.max_locals (length (in_locals (initial_types m))) b, on (frames_declared m) refl w)
+
+-- ---- and where it has a fault, it is refused
+
+abbrev unreadable_map : ReadFault → Result Frames MapRefusal
+unreadable_map fault = Err (unreadable fault)
+
+faulty_map : (m : Method Act) (body : List ℕ) (fault : ReadFault) → MapFault body fault → (r : Result (List MapEntry) ReadFault) → entries_read (Some body) ≡ r → frames_of m r ≡ Err (unreadable fault)
+faulty_map m body fault f (Ok entries) r = absurd (no_fault_in_whole stack_map AttributeLength body entries fault (entries_spelled (Some body) entries r) f)
+faulty_map m body fault f (Err other) r =
+    let there : MapFault body other = body_fault body other (reads stack_map 0 body) refl r in
+    ap (λ (z : ReadFault). unreadable_map z) (one_whole_fault stack_map AttributeLength body other fault there f)
+
+fault_refused : (m : Method Act) (why : MapRefusal) → IsMapFault m why → frames_declared m ≡ Err why
+fault_refused m (unreadable fault) (body, map, f) = ap (λ z. frames_of m (entries_read z)) map ∙ faulty_map m body fault f (entries_read (Some body)) refl
+fault_refused m (undeclared why) (entries, spelled, d) = ap (frames_of m) (entries_there m.stack_map entries spelled) ∙ ap or_undeclared d
+
+pub map_refused_where : MapRefusedWhere
+map_refused_where plan classes m why = (
+  map_refused_why plan classes m why,
+  λ x. rw (le-ltb m.max_locals (length (in_locals (initial_types m))) x.0) (ap (with_frames plan classes m) (fault_refused m why x.1)),
+)

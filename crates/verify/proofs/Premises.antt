@@ -178,7 +178,12 @@ module _ (classes : List ClassFact) (m : Method Act) (frames : Frames) where
       by e (inl i) n others = subst (λ z. IsSoundEntry classes m frames z) (sym i) (sound_of x (none_least (table_conditions classes m frames x) n))
       by e (inr i) n others = others e i
 
+  -- sound entries in front of others change nothing
+  pub sound_front : (front es : List ExceptionEntry) (rest : Verdict) → ((e : ExceptionEntry) → IsAmong e front → IsSoundEntry classes m frames e)
+      → table_judged classes m frames (front ++ es) rest ≡ table_judged classes m frames es rest
+  sound_front [] es rest s = refl
+  sound_front (x ∷ front) es rest s =
+      ap (λ z. refused_or z 0 (table_judged classes m frames (front ++ es) rest)) (none_told (table_conditions classes m frames x) (of_sound x (s x (inl refl)))) ∙ sound_front front es rest (λ e i. s e (inr i))
+
   pub sound_table : (es : List ExceptionEntry) (rest : Verdict) → ((e : ExceptionEntry) → IsAmong e es → IsSoundEntry classes m frames e) → table_judged classes m frames es rest ≡ rest
-  sound_table [] rest s = refl
-  sound_table (x ∷ es) rest s =
-      ap (λ z. refused_or z 0 (table_judged classes m frames es rest)) (none_told (table_conditions classes m frames x) (of_sound x (s x (inl refl)))) ∙ sound_table es rest (λ e i. s e (inr i))
+  sound_table es rest s = ap (λ z. table_judged classes m frames z rest) (sym (append-nil es)) ∙ sound_front es [] rest s

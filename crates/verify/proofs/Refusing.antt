@@ -12,8 +12,8 @@ use Rattle.rules.specs.Table.{Plans}
 use Rattle.rules.specs.After.{after}
 use Rattle.verify.specs.InitialFrames.{initial_types, initial_frame}
 use Rattle.verify.specs.TypeSafety.{Frames, IsTypeSafeAt, IsSoundEntry}
-use Rattle.verify.specs.Verdict.{MapRefusal, Verdict, refused, refused_or, at_conditions, entry, entered, arrives, passes, code_judged, table_conditions, table_judged, with_frames, frames_declared}
-use Rattle.verify.specs.Refusals.{Reaches, BreaksRule, BreaksFrame, BreaksFirst, BreaksTable, HasNoRoom, BreaksCode, BreaksWithFrames, RefusedWhere}
+use Rattle.verify.specs.Verdict.{MapRefusal, Verdict, refused, refused_or, at_conditions, entry, entered, arrives, passes, code_judged, table_conditions, table_judged, with_frames, frames_declared, verdict}
+use Rattle.verify.specs.Refusals.{Reaches, BreaksRule, BreaksFrame, BreaksFirst, BreaksTable, HasNoRoom, BreaksCode, BreaksWithFrames}
 use Rattle.verify.proofs.Declared.{none_least}
 use Rattle.verify.proofs.Passing.{IsFineIn, came, own_of, wider, fine_each, wider_head, comes_in}
 use Rattle.verify.proofs.Premises.{not_at, rising_apart, first_at_zero, frames_there, sound_of}
@@ -26,7 +26,7 @@ told (Some w) p rest at why e = let x : w ≡ why = cc in let y : p ≡ at = cc 
 
 module _ (plan : Plans) (classes : List ClassFact) (m : Method Act) (frames : Frames) where
   -- the refusal is of this instruction, or of the frame behind it
-  abbrev Fails : ℕ → Act → Option ℕ → FrameFact → ℕ → Reason → Type 0
+  abbrev pub Fails : ℕ → Act → Option ℕ → FrameFact → ℕ → Reason → Type 0
   Fails stop act next f at why =
       ((least (at_conditions classes m frames stop (plan m act) next f) ≡ Some why) × (stop ≡ at))
       ⊎ ((least (at_conditions classes m frames stop (plan m act) next f) ≡ None)
@@ -248,8 +248,9 @@ module _ (plan : Plans) (classes : List ClassFact) (m : Method Act) (frames : Fr
         | inr y ↦ inr (record { sound = y.0; broken = code_breaks at why rise first y.1 })
       ]
 
-pub refused_where : RefusedWhere
-refused_where plan classes m rise begins at why v = by (nat_lt m.max_locals (length (in_locals (initial_types m)))) refl v
+pub refused_why : (plan : Plans) (classes : List ClassFact) (m : Method Act) → StartsRise 0 m.code → IsStart m.code 0 → (at : ℕ) (why : Reason) → verdict plan classes m ≡ refused at why
+    → HasNoRoom m at why ⊎ BreaksWithFrames plan classes m at why
+refused_why plan classes m rise begins at why v = by (nat_lt m.max_locals (length (in_locals (initial_types m)))) refl v
   where
     same_refusal : (p q : ℕ) (a b : Reason) → refused p a ≡ refused q b → (p ≡ q) × (a ≡ b)
     same_refusal p q a b e = (cc, cc)

@@ -156,7 +156,7 @@ module _ (h : List ClassFact) (w : World) (x : Extends w h) where
   components_below a b (array_under_class {x = y} {b = d} r) = array_below y d r
   components_below a b (array_component {x = y} {y = z} r) = components_below y z r
 
-  assignable_below : (a b : VerificationType) → IsAssignable h a b → (s t : ReferenceType) → a ≡ to_reference s → b ≡ to_reference t → IsBelow w s t
+  pub assignable_below : (a b : VerificationType) → IsAssignable h a b → (s t : ReferenceType) → a ≡ to_reference s → b ≡ to_reference t → IsBelow w s t
   assignable_below a b to_itself s t p q = go s t (sym p ∙ q)
     where
       go : (s t : ReferenceType) → to_reference s ≡ to_reference t → IsBelow w s t

@@ -1,6 +1,7 @@
 pub mod InitialFrames
 pub mod TypeSafety
 pub mod Safety
+pub mod FitsBreadth
 pub mod Verdict
 pub mod VerdictLaws
 pub mod ClassMethods

@@ -1,5 +1,5 @@
 -- What a refusal says: which step refuses, and how far the method is type-safe (JVMS 4.10.1.6).
-use Rattle.std.specs.Prelude.{◌≡◌, ℕ, ◌<◌, ◌≤◌, true, List, ◌∷◌, ◌++◌, Some, Err, length, ◌⊎◌}
+use Rattle.std.specs.Prelude.{◌≡◌, ℕ, ◌<◌, ◌≤◌, true, List, ◌∷◌, ◌++◌, Some, Err, length, ◌⊎◌, ◌↔◌}
 use Rattle.classfile.specs.Methods.{Method, ExceptionEntry}
 use Rattle.hierarchy.specs.Class.{ClassFact}
 use Rattle.insn.specs.Meanings.{Act}
@@ -76,10 +76,11 @@ BreaksWithFrames plan classes m at why =
     (length (in_locals (initial_types m)) ≤ m.max_locals)
     × (frames : Frames) × Declares m frames × (BreaksTable classes m frames at why ⊎ BreaksCode plan classes m frames at why)
 
+-- it is refused there for this reason exactly where that holds
 abbrev pub RefusedWhere : Type 0
 RefusedWhere =
-    (plan : Plans) (classes : List ClassFact) (m : Method Act) → StartsRise 0 m.code → IsStart m.code 0 → (at : ℕ) (why : Reason) → verdict plan classes m ≡ refused at why
-    → HasNoRoom m at why ⊎ BreaksWithFrames plan classes m at why
+    (plan : Plans) (classes : List ClassFact) (m : Method Act) → StartsRise 0 m.code → IsStart m.code 0 → (at : ℕ) (why : Reason)
+    → (verdict plan classes m ≡ refused at why) ↔ (HasNoRoom m at why ⊎ BreaksWithFrames plan classes m at why)
 
 -- ---- the stack map is refused
 
@@ -92,5 +93,5 @@ IsMapFault m (undeclared why) =
 
 abbrev pub MapRefusedWhere : Type 0
 MapRefusedWhere =
-    (plan : Plans) (classes : List ClassFact) (m : Method Act) (why : MapRefusal) → verdict plan classes m ≡ map_refused why
-    → (length (in_locals (initial_types m)) ≤ m.max_locals) × IsMapFault m why
+    (plan : Plans) (classes : List ClassFact) (m : Method Act) (why : MapRefusal)
+    → (verdict plan classes m ≡ map_refused why) ↔ ((length (in_locals (initial_types m)) ≤ m.max_locals) × IsMapFault m why)

@@ -1,5 +1,6 @@
 //! What the verdict on a method means.
 ghost use Rattle.verify.specs.Refusals.{MapRefusedWhere, RefusedWhere};
+ghost use Rattle.verify.specs.FitsBreadth.{FitsBreadth};
 ghost use Rattle.verify.specs.OneVerdict.{OneVerdict, OneReport};
 ghost use Rattle.verify.specs.VerdictLaws.{TypeSafeIsVerified, VerifiedIsTypeSafe};
 
@@ -13,14 +14,14 @@ pub fn type_safe_is_verified()
     ensures { TypeSafeIsVerified }
 {}
 
-/// What a refusal says. Receiver and parameters do not fit. Or they do, and an entry of the exception table is refused, and those in
-/// front of it are sound; or the initial frame does not fit the one declared at 0; or the method is type-safe up to an
+/// What a refusal says, both ways. Receiver and parameters do not fit. Or they do, and an entry of the exception table is refused, and
+/// those in front of it are sound; or the initial frame does not fit the one declared at 0; or the method is type-safe up to an
 /// instruction, and either the reason is the least that holds there, or it is against the frame at the next start alone.
 pub fn refused_where()
     ensures { RefusedWhere }
 {}
 
-/// Where the stack map is refused, receiver and parameters fit, and the map has this fault.
+/// The stack map is refused exactly where receiver and parameters fit, and the map has this fault.
 pub fn map_refused_where()
     ensures { MapRefusedWhere }
 {}
@@ -33,4 +34,9 @@ pub fn one_verdict()
 /// A class has one report.
 pub fn one_report()
     ensures { OneReport }
+{}
+
+/// In the machine a type takes all values that the verifier lets it take: null, and what is of a type that is assignable to it.
+pub fn fits_breadth()
+    ensures { FitsBreadth }
 {}

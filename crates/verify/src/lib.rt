@@ -18,7 +18,8 @@
 //! - `place_set`: which declared frames were compared.
 //! - `stack_maps`: the frames that a stack map declares.
 //! - `theorem`: type-safe methods are safe.
-//! - `laws`: the verdict on a method is verified exactly where it is type-safe, there is one, and what a refusal says.
+//! - `laws`: the verdict on a method is verified exactly where it is type-safe, there is one, what a refusal says, and that
+//!   in the machine a type takes what the verifier lets it take.
 #![tactic(auto)]
 
 mod among;
@@ -45,7 +46,7 @@ mod verdict;
 pub use among::{AmongFault, verify_among};
 pub use files::{FileFault, FileRead, class_file};
 pub use laws::{
-    map_refused_where, one_report, one_verdict, refused_where, type_safe_is_verified,
+    fits_breadth, map_refused_where, one_report, one_verdict, refused_where, type_safe_is_verified,
     verified_is_type_safe,
 };
 pub use method::verify_method;

@@ -1,0 +1,5 @@
+use Rattle.verify.proofs.FitsBreadth.{fits_breadth}
+use Rattle.verify.proofs.laws.fits_breadth.Goals as goal
+
+pub returns : goal.returns
+returns c = fits_breadth
