@@ -74,7 +74,7 @@ module _ (plan : Plans) (classes : List ClassFact) (m : Method Act) (frames : Fr
   rest_fine c cs apart x p act e = let y = fine_behind c cs p act apart e in y.2 (x p act y.0)
 
   -- an instruction that is fine, in front of others
-  pub module _ (c : ℕ × Act) (cs : List (ℕ × Act)) (f : FrameFact) (there : table c.0 ≡ f) (now : IsFineIn plan classes m frames table (c ∷ cs) c.0 c.1) where
+  module _ (c : ℕ × Act) (cs : List (ℕ × Act)) (f : FrameFact) (there : table c.0 ≡ f) (now : IsFineIn plan classes m frames table (c ∷ cs) c.0 c.1) where
     pub behind : next_offset (c ∷ cs) c.0 ≡ first_offset cs
     behind = rw (eq-eqb c.0 c.0 refl) refl
 

@@ -7,7 +7,8 @@ use Rattle.insn.specs.Meanings.{Act}
 use Rattle.insn.specs.Offsets.{at_offset, first_offset, next_offset, IsStart, StartsRise}
 use Rattle.frames.specs.FrameFact.{FrameFact}
 use Rattle.frames.specs.Slots.{in_locals}
-use Rattle.frames.specs.Conditions.{Reason, least}
+use Rattle.frames.specs.Conditions.{Reason, reason, least}
+use Rattle.rules.specs.ReasonNumbers.{local_out_of_range}
 use Rattle.rules.specs.Plans.{falls}
 use Rattle.rules.specs.Table.{Plans}
 use Rattle.rules.specs.After.{after}
@@ -198,7 +199,7 @@ module _ (plan : Plans) (classes : List ClassFact) (m : Method Act) (rise : Star
 is_refused : (plan : Plans) (classes : List ClassFact) (m : Method Act) → StartsRise 0 m.code → IsStart m.code 0 → (at : ℕ) (why : Reason)
     → HasNoRoom m at why ⊎ BreaksWithFrames plan classes m at why → verdict plan classes m ≡ refused at why
 is_refused plan classes m rise begins at why (inl x) =
-    rw (lt-ltb m.max_locals (length (in_locals (initial_types m))) x.narrow) (ap (λ z. refused z _) (sym x.at_zero) ∙ ap (λ z. refused at z) (sym x.told))
+    rw (lt-ltb m.max_locals (length (in_locals (initial_types m))) x.narrow) (ap (λ z. refused z (reason local_out_of_range)) (sym x.at_zero) ∙ ap (λ z. refused at z) (sym x.told))
 is_refused plan classes m rise begins at why (inr (fit, frames, d, b)) =
     rw (le-ltb m.max_locals (length (in_locals (initial_types m))) fit)
     (ap (with_frames plan classes m) (there_frames m frames d) ∙ frames_refused plan classes m rise begins frames at why b)
