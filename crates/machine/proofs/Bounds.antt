@@ -172,7 +172,7 @@ module _ (w : World) (m : Method Act) (s : State) (n : IsNoFault w m s) (act : A
       let k = follows w (with_new s fresh) answer d.to m (task m act) t (subst (λ a. Does w (task m a) (with_new s fresh) answer d.to t) e d.does) in
       let goes : WayBy m s.at (outlook_of (task m act)) d.to = subst (λ a. WayBy m s.at (outlook_of (task m a)) d.to) e d.goes in
       let told : IsTold (jumps act) branch d.to =
-          told_where s.at (jumps act) branch d.to (subst (λ x. IsBranch (led_to s.at x.jumps) branch d.to) same (subst (λ a. IsBranch (led_to s.at (outlook_of (task m a)).jumps) branch d.to) e d.branches)) in
+      told_where s.at (jumps act) branch d.to (subst (λ x. IsBranch (led_to s.at x.jumps) branch d.to) same (subst (λ a. IsBranch (led_to s.at (outlook_of (task m a)).jumps) branch d.to) e d.branches)) in
       record {
         may = subst (λ x. MayBy w x (with_new s fresh)) same k.may;
         answered = subst (λ x. IsAnswer w (with_new s fresh) x.asks answer) same k.answered;

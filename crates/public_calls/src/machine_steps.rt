@@ -14,6 +14,7 @@ pub type Stepped<'a> = Result<Outcome<'a>, u8>;
 #[test]
 fn laws_are_called() {
     laws::step_breadth();
+    laws::step_bounds();
     laws::start_breadth();
     laws::world_breadth();
 }

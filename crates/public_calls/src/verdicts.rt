@@ -5,14 +5,15 @@ use hierarchy::{Chains, summary_of};
 use std::alloc::{AllocError, Global};
 use std::test::*;
 use verify::{
-    ClassFault, MethodVerdict, Report, Verdict, VerifyFault, map_refused_where, one_report,
-    one_verdict, refused_where, type_safe_is_safe, type_safe_is_verified, verified_is_type_safe,
-    verify_class, verify_method, verify_methods,
+    ClassFault, MethodVerdict, Report, Verdict, VerifyFault, fits_breadth, map_refused_where,
+    one_report, one_verdict, refused_where, type_safe_is_safe, type_safe_is_verified,
+    verified_is_type_safe, verify_class, verify_method, verify_methods,
 };
 
 #[test]
 fn theorem_and_laws_are_called() {
     type_safe_is_safe();
+    fits_breadth();
     verified_is_type_safe();
     type_safe_is_verified();
     refused_where();

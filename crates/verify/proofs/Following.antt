@@ -55,8 +55,7 @@ module _ (plan : Plans) (classes : List ClassFact) (m : Method Act) (frames : Fr
       → (at_offset (c ∷ cs) p ≡ Some act) × (next_offset (c ∷ cs) p ≡ next_offset cs p) × (IsFineIn plan classes m frames table (c ∷ cs) p act → IsFineIn plan classes m frames table cs p act)
   fine_behind c cs p act apart e =
       let n : nat_eq c.0 p ≡ false = ne_eqb c.0 p (λ q. clash act (sym apart ∙ ap (at_offset cs) q ∙ e)) in
-      let next : next_offset (c ∷ cs) p ≡ next_offset cs p = rw n refl in
-      (
+      let next : next_offset (c ∷ cs) p ≡ next_offset cs p = rw n refl in (
         rw n e,
         next,
         λ y. record {

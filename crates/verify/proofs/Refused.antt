@@ -83,7 +83,7 @@ module _ (plan : Plans) (classes : List ClassFact) (m : Method Act) (frames : Fr
   onward_to (d ∷ ds) p i b g e rec =
       let k : p ≡ d.0 = cc in
       let here : (entry classes b g (at_offset frames d.0) ≡ None) × (table d.0 ≡ entered g (at_offset frames d.0)) =
-          subst (λ z. (entry classes b g (at_offset frames z) ≡ None) × (table z ≡ entered g (at_offset frames z))) k e in
+      subst (λ z. (entry classes b g (at_offset frames z) ≡ None) × (table z ≡ entered g (at_offset frames z))) k e in
       ap (λ z. refused_or z d.0 (passes plan classes m frames (d ∷ ds) (entered g (at_offset frames d.0)))) here.0
       ∙ rec (entered g (at_offset frames d.0)) (λ q j. let n : d.0 ≡ q = cc in subst (λ z. table z ≡ entered g (at_offset frames d.0)) n here.1)
 
