@@ -18,7 +18,7 @@ use Rattle.hierarchy.proofs.Chain.{IsWithin, here, up, shorten}
 use Rattle.hierarchy.proofs.Worlds.{up_from, steps_of, chain_of, with_entry, entry_found}
 
 module _ (w : World) where
-  climb_add : (m n : ℕ) (a : List ℕ) → climb w (m + n) a ≡ option_and_then (climb w n) (climb w m a)
+  pub climb_add : (m n : ℕ) (a : List ℕ) → climb w (m + n) a ≡ option_and_then (climb w n) (climb w m a)
   climb_add zero n a =
       let e : zero + n ≡ n = omega arith in
       ap (λ k. climb w k a) e
@@ -31,7 +31,7 @@ module _ (w : World) where
       onward (Some s) k = k s
 
   -- from what is m steps above a, n steps more
-  climb_on : (m n : ℕ) (a s : List ℕ) → climb w m a ≡ Some s → climb w (m + n) a ≡ climb w n s
+  pub climb_on : (m n : ℕ) (a s : List ℕ) → climb w m a ≡ Some s → climb w (m + n) a ≡ climb w n s
   climb_on m n a s e = climb_add m n a ∙ ap (option_and_then (climb w n)) e
 
   one_up : (a b : List ℕ) → climb w 1 a ≡ Some b → superclass_in w a ≡ Some b
@@ -59,7 +59,7 @@ module _ (classes : List ClassFact) where
       (suc r.0, omega (arith, r.1), ap (option_and_then (climb (world_of classes) r.0)) e ∙ r.2)
 
   -- what stands more steps above than there are classes stands above itself
-  around : (n : ℕ) (x a : List ℕ) → length classes < n → climb (world_of classes) n x ≡ Some a → (m : ℕ) × (climb (world_of classes) (suc m) a ≡ Some a)
+  pub around : (n : ℕ) (x a : List ℕ) → length classes < n → climb (world_of classes) n x ≡ Some a → (m : ℕ) × (climb (world_of classes) (suc m) a ≡ Some a)
   around n x a h e =
       let r = steps_within (length classes) x a (shorten classes (chain_of (world_of classes) n x a e)) in
       let m = n - (r.0 + 1) in
@@ -67,7 +67,7 @@ module _ (classes : List ClassFact) where
       (m, sym (climb_on (world_of classes) r.0 (suc m) x a r.2) ∙ ap (λ k. climb (world_of classes) k x) f ∙ e)
 
   -- a name with a superclass is that of a class
-  present : (a s : List ℕ) → superclass_of classes a ≡ Some s → (j : ℕ) × (d : ClassFact) × (slice_get classes j ≡ Some d) × (d.name ≡ a)
+  pub present : (a s : List ℕ) → superclass_of classes a ≡ Some s → (j : ℕ) × (d : ClassFact) × (slice_get classes j ≡ Some d) × (d.name ≡ a)
   present a s e =
       let r = with_entry (world_of classes a) s e in
       let c = entry_found classes a (class_of classes a) refl r.0 r.1 in
@@ -87,7 +87,7 @@ pub record IsDoubled (classes : List ClassFact) (left : ℕ) (places : List (Opt
   pub ancestors : AreAncestors classes steps places
 
 -- what an equation of `option_and_then` says
-taken : {X Y : Type 0} (f : X → Option Y) (o : Option X) (y : Y) → option_and_then f o ≡ Some y → (x : X) × (o ≡ Some x) × (f x ≡ Some y)
+pub taken : {X Y : Type 0} (f : X → Option Y) (o : Option X) (y : Y) → option_and_then f o ≡ Some y → (x : X) × (o ≡ Some x) × (f x ≡ Some y)
 taken f None y e = absurd (none_some e)
 taken f (Some x) y e = (x, refl, e)
 
@@ -96,7 +96,7 @@ module _ (classes : List ClassFact) (one_each : NoClass (IsTwice classes) classe
   world = world_of classes
 
   -- two places of one name are one place
-  one_place : (i j : ℕ) (c d : ClassFact) → slice_get classes i ≡ Some c → slice_get classes j ≡ Some d → c.name ≡ d.name → i ≡ j
+  pub one_place : (i j : ℕ) (c d : ClassFact) → slice_get classes i ≡ Some c → slice_get classes j ≡ Some d → c.name ≡ d.name → i ≡ j
   one_place i j c d e f n = by (cases_lt i j) (cases_lt j i)
     where
       by : (i < j) ⊎ (j ≤ i) → (j < i) ⊎ (i ≤ j) → i ≡ j
@@ -105,7 +105,7 @@ module _ (classes : List ClassFact) (one_each : NoClass (IsTwice classes) classe
       by (inr h) (inr k) = omega arith
 
   -- the place and the class of a name that stands in the list
-  place_of : (j : ℕ) (d : ClassFact) → slice_get classes j ≡ Some d → position (λ c. bytes_eq d.name c.name) classes ≡ Some j
+  pub place_of : (j : ℕ) (d : ClassFact) → slice_get classes j ≡ Some d → position (λ c. bytes_eq d.name c.name) classes ≡ Some j
   place_of j d e = by (position (λ c. bytes_eq d.name c.name) classes) refl
     where
       by : (o : Option ℕ) → position (λ c. bytes_eq d.name c.name) classes ≡ o → position (λ c. bytes_eq d.name c.name) classes ≡ Some j
@@ -119,14 +119,14 @@ module _ (classes : List ClassFact) (one_each : NoClass (IsTwice classes) classe
           go None g = absurd (found_some (λ (c : ClassFact). bytes_eq d.name c.name) classes j d e ((bytes_eq-Decides d.name d.name).1 refl) g)
           go (Some c) g = one_place k j c d (sym at ∙ g) e (sym ((bytes_eq-Decides d.name c.name).0 (find_passes (λ (c : ClassFact). bytes_eq d.name c.name) classes c g)))
 
-  own_class : (j : ℕ) (d : ClassFact) → slice_get classes j ≡ Some d → class_of classes d.name ≡ Some d
+  pub own_class : (j : ℕ) (d : ClassFact) → slice_get classes j ≡ Some d → class_of classes d.name ≡ Some d
   own_class j d e = at_place (λ (c : ClassFact). bytes_eq d.name c.name) classes j (place_of j d e) ∙ e
 
-  own_super : (j : ℕ) (d : ClassFact) → slice_get classes j ≡ Some d → superclass_of classes d.name ≡ d.superclass
+  pub own_super : (j : ℕ) (d : ClassFact) → slice_get classes j ≡ Some d → superclass_of classes d.name ≡ d.superclass
   own_super j d e = ap (λ o. option_and_then (λ (e : Entry). e.superclass) (option_map entry_of o)) (own_class j d e)
 
   -- the class at the place that is found
-  at_found : (s : List ℕ) (j : ℕ) → position (λ c. bytes_eq s c.name) classes ≡ Some j → (d : ClassFact) × (slice_get classes j ≡ Some d) × (d.name ≡ s)
+  pub at_found : (s : List ℕ) (j : ℕ) → position (λ c. bytes_eq s c.name) classes ≡ Some j → (d : ClassFact) × (slice_get classes j ≡ Some d) × (d.name ≡ s)
   at_found s j e = by (slice_get classes j) refl
     where
       at : find (λ c. bytes_eq s c.name) classes ≡ slice_get classes j

@@ -6,4 +6,8 @@ pub mod Worlds
 pub mod Subclass
 pub mod OneFault
 pub mod Ancestors
+pub mod Depths
+pub mod Doubling
+pub mod RowLists
+pub mod RowsKept
 pub mod Summaries

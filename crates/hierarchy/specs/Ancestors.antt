@@ -13,9 +13,13 @@ superclass_place classes c = option_and_then (λ s. position (λ d. bytes_eq s d
 abbrev pub place_after : List (Option ℕ) → Option ℕ → Option ℕ
 place_after places place = option_and_then (λ k. option_and_then (λ next. next) (slice_get places k)) place
 
+-- the class at the second place stands so many steps above the one at the first
+abbrev pub IsAncestor : List ClassFact → ℕ → ℕ → ℕ → Type 0
+IsAncestor classes steps i j = (c : ClassFact) × (d : ClassFact) × (slice_get classes i ≡ Some c) × (slice_get classes j ≡ Some d) × (climb (world_of classes) steps c.name ≡ Some d.name)
+
 -- the table has a place exactly where the class so many steps above is in the list
 pub record AreAncestors (classes : List ClassFact) (steps : ℕ) (places : List (Option ℕ)) : Type 0 where
-  pub sound : (i j : ℕ) → slice_get places i ≡ Some (Some j) → (c : ClassFact) × (d : ClassFact) × (slice_get classes i ≡ Some c) × (slice_get classes j ≡ Some d) × (climb (world_of classes) steps c.name ≡ Some d.name)
+  pub sound : (i j : ℕ) → slice_get places i ≡ Some (Some j) → IsAncestor classes steps i j
   pub complete : (i j : ℕ) (c d : ClassFact) → slice_get classes i ≡ Some c → slice_get classes j ≡ Some d → climb (world_of classes) steps c.name ≡ Some d.name → slice_get places i ≡ Some (Some j)
 
 -- no class has a place in the table

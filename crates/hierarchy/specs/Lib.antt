@@ -7,3 +7,5 @@ pub mod Rules
 pub mod Faults
 pub mod Extends
 pub mod Ancestors
+pub mod Rows
+pub mod Jumps

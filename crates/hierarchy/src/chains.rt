@@ -1,52 +1,18 @@
 //! Classes by a walk along the chain of superclasses.
-ghost use Rattle.std.specs.Prelude.{◌≡◌, IfOk, IfErr, OnOk};
+ghost use Rattle.std.specs.Prelude.{◌≡◌, IfOk, IfErr};
 ghost use Rattle.hierarchy.specs.Summary.{facts_of};
 ghost use Rattle.hierarchy.specs.Faults.{FaultOf};
-ghost use Rattle.hierarchy.specs.Rules.{IsHierarchy, IsTwice, NoClass};
+ghost use Rattle.hierarchy.specs.Rules.{IsHierarchy};
 
 use crate::answer::Answer;
+use crate::checked::checked_index;
 use crate::classes::Classes;
-use crate::cycles::first_on_cycle;
 use crate::fault::HierarchyFault;
 use crate::index::Index;
-use crate::rules::{ArrayInterfaces, InterfaceSupers, NoSuper, first_breaking, has_object};
 use crate::summary::Summary;
 use std::alloc::Global;
 use std::hash::BuildHasher;
 use std::marker::Model;
-
-// Whether classes of which no name stands twice keep the other rules.
-fn check_rules<'s, 'a, S: BuildHasher>(
-    alloc: Global,
-    classes: &[Summary<'a>],
-    index: &Index<'s, 'a, S>,
-) -> Result<(), HierarchyFault<'a>>
-    requires same { index.now ≡ facts_of classes.now }
-    requires one_each { NoClass (IsTwice (facts_of classes.now)) (facts_of classes.now) }
-    ensures ok { OnOk result (IsHierarchy (facts_of classes.now)) }
-    ensures err { IfErr result (FaultOf (facts_of classes.now)) }
-{
-    let on_cycle = first_on_cycle(alloc, classes, index)?;
-    if let Some(name) = on_cycle {
-        return Err(HierarchyFault::Cycle { name });
-    }
-    if let Some(name) = first_breaking(classes, &NoSuper { index }) {
-        return Err(HierarchyFault::SuperMissing { name });
-    }
-    if !has_object(index) {
-        return Err(HierarchyFault::NoObject);
-    }
-    if let Some(name) = first_breaking(classes, &ArrayInterfaces) {
-        return Err(HierarchyFault::BadArrayInterface { name });
-    }
-    if classes.len() > 65535 {
-        return Err(HierarchyFault::TooManyClasses);
-    }
-    if let Some(name) = first_breaking(classes, &InterfaceSupers) {
-        return Err(HierarchyFault::InterfaceSuper { name });
-    }
-    Ok(())
-}
 
 /// A hierarchy that answers by a walk along the chain of superclasses. It borrows the list that it is made from, and
 /// copies no name.
@@ -82,9 +48,9 @@ impl<'s, 'a, S: BuildHasher + Drop> Chains<'s, 'a, S> {
         ensures formed { IfOk result IsHierarchy }
         ensures err { IfErr result (FaultOf (facts_of classes.now)) }
     {
-        let index = Index::new(alloc, classes, hasher)?;
-        check_rules(alloc, classes, &index)?;
-        Ok(Chains { index })
+        Ok(Chains {
+            index: checked_index(alloc, classes, hasher)?,
+        })
     }
 }
 
@@ -96,10 +62,7 @@ impl<'s, 'a, S: BuildHasher> Classes for Chains<'s, 'a, S> {
     }
 
     fn is_interface(&self, name: &[u8]) -> Option<bool> {
-        match self.index.find(name) {
-            None => None,
-            Some(class) => Some(class.interface),
-        }
+        self.index.is_interface(name)
     }
 
     fn is_subclass<'n>(&self, a: &'n [u8], b: &'n [u8]) -> Answer<'n> {

@@ -11,8 +11,8 @@ use crate::summary::Summary;
 use std::alloc::{AllocError, Global};
 use std::hash::BuildHasher;
 
-// The place of the superclass of a class.
-fn superclass_place<'s, 'a, S: BuildHasher>(
+/// The place of the superclass of a class.
+pub fn superclass_place<'s, 'a, S: BuildHasher>(
     class: &Summary<'a>,
     index: &Index<'s, 'a, S>,
 ) -> Option<usize>

@@ -3,7 +3,7 @@ ghost use Rattle.std.specs.List.{IsDistinct, list_any};
 ghost use Rattle.std.specs.Prelude.{◌≡◌, ◌↔◌, true, map, take, drop, length, Some, IsTrue, IfOk, IfErr, option_map, position, slice_get};
 ghost use Rattle.std.specs.Option.{option_copied};
 ghost use Rattle.std.specs.Str.{bytes_eq};
-ghost use Rattle.hierarchy.specs.Class.{ClassFact, class_of, superclass_of, IsSubclass};
+ghost use Rattle.hierarchy.specs.Class.{ClassFact, class_of, interface_of, superclass_of, IsSubclass};
 ghost use Rattle.hierarchy.specs.Summary.{fact_of, facts_of};
 ghost use Rattle.hierarchy.specs.Rules.{IsTwice, NoClass, IsFirst};
 ghost use Rattle.hierarchy.specs.Faults.{FaultOf};
@@ -115,6 +115,16 @@ impl<'s, 'a, S: BuildHasher> Index<'s, 'a, S> {
         match self.names.get_index_of(name) {
             None => None,
             Some(i) => Some(&self.classes[i]),
+        }
+    }
+
+    /// Whether the class of this name is an interface, where there is one.
+    pub fn is_interface(&self, name: &[u8]) -> Option<bool>
+        ensures { result ≡ interface_of self.now name.now }
+    {
+        match self.find(name) {
+            None => None,
+            Some(class) => Some(class.interface),
         }
     }
 

@@ -3,6 +3,7 @@ ghost use Rattle.hierarchy.specs.Answer.{HasOneSubclassAnswer};
 ghost use Rattle.hierarchy.specs.ClassSummary.{SummaryHasTexts};
 ghost use Rattle.hierarchy.specs.Faults.{FaultsBreakRules, OneFault};
 ghost use Rattle.hierarchy.specs.Extends.{KeepsSubclasses, ExtendsItself, ChainsAreSteps};
+ghost use Rattle.hierarchy.specs.Rows.{HasOneDepth, IsBelowByDepth};
 
 use classfile::formed_has_names;
 
@@ -19,6 +20,16 @@ pub fn extends_itself()
 /// A chain of superclasses is a number of steps up.
 pub fn chains_are_steps()
     ensures { ChainsAreSteps }
+{}
+
+/// In a hierarchy each class has one depth.
+pub fn has_one_depth()
+    ensures { HasOneDepth }
+{}
+
+/// A class is below another where that is its ancestor at the distance of their depths.
+pub fn is_below_by_depth()
+    ensures { IsBelowByDepth }
 {}
 
 /// A question about a subclass has one answer.

@@ -1,6 +1,6 @@
 //! The classes that a class is verified against, their superclasses, and what is asked of them. Proved against the
-//! finite chains of superclasses in specs/World.antt (JVMS 4.10.1.2). The call to know is [`Chains::new`], which makes
-//! a list of summaries answer as [`Classes`].
+//! finite chains of superclasses in specs/World.antt (JVMS 4.10.1.2). The call to know is [`Rows::new`], which makes
+//! a list of summaries answer as [`Classes`]; [`Chains::new`] makes one that answers the same by a walk.
 //!
 //! - `summary`: what is known of a class, and the names that the standard fixes.
 //! - `class_summary`: the summary of a class file.
@@ -11,19 +11,27 @@
 //! - `places`: places in a list of classes.
 //! - `rules`: the rules that a single class may break, and the first class that does.
 //! - `cycles`: the first class that stands on the chain of its own superclasses.
+//! - `checked`: a list of classes that keeps the rules.
 //! - `chains`: classes by a walk along their superclasses.
+//! - `jumps`: jumps up the chain of superclasses, by doubled steps.
+//! - `row_table`: rows of ancestors, one behind the other.
+//! - `rows`: classes by rows of ancestors.
 //! - `laws`: what holds of faults, chains and worlds.
 #![tactic(auto)]
 
 mod answer;
 mod chains;
+mod checked;
 mod class_summary;
 mod classes;
 mod cycles;
 mod fault;
 mod index;
+mod jumps;
 pub mod laws;
 mod places;
+mod row_table;
+mod rows;
 mod rules;
 mod summary;
 
@@ -32,4 +40,5 @@ pub use chains::Chains;
 pub use class_summary::summary_of;
 pub use classes::Classes;
 pub use fault::HierarchyFault;
+pub use rows::Rows;
 pub use summary::{Kind, MemberSummary, Summary};

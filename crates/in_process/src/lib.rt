@@ -1,11 +1,13 @@
 //! The steps of the verifier over many class files in memory, to be called from C: what `bench/in_process` measures.
 //!
 //! Files stand one behind the other in `bytes`; `ends` has for each the offset in bytes behind it. A file that is no class file, or
-//! not well formed, counts as none.
+//! not well formed, counts as none. `lines` has what `bench/hierarchy` measures.
 #![tactic(auto)]
 
+mod lines;
+
 use classfile::{ClassFile, decode, form_check};
-use hierarchy::{Chains, Classes, Summary, summary_of};
+use hierarchy::{Classes, Rows, Summary, summary_of};
 use insn::count_instructions;
 use std::alloc::Global;
 use std::hash::{BuildHasherDefault, FoldHasher};
@@ -111,8 +113,8 @@ fn summaries<'a>(alloc: Global, bytes: &'a [u8], ends: &[u32]) -> Vec<Summary<'a
 pub extern "C" fn in_process_hierarchy(alloc: Global, bytes: &[u8], ends: &[u32]) -> u32 {
     let list = summaries(alloc, bytes, ends);
     let hasher: BuildHasherDefault<FoldHasher> = BuildHasherDefault::new();
-    match Chains::new(alloc, &list, hasher) {
-        Ok(_chains) => list.len() as u32,
+    match Rows::new(alloc, &list, hasher) {
+        Ok(_classes) => list.len() as u32,
         Err(_) => 0,
     }
 }
@@ -164,9 +166,9 @@ pub extern "C" fn in_process_verify(
 ) {
     let list = summaries(alloc, bytes, ends);
     let hasher: BuildHasherDefault<FoldHasher> = BuildHasherDefault::new();
-    if let Ok(chains) = Chains::new(alloc, &list, hasher) {
+    if let Ok(classes) = Rows::new(alloc, &list, hasher) {
         for number in 0..ends.len() {
-            verify_one(alloc, file(bytes, ends, number), &chains, verdicts);
+            verify_one(alloc, file(bytes, ends, number), &classes, verdicts);
         }
     }
 }

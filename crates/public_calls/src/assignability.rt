@@ -1,6 +1,6 @@
 use crate::making::{frame, hasher, setting};
 use frames::{Frame, VType, assignable, frame_assignable, laws};
-use hierarchy::{Answer, Chains, Classes};
+use hierarchy::{Answer, Classes, Rows};
 use names::{Base, OBJECT, Primitive};
 use std::alloc::{AllocError, Global};
 use std::process::Abort;
@@ -62,7 +62,7 @@ fn check_types<C: Classes>(rt: &impl Abort, classes: &C) {
 #[test]
 fn types(rt: HostRuntime) {
     let list = setting(rt.alloc());
-    match Chains::new(rt.alloc(), &list, hasher()) {
+    match Rows::new(rt.alloc(), &list, hasher()) {
         Ok(classes) => check_types(&rt, &classes),
         Err(_) => panic!(rt; "a hierarchy"),
     }
@@ -113,7 +113,7 @@ fn check_locals<C: Classes>(rt: &impl Abort, alloc: Global, classes: &C) {
 fn frames(rt: HostRuntime) {
     let alloc = rt.alloc();
     let list = setting(alloc);
-    match Chains::new(alloc, &list, hasher()) {
+    match Rows::new(alloc, &list, hasher()) {
         Ok(classes) => {
             check_stacks(&rt, alloc, &classes);
             check_locals(&rt, alloc, &classes);

@@ -2,7 +2,7 @@
 use crate::making::{OUT_OF_MEMORY, frame, hasher, object};
 use classfile::{ClassFile, Formed, decode, form_check};
 use frames::{Frame, VType};
-use hierarchy::{Chains, Classes};
+use hierarchy::{Classes, Rows};
 use insn::{Branches, Insn, decode_code};
 use layout::MAX_CODE_BYTES;
 use rules::{After, Env, apply, branches, falls};
@@ -80,7 +80,7 @@ fn judge_among<'a, C: Classes>(
 /// The same, where `java/lang/Object` is the one class.
 fn judge_of<'a>(alloc: Global, formed: &Formed<'_, 'a>, frame: &Frame<'a>) -> Judged<'a> {
     let alone = [object(alloc)];
-    match Chains::new(alloc, &alone, hasher()) {
+    match Rows::new(alloc, &alone, hasher()) {
         Ok(classes) => judge_among(alloc, formed, &classes, frame),
         Err(_) => Err(OUT_OF_MEMORY),
     }

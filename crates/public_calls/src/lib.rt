@@ -9,6 +9,7 @@
 //! | `code_reading`, `code_writing` | `insn`: code both ways |
 //! | `code_forms` | `insn`: the form of each instruction |
 //! | `superclasses` | `hierarchy`: lists of classes, and summaries of class files |
+//! | `ancestor_rows` | `hierarchy`: rows of ancestors |
 //! | `assignability` | `frames`: one type or frame where another is wanted |
 //! | `stack_maps`, `declared_frames` | `frames`: stack maps both ways, and the frames that they declare |
 //! | `instruction_rules` | `rules`: single instructions |
@@ -22,6 +23,8 @@
 //! A test with `memory` in its name passes also where any one allocation fails; `tests/allocations` runs those so.
 #![tactic(auto)]
 
+#[cfg(test)]
+mod ancestor_rows;
 #[cfg(test)]
 mod assignability;
 #[cfg(test)]

@@ -1,7 +1,7 @@
 //! Steps of methods of two bytes of code.
 use crate::making::{CATCHING, OUT_OF_MEMORY, catching, hasher, object, summary};
 use classfile::{ClassFile, Formed, decode, form_check};
-use hierarchy::Chains;
+use hierarchy::Rows;
 use machine::{Choice, Method, Outcome, RunType, Slot, State, Value, laws, step};
 use names::{OBJECT, THROWABLE};
 use std::alloc::{AllocError, Global};
@@ -41,7 +41,7 @@ fn step_of_method<'a>(
         summary(alloc, THROWABLE, Some(OBJECT), false),
         summary(alloc, b"K", Some(OBJECT), false),
     ];
-    match Chains::new(alloc, &list, hasher()) {
+    match Rows::new(alloc, &list, hasher()) {
         Ok(classes) => match step(alloc, method, &classes, start, choice) {
             Ok(outcome) => Ok(outcome),
             Err(fault) => Err(fault.number()),

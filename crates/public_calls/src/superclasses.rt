@@ -12,6 +12,8 @@ fn laws_are_called() {
     laws::keeps_subclasses();
     laws::extends_itself();
     laws::chains_are_steps();
+    laws::has_one_depth();
+    laws::is_below_by_depth();
     laws::has_one_subclass_answer();
     laws::faults_break_rules();
     laws::one_hierarchy_fault();

@@ -1,7 +1,7 @@
 //! What is answered of methods and classes that no program shows.
 use crate::making::{K, catching, hasher, object};
 use classfile::{ClassFile, Formed, decode, encode, form_check};
-use hierarchy::{Chains, summary_of};
+use hierarchy::{Rows, summary_of};
 use std::alloc::{AllocError, Global};
 use std::test::*;
 use verify::{
@@ -33,7 +33,7 @@ fn verdict<'a>(
     };
     own.is_final = is_final;
     let list = [object(alloc), own];
-    match Chains::new(alloc, &list, hasher()) {
+    match Rows::new(alloc, &list, hasher()) {
         Ok(classes) if !formed.class().methods.is_empty() => {
             verify_method(alloc, formed, 0, &classes)
         }
@@ -77,7 +77,7 @@ fn report_among<'a>(
     formed: &Formed<'_, '_>,
 ) -> Result<Report<'a>, AllocError> {
     let list = [object(alloc), summary_of(alloc, formed)?];
-    let Ok(classes) = Chains::new(alloc, &list, hasher()) else {
+    let Ok(classes) = Rows::new(alloc, &list, hasher()) else {
         return Err(AllocError);
     };
     match verify_class(alloc, bytes, &classes) {
@@ -125,7 +125,7 @@ fn memory_runs_out_for_a_report(rt: HostRuntime) {
 /// What is answered of these bytes where `java/lang/Object` is the one class.
 fn is_unlisted(alloc: Global, bytes: &[u8]) -> bool {
     let list = [object(alloc)];
-    match Chains::new(alloc, &list, hasher()) {
+    match Rows::new(alloc, &list, hasher()) {
         Ok(classes) => matches!(
             verify_class(alloc, bytes, &classes),
             Err(ClassFault::NotInHierarchy)
@@ -149,7 +149,7 @@ fn is_refused_below_final(alloc: Global, bytes: &[u8], formed: &Formed<'_, '_>) 
     };
     let mut top = object(alloc);
     top.is_final = true;
-    match Chains::new(alloc, &[top, own], hasher()) {
+    match Rows::new(alloc, &[top, own], hasher()) {
         Ok(classes) => {
             matches!(
                 verify_class(alloc, bytes, &classes),

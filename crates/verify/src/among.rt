@@ -12,7 +12,7 @@ use crate::files::{FileFault, FileRead, class_in, formed, summary_in};
 use crate::final_super::has_final_super;
 use crate::report::{Report, report_listed};
 use classfile::Formed;
-use hierarchy::{Chains, HierarchyFault, Summary, summary_of};
+use hierarchy::{HierarchyFault, Rows, Summary, summary_of};
 use std::alloc::{AllocError, AllocFailed, Global};
 use std::hash::BuildHasher;
 
@@ -71,15 +71,15 @@ fn report_in<'a, S: BuildHasher + Drop>(
     requires { BeginWith (facts_of summaries.now) (class_view formed.now.class.now) }
     ensures { ReportsSummaries (facts_of summaries.now) (class_view formed.now.class.now) result }
 {
-    let chains = match Chains::new(alloc, summaries, hasher) {
-        Ok(chains) => chains,
+    let classes = match Rows::new(alloc, summaries, hasher) {
+        Ok(classes) => classes,
         Err(HierarchyFault::OutOfMemory) => return Err(AmongFault::OutOfMemory),
         Err(fault) => return Err(AmongFault::NoHierarchy(fault)),
     };
-    if has_final_super(&summaries[0], &chains) {
+    if has_final_super(&summaries[0], &classes) {
         return Err(AmongFault::FinalSuper);
     }
-    match report_listed(alloc, formed, &chains) {
+    match report_listed(alloc, formed, &classes) {
         Ok(report) => Ok(report),
         Err(_) => Err(AmongFault::OutOfMemory),
     }
@@ -105,7 +105,7 @@ fn report_formed<'a, S: BuildHasher + Drop>(
 ///
 /// Refused is, by the first of these that holds: the class, for what its reading, [`decode`](classfile::decode) or
 /// [`form_check`](classfile::form_check) refuses; the first of the known ones that is refused for the same; what
-/// [`Chains::new`] refuses of their summaries, the class's own first (40 to 46); 81, where the superclass of the class is final. 1 where
+/// [`Rows::new`] refuses of their summaries, the class's own first (40 to 46); 81, where the superclass of the class is final. 1 where
 /// memory ran out.
 pub fn verify_among<'a, S: BuildHasher + Drop>(
     alloc: Global,

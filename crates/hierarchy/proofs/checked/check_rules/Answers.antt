@@ -2,7 +2,7 @@ use Rattle.std.proofs.lemmas.List.{length-map}
 use Rattle.std.proofs.Common.{◌≡◌, Option, Some, None, MatchOption, refl, subst, arith}
 use Rattle.hierarchy.specs.Summary.{fact_of, facts_of}
 use Rattle.hierarchy.specs.Rules.{IsOnCycle, LacksSuper, HasObject, NoClass, IsFirst}
-use Rattle.hierarchy.proofs.chains.check_rules.Goals as goal
+use Rattle.hierarchy.proofs.checked.check_rules.Goals as goal
 
 none_there : {X : Type 0} (o : Option X) (P : Type 0) (Q : X → Type 0) → ((x : X) → o ≡ Some x → ⊥) → MatchOption o P Q → P
 none_there None P Q h m = m

@@ -1,5 +1,5 @@
 use Rattle.std.proofs.Common.{rules}
-use Rattle.hierarchy.proofs.chains.ChainsClasses.is_interface.Goals as goal
+use Rattle.hierarchy.proofs.index.Index.is_interface.Goals as goal
 
 pub returns-in-None : goal.returns-in-None
 returns-in-None g c = search rules

@@ -1,0 +1,170 @@
+//! Classes by rows of ancestors.
+ghost use Rattle.std.specs.Prelude.{◌≡◌, ℕ, ◌+◌, ◌^◌, ◌<◌, ◌≤◌, Some, IfOk, IfErr, length, slice_get, count_ones};
+ghost use Rattle.hierarchy.specs.Answer.{SubclassAnswer, outcome_of, yes_if};
+ghost use Rattle.hierarchy.specs.Class.{ClassFact};
+ghost use Rattle.hierarchy.specs.Summary.{facts_of};
+ghost use Rattle.hierarchy.specs.Faults.{FaultOf};
+ghost use Rattle.hierarchy.specs.Rules.{IsHierarchy};
+ghost use Rattle.hierarchy.specs.Ancestors.{IsAncestor};
+ghost use Rattle.hierarchy.specs.Rows.{AncestorAnswer, AreRows, IsDepth, IsLookedUp};
+
+use crate::answer::Answer;
+use crate::checked::checked_index;
+use crate::classes::Classes;
+use crate::fault::HierarchyFault;
+use crate::index::Index;
+use crate::jumps::jumps_up;
+use crate::row_table::{RowTable, has_entry, rows_of};
+use crate::summary::Summary;
+use std::alloc::{AllocError, Global};
+use std::hash::BuildHasher;
+use std::marker::Model;
+
+/// A hierarchy that answers by the depths of its classes and by rows of ancestors. It borrows the list that it is made
+/// from, and copies no name.
+#[derive(Drop)]
+pub struct Rows<'s, 'a, S: BuildHasher> {
+    index: Index<'s, 'a, S>,
+    rows: RowTable,
+}
+
+impl<'s, 'a, S: BuildHasher> Model for Rows<'s, 'a, S> {
+    ghost use Rattle.std.specs.Prelude.{List};
+    ghost use Rattle.hierarchy.specs.Class.{ClassFact};
+    ghost use Rattle.hierarchy.specs.Rules.{IsHierarchy};
+    ghost use Rattle.hierarchy.specs.Rows.{AreRows};
+
+    ghost Value = { List ClassFact };
+
+    ghost view = { λ r. r.index };
+
+    ghost invariant = { λ r. IsHierarchy r.index × AreRows r.index r.rows.depths.items r.rows.starts.items r.rows.entries.items };
+}
+
+// Yes where it holds, and no where it does not.
+fn yes_if<'n>(holds: bool) -> Answer<'n>
+    ensures { outcome_of result ≡ yes_if holds }
+{
+    if holds { Answer::Yes } else { Answer::No }
+}
+
+// The rows of the classes of a list.
+fn rows_in<'s, 'a, S: BuildHasher>(
+    alloc: Global,
+    classes: &[Summary<'a>],
+    index: &Index<'s, 'a, S>,
+) -> Result<RowTable, AllocError>
+    requires same { index.now ≡ facts_of classes.now }
+    requires formed { IsHierarchy index.now }
+    ensures { IfOk result (λ rows. AreRows index.now rows.depths.items rows.starts.items rows.entries.items) }
+{
+    let jumps = jumps_up(alloc, classes, index)?;
+    rows_of(alloc, &jumps)
+}
+
+impl<'s, 'a, S: BuildHasher + Drop> Rows<'s, 'a, S> {
+    /// The classes of a list, in time n log n for n classes. A class of depth d has a row of as many entries as d has
+    /// binary digits, which are 16 at most.
+    ///
+    /// Refused as by [`Chains::new`](crate::Chains::new): 40 to 46, and 1 where there was no memory left.
+    pub fn new(
+        alloc: Global,
+        classes: &'s [Summary<'a>],
+        hasher: S,
+    ) -> Result<Self, HierarchyFault<'a>>
+        ensures ok { IfOk result (λ r. r ≡ facts_of classes.now) }
+        ensures formed { IfOk result IsHierarchy }
+        ensures err { IfErr result (FaultOf (facts_of classes.now)) }
+    {
+        let index = checked_index(alloc, classes, hasher)?;
+        let rows = rows_in(alloc, classes, &index)?;
+        Ok(Rows { index, rows })
+    }
+}
+
+impl<'s, 'a, S: BuildHasher> Rows<'s, 'a, S> {
+    /// The place in the list, from 0, of the ancestor at the distance 2 to the power of `k` from the class at a place, or
+    /// `None` where fewer classes stand above it. Looks at one entry of a row, and counts it.
+    pub fn ancestor(&self, place: u16, k: u8, looks: &mut u32) -> Option<u16>
+        requires place { place < length self.now }
+        requires looks { looks.old < 16 }
+        ensures looked { looks.new ≡ looks.old + 1 }
+        ensures found { AncestorAnswer self.now (2 ^ k) place result }
+    {
+        *looks += 1;
+        let place = usize::from(place);
+        let k = usize::from(k);
+        let rows = &self.rows;
+        if !has_entry(rows.depths[place], k) {
+            return None;
+        }
+        Some(rows.entries[rows.starts[place] as usize + k])
+    }
+
+    // The place of the class so many steps above one, and how many entries of rows were looked at.
+    fn above(&self, place: u16, steps: u16) -> (u16, u32)
+        requires formed { IsHierarchy self.now }
+        requires deep { (c : ClassFact) × (d : ℕ) × (slice_get self.now place ≡ Some c) × IsDepth self.now c.name d × (steps ≤ d) }
+        ensures there { IsAncestor self.now steps place result.0 }
+        ensures looked { result.1 ≡ count_ones steps }
+        ensures few { result.1 ≤ 16 }
+    {
+        let mut at = place;
+        let mut left = steps;
+        let mut looks = 0;
+        let mut k = 0;
+        while left > 0 {
+            if left % 2 == 1 {
+                match self.ancestor(at, k, &mut looks) {
+                    Some(next) => at = next,
+                    None => unreachable!(),
+                }
+            }
+            left /= 2;
+            k += 1;
+        }
+        (at, looks)
+    }
+
+    /// Whether `a` is `b` or stands below it, as [`Classes::is_subclass`], and how many entries of rows were looked at:
+    /// where both are in the list and `a` is the deeper, as many as the difference of their depths has binary digits 1,
+    /// and otherwise none.
+    pub fn climb<'n>(&self, a: &'n [u8], b: &'n [u8]) -> (Answer<'n>, u32)
+        ensures answer { SubclassAnswer self.now a.now b.now (outcome_of result.0) }
+        ensures looked { IsLookedUp self.now a.now b.now result.1 }
+    {
+        let index = &self.index;
+        if a == b {
+            return (Answer::Yes, 0);
+        }
+        let Some(from) = index.place(a) else {
+            return (Answer::Missing(a), 0);
+        };
+        let Some(to) = index.place(b) else {
+            return (Answer::No, 0);
+        };
+        let low = self.rows.depths[from];
+        let high = self.rows.depths[to];
+        if low <= high {
+            return (Answer::No, 0);
+        }
+        let (above, looks) = self.above(from as u16, low - high);
+        (yes_if(usize::from(above) == to), looks)
+    }
+}
+
+impl<'s, 'a, S: BuildHasher> Classes for Rows<'s, 'a, S> {
+    ghost content = { λ r. r };
+
+    fn find(&self, name: &[u8]) -> Option<&Summary<'_>> {
+        self.index.find(name)
+    }
+
+    fn is_interface(&self, name: &[u8]) -> Option<bool> {
+        self.index.is_interface(name)
+    }
+
+    fn is_subclass<'n>(&self, a: &'n [u8], b: &'n [u8]) -> Answer<'n> {
+        self.climb(a, b).0
+    }
+}

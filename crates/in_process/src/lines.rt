@@ -1,0 +1,81 @@
+//! Lines of classes, each below the one before, kept in rows of ancestors or asked by a walk along their superclasses: what
+//! `bench/hierarchy` measures.
+use hierarchy::{Answer, Chains, Classes, Rows, Summary};
+use names::OBJECT;
+use std::alloc::{AllocError, Global};
+use std::hash::{BuildHasherDefault, FoldHasher};
+
+/// The names of as many classes: numbers of two bytes.
+fn numbers(alloc: Global, count: u16) -> Result<Vec<[u8; 2]>, AllocError> {
+    (0..count).map(|number| number.to_be_bytes()).collect(alloc)
+}
+
+fn summary<'a>(alloc: Global, name: &'a [u8], superclass: Option<&'a [u8]>) -> Summary<'a> {
+    Summary {
+        name,
+        superclass,
+        interface: false,
+        is_final: false,
+        members: Vec::new(alloc),
+    }
+}
+
+/// The classes of these names, each below the one behind it, and `java/lang/Object`, below which is the last.
+fn line<'a>(alloc: Global, names: &'a [[u8; 2]]) -> Result<Vec<Summary<'a>>, AllocError> {
+    let mut list = Vec::with_capacity(alloc, names.len())?;
+    for (place, name) in names.iter().enumerate() {
+        let above: &'a [u8] = match names.get(place.saturating_add(1)) {
+            Some(next) => next,
+            None => OBJECT,
+        };
+        list.push(summary(alloc, name, Some(above)))?;
+    }
+    list.push(summary(alloc, OBJECT, None))?;
+    Ok(list)
+}
+
+/// How often a class of the first four is below `java/lang/Object`, asked so often in turn.
+fn count_below<C: Classes>(classes: &C, names: &[[u8; 2]], rounds: u32) -> u32 {
+    let mut count: u32 = 0;
+    let few = names.len().min(4).max(1);
+    for round in 0..rounds {
+        if let Some(name) = names.get(round as usize % few) {
+            if classes.is_subclass(name, OBJECT) == Answer::Yes {
+                count = count.wrapping_add(1);
+            }
+        }
+    }
+    count
+}
+
+/// The same of a line of so many classes that is kept in rows; 0 where memory runs out.
+#[unsafe(no_mangle)]
+pub extern "C" fn in_process_rows(alloc: Global, depth: u16, rounds: u32) -> u32 {
+    let hasher: BuildHasherDefault<FoldHasher> = BuildHasherDefault::new();
+    let Ok(names) = numbers(alloc, depth) else {
+        return 0;
+    };
+    let Ok(list) = line(alloc, &names) else {
+        return 0;
+    };
+    match Rows::new(alloc, &list, hasher) {
+        Ok(rows) => count_below(&rows, &names, rounds),
+        Err(_) => 0,
+    }
+}
+
+/// The same by a walk along the superclasses.
+#[unsafe(no_mangle)]
+pub extern "C" fn in_process_chains(alloc: Global, depth: u16, rounds: u32) -> u32 {
+    let hasher: BuildHasherDefault<FoldHasher> = BuildHasherDefault::new();
+    let Ok(names) = numbers(alloc, depth) else {
+        return 0;
+    };
+    let Ok(list) = line(alloc, &names) else {
+        return 0;
+    };
+    match Chains::new(alloc, &list, hasher) {
+        Ok(chains) => count_below(&chains, &names, rounds),
+        Err(_) => 0,
+    }
+}
