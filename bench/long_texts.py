@@ -34,8 +34,25 @@ def class_file(constants, fields=()):
     )
 
 
+def alike(count, first, last, length=LONGEST):
+    """So many texts of this length that differ in their last bytes alone, between a beginning and an end."""
+    middle = b"a" * (length - len(first) - len(last) - 3)
+    return [utf8(first + middle + b"%03d" % i + last) for i in range(count)]
+
+
+def beginning_alike(rows, columns, length=LONGEST):
+    """A field of each of so many names and each of so many descriptors; `length` is that of their texts."""
+    texts = alike(rows, b"", b"", length) + alike(columns, b"L", b";", length)
+    behind_names = BEHIND + rows
+    return class_file(texts, [(BEHIND + i, behind_names + k) for i in range(rows) for k in range(columns)])
+
+
 def names(count):
     return [utf8(b"f%d" % i) for i in range(count)]
+
+
+def descriptors(count):
+    return [utf8(b"Lf%d;" % i) for i in range(count)]
 
 
 def behind(count):
@@ -49,5 +66,8 @@ FILES = {
     f"{MANY} names and types of one long method descriptor": lambda: class_file([indices(12, 2, 7)] * MANY),
     f"{MANY} method types of one long descriptor": lambda: class_file([indices(16, 7)] * MANY),
     f"{MANY} methods of one name and type with a long descriptor": lambda: class_file([indices(12, 2, 7)] + [indices(10, 1, BEHIND)] * MANY),
+    "60000 fields of one long name": lambda: class_file(descriptors(60_000), [(5, it) for it in behind(60_000)]),
+    "fields of 120 names by 120 descriptors that begin alike": lambda: beginning_alike(120, 120),
+    "fields of 250 names by 256 descriptors that begin alike": lambda: beginning_alike(250, 256, 30_000),
     "60000 fields of one long descriptor": lambda: class_file(names(60_000), [(it, 6) for it in behind(60_000)]),
 }

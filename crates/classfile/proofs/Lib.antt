@@ -17,3 +17,4 @@ pub mod Rows
 pub mod SeenLaws
 pub mod Steps
 pub mod Tables
+pub mod TextNumberLaws

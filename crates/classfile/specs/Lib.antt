@@ -24,6 +24,7 @@ pub mod RecordForm
 pub mod Seen
 pub mod Sizes
 pub mod TextForms
+pub mod TextNumbers
 pub mod Values
 pub mod Views
 pub mod WellFormed

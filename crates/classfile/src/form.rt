@@ -66,7 +66,7 @@ fn fields_form(alloc: Global, class: &ClassFile<'_>, forms: &TextForms) -> Resul
     ensures { Passes (class_view class.now) (λ n. places.Field n) result }
 {
     let pool = &class.constant_pool;
-    let mut seen = Signatures::new(alloc);
+    let mut seen = Signatures::new(alloc, pool)?;
     for (n, field) in class.fields.iter().enumerate() {
         let repeated = seen.meet_member(pool, field)?;
         if let Some(rule) = field_rule(pool, forms, repeated, field) {
@@ -85,7 +85,7 @@ fn methods_form(alloc: Global, class: &ClassFile<'_>, forms: &TextForms) -> Resu
 {
     let pool = &class.constant_pool;
     let interface = has(class.access_flags, INTERFACE);
-    let mut seen = Signatures::new(alloc);
+    let mut seen = Signatures::new(alloc, pool)?;
     for (n, method) in class.methods.iter().enumerate() {
         let repeated = seen.meet_member(pool, method)?;
         if let Some(rule) = method_rule(pool, forms, interface, repeated, method) {

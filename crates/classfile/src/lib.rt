@@ -29,6 +29,7 @@
 //! | `text_forms` | of which forms each text of the pool is, judged once |
 //! | `indices`, `naming`, `flags` | what an index leads to, forms of names and descriptors, access flags |
 //! | `signatures` | the names and descriptors that were met |
+//! | `text_numbers` | a number for each text of the pool, the same exactly for equal texts |
 //! | `form_laws` | what the rules mean, and that there is one first fault |
 #![tactic(auto)]
 
@@ -61,6 +62,7 @@ mod record_form;
 mod signatures;
 mod table;
 mod text_forms;
+mod text_numbers;
 
 pub use attribute::Attribute;
 pub use class_attribute::ClassAttribute;

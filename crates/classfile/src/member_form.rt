@@ -4,7 +4,6 @@ ghost use Rattle.classfile.specs.Conditions.{broken_rule};
 ghost use Rattle.classfile.specs.MemberForm.{member_has_bad, member_has_other, field_conditions, may_name_method, is_bad_method_name, may_describe_method, is_badly_described, is_instance_initializer, is_class_initializer, is_badly_flagged, has_body, body_conditions, method_conditions};
 ghost use Rattle.classfile.specs.TextForms.{form_of, AreForms};
 ghost use Rattle.classfile.specs.Views.{member_view};
-ghost use Rattle.pool.specs.Lookups.{Answers, named};
 ghost use Rattle.pool.specs.Views.{name_and_type_view};
 
 use crate::attribute_form::{
@@ -21,7 +20,7 @@ use crate::naming::{is_clinit, is_init};
 use crate::once::numbers_stand_twice;
 use crate::text_forms::{TextForm, TextForms, fits_method};
 use names::Text;
-use pool::{NameAndType, Pool, PoolFault};
+use pool::{NameAndType, Pool};
 
 #[tactic(auto, unfolding(crate::specs::MemberForm::member_has_bad))]
 fn member_has_bad(pool: &Pool<'_>, location: Location, member: &Member<'_>) -> bool
@@ -99,16 +98,6 @@ fn may_describe_method(receiver: bool, named: NameAndType<'_>, form: TextForm) -
     } else {
         fits_method(receiver, named.name, named.descriptor, form)
     }
-}
-
-/// The texts of the member's name and descriptor; or 8 or 9 with the index at fault, that of the name first.
-#[tactic(auto, unfolding(pool::specs::Lookups::named))]
-pub fn texts<'a>(pool: &Pool<'a>, member: &Member<'_>) -> Result<NameAndType<'a>, PoolFault>
-    ensures { Answers name_and_type_view (named pool.now member.now.name member.now.descriptor) result }
-{
-    let name = pool.text(member.name)?;
-    let descriptor = pool.text(member.descriptor)?;
-    Ok(NameAndType { name, descriptor })
 }
 
 #[tactic(auto, unfolding(crate::specs::MemberForm::is_badly_described, pool::specs::Lookups::named))]

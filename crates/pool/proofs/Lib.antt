@@ -1,3 +1,4 @@
 pub mod Loop
 pub mod Writes
 pub mod LookupLaws
+pub mod MissingLaws

@@ -5,4 +5,5 @@ pub mod Views
 pub mod Refusals
 pub mod Lookups
 pub mod Members
+pub mod Missing
 pub mod MemberViews

@@ -31,7 +31,7 @@ pub use constant::Constant;
 pub use constant_pool::Pool;
 pub use fault::PoolFault;
 pub use kind::ReferenceKind;
-pub use laws::found_where_it_stands;
+pub use laws::{found_where_it_stands, refused_where_nothing_fits};
 pub use reading::read_pool;
 pub use reference::{FieldConstant, FieldRef, MethodConstant, MethodRef, NameAndType};
 pub use writing::put_pool;

@@ -18,6 +18,7 @@
 //! | `printed_text` | `printing`: texts of class files, names and faults |
 //! | `file_answers` | `answers`: what each command answers of files, read or not |
 //! | `command_lines` | `command_line`: what a line asks for, and what the program complains of |
+//! | `fault_texts` | how each fault is displayed |
 //! | `making` | what several of them stand on |
 //!
 //! A test with `memory` in its name passes also where any one allocation fails; `tests/allocations` runs those so.
@@ -43,6 +44,8 @@ mod command_lines;
 mod constant_pools;
 #[cfg(test)]
 mod declared_frames;
+#[cfg(test)]
+mod fault_texts;
 #[cfg(test)]
 mod file_answers;
 #[cfg(test)]
