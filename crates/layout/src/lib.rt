@@ -20,6 +20,7 @@ mod limits;
 mod lists;
 mod output;
 mod part;
+mod reading;
 
 pub use cursor::Cursor;
 pub use fault::{ReadFault, StreamFault, WriteFault};
@@ -28,3 +29,4 @@ pub use limits::{MAX_CLASS_BYTES, MAX_CODE_BYTES};
 pub use lists::{many, whole};
 pub use output::Output;
 pub use part::Part;
+pub use reading::Reading;
