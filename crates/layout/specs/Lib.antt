@@ -9,3 +9,4 @@ pub mod Pieces
 pub mod PieceLaws
 pub mod Gathered
 pub mod Streams
+pub mod StreamLaws

@@ -61,7 +61,7 @@ abbrev pub Gives : ℕ → List ℕ → List ℕ → Option (List ℕ) → Optio
 Gives n old new before after (Ok k) = (given : List ℕ) × (length given ≡ k) × (k ≤ n) × Given given old new before after × (k < n → IsAtEnd after)
 Gives n old new before after (Err e) =
     (e.taken ≡ length new) × (given : List ℕ) × Given given old new before after
-    × (((e.why ≡ OutOfMemory) × (given ≡ [])) ⊎ ((e.why ≡ ReadFailed (length new)) × (length given ≤ n)))
+    × (((e.why ≡ OutOfMemory) × (given ≡ [])) ⊎ ((e.why ≡ ReadFailed (length new)) × (length given < n)))
 
 -- Why the step stopped: memory ran out or the reader failed before anything was decided, the reader ended within a part, or a fault.
 abbrev pub Stops : {V : Type 0} → Format V → List ℕ → List ℕ → Option (List ℕ) → Option (List ℕ) → ReadFault → Type 0

@@ -3,7 +3,7 @@ ghost use Rattle.std.specs.Prelude.{◌≡◌, ◌⊎◌, ℕ, ◌+◌, ◌≤�
 ghost use Rattle.std.specs.Io.KnownBytes.{Consumes, IsAtEnd};
 ghost use Rattle.layout.specs.Format.{part, done, number};
 ghost use Rattle.layout.specs.Gathered.{Gathered};
-ghost use Rattle.layout.specs.Streams.{Gives, count_of};
+ghost use Rattle.layout.specs.Streams.{Gives, Streams, count_of};
 ghost use Rattle.layout.specs.declared.fault.ReadFault.TheVariants.{OutOfMemory, ReadFailed};
 ghost use Rattle.layout.specs.declared.limits.TheConstants.{MAX_CLASS_BYTES};
 
@@ -99,6 +99,64 @@ impl Reading {
             }
         }
     }
+
+    /// Reads a part of `n` bytes.
+    ///
+    /// 14 where it would pass [`MAX_CLASS_BYTES`], before anything of it is read; 2 where the reader ends within it; 15 where the reader
+    /// fails; 1 where memory runs out. Memory is asked for as the bytes come, and not for `n` of them.
+    pub fn part<R: Read>(&mut self, reader: &mut R, n: usize) -> Result<(), StreamFault>
+        ensures { Streams (part n done) (λ _. drop (length self.old.bytes) self.new.bytes)
+            self.old.bytes self.new.bytes (R.remaining reader.old) (R.remaining reader.new) result }
+    {
+        let at = self.bytes.len();
+        if n > MAX_CLASS_BYTES - at {
+            return Err(StreamFault {
+                taken: at,
+                why: ReadFault::TooLong { at },
+            });
+        }
+        let mut left = n;
+        while left > 0 {
+            let piece = left.min(PIECE);
+            if self.more(reader, piece)? < piece {
+                return Err(StreamFault {
+                    taken: self.bytes.len(),
+                    why: ReadFault::EndsEarly { at },
+                });
+            }
+            left -= piece;
+        }
+        Ok(())
+    }
+
+    /// Reads a number of one byte; errors as [`part`](Reading::part).
+    pub fn u1<R: Read>(&mut self, reader: &mut R) -> Result<u8, StreamFault>
+        ensures { Streams (number 1) (λ n. n) self.old.bytes self.new.bytes (R.remaining reader.old) (R.remaining reader.new) result }
+    {
+        let at = self.bytes.len();
+        self.part(reader, 1)?;
+        Ok(self.bytes[at])
+    }
+
+    /// Reads a number of two bytes, the high byte first; errors as [`part`](Reading::part).
+    pub fn u2<R: Read>(&mut self, reader: &mut R) -> Result<u16, StreamFault>
+        ensures { Streams (number 2) (λ n. n) self.old.bytes self.new.bytes (R.remaining reader.old) (R.remaining reader.new) result }
+    {
+        let at = self.bytes.len();
+        self.part(reader, 2)?;
+        let (_, number) = self.bytes.split_at(at);
+        Ok(BigEndian::read_u16(number))
+    }
+
+    /// Reads a number of four bytes, the highest byte first; errors as [`part`](Reading::part).
+    pub fn u4<R: Read>(&mut self, reader: &mut R) -> Result<u32, StreamFault>
+        ensures { Streams (number 4) (λ n. n) self.old.bytes self.new.bytes (R.remaining reader.old) (R.remaining reader.new) result }
+    {
+        let at = self.bytes.len();
+        self.part(reader, 4)?;
+        let (_, number) = self.bytes.split_at(at);
+        Ok(BigEndian::read_u32(number))
+    }
 }
 
 /// Appends `n` bytes, to be written over, where there is memory for them.
@@ -122,7 +180,7 @@ fn make_room(bytes: &mut Vec<u8>, n: usize) -> Result<(), AllocError>
 /// Reads until the piece is full, the reader ends or it fails, and returns how many bytes were read: as an error where it failed.
 fn fill<R: Read>(reader: &mut R, piece: &mut [u8]) -> Result<usize, usize>
     ensures len { length piece.new ≡ length piece.old }
-    ensures some { MatchResult result (λ n. n ≤ length piece.new) (λ n. n ≤ length piece.new) }
+    ensures some { MatchResult result (λ n. n ≤ length piece.new) (λ n. n < length piece.new) }
     ensures bytes { Consumes (R.remaining reader.old) (R.remaining reader.new) (take (count_of result) piece.new) }
     ensures end { IfOk result (λ n. n < length piece.new → IsAtEnd (R.remaining reader.new)) }
 {

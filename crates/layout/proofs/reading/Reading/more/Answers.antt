@@ -1,4 +1,4 @@
-use Rattle.std.proofs.Common.{rules, ◌≡◌, ◌≤◌, ◌+◌, ◌∙◌, ap, sym, refl, length, take, drop, subst, ◌++◌, List, ℕ, arith, inr}
+use Rattle.std.proofs.Common.{rules, ◌≡◌, ◌≤◌, ◌+◌, ◌∙◌, ap, sym, refl, length, take, drop, subst, ◌++◌, List, ℕ, arith, inr, suc}
 use Rattle.std.proofs.lemmas.List.{length-take-le, length-append}
 use Rattle.layout.specs.declared.fault.ReadFault.TheVariants.{ReadFailed}
 use Rattle.layout.proofs.Filled.{stays}
@@ -23,7 +23,8 @@ returns-in-Err-clause-given g c =
     let held : List ℕ = c.args.self.now.bytes in
     let piece : List ℕ = c.fill.new.piece in
     let k = c.in-Err.filled in
-    let within : k ≤ length piece = c.in-Err.ensures.some in
+    let fewer : suc k ≤ length piece = c.in-Err.ensures.some in
+    let within : k ≤ length piece = omega (arith, fewer) in
     let front : c.split_at_mut-piece.result.0.now ≡ held = search rules in
     let start : c.len-held.result ≡ length held = search rules in
     let all : c.make_room.new.bytes.len ≡ length c.split_at_mut-piece.result.0.now + length piece = search rules in
@@ -31,4 +32,4 @@ returns-in-Err-clause-given g c =
     let asked : length piece ≡ c.args.n = search rules in
     let long : length (take k piece) ≡ k = length-take-le k piece within in
     let at : c.len-held.result + k ≡ length c.truncate-in-Err.new.self.items = omega (arith, start, long, ap length items, length-append held (take k piece)) in
-    (at, take k piece, record { held = items; consumed = c.in-Err.ensures.bytes }, inr (ap ReadFailed at, omega (arith, within, asked, long)))
+    (at, take k piece, record { held = items; consumed = c.in-Err.ensures.bytes }, inr (ap ReadFailed at, omega (arith, fewer, asked, long)))
