@@ -12,6 +12,7 @@ pub mod LeastRules
 pub mod Measures
 pub mod MethodLaws
 pub mod NamingLaws
+pub mod Outlines
 pub mod Places
 pub mod Rows
 pub mod SeenLaws

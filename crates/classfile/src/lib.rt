@@ -57,6 +57,8 @@ mod naming;
 mod nested;
 mod number_form;
 mod once;
+mod outline;
+mod reading;
 mod record_form;
 mod signatures;
 mod table;
@@ -79,3 +81,4 @@ pub use form_laws::{
 pub use laws::{class_or_fault, no_fault_in_class, one_class, one_fault, one_spelling};
 pub use member::Member;
 pub use nested::NestedAttribute;
+pub use reading::read_class;

@@ -1,0 +1,22 @@
+use Rattle.std.proofs.Common.{Bool, ℕ}
+use Rattle.std.proofs.lemmas.Result.{err_from_is_err_and}
+use Rattle.std.specs.Prelude.{nat_eq, if◌then◌else◌, ◌-◌}
+use Rattle.layout.specs.Format.{Format, number, andthen, done, refuse}
+use Rattle.layout.specs.StreamLaws.{then_streams, then_led, led_nothing, led_refused}
+use Rattle.layout.specs.declared.fault.ReadFault.TheVariants.{BadMagic, BadPoolCount}
+use Rattle.classfile.specs.Outline.{bytes, repeated, constant, constants, is_wide, tagged, pool, attribute, attributes, numbers, member, members, interfaces, behind_pool, head, outline}
+use Rattle.classfile.proofs.Outlines.{streams_on, behind_streams}
+use Rattle.classfile.proofs.outline.outline.Goals as goal
+
+pub returns-in_err-pool : goal.returns-in_err-pool
+unfolding outline
+returns-in_err-pool g c =
+    let p = err_from_is_err_and c.from_residual-in_err-pool.result c.from_residual-in_err-pool.ensures.1 in
+    rw (p.1, p.2) (behind_streams head (λ skipped. andthen pool (λ skipped. behind_pool)) _ _ _ _ _ _ _ _ c.in_ok-head.ensures
+    (streams_on pool (λ skipped. behind_pool) (λ x. x) (λ x. x) _ _ _ _ _ c.in_err-pool.ensures))
+
+pub returns : goal.returns
+unfolding outline
+returns g c = then_streams head (λ skipped. andthen pool (λ skipped. behind_pool)) (λ x. x) _ _ _ _ _ _ _ _ c.in_ok-head.ensures
+    (then_streams pool (λ skipped. behind_pool) (λ x. x) _ _ _ _ _ _ _ _ c.in_ok-pool.ensures
+    (c.behind_pool.ensures))
