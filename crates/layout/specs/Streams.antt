@@ -1,6 +1,6 @@
 -- Formats that are read from a stream, part by part, where it is not known how many bytes are to come. No part that would pass the
 -- most bytes of a class file is read, and no byte behind the part that decides.
-use Rattle.std.specs.Prelude.{◌≡◌, ℕ, ◌+◌, ◌≤◌, ◌<◌, List, [], ◌++◌, length, Result, Ok, Err, Option, Some, ◌⊎◌, drop}
+use Rattle.std.specs.Prelude.{◌≡◌, ℕ, ◌+◌, ◌≤◌, ◌<◌, List, [], ◌++◌, length, Result, Ok, Err, Option, ◌⊎◌}
 use Rattle.std.specs.Io.KnownBytes.{Consumes, IsAtEnd}
 use Rattle.layout.specs.Format.{Format, done, part, refuse}
 use Rattle.layout.specs.declared.fault.ReadFault.{ReadFault}
@@ -27,6 +27,17 @@ Leads (part n next) at given p =
     ⊎ (((at + n ≤ MAX_CLASS_BYTES) × (length given < n) × (p ≡ partial at))
     ⊎ ((at + n ≤ MAX_CLASS_BYTES) × (first : List ℕ) × (others : List ℕ) × (length first ≡ n) × (given ≡ first ++ others) × Leads (next first) (at + n) others p))
 Leads (refuse fault) at given p = (given ≡ []) × (p ≡ refused (fault at))
+
+-- nothing that follows can change this
+abbrev pub IsDecided : {V : Type 0} → Progress V → Type 0
+IsDecided (whole v) = Unit {0}
+IsDecided (partial at) = ⊥
+IsDecided (refused e) = Unit {0}
+
+abbrev pub IsPartial : {V : Type 0} → Progress V → Type 0
+IsPartial (whole v) = ⊥
+IsPartial (partial at) = Unit {0}
+IsPartial (refused e) = ⊥
 
 -- The fault of a stream, of which these are all the bytes: that of a front of it, or, where all of it leads to a part that is not
 -- whole, that it ends early.

@@ -1,4 +1,4 @@
-use Rattle.std.proofs.Common.{rules, length, take, drop, subst, sym, ◌-◌, ◌++◌, List, ℕ, arith}
+use Rattle.std.proofs.Common.{rules, length, subst, sym, ◌-◌}
 use Rattle.std.specs.Io.KnownBytes.{Consumes}
 use Rattle.std.proofs.KnownBytes.{Consumes-trans}
 use borrow.Rule.Slice.PartMut.{post_of}

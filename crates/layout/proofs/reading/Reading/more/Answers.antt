@@ -1,4 +1,4 @@
-use Rattle.std.proofs.Common.{rules, ◌≡◌, ◌≤◌, ◌+◌, ◌∙◌, ap, sym, refl, length, take, drop, subst, ◌++◌, List, ℕ, arith, inr, suc}
+use Rattle.std.proofs.Common.{rules, ◌≡◌, ◌≤◌, ◌+◌, ap, length, take, List, ℕ, arith, inr, suc}
 use Rattle.std.proofs.lemmas.List.{length-take-le, length-append}
 use Rattle.layout.specs.declared.fault.ReadFault.TheVariants.{ReadFailed}
 use Rattle.layout.proofs.Filled.{stays}

@@ -1,4 +1,4 @@
-use Rattle.std.proofs.Common.{rules, ◌≡◌, ◌≤◌, ◌<◌, ◌+◌, ℕ, length, ◌++◌, List}
+use Rattle.std.proofs.Common.{rules, ◌≤◌, ◌+◌, length}
 use Rattle.std.proofs.lemmas.Result.{err_from_is_err_and}
 use Rattle.layout.specs.StreamLaws.{part_stops}
 use Rattle.layout.specs.declared.limits.TheConstants.{MAX_CLASS_BYTES}
