@@ -1,10 +1,10 @@
 -- Lemmas that the steps of reading an outline share.
-use Rattle.std.proofs.Common.{◌≡◌, ℕ, zero, suc, ◌+◌, ◌-◌, ◌<◌, ◌≤◌, List, length, Result, Ok, Err, Option, refl, sym, ap, subst, ◌∙◌, arith}
+use Rattle.std.proofs.Common.{◌≡◌, ℕ, suc, ◌+◌, ◌-◌, ◌<◌, ◌≤◌, List, Result, Ok, Err, Option, refl, subst, arith}
 use Rattle.std.proofs.Common.{Bool, true, false}
 use Rattle.std.proofs.lemmas.Bool.{eq-eqb, eqb-true, eqb-false, ne_eqb}
 use Rattle.std.specs.Prelude.{nat_eq}
-use Rattle.layout.specs.Format.{Format, done, andthen}
-use Rattle.layout.specs.Streams.{Progress, whole, Led, Stops, Streams}
+use Rattle.layout.specs.Format.{Format, andthen}
+use Rattle.layout.specs.Streams.{whole, Led, Streams}
 use Rattle.layout.specs.StreamLaws.{then_led, stops_on, stops_behind, then_streams, led_nothing, led_refused}
 use Rattle.layout.specs.declared.fault.StreamFault.{StreamFault}
 use Rattle.classfile.specs.Outline.{repeated, indexed, constants}
