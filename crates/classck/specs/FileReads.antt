@@ -1,8 +1,6 @@
 -- What is read of a file: the class that it begins with, and the byte behind it.
 use Rattle.std.specs.Prelude.{◌≡◌, ◌++◌, List, ℕ, take}
-use Rattle.layout.specs.declared.fault.ReadFault.{ReadFault}
-use Rattle.layout.specs.declared.fault.ReadFault.TheVariants.{OutOfMemory, ReadFailed}
-use Rattle.classfile.specs.Outline.{IsOutline, OutlineFault}
+use Rattle.classfile.specs.Outline.{IsOutline}
 
 -- The front of the file that is the outline of a class file, and one byte more where there is one.
 pub record ReadsOn (file given : List ℕ) : Type 0 where
@@ -11,9 +9,3 @@ pub record ReadsOn (file given : List ℕ) : Type 0 where
   pub parts : file ≡ class ++ behind
   pub outline : IsOutline class
   pub one_more : given ≡ class ++ take 1 behind
-
--- Memory ran out, the reader failed, or this is the fault of the file.
-abbrev pub LosesOrFaults : List ℕ → ReadFault → Type 0
-LosesOrFaults file OutOfMemory = Unit {0}
-LosesOrFaults file (ReadFailed at) = Unit {0}
-LosesOrFaults file e = OutlineFault file e

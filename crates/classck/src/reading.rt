@@ -2,7 +2,8 @@
 ghost use Rattle.std.specs.Prelude.{◌≡◌, ◌⊎◌, ◌++◌, IfOk, IfErr, IfSome, take, length};
 ghost use Rattle.classck.specs.Endings.{StopsReading};
 ghost use Rattle.layout.specs.declared.fault.ReadFault.TheVariants.{OutOfMemory, ReadFailed};
-ghost use Rattle.classck.specs.FileReads.{ReadsOn, LosesOrFaults};
+ghost use Rattle.classck.specs.FileReads.{ReadsOn};
+ghost use Rattle.classfile.specs.Outline.{OutlineFault, IsLostOr};
 
 use crate::ending::Ending;
 use classfile::read_class;
@@ -43,7 +44,7 @@ fn read_whole<R: Read>(alloc: Global, reader: &mut R) -> Result<Vec<u8>, StreamF
     // Where it is known what the reader gives, that is the front of it that is an outline, and the byte behind it.
     ensures bytes { IfOk result (λ v. IfSome (R.remaining reader.old) (λ stream. ReadsOn stream v.items)) }
     // Otherwise it has no such front, or memory ran out, or the reader failed.
-    ensures fault { IfErr result (λ e. IfSome (R.remaining reader.old) (λ stream. LosesOrFaults stream e.why)) }
+    ensures fault { IfErr result (λ e. IfSome (R.remaining reader.old) (λ stream. IsLostOr (OutlineFault stream) e.why)) }
 {
     let class = read_class(alloc, reader)?;
     read_behind(class, reader)

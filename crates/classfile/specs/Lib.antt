@@ -20,6 +20,7 @@ pub mod NamedAt
 pub mod Naming
 pub mod NumberForm
 pub mod Outline
+pub mod OutlineLaws
 pub mod Pieces
 pub mod RecordForm
 pub mod Seen

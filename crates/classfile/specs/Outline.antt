@@ -143,3 +143,9 @@ pub record Stopped (before after : Option (List ℕ)) (e : StreamFault) : Type 0
   pub taken : e.taken ≡ length given
   pub consumed : Consumes before after given
   pub why : GivesUp given after e.why
+
+-- Memory ran out or the reader failed; or it is such a fault.
+abbrev pub IsLostOr : (ReadFault → Type 0) → ReadFault → Type 0
+IsLostOr is_fault OutOfMemory = Unit {0}
+IsLostOr is_fault (ReadFailed at) = Unit {0}
+IsLostOr is_fault e = is_fault e
