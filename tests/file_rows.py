@@ -27,6 +27,13 @@ def told(number, place):
     return "ok" if number is None else f"refused {number} {place}"
 
 
+def largest():
+    """K with one attribute that makes it as long as a class may be, and with more."""
+    for more, behind, line in ((0, b"", "ok"), (0, b"\0", "refused 14 at 0"), (1, b"", "refused 14 at 103")):
+        data = replace(K, attributes=[attribute(7, bytes(LARGEST - len(K.data()) - 6 + more))]).data() + behind
+        yield f"a class of {len(data) - len(behind)} bytes, and {len(behind)} more", data, line
+
+
 def layouts():
     """What is no class file, or one by its layout alone."""
     yield "K", K.data(), "ok"
@@ -34,10 +41,16 @@ def layouts():
     yield "no byte", b"", "refused 2 at 0"
     yield "K and a byte more", K.data() + b"\0", "refused 13 at 97"
     yield "K, as long as a file may be", K.data() + bytes(LARGEST - 97), "refused 13 at 97"
-    yield "K, longer than a file may be", K.data() + bytes(LARGEST - 96), "refused 14 at 0"
+    yield "K, longer than a file may be", K.data() + bytes(LARGEST - 96), "refused 13 at 97"
+    yield from largest()
     yield "another magic", replace(K, magic=0xCAFEBABF).data(), "refused 10"
-    for length in (12, 14):
-        yield f"a Code of 13 bytes that says {length}", with_code(length=length).data(), "refused 12 at 76"
+    yield "a Code of 13 bytes that says 12", with_code(length=12).data(), "refused 12 at 76"
+    # a file is read to its end by its counts, tags and lengths before anything else is looked at
+    yield "a Code of 13 bytes that says 14", with_code(length=14).data(), "refused 2 at 96"
+    yield "a Code of 13 bytes that says 14, and a byte more", with_code(length=14).data() + b"\0", "refused 12 at 76"
+    yield "a Code longer than a file may be", with_code(length=0xFFFFFF00).data(), "refused 14 at 82"
+    yield "version 50, and a tag 2", replace(K, major=50, constants=[b"\2"]).data(), "refused 7 at 10 tag 2"
+    yield "version 50, cut in its last count", replace(K, major=50).data()[:96], "refused 2 at 95"
     for major, minor, line in (
         (50, 0, "refused 11 50.0"),
         (51, 7, "ok"),
@@ -59,11 +72,13 @@ def pools():
         ("0002 02", "refused 7 at 10 tag 2"),
         ("0002 05", "refused 7 at 10 tag 5"),
         ("0002 06", "refused 7 at 10 tag 6"),
-        ("0002 0f0a", "refused 7 at 11 tag 10"),
-        ("0002 01000100", "refused 3 at 13"),
+        ("0002 0f0a", "refused 2 at 12"),
+        ("0002 01000100", "refused 2 at 14"),
         ("0002 09000100", "refused 2 at 13"),
     ):
         yield f"a pool {start}", K.data()[:8] + bytes.fromhex(start), line
+    for start, line in (("0002 0f0a0001", "refused 7 at 11 tag 10"), ("0002 01000100", "refused 3 at 13")):
+        yield f"a class of a pool {start}", K.data()[:8] + bytes.fromhex(start) + K.data()[56:], line
     # 4.4.7: one spelling for each unit, and none of four bytes
     for text, line in (
         (b"\xc1\x81", "refused 3 at 16"),

@@ -2,7 +2,7 @@
 
 It follows The Java Virtual Machine Specification, Java SE 17, 4.1, 4.4 to 4.7: the parts in the order of the file, up to
 the first that is not whole (2, or 12 in the body of an attribute) or that breaks its rule. What is a class file by its
-layout is judged by form.py.
+layout is judged by form.py. Before that a file is read up to its end by its counts, tags and lengths alone, and one byte behind it.
 """
 from attribute_table import row_of
 from form import first_fault
@@ -209,6 +209,64 @@ def class_file(reader):
     return file
 
 
+class Stream(Reader):
+    """Bytes that are read from left to right, of which no part may pass the limit."""
+
+    def part(self, size):
+        if self.at + size > LIMIT:
+            raise Refused(f"14 at {self.at}")
+        return super().part(size)
+
+
+def sized(stream, is_last):
+    """The size of a constant by its tag, and how many indices it takes."""
+    at = stream.at
+    tag = stream.number(1)
+    if tag == 1:
+        stream.part(stream.number(2))
+    elif tag == 15:
+        stream.part(1)
+        stream.part(2)
+    elif tag not in BODIES or (tag in (5, 6) and is_last):
+        raise Refused(f"7 at {at} tag {tag}")
+    else:
+        for size in BODIES[tag]:
+            stream.part(size)
+    return 2 if tag in (5, 6) else 1
+
+
+def skipped(stream, indices):
+    """A table of attributes behind so many numbers."""
+    for _ in range(indices):
+        stream.part(2)
+    for _ in range(stream.number(2)):
+        stream.part(2)
+        stream.part(stream.number(4))
+
+
+def outline(data):
+    """Where a class file ends that is read from its start, by its counts, tags and lengths alone."""
+    stream = Stream(data)
+    if stream.number(4) != 0xCAFEBABE:
+        raise Refused("10")
+    stream.part(2)
+    stream.part(2)
+    at, count, index = stream.at, stream.number(2), 1
+    if count == 0:
+        raise Refused(f"16 at {at}")
+    while index < count:
+        index += sized(stream, index == count - 1)
+    for _ in range(3):
+        stream.part(2)
+    for _ in range(stream.number(2)):
+        stream.part(2)
+    for _ in range(2):
+        for _ in range(stream.number(2)):
+            skipped(stream, 3)
+    skipped(stream, 0)
+    return stream.at
+
+
 def places(data):
     """The reader of a class file, with the places that it gathered."""
     reader = Reader(data)
@@ -219,9 +277,10 @@ def places(data):
 def check(data):
     """What `check` prints of a file, and its status."""
     try:
-        if len(data) > LIMIT:
+        read = data[: outline(data) + 1]
+        if len(read) > LIMIT:
             raise Refused("14 at 0")
-        fault = first_fault(class_file(Reader(data)))
+        fault = first_fault(class_file(Reader(read)))
         if fault is not None:
             raise Refused(fault)
     except Refused as fault:

@@ -1,34 +1,63 @@
 //! Opens and reads the files of a line.
-ghost use Rattle.std.specs.Prelude.{◌≡◌, ◌⊎◌, ◌+◌, IfOk, IfErr, IfSome, take, length};
+ghost use Rattle.std.specs.Prelude.{◌≡◌, ◌⊎◌, ◌++◌, IfOk, IfErr, IfSome, take, length};
 ghost use Rattle.classck.specs.Endings.{StopsReading};
 ghost use Rattle.layout.specs.declared.fault.ReadFault.TheVariants.{OutOfMemory, ReadFailed};
+ghost use Rattle.classck.specs.FileReads.{ReadsOn};
+ghost use Rattle.classfile.specs.Outline.{OutlineFault, IsLostOr};
 
 use crate::ending::Ending;
+use classfile::read_class;
 use command_line::MainFault;
-use layout::{MAX_CLASS_BYTES, ReadFault, StreamFault};
+use layout::{ReadFault, StreamFault};
 use std::alloc::Global;
 use std::fs::File;
-use std::io::{ErrorKind, Read};
+use std::io::{BufReader, Read};
 
-/// The bytes of a file, at most one more than a class file may have: that many tell that it is too long.
-fn read_whole<R: Read + Drop>(alloc: Global, reader: R) -> Result<Vec<u8>, StreamFault>
-    // Where it is known what the reader gives, that is answered, up to one byte more than a class file may have.
-    ensures bytes { IfOk result (λ v. IfSome (R.remaining reader) (λ xs. v.items ≡ take (MAX_CLASS_BYTES + 1) xs)) }
-    ensures fault { IfErr result (λ e. (e.why ≡ OutOfMemory) ⊎ (e.why ≡ ReadFailed e.taken)) }
+/// A byte that stands behind the bytes of a class, if there is one, is appended to them: it tells that the file is longer.
+fn read_behind<R: Read>(
+    mut bytes: Vec<u8>,
+    reader: &mut R,
+) -> Result<Vec<u8>, StreamFault>
+    ensures bytes { IfOk result (λ v. IfSome (R.remaining reader.old) (λ rest. v.items ≡ bytes.entry.items ++ take 1 rest)) }
+    ensures fault { IfErr result (λ e. (e.why ≡ OutOfMemory) ⊎ ((e.why ≡ ReadFailed e.taken) × (e.taken ≡ length bytes.entry.items))) }
 {
-    let mut bytes = Vec::new(alloc);
-    let mut front = reader.take(MAX_CLASS_BYTES as u64 + 1);
-    match front.read_to_end(&mut bytes) {
-        Ok(_) => Ok(bytes),
-        Err(error) => {
-            let taken = bytes.len();
-            let why = if error.kind() == ErrorKind::OutOfMemory {
-                ReadFault::OutOfMemory
-            } else {
-                ReadFault::ReadFailed { at: taken }
-            };
-            Err(StreamFault { taken, why })
-        }
+    let taken = bytes.len();
+    let mut next = [0];
+    match reader.read(&mut next) {
+        Ok(0) => Ok(bytes),
+        Ok(_) => match bytes.push(next[0]) {
+            Ok(()) => Ok(bytes),
+            Err(_) => Err(StreamFault {
+                taken: taken + 1,
+                why: ReadFault::OutOfMemory,
+            }),
+        },
+        Err(_) => Err(StreamFault {
+            taken,
+            why: ReadFault::ReadFailed { at: taken },
+        }),
+    }
+}
+
+/// The bytes of the class that a file holds, and one byte more if there is one.
+fn read_whole<R: Read>(alloc: Global, reader: &mut R) -> Result<Vec<u8>, StreamFault>
+    // Where it is known what the reader gives, that is the front of it that is an outline, and the byte behind it.
+    ensures bytes { IfOk result (λ v. IfSome (R.remaining reader.old) (λ stream. ReadsOn stream v.items)) }
+    // Otherwise it has no such front, or memory ran out, or the reader failed.
+    ensures fault { IfErr result (λ e. IfSome (R.remaining reader.old) (λ stream. IsLostOr (OutlineFault stream) e.why)) }
+{
+    let class = read_class(alloc, reader)?;
+    read_behind(class, reader)
+}
+
+/// What a file holds, read piece by piece.
+fn read_file(alloc: Global, file: File) -> Result<Vec<u8>, StreamFault> {
+    match BufReader::new(alloc, file) {
+        Ok(mut reader) => read_whole(alloc, &mut reader),
+        Err(_) => Err(StreamFault {
+            taken: 0,
+            why: ReadFault::OutOfMemory,
+        }),
     }
 }
 
@@ -45,7 +74,7 @@ pub fn read_all(
         let Ok(file) = File::open(rt, &files[i]) else {
             return Err(Ending::Fault(MainFault::CannotOpen(i + 1)));
         };
-        reads.push(read_whole(rt.alloc(), file))?;
+        reads.push(read_file(rt.alloc(), file))?;
     }
     Ok(reads)
 }

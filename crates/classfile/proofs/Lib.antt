@@ -1,5 +1,6 @@
 pub mod Bodies
 pub mod ClassMeasure
+pub mod ClassOutlines
 pub mod Classes
 pub mod Encodings
 pub mod FirstFaults
@@ -12,6 +13,8 @@ pub mod LeastRules
 pub mod Measures
 pub mod MethodLaws
 pub mod NamingLaws
+pub mod OutlineFaults
+pub mod Outlines
 pub mod Places
 pub mod Rows
 pub mod SeenLaws

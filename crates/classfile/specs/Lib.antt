@@ -10,8 +10,8 @@ pub mod Flags
 pub mod FormLaws
 pub mod Indices
 pub mod Laws
-pub mod Layouts
 pub mod LayoutViews
+pub mod Layouts
 pub mod Locations
 pub mod MemberForm
 pub mod MethodParts
@@ -19,6 +19,8 @@ pub mod Methods
 pub mod NamedAt
 pub mod Naming
 pub mod NumberForm
+pub mod Outline
+pub mod OutlineLaws
 pub mod Pieces
 pub mod RecordForm
 pub mod Seen

@@ -1,4 +1,5 @@
 //! What follows of the layout of class files alone, whatever the code does.
+ghost use Rattle.classfile.specs.OutlineLaws.{ClassIsOutline, OneOutline, OutlineOrFault, NoFaultBehindOutline};
 ghost use Rattle.classfile.specs.Laws.{OneClass, OneSpelling, ClassOrFault, NoFaultInClass, OneFault};
 
 /// The same bytes do not spell two classes.
@@ -24,4 +25,20 @@ pub fn no_fault_in_class()
 /// Bytes have at most one fault that is the first.
 pub fn one_fault()
     ensures { OneFault }
+{}
+
+/// The bytes of a class file are the outline of one.
+pub fn class_is_outline()
+    ensures { ClassIsOutline }
+{}
+
+/// A stream has at most one outline in front.
+pub fn one_outline()
+    ensures { OneOutline }
+{}
+
+/// A stream has an outline in front, or a fault; not both.
+pub fn outline_or_fault()
+    ensures either { OutlineOrFault }
+    ensures apart { NoFaultBehindOutline }
 {}

@@ -20,6 +20,7 @@
 //! | `layouts` | attributes of numbers of two bytes, and how their bodies are laid out |
 //! | `table` | a count and so many items, for all tables of a class file |
 //! | `decoding`, `encoding` | the two calls |
+//! | `outline`, `reading` | [`read_class`], and how far a class reaches in a stream |
 //! | `laws` | that they undo one another |
 //! | `form` | [`form_check`], [`Formed`], and the places one after the other |
 //! | `form_fault` | [`FormRule`], [`Place`] and [`FormFault`] |
@@ -58,6 +59,8 @@ mod naming;
 mod nested;
 mod number_form;
 mod once;
+mod outline;
+mod reading;
 mod record_form;
 mod signatures;
 mod table;
@@ -78,6 +81,10 @@ pub use form_laws::{
     formed_has_names, formed_or_faulty, least_rule_is_told, method_is_told, no_fault_in_formed,
     one_first_fault, tests_are_forms,
 };
-pub use laws::{class_or_fault, no_fault_in_class, one_class, one_fault, one_spelling};
+pub use laws::{
+    class_is_outline, class_or_fault, no_fault_in_class, one_class, one_fault, one_outline,
+    one_spelling, outline_or_fault,
+};
 pub use member::Member;
 pub use nested::NestedAttribute;
+pub use reading::read_class;

@@ -7,3 +7,6 @@ pub mod Whole
 pub mod Numbers
 pub mod Pieces
 pub mod PieceLaws
+pub mod Gathered
+pub mod Streams
+pub mod StreamLaws

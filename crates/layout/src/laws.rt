@@ -4,6 +4,7 @@
 ghost use Rattle.std.specs.Prelude.{◌≡◌, ◌+◌, ◌-◌, ◌≤◌, ◌<◌, ◌⊎◌, ℕ, List, [], ◌++◌, length, Ok, Err, Some, None};
 ghost use Rattle.layout.specs.Place.{Place, Took};
 ghost use Rattle.layout.specs.Format.{AreBytes, Format, Spells, FirstFault, done, inside, reads, settled};
+ghost use Rattle.layout.specs.Streams.{Progress, whole, partial, IsDecided, Leads};
 ghost use Rattle.layout.specs.Whole.{WholeFault};
 ghost use Rattle.layout.specs.Pieces.{Piece, cannot, text};
 ghost use Rattle.layout.specs.PieceLaws.{Writes};
@@ -70,4 +71,18 @@ pub fn writing_is_spelling<V>()
     // a value has one spelling
     ensures one { (f : Format V) (pieces : V → List Piece) (v : V) (a b : List ℕ)
         → Writes f pieces → AreBytes a → AreBytes b → Spells f a v → Spells f b v → a ≡ b }
+{}
+
+/// Bytes that are read from a stream, part by part, lead to the end of a format exactly where they spell a value within the limit; and of
+/// each stream exactly one front decides, where any does.
+pub fn streams_are_decided<V>()
+    ensures spelled { (f : Format V) (given : List ℕ) (v : V)
+        → Leads f 0 given (whole v) → Spells f given v × (length given ≤ MAX_CLASS_BYTES) }
+    ensures whole { (f : Format V) (given : List ℕ) (v : V)
+        → Spells f given v → length given ≤ MAX_CLASS_BYTES → Leads f 0 given (whole v) }
+    ensures one { (f : Format V) (a b x y : List ℕ) (p q : Progress V)
+        → IsDecided p → IsDecided q → a ++ x ≡ b ++ y → Leads f 0 a p → Leads f 0 b q → (a ≡ b) × (p ≡ q) }
+    ensures either { (f : Format V) (stream : List ℕ)
+        → ((front : List ℕ) × (rest : List ℕ) × (p : Progress V) × (stream ≡ front ++ rest) × IsDecided p × Leads f 0 front p)
+        ⊎ ((at : ℕ) × Leads f 0 stream (partial at)) }
 {}

@@ -11,6 +11,7 @@
 //! - `lists`: lists of parts, and the end of an attribute's body
 //! - `output`: bytes that are written part by part, up to the limit
 //! - `part`: the trait `Part`, and its implementation for numbers of two bytes
+//! - `reading`: bytes that are gathered from a reader, part by part, and no byte more
 #![tactic(auto)]
 
 mod cursor;
@@ -20,11 +21,15 @@ mod limits;
 mod lists;
 mod output;
 mod part;
+mod reading;
 
 pub use cursor::Cursor;
 pub use fault::{ReadFault, StreamFault, WriteFault};
-pub use laws::{body_is_whole, reading_is_spelling, whole_is_spelling, writing_is_spelling};
+pub use laws::{
+    body_is_whole, reading_is_spelling, streams_are_decided, whole_is_spelling, writing_is_spelling,
+};
 pub use limits::{MAX_CLASS_BYTES, MAX_CODE_BYTES};
 pub use lists::{many, whole};
 pub use output::Output;
 pub use part::Part;
+pub use reading::Reading;

@@ -3,6 +3,7 @@
 //! | File | What it tests |
 //! |---|---|
 //! | `parts` | `layout`: numbers, lists, and what is written part by part |
+//! | `streams` | `layout` and `classfile`: what is read of readers that hand their bytes out in pieces, end early or fail |
 //! | `texts` | `names`: texts, names and descriptors |
 //! | `constant_pools` | `pool`: pools, and look-ups in them |
 //! | `class_files`, `class_forms` | `classfile`: class files both ways, and which are well formed |
@@ -62,6 +63,8 @@ mod parts;
 mod printed_text;
 #[cfg(test)]
 mod stack_maps;
+#[cfg(test)]
+mod streams;
 #[cfg(test)]
 mod superclasses;
 #[cfg(test)]

@@ -1,0 +1,31 @@
+//! The bytes of one class from any reader.
+ghost use Rattle.std.specs.Prelude.{◌+◌, ◌≤◌, length, IfOk, IfErr, IfSome, vec_capacity};
+ghost use Rattle.std.specs.Io.KnownBytes.{Consumes};
+ghost use Rattle.classfile.specs.Outline.{IsOutline, OutlineFault, IsLostOr, Stopped};
+
+use crate::outline::outline;
+use layout::{Reading, StreamFault};
+use std::alloc::Global;
+use std::io::Read;
+
+/// The bytes of one class, and not one byte more, however the reader hands them out (JVMS 4.1).
+///
+/// The magic number, the count of the constant pool, the tags of its constants, and lengths and counts alone are looked at. Otherwise the
+/// first fault in the order of the file, with the number of bytes that were taken from the reader: 2 where it ends within a part, 7 for
+/// a tag, 10 for the magic number, 14 for a part that would pass 16,777,216 bytes, before it is read, 15 at the bytes that were
+/// taken where the reader fails, however it does, 16 for a pool without a count; or 1 where memory runs out. No count is believed
+/// before the bytes are there: there is never memory for more than 8,192 bytes beyond those that were read.
+#[tactic(auto, using(crate::proofs::OutlineFaults::known_faults))]
+pub fn read_class<R: Read>(alloc: Global, reader: &mut R) -> Result<Vec<u8>, StreamFault>
+    // What is answered is an outline, and this is what was taken.
+    ensures found { IfOk result (λ v. IsOutline v.items × Consumes (R.remaining reader.old) (R.remaining reader.new) v.items) }
+    ensures room { IfOk result (λ v. vec_capacity v ≤ length v.items + 8192) }
+    // What was taken, and why no more.
+    // Which fault it is of what the reader gives, where that is known; so an outline in front of it is answered unless it is lost.
+    ensures fault { IfErr result (λ e. IfSome (R.remaining reader.old) (λ stream. IsLostOr (OutlineFault stream) e.why)) }
+    ensures stopped { IfErr result (λ e. Stopped (R.remaining reader.old) (R.remaining reader.new) e) }
+{
+    let mut reading = Reading::new(alloc);
+    outline(&mut reading, reader)?;
+    Ok(reading.into_bytes())
+}
