@@ -1,4 +1,6 @@
 //! What is read of readers that hand their bytes out in pieces, end early or fail.
+ghost use Rattle.std.specs.Prelude.{◌≤◌, ◌<◌, length};
+
 use crate::making::K;
 use classfile::{class_is_outline, one_outline, outline_or_fault, read_class};
 use layout::{ReadFault, Reading, StreamFault, streams_are_decided};
