@@ -111,7 +111,9 @@ fn leaves_three(alloc: Global, piece: usize, may_fail: bool) -> bool {
         piece,
     };
     match read_class(alloc, &mut reader) {
-        Ok(class) => class == K.as_slice() && reader.first.is_empty() && reader.others.len() == 3,
+        Ok(class) => class.as_slice() == K.as_slice()
+            && reader.first.is_empty()
+            && reader.others.len() == 3,
         Err(fault) => may_fail && matches!(fault.why, ReadFault::OutOfMemory),
     }
 }
@@ -232,7 +234,7 @@ fn gathers(alloc: Global) -> Result<Vec<u8>, StreamFault> {
 #[test]
 fn memory_for_what_is_gathered(rt: HostRuntime) {
     match gathers(rt.alloc()) {
-        Ok(bytes) => assert!(rt; bytes == [1u8, 2, 3, 4, 5, 6, 7, 8].as_slice()),
+        Ok(bytes) => assert!(rt; bytes.as_slice() == [1u8, 2, 3, 4, 5, 6, 7, 8].as_slice()),
         Err(fault) => assert!(rt; matches!(fault.why, ReadFault::OutOfMemory)),
     }
 }
