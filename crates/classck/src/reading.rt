@@ -14,12 +14,9 @@ use std::fs::File;
 use std::io::{BufReader, Read};
 
 /// A byte that stands behind the bytes of a class, if there is one, is appended to them: it tells that the file is longer.
-fn read_behind<R: Read>(
-    mut bytes: Vec<u8>,
-    reader: &mut R,
-) -> Result<Vec<u8>, StreamFault>
-    ensures bytes { IfOk result (λ v. IfSome (R.remaining reader.old) (λ rest. v.items ≡ bytes.entry.items ++ take 1 rest)) }
-    ensures fault { IfErr result (λ e. (e.why ≡ OutOfMemory) ⊎ ((e.why ≡ ReadFailed e.taken) × (e.taken ≡ length bytes.entry.items))) }
+fn read_behind<R: Read>(mut bytes: Vec<u8>, reader: &mut R) -> Result<Vec<u8>, StreamFault>
+    ensures bytes { IfOk result (λ v. IfSome (R.remaining reader.old) (λ rest. v.items ≡ bytes.items ++ take 1 rest)) }
+    ensures fault { IfErr result (λ e. (e.why ≡ OutOfMemory) ⊎ ((e.why ≡ ReadFailed e.taken) × (e.taken ≡ length bytes.items))) }
 {
     let taken = bytes.len();
     let mut next = [0];

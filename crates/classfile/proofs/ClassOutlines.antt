@@ -1,5 +1,5 @@
 -- A class file is the outline of one: what spells a part of the one spells that part of the other.
-use Rattle.std.proofs.Common.{◌≡◌, ℕ, zero, suc, ◌-◌, ◌+◌, Bool, true, false, cond, List, [], ◌∷◌, ◌++◌, length, refl, sym, ap, subst, ◌∙◌, Option, Some, None}
+use Rattle.std.proofs.Common.{◌≡◌, ℕ, zero, suc, ◌-◌, Bool, true, false, cond, List, [], ◌∷◌, ◌++◌, refl, sym, ap, subst, ◌∙◌, Option, Some, None}
 use Rattle.std.proofs.lemmas.Bool.{eqb-true}
 use Rattle.std.proofs.lemmas.List.{append-nil}
 use Rattle.std.specs.Prelude.{nat_eq, if◌then◌else◌}
@@ -13,7 +13,6 @@ use Rattle.layout.specs.declared.fault.ReadFault.{ReadFault}
 use Rattle.classfile.specs.declared.location.Location.TheVariants as location
 use Rattle.names.specs.Units.{bad_text}
 use Rattle.pool.specs.declared.kind.ReferenceKind.{ReferenceKind}
-use Rattle.pool.specs.Kinds.{kind_of}
 use Rattle.pool.specs.Entries.{Entry, one, two, utf8, text_or, kind_or, method_handle, wide as wide_entry, body, entry, indexed as indexed_entry, entries, is_wide as takes_two, pool as pool_entries}
 use Rattle.pool.specs.Entries.{Integer, Float, Long, Double, Class, String, Fieldref, Methodref, InterfaceMethodref, NameAndType, MethodType, Dynamic, InvokeDynamic}
 use Rattle.classfile.specs.declared.location.Location.{Location}

@@ -113,11 +113,7 @@ fn is_wide(tag: u8) -> bool
 
 /// A constant, its tag first, and whether it takes a second index; `last` says that there is none.
 #[tactic(auto, using(crate::proofs::Outlines::steps), unfolding(crate::specs::Outline::tagged))]
-fn tagged<R: Read>(
-    reading: &mut Reading,
-    reader: &mut R,
-    last: bool,
-) -> Result<bool, StreamFault>
+fn tagged<R: Read>(reading: &mut Reading, reader: &mut R, last: bool) -> Result<bool, StreamFault>
     ensures { Streams (tagged last) (λ x. x) reading.old.bytes reading.new.bytes (R.remaining reader.old) (R.remaining reader.new) result }
 {
     let tag = reading.u1(reader)?;
@@ -143,11 +139,7 @@ fn indexed<R: Read>(
 }
 
 /// The constants of so many indices.
-fn constants<R: Read>(
-    reading: &mut Reading,
-    reader: &mut R,
-    count: u16,
-) -> Result<(), StreamFault>
+fn constants<R: Read>(reading: &mut Reading, reader: &mut R, count: u16) -> Result<(), StreamFault>
     ensures { Streams (constants count false) (λ x. x) reading.old.bytes reading.new.bytes (R.remaining reader.old) (R.remaining reader.new) result }
 {
     let mut second = false;

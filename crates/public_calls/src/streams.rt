@@ -1,4 +1,6 @@
 //! What is read of readers that hand their bytes out in pieces, end early or fail.
+ghost use Rattle.std.specs.Prelude.{◌≤◌, ◌<◌, length};
+
 use crate::making::K;
 use classfile::{class_is_outline, one_outline, outline_or_fault, read_class};
 use layout::{ReadFault, Reading, StreamFault, streams_are_decided};
@@ -109,7 +111,9 @@ fn leaves_three(alloc: Global, piece: usize, may_fail: bool) -> bool {
         piece,
     };
     match read_class(alloc, &mut reader) {
-        Ok(class) => class == K.as_slice() && reader.first.is_empty() && reader.others.len() == 3,
+        Ok(class) => class.as_slice() == K.as_slice()
+            && reader.first.is_empty()
+            && reader.others.len() == 3,
         Err(fault) => may_fail && matches!(fault.why, ReadFault::OutOfMemory),
     }
 }
@@ -138,13 +142,45 @@ fn of_changed(alloc: Global, place: usize, byte: u8) -> Result<Vec<u8>, StreamFa
 #[test]
 fn faults(rt: HostRuntime) {
     let magic = of_changed(rt.alloc(), 0, 0);
-    assert!(rt; matches!(magic, Err(StreamFault { taken: 4, why: ReadFault::BadMagic })));
+    assert!(rt;
+        matches!(
+            magic,
+            Err(StreamFault {
+                taken: 4,
+                why: ReadFault::BadMagic
+            })
+        )
+    );
     let tag = of_changed(rt.alloc(), 10, 2);
-    assert!(rt; matches!(tag, Err(StreamFault { taken: 11, why: ReadFault::BadTag { at: 10, tag: 2 } })));
+    assert!(rt;
+        matches!(
+            tag,
+            Err(StreamFault {
+                taken: 11,
+                why: ReadFault::BadTag { at: 10, tag: 2 }
+            })
+        )
+    );
     let long = of_changed(rt.alloc(), 78, 0xFF);
-    assert!(rt; matches!(long, Err(StreamFault { taken: 82, why: ReadFault::TooLong { at: 82 } })));
+    assert!(rt;
+        matches!(
+            long,
+            Err(StreamFault {
+                taken: 82,
+                why: ReadFault::TooLong { at: 82 }
+            })
+        )
+    );
     let claims = of_changed(rt.alloc(), 79, 1);
-    assert!(rt; matches!(claims, Err(StreamFault { taken: 97, why: ReadFault::EndsEarly { at: 82 } })));
+    assert!(rt;
+        matches!(
+            claims,
+            Err(StreamFault {
+                taken: 97,
+                why: ReadFault::EndsEarly { at: 82 }
+            })
+        )
+    );
     let kept = of_changed(rt.alloc(), 7, 0xFF);
     assert!(rt; kept.is_ok());
 }
@@ -153,10 +189,26 @@ fn faults(rt: HostRuntime) {
 fn a_pool_without_a_count(rt: HostRuntime) {
     let none = [0xCA, 0xFE, 0xBA, 0xBE, 0, 0, 0, 0x34, 0, 0, 9];
     let answer = read_class(rt.alloc(), &mut cut(&none, 11, false, 2));
-    assert!(rt; matches!(answer, Err(StreamFault { taken: 10, why: ReadFault::BadPoolCount { at: 8 } })));
+    assert!(rt;
+        matches!(
+            answer,
+            Err(StreamFault {
+                taken: 10,
+                why: ReadFault::BadPoolCount { at: 8 }
+            })
+        )
+    );
     let last = [0xCA, 0xFE, 0xBA, 0xBE, 0, 0, 0, 0x34, 0, 2, 5, 0, 0];
     let answer = read_class(rt.alloc(), &mut cut(&last, 13, false, 2));
-    assert!(rt; matches!(answer, Err(StreamFault { taken: 11, why: ReadFault::BadTag { at: 10, tag: 5 } })));
+    assert!(rt;
+        matches!(
+            answer,
+            Err(StreamFault {
+                taken: 11,
+                why: ReadFault::BadTag { at: 10, tag: 5 }
+            })
+        )
+    );
 }
 
 /// What is gathered of eight bytes: a number of each size, one byte more, and then the reader fails.
@@ -168,7 +220,12 @@ fn gathers(alloc: Global) -> Result<Vec<u8>, StreamFault> {
     reading.u2(&mut reader)?;
     reading.u4(&mut reader)?;
     match reading.more(&mut reader, 5) {
-        Err(StreamFault { taken: 8, why: ReadFault::ReadFailed { at: 8 } }) => Ok(reading.into_bytes()),
+        Err(
+            StreamFault {
+                taken: 8,
+                why: ReadFault::ReadFailed { at: 8 },
+            },
+        ) => Ok(reading.into_bytes()),
         Err(fault) => Err(fault),
         Ok(_) => Ok(Vec::new(alloc)),
     }
@@ -177,7 +234,7 @@ fn gathers(alloc: Global) -> Result<Vec<u8>, StreamFault> {
 #[test]
 fn memory_for_what_is_gathered(rt: HostRuntime) {
     match gathers(rt.alloc()) {
-        Ok(bytes) => assert!(rt; bytes == [1u8, 2, 3, 4, 5, 6, 7, 8].as_slice()),
+        Ok(bytes) => assert!(rt; bytes.as_slice() == [1u8, 2, 3, 4, 5, 6, 7, 8].as_slice()),
         Err(fault) => assert!(rt; matches!(fault.why, ReadFault::OutOfMemory)),
     }
 }
@@ -189,7 +246,15 @@ fn numbers_of_a_stream(rt: HostRuntime) {
     assert!(rt; matches!(reading.u1(&mut reader), Ok(1)));
     assert!(rt; matches!(reading.u2(&mut reader), Ok(0x0203)));
     assert!(rt; matches!(reading.more(&mut reader, 2), Ok(2)));
-    assert!(rt; matches!(reading.part(&mut reader, 3), Err(StreamFault { taken: 7, why: ReadFault::EndsEarly { at: 5 } })));
+    assert!(rt;
+        matches!(
+            reading.part(&mut reader, 3),
+            Err(StreamFault {
+                taken: 7,
+                why: ReadFault::EndsEarly { at: 5 }
+            })
+        )
+    );
     assert!(rt; reading.bytes().len() == 7);
 }
 
