@@ -13,6 +13,7 @@ pub mod Measures
 pub mod MethodLaws
 pub mod NamingLaws
 pub mod Places
+pub mod Receivers
 pub mod Rows
 pub mod SeenLaws
 pub mod Steps
