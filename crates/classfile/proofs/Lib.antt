@@ -16,6 +16,7 @@ pub mod NamingLaws
 pub mod OutlineFaults
 pub mod Outlines
 pub mod Places
+pub mod Receivers
 pub mod Rows
 pub mod SeenLaws
 pub mod Steps

@@ -3,6 +3,7 @@
 use Rattle.std.specs.Prelude.{◌≡◌, ℕ, false, true, List, Option, Some, None, map}
 use Rattle.pool.specs.Entries.{Entry, Utf8}
 use Rattle.classfile.specs.declared.text_forms.TextForm.{TextForm}
+use Rattle.classfile.specs.declared.text_forms.MethodForms.{MethodForms}
 use Rattle.classfile.specs.declared.text_forms.TextForms.{TextForms}
 use Rattle.classfile.specs.Naming.{is_unqualified_name, is_method_name, is_field_descriptor, is_method_descriptor, is_void_descriptor}
 use Rattle.classfile.specs.ConstantForm.{names_class}
@@ -18,6 +19,13 @@ form_of text = record {
   receiver_descriptor = is_method_descriptor true text;
   void_receiver_descriptor = is_void_descriptor true text;
 }
+
+-- what a text is as the descriptor of a method
+pub record AreMethodForms (text : List ℕ) (f : MethodForms) : Type 0 where
+  pub method : f.method ≡ is_method_descriptor false text
+  pub void : f.void ≡ is_void_descriptor false text
+  pub receiver_method : f.receiver_method ≡ is_method_descriptor true text
+  pub receiver_void : f.receiver_void ≡ is_void_descriptor true text
 
 abbrev pub entry_form : Entry → Option TextForm
 entry_form (Utf8 bytes) = Some (form_of bytes)

@@ -1,9 +1,9 @@
 //! Of which forms the texts of a constant pool are (JVMS 4.2, 4.3): each is judged once, however many constants and members name it.
 ghost use Rattle.std.specs.Prelude.{◌≡◌, Ok, IfOk};
 ghost use Rattle.pool.specs.Lookups.{text_at};
-ghost use Rattle.classfile.specs.Naming.{is_method_descriptor, is_void_descriptor, fits_method};
+ghost use Rattle.classfile.specs.Naming.{fits_method};
 ghost use Rattle.pool.specs.Views.{view};
-ghost use Rattle.classfile.specs.TextForms.{form_of, entry_form, AreForms};
+ghost use Rattle.classfile.specs.TextForms.{form_of, entry_form, AreForms, AreMethodForms};
 
 use crate::naming::{
     is_array_name, is_class_name, is_field_descriptor, is_init, is_method_name, is_unqualified_name,
@@ -33,14 +33,37 @@ pub struct TextForm {
     pub void_receiver_descriptor: bool,
 }
 
-/// Whether the text is the descriptor of a method, and whether of one without a result.
-fn method_forms(alloc: Global, text: Text<'_>, receiver: bool) -> Result<(bool, bool), AllocError>
-    ensures { IfOk result (λ r. r ≡ (is_method_descriptor receiver text.entry.bytes.now, is_void_descriptor receiver text.entry.bytes.now)) }
+/// The forms of a method's descriptor.
+#[derive(Clone, Copy)]
+struct MethodForms {
+    method: bool,
+    void: bool,
+    receiver_method: bool,
+    receiver_void: bool,
+}
+
+/// The descriptor is read once: with a receiver its parameters take one unit more.
+fn method_forms(alloc: Global, text: Text<'_>) -> Result<MethodForms, AllocError>
+    ensures { IfOk result (AreMethodForms text.entry.bytes.now) }
 {
-    match method_type(alloc, text, receiver) {
-        Ok(method) => Ok((true, method.result.is_none())),
+    match method_type(alloc, text, false) {
+        Ok(method) => {
+            let void = method.result.is_none();
+            let fits = method.width(true) <= 255;
+            Ok(MethodForms {
+                method: true,
+                void,
+                receiver_method: fits,
+                receiver_void: fits && void,
+            })
+        }
         Err(NameFault::OutOfMemory) => Err(AllocError),
-        Err(_) => Ok((false, false)),
+        Err(_) => Ok(MethodForms {
+            method: false,
+            void: false,
+            receiver_method: false,
+            receiver_void: false,
+        }),
     }
 }
 
@@ -48,17 +71,21 @@ fn form_of(alloc: Global, text: Text<'_>) -> Result<TextForm, AllocError>
     ensures { IfOk result (λ f. f ≡ form_of text.entry.bytes.now) }
 {
     let field_descriptor = is_field_descriptor(text);
-    let (method_descriptor, void_descriptor) = method_forms(alloc, text, false)?;
-    let (receiver_descriptor, void_receiver_descriptor) = method_forms(alloc, text, true)?;
+    let MethodForms {
+        method,
+        void,
+        receiver_method,
+        receiver_void,
+    } = method_forms(alloc, text)?;
     Ok(TextForm {
         names_class: is_class_name(text) || (is_array_name(text) && field_descriptor),
         unqualified_name: is_unqualified_name(text),
         method_name: is_method_name(text),
         field_descriptor,
-        method_descriptor,
-        void_descriptor,
-        receiver_descriptor,
-        void_receiver_descriptor,
+        method_descriptor: method,
+        void_descriptor: void,
+        receiver_descriptor: receiver_method,
+        void_receiver_descriptor: receiver_void,
     })
 }
 
