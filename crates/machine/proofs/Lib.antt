@@ -1,5 +1,6 @@
 mod Flows
 mod Outlook
+mod Examples
 mod Breadth
 mod Bounds
 mod Types

@@ -41,6 +41,7 @@ pub mod Answering
 pub mod OneVerdict
 mod Examples
 mod BranchExamples
+mod ObjectExamples
 mod NewMaps
 pub mod Named
 pub mod Formed
