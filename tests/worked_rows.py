@@ -20,6 +20,13 @@ the width of a descriptor, and the limit of 255 units with a receiver and withou
 an array of 255 dimensions, and one of 256 | texts::limits
 a stack map with two entries, both ways | stack_maps::both_ways
 a class, both ways | class_files::a_class_both_ways
+a class and three bytes more, of a reader that gives one byte a read: the three are not read | streams::stops_behind_the_class
+a reader that fails, or ends, behind each byte of a class | streams::each_cut
+a length of an attribute that passes every file | streams::faults
+types that are assignable to others, that are not, and that compare a class which is missing | assignability::types
+frames that are assignable to others, and that are not | assignability::frames
+seven classes below one another: which is below which, and how many entries of a row were looked at | ancestor_rows::a_line_of_classes
+a step of a method, a fault, and a choice of which nothing comes | machine_steps::ends_and_faults
 """
 
 
