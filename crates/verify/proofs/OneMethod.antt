@@ -1,12 +1,13 @@
 -- A class file has one method of a number at most.
-use Rattle.std.proofs.Common.{◌≡◌, ℕ, Some, sym, ap, ◌∙◌, subst}
+use Rattle.std.proofs.Common.{◌≡◌, ℕ, List, Some, sym, ap, ◌∙◌, subst}
 use Rattle.classfile.specs.Values.{Class}
 use Rattle.classfile.specs.Methods.{Method, code_of, method_of}
 use Rattle.insn.specs.Code.{SpellsCode}
 use Rattle.insn.specs.Meanings.{Act}
 use Rattle.insn.specs.Offsets.{acts}
 use Rattle.insn.proofs.CodeLaws.{one_code}
-use Rattle.verify.specs.Safety.{IsSafe}
+use Rattle.hierarchy.specs.Class.{ClassFact}
+use Rattle.verify.specs.Safety.{IsSafe, IsSafeInAll}
 use Rattle.verify.specs.ClassMethods.{IsMethod, TypeSafeMethodsAreSafe}
 use Rattle.verify.proofs.Run.{type_safe_is_safe}
 
@@ -21,5 +22,15 @@ one_method c number a b x y =
     let same : x.instructions ≡ y.instructions = one_code 0 x.body.code x.instructions y.instructions x.spelled code in
     some_same a b (sym x.method ∙ ap (λ z. method_of c number (acts z)) same ∙ y.method)
 
+in_all : (classes : List ClassFact) (m : Method Act) → IsSafe classes m → IsSafeInAll classes m
+in_all classes m safe = record {
+  safe = safe;
+  operands = λ w x run r s a. let n = safe w x run r s a in (n.act, n.here, n.operands);
+  stack = λ w x run r s a. let n = safe w x run r s a in (n.act, n.here, n.stack);
+  control = λ w x run r s a. let n = safe w x run r s a in (n.act, n.here, n.control);
+  objects = λ w x run r s a. let n = safe w x run r s a in (n.act, n.here, n.objects);
+  own_object = λ w x run r s a. let n = safe w x run r s a in (n.act, n.here, n.own_object);
+}
+
 pub methods_are_safe : TypeSafeMethodsAreSafe
-methods_are_safe classes h c number t m i = subst (IsSafe classes) (one_method c number t.0 m t.1 i) (type_safe_is_safe classes h t.0 t.2)
+methods_are_safe classes h c number t m i = in_all classes m (subst (IsSafe classes) (one_method c number t.0 m t.1 i) (type_safe_is_safe classes h t.0 t.2))

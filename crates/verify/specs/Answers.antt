@@ -75,6 +75,6 @@ VerifiesTypeSafe classes c number r =
     IsListed classes c → (m : Method Act) → IsMethod c number m → IsTypeSafe classes m
     → MatchResult r (λ v. v ≡ Verified) (λ e. e ≡ OutOfMemory)
 
--- A method that is verified is safe, in every world that extends the hierarchy.
+-- A method that is verified is safe, in all five parts of that and in every world that extends the hierarchy.
 abbrev pub VerifiedIsSafe : List ClassFact → Class → ℕ → Result Verdict VerifyFault → Type 0
 VerifiedIsSafe classes c number r = IfOk r (λ v. v ≡ Verified → IsSafeIn classes c number)

@@ -9,7 +9,7 @@ use Rattle.insn.specs.Code.{SpellsCode}
 use Rattle.insn.specs.Meanings.{Act}
 use Rattle.insn.specs.Offsets.{acts}
 use Rattle.verify.specs.TypeSafety.{IsTypeSafe}
-use Rattle.verify.specs.Safety.{IsSafe}
+use Rattle.verify.specs.Safety.{IsSafeInAll}
 
 -- the class's method of this number has code, and this is what its instructions see of it
 pub record IsMethod (c : Class) (number : ℕ) (m : Method Act) : Type 0 where
@@ -24,9 +24,9 @@ pub record IsMethod (c : Class) (number : ℕ) (m : Method Act) : Type 0 where
 abbrev pub IsTypeSafeIn : List ClassFact → Class → ℕ → Type 0
 IsTypeSafeIn classes c number = (m : Method Act) × IsMethod c number m × IsTypeSafe classes m
 
--- there is one method of a number at most
+-- safe in all five parts; there is one method of a number at most
 abbrev pub IsSafeIn : List ClassFact → Class → ℕ → Type 0
-IsSafeIn classes c number = (m : Method Act) → IsMethod c number m → IsSafe classes m
+IsSafeIn classes c number = (m : Method Act) → IsMethod c number m → IsSafeInAll classes m
 
 abbrev pub TypeSafeMethodsAreSafe : Type 0
 TypeSafeMethodsAreSafe =

@@ -24,7 +24,7 @@ pub record IsReported (classes : List ClassFact) (c : Class) (number : ℕ) (r :
   pub called : named c.constant_pool member.name member.descriptor ≡ Ok (record { name = r.name.bytes.now; descriptor = r.descriptor.bytes.now })
   pub exactly : Answers classes c number (Ok r.verdict)
   pub only : VerifiesTypeSafe classes c number (Ok r.verdict)
-  -- a method that is verified is safe in every world that extends the hierarchy
+  -- a method that is verified is safe, in all five parts of that and in every world that extends the hierarchy
   pub safe : r.verdict ≡ Verified → IsSafeIn classes c number
 
 -- of a class that the hierarchy has as it is, also where it has no methods

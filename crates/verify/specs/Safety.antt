@@ -33,21 +33,45 @@ abbrev pub AtInstruction : Method Act → State → (Act → Type 0) → Type 0
 AtInstruction m s Holds = (act : Act) × (at_offset m.code s.at ≡ Some act) × Holds act
 
 -- no instruction meets a missing or wrongly typed operand or local variable
+abbrev pub HasRightOperands : List ClassFact → Method Act → Type 0
+HasRightOperands classes m = HoldsThroughout classes m (λ world s. AtInstruction m s (HasOperands world m s))
+
 abbrev pub OperandsAreRight : Type 0
-OperandsAreRight = IfTypeSafe (λ classes m. HoldsThroughout classes m (λ world s. AtInstruction m s (HasOperands world m s)))
+OperandsAreRight = IfTypeSafe HasRightOperands
 
 -- the stack never passes max_stack
+abbrev pub StaysWithinStack : List ClassFact → Method Act → Type 0
+StaysWithinStack classes m = HoldsThroughout classes m (λ world s. AtInstruction m s (IsWithinStack m s))
+
 abbrev pub StackStaysWithin : Type 0
-StackStaysWithin = IfTypeSafe (λ classes m. HoldsThroughout classes m (λ world s. AtInstruction m s (IsWithinStack m s)))
+StackStaysWithin = IfTypeSafe StaysWithinStack
 
 -- control never leaves the starts of instructions
+abbrev pub KeepsToStarts : List ClassFact → Method Act → Type 0
+KeepsToStarts classes m = HoldsThroughout classes m (λ world s. AtInstruction m s (StaysOnStarts m s))
+
 abbrev pub ControlStaysOnStarts : Type 0
-ControlStaysOnStarts = IfTypeSafe (λ classes m. HoldsThroughout classes m (λ world s. AtInstruction m s (StaysOnStarts m s)))
+ControlStaysOnStarts = IfTypeSafe KeepsToStarts
 
 -- no object is used before its constructor returned
+abbrev pub UsesReadyObjects : List ClassFact → Method Act → Type 0
+UsesReadyObjects classes m = HoldsThroughout classes m (λ world s. AtInstruction m s (UsesReady m s))
+
 abbrev pub ObjectsAreReady : Type 0
-ObjectsAreReady = IfTypeSafe (λ classes m. HoldsThroughout classes m (λ world s. AtInstruction m s (UsesReady m s)))
+ObjectsAreReady = IfTypeSafe UsesReadyObjects
 
 -- no constructor returns before its own object is ready
+abbrev pub ReturnsReady : List ClassFact → Method Act → Type 0
+ReturnsReady classes m = HoldsThroughout classes m (λ world s. AtInstruction m s (LeavesReady m s))
+
 abbrev pub OwnObjectIsReady : Type 0
-OwnObjectIsReady = IfTypeSafe (λ classes m. HoldsThroughout classes m (λ world s. AtInstruction m s (LeavesReady m s)))
+OwnObjectIsReady = IfTypeSafe ReturnsReady
+
+-- all of them, in one and by their parts
+pub record IsSafeInAll (classes : List ClassFact) (m : Method Act) : Type 0 where
+  pub safe : IsSafe classes m
+  pub operands : HasRightOperands classes m
+  pub stack : StaysWithinStack classes m
+  pub control : KeepsToStarts classes m
+  pub objects : UsesReadyObjects classes m
+  pub own_object : ReturnsReady classes m

@@ -176,7 +176,7 @@ pub fn verify_method<'a, C: Classes>(
     ensures exactly { Answers (C.content classes.now) (class_view formed.now.class.now) number result }
     // Type-safe methods are verified.
     ensures only { VerifiesTypeSafe (C.content classes.now) (class_view formed.now.class.now) number result }
-    // No run of a method that is verified meets a fault.
+    // No run of a method that is verified meets a fault: operands, stack, control, objects and own object are right throughout.
     ensures safe { VerifiedIsSafe (C.content classes.now) (class_view formed.now.class.now) number result }
 {
     if !is_listed(alloc, formed, classes)? {
