@@ -1,16 +1,5 @@
-pub mod Worlds
-pub mod Fits
-pub mod Agree
-pub mod Plain
-pub mod Locals
-pub mod Forms
-pub mod News
-pub mod References
-pub mod Steps
-pub mod Start
+pub mod safety
 pub mod Declared
-pub mod Run
-pub mod OneMethod
 pub mod Reasons
 pub mod Passing
 pub mod Following
@@ -18,7 +7,6 @@ pub mod Premises
 pub mod Verdicts
 pub mod Refusing
 mod Refused
-mod FitsBreadth
 pub mod MapFaults
 pub mod MapReading
 pub mod Decoded
@@ -42,6 +30,5 @@ pub mod OneVerdict
 mod Examples
 mod BranchExamples
 mod ObjectExamples
-mod NewMaps
 pub mod Named
 pub mod Formed

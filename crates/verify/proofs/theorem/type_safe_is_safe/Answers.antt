@@ -1,5 +1,5 @@
-use Rattle.verify.proofs.Run.{type_safe_is_safe}
-use Rattle.verify.proofs.OneMethod.{methods_are_safe}
+use Rattle.verify.proofs.safety.Run.{type_safe_is_safe}
+use Rattle.verify.proofs.safety.OneMethod.{methods_are_safe}
 use Rattle.verify.proofs.theorem.type_safe_is_safe.Goals as goal
 
 pub returns-clause-safe : goal.returns-clause-safe

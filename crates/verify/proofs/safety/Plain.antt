@@ -27,8 +27,8 @@ use Rattle.machine.specs.Tasks as tasks
 use Rattle.machine.specs.Tasks.{Need, Reply, reply_units}
 use Rattle.machine.specs.Demands.{State, Meets, AllMeet}
 use Rattle.machine.specs.Steps.{Replies, moved}
-use Rattle.verify.proofs.Fits.{View, Sound, Fit, Item, Items, Fits, Keeps, keep, both_yes, yes_true, fit_number, fit_reference, assign_fit, depth_width, items_append}
-use Rattle.verify.proofs.Agree.{WantNeed, WantsNeeds, GivesReply}
+use Rattle.verify.proofs.safety.Fits.{View, Sound, Fit, Item, Items, Fits, Keeps, keep, both_yes, yes_true, fit_number, fit_reference, assign_fit, depth_width, items_append}
+use Rattle.verify.proofs.safety.Agree.{WantNeed, WantsNeeds, GivesReply}
 
 -- ---- values that are accepted meet what is needed
 

@@ -18,7 +18,7 @@ use Rattle.rules.specs.Table.{class_made_at}
 use Rattle.machine.specs.Values.{Value, number, null, reference, Slot, holds, is_wide_value, units, depth_of, ArePaired}
 use Rattle.machine.specs.Heap.{ready, made, this, Object, object, Heap, IsBelow, FitsReference}
 use Rattle.machine.specs.Demands.{State}
-use Rattle.verify.proofs.Worlds.{IsWorld, below_trans, answer_below}
+use Rattle.verify.proofs.safety.Worlds.{IsWorld, below_trans, answer_below}
 
 -- The world, the method, the address of its own object; for each `new` the address of the object that it made, and back.
 pub record View : Type 0 where

@@ -24,14 +24,14 @@ use Rattle.machine.specs.Tasks as tasks
 use Rattle.machine.specs.Tasks.{Need, Task, needs_of}
 use Rattle.machine.specs.Demands.{State, Meets, AllMeet, HasLocal, HasForm, HasReceiver, MeetsRest, HasRoom, IsUsable, AllUsable, EndsReady}
 use Rattle.machine.specs.Steps.{Does}
-use Rattle.verify.proofs.Worlds.{answer_below}
-use Rattle.verify.proofs.Fits.{View, Sound, Fits, Keeps}
-use Rattle.verify.proofs.Agree.{Agrees}
-use Rattle.verify.proofs.Plain.{room, pops_met, pops_room, pops_does, reply_width}
-use Rattle.verify.proofs.Locals.{load_rest, load_room, load_does, count_rest, count_does, store_rest, store_does}
-use Rattle.verify.proofs.Forms.{form_rest, form_room, form_does}
-use Rattle.verify.proofs.News.{makes_room, makes_does, constructs_rest, constructs_does, arrays_does}
-use Rattle.verify.proofs.References.{passes_does, elements_does}
+use Rattle.verify.proofs.safety.Worlds.{answer_below}
+use Rattle.verify.proofs.safety.Fits.{View, Sound, Fits, Keeps}
+use Rattle.verify.proofs.safety.Agree.{Agrees}
+use Rattle.verify.proofs.safety.Plain.{room, pops_met, pops_room, pops_does, reply_width}
+use Rattle.verify.proofs.safety.Locals.{load_rest, load_room, load_does, count_rest, count_does, store_rest, store_does}
+use Rattle.verify.proofs.safety.Forms.{form_rest, form_room, form_does}
+use Rattle.verify.proofs.safety.News.{makes_room, makes_does, constructs_rest, constructs_does, arrays_does}
+use Rattle.verify.proofs.safety.References.{passes_does, elements_does}
 
 true_false : true ≡ false → ⊥
 true_false e = cc

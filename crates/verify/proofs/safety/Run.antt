@@ -22,13 +22,13 @@ use Rattle.machine.specs.Runs.{IsInitial, IsRun}
 use Rattle.verify.specs.InitialFrames.{initial_types, initial_frame}
 use Rattle.verify.specs.TypeSafety.{LeadsTo, Comes, caught_frame, IsTypeSafe}
 use Rattle.verify.specs.Safety.{TypeSafeIsSafe}
-use Rattle.verify.proofs.Worlds.{world_of_hierarchy}
-use Rattle.verify.proofs.Fits.{Sound, Fits, With, frame_assign, depth_width}
-use Rattle.verify.proofs.Agree.{agree}
-use Rattle.verify.proofs.Plain.{room, reference_item}
-use Rattle.verify.proofs.News.{grows, fresh_gains}
-use Rattle.verify.proofs.Steps.{operands_met, rest_met, room_met, all_usable, ends_met, does, does_at, ways_agree}
-use Rattle.verify.proofs.Start.{first_view, start_fits}
+use Rattle.verify.proofs.safety.Worlds.{world_of_hierarchy}
+use Rattle.verify.proofs.safety.Fits.{Sound, Fits, With, frame_assign, depth_width}
+use Rattle.verify.proofs.safety.Agree.{agree}
+use Rattle.verify.proofs.safety.Plain.{room, reference_item}
+use Rattle.verify.proofs.safety.News.{grows, fresh_gains}
+use Rattle.verify.proofs.safety.Steps.{operands_met, rest_met, room_met, all_usable, ends_met, does, does_at, ways_agree}
+use Rattle.verify.proofs.safety.Start.{first_view, start_fits}
 use Rattle.verify.proofs.Declared.{IsGoodFrame, good_frames}
 
 -- ---- the next start is a start

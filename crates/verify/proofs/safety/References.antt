@@ -21,10 +21,10 @@ use Rattle.machine.specs.Heap.{ready, Object, object, Heap, IsBelowType, FitsRef
 use Rattle.machine.specs.Tasks as tasks
 use Rattle.machine.specs.Demands.{State}
 use Rattle.machine.specs.Steps.{moved, Does}
-use Rattle.verify.proofs.Worlds.{IsWorld}
-use Rattle.verify.proofs.Fits.{View, Sound, Fit, Item, Items, Fits, Keeps, keep, both_yes, fits_up}
-use Rattle.verify.proofs.Agree.{WantsNeeds}
-use Rattle.verify.proofs.Plain.{operands_yes, items_beneath, reference_item}
+use Rattle.verify.proofs.safety.Worlds.{IsWorld}
+use Rattle.verify.proofs.safety.Fits.{View, Sound, Fit, Item, Items, Fits, Keeps, keep, both_yes, fits_up}
+use Rattle.verify.proofs.safety.Agree.{WantsNeeds}
+use Rattle.verify.proofs.safety.Plain.{operands_yes, items_beneath, reference_item}
 
 -- ---- checkcast
 

@@ -12,8 +12,8 @@ use Rattle.machine.specs.Heap.{this, Object, object, Heap}
 use Rattle.machine.specs.Demands.{State}
 use Rattle.machine.specs.Runs.{Receives, IsInitial}
 use Rattle.verify.specs.InitialFrames.{receiver_types, initial_types, is_uninitialized, initial_frame}
-use Rattle.verify.proofs.Fits.{View, Items, Slots, Fits, val_fit, items_append}
-use Rattle.verify.proofs.Plain.{field_items}
+use Rattle.verify.proofs.safety.Fits.{View, Items, Slots, Fits, val_fit, items_append}
+use Rattle.verify.proofs.safety.Plain.{field_items}
 
 abbrev pub first_view : World → Method Act → ℕ → View
 first_view w m own = record { world = w; method = m; own = own; site = λ n. 0; home = λ n. 0 }

@@ -9,8 +9,8 @@ use Rattle.frames.specs.Slots.{to_reference}
 use Rattle.machine.specs.Values.{Value}
 use Rattle.machine.specs.Heap.{Heap, IsBelow, FitsReference, FitsField}
 use Rattle.verify.specs.FitsBreadth.{IsAssignableTo, HasFits, FitsBreadth}
-use Rattle.verify.proofs.Worlds.{world_of_hierarchy, assignable_below}
-use Rattle.verify.proofs.Fits.{fits_up}
+use Rattle.verify.proofs.safety.Worlds.{world_of_hierarchy, assignable_below}
+use Rattle.verify.proofs.safety.Fits.{fits_up}
 
 as_field : (w : World) (h : Heap) (v : Value) (t : ReferenceType) → FitsReference w h t v → FitsField w h (descriptor_of t) v
 as_field w h v (class_type n) f = f

@@ -9,7 +9,7 @@ use Rattle.insn.proofs.CodeLaws.{one_code}
 use Rattle.hierarchy.specs.Class.{ClassFact}
 use Rattle.verify.specs.Safety.{IsSafe, IsSafeInAll}
 use Rattle.verify.specs.ClassMethods.{IsMethod, TypeSafeMethodsAreSafe}
-use Rattle.verify.proofs.Run.{type_safe_is_safe}
+use Rattle.verify.proofs.safety.Run.{type_safe_is_safe}
 
 some_same : {A : Type 0} (a b : A) → Some a ≡ Some b → a ≡ b
 some_same a b e = cc

@@ -19,9 +19,9 @@ use Rattle.machine.specs.Tasks as tasks
 use Rattle.machine.specs.Tasks.{Need}
 use Rattle.machine.specs.Demands.{State, Meets, HasLocal, MeetsRest, HasRoom}
 use Rattle.machine.specs.Steps.{moved, Does}
-use Rattle.verify.proofs.Fits.{View, Sound, Fit, Item, Items, SlotFit, Slots, Fits, Keeps, keep, both_yes, val_fit, depth_width}
-use Rattle.verify.proofs.Agree.{WantNeed, need_units}
-use Rattle.verify.proofs.Plain.{accept_meets, yes_of, operands_yes, room}
+use Rattle.verify.proofs.safety.Fits.{View, Sound, Fit, Item, Items, SlotFit, Slots, Fits, Keeps, keep, both_yes, val_fit, depth_width}
+use Rattle.verify.proofs.safety.Agree.{WantNeed, need_units}
+use Rattle.verify.proofs.safety.Plain.{accept_meets, yes_of, operands_yes, room}
 
 -- ---- types that are accepted are not top
 

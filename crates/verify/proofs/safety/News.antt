@@ -22,10 +22,10 @@ use Rattle.machine.specs.Tasks as tasks
 use Rattle.machine.specs.Tasks.{Need}
 use Rattle.machine.specs.Demands.{State, IsMade, IsOwn, HasReceiver, HasRoom}
 use Rattle.machine.specs.Steps.{moved_with, Does}
-use Rattle.verify.proofs.Worlds.{name_same, below_itself}
-use Rattle.verify.proofs.Fits.{View, Fit, Item, Items, Slots, OnlyOwn, Fits, Keeps, With, Gains, keep, depth_width, items_map, slots_map, fit_grows}
-use Rattle.verify.proofs.Agree.{WantsNeeds}
-use Rattle.verify.proofs.Plain.{items_beneath_same, items_beneath, beneath_same, reference_item, room}
+use Rattle.verify.proofs.safety.Worlds.{name_same, below_itself}
+use Rattle.verify.proofs.safety.Fits.{View, Fit, Item, Items, Slots, OnlyOwn, Fits, Keeps, With, Gains, keep, depth_width, items_map, slots_map, fit_grows}
+use Rattle.verify.proofs.safety.Agree.{WantsNeeds}
+use Rattle.verify.proofs.safety.Plain.{items_beneath_same, items_beneath, beneath_same, reference_item, room}
 
 abbrev status_in : Option Object → Status
 status_in None = ready

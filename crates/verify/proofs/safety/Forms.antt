@@ -20,9 +20,9 @@ use Rattle.machine.specs.Heap.{Heap}
 use Rattle.machine.specs.Tasks as tasks
 use Rattle.machine.specs.Demands.{State, AreForm, HasForm, HasRoom}
 use Rattle.machine.specs.Steps.{moved, Does}
-use Rattle.verify.proofs.Fits.{View, Items, Fits, Keeps, keep, depth_width, items_append}
-use Rattle.verify.proofs.Plain.{items_beneath_same, room}
-use Rattle.verify.proofs.Locals.{fit_wide}
+use Rattle.verify.proofs.safety.Fits.{View, Items, Fits, Keeps, keep, depth_width, items_append}
+use Rattle.verify.proofs.safety.Plain.{items_beneath_same, room}
+use Rattle.verify.proofs.safety.Locals.{fit_wide}
 use Rattle.machine.proofs.Apart.{AllApart, one_form}
 
 -- types that fit the places have values that do
