@@ -1,3 +1,5 @@
+ghost use Rattle.std.specs.Prelude.{◌<◌, length};
+
 use crate::making::{hasher, object, summary};
 use hierarchy::{Answer, Chains, Classes, HierarchyFault, Rows, Summary};
 use names::OBJECT;
@@ -41,7 +43,10 @@ fn check_climbs<'s, 'a, S: BuildHasher>(rt: &impl Abort, rows: &Rows<'s, 'a, S>)
     }
 }
 
-fn check_ancestors<'s, 'a, S: BuildHasher>(rt: &impl Abort, rows: &Rows<'s, 'a, S>) {
+/// Of seven classes.
+fn check_ancestors<'s, 'a, S: BuildHasher>(rt: &impl Abort, rows: &Rows<'s, 'a, S>)
+    requires { 6 < length rows.now }
+{
     let mut looks = 0;
     assert!(rt; rows.ancestor(6, 0, &mut looks) == Some(5));
     assert!(rt; rows.ancestor(6, 1, &mut looks) == Some(4));
