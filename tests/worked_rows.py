@@ -54,7 +54,8 @@ FILES = (
     ("K", "check", [K], "ok"),
     ("K without its last byte", "check", [K[:96]], "refused 2 at 95"),
     ("K and one byte more", "check", [K + b"\x00"], "refused 13 at 97"),
-    ("K whose Code attribute is longer than its parts", "check", [changed((81, 0x0E))], "refused 12 at 76"),
+    # the outline is read first, and ends early where the longer attribute takes a byte of what is behind it
+    ("K whose Code attribute is longer than its parts", "check", [changed((81, 0x0E))], "refused 2 at 96"),
     ("K whose Code attribute is shorter", "check", [changed((81, 0x0C))], "refused 12 at 76"),
     ("K with a tag of no constant", "check", [changed((10, 2))], "refused 7 at 10 tag 2"),
     ("K of version 50", "check", [changed((7, 0x32))], "refused 11 50.0"),
