@@ -1,6 +1,8 @@
 use crate::making::{are_written, is_put, is_shown};
 use layout::{Cursor, Output, Part, ReadFault, WriteFault};
-use pool::{Constant, Pool, PoolFault, found_where_it_stands, put_pool};
+use pool::{
+    Constant, Pool, PoolFault, found_where_it_stands, put_pool, refused_where_nothing_fits,
+};
 use std::alloc::{AllocError, Global};
 use std::test::*;
 
@@ -14,6 +16,7 @@ const ALL: [u8; 85] = [
 #[test]
 fn laws_are_called() {
     found_where_it_stands();
+    refused_where_nothing_fits();
 }
 
 /// Whether the pool of these constants is written where an output takes it.
