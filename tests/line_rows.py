@@ -1,10 +1,15 @@
 """Command lines, and what the program says of each: its texts are those of docs/REFUSALS.md and the README, and for a wrong line
 the first that `clap` has."""
+import pathlib
+import re
+
 from assembler import named
 from class_k import K, OBJECT_CLASS
 
 # The files that stand in the folder in which the program runs.
 FILES = {"K": K.data(), "O": OBJECT_CLASS, "A": named("A").data(), "-a": K.data()}
+# The toolchain by which the README says that all is proved.
+TOOLCHAIN = re.search(r"`(rattle-kit[^`]*)`", (pathlib.Path(__file__).resolve().parent.parent / "README.md").read_text()).group(1)
 MISSING = "error: the following required arguments were not provided:"
 
 # The words behind the program's name, the first line that is printed, and the status.
@@ -22,4 +27,11 @@ LINES = [
     ("", "error: 'classck' requires a subcommand but one was not provided", 2),
     ("check K O", "error: unexpected argument 'O' found", 2),
     ("judge K", "error: unrecognized subcommand 'judge'", 2),
+    # help and the version
+    ("--version", f"classck 0.9, proved with {TOOLCHAIN}", 2),
+    ("-V", f"classck 0.9, proved with {TOOLCHAIN}", 2),
+    ("--help", "Verifies Java class files by type checking", 2),
+    ("check --help", "Prints `ok`, or `refused` with the number of the first fault and its place", 2),
+    ("help show", "Prints what a class file holds, and of each method with code its instructions", 2),
+    ("verify -h", "Prints the verdict on each method of a class", 2),
 ]

@@ -17,6 +17,7 @@ pub mod OutlineFaults
 pub mod Outlines
 pub mod Places
 pub mod Receivers
+pub mod OwnFields
 pub mod Rows
 pub mod SeenLaws
 pub mod Steps

@@ -31,6 +31,7 @@
 //! | `indices`, `naming`, `flags` | what an index leads to, forms of names and descriptors, access flags |
 //! | `signatures` | the names and descriptors that were met |
 //! | `text_numbers` | a number for each text of the pool, the same exactly for equal texts |
+//! | `own_fields` | whether the class declares a field |
 //! | `form_laws` | what the rules mean, and that there is one first fault |
 #![tactic(auto)]
 
@@ -60,6 +61,7 @@ mod nested;
 mod number_form;
 mod once;
 mod outline;
+mod own_fields;
 mod reading;
 mod record_form;
 mod signatures;
@@ -87,4 +89,5 @@ pub use laws::{
 };
 pub use member::Member;
 pub use nested::NestedAttribute;
+pub use own_fields::declares_field;
 pub use reading::read_class;

@@ -29,12 +29,13 @@ known_files = record (new_rule (codes "KNOWN")) { range = Some (record { start_i
 abbrev pub verify : Shape
 verify = (with_rule (with_rule (new_app (codes "verify")) class_file) known_files).top
 
+-- the program itself, which tells its version, and of which a command must be asked
 abbrev pub program : App
-program = new_app (codes "classck")
+program = record (new_app (codes "classck")) { top = record (new_app (codes "classck")).top { has_version = true; subcommand_required = true } }
 
--- `classck` and a command, which must be there
+-- the commands of one file
 abbrev pub line_of_file : App
-line_of_file = with_subcommand (with_subcommand (record program { top = record program.top { subcommand_required = true } }) (of_file (codes "check"))) (of_file (codes "show"))
+line_of_file = with_subcommand (with_subcommand program (of_file (codes "check"))) (of_file (codes "show"))
 
 abbrev pub line : App
 line = with_subcommand line_of_file verify

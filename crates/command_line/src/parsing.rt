@@ -11,7 +11,45 @@ use std::alloc::{AllocError, Global};
 
 /// What the help says of the status that the program ends with.
 const STATUSES: &str =
-    "Status 0: all well. 1: something is refused. 2: a wrong line, a file that cannot be read, no memory, or output that cannot be written.";
+    "Status 0: all well. 1: something is refused. 2: a wrong line, a file that cannot be read, no memory, or output that cannot be written.
+
+docs/REFUSALS.md explains each number that is printed.";
+
+/// The product's version, and the toolchain that proved it.
+const VERSION: &str = "0.9, proved with rattle-kit-13f logic dac8208d650f15bf";
+
+/// The end of the help on `check`.
+const CHECK_EXAMPLE: &str = "Example:
+  $ classck check Hello.class
+  ok
+  $ head -c 400 Hello.class > cut.class; classck check cut.class
+  refused 2 at 400
+
+It is `refused NUMBER`, and then the place of the fault: a byte of the file, or an entry of the constant pool, the class, a field or a
+method, counted as in the class file. docs/REFUSALS.md explains the numbers 2 to 30.";
+
+/// The end of the help on `show`.
+const SHOW_EXAMPLE: &str = "Example:
+  $ classck show Hello.class
+  class Hello major 52 minor 0 flags 0021
+  super java/lang/Object
+  method 0001 <init> ()V
+    stack 1 locals 1
+    0 aload_0
+    1 invokespecial #1
+    4 return
+
+A file that is refused is told as by `check`. Code that cannot be read is `code refused NUMBER at OFFSET`: docs/REFUSALS.md explains the
+numbers 31 to 35.";
+
+/// The end of the help on `verify`.
+const VERIFY_EXAMPLE: &str = "Example:
+  $ classck verify Sums.class java.lang.Object.class
+  method <init> ()V verified
+  method mean (II)I verified
+
+Each method is `verified`, has `no code`, or is `refused NUMBER at OFFSET`, the offset counting bytes of its code. `refused 77` ends in
+the name of a class that is to be added to the files. docs/REFUSALS.md explains the numbers 40 to 81.";
 
 /// A command that takes one file: `NAME FILE`.
 fn one_file<'a>(alloc: Global, name: &'a str) -> Result<Parser<'a>, AllocError>
@@ -30,7 +68,9 @@ fn check<'a>(alloc: Global) -> Result<Parser<'a>, AllocError>
     ensures local { IfOk result (λ c. (out-Command c).has_globals ≡ false) }
 {
     let command = one_file(alloc, "check")?;
-    Ok(command.about("Prints `ok`, or `refused` with the number of the first fault and its place"))
+    Ok(command
+        .about("Prints `ok`, or `refused` with the number of the first fault and its place")
+        .after_help(CHECK_EXAMPLE))
 }
 
 /// `show FILE`
@@ -39,9 +79,9 @@ fn show<'a>(alloc: Global) -> Result<Parser<'a>, AllocError>
     ensures local { IfOk result (λ c. (out-Command c).has_globals ≡ false) }
 {
     let command = one_file(alloc, "show")?;
-    Ok(command.about(
-        "Prints what a class file holds, and of each method with code its instructions",
-    ))
+    Ok(command
+        .about("Prints what a class file holds, and of each method with code its instructions")
+        .after_help(SHOW_EXAMPLE))
 }
 
 /// The file of the class that is verified.
@@ -80,7 +120,9 @@ fn verify<'a>(alloc: Global) -> Result<Parser<'a>, AllocError>
     ensures local { IfOk result (λ c. (out-Command c).has_globals ≡ false) }
 {
     let command = class_and_known(alloc)?;
-    Ok(command.about("Prints the verdict on each method of a class"))
+    Ok(command
+        .about("Prints the verdict on each method of a class")
+        .after_help(VERIFY_EXAMPLE))
 }
 
 /// The command lines of one file.
@@ -89,6 +131,7 @@ fn commands_of_files<'a>(alloc: Global) -> Result<Parser<'a>, AllocError>
 {
     Parser::new(alloc, "classck")
         .about("Verifies Java class files by type checking")
+        .version(VERSION)
         .after_help(STATUSES)
         .subcommand_required(true)
         .subcommand(check(alloc)?)?

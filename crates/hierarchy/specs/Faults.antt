@@ -1,19 +1,48 @@
--- Which fault of a list of classes is answered: the least number that holds, with the name of the first class in the list's order. No section of the standard numbers these faults.
-use Rattle.std.specs.Prelude.{◌≡◌, ◌≢◌, ℕ, ◌≤◌, ◌<◌, List, Option, Some, None, length}
+-- Which fault of a list of classes is answered: that of the first rule that the list breaks, in the order of their numbers, with the name of the first class that breaks it, in the list's order. No section of the standard numbers these faults.
+use Rattle.std.specs.Prelude.{◌≡◌, ◌≢◌, ◌↔◌, ℕ, ◌≤◌, ◌<◌, List, Option, Some, None, length}
 use Rattle.hierarchy.specs.declared.fault.HierarchyFault.{HierarchyFault}
 use Rattle.hierarchy.specs.declared.fault.HierarchyFault.TheVariants.{OutOfMemory, ClassTwice, Cycle, SuperMissing, NoObject, BadArrayInterface, TooManyClasses, InterfaceSuper}
 use Rattle.hierarchy.specs.Class.{ClassFact}
 use Rattle.hierarchy.specs.Rules.{IsTwice, IsOnCycle, LacksSuper, HasObject, IsBadArrayInterface, HasWrongSuper, NoClass, IsFirst, IsHierarchy}
 
-abbrev pub FaultOf : List ClassFact → HierarchyFault → Type 0
-FaultOf classes OutOfMemory = Unit {0}
-FaultOf classes (ClassTwice name) = IsFirst (IsTwice classes) classes name.now
-FaultOf classes (Cycle name) = NoClass (IsTwice classes) classes × IsFirst (IsOnCycle classes) classes name.now
-FaultOf classes (SuperMissing name) = NoClass (IsTwice classes) classes × NoClass (IsOnCycle classes) classes × IsFirst (LacksSuper classes) classes name.now
-FaultOf classes NoObject = NoClass (IsTwice classes) classes × NoClass (IsOnCycle classes) classes × NoClass (LacksSuper classes) classes × (HasObject classes → ⊥)
-FaultOf classes (BadArrayInterface name) = NoClass (IsTwice classes) classes × NoClass (IsOnCycle classes) classes × NoClass (LacksSuper classes) classes × HasObject classes × IsFirst IsBadArrayInterface classes name.now
-FaultOf classes TooManyClasses = NoClass (IsTwice classes) classes × NoClass (IsOnCycle classes) classes × NoClass (LacksSuper classes) classes × HasObject classes × NoClass IsBadArrayInterface classes × (65535 < length classes)
-FaultOf classes (InterfaceSuper name) = NoClass (IsTwice classes) classes × NoClass (IsOnCycle classes) classes × NoClass (LacksSuper classes) classes × HasObject classes × NoClass IsBadArrayInterface classes × (length classes ≤ 65535) × IsFirst HasWrongSuper classes name.now
+-- the rules of a hierarchy
+pub data Rule : Type 0 where
+  once no_cycle superclasses object array_interfaces few_classes interfaces : Rule
+
+-- the number by which a list that breaks the rule is refused
+abbrev pub rule_number : Rule → ℕ
+rule_number once = 40
+rule_number no_cycle = 41
+rule_number superclasses = 42
+rule_number object = 43
+rule_number array_interfaces = 44
+rule_number few_classes = 45
+rule_number interfaces = 46
+
+-- a list keeps the rule
+abbrev pub Keeps : List ClassFact → Rule → Type 0
+Keeps classes once = NoClass (IsTwice classes) classes
+Keeps classes no_cycle = NoClass (IsOnCycle classes) classes
+Keeps classes superclasses = NoClass (LacksSuper classes) classes
+Keeps classes object = HasObject classes
+Keeps classes array_interfaces = NoClass IsBadArrayInterface classes
+Keeps classes few_classes = length classes ≤ 65535
+Keeps classes interfaces = NoClass HasWrongSuper classes
+
+-- a list breaks the rule of the fault: the first class by which it does has the name
+abbrev pub Breaks : List ClassFact → HierarchyFault → Type 0
+Breaks classes OutOfMemory = ⊥
+Breaks classes (ClassTwice name) = IsFirst (IsTwice classes) classes name.now
+Breaks classes (Cycle name) = IsFirst (IsOnCycle classes) classes name.now
+Breaks classes (SuperMissing name) = IsFirst (LacksSuper classes) classes name.now
+Breaks classes NoObject = HasObject classes → ⊥
+Breaks classes (BadArrayInterface name) = IsFirst IsBadArrayInterface classes name.now
+Breaks classes TooManyClasses = 65535 < length classes
+Breaks classes (InterfaceSuper name) = IsFirst HasWrongSuper classes name.now
+
+-- a list keeps all rules before the one of this number
+abbrev pub KeepsBefore : List ClassFact → ℕ → Type 0
+KeepsBefore classes number = (rule : Rule) → rule_number rule < number → Keeps classes rule
 
 -- the number of the refusal
 abbrev pub number_of : HierarchyFault → ℕ
@@ -36,6 +65,15 @@ fault_class NoObject = None
 fault_class (BadArrayInterface name) = Some name.now
 fault_class TooManyClasses = None
 fault_class (InterfaceSuper name) = Some name.now
+
+-- Want of memory, of which nothing is said; or the rule is broken, and none before it is.
+abbrev pub FaultOf : List ClassFact → HierarchyFault → Type 0
+FaultOf classes OutOfMemory = Unit {0}
+FaultOf classes fault = Breaks classes fault × KeepsBefore classes (number_of fault)
+
+-- a hierarchy is a list that keeps all rules
+abbrev pub RulesMakeHierarchies : Type 0
+RulesMakeHierarchies = (classes : List ClassFact) → IsHierarchy classes ↔ ((rule : Rule) → Keeps classes rule)
 
 -- a list that is refused is no hierarchy, want of memory aside
 abbrev pub FaultsBreakRules : Type 0

@@ -90,7 +90,7 @@ impl<'s, 'a, S: BuildHasher> Index<'s, 'a, S> {
         ensures ok { IfOk result (λ t. (t ≡ facts_of classes.now) × NoClass (IsTwice (facts_of classes.now)) (facts_of classes.now)) }
         ensures err { IfErr result (FaultOf (facts_of classes.now)) }
     {
-        let mut names = IndexSet::with_hasher(alloc, hasher);
+        let mut names = IndexSet::with_capacity_and_hasher(alloc, classes.len(), hasher)?;
         for (i, class) in classes.iter().enumerate() {
             let (_, added) = names.insert_full(class.name)?;
             if !added {
@@ -98,6 +98,7 @@ impl<'s, 'a, S: BuildHasher> Index<'s, 'a, S> {
                 return Err(HierarchyFault::ClassTwice { name });
             }
         }
+        names.shrink_to_fit();
         Ok(Index { classes, names })
     }
 

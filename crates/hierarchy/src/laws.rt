@@ -1,7 +1,7 @@
 //! Laws of faults, of chains of superclasses, of worlds and of summaries.
 ghost use Rattle.hierarchy.specs.Answer.{HasOneSubclassAnswer};
 ghost use Rattle.hierarchy.specs.ClassSummary.{SummaryHasTexts};
-ghost use Rattle.hierarchy.specs.Faults.{FaultsBreakRules, OneFault};
+ghost use Rattle.hierarchy.specs.Faults.{FaultsBreakRules, OneFault, RulesMakeHierarchies};
 ghost use Rattle.hierarchy.specs.Extends.{KeepsSubclasses, ExtendsItself, ChainsAreSteps};
 ghost use Rattle.hierarchy.specs.Rows.{HasOneDepth, IsBelowByDepth};
 
@@ -35,6 +35,11 @@ pub fn is_below_by_depth()
 /// A question about a subclass has one answer.
 pub fn has_one_subclass_answer()
     ensures { HasOneSubclassAnswer }
+{}
+
+/// A list of classes is a hierarchy exactly where it keeps each of the rules that faults tell of.
+pub fn rules_make_hierarchies()
+    ensures { RulesMakeHierarchies }
 {}
 
 /// A list of classes that has a fault is no hierarchy, want of memory aside.

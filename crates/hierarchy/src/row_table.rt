@@ -55,6 +55,7 @@ pub fn rows_of(alloc: Global, jumps: &Jumps) -> Result<RowTable, AllocError>
         starts.push(entries.len() as u32)?;
         push_row(&jumps.tables, place, top.steps, &mut entries)?;
     }
+    entries.shrink_to_fit();
     Ok(RowTable {
         depths,
         starts,

@@ -2,7 +2,7 @@ ghost use Rattle.std.specs.Prelude.{◌<◌, length};
 
 use crate::making::{hasher, object, summary};
 use hierarchy::{Answer, Chains, Classes, HierarchyFault, Rows, Summary};
-use names::OBJECT;
+use names::{CLONEABLE, OBJECT};
 use std::alloc::{AllocError, Global};
 use std::hash::BuildHasher;
 use std::process::Abort;
@@ -92,6 +92,19 @@ fn what_is_refused(rt: HostRuntime) {
     assert!(rt; are_refused(alloc, &cycle, HierarchyFault::Cycle { name: b"A" }));
     let lost = [object(alloc), summary(alloc, b"A", Some(b"B"), false)];
     assert!(rt; are_refused(alloc, &lost, HierarchyFault::SuperMissing { name: b"A" }));
+}
+
+#[test]
+fn interfaces_that_are_refused(rt: HostRuntime) {
+    let alloc = rt.alloc();
+    let class = [object(alloc), summary(alloc, CLONEABLE, Some(OBJECT), false)];
+    assert!(rt; are_refused(alloc, &class, HierarchyFault::BadArrayInterface { name: CLONEABLE }));
+    let below = [
+        object(alloc),
+        summary(alloc, b"A", Some(OBJECT), false),
+        summary(alloc, b"I", Some(b"A"), true),
+    ];
+    assert!(rt; are_refused(alloc, &below, HierarchyFault::InterfaceSuper { name: b"I" }));
 }
 
 /// A list of classes is refused 1 where memory runs out, and taken otherwise.

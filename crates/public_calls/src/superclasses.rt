@@ -15,6 +15,7 @@ fn laws_are_called() {
     laws::has_one_depth();
     laws::is_below_by_depth();
     laws::has_one_subclass_answer();
+    laws::rules_make_hierarchies();
     laws::faults_break_rules();
     laws::one_hierarchy_fault();
     laws::summary_has_texts();

@@ -1,7 +1,6 @@
 //! Instructions that read and write fields.
-ghost use Rattle.std.specs.Prelude.{◌≡◌, ℕ, [], ◌∷◌, map};
-ghost use Rattle.classfile.specs.Methods.{declared_fields, is_declared, is_own_field};
-ghost use Rattle.classfile.specs.Views.{member_view};
+ghost use Rattle.std.specs.Prelude.{◌≡◌, ℕ};
+ghost use Rattle.classfile.specs.Methods.{is_own_field};
 ghost use Rattle.pool.specs.Members.{field_at};
 ghost use Rattle.pool.specs.MemberViews.{field_constant_view};
 ghost use Rattle.rules.specs.Constants.{get_static, put_static, get_field, put_field, target_of};
@@ -17,11 +16,11 @@ use crate::families::{gives, pops};
 use crate::reason::Reason;
 use crate::want::{Want, want_of};
 use crate::working::Working;
-use classfile::{CodeMethod, Member};
+use classfile::{CodeMethod, declares_field};
 use frames::held_by;
 use hierarchy::Classes;
 use names::RefType;
-use pool::{FieldConstant, Pool};
+use pool::FieldConstant;
 
 /// `getstatic`
 pub fn get_static<'a, C: Classes>(
@@ -80,40 +79,12 @@ pub fn get_field<'a, C: Classes>(
     }
 }
 
-/// Whether the texts of a field are this name and this descriptor.
-fn is_named(pool: &Pool<'_>, field: &Member<'_>, name: &[u8], descriptor: &[u8]) -> bool
-    ensures { result ≡ is_declared (declared_fields pool.now (member_view field.now ∷ [])) name.now descriptor.now }
-{
-    let (Ok(own_name), Ok(own_descriptor)) = (pool.text(field.name), pool.text(field.descriptor))
-    else {
-        return false;
-    };
-    own_name.bytes() == name && own_descriptor.bytes() == descriptor
-}
-
-/// Whether a field of this name and descriptor is declared.
-fn is_declared(pool: &Pool<'_>, fields: &[Member<'_>], name: &[u8], descriptor: &[u8]) -> bool
-    ensures { result ≡ is_declared (declared_fields pool.now (map member_view fields.now)) name.now descriptor.now }
-{
-    match fields {
-        [] => false,
-        [field, others @ ..] => is_named(pool, field, name, descriptor)
-            || is_declared(pool, others, name, descriptor),
-    }
-}
-
 /// Whether the class declares the field that the constant names.
 fn is_own_field(method: &CodeMethod<'_, '_>, field: &FieldConstant<'_>) -> bool
     ensures { result ≡ is_own_field (method_view method.now) (field_constant_view field.now) }
 {
     let class = method.class;
-    own_class(method) == field.class
-        && is_declared(
-            &class.constant_pool,
-            &class.fields,
-            field.name,
-            field.descriptor,
-        )
+    own_class(method) == field.class && declares_field(class, field.name, field.descriptor)
 }
 
 /// What `putfield` asks of the object: in an instance initialization method it may be the own one, where its class declares

@@ -3,8 +3,9 @@ use Rattle.std.specs.Borrow.{Bor}
 use Rattle.std.specs.Str.{bytes_eq}
 use Rattle.std.specs.List.{list_any}
 use Rattle.hierarchy.specs.declared.summary.Summary.{Summary}
-use Rattle.hierarchy.specs.Summary.{fact_of}
+use Rattle.hierarchy.specs.Summary.{fact_of, facts_of}
 use Rattle.hierarchy.proofs.Names.{at_map}
+use Rattle.hierarchy.proofs.OneFault.{none_before}
 use Rattle.hierarchy.proofs.Table.{none_twice, grown, filled_all, added_last, kept_all, was_there}
 use Rattle.hierarchy.proofs.index.Index.new.Goals as goal
 
@@ -31,4 +32,4 @@ pub returns-clause-ok : goal.returns-clause-ok
 returns-clause-ok g c = (refl, none_twice c.args.classes.now c.loop-i.names.keys (filled_all c.args.classes.now c.loop-i.names.keys c.loop-i.i c.loop-i-test.false c.loop-i.invariant.named) c.loop-i.invariant.distinct)
 
 pub returns-then-not-added-clause-err : goal.returns-then-not-added-clause-err
-returns-then-not-added-clause-err g c = search rules
+returns-then-not-added-clause-err g c = (c.in_ok-name.ensures, none_before (facts_of c.args.classes.now))
