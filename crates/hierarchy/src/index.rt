@@ -98,7 +98,6 @@ impl<'s, 'a, S: BuildHasher> Index<'s, 'a, S> {
                 return Err(HierarchyFault::ClassTwice { name });
             }
         }
-        names.shrink_to_fit();
         Ok(Index { classes, names })
     }
 

@@ -18,8 +18,7 @@ returns-in-Some-clause-err g c =
 pub returns-in-Some-first_breaking-clause-err : goal.returns-in-Some-first_breaking-clause-err
 returns-in-Some-first_breaking-clause-err g c =
     let facts = facts_of c.args.classes.now in
-    let acyclic = none_there c.in_ok-on_cycle.on_cycle (NoClass (IsOnCycle facts) facts) (λ n. IsFirst (IsOnCycle facts) facts n.now) c.in_default.not-Some c.in_ok-on_cycle.ensures in
-    (
+    let acyclic = none_there c.in_ok-on_cycle.on_cycle (NoClass (IsOnCycle facts) facts) (λ n. IsFirst (IsOnCycle facts) facts n.now) c.in_default.not-Some c.in_ok-on_cycle.ensures in (
       subst (λ v. IsFirst (LacksSuper v) facts c.in-Some-first_breaking.name.now) c.requires.same c.in-Some-first_breaking.ensures,
       one_more facts no_cycle (one_more facts once (none_before facts) c.requires.one_each) acyclic,
     )

@@ -4,6 +4,6 @@ use Rattle.hierarchy.proofs.laws.rules_make_hierarchies.Goals as goal
 
 pub returns : goal.returns
 returns c classes = (
-    all_kept classes,
-    λ k. record { one_each = k once; acyclic = k no_cycle; rooted = k superclasses; object = k object; arrays = k array_interfaces; few = k few_classes; interfaces = k interfaces },
-  )
+  all_kept classes,
+  λ k. record { one_each = k once; acyclic = k no_cycle; rooted = k superclasses; object = k object; arrays = k array_interfaces; few = k few_classes; interfaces = k interfaces },
+)

@@ -1,4 +1,4 @@
-use Rattle.std.proofs.Common.{rules, ◌∙◌, ap, sym, refl, map, get_or, List, ℕ}
+use Rattle.std.proofs.Common.{◌∙◌, ap, sym, refl, map, get_or, List, ℕ}
 use Rattle.std.specs.Borrow.{Bor}
 use Rattle.std.specs.Str.{bytes_eq}
 use Rattle.std.specs.List.{list_any}
