@@ -1,13 +1,12 @@
 -- The forms of names of a text, found byte by byte.
-use Rattle.std.proofs.Common.{◌≡◌, ℕ, ◌+◌, ◌<◌, Bool, true, false, not, eqb, ◌&&◌, ◌||◌, List, [], ◌∷◌, length, get_or, drop, refl, sym, ap, ◌∙◌, arith, ne_eqb}
+use Rattle.std.proofs.Common.{◌≡◌, ℕ, ◌+◌, ◌<◌, Bool, true, false, not, eqb, ◌&&◌, ◌||◌, List, ◌∷◌, length, get_or, drop, refl, sym, ap, ◌∙◌, arith, ne_eqb}
 use Rattle.std.specs.List.{list_all}
 use Rattle.std.proofs.lemmas.List.Folds.{list_all_at}
 use Rattle.std.proofs.lemmas.List.{drop_more, drop_all}
 use Rattle.std.proofs.lemmas.List.Sums.{AllPass-from_list_all, list_all-from_AllPass}
-use Rattle.std.proofs.lemmas.Bool.{and_parts, and_from, and_left, false≢true, or_parts, eqb-false}
-use Rattle.names.specs.Names.{dot, slash, semicolon, bracket, is_name_unit, is_angle, IsClassName, IsUnqualifiedName, IsMethodName}
+use Rattle.std.proofs.lemmas.Bool.{and_parts, and_from, false≢true, or_parts, eqb-false}
+use Rattle.names.specs.Names.{dot, slash, semicolon, bracket, is_name_unit, is_angle, IsUnqualifiedName, IsMethodName}
 use Rattle.names.specs.Reading.{goes_on, ends_class_name}
-use Rattle.names.specs.declared.forms.NameForms.{NameForms}
 use Rattle.names.specs.Forms.{AreNameForms}
 use Rattle.names.proofs.Scan.{scan_ends, class_to_the_end, no_class_there}
 

@@ -1,5 +1,5 @@
 -- The shape of a method's types, found while they are read.
-use Rattle.std.proofs.Common.{◌≡◌, ℕ, nat_lt, nat_le, ◌+◌, ◌<◌, ◌≤◌, ◌⊎◌, Bool, true, false, ◌||◌, cond, List, [], ◌∷◌, ◌++◌, length, Option, Some, None, Result, Ok, Err, refl, sym, ap, ◌∙◌, arith, inl, inr}
+use Rattle.std.proofs.Common.{◌≡◌, ℕ, nat_lt, nat_le, ◌+◌, ◌<◌, ◌≤◌, Bool, true, false, ◌||◌, cond, List, [], ◌∷◌, ◌++◌, length, Option, Some, None, Result, Ok, Err, refl, sym, ap, ◌∙◌, arith}
 use mir.Val.{bool_byte}
 use Rattle.std.specs.Prelude.{sum_by}
 use Rattle.std.specs.List.{list_any}
@@ -15,8 +15,8 @@ use Rattle.names.specs.ReadTypes.{type_read}
 use Rattle.names.specs.declared.shape.MethodShape.{MethodShape}
 use Rattle.names.specs.declared.shape.Measured.{Measured}
 use Rattle.names.specs.Descriptors.{FieldDescriptor, MethodDescriptor, field_width, field_types, result_types, method_width}
-use Rattle.names.specs.Reading.{found, outside, is_deep, read_method, method_type, limited_method, method_answer}
-use Rattle.names.specs.Shapes.{IsShapeOf, HasShape, IsShapeAnswer, Sums, IsShapeWithin}
+use Rattle.names.specs.Reading.{found, outside, is_deep, read_method, method_type, limited_method}
+use Rattle.names.specs.Shapes.{IsShapeOf, IsShapeAnswer, Sums, IsShapeWithin}
 use Rattle.names.proofs.Kept.{SoFar}
 use Rattle.names.proofs.Judged.{method_answer_limited}
 use Rattle.names.proofs.MethodReader.{method_reader}

@@ -1,7 +1,5 @@
-use Rattle.std.proofs.Common.{◌≡◌, true, false, get_or, sym, ◌∙◌, ap, ◌||◌, arith}
-use Rattle.std.specs.Prelude.{Bool}
-use Rattle.names.specs.Reading.{goes_on}
-use Rattle.names.proofs.NameScan.{Scanning, one_byte_more, at_the_end, stopped, at_first}
+use Rattle.std.proofs.Common.{sym, ◌∙◌, arith}
+use Rattle.names.proofs.NameScan.{one_byte_more, at_the_end, stopped, at_first}
 use Rattle.names.proofs.forms.forms_of.Goals as goal
 
 pub loop-b-init : goal.loop-b-init

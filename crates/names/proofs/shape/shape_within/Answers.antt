@@ -1,6 +1,5 @@
-use Rattle.std.proofs.Common.{◌≡◌, ◌+◌, ◌<◌, ◌||◌, Bool, false, sym, ap, ◌∙◌, ◌≤◌, ℕ, cond}
-use Rattle.std.specs.Option.{option_map, is_some}
-use Rattle.names.specs.declared.reading.FieldRead.{FieldRead}
+use Rattle.std.proofs.Common.{◌+◌, ap, ◌∙◌, ℕ}
+use Rattle.std.specs.Option.{option_map}
 use Rattle.std.specs.List.{list_any}
 use Rattle.names.specs.Descriptors.{result_types}
 use Rattle.names.specs.ReadTypes.{type_read}

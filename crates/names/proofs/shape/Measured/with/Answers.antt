@@ -1,4 +1,3 @@
-use Rattle.std.proofs.Common.{sym, ap, ◌∙◌}
 use Rattle.names.specs.ReadTypes.{type_read}
 use Rattle.names.proofs.ShapeLaws.{deep_is, counted_more, wide_more}
 use Rattle.names.proofs.shape.Measured.with.Goals as goal
