@@ -11,7 +11,7 @@ use Rattle.classfile.specs.Values.{Handler, Nested, CodeBody, Attribute, Member,
 use Rattle.classfile.specs.Indices.{is_of, is_bad, is_bad_unless_zero, is_other}
 use Rattle.classfile.specs.Naming.{begins_with, is_array_name, is_class_name, is_unqualified_name, is_method_name, is_init, is_clinit, is_field_descriptor, is_method_descriptor, is_void_descriptor}
 use Rattle.classfile.specs.Locations.{is_named, is_code, is_stack_map, is_record, is_permitted_subclasses}
-use Rattle.classfile.specs.Flags.{has, are_bad_interface_flags, are_bad_other_class_flags, are_bad_class_flags, has_two_accesses, are_bad_field_flags, is_abstract_with_body, is_no_initializer, are_bad_method_flags}
+use Rattle.classfile.specs.Flags.{has, are_bad_class_flags, are_bad_field_flags, are_bad_method_flags}
 use Rattle.classfile.specs.ConstantForm.{names_class, is_no_class_name, is_array_class, is_no_unqualified_name, is_no_descriptor, is_no_field_descriptor, is_no_method_descriptor, is_no_field, is_no_method, is_no_method_of_class, is_special, is_no_method_name, has_bad, has_other, texts_have_bad, texts_have_other}
 use Rattle.classfile.specs.NumberForm.{numbers_break, is_of_row, row_stands_twice, numbers_stand_twice}
 use Rattle.classfile.specs.AttributeForm.{handlers_have_bad, handlers_have_other, nested_have_bad, nested_have_other, head_has_bad, head_has_other, code_has_bad, code_has_other, attribute_has_bad, attribute_has_other, attributes_have_bad, attributes_have_other, have_bad_length, has_two_stack_maps, code_stands_twice, stack_map_stands_twice, have_twice}
@@ -76,18 +76,18 @@ places = refl
 
 flags :
     ((has 0x0208 0x0008, has 0x0200 0x0008)
-    ∷ (are_bad_interface_flags 0x0610, are_bad_interface_flags 0x0601)
-    ∷ (are_bad_other_class_flags 0x0410, are_bad_other_class_flags 0x0400)
+    ∷ (are_bad_class_flags 0x0610, are_bad_class_flags 0x0601)
+    ∷ (are_bad_class_flags 0x0410, are_bad_class_flags 0x0400)
     ∷ (are_bad_class_flags 0x0200, are_bad_class_flags 0x0600)
     ∷ (are_bad_class_flags 0x8000, are_bad_class_flags 0x4031)
-    ∷ (has_two_accesses 0x0003, has_two_accesses 0x0001)
+    ∷ (are_bad_field_flags 0x0003, are_bad_field_flags 0x0001)
     ∷ (are_bad_field_flags 0x0050, are_bad_field_flags 0x0012)
-    ∷ (is_abstract_with_body 0x0408, is_abstract_with_body 0x0401)
-    ∷ (is_no_initializer 0x0008, is_no_initializer 0x0001)
+    ∷ (are_bad_method_flags false false 0x0006, are_bad_method_flags false false 0x0004)
+    ∷ (are_bad_method_flags false false 0x0408, are_bad_method_flags false false 0x0401)
     ∷ (are_bad_method_flags true false 0x0008, are_bad_method_flags false false 0x0008)
     ∷ (are_bad_method_flags false true 0x0000, are_bad_method_flags false true 0x000b)
     ∷ []) ≡ told 11
-unfolding has are_bad_interface_flags are_bad_other_class_flags are_bad_class_flags has_two_accesses are_bad_field_flags is_abstract_with_body is_no_initializer are_bad_method_flags
+unfolding has are_bad_class_flags are_bad_field_flags are_bad_method_flags
 flags = refl
 
 -- ---- constants
@@ -175,7 +175,7 @@ members :
     ∷ (is_badly_flagged pool (member 0x0008 10 11), is_badly_flagged pool (member 0x0008 12 11))
     ∷ (has_body pool (member 0x0100 12 11), has_body pool (member 0x0100 2 11))
     ∷ []) ≡ told 12
-unfolding member_has_bad member_has_other is_bad_method_name is_badly_described is_instance_initializer is_class_initializer is_badly_flagged has_body texts_have_bad texts_have_other attributes_have_bad attributes_have_other head_has_bad head_has_other numbers_break is_bad is_other entry_at text_at named has has_two_accesses is_abstract_with_body is_no_initializer are_bad_method_flags read_class read_base read_field read_params read_result read_method field_answer method_answer
+unfolding member_has_bad member_has_other is_bad_method_name is_badly_described is_instance_initializer is_class_initializer is_badly_flagged has_body texts_have_bad texts_have_other attributes_have_bad attributes_have_other head_has_bad head_has_other numbers_break is_bad is_other entry_at text_at named has are_bad_method_flags read_class read_base read_field read_params read_result read_method field_answer method_answer
 members = refl
 
 -- ---- records and sealed classes

@@ -3,12 +3,10 @@ use Rattle.std.proofs.Common.{◌≡◌, ℕ, ◌<◌, ◌≤◌, ◌⊎◌, inl
 use Rattle.std.proofs.lemmas.Bool.{leb-true, leb-false, ltb-true, ltb-false, lt-ltb}
 use Rattle.std.specs.List.{list_any}
 use Rattle.std.specs.Option.{is_some, is_none}
-use Rattle.names.specs.declared.descriptor.FieldType.{FieldType}
-use Rattle.names.specs.Types.{type_of}
 use Rattle.std.specs.Result.{is_ok}
 use Rattle.names.specs.declared.fault.NameFault.{NameFault}
-use Rattle.names.specs.declared.fault.NameFault.TheVariants.{OutOfMemory, TooManyDimensions, TooWide}
-use Rattle.names.specs.Descriptors.{MethodDescriptor, field_types, method_width}
+use Rattle.names.specs.declared.fault.NameFault.TheVariants.{TooManyDimensions, TooWide}
+use Rattle.names.specs.Descriptors.{FieldDescriptor, MethodDescriptor, field_types, method_width}
 use Rattle.names.specs.Reading.{whole, read_method, is_deep, limited_method, method_answer}
 use Rattle.classfile.specs.Naming.{has_no_result}
 use Rattle.classfile.specs.TextForms.{AreMethodForms}
@@ -88,28 +86,17 @@ none_are bytes e h =
     let also = limited_err (whole bytes (read_method bytes)) e h in
     record { method = sym (ap is_ok h); void = sym (ap has_no_result h); receiver_method = sym also.0; receiver_void = sym also.1 }
 
-pub none_of : (bytes : List ℕ) (e : NameFault) → (e ≡ OutOfMemory → ⊥) → (e ≡ OutOfMemory) ⊎ (method_answer false bytes ≡ Err e)
-    → AreMethodForms bytes (record { method = false; void = false; receiver_method = false; receiver_void = false })
-none_of bytes e other (inl h) = absurd (other h)
-none_of bytes e other (inr h) = none_are bytes e h
-
 -- a result is none where it is not some
-pub same_void : (t : Option FieldType) (void : Bool) → is_some t ≡ not void → void ≡ is_none (option_map type_of t)
-same_void None true h = refl
-same_void None false h = absurd cc
-same_void (Some t) true h = absurd cc
-same_void (Some t) false h = refl
+pub same_void : (t : Option FieldDescriptor) (has_result : Bool) → has_result ≡ is_some t → not has_result ≡ is_none t
+same_void None has_result h = ap not h
+same_void (Some t) has_result h = ap not h
 
-pub is_within : (w : ℕ) → w ≤ 255 → true ≡ nat_le w 255
-is_within w h = by_test (nat_le w 255) refl
+-- there is room for a receiver
+pub fits_receiver : (m : MethodDescriptor) (units : ℕ) → units ≡ method_width m false → nat_lt units 255 ≡ nat_le (method_width m true) 255
+fits_receiver m units h = by_tests (nat_lt units 255) (nat_le (method_width m true) 255) refl refl
   where
-    by_test : (b : Bool) → nat_le w 255 ≡ b → true ≡ b
-    by_test true e = refl
-    by_test false e = let over = leb-false w 255 e in absurd (omega (arith, over, h))
-
-pub is_over : (w : ℕ) → 255 < w → false ≡ nat_le w 255
-is_over w h = by_test (nat_le w 255) refl
-  where
-    by_test : (b : Bool) → nat_le w 255 ≡ b → false ≡ b
-    by_test true e = let within = leb-true w 255 e in absurd (omega (arith, within, h))
-    by_test false e = refl
+    by_tests : (less fits : Bool) → nat_lt units 255 ≡ less → nat_le (method_width m true) 255 ≡ fits → less ≡ fits
+    by_tests true true a b = refl
+    by_tests true false a b = let x = ltb-true units 255 a in let y = leb-false (method_width m true) 255 b in absurd (omega (arith, h, x, y))
+    by_tests false true a b = let x = ltb-false units 255 a in let y = leb-true (method_width m true) 255 b in absurd (omega (arith, h, x, y))
+    by_tests false false a b = refl

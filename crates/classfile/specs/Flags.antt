@@ -1,5 +1,7 @@
 -- Which access flags may stand together (JVMS 4.1, table 4.1-B; 4.5, table 4.5-A; 4.6, table 4.6-A).
-use Rattle.std.specs.Prelude.{ℕ, Bool, not, ◌&&◌, ◌||◌, nat_eq, bit_and, if◌then◌else◌}
+use Rattle.std.specs.Prelude.{ℕ, ◌+◌, Bool, not, ◌&&◌, ◌||◌, nat_eq, bit_and, if◌then◌else◌, List, [], ◌∷◌}
+use Rattle.std.specs.List.{list_any}
+use Rattle.classfile.specs.declared.flags.FlagRow.{FlagRow}
 
 abbrev pub PUBLIC : ℕ
 PUBLIC = 0x0001
@@ -54,38 +56,55 @@ MODULE = 0x8000
 unfoldable pub has : ℕ → ℕ → Bool
 has flags flag = not (nat_eq (bit_and flags flag) 0)
 
--- an interface is abstract, and not final, special in its calls or an enum; another class is no annotation, and not both
--- final and abstract; no class is a module
-unfoldable pub are_bad_interface_flags : ℕ → Bool
-are_bad_interface_flags flags = not (has flags ABSTRACT) || has flags FINAL || has flags SUPER || has flags ENUM
+-- ---- the tables
 
-unfoldable pub are_bad_other_class_flags : ℕ → Bool
-are_bad_other_class_flags flags = has flags ANNOTATION || (has flags FINAL && has flags ABSTRACT)
+-- where all of `set` stand and none of `clear`, none of `excluded` may stand, and all of `needed` have to
+abbrev pub row : (set clear excluded needed : ℕ) → FlagRow
+row set clear excluded needed = record { set = set; clear = clear; excluded = excluded; needed = needed }
+
+-- no class is a module; an interface is abstract, and not final, special in its calls or an enum; another class is no annotation,
+-- and not both final and abstract
+abbrev pub class_flags : List FlagRow
+class_flags =
+    row 0 0 MODULE 0
+    ∷ row INTERFACE 0 (FINAL + SUPER + ENUM) ABSTRACT
+    ∷ row 0 INTERFACE ANNOTATION 0
+    ∷ row FINAL INTERFACE ABSTRACT 0
+    ∷ []
+
+-- one of public, private and protected at most, in front of other rows
+abbrev pub one_access : List FlagRow → List FlagRow
+one_access others = row PUBLIC 0 (PRIVATE + PROTECTED) 0 ∷ row PRIVATE 0 PROTECTED 0 ∷ others
+
+abbrev pub field_flags : List FlagRow
+field_flags = one_access (row FINAL 0 VOLATILE 0 ∷ [])
+
+-- what is abstract has no body; an instance initialization method is none of these at all, and of a class initialization method only
+-- its being static counts
+abbrev pub method_flags : (init clinit : Bool) → List FlagRow
+method_flags init clinit =
+    if clinit then row 0 0 0 STATIC ∷ []
+    else if init then one_access (row 0 0 (STATIC + FINAL + SYNCHRONIZED + BRIDGE + NATIVE + ABSTRACT) 0 ∷ [])
+    else one_access (row ABSTRACT 0 (PRIVATE + STATIC + FINAL + SYNCHRONIZED + NATIVE) 0 ∷ [])
+
+-- ---- whether flags are bad
+
+-- all of the flags are set, and some of them
+abbrev pub has_all : ℕ → ℕ → Bool
+has_all flags those = nat_eq (bit_and flags those) those
+
+abbrev pub has_some : ℕ → ℕ → Bool
+has_some flags those = not (nat_eq (bit_and flags those) 0)
+
+-- the row applies, and something is set that it excludes or missing that it needs
+abbrev pub breaks : ℕ → FlagRow → Bool
+breaks flags r = (has_all flags r.set && not (has_some flags r.clear)) && (has_some flags r.excluded || not (has_all flags r.needed))
 
 unfoldable pub are_bad_class_flags : ℕ → Bool
-are_bad_class_flags flags =
-    has flags MODULE || (if has flags INTERFACE then are_bad_interface_flags flags else are_bad_other_class_flags flags)
-
--- more than one of public, private and protected
-unfoldable pub has_two_accesses : ℕ → Bool
-has_two_accesses flags =
-    (has flags PUBLIC && has flags PRIVATE) || (has flags PUBLIC && has flags PROTECTED) || (has flags PRIVATE && has flags PROTECTED)
+are_bad_class_flags flags = list_any (breaks flags) class_flags
 
 unfoldable pub are_bad_field_flags : ℕ → Bool
-are_bad_field_flags flags = has_two_accesses flags || (has flags FINAL && has flags VOLATILE)
+are_bad_field_flags flags = list_any (breaks flags) field_flags
 
--- a method that is abstract has no body
-unfoldable pub is_abstract_with_body : ℕ → Bool
-is_abstract_with_body flags =
-    has flags ABSTRACT && (has flags PRIVATE || has flags STATIC || has flags FINAL || has flags SYNCHRONIZED || has flags NATIVE)
-
--- what an instance initialization method may not be
-unfoldable pub is_no_initializer : ℕ → Bool
-is_no_initializer flags =
-    has flags STATIC || has flags FINAL || has flags SYNCHRONIZED || has flags BRIDGE || has flags NATIVE || has flags ABSTRACT
-
--- of a class initialization method only its being static counts
 unfoldable pub are_bad_method_flags : Bool → Bool → ℕ → Bool
-are_bad_method_flags init clinit flags =
-    if clinit then not (has flags STATIC)
-    else has_two_accesses flags || is_abstract_with_body flags || (init && is_no_initializer flags)
+are_bad_method_flags init clinit flags = list_any (breaks flags) (method_flags init clinit)

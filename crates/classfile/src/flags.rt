@@ -1,6 +1,7 @@
 //! Access flags, and which of them may stand together (JVMS 4.1, 4.5, 4.6).
 ghost use Rattle.std.specs.Prelude.{◌≡◌};
-ghost use Rattle.classfile.specs.Flags.{has, are_bad_class_flags, are_bad_interface_flags, are_bad_other_class_flags, has_two_accesses, are_bad_field_flags, is_abstract_with_body, is_no_initializer, are_bad_method_flags};
+ghost use Rattle.std.specs.List.{list_any};
+ghost use Rattle.classfile.specs.Flags.{has, breaks, class_flags, field_flags, method_flags, are_bad_class_flags, are_bad_field_flags, are_bad_method_flags};
 
 /// ACC_PUBLIC, of classes, fields and methods.
 pub const PUBLIC: u16 = 0x0001;
@@ -33,6 +34,57 @@ pub const ENUM: u16 = 0x4000;
 /// ACC_MODULE, of classes.
 pub const MODULE: u16 = 0x8000;
 
+/// Flags that may not stand as they do: where all of `set` stand and none of `clear`, none of `excluded` may stand, and all
+/// of `needed` have to.
+#[derive(Clone, Copy)]
+struct FlagRow {
+    set: u16,
+    clear: u16,
+    excluded: u16,
+    needed: u16,
+}
+
+/// The rows of a table that is written as `SET, CLEAR, EXCLUDED, NEEDED;`, one row a line.
+macro_rules! flag_rows {
+    ($($set:expr, $clear:expr, $excluded:expr, $needed:expr;)*) => {
+        [$(FlagRow { set: $set, clear: $clear, excluded: $excluded, needed: $needed }),*]
+    };
+}
+
+/// Of classes (JVMS 4.1).
+static CLASS_FLAGS: [FlagRow; 4] = flag_rows! {
+    0,         0,         MODULE,               0;
+    INTERFACE, 0,         FINAL | SUPER | ENUM, ABSTRACT;
+    0,         INTERFACE, ANNOTATION,           0;
+    FINAL,     INTERFACE, ABSTRACT,             0;
+};
+
+/// Of fields (JVMS 4.5).
+static FIELD_FLAGS: [FlagRow; 3] = flag_rows! {
+    PUBLIC,    0,         PRIVATE | PROTECTED,  0;
+    PRIVATE,   0,         PROTECTED,            0;
+    FINAL,     0,         VOLATILE,             0;
+};
+
+/// Of methods (JVMS 4.6), but for initialization methods.
+static METHOD_FLAGS: [FlagRow; 3] = flag_rows! {
+    PUBLIC,    0,         PRIVATE | PROTECTED,  0;
+    PRIVATE,   0,         PROTECTED,            0;
+    ABSTRACT,  0,         PRIVATE | STATIC | FINAL | SYNCHRONIZED | NATIVE, 0;
+};
+
+/// Of instance initialization methods.
+static INIT_FLAGS: [FlagRow; 3] = flag_rows! {
+    PUBLIC,    0,         PRIVATE | PROTECTED,  0;
+    PRIVATE,   0,         PROTECTED,            0;
+    0,         0,         STATIC | FINAL | SYNCHRONIZED | BRIDGE | NATIVE | ABSTRACT, 0;
+};
+
+/// Of class initialization methods, of whose flags only this one counts.
+static CLINIT_FLAGS: [FlagRow; 1] = flag_rows! {
+    0,         0,         0,                    STATIC;
+};
+
 /// Whether the flag is set.
 #[tactic(auto, unfolding(crate::specs::Flags::has))]
 pub fn has(flags: u16, flag: u16) -> bool
@@ -41,18 +93,42 @@ pub fn has(flags: u16, flag: u16) -> bool
     flags & flag != 0
 }
 
-#[tactic(auto, unfolding(crate::specs::Flags::are_bad_interface_flags))]
-fn are_bad_interface_flags(flags: u16) -> bool
-    ensures { result ≡ are_bad_interface_flags flags }
+fn breaks(flags: u16, row: &FlagRow) -> bool
+    ensures { result ≡ breaks flags row.now }
 {
-    !has(flags, ABSTRACT) || has(flags, FINAL) || has(flags, SUPER) || has(flags, ENUM)
+    let applies = (flags & row.set == row.set) & (flags & row.clear == 0);
+    applies & ((flags & row.excluded != 0) | (flags & row.needed != row.needed))
 }
 
-#[tactic(auto, unfolding(crate::specs::Flags::are_bad_other_class_flags))]
-fn are_bad_other_class_flags(flags: u16) -> bool
-    ensures { result ≡ are_bad_other_class_flags flags }
+fn break_one(flags: u16, rows: &[FlagRow]) -> bool
+    ensures { result ≡ list_any (breaks flags) rows.now }
 {
-    has(flags, ANNOTATION) || (has(flags, FINAL) && has(flags, ABSTRACT))
+    rows.iter().any(|row| breaks(flags, row))
+}
+
+fn class_flags() -> &'static [FlagRow]
+    ensures { result.now ≡ class_flags }
+{
+    &CLASS_FLAGS
+}
+
+fn field_flags() -> &'static [FlagRow]
+    ensures { result.now ≡ field_flags }
+{
+    &FIELD_FLAGS
+}
+
+/// The rows of a method; `init` and `clinit` say that it is an instance or a class initialization method.
+fn method_flags(init: bool, clinit: bool) -> &'static [FlagRow]
+    ensures { result.now ≡ method_flags init clinit }
+{
+    if clinit {
+        &CLINIT_FLAGS
+    } else if init {
+        &INIT_FLAGS
+    } else {
+        &METHOD_FLAGS
+    }
 }
 
 /// Whether flags of a class stand together that may not (JVMS 4.1).
@@ -60,23 +136,7 @@ fn are_bad_other_class_flags(flags: u16) -> bool
 pub(crate) fn are_bad_class_flags(flags: u16) -> bool
     ensures { result ≡ are_bad_class_flags flags }
 {
-    if has(flags, MODULE) {
-        true
-    } else if has(flags, INTERFACE) {
-        are_bad_interface_flags(flags)
-    } else {
-        are_bad_other_class_flags(flags)
-    }
-}
-
-#[tactic(auto, unfolding(crate::specs::Flags::has_two_accesses))]
-fn has_two_accesses(flags: u16) -> bool
-    ensures { result ≡ has_two_accesses flags }
-{
-    let public = has(flags, PUBLIC);
-    let private = has(flags, PRIVATE);
-    let protected = has(flags, PROTECTED);
-    (public && private) || (public && protected) || (private && protected)
+    break_one(flags, class_flags())
 }
 
 /// Whether flags of a field stand together that may not (JVMS 4.5).
@@ -84,31 +144,7 @@ fn has_two_accesses(flags: u16) -> bool
 pub(crate) fn are_bad_field_flags(flags: u16) -> bool
     ensures { result ≡ are_bad_field_flags flags }
 {
-    has_two_accesses(flags) || (has(flags, FINAL) && has(flags, VOLATILE))
-}
-
-#[tactic(auto, unfolding(crate::specs::Flags::is_abstract_with_body))]
-fn is_abstract_with_body(flags: u16) -> bool
-    ensures { result ≡ is_abstract_with_body flags }
-{
-    has(flags, ABSTRACT)
-        && (has(flags, PRIVATE)
-            || has(flags, STATIC)
-            || has(flags, FINAL)
-            || has(flags, SYNCHRONIZED)
-            || has(flags, NATIVE))
-}
-
-#[tactic(auto, unfolding(crate::specs::Flags::is_no_initializer))]
-fn is_no_initializer(flags: u16) -> bool
-    ensures { result ≡ is_no_initializer flags }
-{
-    has(flags, STATIC)
-        || has(flags, FINAL)
-        || has(flags, SYNCHRONIZED)
-        || has(flags, BRIDGE)
-        || has(flags, NATIVE)
-        || has(flags, ABSTRACT)
+    break_one(flags, field_flags())
 }
 
 /// Whether flags of a method stand together that may not (JVMS 4.6): `init` and `clinit` say that it is an instance
@@ -117,11 +153,5 @@ fn is_no_initializer(flags: u16) -> bool
 pub(crate) fn are_bad_method_flags(init: bool, clinit: bool, flags: u16) -> bool
     ensures { result ≡ are_bad_method_flags init clinit flags }
 {
-    if clinit {
-        !has(flags, STATIC)
-    } else {
-        has_two_accesses(flags)
-            || is_abstract_with_body(flags)
-            || (init && is_no_initializer(flags))
-    }
+    break_one(flags, method_flags(init, clinit))
 }

@@ -2,7 +2,7 @@
 ghost use Rattle.std.specs.Prelude.{◌≡◌};
 ghost use Rattle.classfile.specs.Naming.{begins_with, is_array_name, is_class_name, is_unqualified_name, is_method_name, is_init, is_clinit, is_field_descriptor};
 
-use names::{INIT, Text, field_type};
+use names::{INIT, NameForms, Text, field_type};
 
 /// Whether the text begins with the byte.
 pub fn begins_with(text: Text<'_>, byte: u8) -> bool
@@ -21,25 +21,13 @@ pub fn is_array_name(text: Text<'_>) -> bool
     begins_with(text, b'[')
 }
 
-/// Whether the text is the name of a class or interface.
-pub fn is_class_name(text: Text<'_>) -> bool
-    ensures { result ≡ is_class_name text.entry.bytes.now }
+/// The forms of names that the text has.
+pub fn name_forms(text: Text<'_>) -> NameForms
+    ensures class { result.class_name ≡ is_class_name text.entry.bytes.now }
+    ensures unqualified { result.unqualified_name ≡ is_unqualified_name text.entry.bytes.now }
+    ensures method { result.method_name ≡ is_method_name text.entry.bytes.now }
 {
-    names::is_class_name(text)
-}
-
-/// Whether the text is an unqualified name.
-pub fn is_unqualified_name(text: Text<'_>) -> bool
-    ensures { result ≡ is_unqualified_name text.entry.bytes.now }
-{
-    names::is_field_name(text)
-}
-
-/// Whether the text is the name of a method that is not special.
-pub fn is_method_name(text: Text<'_>) -> bool
-    ensures { result ≡ is_method_name text.entry.bytes.now }
-{
-    names::is_method_name(text)
+    names::name_forms(text)
 }
 
 /// Whether the text is the name of instance initialization methods (JVMS 2.9.1).

@@ -5,10 +5,8 @@ ghost use Rattle.classfile.specs.Naming.{fits_method};
 ghost use Rattle.pool.specs.Views.{view};
 ghost use Rattle.classfile.specs.TextForms.{form_of, entry_form, AreForms, AreMethodForms};
 
-use crate::naming::{
-    is_array_name, is_class_name, is_field_descriptor, is_init, is_method_name, is_unqualified_name,
-};
-use names::{NameFault, Text, method_type};
+use crate::naming::{is_array_name, is_field_descriptor, is_init, name_forms};
+use names::{Text, method_shape};
 use pool::{Constant, Pool};
 use std::alloc::{AllocError, Global};
 
@@ -43,50 +41,46 @@ struct MethodForms {
 }
 
 /// The descriptor is read once: with a receiver its parameters take one unit more.
-fn method_forms(alloc: Global, text: Text<'_>) -> Result<MethodForms, AllocError>
-    ensures { IfOk result (AreMethodForms text.entry.bytes.now) }
+fn method_forms(text: Text<'_>) -> MethodForms
+    ensures { AreMethodForms text.entry.bytes.now result }
 {
-    match method_type(alloc, text, false) {
-        Ok(method) => {
-            let void = method.result.is_none();
-            let fits = method.width(true) <= 255;
-            Ok(MethodForms {
+    match method_shape(text, false) {
+        Ok(shape) => {
+            let void = !shape.has_result;
+            let fits = shape.units < 255;
+            MethodForms {
                 method: true,
                 void,
                 receiver_method: fits,
-                receiver_void: fits && void,
-            })
+                receiver_void: fits & void,
+            }
         }
-        Err(NameFault::OutOfMemory) => Err(AllocError),
-        Err(_) => Ok(MethodForms {
+        Err(_) => MethodForms {
             method: false,
             void: false,
             receiver_method: false,
             receiver_void: false,
-        }),
+        },
     }
 }
 
-fn form_of(alloc: Global, text: Text<'_>) -> Result<TextForm, AllocError>
-    ensures { IfOk result (λ f. f ≡ form_of text.entry.bytes.now) }
+/// The text is read once as a name, and once more as a descriptor if it begins as one.
+fn form_of(text: Text<'_>) -> TextForm
+    ensures { result ≡ form_of text.entry.bytes.now }
 {
+    let names = name_forms(text);
     let field_descriptor = is_field_descriptor(text);
-    let MethodForms {
-        method,
-        void,
-        receiver_method,
-        receiver_void,
-    } = method_forms(alloc, text)?;
-    Ok(TextForm {
-        names_class: is_class_name(text) || (is_array_name(text) && field_descriptor),
-        unqualified_name: is_unqualified_name(text),
-        method_name: is_method_name(text),
+    let method = method_forms(text);
+    TextForm {
+        names_class: names.class_name | (is_array_name(text) & field_descriptor),
+        unqualified_name: names.unqualified_name,
+        method_name: names.method_name,
         field_descriptor,
-        method_descriptor: method,
-        void_descriptor: void,
-        receiver_descriptor: receiver_method,
-        void_receiver_descriptor: receiver_void,
-    })
+        method_descriptor: method.method,
+        void_descriptor: method.void,
+        receiver_descriptor: method.receiver_method,
+        void_receiver_descriptor: method.receiver_void,
+    }
 }
 
 /// The forms of all texts of a pool.
@@ -95,12 +89,12 @@ pub struct TextForms {
     forms: Vec<Option<TextForm>>,
 }
 
-fn entry_form(alloc: Global, constant: &Constant<'_>) -> Result<Option<TextForm>, AllocError>
-    ensures { IfOk result (λ f. f ≡ entry_form (view constant.now)) }
+fn entry_form(constant: &Constant<'_>) -> Option<TextForm>
+    ensures { result ≡ entry_form (view constant.now) }
 {
     match constant {
-        Constant::Utf8(text) => Ok(Some(form_of(alloc, *text)?)),
-        _ => Ok(None),
+        Constant::Utf8(text) => Some(form_of(*text)),
+        _ => None,
     }
 }
 
@@ -112,7 +106,7 @@ impl TextForms {
         let constants = pool.constants();
         let mut forms = Vec::with_capacity(alloc, constants.len())?;
         for constant in constants {
-            forms.push(entry_form(alloc, constant)?)?;
+            forms.push(entry_form(constant))?;
         }
         Ok(TextForms { forms })
     }

@@ -11,3 +11,5 @@ pub mod Steps
 pub mod Judged
 pub mod Kept
 pub mod Returned
+pub mod NameScan
+pub mod ShapeLaws

@@ -2,11 +2,13 @@ pub mod Answers
 pub mod DescriptorCodes
 pub mod Descriptors
 pub mod Faults
+pub mod Forms
 pub mod Names
 pub mod ReadTypes
 pub mod Reading
 pub mod ReferenceTypes
 pub mod References
+pub mod Shapes
 pub mod StandardNames
 pub mod Texts
 pub mod Types

@@ -8,8 +8,10 @@
 //!
 //! - `text`: texts, and the units that they spell.
 //! - `name`: whether a text is a class name, a field's name or a method's name.
+//! - `forms`: the three of them in one pass.
 //! - `base`, `descriptor`: the types that descriptors name, their widths, and their texts.
 //! - `reading`: the types of a descriptor's text.
+//! - `shape`: how wide a method's descriptor is and whether it has a result, without the types.
 //! - `references`: the types of references, and those that Class constants name.
 //! - `standard`: names that the standard speaks of.
 //! - `fault`: the refusals.
@@ -18,21 +20,25 @@
 mod base;
 mod descriptor;
 mod fault;
+mod forms;
 mod name;
 mod reading;
 mod references;
+mod shape;
 mod standard;
 mod text;
 
 pub use base::{Base, Primitive};
 pub use descriptor::{FieldType, MethodType};
 pub use fault::NameFault;
+pub use forms::{NameForms, name_forms};
 pub use name::{is_class_name, is_field_name, is_method_name, names_by_units};
 pub use reading::{
     field_answers, field_type, method_answers, method_type, one_field_type, one_method_type,
     result_type,
 };
 pub use references::{RefType, reference_type};
+pub use shape::{MethodShape, method_shape};
 pub use standard::{
     CLASS, CLONEABLE, INIT, METHOD_HANDLE, METHOD_TYPE, OBJECT, SERIALIZABLE, STRING, THROWABLE,
 };

@@ -14,7 +14,7 @@ fn is_name_byte(b: u8) -> bool
     !matches!(b, b'.' | b';' | b'[' | b'/')
 }
 
-fn is_angle(b: u8) -> bool
+pub(crate) fn is_angle(b: u8) -> bool
     ensures { result ≡ is_angle b }
 {
     matches!(b, b'<' | b'>')
@@ -53,7 +53,7 @@ pub fn is_class_name(text: Text<'_>) -> bool
 }
 
 /// Whether a class name goes on with the byte; `fresh` where an unqualified name has to begin.
-fn goes_on(fresh: bool, b: u8) -> bool
+pub(crate) fn goes_on(fresh: bool, b: u8) -> bool
     ensures { result ≡ goes_on fresh b }
 {
     is_name_byte(b) || (!fresh && b == b'/')

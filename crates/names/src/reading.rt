@@ -23,12 +23,12 @@ use std::alloc::{AllocError, Global};
 
 /// No value at the front of the bytes: `rest` begins with the first byte that fits none.
 #[derive(Clone, Copy)]
-struct Outside<'a> {
-    rest: &'a [u8],
+pub(crate) struct Outside<'a> {
+    pub(crate) rest: &'a [u8],
 }
 
 /// Whether the bytes begin with this one.
-fn is_first(bytes: &[u8], b: u8) -> bool
+pub(crate) fn is_first(bytes: &[u8], b: u8) -> bool
     ensures yes { result ≡ true → bytes.now ≡ b ∷ drop 1 bytes.now }
     ensures no { result ≡ false → (rest : List ℕ) → bytes.now ≡ b ∷ rest → ⊥ }
 {
@@ -91,9 +91,9 @@ fn read_base(bytes: &[u8]) -> Result<(Base<'_>, &[u8]), Outside<'_>>
 
 /// A field type with any number of dimensions.
 #[derive(Clone, Copy)]
-struct FieldRead<'a> {
-    dims: usize,
-    base: Base<'a>,
+pub(crate) struct FieldRead<'a> {
+    pub(crate) dims: usize,
+    pub(crate) base: Base<'a>,
 }
 
 impl<'a> FieldRead<'a> {
@@ -121,7 +121,7 @@ fn brackets(bytes: &[u8]) -> usize
 }
 
 /// A field type, and the bytes behind it.
-fn read_field(bytes: &[u8]) -> Result<(FieldRead<'_>, &[u8]), Outside<'_>>
+pub(crate) fn read_field(bytes: &[u8]) -> Result<(FieldRead<'_>, &[u8]), Outside<'_>>
     ensures { MatchResult result (λ x. read_field bytes.now ≡ found (type_read x.0) x.1.now) (λ e. read_field bytes.now ≡ outside e.rest.now) }
 {
     let dims = brackets(bytes);
@@ -133,7 +133,7 @@ fn read_field(bytes: &[u8]) -> Result<(FieldRead<'_>, &[u8]), Outside<'_>>
 }
 
 /// The bytes are no descriptor with the first of `rest`, which is what is left of them.
-fn bad_descriptor(bytes: &[u8], rest: &[u8]) -> NameFault
+pub(crate) fn bad_descriptor(bytes: &[u8], rest: &[u8]) -> NameFault
     requires { length rest.now ≤ length bytes.now }
     ensures { result ≡ BadDescriptor (length bytes.now - length rest.now) }
 {
@@ -238,7 +238,7 @@ fn read_params<'a>(
 }
 
 /// A field type or a `V`, and what stands behind it.
-fn read_result(bytes: &[u8]) -> Result<(Option<FieldRead<'_>>, &[u8]), Outside<'_>>
+pub(crate) fn read_result(bytes: &[u8]) -> Result<(Option<FieldRead<'_>>, &[u8]), Outside<'_>>
     ensures { MatchResult result (λ x. read_result bytes.now ≡ found (option_map type_read x.0) x.1.now) (λ e. read_result bytes.now ≡ outside e.rest.now) }
 {
     if is_first(bytes, b'V') {

@@ -14,7 +14,7 @@ loop-constant-preserved c =
     let xs = c.constants-constants.result.now in
     let at = c.loop-constant.constant-index in
     let x = c.constant-item.result in
-    let pushed : c.push.new.self.items ≡ c.loop-constant.forms.items ++ f x ∷ [] = c.in_ok-push.ensures.items ∙ ap (λ (y : Option TextForm). c.loop-constant.forms.items ++ y ∷ []) c.in_ok-entry_form.ensures in
+    let pushed : c.push.new.self.items ≡ c.loop-constant.forms.items ++ f x ∷ [] = c.in_ok-push.ensures.items ∙ ap (λ (y : Option TextForm). c.loop-constant.forms.items ++ y ∷ []) c.entry_form.ensures in
     ap (λ (l : List (Option TextForm)). l ++ map f (drop (at + 1) xs)) pushed
     ∙ one_more c.loop-constant.forms.items (f x) (map f (drop at xs)) (map f (drop (at + 1) xs)) (map f xs) (item_left f xs at x c.loop-constant-test.true c.constant-item.is) c.loop-constant.invariant
 

@@ -1,0 +1,55 @@
+//! Of which forms of names a text is, found in one pass over its bytes (JVMS 4.2).
+
+ghost use Rattle.std.specs.Prelude.{◌≡◌, ◌↔◌, IsTrue};
+ghost use Rattle.names.specs.Names.{IsUnqualifiedName, IsMethodName, IsClassName};
+ghost use Rattle.names.specs.Forms.{AreNameForms};
+
+use crate::name::{goes_on, is_angle};
+use crate::text::Text;
+
+/// The forms of names that a text has (JVMS 4.2).
+#[derive(Clone, Copy, Debug, PartialEq, Eq)]
+pub struct NameForms {
+    /// The name of a class or interface in its internal form (JVMS 4.2.1).
+    pub class_name: bool,
+    /// An unqualified name (JVMS 4.2.2).
+    pub unqualified_name: bool,
+    /// An unqualified name without `<` and `>` (JVMS 4.2.2).
+    pub method_name: bool,
+}
+
+/// The forms of names that the text has. Takes no memory.
+pub fn name_forms(text: Text<'_>) -> NameForms
+    ensures class { IsTrue result.class_name ↔ IsClassName text.entry.bytes.now }
+    ensures unqualified { IsTrue result.unqualified_name ↔ IsUnqualifiedName text.entry.bytes.now }
+    ensures method { IsTrue result.method_name ↔ IsMethodName text.entry.bytes.now }
+{
+    forms_of(text.bytes())
+}
+
+fn forms_of(bytes: &[u8]) -> NameForms
+    ensures { AreNameForms bytes.now result }
+{
+    let mut fresh = true;
+    let mut slash = false;
+    let mut angle = false;
+    for b in bytes {
+        if !goes_on(fresh, *b) {
+            return NameForms {
+                class_name: false,
+                unqualified_name: false,
+                method_name: false,
+            };
+        }
+        fresh = *b == b'/';
+        slash |= fresh;
+        angle |= is_angle(*b);
+    }
+    let class_name = !fresh;
+    let unqualified_name = class_name & !slash;
+    NameForms {
+        class_name,
+        unqualified_name,
+        method_name: unqualified_name & !angle,
+    }
+}
