@@ -13,3 +13,4 @@ pub mod Kept
 pub mod Returned
 pub mod NameScan
 pub mod ShapeLaws
+pub mod ParameterLaws

@@ -4,6 +4,7 @@ pub mod Descriptors
 pub mod Faults
 pub mod Forms
 pub mod Names
+pub mod Parameters
 pub mod ReadTypes
 pub mod Reading
 pub mod ReferenceTypes

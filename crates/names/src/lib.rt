@@ -11,6 +11,7 @@
 //! - `forms`: the three of them in one pass.
 //! - `base`, `descriptor`: the types that descriptors name, their widths, and their texts.
 //! - `reading`: the types of a descriptor's text.
+//! - `parameters`: the parameters of a method's descriptor, one by one.
 //! - `shape`: how wide a method's descriptor is and whether it has a result, without the types.
 //! - `references`: the types of references, and those that Class constants name.
 //! - `standard`: names that the standard speaks of.
@@ -22,6 +23,7 @@ mod descriptor;
 mod fault;
 mod forms;
 mod name;
+mod parameters;
 mod reading;
 mod references;
 mod shape;
@@ -33,6 +35,7 @@ pub use descriptor::{FieldType, MethodType};
 pub use fault::NameFault;
 pub use forms::{NameForms, name_forms};
 pub use name::{is_class_name, is_field_name, is_method_name, names_by_units};
+pub use parameters::{Parameters, parameter_types};
 pub use reading::{
     field_answers, field_type, method_answers, method_type, one_field_type, one_method_type,
     result_type,

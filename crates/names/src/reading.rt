@@ -98,7 +98,7 @@ pub(crate) struct FieldRead<'a> {
 
 impl<'a> FieldRead<'a> {
     /// The type, if its dimensions are at most 255.
-    fn limited(self) -> Result<FieldType<'a>, NameFault>
+    pub(crate) fn limited(self) -> Result<FieldType<'a>, NameFault>
         ensures within { IfOk result (λ f. (type_of f ≡ type_read self.entry) × (self.entry.dims ≤ 255)) }
         ensures deep { IfErr result (λ e. (e ≡ TooManyDimensions) × (255 < self.entry.dims)) }
     {

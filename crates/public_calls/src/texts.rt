@@ -1,7 +1,8 @@
 use names::{
-    Base, FieldType, MethodType, NameFault, Text, check_text, field_answers, field_type,
-    is_class_name, is_field_name, is_method_name, method_answers, method_type, names_by_units,
-    one_field_type, one_method_type, one_unit_list, result_type, spell, text_answers, units,
+    Base, FieldType, MethodShape, MethodType, NameFault, NameForms, Text, check_text,
+    field_answers, field_type, is_class_name, is_field_name, is_method_name, method_answers,
+    method_shape, method_type, name_forms, names_by_units, one_field_type, one_method_type,
+    one_unit_list, parameter_types, result_type, spell, text_answers, units,
 };
 use std::alloc::Global;
 use std::test::*;
@@ -130,6 +131,62 @@ fn descriptors_both_ways(rt: HostRuntime) {
     let base = Base::Class(b"d)e");
     assert!(rt; result(b"(I[La(b)c;J)[[Ld)e;") == Some(FieldType { dims: 2, base }));
     assert!(rt; result(b"()II").is_none());
+}
+
+/// How many parameters the bytes name, and how many dimensions they have in all.
+fn counted(descriptor: &[u8]) -> Option<(usize, usize)> {
+    let text = check_text(descriptor).ok()?;
+    let mut count: usize = 0;
+    let mut dimensions: usize = 0;
+    for parameter in parameter_types(text) {
+        count = count.saturating_add(1);
+        dimensions = dimensions.saturating_add(usize::from(parameter.dims));
+    }
+    Some((count, dimensions))
+}
+
+#[test]
+fn parameters_one_by_one(rt: HostRuntime) {
+    let first = check_text(b"([[La;J)V").ok().and_then(|text| parameter_types(text).next());
+    let base = Base::Class(b"a");
+    assert!(rt; first == Some(FieldType { dims: 2, base }));
+    assert!(rt; counted(b"(I[La(b)c;J[[D)[[Ld)e;") == Some((4, 3)));
+    assert!(rt; counted(b"()V") == Some((0, 0)));
+    assert!(rt; counted(b"I") == Some((0, 0)));
+}
+
+/// Whether the shape of a method that has a receiver is this, where one is asked.
+fn has_shape(descriptor: &[u8], want: Result<MethodShape, NameFault>) -> bool {
+    match check_text(descriptor) {
+        Ok(text) => method_shape(text, true) == want,
+        Err(_) => false,
+    }
+}
+
+#[test]
+fn shapes(rt: HostRuntime) {
+    let shape = |units, has_result| MethodShape { units, has_result };
+    assert!(rt; has_shape(b"(JI[D)V", Ok(shape(5, false))));
+    assert!(rt; has_shape(b"()[[I", Ok(shape(1, true))));
+    assert!(rt; has_shape(b"(I", Err(NameFault::BadDescriptor { at: 2 })));
+}
+
+#[test]
+fn names_in_one_pass(rt: HostRuntime) {
+    for (name, class_name, unqualified_name, method_name) in [
+        ("a/b", true, false, false),
+        ("a", true, true, true),
+        ("<a", true, true, false),
+        ("a//b", false, false, false),
+        ("", false, false, false),
+    ] {
+        let want = NameForms {
+            class_name,
+            unqualified_name,
+            method_name,
+        };
+        assert!(rt; check_text(name.as_bytes()).map(name_forms) == Ok(want));
+    }
 }
 
 /// Why the bytes are no descriptor of a field, if they are none.

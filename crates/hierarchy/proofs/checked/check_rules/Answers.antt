@@ -1,5 +1,6 @@
+use Rattle.std.proofs.lemmas.Bool.{false≢true}
 use Rattle.std.proofs.lemmas.List.{length-map}
-use Rattle.std.proofs.Common.{◌≡◌, Option, Some, None, MatchOption, refl, sym, subst, arith}
+use Rattle.std.proofs.Common.{◌≡◌, ◌∙◌, Option, Some, None, MatchOption, refl, sym, subst, arith}
 use Rattle.hierarchy.specs.Summary.{fact_of, facts_of}
 use Rattle.hierarchy.specs.Rules.{IsOnCycle, LacksSuper, HasObject, NoClass, IsFirst}
 use Rattle.hierarchy.specs.Faults.{once, no_cycle, superclasses, object, array_interfaces, few_classes}
@@ -29,7 +30,7 @@ returns-then-not-has_object-clause-err g c =
     let acyclic = none_there c.in_ok-on_cycle.on_cycle (NoClass (IsOnCycle facts) facts) (λ n. IsFirst (IsOnCycle facts) facts n.now) c.in_default.not-Some c.in_ok-on_cycle.ensures in
     let rooted = subst (λ v. NoClass (LacksSuper v) facts) c.requires.same c.in_default-first_breaking.ensures in
     let b = one_more facts superclasses (one_more facts no_cycle (one_more facts once (none_before facts) c.requires.one_each) acyclic) rooted in
-    (λ h. c.if-not-has_object.true (c.has_object.ensures.1 (subst HasObject (sym c.requires.same) h)), b)
+    (λ h. false≢true (sym c.if-not-has_object.true ∙ c.has_object.ensures.1 (subst HasObject (sym c.requires.same) h)), b)
 
 pub returns-in-Some-first_breaking-2-clause-err : goal.returns-in-Some-first_breaking-2-clause-err
 returns-in-Some-first_breaking-2-clause-err g c =
