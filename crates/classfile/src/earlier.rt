@@ -1,7 +1,7 @@
 //! Whether a member has the name and the descriptor of an earlier one (JVMS 4.5, 4.6).
 ghost use Rattle.std.specs.Prelude.{◌≡◌, ◌∷◌, ◌++◌, [], map, IfOk};
 ghost use Rattle.classfile.specs.Earlier.{WereMet, Meets};
-ghost use Rattle.classfile.specs.MemberForm.{on_member, are_same, is_repeated};
+ghost use Rattle.classfile.specs.MemberForm.{on_member, are_same, is_among, is_repeated};
 ghost use Rattle.classfile.specs.Views.{member_view};
 ghost use Rattle.pool.specs.Views.{name_and_type_view};
 
@@ -51,21 +51,31 @@ impl<'a> Earlier<'a> {
 }
 
 /// Whether the member has this name and this descriptor.
+#[tactic(auto, unfolding(pool::specs::Lookups::named))]
 fn is_same(pool: &Pool<'_>, texts: NameAndType<'_>, member: &Member<'_>) -> bool
     ensures { result ≡ on_member pool.now (member_view member.now) (are_same (name_and_type_view texts.entry)) }
 {
     let Ok(name) = pool.text(member.name) else {
         return false;
     };
-    if name.bytes() != texts.name.bytes() {
+    if texts.name.bytes() != name.bytes() {
         return false;
     }
     match pool.text(member.descriptor) {
-        Ok(descriptor) => descriptor.bytes() == texts.descriptor.bytes(),
+        Ok(descriptor) => texts.descriptor.bytes() == descriptor.bytes(),
         Err(_) => false,
     }
 }
 
+/// Whether one of the members has this name and this descriptor.
+#[tactic(auto, unfolding(crate::specs::MemberForm::is_among))]
+fn is_among(pool: &Pool<'_>, members: &[Member<'_>], texts: NameAndType<'_>) -> bool
+    ensures { result ≡ is_among pool.now (map member_view members.now) (name_and_type_view texts.entry) }
+{
+    members.iter().any(|member| is_same(pool, texts, member))
+}
+
+#[tactic(auto, unfolding(crate::specs::MemberForm::is_repeated, pool::specs::Lookups::named))]
 fn is_repeated(pool: &Pool<'_>, earlier: &[Member<'_>], member: &Member<'_>) -> bool
     ensures { result ≡ is_repeated pool.now (map member_view earlier.now) (member_view member.now) }
 {
@@ -75,6 +85,5 @@ fn is_repeated(pool: &Pool<'_>, earlier: &[Member<'_>], member: &Member<'_>) -> 
     let Ok(descriptor) = pool.text(member.descriptor) else {
         return false;
     };
-    let texts = NameAndType { name, descriptor };
-    earlier.iter().any(|other| is_same(pool, texts, other))
+    is_among(pool, earlier, NameAndType { name, descriptor })
 }
