@@ -5,6 +5,7 @@ pub mod ClassForm
 pub mod CodeMethods
 pub mod Conditions
 pub mod ConstantForm
+pub mod Earlier
 pub mod Encoding
 pub mod Flags
 pub mod FormLaws

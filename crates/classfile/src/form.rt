@@ -9,10 +9,10 @@ ghost use Rattle.classfile.specs.declared.form_fault.Place.TheVariants as places
 use crate::class_file::ClassFile;
 use crate::class_form::class_rule;
 use crate::constant_form::constant_rule;
+use crate::earlier::Earlier;
 use crate::flags::{INTERFACE, has};
 use crate::form_fault::{FormFault, Place};
 use crate::member_form::{field_rule, method_rule};
-use crate::signatures::Signatures;
 use crate::text_forms::TextForms;
 use std::alloc::Global;
 
@@ -66,9 +66,9 @@ fn fields_form(alloc: Global, class: &ClassFile<'_>, forms: &TextForms) -> Resul
     ensures { Passes (class_view class.now) (λ n. places.Field n) result }
 {
     let pool = &class.constant_pool;
-    let mut seen = Signatures::new(alloc, pool)?;
+    let mut seen = Earlier::new(alloc, pool, class.fields.len())?;
     for (n, field) in class.fields.iter().enumerate() {
-        let repeated = seen.meet_member(pool, field)?;
+        let repeated = seen.meet(pool, &class.fields[..n], field)?;
         if let Some(rule) = field_rule(pool, forms, repeated, field) {
             return Err(FormFault::Broken {
                 rule,
@@ -85,9 +85,9 @@ fn methods_form(alloc: Global, class: &ClassFile<'_>, forms: &TextForms) -> Resu
 {
     let pool = &class.constant_pool;
     let interface = has(class.access_flags, INTERFACE);
-    let mut seen = Signatures::new(alloc, pool)?;
+    let mut seen = Earlier::new(alloc, pool, class.methods.len())?;
     for (n, method) in class.methods.iter().enumerate() {
-        let repeated = seen.meet_member(pool, method)?;
+        let repeated = seen.meet(pool, &class.methods[..n], method)?;
         if let Some(rule) = method_rule(pool, forms, interface, repeated, method) {
             return Err(FormFault::Broken {
                 rule,

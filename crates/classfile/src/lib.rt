@@ -29,6 +29,7 @@
 //! | `record_form` | which rule is broken by the attributes of a class |
 //! | `text_forms` | of which forms each text of the pool is, judged once |
 //! | `indices`, `naming`, `flags` | what an index leads to, forms of names and descriptors, access flags |
+//! | `earlier` | whether a member has the name and the descriptor of an earlier one |
 //! | `signatures` | the names and descriptors that were met |
 //! | `text_numbers` | a number for each text of the pool, the same exactly for equal texts |
 //! | `own_fields` | whether the class declares a field |
@@ -45,6 +46,7 @@ mod code_method;
 mod component;
 mod constant_form;
 mod decoding;
+mod earlier;
 mod encoding;
 pub mod flags;
 mod form;
