@@ -1,8 +1,7 @@
 //! Instructions that read and write fields.
-ghost use Rattle.std.specs.Prelude.{◌≡◌, ℕ, [], ◌∷◌, map};
+ghost use Rattle.std.specs.Prelude.{◌≡◌, ℕ, [], ◌∷◌, map, option_map};
 ghost use Rattle.classfile.specs.Methods.{declared_fields, is_declared, is_own_field};
 ghost use Rattle.classfile.specs.Views.{member_view};
-ghost use Rattle.pool.specs.Members.{field_at};
 ghost use Rattle.pool.specs.MemberViews.{field_constant_view};
 ghost use Rattle.rules.specs.Constants.{get_static, put_static, get_field, put_field, target_of};
 ghost use Rattle.rules.specs.After.{after};
@@ -23,52 +22,52 @@ use hierarchy::Classes;
 use names::RefType;
 use pool::{FieldConstant, Pool};
 
-/// `getstatic`
+/// `getstatic` of the field that it names
 pub fn get_static<'a, C: Classes>(
     method: &CodeMethod<'_, 'a>,
-    index: u16,
+    named: Option<FieldConstant<'a>>,
     frame: &mut Working<'a>,
     classes: &C,
 ) -> Result<(), Reason<'a>>
     ensures { (at : ℕ) → let m = method_view method.now in let f = held frame.old in
-        let p = get_static (field_at m.constant_pool index) in
+        let p = get_static (option_map field_constant_view named.entry) in
         Done (conditions (C.content classes.now) m at p f) (after m at p f) (held frame.new) result }
 {
-    match method.class.constant_pool.field_constant(index) {
+    match named {
         None => Err(Reason::WrongConstant),
         Some(field) => gives(method, Some(held_by(&field.field_type)), frame, classes),
     }
 }
 
-/// `putstatic`
+/// `putstatic` of the field that it names
 pub fn put_static<'a, C: Classes>(
     method: &CodeMethod<'_, 'a>,
-    index: u16,
+    named: Option<FieldConstant<'a>>,
     frame: &mut Working<'a>,
     classes: &C,
 ) -> Result<(), Reason<'a>>
     ensures { (at : ℕ) → let m = method_view method.now in let f = held frame.old in
-        let p = put_static (field_at m.constant_pool index) in
+        let p = put_static (option_map field_constant_view named.entry) in
         Done (conditions (C.content classes.now) m at p f) (after m at p f) (held frame.new) result }
 {
-    match method.class.constant_pool.field_constant(index) {
+    match named {
         None => Err(Reason::WrongConstant),
         Some(field) => pops(method, &[want_of(&field.field_type)], None, frame, classes),
     }
 }
 
-/// `getfield`
+/// `getfield` of the field that it names
 pub fn get_field<'a, C: Classes>(
     method: &CodeMethod<'_, 'a>,
-    index: u16,
+    named: Option<FieldConstant<'a>>,
     frame: &mut Working<'a>,
     classes: &C,
 ) -> Result<(), Reason<'a>>
     ensures { (at : ℕ) → let m = method_view method.now in let f = held frame.old in
-        let p = get_field (field_at m.constant_pool index) in
+        let p = get_field (option_map field_constant_view named.entry) in
         Done (conditions (C.content classes.now) m at p f) (after m at p f) (held frame.new) result }
 {
-    match method.class.constant_pool.field_constant(index) {
+    match named {
         None => Err(Reason::WrongConstant),
         Some(field) => pops(
             method,
@@ -128,18 +127,18 @@ fn target_of<'a>(method: &CodeMethod<'_, 'a>, field: &FieldConstant<'a>) -> Want
     }
 }
 
-/// `putfield`
+/// `putfield` of the field that it names
 pub fn put_field<'a, C: Classes>(
     method: &CodeMethod<'_, 'a>,
-    index: u16,
+    named: Option<FieldConstant<'a>>,
     frame: &mut Working<'a>,
     classes: &C,
 ) -> Result<(), Reason<'a>>
     ensures { (at : ℕ) → let m = method_view method.now in let f = held frame.old in
-        let p = put_field m (field_at m.constant_pool index) in
+        let p = put_field m (option_map field_constant_view named.entry) in
         Done (conditions (C.content classes.now) m at p f) (after m at p f) (held frame.new) result }
 {
-    match method.class.constant_pool.field_constant(index) {
+    match named {
         None => Err(Reason::WrongConstant),
         Some(field) => {
             let target = target_of(method, &field);
