@@ -7,3 +7,5 @@ pub mod Lookups
 pub mod Members
 pub mod Missing
 pub mod MemberViews
+pub mod TextPlaces
+pub mod KeptTexts

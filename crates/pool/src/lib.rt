@@ -6,11 +6,12 @@
 //!
 //! - `constant`: what stands at an index
 //! - `constant_pool`: the pool as one value, and as a part
+//! - `descriptors`: what a class, a field or a method is to the instructions that name it
 //! - `fault`: why a look-up fails
 //! - `kind`: the kinds of a method handle's reference
 //! - `laws`: what the look-ups find, by what stands where, without code
 //! - `lookups`: what stands at an index, and to which texts it leads
-//! - `members`: what a class, a field or a method is to an instruction that names it
+//! - `members`: the type that a class constant names
 //! - `reading`: bytes to constants
 //! - `reference`: what a NameAndType, a Fieldref and a method's reference lead to
 //! - `writing`: constants to bytes
@@ -18,6 +19,7 @@
 
 mod constant;
 mod constant_pool;
+mod descriptors;
 mod fault;
 mod kind;
 mod laws;
@@ -29,6 +31,7 @@ mod writing;
 
 pub use constant::Constant;
 pub use constant_pool::Pool;
+pub use descriptors::Descriptors;
 pub use fault::PoolFault;
 pub use kind::ReferenceKind;
 pub use laws::{found_where_it_stands, refused_where_nothing_fits};

@@ -13,3 +13,4 @@ pub mod Bodies
 pub mod Views
 pub mod Outcomes
 pub mod Applied
+pub mod Naming

@@ -11,6 +11,7 @@ ghost use Rattle.rules.specs.Bodies.{method_view};
 ghost use Rattle.rules.specs.Applied.{Applied};
 
 use crate::environment::Env;
+use crate::naming::named_by;
 use crate::own_object::constructs_own;
 use crate::reason::Reason;
 use crate::running::run;
@@ -19,6 +20,7 @@ use crate::working::Working;
 use frames::Frame;
 use hierarchy::Classes;
 use insn::{BranchTargets, Insn, act};
+use pool::Descriptors;
 use std::alloc::Global;
 
 /// What an instruction leaves that is not refused.
@@ -71,10 +73,21 @@ pub fn apply<'a, C: Classes>(
         return out_of_memory();
     };
     let act = act(insn);
-    let Ok(own) = constructs_own(alloc, &env.method, &act, &working) else {
+    let mut constants = Descriptors::new(alloc, &env.method.class.constant_pool);
+    let Ok(named) = named_by(&mut constants, &act) else {
         return out_of_memory();
     };
-    match run(alloc, &env.method, env, at, act, &mut working, env.classes) {
+    let own = constructs_own(&env.method, &act, &named, &working);
+    match run(
+        alloc,
+        &env.method,
+        env,
+        at,
+        act,
+        &named,
+        &mut working,
+        env.classes,
+    ) {
         Err(reason) => Err(Refusal { reason, own }),
         Ok(()) => match working.into_frame() {
             Err(_) => out_of_memory(),

@@ -1,7 +1,6 @@
 //! Instructions that make arrays and read their elements, and casts.
-ghost use Rattle.std.specs.Prelude.{◌≡◌, ℕ, map, IfOk};
+ghost use Rattle.std.specs.Prelude.{◌≡◌, ℕ, map, option_map, IfOk};
 ghost use Rattle.names.specs.References.{reference_view};
-ghost use Rattle.pool.specs.Members.{class_at};
 ghost use Rattle.insn.specs.Meanings.{LoadElement, StoreElement, StoreReferenceElement};
 ghost use Rattle.frames.specs.VerificationType.{type_of};
 ghost use Rattle.rules.specs.Plans.{loads_element, sizes};
@@ -163,18 +162,18 @@ pub fn new_array<'a, C: Classes>(
     }
 }
 
-/// `anewarray`
+/// `anewarray` of the component that it names
 pub fn new_reference_array<'a, C: Classes>(
     method: &CodeMethod<'_, 'a>,
-    index: u16,
+    named: Option<RefType<'a>>,
     frame: &mut Working<'a>,
     classes: &C,
 ) -> Result<(), Reason<'a>>
     ensures { (at : ℕ) → let m = method_view method.now in let f = held frame.old in
-        let p = new_reference_array (class_at m.constant_pool index) in
+        let p = new_reference_array (option_map reference_view named.entry) in
         Done (conditions (C.content classes.now) m at p f) (after m at p f) (held frame.new) result }
 {
-    let Some(component) = method.class.constant_pool.class_type(index) else {
+    let Some(component) = named else {
         return Err(Reason::WrongConstant);
     };
     if component.dimensions() < 255 {
@@ -199,20 +198,20 @@ fn sizes<'a>(alloc: Global, count: u8) -> Result<Vec<Want<'a>>, AllocError>
     Ok(wants)
 }
 
-/// `multianewarray`
+/// `multianewarray` of the array that it names
 pub fn new_multi_array<'a, C: Classes>(
     alloc: Global,
     method: &CodeMethod<'_, 'a>,
-    index: u16,
+    named: Option<RefType<'a>>,
     dimensions: u8,
     frame: &mut Working<'a>,
     classes: &C,
 ) -> Result<(), Reason<'a>>
     ensures { (at : ℕ) → let m = method_view method.now in let f = held frame.old in
-        let p = new_multi_array dimensions (class_at m.constant_pool index) in
+        let p = new_multi_array dimensions (option_map reference_view named.entry) in
         Done (conditions (C.content classes.now) m at p f) (after m at p f) (held frame.new) result }
 {
-    let Some(made) = method.class.constant_pool.class_type(index) else {
+    let Some(made) = named else {
         return Err(Reason::WrongConstant);
     };
     if dimensions > 0 && made.dimensions() >= dimensions {
@@ -223,37 +222,37 @@ pub fn new_multi_array<'a, C: Classes>(
     }
 }
 
-/// `checkcast`
+/// `checkcast` to the type that it names
 pub fn check_cast<'a, C: Classes>(
     method: &CodeMethod<'_, 'a>,
-    index: u16,
+    named: Option<RefType<'a>>,
     frame: &mut Working<'a>,
     classes: &C,
 ) -> Result<(), Reason<'a>>
     ensures { (at : ℕ) → let m = method_view method.now in let f = held frame.old in
-        let p = check_cast (class_at m.constant_pool index) in
+        let p = check_cast (option_map reference_view named.entry) in
         Done (conditions (C.content classes.now) m at p f) (after m at p f) (held frame.new) result }
 {
     let object = Want::Assignable(RefType::Class(OBJECT));
-    match method.class.constant_pool.class_type(index) {
+    match named {
         None => Err(Reason::WrongConstant),
         Some(to) => pops(method, &[object], Some(reference_to(to)), frame, classes),
     }
 }
 
-/// `instanceof`
+/// `instanceof` of the type that it names
 pub fn instance_of<'a, C: Classes>(
     method: &CodeMethod<'_, 'a>,
-    index: u16,
+    named: Option<RefType<'a>>,
     frame: &mut Working<'a>,
     classes: &C,
 ) -> Result<(), Reason<'a>>
     ensures { (at : ℕ) → let m = method_view method.now in let f = held frame.old in
-        let p = instance_of (class_at m.constant_pool index) in
+        let p = instance_of (option_map reference_view named.entry) in
         Done (conditions (C.content classes.now) m at p f) (after m at p f) (held frame.new) result }
 {
     let object = Want::Assignable(RefType::Class(OBJECT));
-    match method.class.constant_pool.class_type(index) {
+    match named {
         None => Err(Reason::WrongConstant),
         Some(_) => pops(method, &[object], Some(VType::Int), frame, classes),
     }

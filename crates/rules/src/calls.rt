@@ -2,7 +2,6 @@
 ghost use Rattle.std.specs.Prelude.{◌≡◌, ◌&&◌, ℕ, not, true, [], map, option_map, option_to_list, IfOk};
 ghost use Rattle.names.specs.Types.{type_of};
 ghost use Rattle.names.specs.ReferenceTypes.{is_class_type};
-ghost use Rattle.pool.specs.Members.{method_at};
 ghost use Rattle.pool.specs.MemberViews.{method_constant_view};
 ghost use Rattle.rules.specs.Plans.{arguments_on, pops, result_types, want_of};
 ghost use Rattle.rules.specs.Constants.{is_init_name, may_name, has_room_for_receiver, may_invoke_interface, invoke_static, invoke_virtual, invoke_interface};
@@ -126,23 +125,23 @@ fn may_invoke_static(major: u16, called: &MethodConstant<'_>) -> bool
     is_of_class(called) && !is_init(called) && may_name(major, called)
 }
 
-/// `invokestatic`
+/// `invokestatic` of the method that it names
 pub fn invoke_static<'a, C: Classes>(
     alloc: Global,
     method: &CodeMethod<'_, 'a>,
-    index: u16,
+    named: Option<&MethodConstant<'a>>,
     frame: &mut Working<'a>,
     classes: &C,
 ) -> Result<(), Reason<'a>>
     ensures { (at : ℕ) → let m = method_view method.now in let f = held frame.old in
-        let p = invoke_static m.major_version (method_at m.constant_pool index) in
+        let p = invoke_static m.major_version (option_map (λ c. method_constant_view c.now) named.entry) in
         Done (conditions (C.content classes.now) m at p f) (after m at p f) (held frame.new) result }
 {
-    let Some(called) = method.class.constant_pool.method_constant(alloc, index)? else {
+    let Some(called) = named else {
         return Err(Reason::WrongConstant);
     };
-    if may_invoke_static(method.class.major_version, &called) {
-        calls(alloc, method, &called, None, frame, classes)
+    if may_invoke_static(method.class.major_version, called) {
+        calls(alloc, method, called, None, frame, classes)
     } else {
         Err(Reason::WrongConstant)
     }
@@ -155,24 +154,24 @@ fn may_invoke_virtual(called: &MethodConstant<'_>) -> bool
     !called.interface && !is_init(called) && has_room_for_receiver(called)
 }
 
-/// `invokevirtual`
+/// `invokevirtual` of the method that it names
 pub fn invoke_virtual<'a, C: Classes>(
     alloc: Global,
     method: &CodeMethod<'_, 'a>,
-    index: u16,
+    named: Option<&MethodConstant<'a>>,
     frame: &mut Working<'a>,
     classes: &C,
 ) -> Result<(), Reason<'a>>
     ensures { (at : ℕ) → let m = method_view method.now in let f = held frame.old in
-        let p = invoke_virtual (method_at m.constant_pool index) in
+        let p = invoke_virtual (option_map (λ c. method_constant_view c.now) named.entry) in
         Done (conditions (C.content classes.now) m at p f) (after m at p f) (held frame.new) result }
 {
-    let Some(called) = method.class.constant_pool.method_constant(alloc, index)? else {
+    let Some(called) = named else {
         return Err(Reason::WrongConstant);
     };
-    if may_invoke_virtual(&called) {
+    if may_invoke_virtual(called) {
         let receiver = Some(Want::Assignable(called.class));
-        calls(alloc, method, &called, receiver, frame, classes)
+        calls(alloc, method, called, receiver, frame, classes)
     } else {
         Err(Reason::WrongConstant)
     }
@@ -189,25 +188,25 @@ fn may_invoke_interface(count: u8, called: &MethodConstant<'_>) -> bool
         && u16::from(count) == called.method_type.width(true)
 }
 
-/// `invokeinterface`
+/// `invokeinterface` of the method that it names
 pub fn invoke_interface<'a, C: Classes>(
     alloc: Global,
     method: &CodeMethod<'_, 'a>,
-    index: u16,
+    named: Option<&MethodConstant<'a>>,
     count: u8,
     frame: &mut Working<'a>,
     classes: &C,
 ) -> Result<(), Reason<'a>>
     ensures { (at : ℕ) → let m = method_view method.now in let f = held frame.old in
-        let p = invoke_interface count (method_at m.constant_pool index) in
+        let p = invoke_interface count (option_map (λ c. method_constant_view c.now) named.entry) in
         Done (conditions (C.content classes.now) m at p f) (after m at p f) (held frame.new) result }
 {
-    let Some(called) = method.class.constant_pool.method_constant(alloc, index)? else {
+    let Some(called) = named else {
         return Err(Reason::WrongConstant);
     };
-    if may_invoke_interface(count, &called) {
+    if may_invoke_interface(count, called) {
         let receiver = Some(Want::Assignable(called.class));
-        calls(alloc, method, &called, receiver, frame, classes)
+        calls(alloc, method, called, receiver, frame, classes)
     } else {
         Err(Reason::WrongConstant)
     }

@@ -1,7 +1,6 @@
 //! Instructions that read and write fields.
-ghost use Rattle.std.specs.Prelude.{◌≡◌, ℕ};
+ghost use Rattle.std.specs.Prelude.{◌≡◌, ℕ, option_map};
 ghost use Rattle.classfile.specs.Methods.{is_own_field};
-ghost use Rattle.pool.specs.Members.{field_at};
 ghost use Rattle.pool.specs.MemberViews.{field_constant_view};
 ghost use Rattle.rules.specs.Constants.{get_static, put_static, get_field, put_field, target_of};
 ghost use Rattle.rules.specs.After.{after};
@@ -22,52 +21,52 @@ use hierarchy::Classes;
 use names::RefType;
 use pool::FieldConstant;
 
-/// `getstatic`
+/// `getstatic` of the field that it names
 pub fn get_static<'a, C: Classes>(
     method: &CodeMethod<'_, 'a>,
-    index: u16,
+    named: Option<FieldConstant<'a>>,
     frame: &mut Working<'a>,
     classes: &C,
 ) -> Result<(), Reason<'a>>
     ensures { (at : ℕ) → let m = method_view method.now in let f = held frame.old in
-        let p = get_static (field_at m.constant_pool index) in
+        let p = get_static (option_map field_constant_view named.entry) in
         Done (conditions (C.content classes.now) m at p f) (after m at p f) (held frame.new) result }
 {
-    match method.class.constant_pool.field_constant(index) {
+    match named {
         None => Err(Reason::WrongConstant),
         Some(field) => gives(method, Some(held_by(&field.field_type)), frame, classes),
     }
 }
 
-/// `putstatic`
+/// `putstatic` of the field that it names
 pub fn put_static<'a, C: Classes>(
     method: &CodeMethod<'_, 'a>,
-    index: u16,
+    named: Option<FieldConstant<'a>>,
     frame: &mut Working<'a>,
     classes: &C,
 ) -> Result<(), Reason<'a>>
     ensures { (at : ℕ) → let m = method_view method.now in let f = held frame.old in
-        let p = put_static (field_at m.constant_pool index) in
+        let p = put_static (option_map field_constant_view named.entry) in
         Done (conditions (C.content classes.now) m at p f) (after m at p f) (held frame.new) result }
 {
-    match method.class.constant_pool.field_constant(index) {
+    match named {
         None => Err(Reason::WrongConstant),
         Some(field) => pops(method, &[want_of(&field.field_type)], None, frame, classes),
     }
 }
 
-/// `getfield`
+/// `getfield` of the field that it names
 pub fn get_field<'a, C: Classes>(
     method: &CodeMethod<'_, 'a>,
-    index: u16,
+    named: Option<FieldConstant<'a>>,
     frame: &mut Working<'a>,
     classes: &C,
 ) -> Result<(), Reason<'a>>
     ensures { (at : ℕ) → let m = method_view method.now in let f = held frame.old in
-        let p = get_field (field_at m.constant_pool index) in
+        let p = get_field (option_map field_constant_view named.entry) in
         Done (conditions (C.content classes.now) m at p f) (after m at p f) (held frame.new) result }
 {
-    match method.class.constant_pool.field_constant(index) {
+    match named {
         None => Err(Reason::WrongConstant),
         Some(field) => pops(
             method,
@@ -99,18 +98,18 @@ fn target_of<'a>(method: &CodeMethod<'_, 'a>, field: &FieldConstant<'a>) -> Want
     }
 }
 
-/// `putfield`
+/// `putfield` of the field that it names
 pub fn put_field<'a, C: Classes>(
     method: &CodeMethod<'_, 'a>,
-    index: u16,
+    named: Option<FieldConstant<'a>>,
     frame: &mut Working<'a>,
     classes: &C,
 ) -> Result<(), Reason<'a>>
     ensures { (at : ℕ) → let m = method_view method.now in let f = held frame.old in
-        let p = put_field m (field_at m.constant_pool index) in
+        let p = put_field m (option_map field_constant_view named.entry) in
         Done (conditions (C.content classes.now) m at p f) (after m at p f) (held frame.new) result }
 {
-    match method.class.constant_pool.field_constant(index) {
+    match named {
         None => Err(Reason::WrongConstant),
         Some(field) => {
             let target = target_of(method, &field);

@@ -17,6 +17,7 @@
 //! - `making`: `new`.
 //! - `replacing`: objects that are not initialized, and the types that take their place.
 //! - `arrays`: instructions that make arrays and read their elements, and casts.
+//! - `naming`: what the constant is that an instruction names.
 //! - `declaring_class`: the class that declares the method, and its superclass.
 //! - `want`: what is asked of an operand.
 //! - `running`: the rule of an instruction, on a frame in place.
@@ -28,6 +29,7 @@
 //! - `specs/Plans.antt`: what rules ask and do, family by family.
 //! - `specs/Constants.antt`: rules of instructions that name constants.
 //! - `specs/Table.antt`: the rule of each instruction.
+//! - `specs/Naming.antt`: which constant an instruction names.
 //! - `specs/After.antt`: the frame after.
 //! - `specs/Rules.antt`: the conditions that refuse an instruction, with their numbers.
 //! - `specs/Ways.antt`: where instructions go.
@@ -44,6 +46,7 @@ mod families;
 mod fields;
 mod making;
 mod moves;
+mod naming;
 mod operands;
 mod own_object;
 mod reason;
@@ -60,6 +63,7 @@ mod working;
 pub use applying::{After, Refusal, apply};
 pub use declaring_class::own_class;
 pub use environment::Env;
+pub use naming::{Named, named_by};
 pub use own_object::constructs_own;
 pub use reason::Reason;
 pub use running::run;

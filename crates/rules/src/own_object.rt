@@ -1,5 +1,6 @@
 //! Whether an instruction calls a constructor on the own object.
-ghost use Rattle.std.specs.Prelude.{◌≡◌, ◌&&◌, [], not, drop, length, IfOk};
+ghost use Rattle.std.specs.Prelude.{◌≡◌, ◌&&◌, [], not, drop, length};
+ghost use Rattle.std.specs.Option.{is_some};
 ghost use Rattle.names.specs.ReferenceTypes.{is_class_type};
 ghost use Rattle.pool.specs.MemberViews.{method_constant_view};
 ghost use Rattle.insn.specs.Stacks.{beneath};
@@ -13,10 +14,12 @@ ghost use Rattle.rules.specs.After.{top_of};
 ghost use Rattle.rules.specs.Rules.{constructs_own};
 ghost use Rattle.rules.specs.Bodies.{method_view};
 ghost use Rattle.rules.specs.Held.{held};
+ghost use Rattle.rules.specs.Naming.{IsNamed};
 ghost use Rattle.rules.specs.Views.{stack_of};
 ghost use Rattle.rules.specs.Ways.{special_index};
 
 use crate::calls::{is_init, is_of_class};
+use crate::naming::Named;
 use crate::replacing::is_own;
 use crate::special::may_construct_by;
 use crate::working::Working;
@@ -24,7 +27,6 @@ use classfile::CodeMethod;
 use frames::VType;
 use insn::Act;
 use pool::MethodConstant;
-use std::alloc::{AllocError, Global};
 
 /// The item of a stack beneath so many; top where there is none.
 fn item_beneath<'a>(count: usize, stack: &[VType<'a>]) -> VType<'a>
@@ -52,31 +54,29 @@ fn is_on_own<'a>(called: &MethodConstant<'a>, frame: &Working<'a>) -> bool
     is_own(&item_beneath(called.method_type.params.len(), frame.stack()))
 }
 
-/// The index of the method that `invokespecial` names.
-fn special_index(act: &Act<'_>) -> Option<u16>
-    ensures { result ≡ special_index (act_view act.now) }
+/// Whether it is `invokespecial`.
+fn is_special(act: &Act<'_>) -> bool
+    ensures { result ≡ is_some (special_index (act_view act.now)) }
 {
-    match *act {
-        Act::InvokeSpecial { index } => Some(index),
-        _ => None,
-    }
+    matches!(act, Act::InvokeSpecial { .. })
 }
 
 /// Whether the instruction that means this calls a constructor on the own object, which is not initialized (JVMS 4.10.1.9,
-/// invokespecial). The frame stays as it is.
+/// invokespecial).
 pub fn constructs_own<'a>(
-    alloc: Global,
     method: &CodeMethod<'_, 'a>,
     act: &Act<'a>,
+    named: &Named<'a>,
     frame: &Working<'a>,
-) -> Result<bool, AllocError>
-    ensures { IfOk result (λ own. own ≡ constructs_own (plan (method_view method.now) (act_view act.now)) (held frame.now)) }
+) -> bool
+    requires named { IsNamed (method_view method.now).constant_pool (act_view act.now) named.now }
+    ensures { result ≡ constructs_own (plan (method_view method.now) (act_view act.now)) (held frame.now) }
 {
-    let Some(index) = special_index(act) else {
-        return Ok(false);
-    };
-    let Some(called) = method.class.constant_pool.method_constant(alloc, index)? else {
-        return Ok(false);
-    };
-    Ok(is_constructor(&called) && is_on_own(&called, frame))
+    if !is_special(act) {
+        return false;
+    }
+    match named.method() {
+        None => false,
+        Some(called) => is_constructor(called) && is_on_own(called, frame),
+    }
 }

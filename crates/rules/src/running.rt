@@ -6,6 +6,7 @@ ghost use Rattle.rules.specs.After.{after};
 ghost use Rattle.rules.specs.Rules.{conditions};
 ghost use Rattle.rules.specs.Bodies.{method_view};
 ghost use Rattle.rules.specs.Held.{held};
+ghost use Rattle.rules.specs.Naming.{IsNamed};
 ghost use Rattle.rules.specs.Outcomes.{Done};
 
 use crate::arrays::{
@@ -19,6 +20,7 @@ use crate::families::{
 };
 use crate::fields::{get_field, get_static, put_field, put_static};
 use crate::making::new_object;
+use crate::naming::Named;
 use crate::reason::Reason;
 use crate::special::invoke_special;
 use crate::stacks::rearranges;
@@ -32,7 +34,7 @@ use insn::{Act, Kind};
 use std::alloc::Global;
 
 /// Runs the instruction at an offset on a frame, in place, by its rule (JVMS 4.10.1.9). The frame has max_locals
-/// locals, and the starts are those of the method's code.
+/// locals, the starts are those of the method's code, and what the instruction names was looked up.
 ///
 /// Refused is, by the least number that holds, what the rule refuses (60 to 66, 74, 76, 77); or 1 where memory ran out.
 /// Nothing is said of the frame then.
@@ -42,10 +44,12 @@ pub fn run<'a, S: Starts, C: Classes>(
     starts: &S,
     at: u16,
     act: Act<'a>,
+    named: &Named<'a>,
     frame: &mut Working<'a>,
     classes: &C,
 ) -> Result<(), Reason<'a>>
     requires locals { length (held frame.old).locals ≡ method.now.code.now.max_locals }
+    requires named { IsNamed (method_view method.now).constant_pool (act_view act) named.now }
     requires code { S.code starts.now ≡ (method_view method.now).code }
     ensures { let m = method_view method.now in let f = held frame.old in
         let p = plan m (act_view act.entry) in
@@ -97,17 +101,17 @@ pub fn run<'a, S: Starts, C: Classes>(
         Act::ReturnReference => return_reference(method, frame, classes),
         Act::ReturnVoid => return_nothing(method, frame),
         Act::Throw => pops(method, &[throwable()], None, frame, classes),
-        Act::GetStatic { index } => get_static(method, index, frame, classes),
-        Act::PutStatic { index } => put_static(method, index, frame, classes),
-        Act::GetField { index } => get_field(method, index, frame, classes),
-        Act::PutField { index } => put_field(method, index, frame, classes),
-        Act::InvokeVirtual { index } => invoke_virtual(alloc, method, index, frame, classes),
-        Act::InvokeSpecial { index } => {
-            invoke_special(alloc, method, index, starts, frame, classes)
+        Act::GetStatic { .. } => get_static(method, named.field, frame, classes),
+        Act::PutStatic { .. } => put_static(method, named.field, frame, classes),
+        Act::GetField { .. } => get_field(method, named.field, frame, classes),
+        Act::PutField { .. } => put_field(method, named.field, frame, classes),
+        Act::InvokeVirtual { .. } => invoke_virtual(alloc, method, named.method(), frame, classes),
+        Act::InvokeSpecial { .. } => {
+            invoke_special(alloc, method, named.method(), starts, frame, classes)
         }
-        Act::InvokeStatic { index } => invoke_static(alloc, method, index, frame, classes),
-        Act::InvokeInterface { index, count } => {
-            invoke_interface(alloc, method, index, count, frame, classes)
+        Act::InvokeStatic { .. } => invoke_static(alloc, method, named.method(), frame, classes),
+        Act::InvokeInterface { count, .. } => {
+            invoke_interface(alloc, method, named.method(), count, frame, classes)
         }
         Act::LoadElement(element) => load_element(method, element, frame, classes),
         Act::StoreElement(element) => store_element(method, element, frame, classes),
@@ -115,12 +119,12 @@ pub fn run<'a, S: Starts, C: Classes>(
         Act::StoreReferenceElement => store_reference_element(method, frame, classes),
         Act::ArrayLength => pops(method, &[Want::Array], Some(VType::Int), frame, classes),
         Act::NewArray(element) => new_array(method, element, frame, classes),
-        Act::NewReferenceArray { index } => new_reference_array(method, index, frame, classes),
-        Act::NewMultiArray { index, dimensions } => {
-            new_multi_array(alloc, method, index, dimensions, frame, classes)
+        Act::NewReferenceArray { .. } => new_reference_array(method, named.class, frame, classes),
+        Act::NewMultiArray { dimensions, .. } => {
+            new_multi_array(alloc, method, named.class, dimensions, frame, classes)
         }
-        Act::CheckCast { index } => check_cast(method, index, frame, classes),
-        Act::InstanceOf { index } => instance_of(method, index, frame, classes),
+        Act::CheckCast { .. } => check_cast(method, named.class, frame, classes),
+        Act::InstanceOf { .. } => instance_of(method, named.class, frame, classes),
         Act::New { index } => new_object(method, at, index, frame),
         Act::Unsupported => Err(Reason::NotSupported),
     }

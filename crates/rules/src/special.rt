@@ -1,7 +1,6 @@
 //! `invokespecial`
-ghost use Rattle.std.specs.Prelude.{◌≡◌, ◌&&◌, ℕ, not, [], ◌∷◌};
+ghost use Rattle.std.specs.Prelude.{◌≡◌, ◌&&◌, ℕ, not, [], ◌∷◌, option_map};
 ghost use Rattle.names.specs.ReferenceTypes.{is_class_type};
-ghost use Rattle.pool.specs.Members.{method_at};
 ghost use Rattle.pool.specs.MemberViews.{method_constant_view};
 ghost use Rattle.rules.specs.Plans.{arguments_on, calls_special, class_want, result_types};
 ghost use Rattle.rules.specs.Constants.{constructor_call, has_room_for_receiver, invoke_special, may_name, special_call};
@@ -121,26 +120,26 @@ fn call_special<'a, C: Classes>(
     }
 }
 
-/// `invokespecial`
+/// `invokespecial` of the method that it names
 pub fn invoke_special<'a, S: Starts, C: Classes>(
     alloc: Global,
     method: &CodeMethod<'_, 'a>,
-    index: u16,
+    named: Option<&MethodConstant<'a>>,
     starts: &S,
     frame: &mut Working<'a>,
     classes: &C,
 ) -> Result<(), Reason<'a>>
     requires code { S.code starts.now ≡ (method_view method.now).code }
     ensures { (at : ℕ) → let m = method_view method.now in let f = held frame.old in
-        let p = invoke_special m.major_version m.class (method_at m.constant_pool index) in
+        let p = invoke_special m.major_version m.class (option_map (λ c. method_constant_view c.now) named.entry) in
         Done (conditions (C.content classes.now) m at p f) (after m at p f) (held frame.new) result }
 {
-    let Some(called) = method.class.constant_pool.method_constant(alloc, index)? else {
+    let Some(called) = named else {
         return Err(Reason::WrongConstant);
     };
-    if is_init(&called) {
-        call_constructor(alloc, method, &called, starts, frame, classes)
+    if is_init(called) {
+        call_constructor(alloc, method, called, starts, frame, classes)
     } else {
-        call_special(alloc, method, &called, frame, classes)
+        call_special(alloc, method, called, frame, classes)
     }
 }

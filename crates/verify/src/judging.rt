@@ -14,6 +14,7 @@ ghost use Rattle.hierarchy.specs.Class.{ClassFact};
 ghost use Rattle.rules.specs.Bodies.{method_view};
 ghost use Rattle.rules.specs.Outcomes.{Done};
 ghost use Rattle.rules.specs.Held.{held};
+ghost use Rattle.rules.specs.Naming.{IsNamed};
 ghost use Rattle.rules.specs.Ways.{goes_on};
 ghost use Rattle.verify.specs.InitialFrames.{initial_frame};
 ghost use Rattle.verify.specs.Verdict.{handler_conditions, at_conditions, code_judged, is_covered};
@@ -33,7 +34,10 @@ use classfile::CodeMethod;
 use frames::{CodeStarts, DeclaredFrames};
 use hierarchy::Classes;
 use insn::{Act, Instructions, act};
-use rules::{Reason, Working, branches_by, constructs_own, goes_on, keeps_locals, run};
+use pool::Descriptors;
+use rules::{
+    Named, Reason, Working, branches_by, constructs_own, goes_on, keeps_locals, named_by, run,
+};
 use std::alloc::{AllocError, Global};
 
 /// Judges an instruction in the frame before it, which becomes the frame after. Of the frame at the next start nothing is asked. What is
@@ -44,6 +48,7 @@ fn judge<'n, 'a, C: Classes>(
     starts: &CodeStarts<'_>,
     at: u16,
     act: Act<'a>,
+    named: &Named<'a>,
     falls: bool,
     last: bool,
     caught: Result<(), Reason<'a>>,
@@ -57,6 +62,7 @@ fn judge<'n, 'a, C: Classes>(
     requires locals { length (held frame.old).locals ≡ method.now.code.now.max_locals }
     requires starts { code_in starts.now ≡ method.now.code.now.code.now }
     requires declared { locals_in frames.now ≡ method.now.code.now.max_locals }
+    requires named { IsNamed (method_view method.now).constant_pool (act_view act) named.now }
     requires known { let m = method_view method.now in IsKnown (C.content classes.now) frames.now (after m at (plan m (act_view act)) (held frame.old)) known.old }
     requires caught { let m = method_view method.now in Judges (handler_conditions (C.content classes.now) (frames_in frames.now) at (held frame.old) m.exceptions) caught }
     requires covered { let m = method_view method.now in covered ≡ (constructs_own (plan m (act_view act)) (held frame.old) && is_covered m.exceptions at) }
@@ -70,7 +76,7 @@ fn judge<'n, 'a, C: Classes>(
 {
     let aside = together(caught, check_end(falls, last, covered));
     let branches = branches_by(&act);
-    match run(alloc, method, starts, at, act, frame, classes) {
+    match run(alloc, method, starts, at, act, named, frame, classes) {
         Ok(()) => together(
             check_targets(at, branches, frame, frames, known, seen, classes),
             aside,
@@ -82,19 +88,20 @@ fn judge<'n, 'a, C: Classes>(
 /// Whether an entry of the exception table covers an instruction that calls a constructor on the own object. The entries have come to its
 /// offset.
 fn covers_constructor<'a>(
-    alloc: Global,
     method: &CodeMethod<'_, 'a>,
     at: u16,
     act: &Act<'a>,
+    named: &Named<'a>,
     handlers: &mut Handlers<'a>,
     frame: &Working<'a>,
 ) -> Result<bool, AllocError>
+    requires { IsNamed (method_view method.now).constant_pool (act_view act.now) named.now }
     ensures { (cs : List ClassFact) (frames : Frames) (es : List ExceptionEntry) → let f = held frame.now in
         Follows cs frames es at f handlers.old → AreAhead at handlers.old
         → IfOk result (λ covered. (covered ≡ (constructs_own (plan (method_view method.now) (act_view act.now)) f && is_covered es at))
         × Follows cs frames es at f handlers.new × AreAhead at handlers.new) }
 {
-    if !constructs_own(alloc, method, act, frame)? {
+    if !constructs_own(method, act, named, frame) {
         return Ok(false);
     }
     handlers.covers(at)
@@ -108,9 +115,11 @@ pub fn pass<'a, C: Classes>(
     frames: &DeclaredFrames<'a>,
     handlers: &mut Handlers<'a>,
     seen: &mut PlaceSet,
+    constants: &mut Descriptors<'_, 'a>,
     frame: &mut Working<'a>,
     classes: &C,
 ) -> Result<Verdict<'a>, VerifyFault>
+    requires constants { constants.old ≡ method.now.class.now.constant_pool }
     requires initial { held frame.old ≡ initial_frame (method_view method.now) }
     requires locals { length (held frame.old).locals ≡ method.now.code.now.max_locals }
     requires starts { code_in starts.now ≡ method.now.code.now.code.now }
@@ -118,7 +127,8 @@ pub fn pass<'a, C: Classes>(
     requires handlers { let m = method_view method.now in Follows (C.content classes.now) (frames_in frames.now) m.exceptions 0 (held frame.old) handlers.old }
     requires spelled { (xs : List (ℕ × Instruction)) × SpellsCode 0 method.now.code.now.code.now xs }
     requires few { length method.now.code.now.code.now ≤ MAX_CODE_BYTES }
-    ensures { Gives (code_judged plan (C.content classes.now) (method_view method.now) (frames_in frames.now)) result }
+    ensures same { constants.new ≡ constants.old }
+    ensures judged { Gives (code_judged plan (C.content classes.now) (method_view method.now) (frames_in frames.now)) result }
 {
     let mut code = Instructions::new(method.code.code);
     let mut comes = true;
@@ -137,15 +147,16 @@ pub fn pass<'a, C: Classes>(
         known = known.here(declared);
         let act = act(&insn);
         handlers.come_to(at)?;
-        let covered = covers_constructor(alloc, method, at, &act, handlers, frame)?;
+        let named = named_by(constants, &act)?;
+        let covered = covers_constructor(method, at, &act, &named, handlers, frame)?;
         let caught = handlers.catch(at, frame, frames, &mut known, classes);
         comes = goes_on(&act);
         known = known.behind(&act);
         handlers.behind(keeps_locals(&act))?;
         let last = code.is_at_end();
         let judged = judge(
-            alloc, method, starts, at, act, comes, last, caught, covered, frames, &mut known, seen,
-            frame, classes,
+            alloc, method, starts, at, act, &named, comes, last, caught, covered, frames,
+            &mut known, seen, frame, classes,
         );
         if let Err(reason) = judged {
             return refuse(at, reason);

@@ -34,6 +34,7 @@ use frames::{CodeStarts, DeclaredFrames};
 use hierarchy::Classes;
 use insn::count_instructions;
 use names::{FieldType, MethodType, method_type};
+use pool::Descriptors;
 use rules::{Reason, Working};
 use std::alloc::Global;
 
@@ -55,16 +56,19 @@ fn judge_code<'a, C: Classes>(
     method: &CodeMethod<'_, 'a>,
     starts: &CodeStarts<'_>,
     frames: &DeclaredFrames<'a>,
+    constants: &mut Descriptors<'_, 'a>,
     frame: &mut Working<'a>,
     classes: &C,
 ) -> Result<Verdict<'a>, VerifyFault>
+    requires constants { constants.old ≡ method.now.class.now.constant_pool }
     requires initial { held frame.old ≡ initial_frame (method_view method.now) }
     requires locals { length (held frame.old).locals ≡ method.now.code.now.max_locals }
     requires starts { code_in starts.now ≡ method.now.code.now.code.now }
     requires declared { locals_in frames.now ≡ method.now.code.now.max_locals }
     requires spelled { (xs : List (ℕ × Instruction)) × SpellsCode 0 method.now.code.now.code.now xs }
     requires few { length method.now.code.now.code.now ≤ MAX_CODE_BYTES }
-    ensures { let m = method_view method.now in Gives (with_frames plan (C.content classes.now) m (Ok (frames_in frames.now))) result }
+    ensures same { constants.new ≡ constants.old }
+    ensures judged { let m = method_view method.now in Gives (with_frames plan (C.content classes.now) m (Ok (frames_in frames.now))) result }
 {
     let table = exceptions(alloc, method)?;
     if let Err(reason) = check_table(&table, method, starts, frames, classes) {
@@ -80,6 +84,7 @@ fn judge_code<'a, C: Classes>(
         frames,
         &mut handlers,
         &mut seen,
+        constants,
         frame,
         classes,
     )
@@ -91,13 +96,16 @@ fn judge_body<'a, C: Classes>(
     alloc: Global,
     method: &CodeMethod<'_, 'a>,
     parameters: &[FieldType<'a>],
+    constants: &mut Descriptors<'_, 'a>,
     frame: &mut Working<'a>,
     classes: &C,
 ) -> Result<Verdict<'a>, VerifyFault>
+    requires constants { constants.old ≡ method.now.class.now.constant_pool }
     requires parameters { (method_view method.now).type.params ≡ map type_of parameters.now }
     requires spelled { (xs : List (ℕ × Instruction)) × SpellsCode 0 method.now.code.now.code.now xs }
     requires few { length method.now.code.now.code.now ≤ MAX_CODE_BYTES }
-    ensures { Gives (verdict plan (C.content classes.now) (method_view method.now)) result }
+    ensures same { constants.new ≡ constants.old }
+    ensures judged { Gives (verdict plan (C.content classes.now) (method_view method.now)) result }
 {
     let max_locals = method.code.max_locals;
     let types = initial_types(alloc, method, parameters)?;
@@ -111,44 +119,50 @@ fn judge_body<'a, C: Classes>(
         Err(fault) => return refuse(0, Reason::BadStackMap { fault }),
     };
     frame.start(&locals, max_locals, begins_uninitialized(method))?;
-    judge_code(alloc, method, &starts, &frames, frame, classes)
+    judge_code(alloc, method, &starts, &frames, constants, frame, classes)
 }
 
 /// The verdict on a method with code.
 fn verify_code<'a, C: Classes>(
     alloc: Global,
     method: CodeMethod<'_, 'a>,
+    constants: &mut Descriptors<'_, 'a>,
     frame: &mut Working<'a>,
     classes: &C,
 ) -> Result<Verdict<'a>, VerifyFault>
+    requires constants { constants.old ≡ method.class.now.constant_pool }
     requires formed { WellFormed (class_view method.class.now) }
     requires coded { code_at (class_view method.class.now) method.number ≡ Some (code_view method.code.now) }
-    ensures { AnswersCode (C.content classes.now) (class_view method.entry.class.now) method.entry.number result }
+    ensures same { constants.new ≡ constants.old }
+    ensures answered { AnswersCode (C.content classes.now) (class_view method.entry.class.now) method.entry.number result }
 {
     match count_instructions(method.code.code) {
         Ok(_) => {}
         Err(fault) => return refuse_code(fault),
     }
     let types = types_of(alloc, &method)?;
-    judge_body(alloc, &method, &types.params, frame, classes)
+    judge_body(alloc, &method, &types.params, constants, frame, classes)
 }
 
-/// The verdict on a method of a class that the hierarchy has as it is.
+/// The verdict on a method of a class that the hierarchy has as it is; the constants are those of the class.
 pub fn verify_listed<'a, C: Classes>(
     alloc: Global,
     formed: &Formed<'_, 'a>,
     number: usize,
+    constants: &mut Descriptors<'_, 'a>,
     frame: &mut Working<'a>,
     classes: &C,
 ) -> Result<Verdict<'a>, VerifyFault>
+    requires constants { constants.old ≡ formed.now.class.now.constant_pool }
     requires within { number < length formed.now.class.now.methods.items }
     requires listed { IsListed (C.content classes.now) (class_view formed.now.class.now) }
-    ensures { Answers (C.content classes.now) (class_view formed.now.class.now) number result }
+    ensures same { constants.new ≡ constants.old }
+    ensures answered { Answers (C.content classes.now) (class_view formed.now.class.now) number result }
 {
     formed.class();
     match formed.method(number) {
         None => Ok(Verdict::NoCode),
-        Some(method) => verify_code(alloc, method, frame, classes),
+        Some(method) => verify_code(alloc, method, constants, frame, classes),
     }
 }
 
@@ -183,5 +197,6 @@ pub fn verify_method<'a, C: Classes>(
         return Err(VerifyFault::NotInHierarchy);
     }
     let mut frame = Working::new(alloc, 0, false);
-    verify_listed(alloc, formed, number, &mut frame, classes)
+    let mut constants = Descriptors::new(alloc, &formed.class().constant_pool);
+    verify_listed(alloc, formed, number, &mut constants, &mut frame, classes)
 }

@@ -15,6 +15,7 @@ use classfile::{FormFault, FormRule, Formed, Place, decode, form_check};
 use hierarchy::{Classes, summary_of};
 use layout::ReadFault;
 use names::Text;
+use pool::Descriptors;
 use rules::Working;
 use std::alloc::{AllocError, Global};
 
@@ -61,17 +62,20 @@ impl From<AllocError> for ClassFault {
     }
 }
 
-/// What is answered of the method of this number.
+/// What is answered of the method of this number; the constants are those of the class.
 fn report_on<'a, C: Classes>(
     alloc: Global,
     formed: &Formed<'_, 'a>,
     number: usize,
+    constants: &mut Descriptors<'_, 'a>,
     frame: &mut Working<'a>,
     classes: &C,
 ) -> Result<MethodVerdict<'a>, VerifyFault>
+    requires constants { constants.old ≡ formed.now.class.now.constant_pool }
     requires number { number < length formed.now.class.now.methods.items }
     requires hierarchy { IsHierarchy (C.content classes.now) }
     requires listed { IsListed (C.content classes.now) (class_view formed.now.class.now) }
+    ensures same { constants.new ≡ constants.old }
     ensures found { IfOk result (IsReported (C.content classes.now) (class_view formed.now.class.now) number) }
     ensures memory { IfErr result (λ e. e ≡ OutOfMemory) }
 {
@@ -80,7 +84,7 @@ fn report_on<'a, C: Classes>(
     let pool = &class.constant_pool;
     let name = pool.text(member.name).unwrap();
     let descriptor = pool.text(member.descriptor).unwrap();
-    match verify_listed(alloc, formed, number, frame, classes) {
+    match verify_listed(alloc, formed, number, constants, frame, classes) {
         Ok(verdict) => Ok(MethodVerdict {
             name,
             descriptor,
@@ -90,7 +94,7 @@ fn report_on<'a, C: Classes>(
     }
 }
 
-/// The verdicts on the methods of a class that the hierarchy has as it is. One frame serves all of them.
+/// The verdicts on the methods of a class that the hierarchy has as it is. One frame and one table of constants serve all of them.
 pub fn report_listed<'a, C: Classes>(
     alloc: Global,
     formed: &Formed<'_, 'a>,
@@ -103,8 +107,11 @@ pub fn report_listed<'a, C: Classes>(
 {
     let mut methods = Vec::new(alloc);
     let mut frame = Working::new(alloc, 0, false);
-    for number in 0..formed.class().methods.len() {
-        methods.push(report_on(alloc, formed, number, &mut frame, classes)?)?;
+    let class = formed.class();
+    let mut constants = Descriptors::new(alloc, &class.constant_pool);
+    for number in 0..class.methods.len() {
+        let verdict = report_on(alloc, formed, number, &mut constants, &mut frame, classes)?;
+        methods.push(verdict)?;
     }
     Ok(Report { methods })
 }

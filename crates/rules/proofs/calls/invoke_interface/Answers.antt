@@ -1,6 +1,5 @@
 use Rattle.std.proofs.Common.{ap, sym, ◌∙◌}
 use Rattle.std.specs.Prelude.{option_map}
-use Rattle.pool.specs.Members.{method_at}
 use Rattle.pool.specs.MemberViews.{method_constant_view}
 use Rattle.rules.specs.Bodies.{method_view}
 use Rattle.rules.specs.Constants.{may_invoke_interface, call_on, invoke_interface}
@@ -11,6 +10,6 @@ use Rattle.rules.proofs.calls.invoke_interface.Goals as goal
 pub returns-then-may_invoke_interface : goal.returns-then-may_invoke_interface
 returns-then-may_invoke_interface g c = λ p.
     let m = method_view c.args.method.now in
-    let v = method_constant_view c.in-Some.called in
-    by_allowed m p (invoke_interface c.args.count (method_at m.constant_pool c.args.index)) (may_invoke_interface c.args.count v) (call_on v.class v) (g.C.Classes.content c.args.classes.now) (held c.args.frame.now) (held c.calls.new.frame) c.calls.result
-    (ap (invoke_interface c.args.count) (sym c.in_ok-called.ensures ∙ ap (option_map method_constant_view) c.in-Some.is)) (sym c.if-may_invoke_interface.ensures) (c.calls.ensures p)
+    let v = method_constant_view c.in-Some.called.now in
+    by_allowed m p (invoke_interface c.args.count (option_map (λ c. method_constant_view c.now) c.args.named)) (may_invoke_interface c.args.count v) (call_on v.class v) (g.C.Classes.content c.args.classes.now) (held c.args.frame.now) (held c.calls.new.frame) c.calls.result
+    (ap (λ o. invoke_interface c.args.count (option_map (λ c. method_constant_view c.now) o)) c.in-Some.is) (sym c.if-may_invoke_interface.ensures) (c.calls.ensures p)

@@ -1,15 +1,17 @@
-use Rattle.std.proofs.Common.{◌≡◌, ℕ, ◌+◌, true, ◌∷◌, Result, Ok, OnOk, option_map, length, sym, ◌∙◌, ap, subst, arith}
+use Rattle.std.proofs.Common.{◌≡◌, ℕ, ◌+◌, true, ◌∷◌, Result, Ok, OnOk, List, option_map, length, refl, sym, ◌∙◌, ap, subst, arith}
 use Rattle.layout.specs.Place.{Place}
 use Rattle.insn.specs.declared.instruction.Insn.{Insn}
 use Rattle.insn.specs.Meanings.{Act, act}
 use Rattle.insn.specs.Offsets.{acts, at_offset, first_offset}
 use Rattle.insn.specs.Readings.{or_none, instructions_in}
-use Rattle.insn.specs.Views.{view, located}
+use Rattle.insn.specs.Views.{view, act_view, located}
+use Rattle.pool.specs.Entries.{Entry}
 use Rattle.insn.proofs.Readings.{reading_at, whole_reading, only_reading}
 use Rattle.rules.specs.After.{after}
 use Rattle.rules.specs.Bodies.{method_view}
 use Rattle.rules.specs.declared.reason.Reason.{Reason}
 use Rattle.rules.specs.Held.{held}
+use Rattle.rules.specs.Naming.{IsNamed}
 use Rattle.rules.specs.Outcomes.{Done}
 use Rattle.rules.specs.Table.{plan}
 use Rattle.rules.specs.Ways.{goes_on, keeps_locals}
@@ -40,6 +42,7 @@ loop-step-init g c =
         within = let all = ap (λ (p : Place). p.at + length p.rest) c.new-code.ensures in omega (arith, all);
       };
       locals = c.requires.locals;
+      constants = refl;
       known = c.nothing-known.ensures (g.C.Classes.content c.args.classes.now) c.args.frames.now (held c.args.frame.now);
       handlers = subst (λ n. Follows classes frames m.exceptions n (held c.args.frame.now) c.args.handlers.now) (sym (ap (λ (p : Place). p.at) c.new-code.ensures)) c.requires.handlers;
     }
@@ -104,13 +107,21 @@ judge-judged-requires-clause-covered g c =
     let arrived = c.in_ok-come_to.ensures classes frames m.exceptions now followed in
     (c.in_ok-covered.ensures classes frames m.exceptions arrived.0 arrived.1).0
 
+pub covers_constructor-covered-requires : goal.covers_constructor-covered-requires
+covers_constructor-covered-requires g c =
+    subst (λ (es : List Entry). IsNamed es (act_view c.act-act.result) c.in_ok-named.named) (c.loop-step.invariant.constants ∙ c.requires.constants) c.in_ok-named.ensures.found
+
+pub judge-judged-requires-clause-named : goal.judge-judged-requires-clause-named
+judge-judged-requires-clause-named g c =
+    subst (λ (es : List Entry). IsNamed es (act_view c.act-act.result) c.in_ok-named.named) (c.loop-step.invariant.constants ∙ c.requires.constants) c.in_ok-named.ensures.found
+
 pub unreachable-requires : goal.unreachable-requires
 unreachable-requires g c =
     no_stop located c.loop-step.code c.next.new.self c.in-Some.step c.in_default-step.field-0 c.loop-step.invariant.left.instructions
     c.loop-step.invariant.left.read c.in-Some.ensures.steps c.in_default-step.is
 
-pub returns-in-Err : goal.returns-in-Err
-returns-in-Err g c =
+pub returns-in-Err-clause-judged : goal.returns-in-Err-clause-judged
+returns-in-Err-clause-judged g c =
     let classes = g.C.Classes.content c.args.classes.now in
     let m = method_view c.args.method.now in
     let frames = frames_in c.args.frames.now in
@@ -125,8 +136,8 @@ returns-in-Err g c =
     c.refuse.ensures v
     (stops_in classes m frames (x.0, act (view x.1)) (acts one.others) comes f v same (held c.enter.new.frame) c.enter.result c.in-Err.reason c.in-Err.is came)
 
-pub returns-in-Err-judged : goal.returns-in-Err-judged
-returns-in-Err-judged g c =
+pub returns-in-Err-judged-clause-judged : goal.returns-in-Err-judged-clause-judged
+returns-in-Err-judged-clause-judged g c =
     let classes = g.C.Classes.content c.args.classes.now in
     let m = method_view c.args.method.now in
     let frames = frames_in c.args.frames.now in
@@ -193,12 +204,13 @@ loop-step-preserved g c =
       locals =
           keeps_length m x.0 (plan m a.1) g1 (held c.judge-judged.new.frame) c.args.method.now.code.now.max_locals
           (c.in_default-enter.ensures.locals ∙ c.loop-step.invariant.locals) well.outcome.1;
+      constants = c.named_by-named.ensures.same ∙ c.loop-step.invariant.constants;
       known = subst (λ (r : Result Unit Reason). OnOk r (IsKnown classes c.args.frames.now (held c.judge-judged.new.frame) c.judge-judged.new.known)) c.in_default-judged.is c.judge-judged.ensures.known;
       handlers = follows_later classes frames m.exceptions x.0 c.next.new.self.at (held c.judge-judged.new.frame) c.behind-in-Some.new.self (omega (arith, within.0, within.1, within.2)) behind;
     }
 
-pub returns : goal.returns
-returns g c =
+pub returns-clause-judged : goal.returns-clause-judged
+returns-clause-judged g c =
     let classes = g.C.Classes.content c.args.classes.now in
     let m = method_view c.args.method.now in
     let frames = frames_in c.args.frames.now in

@@ -11,8 +11,8 @@ use Rattle.verify.specs.Steps.{Gives, TellsFrames}
 use Rattle.verify.proofs.Judged.{too_narrow, with_declared, map_told, room_as, when_none, when_some}
 use Rattle.verify.proofs.method.judge_body.Goals as goal
 
-pub returns-in_default : goal.returns-in_default
-returns-in_default g c =
+pub returns-in_default-clause-judged : goal.returns-in_default-clause-judged
+returns-in_default-clause-judged g c =
     let classes = g.C.Classes.content c.args.classes.now in
     let m = method_view c.args.method.now in
     c.refuse.ensures (verdict plan classes m)
@@ -20,8 +20,8 @@ returns-in_default g c =
     (room_as m (map type_of c.deref.result.now) (ap (map type_of) c.deref.ensures.value ∙ c.in_ok-types.ensures) true
     (when_none _ _ c.in_ok-locals.field-0 c.in_default.is c.in_ok-locals.ensures)))))
 
-pub returns-in-Err : goal.returns-in-Err
-returns-in-Err g c =
+pub returns-in-Err-clause-judged : goal.returns-in-Err-clause-judged
+returns-in-Err-clause-judged g c =
     let classes = g.C.Classes.content c.args.classes.now in
     let m = method_view c.args.method.now in
     let types = map type_of c.deref.result.now in
@@ -32,8 +32,8 @@ returns-in-Err g c =
     c.refuse-in-Err.ensures (verdict plan classes m)
     (inr (map_told m classes wide told.0 told.1 ∙ ap (λ n. Some (0, with_fault bad_stack_map n)) (sym told.2)))
 
-pub returns : goal.returns
-returns g c =
+pub returns-clause-judged : goal.returns-clause-judged
+returns-clause-judged g c =
     let classes = g.C.Classes.content c.args.classes.now in
     let m = method_view c.args.method.now in
     let types = map type_of c.deref.result.now in
@@ -41,4 +41,4 @@ returns g c =
     (when_some _ _ c.in_ok-locals.field-0 c.in-Some.locals c.in-Some.is c.in_ok-locals.ensures).0 in
     let wide = room_as m types (ap (map type_of) c.deref.ensures.value ∙ c.in_ok-types.ensures) false fits in
     let told = subst (TellsFrames (frames_declared m)) c.in-Ok.is c.in_ok-declared.ensures.told in
-    subst (λ z. Gives z c.judge_code.result) (sym (with_declared m classes wide (frames_in c.in-Ok.frames) told)) c.judge_code.ensures
+    subst (λ z. Gives z c.judge_code.result) (sym (with_declared m classes wide (frames_in c.in-Ok.frames) told)) c.judge_code.ensures.judged

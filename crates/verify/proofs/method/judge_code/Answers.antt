@@ -10,8 +10,8 @@ use Rattle.verify.specs.Verdict.{told_of, table_judged, code_judged}
 use Rattle.verify.specs.Steps.{Gives}
 use Rattle.verify.proofs.method.judge_code.Goals as goal
 
-pub returns-in-Err : goal.returns-in-Err
-returns-in-Err g c =
+pub returns-in-Err-clause-judged : goal.returns-in-Err-clause-judged
+returns-in-Err-clause-judged g c =
     let classes = g.C.Classes.content c.args.classes.now in
     let m = method_view c.args.method.now in
     let frames = frames_in c.args.frames.now in
@@ -20,13 +20,13 @@ returns-in-Err g c =
     c.refuse.ensures (table_judged classes m frames m.exceptions rest)
     (elim judged [ inl out ↦ inl out | inr why ↦ inr (ap told_of (why rest)) ])
 
-pub returns : goal.returns
-returns g c =
+pub returns-clause-judged : goal.returns-clause-judged
+returns-clause-judged g c =
     let classes = g.C.Classes.content c.args.classes.now in
     let m = method_view c.args.method.now in
     let frames = frames_in c.args.frames.now in
     let judged = (subst (JudgesTable classes m frames m.exceptions) c.in_default.is (subst (λ es. JudgesTable classes m frames es c.check_table.result) (ap (map entry_view) c.deref.ensures.value ∙ c.in_ok-table.ensures.all) c.check_table.ensures)).outcome in
-    subst (λ z. Gives z c.pass.result) (sym (judged (code_judged plan classes m frames))) c.pass.ensures
+    subst (λ z. Gives z c.pass.result) (sym (judged (code_judged plan classes m frames))) c.pass.ensures.judged
 
 pub pass-requires-clause-handlers : goal.pass-requires-clause-handlers
 pass-requires-clause-handlers g c =

@@ -17,14 +17,14 @@ pub judge_body-requires-clause-few : goal.judge_body-requires-clause-few
 judge_body-requires-clause-few g c = let m = c.args.method in
     little_code (class_view m.class.now) c.requires.formed m.number (code_view m.code.now) c.requires.coded
 
-pub returns-in-Err : goal.returns-in-Err
-returns-in-Err g c =
+pub returns-in-Err-clause-answered : goal.returns-in-Err-clause-answered
+returns-in-Err-clause-answered g c =
     let m = c.args.method in
     bad_code (g.C.Classes.content c.args.classes.now) (class_view m.class.now) m.number (code_view m.code.now) c.in-Err.fault c.refuse_code.result c.requires.coded
     (unless_memory c.in-Err.fault c.in-Err.ensures.fault) c.refuse_code.ensures
 
-pub returns : goal.returns
-returns g c =
+pub returns-clause-answered : goal.returns-clause-answered
+returns-clause-answered g c =
     let m = c.args.method in
     let xs = instructions_in m.code.now.code.now in
     let spelled : SpellsCode 0 (code_view m.code.now).code xs =
@@ -33,4 +33,4 @@ returns g c =
     (code_method_view {A = Act} m (acts xs)) c.judge_body.result c.requires.coded spelled
     (method_says {A = Act} (class_view m.class.now) m.number (code_view m.code.now) m.is_static m.is_init
     (option_map type_of m.result_type) m.is_method (acts xs))
-    c.judge_body.ensures
+    c.judge_body.ensures.judged

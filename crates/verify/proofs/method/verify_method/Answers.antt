@@ -8,10 +8,10 @@ verify_listed-requires-clause-listed g c = c.in_ok-is_listed.ensures.found.0 c.i
 pub returns-clause-only : goal.returns-clause-only
 returns-clause-only g c =
     only_then (g.C.Classes.content c.args.classes.now) (class_view c.args.formed.now.class.now) c.args.number c.verify_listed.result
-    c.verify_listed.ensures
+    c.verify_listed.ensures.answered
 
 pub returns-clause-safe : goal.returns-clause-safe
 returns-clause-safe g c =
     safe_then (g.C.Classes.content c.args.classes.now) (class_view c.args.formed.now.class.now) c.args.number
     c.in_ok-is_listed.ensures.formed c.verify_listed.result
-    c.verify_listed.ensures
+    c.verify_listed.ensures.answered

@@ -42,7 +42,7 @@ returns-in-Ok-clause-found g c =
     let name : text_at class.constant_pool member.name ≡ Ok c.unwrap-name.result.bytes.now = subst (Finds (λ t. t.bytes.now) (text_at class.constant_pool member.name)) c.unwrap-name.ensures c.text.ensures in
     let descriptor : text_at class.constant_pool member.descriptor ≡ Ok c.unwrap-descriptor.result.bytes.now = subst (Finds (λ t. t.bytes.now) (text_at class.constant_pool member.descriptor)) c.unwrap-descriptor.ensures c.text-2.ensures in
     let classes = g.C.Classes.content c.args.classes.now in
-    let answers : Answers classes class c.args.number (Ok c.in-Ok.verdict) = subst (λ k. Answers classes (class_view k) c.args.number (Ok c.in-Ok.verdict)) (sym c.class-class.ensures.same) c.in-Ok.ensures in
+    let answers : Answers classes class c.args.number (Ok c.in-Ok.verdict) = subst (λ k. Answers classes (class_view k) c.args.number (Ok c.in-Ok.verdict)) (sym c.class-class.ensures.same) c.in-Ok.ensures.answered in
     subst (λ k. IsReported classes (class_view k) c.args.number (record { name = c.unwrap-name.result; descriptor = c.unwrap-descriptor.result; verdict = c.in-Ok.verdict })) c.class-class.ensures.same
     (record {
       member = member_view member;
