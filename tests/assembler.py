@@ -31,7 +31,7 @@ new newarray anewarray arraylength athrow checkcast instanceof monitorenter moni
 ifnull ifnonnull goto_w jsr_w
 """.split()
 
-# What stands behind an opcode, as `struct` spells it: small letters are signed.
+# The operands behind an opcode, as `struct` spells them: small letters are signed.
 FORMS = {
     **dict.fromkeys(["bipush"], "b"),
     **dict.fromkeys(["sipush"], "h"),

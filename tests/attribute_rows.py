@@ -63,7 +63,7 @@ def indices(place, name, letters):
 
 
 def attributes():
-    """What each file is, its bytes, and the line of it."""
+    """A name for each file, its bytes, and the line that is printed."""
     for place, name, major, once, letters in rows():
         body = body_of([SOUND[it] for it in letters.strip("*")], letters)
         sound = attribute(NAME, body)

@@ -35,7 +35,7 @@ def largest():
 
 
 def layouts():
-    """What is no class file, or one by its layout alone."""
+    """Files that are no class files, or are such by their layout alone."""
     yield "K", K.data(), "ok"
     yield "K cut in its last count", K.data()[:96], "refused 2 at 95"
     yield "no byte", b"", "refused 2 at 0"
@@ -66,7 +66,7 @@ def layouts():
 
 
 def pools():
-    """What stands behind magic and version, and where it is at fault."""
+    """Constant pools behind magic and version, and where they are at fault."""
     for start, line in (
         ("0000", "refused 16 at 8"),
         ("0002 02", "refused 7 at 10 tag 2"),
@@ -168,6 +168,6 @@ def rules():
 
 
 def checked():
-    """What each file is, its bytes, and the line of it."""
+    """A name for each file, its bytes, and the line of it."""
     for table in (layouts, pools, names, descriptors, rules):
         yield from table()

@@ -45,7 +45,7 @@ class Pool:
         self.constants = constants
 
     def asked(self, index, *tags):
-        """What is wrong with an index that asks for a constant of these tags."""
+        """The rules broken by an index that has to lead to a constant of these tags."""
         if index not in self.constants:
             return {20}
         return set() if self.constants[index][0] in tags else {21}
@@ -76,7 +76,7 @@ def when(number, holds):
 
 
 def constant_rules(pool, major, tag, numbers):
-    """What is wrong with a constant (4.4)."""
+    """The rules broken by a constant (4.4)."""
     if tag == CLASS:
         text = pool.text(numbers[0])
         bad = text is not None and not (is_class_name(text) or (text.startswith(b"[") and is_field_type(text)))
@@ -110,7 +110,7 @@ def constant_rules(pool, major, tag, numbers):
 
 
 def reference_rules(pool, tag, owner, name_and_type):
-    """What is wrong with a Fieldref, a Methodref or an InterfaceMethodref (4.4.2)."""
+    """The rules broken by a Fieldref, a Methodref or an InterfaceMethodref (4.4.2)."""
     rules = pool.asked(owner, CLASS) | pool.asked(name_and_type, NAME_AND_TYPE)
     if tag != METHOD:
         rules |= when(22, pool.is_array(owner))
@@ -129,7 +129,7 @@ def reference_rules(pool, tag, owner, name_and_type):
 
 
 def attribute_rules(pool, attributes):
-    """What is wrong with attributes: their names, the indices among their numbers, and what Code and Record attributes hold (4.7)."""
+    """The rules broken by attributes: their names, the indices among their numbers, and what Code and Record attributes hold (4.7)."""
     rules = set()
     codes = [it["code"] for it in attributes if it["code"] is not None]
     for it in attributes:
@@ -153,14 +153,14 @@ ASKED = {"u": [UTF8], "c": [CLASS], "v": [INTEGER, FLOAT, LONG, DOUBLE, STRING]}
 
 
 def number_rules(pool, letter, number):
-    """What is wrong with a number of an attribute."""
+    """The rules broken by a number of an attribute."""
     if letter == "n" or (letter.isupper() and number == 0):
         return set()
     return pool.asked(number, *ASKED[letter.lower()])
 
 
 def class_rules(pool, file):
-    """What is wrong with the class itself (4.1)."""
+    """The rules broken by the class itself (4.1)."""
     flags, this, above = file["flags"], file["this"], file["super"]
     rules = pool.asked(this, CLASS) | attribute_rules(pool, file["attributes"])
     if above:
@@ -186,7 +186,7 @@ def texts_of(pool, member):
 
 
 def member_rules(pool, member, earlier):
-    """What is wrong with a field as with a method (4.5, 4.6)."""
+    """The rules broken by a field, or likewise by a method (4.5, 4.6)."""
     rules = pool.asked(member["name"], UTF8) | pool.asked(member["descriptor"], UTF8)
     texts = texts_of(pool, member)
     return rules | attribute_rules(pool, member["attributes"]) | when(25, None not in texts and texts in earlier)

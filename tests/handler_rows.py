@@ -127,6 +127,6 @@ def rows_of(table, name, flags):
 
 
 def with_handlers():
-    """What each method is, the files of the class that has it alone, and its verdict."""
+    """A name for each method, the files of the class that has it alone, and its verdict."""
     yield from rows_of(ROWS, "f", STATIC)
     yield from rows_of(OF_CONSTRUCTORS, "<init>", 0)

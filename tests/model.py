@@ -275,7 +275,7 @@ def places(data):
 
 
 def check(data):
-    """What `check` prints of a file, and its status."""
+    """The output of `check` on a file, and its status."""
     try:
         read = data[: outline(data) + 1]
         if len(read) > LIMIT:

@@ -158,7 +158,7 @@ def of_object():
 
 
 def with_objects():
-    """What each method is, its class and the known ones, and its verdict."""
+    """A name for each method, its class and the known ones, and its verdict."""
     yield from rows_of(OF_CLASSES, "f", STATIC)
     yield from rows_of(OF_CONSTRUCTORS, "<init>", 0)
     yield from rows_of(OF_INSTANCES, "f", 0)

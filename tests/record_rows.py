@@ -46,7 +46,7 @@ def bodies():
 
 
 def records():
-    """What each file is, its bytes, and the line of `check`."""
+    """A name for each file, its bytes, and the line of `check`."""
     yield from bodies()
     for what, attributes, line in (
         ("a Record of no components", [record()], "ok"),
@@ -77,7 +77,7 @@ def records():
 
 
 def shown():
-    """What each file is, its bytes, and the lines of `show` behind the first two."""
+    """A name for each file, its bytes, and the lines of `show` behind the first two."""
     two = [record(component(5, 6), component(2, 4))]
     yield "a record", with_attributes("Record", *two), "component f ()V\ncomponent K java/lang/Object\n"
     yield "a record of no components", with_attributes("Record", record()), ""
@@ -96,6 +96,6 @@ def shown():
 
 
 def printed():
-    """What each file is, its bytes, and all that `show` prints of it."""
+    """A name for each file, its bytes, and all that `show` prints of it."""
     for what, data, lines in shown():
         yield what, data, f"class K major {data[7]} minor 0 flags 0021\nsuper java/lang/Object\n{lines}{OF_K}"

@@ -275,6 +275,6 @@ def rows_of(table, flags):
 
 
 def with_references():
-    """What each method is, its class and the known ones, and its verdict."""
+    """A name for each method, its class and the known ones, and its verdict."""
     yield from rows_of(ROWS, STATIC)
     yield from rows_of(OF_INSTANCES, 0)

@@ -240,6 +240,6 @@ def hierarchies():
 
 
 def verified():
-    """What each list of files is, their bytes, and the line of it."""
+    """A name for each list of files, their bytes, and the line of it."""
     for table in (verdicts, mapped_verdicts, with_references, with_objects, with_handlers, without_code, hierarchies):
         yield from table()

@@ -178,7 +178,7 @@ def shown():
 
 
 def calls():
-    """What a call shows, and the file and the name of its test."""
+    """The subject of each call, with the file and the name of its test."""
     for line in CALLS.strip().splitlines():
         what, test = line.split(" | ")
         yield what, *test.split("::")
