@@ -51,7 +51,7 @@ fn is_lost(read: &Result<Vec<u8>, StreamFault>) -> bool
     }
 }
 
-/// Whether memory ran out while one of the files was read.
+/// True where memory ran out while one of the files was read.
 fn has_lost(reads: &[Result<Vec<u8>, StreamFault>]) -> bool
     ensures { result ≡ has_lost (map read_view reads.now) }
 {

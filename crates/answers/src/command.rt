@@ -1,6 +1,6 @@
 //! The commands of the program.
 
-/// What is asked of a class file.
+/// A question about a class file.
 #[derive(Clone, Copy, Debug, PartialEq, Eq)]
 pub enum Command {
     /// `check FILE`: whether the file is a class file that is well formed.

@@ -1,4 +1,4 @@
-//! What follows of the definition of answers alone.
+//! Laws of the definition of answers.
 ghost use Rattle.answers.specs.Laws.{OneAnswer};
 
 use classfile::{no_fault_in_class, no_fault_in_formed, one_class, one_fault, one_first_fault};

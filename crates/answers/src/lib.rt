@@ -1,4 +1,4 @@
-//! What is answered of files, once they are read: a text and a status.
+//! The answers on files, once these are read: a text and a status.
 //!
 //! `answer` (`answering`) answers each [`Command`], with a module for each: `checking`, `showing`, `verifying`. What is
 //! said is decided by the verifier, of files as they were read (`reads`), and then written (`telling`, `refusal`, `verdicts`).

@@ -9,7 +9,7 @@ use layout::StreamFault;
 use std::alloc::Global;
 use verify::FileRead;
 
-/// What was read of a file.
+/// The bytes that were read of a file, or why there are none.
 pub fn file_read(read: &Result<Vec<u8>, StreamFault>) -> FileRead<'_>
     ensures { read_of result ≡ read_view read.now }
 {
@@ -19,7 +19,7 @@ pub fn file_read(read: &Result<Vec<u8>, StreamFault>) -> FileRead<'_>
     }
 }
 
-/// What was read of files.
+/// The same of each file, in their order.
 pub fn file_reads(
     alloc: Global,
     reads: &[Result<Vec<u8>, StreamFault>],

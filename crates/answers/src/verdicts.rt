@@ -84,7 +84,7 @@ impl<'a> Print for HierarchyRefusal<'a> {
     }
 }
 
-/// What stands behind a reason: the class that is missing, or the number of the fault in a stack map or in code.
+/// The end of a refusal: the class that is missing, or the number of the fault in a stack map or in code.
 #[derive(Clone, Copy)]
 struct ReasonEnding<'a>(Reason<'a>);
 
@@ -102,7 +102,7 @@ impl<'a> Print for ReasonEnding<'a> {
     }
 }
 
-/// What is answered of a method, behind its name.
+/// The verdict on a method, behind its name.
 #[derive(Clone, Copy)]
 struct VerdictText<'a>(Verdict<'a>);
 

@@ -15,7 +15,7 @@ use std::hash::RandomState;
 use std::io::{BufWriter, ErrorKind, Write};
 use std::process::ExitCode;
 
-/// What the line asks for.
+/// The request that the line makes.
 fn asked(rt: &HostRuntime) -> Result<Request, Ending> {
     let alloc = rt.alloc();
     let words: Vec<String> = match std::env::args(rt) {

@@ -47,7 +47,7 @@ fn read_whole<R: Read>(alloc: Global, reader: &mut R) -> Result<Vec<u8>, StreamF
     read_behind(class, reader)
 }
 
-/// What a file holds, read piece by piece.
+/// Reads a file through a buffer, as far as its class reaches and one byte more.
 fn read_file(alloc: Global, file: File) -> Result<Vec<u8>, StreamFault> {
     match BufReader::new(alloc, file) {
         Ok(mut reader) => read_whole(alloc, &mut reader),

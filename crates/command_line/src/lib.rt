@@ -1,4 +1,4 @@
-//! What a command line asks for, and what the program says where it ends without an answer.
+//! Command lines: the request that the words make, and the text where the program ends without an answer.
 //!
 //! `line` has what is asked for, `parsing` reads it of words with `clap`, `fault` has what else may go wrong, and
 //! `complaining` says it.

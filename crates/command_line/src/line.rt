@@ -1,11 +1,11 @@
-//! What a command line asks for, or why it asks for nothing.
+//! The request that a command line makes, or why it makes none.
 ghost use Rattle.std.specs.Prelude.{◌≡◌};
 ghost use Rattle.command_line.specs.declared.line.LineFault.TheVariants.{OutOfMemory};
 
 use answers::Command;
 use std::alloc::{AllocError, AllocFailed};
 
-/// What a command line asks for.
+/// A command and the files that it is to judge.
 #[derive(Debug, Drop)]
 pub struct Request {
     /// The command.

@@ -88,7 +88,7 @@ pub fn code_of(alloc: Global, bytes: &[u8]) -> Result<Count, Difference> {
     Ok(count)
 }
 
-/// Decodes this code and encodes it again; answers how many instructions it has.
+/// Decodes this code and encodes it again; returns how many instructions it has.
 fn same_code(alloc: Global, code: &[u8]) -> Result<usize, Difference> {
     if code.len() > MAX_CODE_BYTES {
         return Err(Difference::TooLong);

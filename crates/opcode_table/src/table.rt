@@ -20,7 +20,7 @@ pub fn print(rt: &HostRuntime) -> io::Result<()> {
     Ok(())
 }
 
-/// Prints what numeric instructions take and give, and the forms of those that move items.
+/// Prints the kinds that numeric instructions take and give, and the forms of those that move items.
 fn print_stack(rt: &HostRuntime, meaning: Meaning) -> io::Result<()> {
     match meaning {
         Meaning::Numeric(operator) => {

@@ -60,7 +60,7 @@ impl<'a> Print for Instructed<'a> {
     }
 }
 
-/// What is caught: a class, or everything.
+/// The class that an entry of an exception table catches, or `any`.
 #[derive(Clone, Copy)]
 struct Caught<'p, 'a>(ClassName<'p, 'a>);
 
@@ -76,7 +76,7 @@ impl<'p, 'a> Print for Caught<'p, 'a> {
     }
 }
 
-/// What an item of an exception table covers, and where it is handled.
+/// The range that an entry of an exception table covers, and its handler.
 #[derive(Clone, Copy)]
 struct Range(ExceptionHandler);
 

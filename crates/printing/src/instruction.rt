@@ -167,7 +167,7 @@ impl<'a> Located<'a> {
         Target::new(self.at, offset)
     }
 
-    /// What stands behind its name.
+    /// Writes its operands.
     fn put_operands<W: Write>(&self, out: &mut W) -> Result<(), WriteFailed>
         ensures { Writes (W.contents out.old) (W.contents out.new) (operands_text self.now.at (operands_view self.now.insn.operands)) result }
     {
@@ -211,7 +211,7 @@ impl<'a> Located<'a> {
     }
 }
 
-/// What stands behind an instruction's name.
+/// The operands of an instruction, behind its name.
 #[derive(Clone, Copy)]
 struct OperandsOf<'a>(Located<'a>);
 

@@ -1,4 +1,4 @@
-//! What a class file holds, as text for people: written piece by piece, without memory.
+//! Class files as text for people, written piece by piece and without memory.
 //!
 //! Each thing that has a text is a [`Print`], whose text is a function of it (`specs/`), and
 //! writing it writes exactly that, or a beginning of it where a write fails. The calls to know are

@@ -10,7 +10,7 @@ use std::io::Write;
 #[derive(Debug, Clone, Copy)]
 pub struct WriteFailed;
 
-/// What has a text.
+/// A value that has a text.
 pub trait Print {
     ghost text: { Self → List ℕ };
 
@@ -78,7 +78,7 @@ impl<A: Print, B: Print> Print for Then<A, B> {
     }
 }
 
-/// What has a line for each item of a kind.
+/// A value that has a line for each item of a kind.
 pub trait Lines<T> {
     ghost line: { Self → T → List ℕ };
 

@@ -71,7 +71,7 @@ fn types(rt: HostRuntime) {
 /// The types of a frame's local variables or stack, those of a wanted one, and what is answered.
 type Row<'s, 'a> = (&'s [VType<'a>], &'s [VType<'a>], Answer<'a>);
 
-/// Whether this is answered of two frames, of which the second is wanted; want of memory aside.
+/// True where this is the answer on two frames, of which the second is wanted, or memory ran out.
 fn is_answered<'a, C: Classes>(
     from: Result<Frame<'a>, AllocError>,
     to: Result<Frame<'a>, AllocError>,

@@ -115,7 +115,7 @@ fn instructions_one_by_one(rt: HostRuntime) {
     assert!(rt; Instructions::new(&[]).next().is_none());
 }
 
-/// Whether the thing is shown to who mends the program as this text; want of memory aside.
+/// True where `Debug` writes the value as this text, or memory ran out.
 fn is_shown<T: Debug>(alloc: Global, shown: &T, want: &str) -> bool {
     match format!(in alloc; "{shown:?}") {
         Ok(text) => text.as_str() == want,

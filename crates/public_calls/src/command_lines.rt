@@ -1,4 +1,4 @@
-//! What a line asks for, and what the program complains of.
+//! The requests that lines make, and the complaints of the program.
 use answers::Command;
 use clap::error::ErrorKind;
 use command_line::{LineFault, MainFault, complaint, request};

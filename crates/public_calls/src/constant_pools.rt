@@ -146,7 +146,7 @@ fn broken(alloc: Global) -> Result<Vec<Constant<'static>>, AllocError> {
     constants.to_vec(alloc)
 }
 
-/// What is answered of them is that of the first index at fault.
+/// The refusal names the first index at fault.
 fn are_broken(alloc: Global) -> bool {
     match broken(alloc) {
         Ok(constants) => {

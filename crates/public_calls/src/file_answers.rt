@@ -1,4 +1,4 @@
-//! What each command answers of files, read or not, and what a writer that fails takes of it.
+//! The answer of each command on files, read or not, and how much of it a writer takes that fails.
 use crate::making::{K, hasher};
 use answers::{AnswerFault, Command, answer, one_answer};
 use layout::{ReadFault, StreamFault};
@@ -110,7 +110,7 @@ fn a_writer_that_fails(rt: HostRuntime) -> Result<(), Fail> {
     Ok(())
 }
 
-/// What `check` answers of a file that was not read: its status and the text.
+/// The status and the text of `check` for a file that was not read.
 fn unread(alloc: Global, why: ReadFault) -> Result<(Result<u8, AnswerFault>, Vec<u8>), AllocError> {
     let mut reads = Vec::new(alloc);
     reads.push(Err(StreamFault { taken: 50, why }))?;

@@ -9,7 +9,7 @@ use rules::{After, Env, apply, branches, falls};
 use std::alloc::Global;
 use std::test::*;
 
-/// What an instruction leaves, or the number of the reason for which it is refused.
+/// The frame that an instruction leaves, or the number of the reason for which it is refused.
 type Judged<'a> = Result<After<'a>, u8>;
 
 /// The class file of K with a method `<init>` of two local variables, with room for four units on the stack.
@@ -37,7 +37,7 @@ fn with(code: u8) -> [u8; 102] {
     bytes
 }
 
-/// What the rule says of the first instruction.
+/// The outcome of the rule on the first instruction.
 fn apply_first<'a, C: Classes>(
     alloc: Global,
     env: &Env<'_, '_, 'a, C>,
@@ -94,7 +94,7 @@ fn judge_class<'a>(alloc: Global, class: &ClassFile<'a>, frame: &Frame<'a>) -> J
     }
 }
 
-/// What the rule says of the instruction in `<init>` of this class file, before which these types stand on the stack and
+/// The outcome of the rule on the instruction in `<init>` of this class file, before which these types stand on the stack and
 /// nothing is known of the local variables.
 fn judge<'a>(alloc: Global, bytes: &'a [u8], stack: &[VType<'a>], flag: bool) -> Judged<'a> {
     let before = frame(alloc, &[VType::Top, VType::Top], stack, flag);

@@ -8,7 +8,7 @@ use std::alloc::{AllocError, Global};
 use std::collections::BTreeMap;
 use std::test::*;
 
-/// What comes of a step, or the number of what is refused.
+/// The outcome of a step, or the number of the refusal.
 pub type Stepped<'a> = Result<Outcome<'a>, u8>;
 
 #[test]
@@ -29,7 +29,7 @@ fn state<'a>(alloc: Global, locals: [Slot; 2], stack: &[Value]) -> Result<State<
     })
 }
 
-/// What comes of a step of the method, where there are `java/lang/Object`, `java/lang/Throwable` and the class K.
+/// The outcome of a step of the method, where there are `java/lang/Object`, `java/lang/Throwable` and the class K.
 fn step_of_method<'a>(
     alloc: Global,
     method: &Method<'_, 'a>,
@@ -125,7 +125,7 @@ fn leads_to(stepped: Stepped<'_>, locals: [Slot; 2], stack: &[Value]) -> bool {
     }
 }
 
-/// What comes of the first of these bytes, from these local variables and this stack.
+/// The outcome of the first of these bytes, from these local variables and this stack.
 fn went<'a>(
     alloc: Global,
     bytes: &'a [u8],
@@ -161,7 +161,7 @@ fn numbers_and_locals(rt: HostRuntime) {
     assert!(rt; leads(rt.alloc(), 0x3C, (long, &[Value::Int]), (int, &[])));
 }
 
-/// What comes of an instruction from empty local variables and an `int` on the stack: whether it ends the method, is a
+/// The outcome of an instruction from empty local variables and an `int` on the stack: whether it ends the method, is a
 /// fault, or is refused for a number.
 fn outcome(alloc: Global, code: u8, choice: &Choice<'_>) -> (bool, bool, u8) {
     match went(alloc, &catching([code, 0x00]), EMPTY, &[Value::Int], choice) {

@@ -1,4 +1,4 @@
-//! What the tests of several files stand on: class files of one method, what is known of classes, frames, and what is written and shown.
+//! Values that tests of several files use: class files of one method, summaries of classes, frames, and texts as they are written.
 use frames::{Frame, VType};
 use hierarchy::Summary;
 use layout::{Part, WriteFault};
@@ -34,7 +34,7 @@ pub fn catching(code: [u8; 2]) -> [u8; 106] {
     bytes
 }
 
-/// What is known of a class or interface that is not final and has no members, by its name and its superclass's.
+/// The summary of a class or interface that is not final and has no members, by its name and its superclass's.
 pub fn summary<'a>(
     alloc: Global,
     name: &'a [u8],
@@ -50,12 +50,12 @@ pub fn summary<'a>(
     }
 }
 
-/// What is known of `java/lang/Object`.
+/// The summary of `java/lang/Object`.
 pub fn object<'a>(alloc: Global) -> Summary<'a> {
     summary(alloc, OBJECT, None, false)
 }
 
-/// What is known of `java/lang/Object`, of a class A and a class C below it, and of an interface I; there is no class B.
+/// The summaries of `java/lang/Object`, of a class A and a class C below it, and of an interface I; there is no class B.
 pub fn setting<'a>(alloc: Global) -> [Summary<'a>; 4] {
     [
         object(alloc),
@@ -79,12 +79,12 @@ pub fn frame<'a>(
     })
 }
 
-/// What a hierarchy hashes the names of its classes by.
+/// The hasher by which a hierarchy finds the names of its classes.
 pub fn hasher() -> BuildHasherDefault<FoldHasher> {
     BuildHasherDefault::new()
 }
 
-/// The number of want of memory.
+/// The number that says that memory ran out.
 pub const OUT_OF_MEMORY: u8 = 1;
 
 /// Whether these bytes are written; or memory ran out, where it may.
@@ -104,7 +104,7 @@ pub fn is_put<'a, P: Part<'a>>(alloc: Global, part: &P, want: &[u8], may_fail: b
     }
 }
 
-/// Whether the thing is displayed as this text; want of memory aside.
+/// True where the value is displayed as this text, or memory ran out.
 pub fn is_shown<T: Display>(alloc: Global, shown: &T, want: &str) -> bool {
     match format!(in alloc; "{shown}") {
         Ok(text) => text.as_str() == want,

@@ -99,7 +99,7 @@ fn answering<'a>(alloc: Global, answer: Option<Value>) -> Choice<'a> {
     }
 }
 
-/// What comes of the first instruction of this code from this stack, by this answer.
+/// The outcome of the first instruction of this code from this stack, by this answer.
 fn stepped<'a>(
     alloc: Global,
     bytes: &'a [u8],

@@ -3,7 +3,7 @@ use layout::{Cursor, Output, Part, ReadFault, StreamFault, WriteFault, many, who
 use std::alloc::Global;
 use std::test::*;
 
-/// What is read of the first seven of nine bytes.
+/// The numbers that are read of the first seven of nine bytes.
 fn reads_start(cursor: &mut Cursor<'_>) -> bool {
     matches!(
         (cursor.u1(), cursor.u2(), cursor.u4()),
@@ -11,7 +11,7 @@ fn reads_start(cursor: &mut Cursor<'_>) -> bool {
     )
 }
 
-/// What is read of the last two of nine bytes by a cursor of its own.
+/// The number that a cursor of its own reads of the last two of nine bytes.
 fn reads_fork(cursor: &Cursor<'_>) -> bool {
     let mut other = cursor.fork();
     matches!(other.part(2), Ok([8, 9]))
@@ -30,7 +30,7 @@ fn is_short(cursor: &mut Cursor<'_>) -> bool {
     )
 }
 
-/// What is read of the last two of nine bytes.
+/// The number that is read of the last two of nine bytes.
 fn reads_end(cursor: &mut Cursor<'_>) -> bool {
     matches!(cursor.u1(), Ok(8))
         && matches!(cursor.u2(), Err(ReadFault::EndsEarly { at: 8 }))
@@ -69,7 +69,7 @@ fn parts(rt: HostRuntime) {
     );
 }
 
-/// What is answered of an attribute at 4, whose body is one byte.
+/// The attribute at 4, whose body is one byte, or its refusal.
 fn is_whole(inner: &mut Cursor<'_>) -> bool {
     let early = whole(4, inner, Ok::<u8, ReadFault>(0));
     let cut = inner.u2();

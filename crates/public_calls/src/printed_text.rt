@@ -7,7 +7,7 @@ use printing::{Listing, Name, Print, Then, Word};
 use std::alloc::Global;
 use std::test::*;
 
-/// Whether this is printed; want of memory aside.
+/// True where this is printed, or memory ran out.
 fn is_printed<T: Print>(alloc: Global, text: &T, want: &[u8]) -> bool {
     let mut out: Vec<u8> = Vec::new(alloc);
     text.put(&mut out).is_ok() && out.as_slice() == want

@@ -1,4 +1,4 @@
-//! What is read of readers that hand their bytes out in pieces, end early or fail.
+//! Reading from readers that hand their bytes out in pieces, end early or fail.
 ghost use Rattle.std.specs.Prelude.{◌≤◌, ◌<◌, length};
 
 use crate::making::K;
@@ -59,7 +59,7 @@ fn cut(bytes: &[u8], n: usize, fails: bool, piece: usize) -> Pieces<'_>
     }
 }
 
-/// What is answered of K, cut behind the first `n` bytes.
+/// The answer on K, cut behind the first `n` bytes.
 fn of_cut(alloc: Global, n: usize, fails: bool, piece: usize) -> Result<Vec<u8>, StreamFault>
     requires { n ≤ 97 }
 {
@@ -130,7 +130,7 @@ fn memory_for_a_class(rt: HostRuntime) {
     assert!(rt; leaves_three(rt.alloc(), 7, true));
 }
 
-/// What is answered of K with one byte changed, and how many bytes were taken.
+/// The answer on K with one byte changed, and how many bytes were taken.
 fn of_changed(alloc: Global, place: usize, byte: u8) -> Result<Vec<u8>, StreamFault>
     requires { place < 97 }
 {
@@ -211,7 +211,7 @@ fn a_pool_without_a_count(rt: HostRuntime) {
     );
 }
 
-/// What is gathered of eight bytes: a number of each size, one byte more, and then the reader fails.
+/// The bytes that are gathered of eight: a number of each size, one byte more, and then the reader fails.
 fn gathers(alloc: Global) -> Result<Vec<u8>, StreamFault> {
     let bytes = [1, 2, 3, 4, 5, 6, 7, 8];
     let mut reader = cut(&bytes, 8, true, 3);

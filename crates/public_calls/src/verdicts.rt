@@ -1,4 +1,4 @@
-//! What is answered of methods and classes that no program shows.
+//! Verdicts on methods and classes that no program shows.
 use crate::making::{K, catching, hasher, object};
 use classfile::{ClassFile, Formed, decode, encode, form_check};
 use hierarchy::{Rows, summary_of};
@@ -122,7 +122,7 @@ fn memory_runs_out_for_a_report(rt: HostRuntime) {
     assert!(rt; is_report_or(rt.alloc(), true));
 }
 
-/// What is answered of these bytes where `java/lang/Object` is the one class.
+/// The report on these bytes where `java/lang/Object` is the one class.
 fn is_unlisted(alloc: Global, bytes: &[u8]) -> bool {
     let list = [object(alloc)];
     match Rows::new(alloc, &list, hasher()) {
@@ -142,7 +142,7 @@ fn unlisted_class_without_methods(rt: HostRuntime) {
     assert!(rt; is_unlisted(rt.alloc(), &bytes));
 }
 
-/// What is answered of a class whose superclass is `java/lang/Object`, which is final.
+/// The report on a class whose superclass is `java/lang/Object`, which is final.
 fn is_refused_below_final(alloc: Global, bytes: &[u8], formed: &Formed<'_, '_>) -> bool {
     let Ok(own) = summary_of(alloc, formed) else {
         return false;
