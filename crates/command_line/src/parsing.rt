@@ -13,7 +13,7 @@ use std::alloc::{AllocError, Global};
 const STATUSES: &str =
     "Status 0: all well. 1: something is refused. 2: a wrong line, a file that cannot be read, no memory, or output that cannot be written.
 
-docs/REFUSALS.md explains each number that is printed.";
+docs/REFUSALS.md explains each number that is printed, and docs/classck.1 is the man page.";
 
 /// The product's version, and the toolchain that proved it.
 const VERSION: &str = "0.9, proved with rattle-kit-13f logic dac8208d650f15bf";
@@ -48,8 +48,8 @@ const VERIFY_EXAMPLE: &str = "Example:
   method <init> ()V verified
   method mean (II)I verified
 
-Each method is `verified`, has `no code`, or is `refused NUMBER at OFFSET`, the offset counting bytes of its code. `refused 77` ends in
-the name of a class that is to be added to the files. docs/REFUSALS.md explains the numbers 40 to 81.";
+Each method is `verified`, has `no code`, or is `refused NUMBER at OFFSET`, the offset counting bytes of its code. Behind 77 stands
+`missing NAME`: give the file of that class as well; examples/judge does so by itself. docs/REFUSALS.md explains the numbers 40 to 81.";
 
 /// A command that takes one file: `NAME FILE`.
 fn one_file<'a>(alloc: Global, name: &'a str) -> Result<Parser<'a>, AllocError>
@@ -68,9 +68,11 @@ fn check<'a>(alloc: Global) -> Result<Parser<'a>, AllocError>
     ensures local { IfOk result (λ c. (out-Command c).has_globals ≡ false) }
 {
     let command = one_file(alloc, "check")?;
-    Ok(command
-        .about("Prints `ok`, or `refused` with the number of the first fault and its place")
-        .after_help(CHECK_EXAMPLE))
+    Ok(
+        command
+            .about("Prints `ok`, or `refused` with the number of the first fault and its place")
+            .after_help(CHECK_EXAMPLE),
+    )
 }
 
 /// `show FILE`
@@ -79,9 +81,11 @@ fn show<'a>(alloc: Global) -> Result<Parser<'a>, AllocError>
     ensures local { IfOk result (λ c. (out-Command c).has_globals ≡ false) }
 {
     let command = one_file(alloc, "show")?;
-    Ok(command
-        .about("Prints what a class file holds, and of each method with code its instructions")
-        .after_help(SHOW_EXAMPLE))
+    Ok(
+        command
+            .about("Prints what a class file holds, and of each method with code its instructions")
+            .after_help(SHOW_EXAMPLE),
+    )
 }
 
 /// The file of the class that is verified.
@@ -120,9 +124,11 @@ fn verify<'a>(alloc: Global) -> Result<Parser<'a>, AllocError>
     ensures local { IfOk result (λ c. (out-Command c).has_globals ≡ false) }
 {
     let command = class_and_known(alloc)?;
-    Ok(command
-        .about("Prints the verdict on each method of a class")
-        .after_help(VERIFY_EXAMPLE))
+    Ok(
+        command
+            .about("Prints the verdict on each method of a class")
+            .after_help(VERIFY_EXAMPLE),
+    )
 }
 
 /// The command lines of one file.

@@ -37,7 +37,6 @@ impl<'a> Method<'_, 'a> {
     pub(crate) fn is_own_field(&self, field: &FieldConstant<'_>) -> bool
         ensures { result ≡ is_own_field (method_view self.now) (field_view field.now) }
     {
-        self.class_name() == field.class
-            && declares_field(self.class, field.name, field.descriptor)
+        self.class_name() == field.class && declares_field(self.class, field.name, field.descriptor)
     }
 }

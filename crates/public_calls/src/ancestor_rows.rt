@@ -97,8 +97,17 @@ fn what_is_refused(rt: HostRuntime) {
 #[test]
 fn interfaces_that_are_refused(rt: HostRuntime) {
     let alloc = rt.alloc();
-    let class = [object(alloc), summary(alloc, CLONEABLE, Some(OBJECT), false)];
-    assert!(rt; are_refused(alloc, &class, HierarchyFault::BadArrayInterface { name: CLONEABLE }));
+    let class = [
+        object(alloc),
+        summary(alloc, CLONEABLE, Some(OBJECT), false),
+    ];
+    assert!(rt;
+        are_refused(
+            alloc,
+            &class,
+            HierarchyFault::BadArrayInterface { name: CLONEABLE }
+        )
+    );
     let below = [
         object(alloc),
         summary(alloc, b"A", Some(OBJECT), false),

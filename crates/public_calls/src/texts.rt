@@ -147,7 +147,9 @@ fn counted(descriptor: &[u8]) -> Option<(usize, usize)> {
 
 #[test]
 fn parameters_one_by_one(rt: HostRuntime) {
-    let first = check_text(b"([[La;J)V").ok().and_then(|text| parameter_types(text).next());
+    let first = check_text(b"([[La;J)V")
+        .ok()
+        .and_then(|text| parameter_types(text).next());
     let base = Base::Class(b"a");
     assert!(rt; first == Some(FieldType { dims: 2, base }));
     assert!(rt; counted(b"(I[La(b)c;J[[D)[[Ld)e;") == Some((4, 3)));
