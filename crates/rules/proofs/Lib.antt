@@ -11,6 +11,7 @@ pub mod Directions
 pub mod Arguments
 pub mod Replaced
 pub mod Constructors
+pub mod DeclaredFields
 pub mod SpecialCalls
 pub mod Made
 pub mod Rising

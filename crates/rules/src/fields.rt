@@ -94,11 +94,12 @@ fn is_named(pool: &Pool<'_>, field: &Member<'_>, name: &[u8], descriptor: &[u8])
 fn is_declared(pool: &Pool<'_>, fields: &[Member<'_>], name: &[u8], descriptor: &[u8]) -> bool
     ensures { result ≡ is_declared (declared_fields pool.now (map member_view fields.now)) name.now descriptor.now }
 {
-    match fields {
-        [] => false,
-        [field, others @ ..] => is_named(pool, field, name, descriptor)
-            || is_declared(pool, others, name, descriptor),
+    for field in fields {
+        if is_named(pool, field, name, descriptor) {
+            return true;
+        }
     }
+    false
 }
 
 /// Whether the class declares the field that the constant names.

@@ -1,5 +1,0 @@
-use Rattle.std.proofs.Common.{length}
-use Rattle.rules.proofs.fields.+is_declared.Given as goal
-
-abbrev pub decreases-is_declared : goal.decreases-is_declared
-decreases-is_declared l = length l.fields.now
