@@ -6,6 +6,7 @@
 //! | `streams` | `layout` and `classfile`: what is read of readers that hand their bytes out in pieces, end early or fail |
 //! | `texts` | `names`: texts, names and descriptors |
 //! | `constant_pools` | `pool`: pools, and look-ups in them |
+//! | `named_constants` | `pool`: what instructions name, read once |
 //! | `class_files`, `class_forms` | `classfile`: class files both ways, and which are well formed |
 //! | `code_reading`, `code_writing` | `insn`: code both ways |
 //! | `code_forms` | `insn`: the form of each instruction |
@@ -55,6 +56,8 @@ mod instruction_rules;
 mod machine_steps;
 #[cfg(test)]
 mod making;
+#[cfg(test)]
+mod named_constants;
 #[cfg(test)]
 mod object_steps;
 #[cfg(test)]

@@ -1,0 +1,111 @@
+"""Class files whose methods name constants of one long text again and again, and fields of a class that has very many, for `bench/hostile`."""
+import struct
+
+from long_texts import LONGEST, indices, utf8
+
+ACONST_NULL, ICONST_0, ALOAD_0, POP, RETURN = b"\x01", b"\x03", b"\x2a", b"\x57", b"\xb1"
+GETSTATIC, PUTFIELD, INVOKESPECIAL, INVOKESTATIC, CHECKCAST = b"\xb2", b"\xb5", b"\xb7", b"\xb8", b"\xc0"
+STATIC = 9
+
+# At 1 and 3 the class and its superclass, at 5 `()V`, at 6 `Code`, at 7 the name that is called, at 8 the constant that is named; from 13 on come the others.
+HEAD = [
+    indices(7, 2), utf8(b"K"), indices(7, 4), utf8(b"java/lang/Object"), utf8(b"()V"), utf8(b"Code"), utf8(b"f"),
+]
+NAMED, NAME_AND_TYPE, TEXT, SPARE_NAME, SPARE_INIT = 8, 9, 10, 11, 12
+CONSTANTS = 13
+CLASS_OF_LONG_NAME = b"a" * (LONGEST - 6)
+METHOD_TEXT, FIELD_TEXT, ARRAY_TEXT = b"(L" + CLASS_OF_LONG_NAME + b";)V", b"L" + CLASS_OF_LONG_NAME + b";", b"[L" + CLASS_OF_LONG_NAME + b";"
+
+
+def member_constants(tag, text):
+    """What a Fieldref or a Methodref leads to, by its descriptor."""
+    return [indices(tag, 1, NAME_AND_TYPE), indices(12, 7, TEXT), utf8(text), utf8(b"<init>"), indices(12, SPARE_NAME, 5)]
+
+
+def class_constant(text):
+    return [indices(7, TEXT), indices(12, 7, 5), utf8(text), utf8(b"<init>"), indices(12, SPARE_NAME, 5)]
+
+
+def code_of(method):
+    name, flags, max_stack, max_locals, code = method
+    body = struct.pack(">HHI", max_stack, max_locals, len(code)) + code + bytes(4)
+    return struct.pack(">HHHHHI", flags, name, 5, 1, 6, len(body)) + body
+
+
+def class_file(named, others, methods, fields=()):
+    """A class with the constant that is named, with others behind it, and with these methods and fields."""
+    table = [*HEAD, *named, *others]
+    members = b"".join(struct.pack(">HHHH", 0, name, descriptor, 0) for name, descriptor in fields)
+    return (
+        b"\xca\xfe\xba\xbe\x00\x00\x00\x34" + struct.pack(">H", len(table) + 1) + b"".join(table)
+        + struct.pack(">HHHHH", 0x21, 1, 3, 0, len(fields)) + members
+        + struct.pack(">H", len(methods)) + b"".join(map(code_of, methods)) + bytes(2)
+    )
+
+
+def static(name, code, max_stack=1):
+    return (name, STATIC, max_stack, 0, code)
+
+
+def at(index):
+    return struct.pack(">H", index)
+
+
+CALLS = 16_383
+METHODS = 30_000
+
+
+def calls_of_one():
+    return class_file(member_constants(10, METHOD_TEXT), [utf8(b"m0")], [static(CONSTANTS, (ACONST_NULL + INVOKESTATIC + at(NAMED)) * CALLS + RETURN)])
+
+
+def calls_by_many():
+    """Each call names a Methodref of its own, which leads to a NameAndType of its own; all have one descriptor."""
+    first = CONSTANTS + 1
+    others = [utf8(b"m0")]
+    for i in range(CALLS):
+        others += [indices(10, 1, first + 2 * i + 1), indices(12, 7, TEXT)]
+    code = b"".join(ACONST_NULL + INVOKESTATIC + at(first + 2 * i) for i in range(CALLS)) + RETURN
+    return class_file(member_constants(10, METHOD_TEXT), others, [static(CONSTANTS, code)])
+
+
+def calls_in_many_methods():
+    names = [utf8(b"m%d" % i) for i in range(METHODS)]
+    return class_file(member_constants(10, METHOD_TEXT), names, [static(CONSTANTS + i, ACONST_NULL + INVOKESTATIC + at(NAMED) + RETURN) for i in range(METHODS)])
+
+
+def reads_of_a_field():
+    return class_file(member_constants(9, FIELD_TEXT), [utf8(b"m0")], [static(CONSTANTS, (GETSTATIC + at(NAMED) + POP) * CALLS + RETURN)])
+
+
+def casts_to_an_array():
+    code = ACONST_NULL + (CHECKCAST + at(NAMED)) * 21_843 + POP + RETURN
+    return class_file(class_constant(ARRAY_TEXT), [utf8(b"m0")], [static(CONSTANTS, code)])
+
+
+FIELDS, WRITES = 60_000, 13_000
+
+
+def writes_of_an_own_field():
+    """A constructor that writes the last field of very many, before it calls the constructor of its superclass."""
+    names = [utf8(b"g%d" % i) for i in range(FIELDS - 1)]
+    others = [indices(10, 3, SPARE_INIT), utf8(b"I"), *names]
+    named = [indices(9, 1, NAME_AND_TYPE), indices(12, 7, CONSTANTS + 1), utf8(b"V"), utf8(b"<init>"), indices(12, SPARE_NAME, 5)]
+    fields = [(CONSTANTS + 2 + i, CONSTANTS + 1) for i in range(FIELDS - 1)] + [(7, CONSTANTS + 1)]
+    code = (ALOAD_0 + ICONST_0 + PUTFIELD + at(NAMED)) * WRITES + ALOAD_0 + INVOKESPECIAL + at(CONSTANTS) + RETURN
+    return class_file(named, others, [(SPARE_NAME, 1, 2, 1, code)], fields)
+
+
+def verified(count):
+    return b"".join(b"method m%d ()V verified\n" % i for i in range(count))
+
+
+# by its name: the file, and what `verify` prints
+FILES = {
+    "16,383 calls of one method of a long descriptor": (calls_of_one, verified(1)),
+    "16,383 calls of as many methods of one long descriptor": (calls_by_many, verified(1)),
+    "30,000 methods that each call one of a long descriptor": (calls_in_many_methods, verified(METHODS)),
+    "16,383 reads of one field of a long descriptor": (reads_of_a_field, verified(1)),
+    "21,843 casts to one array of a long name": (casts_to_an_array, verified(1)),
+    "13,000 writes of the last of 60,000 own fields": (writes_of_an_own_field, b"method <init> ()V verified\n"),
+}
