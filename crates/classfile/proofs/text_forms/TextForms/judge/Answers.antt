@@ -1,4 +1,4 @@
-use Rattle.std.proofs.Common.{◌-◌, ◌∙◌, ℕ, Some, ap, sym, refl, arith}
+use Rattle.std.proofs.Common.{◌-◌, ◌∙◌, ℕ, Some, ap, arith}
 use Rattle.std.specs.Prelude.{slice_set}
 use Rattle.std.specs.Vec.{with_item}
 use Rattle.classfile.specs.declared.text_forms.TextForm.{TextForm}

@@ -1,4 +1,4 @@
-use Rattle.std.proofs.Common.{◌-◌, ◌∙◌, ℕ, ap, sym, arith}
+use Rattle.std.proofs.Common.{◌-◌, ◌∙◌, ℕ, ap, arith}
 use Rattle.std.specs.Prelude.{slice_index_or}
 use Rattle.classfile.proofs.Judged.{place_of, kept_form}
 use Rattle.classfile.proofs.text_forms.TextForms.of.Goals as goal
