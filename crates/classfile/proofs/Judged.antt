@@ -1,39 +1,73 @@
--- Texts of a pool whose forms are kept, entry by entry.
-use Rattle.std.proofs.Common.{◌≡◌, ℕ, ◌+◌, ◌-◌, ◌<◌, ◌≤◌, List, [], ◌∷◌, ◌++◌, Some, Ok, Option, map, option_map, drop, length, sym, ap, ◌∙◌, append_assoc, slice_index_or, arith}
-use Rattle.std.specs.Prelude.{slice_get}
-use Rattle.std.proofs.lemmas.List.{at_drop_more}
-use Rattle.std.proofs.lemmas.Option.{slice_get-map, slice_get_within}
+-- Texts of a pool whose forms are kept for their entries.
+use Rattle.std.proofs.Common.{◌≡◌, ℕ, ◌+◌, ◌-◌, ◌<◌, ◌≤◌, Bool, true, false, List, Some, Ok, Option, Result, length, refl, sym, ap, ◌∙◌, arith}
+use Rattle.std.specs.Prelude.{◌≢◌, nat_eq, slice_index_or, slice_set}
+use Rattle.std.proofs.lemmas.Bool.{eqb-true, eqb-false}
+use Rattle.std.proofs.lemmas.List.{get_or-set_same, get_or-set_other, length-set}
+use Rattle.std.proofs.lemmas.Option.{slice_get_within}
+use Rattle.pool.specs.declared.fault.PoolFault.{PoolFault}
 use Rattle.pool.specs.Entries.{Entry}
 use Rattle.pool.specs.Lookups.{text_at}
 use Rattle.pool.proofs.LookupLaws.{text_stands}
 use Rattle.classfile.specs.declared.text_forms.TextForm.{TextForm}
 use Rattle.classfile.specs.declared.text_forms.TextForms.{TextForms}
-use Rattle.classfile.specs.TextForms.{form_of, entry_form, AreForms}
+use Rattle.classfile.specs.TextForms.{form_of, AreForms}
 
--- the item at i, in front of those behind it
-pub item_left : {X Y : Type 0} (f : X → Y) (xs : List X) (i : ℕ) (x : X) → i < length xs → x ≡ slice_index_or xs i x
-    → map f (drop i xs) ≡ f x ∷ map f (drop (i + 1) xs)
-item_left f xs i x lt here = at_drop_more (map f) xs i x lt ∙ ap (λ y. f y ∷ map f (drop (i + 1) xs)) (sym here)
-
--- one more was kept
-pub one_more : {Y : Type 0} (kept : List Y) (y : Y) (left behind whole : List Y) → left ≡ y ∷ behind → kept ++ left ≡ whole → (kept ++ y ∷ []) ++ behind ≡ whole
-one_more kept y left behind whole split so = append_assoc kept (y ∷ []) behind ∙ ap (λ l. kept ++ l) (sym split) ∙ so
-
--- what is kept of a text
-pub record Kept (forms : List (Option TextForm)) (index : ℕ) (text : List ℕ) : Type 0 where
+-- the place of a text's entry
+pub record Place (pool : List Entry) (forms : TextForms) (index : ℕ) (text : List ℕ) : Type 0 where
   pub some : 1 ≤ index
-  pub within : index - 1 < length forms
-  pub here : slice_get forms (index - 1) ≡ Some (Some (form_of text))
+  pub within : index - 1 < length pool
+  pub kept : index - 1 < length forms.forms.items
+  pub here : text_at pool ((index - 1) + 1) ≡ Ok text
 
-pub kept_of : (pool : List Entry) (forms : TextForms) (index : ℕ) (text : List ℕ) → AreForms pool forms → text_at pool index ≡ Ok text → Kept forms.forms.items index text
-kept_of pool forms index text kept found =
+pub place_of : (pool : List Entry) (forms : TextForms) (index : ℕ) (text : List ℕ) → AreForms pool forms → text_at pool index ≡ Ok text → Place pool forms index text
+place_of pool forms index text are found =
     let stands = text_stands pool index text found in
-    let place : index - 1 ≡ stands.place = omega (arith, stands.counted) in
-    let here : slice_get forms.forms.items (index - 1) ≡ Some (Some (form_of text)) =
-    ap (λ (l : List (Option TextForm)). slice_get l (index - 1)) kept ∙ slice_get-map entry_form pool (index - 1)
-    ∙ ap (λ (k : ℕ). option_map entry_form (slice_get pool k)) place ∙ ap (option_map entry_form) stands.here in
+    let within = slice_get_within pool stands.place _ stands.here in
+    let back : (index - 1) + 1 ≡ index = omega (arith, stands.counted) in
     record {
       some = omega (arith, stands.counted);
-      within = slice_get_within forms.forms.items (index - 1) (Some (form_of text)) here;
-      here = here;
+      within = omega (arith, stands.counted, within);
+      kept = omega (arith, stands.counted, within, are.sized);
+      here = ap (text_at pool) back ∙ found;
     }
+
+-- what is kept of a text that was judged
+pub kept_form : (pool : List Entry) (forms : TextForms) (index : ℕ) (text : List ℕ) (found : Option TextForm) (form : TextForm) → AreForms pool forms → text_at pool index ≡ Ok text
+    → found ≡ slice_index_or forms.forms.items (index - 1) found → found ≡ Some form → form ≡ form_of text
+kept_form pool forms index text found form are here read is =
+    let place = place_of pool forms index text are here in
+    are.right (index - 1) found form text (sym read ∙ is) place.within place.here
+
+same_text : (t u : List ℕ) → (let r : Result (List ℕ) PoolFault = Ok t in r) ≡ Ok u → t ≡ u
+same_text t u e = cc
+
+same_form : (a b : TextForm) → (let o : Option TextForm = Some a in o) ≡ Some b → a ≡ b
+same_form a b e = cc
+
+-- one more is kept
+pub keep_form : (pool : List Entry) (old new : TextForms) (index : ℕ) (text : List ℕ) → AreForms pool old → text_at pool index ≡ Ok text
+    → new.forms.items ≡ slice_set old.forms.items (index - 1) (Some (form_of text)) → AreForms pool new
+keep_form pool old new index text are here written =
+    record { sized = ap length written ∙ length-set old.forms.items (index - 1) (Some (form_of text)) ∙ are.sized; right = right }
+  where
+    place : Place pool old index text
+    place = place_of pool old index text are here
+
+    right : (i : ℕ) (default : Option TextForm) (form : TextForm) (x : List ℕ) → slice_index_or new.forms.items i default ≡ Some form → i < length pool → text_at pool (i + 1) ≡ Ok x → form ≡ form_of x
+    right i default form x is within at = by_place (nat_eq i (index - 1)) refl
+      where
+        by_place : (b : Bool) → nat_eq i (index - 1) ≡ b → form ≡ form_of x
+        by_place true g =
+            let e : i ≡ index - 1 = eqb-true _ _ g in
+            let value : slice_index_or new.forms.items i default ≡ Some (form_of text) =
+            ap (λ (l : List (Option TextForm)). slice_index_or l i default) written
+            ∙ ap (λ (k : ℕ). slice_index_or (slice_set old.forms.items (index - 1) (Some (form_of text))) k default) e
+            ∙ get_or-set_same old.forms.items (index - 1) (Some (form_of text)) default place.kept in
+            let back : i + 1 ≡ index = omega (arith, e, place.some) in
+            let text_is : x ≡ text = same_text x text (sym at ∙ ap (text_at pool) back ∙ here) in
+            same_form form (form_of text) (sym is ∙ value) ∙ ap form_of (sym text_is)
+        by_place false g =
+            let apart : i ≢ index - 1 = eqb-false _ _ g in
+            let value : slice_index_or new.forms.items i default ≡ slice_index_or old.forms.items i default =
+            ap (λ (l : List (Option TextForm)). slice_index_or l i default) written ∙ get_or-set_other old.forms.items (index - 1) i (Some (form_of text)) default apart in
+            are.right i default form x (sym value ∙ is) within at

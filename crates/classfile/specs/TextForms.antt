@@ -1,7 +1,8 @@
--- Of which forms a text is (JVMS 4.2, 4.3), as it is kept for each entry of a constant pool that is a text, so that each is judged once.
+-- Of which forms a text is (JVMS 4.2, 4.3), as it is kept for its entry of a constant pool, so that each is judged once.
 -- Words of the code's own steps.
-use Rattle.std.specs.Prelude.{◌≡◌, ℕ, false, true, List, Option, Some, None, map}
-use Rattle.pool.specs.Entries.{Entry, Utf8}
+use Rattle.std.specs.Prelude.{◌≡◌, ℕ, ◌+◌, ◌<◌, false, true, List, length, Option, Some, Ok, slice_index_or}
+use Rattle.pool.specs.Entries.{Entry}
+use Rattle.pool.specs.Lookups.{text_at}
 use Rattle.classfile.specs.declared.text_forms.TextForm.{TextForm}
 use Rattle.classfile.specs.declared.text_forms.MethodForms.{MethodForms}
 use Rattle.classfile.specs.declared.text_forms.TextForms.{TextForms}
@@ -27,10 +28,7 @@ pub record AreMethodForms (text : List ℕ) (f : MethodForms) : Type 0 where
   pub receiver_method : f.receiver_method ≡ is_method_descriptor true text
   pub receiver_void : f.receiver_void ≡ is_void_descriptor true text
 
-abbrev pub entry_form : Entry → Option TextForm
-entry_form (Utf8 bytes) = Some (form_of bytes)
-entry_form e = None
-
--- the forms of all texts of the pool, each at its entry
-abbrev pub AreForms : List Entry → TextForms → Type 0
-AreForms pool forms = forms.forms.items ≡ map entry_form pool
+-- what is kept of the texts of the pool, each at its entry: of those that were judged, their forms
+pub record AreForms (pool : List Entry) (forms : TextForms) : Type 0 where
+  pub sized : length forms.forms.items ≡ length pool
+  pub right : (place : ℕ) (default : Option TextForm) (form : TextForm) (text : List ℕ) → slice_index_or forms.forms.items place default ≡ Some form → place < length pool → text_at pool (place + 1) ≡ Ok text → form ≡ form_of text

@@ -102,7 +102,7 @@ fn methods_form(alloc: Global, class: &ClassFile<'_>, forms: &TextForms) -> Resu
 fn places_form(alloc: Global, class: &ClassFile<'_>) -> Result<(), FormFault>
     ensures { MatchResult result (λ _. WellFormed (class_view class.now)) (TellsFirst (class_view class.now)) }
 {
-    let forms = TextForms::new(alloc, &class.constant_pool)?;
+    let forms = TextForms::new(alloc, class)?;
     pool_form(class, &forms)?;
     class_form(class)?;
     fields_form(alloc, class, &forms)?;

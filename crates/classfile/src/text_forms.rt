@@ -1,10 +1,11 @@
-//! Of which forms the texts of a constant pool are (JVMS 4.2, 4.3): each is judged once, however many constants and members name it.
+//! Of which forms the texts of a constant pool are (JVMS 4.2, 4.3): each that some constant or member asks it of is judged once, however many do.
 ghost use Rattle.std.specs.Prelude.{◌≡◌, Ok, IfOk};
 ghost use Rattle.pool.specs.Lookups.{text_at};
 ghost use Rattle.classfile.specs.Naming.{fits_method};
-ghost use Rattle.pool.specs.Views.{view};
-ghost use Rattle.classfile.specs.TextForms.{form_of, entry_form, AreForms, AreMethodForms};
+ghost use Rattle.classfile.specs.TextForms.{form_of, AreForms, AreMethodForms};
 
+use crate::class_file::ClassFile;
+use crate::member::Member;
 use crate::naming::{is_array_name, is_field_descriptor, is_init, name_forms};
 use names::{Text, method_shape};
 use pool::{Constant, Pool};
@@ -83,42 +84,95 @@ fn form_of(text: Text<'_>) -> TextForm
     }
 }
 
-/// The forms of all texts of a pool.
+/// The forms of the texts of a pool of which some constant, field or method asks one.
 #[derive(Drop)]
 pub struct TextForms {
+    /// For each entry its form, where it was judged.
     forms: Vec<Option<TextForm>>,
 }
 
-fn entry_form(constant: &Constant<'_>) -> Option<TextForm>
-    ensures { result ≡ entry_form (view constant.now) }
-{
-    match constant {
-        Constant::Utf8(text) => Some(form_of(*text)),
-        _ => None,
-    }
-}
-
 impl TextForms {
-    /// Judges each text of the pool.
-    pub fn new(alloc: Global, pool: &Pool<'_>) -> Result<TextForms, AllocError>
+    /// Judges the texts that classes, names and descriptors of the class are, each once.
+    pub fn new(alloc: Global, class: &ClassFile<'_>) -> Result<TextForms, AllocError>
+        ensures { IfOk result (AreForms class.now.constant_pool) }
+    {
+        let pool = &class.constant_pool;
+        let mut forms = TextForms::none(alloc, pool)?;
+        forms.judge_constants(pool);
+        forms.judge_members(pool, &class.fields);
+        forms.judge_members(pool, &class.methods);
+        Ok(forms)
+    }
+
+    /// No text is judged yet.
+    fn none(alloc: Global, pool: &Pool<'_>) -> Result<TextForms, AllocError>
         ensures { IfOk result (AreForms pool.now) }
     {
-        let constants = pool.constants();
-        let mut forms = Vec::with_capacity(alloc, constants.len())?;
-        for constant in constants {
-            forms.push(entry_form(constant))?;
-        }
+        let forms = vec![in alloc; None; pool.constants().len()]?;
         Ok(TextForms { forms })
     }
 
-    /// The forms of the text at this index.
+    /// Judges the text at this index, if there is one that was not judged.
+    fn judge(&mut self, pool: &Pool<'_>, index: u16)
+        requires { AreForms pool.now self.now }
+        ensures { AreForms pool.now self.new }
+    {
+        let Ok(text) = pool.text(index) else {
+            return;
+        };
+        let place = usize::from(index) - 1;
+        if self.forms[place].is_none() {
+            self.forms[place] = Some(form_of(text));
+        }
+    }
+
+    /// Judges the texts that the constant asks a form of.
+    fn judge_constant(&mut self, pool: &Pool<'_>, constant: &Constant<'_>)
+        requires { AreForms pool.now self.now }
+        ensures { AreForms pool.now self.new }
+    {
+        match *constant {
+            Constant::Class { name } => self.judge(pool, name),
+            Constant::MethodType { descriptor } => self.judge(pool, descriptor),
+            Constant::NameAndType { name, descriptor } => {
+                self.judge(pool, name);
+                self.judge(pool, descriptor);
+            }
+            _ => {}
+        }
+    }
+
+    fn judge_constants(&mut self, pool: &Pool<'_>)
+        requires { AreForms pool.now self.now }
+        ensures { AreForms pool.now self.new }
+    {
+        for constant in pool.constants() {
+            self.judge_constant(pool, constant);
+        }
+    }
+
+    /// Judges the names and descriptors of fields or methods.
+    fn judge_members(&mut self, pool: &Pool<'_>, members: &[Member<'_>])
+        requires { AreForms pool.now self.now }
+        ensures { AreForms pool.now self.new }
+    {
+        for member in members {
+            self.judge(pool, member.name);
+            self.judge(pool, member.descriptor);
+        }
+    }
+
+    /// The form of the text at this index.
     pub fn of(&self, pool: &Pool<'_>, index: u16, text: Text<'_>) -> TextForm
         requires kept { AreForms pool.now self.now }
         requires text { text_at pool.now index ≡ Ok text.bytes.now }
         ensures { result ≡ form_of text.entry.bytes.now }
     {
         let place = usize::from(index) - 1;
-        self.forms[place].unwrap()
+        match self.forms[place] {
+            Some(form) => form,
+            None => form_of(text),
+        }
     }
 }
 

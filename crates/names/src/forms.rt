@@ -34,6 +34,11 @@ fn forms_of(bytes: &[u8]) -> NameForms
     let mut slash = false;
     let mut angle = false;
     for b in bytes {
+        // Most bytes are letters, of which each goes on and is nothing else.
+        if b.is_ascii_alphabetic() {
+            fresh = false;
+            continue;
+        }
         if !goes_on(fresh, *b) {
             return NameForms {
                 class_name: false,

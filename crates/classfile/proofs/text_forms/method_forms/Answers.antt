@@ -1,4 +1,4 @@
-use Rattle.std.proofs.Common.{◌≡◌, sym, ap, ◌∙◌, refl}
+use Rattle.std.proofs.Common.{refl}
 use Rattle.classfile.proofs.Receivers.{some_are, none_are, same_void, fits_receiver}
 use Rattle.classfile.proofs.text_forms.method_forms.Goals as goal
 

@@ -1,5 +1,5 @@
 use Rattle.std.proofs.Common.{sym, ◌∙◌, arith}
-use Rattle.names.proofs.NameScan.{one_byte_more, at_the_end, stopped, at_first}
+use Rattle.names.proofs.NameScan.{one_byte_more, letter_more, at_the_end, stopped, at_first}
 use Rattle.names.proofs.forms.forms_of.Goals as goal
 
 pub loop-b-init : goal.loop-b-init
@@ -20,3 +20,8 @@ pub returns : goal.returns
 returns c =
     let l = c.loop-b in
     at_the_end c.args.bytes.now l.b-index l.fresh l.slash l.angle (omega (arith, c.loop-b-test.false, l.auto.b-index-end)) l.invariant
+
+pub loop-b-preserved-then-is_ascii_alphabetic : goal.loop-b-preserved-then-is_ascii_alphabetic
+loop-b-preserved-then-is_ascii_alphabetic c =
+    let l = c.loop-b in
+    letter_more c.args.bytes.now l.b-index l.fresh l.slash l.angle c.loop-b-test.true (sym c.is_ascii_alphabetic.ensures.value ∙ c.if-is_ascii_alphabetic.true) l.invariant
