@@ -1,7 +1,8 @@
 use names::{
-    Base, FieldType, MethodType, NameFault, Text, check_text, field_answers, field_type,
-    is_class_name, is_field_name, is_method_name, method_answers, method_type, names_by_units,
-    one_field_type, one_method_type, one_unit_list, result_type, spell, text_answers, units,
+    Base, FieldType, MethodShape, MethodType, NameFault, NameForms, Text, check_text,
+    field_answers, field_type, is_class_name, is_field_name, is_method_name, method_answers,
+    method_shape, method_type, name_forms, names_by_units, one_field_type, one_method_type,
+    one_unit_list, result_type, spell, text_answers, units,
 };
 use std::alloc::Global;
 use std::test::*;
@@ -82,6 +83,31 @@ fn names(rt: HostRuntime) {
     assert!(rt; matches!(kinds("run"), (true, true, true)));
     assert!(rt; matches!(kinds("java/lang/Object"), (true, false, false)));
     assert!(rt; matches!(kinds("<init>"), (true, true, false)));
+}
+
+/// The same, found at once.
+fn forms(name: &str) -> (bool, bool, bool) {
+    match check_text(name.as_bytes()) {
+        Ok(text) => {
+            let NameForms {
+                class_name,
+                unqualified_name,
+                method_name,
+            } = name_forms(text);
+            (class_name, unqualified_name, method_name)
+        }
+        Err(_) => (false, false, false),
+    }
+}
+
+#[test]
+fn forms_of_names(rt: HostRuntime) {
+    assert!(rt; matches!(forms("run"), (true, true, true)));
+    assert!(rt; matches!(forms("java/lang/Object$1"), (true, false, false)));
+    assert!(rt; matches!(forms("<clinit>"), (true, true, false)));
+    for none in ["", "/a", "a/", "a//b", "a.b", "a;", "[I"] {
+        assert!(rt; matches!(forms(none), (false, false, false)));
+    }
 }
 
 /// Whether the type of a method has three parameters, which take four units.
@@ -217,4 +243,42 @@ fn want_of_memory(rt: HostRuntime) {
     assert!(rt; is_text(rt.alloc(), true));
     assert!(rt; is_method(rt.alloc(), METHOD, true));
     assert!(rt; is_array(rt.alloc(), b"[[J", true));
+}
+
+/// The shape of a method of this descriptor, with the receiver or without it.
+fn shape(descriptor: &[u8], receiver: bool) -> Result<MethodShape, NameFault> {
+    method_shape(check_text(descriptor)?, receiver)
+}
+
+#[test]
+fn shapes_of_methods(rt: HostRuntime) {
+    let returning = MethodShape {
+        units: 5,
+        has_result: true,
+    };
+    assert!(rt; shape(METHOD, true) == Ok(returning));
+    let plain = MethodShape {
+        units: 0,
+        has_result: false,
+    };
+    assert!(rt; shape(b"()V", false) == Ok(plain));
+    assert!(rt; shape(b"(La;)[V", false) == Err(NameFault::BadDescriptor { at: 6 }));
+    let mut method = [b'['; 260];
+    method[0] = b'(';
+    method[1] = b')';
+    method[259] = b'I';
+    assert!(rt; shape(&method, false) == Err(NameFault::TooManyDimensions));
+}
+
+/// As many parameters of two units as the limit allows, and one more.
+#[test]
+fn widest_shapes(rt: HostRuntime) {
+    let mut method = [b'J'; 131];
+    method[0] = b'(';
+    method[129] = b')';
+    method[130] = b'V';
+    assert!(rt; shape(&method, false) == Err(NameFault::TooWide));
+    method[128] = b'I';
+    assert!(rt; shape(&method, false).is_ok());
+    assert!(rt; shape(&method, true) == Err(NameFault::TooWide));
 }
