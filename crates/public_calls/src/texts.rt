@@ -252,16 +252,16 @@ fn shape(descriptor: &[u8], receiver: bool) -> Result<MethodShape, NameFault> {
 
 #[test]
 fn shapes_of_methods(rt: HostRuntime) {
-    let returning = MethodShape {
+    let wide = MethodShape {
         units: 5,
-        has_result: true,
-    };
-    assert!(rt; shape(METHOD, true) == Ok(returning));
-    let plain = MethodShape {
-        units: 0,
         has_result: false,
     };
-    assert!(rt; shape(b"()V", false) == Ok(plain));
+    assert!(rt; shape(METHOD, true) == Ok(wide));
+    let returning = MethodShape {
+        units: 0,
+        has_result: true,
+    };
+    assert!(rt; shape(b"()I", false) == Ok(returning));
     assert!(rt; shape(b"(La;)[V", false) == Err(NameFault::BadDescriptor { at: 6 }));
     let mut method = [b'['; 260];
     method[0] = b'(';
