@@ -85,6 +85,31 @@ fn names(rt: HostRuntime) {
     assert!(rt; matches!(kinds("<init>"), (true, true, false)));
 }
 
+/// The same, found at once.
+fn forms(name: &str) -> (bool, bool, bool) {
+    match check_text(name.as_bytes()) {
+        Ok(text) => {
+            let NameForms {
+                class_name,
+                unqualified_name,
+                method_name,
+            } = name_forms(text);
+            (class_name, unqualified_name, method_name)
+        }
+        Err(_) => (false, false, false),
+    }
+}
+
+#[test]
+fn forms_of_names(rt: HostRuntime) {
+    assert!(rt; matches!(forms("run"), (true, true, true)));
+    assert!(rt; matches!(forms("java/lang/Object$1"), (true, false, false)));
+    assert!(rt; matches!(forms("<clinit>"), (true, true, false)));
+    for none in ["", "/a", "a/", "a//b", "a.b", "a;", "[I"] {
+        assert!(rt; matches!(forms(none), (false, false, false)));
+    }
+}
+
 /// Whether the type of a method has three parameters, which take four units.
 fn has_widths(method: &MethodType<'_>) -> bool {
     method.params.len() == 3 && method.width(false) == 4 && method.width(true) == 5
@@ -155,40 +180,6 @@ fn parameters_one_by_one(rt: HostRuntime) {
     assert!(rt; counted(b"(I[La(b)c;J[[D)[[Ld)e;") == Some((4, 3)));
     assert!(rt; counted(b"()V") == Some((0, 0)));
     assert!(rt; counted(b"I") == Some((0, 0)));
-}
-
-/// Whether the shape of a method that has a receiver is this, where one is asked.
-fn has_shape(descriptor: &[u8], want: Result<MethodShape, NameFault>) -> bool {
-    match check_text(descriptor) {
-        Ok(text) => method_shape(text, true) == want,
-        Err(_) => false,
-    }
-}
-
-#[test]
-fn shapes(rt: HostRuntime) {
-    let shape = |units, has_result| MethodShape { units, has_result };
-    assert!(rt; has_shape(b"(JI[D)V", Ok(shape(5, false))));
-    assert!(rt; has_shape(b"()[[I", Ok(shape(1, true))));
-    assert!(rt; has_shape(b"(I", Err(NameFault::BadDescriptor { at: 2 })));
-}
-
-#[test]
-fn names_in_one_pass(rt: HostRuntime) {
-    for (name, class_name, unqualified_name, method_name) in [
-        ("a/b", true, false, false),
-        ("a", true, true, true),
-        ("<a", true, true, false),
-        ("a//b", false, false, false),
-        ("", false, false, false),
-    ] {
-        let want = NameForms {
-            class_name,
-            unqualified_name,
-            method_name,
-        };
-        assert!(rt; check_text(name.as_bytes()).map(name_forms) == Ok(want));
-    }
 }
 
 /// Why the bytes are no descriptor of a field, if they are none.
@@ -276,4 +267,42 @@ fn want_of_memory(rt: HostRuntime) {
     assert!(rt; is_text(rt.alloc(), true));
     assert!(rt; is_method(rt.alloc(), METHOD, true));
     assert!(rt; is_array(rt.alloc(), b"[[J", true));
+}
+
+/// The shape of a method of this descriptor, with the receiver or without it.
+fn shape(descriptor: &[u8], receiver: bool) -> Result<MethodShape, NameFault> {
+    method_shape(check_text(descriptor)?, receiver)
+}
+
+#[test]
+fn shapes_of_methods(rt: HostRuntime) {
+    let wide = MethodShape {
+        units: 5,
+        has_result: false,
+    };
+    assert!(rt; shape(METHOD, true) == Ok(wide));
+    let returning = MethodShape {
+        units: 0,
+        has_result: true,
+    };
+    assert!(rt; shape(b"()I", false) == Ok(returning));
+    assert!(rt; shape(b"(La;)[V", false) == Err(NameFault::BadDescriptor { at: 6 }));
+    let mut method = [b'['; 260];
+    method[0] = b'(';
+    method[1] = b')';
+    method[259] = b'I';
+    assert!(rt; shape(&method, false) == Err(NameFault::TooManyDimensions));
+}
+
+/// As many parameters of two units as the limit allows, and one more.
+#[test]
+fn widest_shapes(rt: HostRuntime) {
+    let mut method = [b'J'; 131];
+    method[0] = b'(';
+    method[129] = b')';
+    method[130] = b'V';
+    assert!(rt; shape(&method, false) == Err(NameFault::TooWide));
+    method[128] = b'I';
+    assert!(rt; shape(&method, false).is_ok());
+    assert!(rt; shape(&method, true) == Err(NameFault::TooWide));
 }
