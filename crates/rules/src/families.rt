@@ -5,7 +5,8 @@ ghost use Rattle.names.specs.References.{reference_view, referred_by};
 ghost use Rattle.names.specs.Types.{type_of};
 ghost use Rattle.hierarchy.specs.Class.{ClassFact};
 ghost use Rattle.hierarchy.specs.Answer.{outcome_of};
-ghost use Rattle.rules.specs.Plans.{pops, loads, counts, returns};
+ghost use Rattle.insn.specs.Acts.{kind_units};
+ghost use Rattle.rules.specs.Plans.{number, pops, loads, counts, returns};
 ghost use Rattle.rules.specs.Table.{return_number, return_nothing, return_reference};
 ghost use Rattle.rules.specs.After.{after};
 ghost use Rattle.rules.specs.Rules.{conditions};
@@ -109,6 +110,29 @@ pub fn loads<'a, C: Classes>(
         Answer::No => Err(Reason::WrongLocal),
         _ => settle(method, answer, Some(t), frame),
     }
+}
+
+/// A number in a local variable onto the stack.
+pub fn loads_number<'a, C: Classes>(
+    method: &CodeMethod<'_, 'a>,
+    kind: Kind,
+    local: u16,
+    frame: &mut Working<'a>,
+    classes: &C,
+) -> Result<(), Reason<'a>>
+    requires { length (held frame.old).locals ≡ method.now.code.now.max_locals }
+    ensures { let m = method_view method.now in let f = held frame.old in
+        let p = loads (number kind) local (kind_units kind) in
+        Done (conditions (C.content classes.now) m 0 p f) (after m 0 p f) (held frame.new) result }
+{
+    loads(
+        method,
+        Want::Number(kind),
+        local,
+        kind.units(),
+        frame,
+        classes,
+    )
 }
 
 /// An int in a local variable that is changed.

@@ -16,7 +16,7 @@ use crate::arrays::{
 use crate::calls::{invoke_interface, invoke_static, invoke_virtual};
 use crate::constants::{load_constant, load_wide_constant};
 use crate::families::{
-    counts, gives, loads, pops, return_nothing, return_number, return_reference,
+    counts, gives, loads, loads_number, pops, return_nothing, return_number, return_reference,
 };
 use crate::fields::{get_field, get_static, put_field, put_static};
 use crate::making::new_object;
@@ -24,7 +24,7 @@ use crate::naming::Named;
 use crate::reason::Reason;
 use crate::special::invoke_special;
 use crate::stacks::rearranges;
-use crate::stores::stores;
+use crate::stores::{stores, stores_number};
 use crate::want::{Want, throwable};
 use crate::working::Working;
 use classfile::CodeMethod;
@@ -61,23 +61,9 @@ pub fn run<'a, S: Starts, C: Classes>(
         Act::ConstantNull => gives(method, Some(VType::Null), frame, classes),
         Act::LoadConstant { index } => load_constant(method, index, frame, classes),
         Act::LoadWideConstant { index } => load_wide_constant(method, index, frame, classes),
-        Act::Load { kind, local } => loads(
-            method,
-            Want::Number(kind),
-            local,
-            kind.units(),
-            frame,
-            classes,
-        ),
+        Act::Load { kind, local } => loads_number(method, kind, local, frame, classes),
         Act::LoadReference { local } => loads(method, Want::Reference, local, 1, frame, classes),
-        Act::Store { kind, local } => stores(
-            method,
-            Want::Number(kind),
-            local,
-            kind.units(),
-            frame,
-            classes,
-        ),
+        Act::Store { kind, local } => stores_number(method, kind, local, frame, classes),
         Act::StoreReference { local } => stores(method, Want::Reference, local, 1, frame, classes),
         Act::Increment { local } => counts(method, local, frame, classes),
         Act::Numeric(operator) => {
@@ -87,13 +73,7 @@ pub fn run<'a, S: Starts, C: Classes>(
         Act::Stack(operator) => rearranges(method, operator, frame),
         Act::IfInt { .. } | Act::Switch { .. } => pops(method, &[Kind::Int], None, frame, classes),
         Act::IfInts { .. } => pops(method, &[Kind::Int, Kind::Int], None, frame, classes),
-        Act::IfReferences { .. } => pops(
-            method,
-            &[Want::Reference, Want::Reference],
-            None,
-            frame,
-            classes,
-        ),
+        Act::IfReferences { .. } => pops(method, &[Want::Reference; 2], None, frame, classes),
         Act::IfNull { .. } | Act::Monitor => {
             pops(method, &[Want::Reference], None, frame, classes)
         }

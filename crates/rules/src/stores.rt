@@ -2,7 +2,8 @@
 ghost use Rattle.std.specs.Prelude.{◌≡◌, ◌<◌, ◌≤◌, length};
 ghost use Rattle.frames.specs.Slots.{is_wide};
 ghost use Rattle.frames.specs.VerificationType.{type_of};
-ghost use Rattle.rules.specs.Plans.{stores};
+ghost use Rattle.insn.specs.Acts.{kind_units};
+ghost use Rattle.rules.specs.Plans.{number, stores};
 ghost use Rattle.rules.specs.After.{after, stored_type};
 ghost use Rattle.rules.specs.Rules.{conditions};
 ghost use Rattle.rules.specs.Bodies.{method_view};
@@ -17,6 +18,7 @@ use crate::want::Want;
 use crate::working::Working;
 use classfile::CodeMethod;
 use hierarchy::{Answer, Classes};
+use insn::Kind;
 
 /// The top of the stack to a local variable.
 pub fn stores<'a, C: Classes>(
@@ -49,4 +51,27 @@ pub fn stores<'a, C: Classes>(
             settle(method, answer, None, frame)
         }
     }
+}
+
+/// A number on top of the stack to a local variable.
+pub fn stores_number<'a, C: Classes>(
+    method: &CodeMethod<'_, 'a>,
+    kind: Kind,
+    local: u16,
+    frame: &mut Working<'a>,
+    classes: &C,
+) -> Result<(), Reason<'a>>
+    requires { length (held frame.old).locals ≡ method.now.code.now.max_locals }
+    ensures { let m = method_view method.now in let f = held frame.old in
+        let p = stores (number kind) local (kind_units kind) in
+        Done (conditions (C.content classes.now) m 0 p f) (after m 0 p f) (held frame.new) result }
+{
+    stores(
+        method,
+        Want::Number(kind),
+        local,
+        kind.units(),
+        frame,
+        classes,
+    )
 }
