@@ -1,31 +1,20 @@
 //! The class that declares the method, and its superclass.
 ghost use Rattle.std.specs.Prelude.{◌≡◌, [], option_map};
 ghost use Rattle.classfile.specs.Methods.{class_named};
-ghost use Rattle.names.specs.ReferenceTypes.{reference_type};
 ghost use Rattle.pool.specs.Members.{class_at};
 ghost use Rattle.rules.specs.Bodies.{method_view};
 
 use classfile::CodeMethod;
-use names::Text;
+use names::RefType;
 use pool::Pool;
-
-/// The name of a class that the text of a Class constant is; an array's is none, and is not read.
-fn class_in(text: Text<'_>) -> Option<&[u8]>
-    ensures { option_map (λ n. n.now) result ≡ class_named (reference_type text.entry.bytes.now) }
-{
-    match text.bytes() {
-        [b'[', ..] => None,
-        name => Some(name),
-    }
-}
 
 /// The name of the class that the Class constant of an index names, which is no array.
 pub fn class_named<'a>(pool: &Pool<'a>, index: u16) -> Option<&'a [u8]>
     ensures { option_map (λ n. n.now) result ≡ class_named (class_at pool.now index) }
 {
-    match pool.class_name(index) {
-        Ok(text) => class_in(text),
-        Err(_) => None,
+    match pool.class_type(index) {
+        Some(RefType::Class(name)) => Some(name),
+        Some(RefType::Array { .. }) | None => None,
     }
 }
 

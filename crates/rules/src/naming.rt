@@ -28,7 +28,10 @@ impl<'a> Named<'a> {
     pub fn method(&self) -> Option<&MethodConstant<'a>>
         ensures { option_map (λ c. method_constant_view c.now) result ≡ option_map method_constant_view self.now.method }
     {
-        self.method.as_ref()
+        match &self.method {
+            None => None,
+            Some(method) => Some(method),
+        }
     }
 }
 

@@ -1,6 +1,5 @@
 //! Whether an instruction calls a constructor on the own object.
-ghost use Rattle.std.specs.Prelude.{◌≡◌, ◌&&◌, [], not, drop, length};
-ghost use Rattle.std.specs.Option.{is_some};
+ghost use Rattle.std.specs.Prelude.{◌≡◌, ◌&&◌, ℕ, List, [], not, drop, length, option_map};
 ghost use Rattle.names.specs.ReferenceTypes.{is_class_type};
 ghost use Rattle.pool.specs.MemberViews.{method_constant_view};
 ghost use Rattle.insn.specs.Stacks.{beneath};
@@ -8,7 +7,7 @@ ghost use Rattle.insn.specs.Views.{act_view};
 ghost use Rattle.frames.specs.DeclaredFrames.{is_uninit_this};
 ghost use Rattle.frames.specs.VerificationType.{type_of};
 ghost use Rattle.rules.specs.Plans.{arguments_on};
-ghost use Rattle.rules.specs.Constants.{has_room_for_receiver, is_init_name};
+ghost use Rattle.rules.specs.Constants.{has_room_for_receiver, invoke_special, is_init_name};
 ghost use Rattle.rules.specs.Table.{plan};
 ghost use Rattle.rules.specs.After.{top_of};
 ghost use Rattle.rules.specs.Rules.{constructs_own};
@@ -54,11 +53,24 @@ fn is_on_own<'a>(called: &MethodConstant<'a>, frame: &Working<'a>) -> bool
     is_own(&item_beneath(called.method_type.params.len(), frame.stack()))
 }
 
-/// Whether it is `invokespecial`.
-fn is_special(act: &Act<'_>) -> bool
-    ensures { result ≡ is_some (special_index (act_view act.now)) }
+/// Whether `invokespecial` of the method calls a constructor on the own object.
+fn calls_on_own<'a>(named: Option<&MethodConstant<'a>>, frame: &Working<'a>) -> bool
+    ensures { (major : ℕ) (me : List ℕ) → result ≡ constructs_own (invoke_special major me (option_map (λ c. method_constant_view c.now) named.entry)) (held frame.now) }
 {
-    matches!(act, Act::InvokeSpecial { .. })
+    match named {
+        None => false,
+        Some(called) => is_constructor(called) && is_on_own(called, frame),
+    }
+}
+
+/// The index of the method that `invokespecial` names.
+fn special_index(act: &Act<'_>) -> Option<u16>
+    ensures { result ≡ special_index (act_view act.now) }
+{
+    match *act {
+        Act::InvokeSpecial { index } => Some(index),
+        _ => None,
+    }
 }
 
 /// Whether the instruction that means this calls a constructor on the own object, which is not initialized (JVMS 4.10.1.9,
@@ -69,14 +81,11 @@ pub fn constructs_own<'a>(
     named: &Named<'a>,
     frame: &Working<'a>,
 ) -> bool
-    requires named { IsNamed (method_view method.now).constant_pool (act_view act.now) named.now }
+    requires { IsNamed (method_view method.now).constant_pool (act_view act.now) named.now }
     ensures { result ≡ constructs_own (plan (method_view method.now) (act_view act.now)) (held frame.now) }
 {
-    if !is_special(act) {
-        return false;
-    }
-    match named.method() {
+    match special_index(act) {
         None => false,
-        Some(called) => is_constructor(called) && is_on_own(called, frame),
+        Some(_) => calls_on_own(named.method(), frame),
     }
 }

@@ -55,6 +55,7 @@ pub fn run<'a, S: Starts, C: Classes>(
         let p = plan m (act_view act.entry) in
         Done (conditions (C.content classes.now) m at p f) (after m at p f) (held frame.new) result }
 {
+    let called = named.method();
     match act {
         Act::Nothing | Act::Goto { .. } => gives(method, None, frame, classes),
         Act::Constant(kind) => gives(method, Some(number_type(kind)), frame, classes),
@@ -85,13 +86,13 @@ pub fn run<'a, S: Starts, C: Classes>(
         Act::PutStatic { .. } => put_static(method, named.field, frame, classes),
         Act::GetField { .. } => get_field(method, named.field, frame, classes),
         Act::PutField { .. } => put_field(method, named.field, frame, classes),
-        Act::InvokeVirtual { .. } => invoke_virtual(alloc, method, named.method(), frame, classes),
+        Act::InvokeVirtual { .. } => invoke_virtual(alloc, method, called, frame, classes),
         Act::InvokeSpecial { .. } => {
-            invoke_special(alloc, method, named.method(), starts, frame, classes)
+            invoke_special(alloc, method, called, starts, frame, classes)
         }
-        Act::InvokeStatic { .. } => invoke_static(alloc, method, named.method(), frame, classes),
+        Act::InvokeStatic { .. } => invoke_static(alloc, method, called, frame, classes),
         Act::InvokeInterface { count, .. } => {
-            invoke_interface(alloc, method, named.method(), count, frame, classes)
+            invoke_interface(alloc, method, called, count, frame, classes)
         }
         Act::LoadElement(element) => load_element(method, element, frame, classes),
         Act::StoreElement(element) => store_element(method, element, frame, classes),

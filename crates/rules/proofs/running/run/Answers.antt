@@ -70,19 +70,19 @@ pub returns-in-InvokeVirtual : goal.returns-in-InvokeVirtual
 returns-in-InvokeVirtual g c =
     let m = method_view c.args.method.now in
     by_plan m c.args.at (plan m (act_view c.args.act)) _ (g.C.Classes.content c.args.classes.now) (held c.args.frame.now) (held c.invoke_virtual.new.frame) c.invoke_virtual.result
-    (ap (λ a. plan m (act_view a)) c.in-InvokeVirtual.is ∙ sym (ap (invoke_virtual) (c.method.ensures ∙ method_is m.constant_pool c.args.act _ c.args.named.now c.requires.named c.in-InvokeVirtual.is))) (c.invoke_virtual.ensures c.args.at)
+    (ap (λ a. plan m (act_view a)) c.in-InvokeVirtual.is ∙ sym (ap (invoke_virtual) (c.method-called.ensures ∙ method_is m.constant_pool c.args.act _ c.args.named.now c.requires.named c.in-InvokeVirtual.is))) (c.invoke_virtual.ensures c.args.at)
 
 pub returns-in-InvokeStatic : goal.returns-in-InvokeStatic
 returns-in-InvokeStatic g c =
     let m = method_view c.args.method.now in
     by_plan m c.args.at (plan m (act_view c.args.act)) _ (g.C.Classes.content c.args.classes.now) (held c.args.frame.now) (held c.invoke_static.new.frame) c.invoke_static.result
-    (ap (λ a. plan m (act_view a)) c.in-InvokeStatic.is ∙ sym (ap (invoke_static m.major_version) (c.method.ensures ∙ method_is m.constant_pool c.args.act _ c.args.named.now c.requires.named c.in-InvokeStatic.is))) (c.invoke_static.ensures c.args.at)
+    (ap (λ a. plan m (act_view a)) c.in-InvokeStatic.is ∙ sym (ap (invoke_static m.major_version) (c.method-called.ensures ∙ method_is m.constant_pool c.args.act _ c.args.named.now c.requires.named c.in-InvokeStatic.is))) (c.invoke_static.ensures c.args.at)
 
 pub returns-in-InvokeInterface : goal.returns-in-InvokeInterface
 returns-in-InvokeInterface g c =
     let m = method_view c.args.method.now in
     by_plan m c.args.at (plan m (act_view c.args.act)) _ (g.C.Classes.content c.args.classes.now) (held c.args.frame.now) (held c.invoke_interface.new.frame) c.invoke_interface.result
-    (ap (λ a. plan m (act_view a)) c.in-InvokeInterface.is ∙ sym (ap (invoke_interface c.in-InvokeInterface.count) (c.method.ensures ∙ method_is m.constant_pool c.args.act _ c.args.named.now c.requires.named c.in-InvokeInterface.is))) (c.invoke_interface.ensures c.args.at)
+    (ap (λ a. plan m (act_view a)) c.in-InvokeInterface.is ∙ sym (ap (invoke_interface c.in-InvokeInterface.count) (c.method-called.ensures ∙ method_is m.constant_pool c.args.act _ c.args.named.now c.requires.named c.in-InvokeInterface.is))) (c.invoke_interface.ensures c.args.at)
 
 pub returns-in-LoadElement : goal.returns-in-LoadElement
 returns-in-LoadElement g c =
@@ -164,7 +164,7 @@ pub returns-in-InvokeSpecial : goal.returns-in-InvokeSpecial
 returns-in-InvokeSpecial g c =
     let m = method_view c.args.method.now in
     by_plan m c.args.at (plan m (act_view c.args.act)) _ (g.C.Classes.content c.args.classes.now) (held c.args.frame.now) (held c.invoke_special.new.frame) c.invoke_special.result
-    (ap (λ a. plan m (act_view a)) c.in-InvokeSpecial.is ∙ sym (ap (invoke_special m.major_version m.class) (c.method.ensures ∙ method_is m.constant_pool c.args.act _ c.args.named.now c.requires.named c.in-InvokeSpecial.is))) (c.invoke_special.ensures c.args.at)
+    (ap (λ a. plan m (act_view a)) c.in-InvokeSpecial.is ∙ sym (ap (invoke_special m.major_version m.class) (c.method-called.ensures ∙ method_is m.constant_pool c.args.act _ c.args.named.now c.requires.named c.in-InvokeSpecial.is))) (c.invoke_special.ensures c.args.at)
 
 pub returns-in-New : goal.returns-in-New
 returns-in-New g c =
