@@ -18,8 +18,8 @@ returns-then-is_init g c = λ p.
     ∙ cond-true (is_init_name v) (constructor_call v v.class) (special_call m.major_version m.class v) (sym c.is_init.ensures ∙ c.if-is_init.true))
     (c.call_constructor.ensures p)
 
-pub returns : goal.returns
-returns g c = λ p.
+pub returns-else-is_init : goal.returns-else-is_init
+returns-else-is_init g c = λ p.
     let m = method_view c.args.method.now in
     let v = method_constant_view c.in-Some.called.now in
     by_plan m p (invoke_special m.major_version m.class (option_map (λ c. method_constant_view c.now) c.args.named)) (special_call m.major_version m.class v)
