@@ -18,4 +18,4 @@ returns c = λ cs frames es t ahead.
     let f = held c.args.frame.now in
     both_are (constructs_own (plan (method_view c.args.method.now) (act_view c.args.act.now)) f) (is_covered es c.args.at) c.covers.result
     (Follows cs frames es c.args.at f c.covers.new.self) (AreAhead c.args.at c.covers.new.self)
-    (sym c.constructs_own.ensures ∙ c.if-not-branch.false) (c.covers.ensures cs frames es f t ahead)
+    (sym c.constructs_own.ensures ∙ c.if-not-constructs_own.false) (c.covers.ensures cs frames es f t ahead)
