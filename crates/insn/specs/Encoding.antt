@@ -1,4 +1,4 @@
--- What writing instructions answers (JVMS 4.7.3, 6.5): the code that is the list of them, or why there is none.
+-- The answer of writing instructions (JVMS 4.7.3, 6.5): the code that is the list of them, or why there is none.
 use Rattle.std.specs.Prelude.{◌≡◌, ℕ, ◌≤◌, ◌<◌, List, [], ◌∷◌, ◌++◌, length, Result, Ok, Err}
 use Rattle.layout.specs.Format.{AreBytes}
 use Rattle.layout.specs.declared.fault.WriteFault.{WriteFault}

@@ -1,4 +1,4 @@
--- What a call that reads instructions answers. Where the bytes end before an instruction does, it is cut (32).
+-- The answer of a call that reads instructions. Where the bytes end before an instruction does, it is cut (32).
 use Rattle.std.specs.Prelude.{◌≡◌, ℕ, Result, Ok, Err}
 use Rattle.layout.specs.Place.{Place}
 use Rattle.layout.specs.Format.{Format, reads}

@@ -1,4 +1,4 @@
--- What the program's instructions are, without where their bytes lie in memory.
+-- The program's instructions, without where their bytes lie in memory.
 use Rattle.std.specs.Prelude.{ℕ, ℤ, List, map}
 use Rattle.insn.specs.declared.operation.Act.{Act}
 use Rattle.insn.specs.declared.operation.Act.TheVariants as acts

@@ -30,11 +30,11 @@ pub fn count_instructions(code: &[u8]) -> Result<usize, CodeFault>
 /// for once, for as many instructions as there are.
 pub fn decode_code<'a>(alloc: Global, code: &'a [u8]) -> Result<Vec<(u16, Insn<'a>)>, CodeFault>
     requires { length code.now ≤ MAX_CODE_BYTES }
-    // What is answered is spelled by the code.
+    // The instructions that are returned are those that the code spells.
     ensures found { IfOk result (λ v. SpellsCode 0 code.now (views v.items)) }
     // The offsets rise, so that one is found by halving.
     ensures starts { IfOk result (λ v. StartsRise 0 (views v.items)) }
-    // What the code spells is answered, unless memory runs out.
+    // The instructions that the code spells are returned, unless memory runs out.
     ensures only { (xs : List (ℕ × Instruction)) → SpellsCode 0 code.now xs → IfErr result (λ e. e ≡ OutOfMemory) }
     // Which fault it is.
     ensures fault { IfErr result (λ e. UnlessMemory e (FaultyCode code.now e)) }

@@ -80,9 +80,9 @@ fn is_too_large(list: &[Insn<'_>]) -> bool
 /// modify, or a switch a padding, bounds or a table that do not agree (JVMS 6.5); or 1 where memory
 /// runs out.
 pub fn encode_code(alloc: Global, list: &[Insn<'_>]) -> Result<Vec<u8>, WriteFault>
-    // What is answered is the code of the instructions, and which refusal it is.
+    // The bytes that are returned are the code of the instructions; a refusal is theirs.
     ensures exact { Encodes (map view list.now) (λ v. v.items) result }
-    // What is a code is written, unless memory runs out.
+    // Instructions that are a code are written, unless memory runs out.
     ensures only { (bytes : List ℕ) → AreBytes bytes → IsCode bytes (map view list.now) → IfErr result (λ e. e ≡ OutOfMemory) }
 {
     if is_too_large(list) {

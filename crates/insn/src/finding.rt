@@ -17,7 +17,7 @@ fn start_at(list: &[(u16, Insn<'_>)], number: usize) -> Option<u16>
     }
 }
 
-/// What the instruction at an offset means, and where the next one begins, if one begins behind it: `None` where
+/// The meaning of the instruction at an offset, and where the next one begins, if one begins behind it: `None` where
 /// none begins at that offset. Takes no memory. The offsets of [`decode_code`](crate::decode_code)'s list rise, so the
 /// list is halved.
 pub fn found_at<'a>(list: &[(u16, Insn<'a>)], at: u16) -> Option<(Act<'a>, Option<u16>)>

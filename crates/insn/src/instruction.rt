@@ -8,7 +8,7 @@ ghost use Rattle.insn.specs.Views.{view, views};
 use crate::opcode::Opcode;
 use std::fmt;
 
-/// What stands behind an opcode (JVMS 6.5), as its [`Form`](crate::Form) says. A switch keeps all
+/// The operands behind an opcode (JVMS 6.5), as its [`Form`](crate::Form) says. A switch keeps all
 /// bytes behind its opcode as they stand in the code, so that all operands are small.
 #[derive(Clone, Copy)]
 pub enum Operands<'a> {
@@ -55,7 +55,7 @@ pub enum Operands<'a> {
 pub struct Insn<'a> {
     /// The instruction's first byte.
     pub opcode: Opcode,
-    /// What stands behind it.
+    /// Its operands.
     pub operands: Operands<'a>,
 }
 

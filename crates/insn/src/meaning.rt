@@ -1,4 +1,4 @@
-//! What an instruction means, from its opcode and its operands. No call takes memory.
+//! The meaning of an instruction, from its opcode and its operands. No call takes memory.
 ghost use Rattle.std.specs.Prelude.{◌≡◌};
 ghost use Rattle.insn.specs.Code.{modified};
 ghost use Rattle.insn.specs.Meanings.{Switch, act, act_of, local_of, index_of, byte_of, offset_of, offsets_of, element_of};
@@ -78,7 +78,7 @@ fn act_of<'a>(meaning: Meaning, operands: Operands<'a>) -> Act<'a>
     }
 }
 
-/// What acts take of operands; what an instruction has not counts as 0.
+/// The parts of operands that acts take; a part that an instruction does not have counts as 0.
 #[derive(Clone, Copy)]
 struct Parts<'a> {
     /// The number of a local variable.
@@ -93,7 +93,7 @@ struct Parts<'a> {
     targets: Targets<'a>,
 }
 
-/// What acts take of these operands.
+/// The parts of these operands that acts take.
 fn parts_of<'a>(operands: Operands<'a>) -> Parts<'a>
     ensures local { result.local ≡ local_of (operands_view operands.entry) }
     ensures index { result.index ≡ index_of (operands_view operands.entry) }

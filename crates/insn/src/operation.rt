@@ -211,7 +211,7 @@ pub enum Act<'a> {
     Increment { local: u16 },
     /// Numbers are computed.
     Numeric(NumericOperator),
-    /// What is on the stack is moved.
+    /// Items of the stack are moved.
     Stack(StackOperator),
     /// An `int` is compared with 0: `ifeq` to `ifle`.
     IfInt { offset: i32 },
@@ -278,7 +278,7 @@ pub enum Act<'a> {
     Unsupported,
 }
 
-/// What an opcode means, before its operands are looked at: the [`Act`] of the same name.
+/// The meaning of an opcode, before its operands are looked at: the [`Act`] of the same name.
 #[derive(Clone, Copy, Debug)]
 pub enum Meaning {
     Nothing,

@@ -22,7 +22,7 @@ fn or_cut<T: Drop>(at: usize, answer: Result<T, ReadFault>) -> Result<T, CodeFau
     }
 }
 
-/// What stands behind an opcode of this form.
+/// Reads the operands behind an opcode of this form.
 #[tactic(auto, unfolding(crate::specs::Instructions::operands_at))]
 fn operands<'a>(cursor: &mut Cursor<'a>, at: usize, form: Form) -> Result<Operands<'a>, CodeFault>
     ensures { Decodes at (operands_at at form) operands_view cursor.old cursor.new result }
@@ -55,7 +55,7 @@ fn operands<'a>(cursor: &mut Cursor<'a>, at: usize, form: Form) -> Result<Operan
     }
 }
 
-/// What stands behind `invokeinterface`.
+/// Reads the operands of `invokeinterface`.
 #[tactic(auto, unfolding(crate::specs::Instructions::invoke_interface_at))]
 fn invoke_interface<'a>(cursor: &mut Cursor<'a>, at: usize) -> Result<Operands<'a>, CodeFault>
     ensures { Decodes at (invoke_interface_at at) operands_view cursor.old cursor.new result }
@@ -69,7 +69,7 @@ fn invoke_interface<'a>(cursor: &mut Cursor<'a>, at: usize) -> Result<Operands<'
     Ok(Operands::InvokeInterface { index, count })
 }
 
-/// What stands behind `invokedynamic`.
+/// Reads the operands of `invokedynamic`.
 #[tactic(auto, unfolding(crate::specs::Instructions::invoke_dynamic_at))]
 fn invoke_dynamic<'a>(cursor: &mut Cursor<'a>, at: usize) -> Result<Operands<'a>, CodeFault>
     ensures { Decodes at (invoke_dynamic_at at) operands_view cursor.old cursor.new result }
@@ -82,7 +82,7 @@ fn invoke_dynamic<'a>(cursor: &mut Cursor<'a>, at: usize) -> Result<Operands<'a>
     Ok(Operands::InvokeDynamic { index })
 }
 
-/// What stands behind `wide`.
+/// Reads the operands of `wide`.
 #[tactic(auto, unfolding(crate::specs::Instructions::wide_at))]
 fn wide<'a>(cursor: &mut Cursor<'a>, at: usize) -> Result<Operands<'a>, CodeFault>
     ensures { Decodes at (wide_at at) operands_view cursor.old cursor.new result }
@@ -94,7 +94,7 @@ fn wide<'a>(cursor: &mut Cursor<'a>, at: usize) -> Result<Operands<'a>, CodeFaul
     }
 }
 
-/// What stands behind `wide` and an opcode of this form.
+/// Reads the operands behind `wide` and an opcode of this form.
 fn widened<'a>(
     cursor: &mut Cursor<'a>,
     at: usize,
@@ -139,7 +139,7 @@ fn taken(bytes: &[u8], left: usize) -> &[u8]
     taken
 }
 
-/// What stands behind `tableswitch`: the bytes as they stand, so that the table costs nothing.
+/// Reads the operands of `tableswitch`: the bytes as they stand, so that the table costs nothing.
 fn table_switch<'a>(cursor: &mut Cursor<'a>, at: usize) -> Result<Operands<'a>, CodeFault>
     ensures { Decodes at (table_switch_at at) operands_view cursor.old cursor.new result }
 {
@@ -185,7 +185,7 @@ fn offsets<'a>(
     })
 }
 
-/// What stands behind `lookupswitch`: the bytes as they stand, so that the pairs cost nothing.
+/// Reads the operands of `lookupswitch`: the bytes as they stand, so that the pairs cost nothing.
 fn lookup_switch<'a>(cursor: &mut Cursor<'a>, at: usize) -> Result<Operands<'a>, CodeFault>
     ensures { Decodes at (lookup_switch_at at) operands_view cursor.old cursor.new result }
 {

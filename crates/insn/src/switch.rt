@@ -92,7 +92,7 @@ fn first_number(fours: &[u8]) -> (i32, &[u8])
     }
 }
 
-/// What the targets of a switch are read from.
+/// The bytes that the targets of a switch are read from.
 #[derive(Clone, Copy, Debug)]
 pub enum Targets<'a> {
     /// `tableswitch`: four bytes for each offset.

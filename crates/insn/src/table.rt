@@ -11,7 +11,7 @@ use crate::operation::{Kind, Meaning, NumericOperator};
 use crate::stack::{StackForm, StackOperator, StackPlace};
 use names::Primitive;
 
-/// What stands behind an opcode (JVMS 6.5, "Format"). A number is signed (`s`) or unsigned (`u`),
+/// The form of the operands behind an opcode (JVMS 6.5, "Format"). A number is signed (`s`) or unsigned (`u`),
 /// of so many bytes, the highest first.
 #[derive(Clone, Copy, Debug, PartialEq, Eq)]
 pub enum Form {
@@ -297,14 +297,14 @@ impl Opcode {
         self.row().1
     }
 
-    /// What stands behind this opcode.
+    /// The form of its operands.
     pub fn form(self) -> Form
         ensures { result ≡ form self }
     {
         self.row().2
     }
 
-    /// What this opcode means, before its operands are looked at.
+    /// The meaning of this opcode, before its operands are looked at.
     pub fn meaning(self) -> Meaning
         ensures { result ≡ meaning self }
     {

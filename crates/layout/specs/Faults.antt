@@ -1,4 +1,4 @@
--- What a call that reads answers, by a format. A call that takes memory may answer want of memory (1) in place of any other
+-- The answer of a call that reads, by a format. A call that takes memory may answer want of memory (1) in place of any other
 -- answer; a word with `Unless` in its name says so.
 use Rattle.std.specs.Prelude.{refl, ◌≡◌, ℕ, Result, Ok, Err, length, nat_eq, if◌then◌else◌, List}
 use Rattle.layout.specs.Place.{Place}

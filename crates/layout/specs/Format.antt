@@ -30,7 +30,7 @@ FirstFault (part n next) at bytes e =
     ⊎ ((first : List ℕ) × (others : List ℕ) × (length first ≡ n) × (bytes ≡ first ++ others) × FirstFault (next first) (at + n) others e)
 FirstFault (refuse fault) at bytes e = e ≡ fault at
 
--- What reading by the format answers, from a place on: the value and the place behind it, or the fault.
+-- The answer of reading by the format, from a place on: the value and the place behind it, or the fault.
 abbrev pub reads : {V : Type 0} → Format V → ℕ → List ℕ → Result (V × Place) ReadFault
 reads (done w) at bytes = Ok (w, record { at = at; rest = bytes })
 reads (part n next) at bytes =

@@ -28,7 +28,7 @@ pub fn many<'a, T: Part<'a> + Drop>(
     Ok(out)
 }
 
-/// What is answered for an attribute whose name index stands at `name_at` (JVMS 4.7), once its body
+/// The answer for an attribute whose name index stands at `name_at` (JVMS 4.7), once its body
 /// was read: 12 `AttributeLength` at the name index where reading passed the body's end or left
 /// some of it, and otherwise what reading answered.
 pub fn whole<T: Drop>(

@@ -133,7 +133,7 @@ impl Output {
         Ok(())
     }
 
-    /// What is answered for all that was written, where `answer` is what the last step answered:
+    /// The answer for all that was written, where `answer` is that of the last step:
     /// the bytes, or 17, or 18 where nothing is too large and something has no spelling, or 1.
     pub fn delivered(self, answer: Result<(), WriteFault>) -> Result<Vec<u8>, WriteFault>
         ensures { (p : List Piece) → Goes p blank self answer → Delivers p (λ v. v.items) result }

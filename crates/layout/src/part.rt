@@ -1,4 +1,4 @@
-//! What all parts of a format have in common.
+//! The trait that all parts of a format share.
 
 ghost use Rattle.std.specs.Prelude.{◌≡◌, ◌+◌, ◌<◌, ◌≤◌, ℕ, List, [], ◌++◌, length, Ok, Err, Option, Some, None, MatchResult};
 ghost use Rattle.byteorder.specs.Endian.{big_bytes};
@@ -39,7 +39,7 @@ pub trait Part<'a>: Sized {
     fn take(alloc: Global, cursor: &mut Cursor<'a>) -> Result<Self, ReadFault>
         ensures { ReadsUnlessMemory format view cursor.old cursor.new result };
 
-    // What a value is written as.
+    // The pieces that a value is written as.
     ghost pieces: { View → List Piece };
 
     /// Appends the value's spelling, or answers 17 where it is too large and otherwise 18 where it
@@ -62,7 +62,7 @@ pub trait Part<'a>: Sized {
         → cannot (pieces v) ≡ Some e → AreBytes bytes → Spells format bytes v
         → (e ≡ DoesNotFit) × (MAX_CLASS_BYTES < length bytes) } = { spells_none written };
 
-    // What was read is written as it was.
+    // A value that was read is written as it was.
     ghost writes_back: { (v : View) (bytes : List ℕ)
         → AreBytes bytes → length bytes ≤ MAX_CLASS_BYTES → Spells format bytes v
         → (cannot (pieces v) ≡ None) × (text (pieces v) ≡ bytes) } = { reads_back written };
@@ -71,12 +71,12 @@ pub trait Part<'a>: Sized {
     ghost one_value: { (v w : View) (a b x : List ℕ)
         → Spells format a v → Spells format b w → a ≡ b ++ x → (x ≡ []) × (v ≡ w) } = { λ v w a b x. one_reading format a b x v w };
 
-    // What is read is spelled by the bytes that were taken.
+    // A value that is read is spelled by the bytes that were taken.
     ghost read_is_spelled: { (at : ℕ) (bytes : List ℕ) (x : View × Place)
         → reads format at bytes ≡ Ok x
         → (first : List ℕ) × Spells format first x.0 × Took first (record { at = at; rest = bytes }) x.1 } = { reads_spells format };
 
-    // What is spelled in front is read.
+    // A value that is spelled in front is read.
     ghost spelled_is_read: { (at : ℕ) (first others : List ℕ) (v : View)
         → Spells format first v
         → reads format at (first ++ others) ≡ Ok (v, record { at = at + length first; rest = others }) } = { spelled_reads format };

@@ -1,4 +1,4 @@
--- What comes of a choice is what the calls answer that go on and that raise.
+-- The outcome of a choice is that of the calls that go on and that raise.
 use Rattle.std.proofs.Common.{◌≡◌, ℕ, ℤ, Bool, false, List, [], ◌∷◌, Option, Some, None, Result, Ok, Err, refl, sym, ap, ◌∙◌, subst, inl, inr}
 use Rattle.std.proofs.lemmas.Bool.{false≢true}
 use Rattle.names.specs.ReferenceTypes.{ReferenceType}

@@ -1,4 +1,4 @@
--- What instructions leave on the stack.
+-- Laws of the stack that instructions leave.
 use Rattle.std.proofs.Common.{◌≡◌, ℕ, zero, suc, ◌-◌, ◌<◌, ◌≤◌, List, [], ◌∷◌, ◌++◌, length, get_or, take, drop, map, reverse, refl, sym, ◌∙◌, ap, arith, Some, slice_get, inl, inr}
 use Rattle.std.proofs.lemmas.Bool.{cases_lt}
 use Rattle.std.proofs.lemmas.List.{drop_all, map-append, reverse-append, length-map, length-reverse, length-drop, take-append-drop, take_rest, get_or-reverse}

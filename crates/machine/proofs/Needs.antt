@@ -1,4 +1,4 @@
--- What is needed of operands, in a list.
+-- The needs of operands, in a list.
 use Rattle.std.proofs.Common.{◌≡◌, ℕ, zero, suc, ◌-◌, ◌≤◌, List, [], ◌∷◌, ◌++◌, length, get_or, take, drop, map, refl, sym, ◌∙◌, ap}
 use Rattle.std.proofs.lemmas.List.{append_assoc, map-append}
 use Rattle.names.specs.declared.descriptor.FieldType.{FieldType}

@@ -65,7 +65,7 @@ pub record IsUnused (s : State) (answer : Option Value) : Type 0 where
   pub unused : s.heap address ≡ None
   pub in_range : address < 2 ^ 32
 
--- What may be answered: each value that fits the type that is asked, or the component of an array; each address that is unused;
+-- The values that may be answered: each value that fits the type that is asked, or the component of an array; each address that is unused;
 -- and nothing where nothing is asked.
 abbrev pub IsAnswer : World → State → Asks → Option Value → Type 0
 IsAnswer world s nothing answer = answer ≡ None
@@ -185,7 +185,7 @@ StepBounds =
 
 -- ---- beginnings
 
--- What a method receives: nothing; an object that fits its class; or its own object, of its class or one below it.
+-- The receiver of a method: nothing; an object that fits its class; or its own object, of its class or one below it.
 abbrev pub IsReceiver : World → Method Act → Heap → ℕ → Receiver → List Value → Type 0
 IsReceiver world m heap own no_receiver vs = vs ≡ []
 IsReceiver world m heap own ready_receiver vs =

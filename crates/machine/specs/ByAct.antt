@@ -1,4 +1,4 @@
--- What an instruction may come to, by its act and the constant that it names (JVMS 2.10, 2.11, 6.5): where it leads, which operand only
+-- The ways of an instruction, by its act and the constant that it names (JVMS 2.10, 2.11, 6.5): where it leads, which operand only
 -- raises where it is null, and what it answers. The laws of breadth speak in these words, and not in those of the machine's own table.
 use Rattle.std.specs.Prelude.{ℕ, ◌+◌, ℤ, Bool, true, false, bytes_eq, if◌then◌else◌, List, [], ◌∷◌, length, Option, Some, None}
 use Rattle.names.specs.declared.base.Primitive.{Primitive}

@@ -1,4 +1,4 @@
--- What a state owes to the instruction at its offset (JVMS 2.6, 4.9.2, 6.5). A state at which a demand is not met is a fault.
+-- The demands on a state by the instruction at its offset (JVMS 2.6, 4.9.2, 6.5). A state at which a demand is not met is a fault.
 use Rattle.std.specs.Prelude.{◌≡◌, ℕ, ℤ, pos, ◌+◌, ◌≤◌, true, List, [], ◌∷◌, length, slice_get, Some, ◌⊎◌}
 use Rattle.names.specs.ReferenceTypes.{ReferenceType, class_type}
 use Rattle.hierarchy.specs.World.{World}

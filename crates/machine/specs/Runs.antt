@@ -9,7 +9,7 @@ use Rattle.machine.specs.Heap.{made, this, object, Heap, IsHeap, FitsReference, 
 use Rattle.machine.specs.Demands.{State}
 use Rattle.machine.specs.Steps.{Choice, goes_on, Happens}
 
--- What a method receives: nothing; an object that fits its class; or its own object, of its class or one below it.
+-- The receiver of a method: nothing; an object that fits its class; or its own object, of its class or one below it.
 abbrev pub Receives : World → Method Act → Heap → ℕ → Receiver → List Value → Type 0
 Receives world m heap own no_receiver vs = vs ≡ []
 Receives world m heap own ready_receiver vs =

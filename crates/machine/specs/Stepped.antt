@@ -1,4 +1,4 @@
--- What `step` answers.
+-- The answer of `step`.
 use Rattle.std.specs.Prelude.{Result, Ok, Err}
 use Rattle.hierarchy.specs.World.{World}
 use Rattle.classfile.specs.Methods.{Method}

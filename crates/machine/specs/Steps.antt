@@ -15,7 +15,7 @@ use Rattle.machine.specs.Tasks as tables
 use Rattle.machine.specs.Tasks.{Need, Reply, no_reply, gives_number, gives_null, gives_answer, Task, operates, reads, writes, increments, moves, takes_element, passes, creates, makes_array, initializes, calls_special, leaves, ends, Tasks, falls, targets}
 use Rattle.machine.specs.Demands.{State, AreForm, IsNoFaultBy}
 
--- What is left open by an instruction is chosen. Objects that come into being meanwhile are made first, each at an address.
+-- A choice settles whatever an instruction leaves open. Objects that come into being meanwhile are made first, each at an address.
 pub data Choice : Type 0 where
   -- the offset gone to, given exactly where there are targets, and the value that is answered, if one is
   go : (branch : Option ℕ) (answer : Option Value) (fresh : List (ℕ × ReferenceType)) → Choice
@@ -57,7 +57,7 @@ abbrev pub Operates : World → List Need → Option ℕ → Reply → State →
 Operates world needs live reply s answer at t =
     IsLive live s.stack × ((vs : List Value) × Replies world s.heap reply answer vs × (t ≡ moved s at (vs ++ beneath needs s.stack)))
 
--- What it does, from one state on its way to an offset to another state, by the answer that is chosen.
+-- Its effect, from one state on its way to an offset to another state, by the answer that is chosen.
 abbrev pub Does : World → Task → State → Option Value → ℕ → State → Type 0
 Does world (operates needs live reply offsets on) s answer at t = Operates world needs live reply s answer at t
 Does world (calls_special class needs live reply) s answer at t = Operates world needs live reply s answer at t

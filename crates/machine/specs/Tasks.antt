@@ -1,4 +1,4 @@
--- What an instruction takes, gives and does in the machine (JVMS 2.11, 6.5), family by family.
+-- The task of an instruction in the machine (JVMS 2.11, 6.5): what it takes, gives and does, family by family.
 use Rattle.std.specs.Prelude.{ℕ, zero, suc, ℤ, Bool, true, false, not, ◌&&◌, ◌||◌, nat_lt, nat_eq, bytes_eq, if◌then◌else◌, List, [], ◌∷◌, map, length, Option, Some, None}
 use Rattle.names.specs.declared.base.Primitive.{Primitive}
 use Rattle.names.specs.declared.base.Primitive.TheVariants as primitives
@@ -40,7 +40,7 @@ pub data Reply : Type 0 where
   -- any value that fits the type
   gives_answer : (type : FieldDescriptor) → Reply
 
--- What an instruction does. `live` is the place of an operand from the top down that raises where it is null.
+-- The deed of an instruction. `live` is the place of an operand from the top down that raises where it is null.
 pub data Task : Type 0 where
   operates : (needs : List Need) (live : Option ℕ) (reply : Reply) (offsets : List ℤ) (falls : Bool) → Task
   reads : (need : Need) (local : ℕ) → Task

@@ -1,4 +1,4 @@
--- What the program's values stand for.
+-- The meaning of the program's values.
 use Rattle.std.specs.Prelude.{ℕ, ◌-◌, List, map, reverse, option_map}
 use Rattle.std.specs.BTreeMap.{BTreeMap, get}
 use Rattle.std.specs.Ordering.{nat_cmp}

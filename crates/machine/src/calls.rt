@@ -34,7 +34,7 @@ fn push_arguments<'a>(params: &[FieldType<'a>], needs: &mut Vec<Need<'a>>) -> Re
     }
 }
 
-// What is needed of the arguments, the last one on top, and of the receiver beneath them, if there is one.
+// The needs of the arguments, the last one on top, and of the receiver beneath them, if there is one.
 fn arguments_on<'a>(
     alloc: Global,
     params: &[FieldType<'a>],

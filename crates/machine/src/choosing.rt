@@ -1,4 +1,4 @@
-//! What is chosen at a step, and what comes of it.
+//! The choice at a step, and its outcome.
 ghost use Rattle.std.specs.Prelude.{◌≡◌};
 ghost use Rattle.machine.specs.Views.{fault_number};
 
@@ -7,7 +7,7 @@ use crate::objects::RunType;
 use crate::snapshot::State;
 use std::alloc::{AllocError, AllocFailed};
 
-/// What an instruction leaves open (JVMS 6.5). In each choice `fresh` has the objects that come into being first:
+/// A choice for whatever an instruction leaves open (JVMS 6.5). In each choice `fresh` has the objects that come into being first:
 /// ready, each at an address that is unused.
 #[derive(Drop)]
 pub enum Choice<'a> {
@@ -29,7 +29,7 @@ pub enum Choice<'a> {
     },
 }
 
-/// What comes of a state and a choice.
+/// The outcome of a choice in a state.
 #[derive(Drop)]
 pub enum Outcome<'a> {
     /// The state before the next instruction.

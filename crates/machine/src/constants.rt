@@ -1,4 +1,4 @@
-//! What constants are to an instruction that names them (JVMS 4.4.1, 4.4.2).
+//! The meaning of constants to an instruction that names them (JVMS 4.4.1, 4.4.2).
 ghost use Rattle.std.specs.Prelude.{◌≡◌, IfOk, IfSome, Ok, option_map, false};
 ghost use Rattle.names.specs.Descriptors.{method_width};
 ghost use Rattle.names.specs.ReferenceTypes.{array_of, reference_type};

@@ -1,4 +1,4 @@
-//! What an instruction does, and what it takes and gives.
+//! The deeds of instructions, with what they take and give.
 ghost use Rattle.std.specs.Prelude.{◌≡◌, [], None, true};
 ghost use Rattle.machine.specs.Tasks.{operates};
 ghost use Rattle.machine.specs.private.Deeds.{needs_view, reply_view, task_view};
@@ -8,7 +8,7 @@ use insn::{Branches, Kind, StackOperator};
 use names::{FieldType, Primitive};
 use std::alloc::Global;
 
-/// What an instruction needs of an operand.
+/// The need of an operand.
 #[derive(Clone, Copy, Debug)]
 pub enum Need<'a> {
     /// A number of the kind.
@@ -25,7 +25,7 @@ pub enum Need<'a> {
     OwnOr(&'a [u8]),
 }
 
-/// What an instruction pushes.
+/// The value that an instruction pushes.
 #[derive(Clone, Copy, Debug)]
 pub enum Reply<'a> {
     Nothing,
@@ -38,14 +38,14 @@ pub enum Reply<'a> {
 /// Operands are taken, and a reply is given.
 #[derive(Drop)]
 pub struct Operation<'a> {
-    /// What is taken from the stack, the first of it from the top.
+    /// The operands that are taken from the stack, the first of them from the top.
     pub needs: Vec<Need<'a>>,
     /// The place of an operand, counted from the top, that only raises where it is null.
     pub live: Option<usize>,
     pub reply: Reply<'a>,
 }
 
-/// What an instruction does (JVMS 6.5).
+/// The deed of an instruction (JVMS 6.5).
 #[derive(Drop)]
 pub enum Deed<'a> {
     /// It operates; then it goes to where it branches, or on.

@@ -1,4 +1,4 @@
-//! What instructions do (JVMS 6.5).
+//! The deeds of instructions (JVMS 6.5).
 ghost use Rattle.std.specs.Prelude.{◌≡◌, [], ◌∷◌, None, Some, true, IfOk, option_map};
 ghost use Rattle.names.specs.Descriptors.{primitive, class};
 ghost use Rattle.names.specs.ReferenceTypes.{class_type};
@@ -220,7 +220,7 @@ fn writes<'a>(need: Need<'a>, local: u16) -> Deed<'a>
 
 // ---- the table
 
-/// What an instruction of the method does.
+/// The deed of an instruction of the method.
 pub fn deed_of<'a>(
     alloc: Global,
     act: Act<'a>,

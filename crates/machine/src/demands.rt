@@ -1,4 +1,4 @@
-//! What a state owes to its instruction.
+//! The demands of an instruction on its state.
 ghost use Rattle.std.specs.Prelude.{◌≡◌, ◌↔◌, ◌⊎◌, ◌+◌, ◌≤◌, IsTrue, IfOk};
 ghost use Rattle.hierarchy.specs.Class.{world_of};
 ghost use Rattle.insn.specs.Acts.{stack_forms};

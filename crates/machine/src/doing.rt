@@ -1,4 +1,4 @@
-//! What an instruction does to a state, by the value that is answered.
+//! The effect of an instruction on a state, by the value that is answered.
 ghost use Rattle.std.specs.Prelude.{◌≡◌, ◌↔◌, IsTrue, None, option_map};
 ghost use Rattle.hierarchy.specs.Class.{world_of};
 ghost use Rattle.names.specs.ReferenceTypes.{class_type};
@@ -35,7 +35,7 @@ fn is_live(live: Option<usize>, stack: &[Value]) -> bool
     !matches!(item(place, stack), Some(Value::Null))
 }
 
-// What is pushed by the reply, if the answer may be given: a value, or nothing.
+// The items that the reply pushes, if the answer may be given: a value, or nothing.
 fn replied<C: Classes>(
     reply: Reply<'_>,
     answer: Option<Value>,
@@ -303,7 +303,7 @@ fn initialize<'a>(
     }
 }
 
-/// What the instruction does to a state that is already where it goes, by the value that is answered; 54 where it does
+/// The effect of the instruction on a state that is already where it goes, by the value that is answered; 54 where it does
 /// nothing by it.
 pub fn done<'a, C: Classes>(
     alloc: Global,

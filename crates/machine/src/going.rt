@@ -120,7 +120,7 @@ fn go_on<'a, C: Classes>(
     done(alloc, deed, moved, answer, classes)
 }
 
-/// What comes of an instruction that does this, where that is the next start.
+/// The outcome of an instruction that does this, where that is the next start.
 pub fn go<'a, C: Classes>(
     alloc: Global,
     deed: &Deed<'a>,

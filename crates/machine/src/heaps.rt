@@ -65,7 +65,7 @@ fn array<'a>(dims: u8, base: Base<'a>) -> RunType<'a>
     RunType::Array { dims, base }
 }
 
-// What comes into being at an address.
+// Makes an object at an address.
 fn new_object<'a>(address: u32, run_type: RunType<'a>) -> Object<'a>
     ensures is { object_view result ≡ object (run_type_view run_type.entry) ready }
     ensures at { IsAddress address }

@@ -22,7 +22,7 @@ pub enum Value {
     Ref(u32),
 }
 
-/// What a local variable holds (JVMS 2.6.1).
+/// The content of a local variable (JVMS 2.6.1).
 #[derive(Clone, Copy, Debug, PartialEq, Eq)]
 pub enum Slot {
     /// Nothing.

@@ -1,4 +1,4 @@
-//! What the machine's choices, beginnings and worlds take in.
+//! The breadth of the machine's choices, beginnings and worlds.
 ghost use Rattle.machine.specs.Breadth.{StepBreadth, StepBounds, StartBreadth, WorldBreadth};
 
 /// At a state that is no fault an instruction goes each way with each answer that fits, and each Throwable may be

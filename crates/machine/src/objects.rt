@@ -1,7 +1,7 @@
 //! Objects (JVMS 2.4, 2.7).
 use names::{Base, OBJECT};
 
-/// What an object is: of a class, or an array.
+/// The kind of an object: of a class, or an array.
 #[derive(Clone, Copy, Debug, PartialEq, Eq)]
 pub enum RunType<'a> {
     /// Of the class of this internal name.

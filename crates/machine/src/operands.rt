@@ -22,7 +22,7 @@ use insn::{StackForm, StackOperator, StackPlace, computed_as};
 use names::{Base, FieldType};
 use std::collections::BTreeMap;
 
-/// What is needed of an operand of the type.
+/// The need of an operand of the type.
 pub fn need_of(t: FieldType<'_>) -> Need<'_>
     ensures { need_view result ≡ need_of (type_of t.entry) }
 {

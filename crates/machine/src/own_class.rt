@@ -1,4 +1,4 @@
-//! What the class file says of the method's class and its fields.
+//! The method's class and its fields, as the class file has them.
 ghost use Rattle.std.specs.Prelude.{◌≡◌, option_map};
 ghost use Rattle.classfile.specs.Methods.{is_own_field};
 ghost use Rattle.machine.specs.Bodies.{method_view};

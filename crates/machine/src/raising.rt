@@ -87,7 +87,7 @@ fn raised_type<'a, C: Classes>(
     }
 }
 
-/// What comes of a raise of the object at this address, after these new objects, where it is caught by the entry of
+/// The outcome of a raise of the object at this address, after these new objects, where it is caught by the entry of
 /// that place, if there is one.
 pub fn raise<'a, C: Classes>(
     alloc: Global,

@@ -3,7 +3,7 @@ use crate::items::{Slot, Value};
 use crate::objects::Object;
 use std::collections::BTreeMap;
 
-/// What is there before an instruction (JVMS 2.5, 2.6).
+/// The state before an instruction (JVMS 2.5, 2.6).
 #[derive(Drop)]
 pub struct State<'a> {
     /// The offset in the code, in bytes, where the instruction begins.

@@ -10,14 +10,14 @@ use crate::items::Value;
 use insn::StackForm;
 use std::alloc::{AllocError, Global};
 
-// What is left beneath so many items.
+// The stack beneath so many items.
 fn beneath_so_many(count: usize, stack: &[Value]) -> &[Value]
     ensures { stack_of result.now ≡ drop count (stack_of stack.now) }
 {
     &stack[..stack.len().saturating_sub(count)]
 }
 
-/// What is left beneath as many operands.
+/// The stack beneath as many operands.
 pub fn beneath<'s>(needs: &[Need<'_>], stack: &'s [Value]) -> &'s [Value]
     ensures { stack_of result.now ≡ beneath (needs_view needs.now) (stack_of stack.now) }
 {

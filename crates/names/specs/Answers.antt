@@ -1,4 +1,4 @@
--- What is answered of a descriptor's text, in words that compute.
+-- The answer for a descriptor's text, in words that compute.
 use Rattle.std.specs.Prelude.{◌≡◌, ◌⊎◌, Bool, List, ℕ, Result, Ok, Err, MatchResult}
 use Rattle.names.specs.declared.fault.NameFault.{NameFault}
 use Rattle.names.specs.declared.fault.NameFault.TheVariants.{OutOfMemory}

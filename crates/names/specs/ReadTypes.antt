@@ -1,4 +1,4 @@
--- What a type stands for of which only the front is judged yet.
+-- The meaning of a type of which only the front is judged yet.
 use Rattle.std.specs.Prelude.{◌≡◌, ℕ, ◌-◌, ◌<◌, ◌≤◌, Bool, true, false, List, length, map, Option, Result, Ok, Err, MatchResult}
 use Rattle.std.specs.List.{list_any}
 use Rattle.std.specs.Option.{option_map}

@@ -1,4 +1,4 @@
--- What the types of references stand for that a program keeps.
+-- The meaning of the reference types that a program keeps.
 use Rattle.std.specs.Prelude.{◌-◌, Option, Some, None}
 use Rattle.names.specs.declared.references.RefType.{RefType}
 use Rattle.names.specs.declared.references.RefType.TheVariants.{Class, Array}

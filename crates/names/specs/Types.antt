@@ -1,4 +1,4 @@
--- What the types of a program stand for.
+-- The meaning of the program's types.
 use Rattle.std.specs.Prelude.{map}
 use Rattle.std.specs.Option.{option_map}
 use Rattle.names.specs.declared.descriptor.FieldType.{FieldType}

@@ -1,4 +1,4 @@
--- What is left of an iterator over units.
+-- The units that an iterator has still to give.
 use Rattle.std.specs.Prelude.{ℕ, List}
 use Rattle.names.specs.declared.text.TextUnits.{TextUnits}
 use Rattle.names.specs.Units.{units_of}

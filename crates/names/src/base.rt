@@ -1,4 +1,4 @@
-//! What a descriptor's type is below its array dimensions.
+//! The type below the array dimensions of a descriptor.
 
 /// A primitive type (JVMS 4.3.2, Table 4.3-A).
 #[derive(Clone, Copy, Debug, PartialEq, Eq)]
@@ -13,7 +13,7 @@ pub enum Primitive {
     Boolean,
 }
 
-/// What a field type is, below its array dimensions: a primitive type, or a class by the bytes of its name.
+/// A field type below its array dimensions: a primitive type, or a class by the bytes of its name.
 #[derive(Clone, Copy, Debug, PartialEq, Eq)]
 pub enum Base<'a> {
     Primitive(Primitive),

@@ -13,7 +13,7 @@ use crate::fault::NameFault;
 use crate::reading::{FieldRead, Outside, bad_descriptor, is_first, read_field, read_result};
 use crate::text::Text;
 
-/// What a method's descriptor says of its parameters and its result, without their types (JVMS 4.3.3).
+/// The parameters and the result of a method's descriptor, without their types (JVMS 4.3.3).
 #[derive(Clone, Copy, Debug, PartialEq, Eq)]
 pub struct MethodShape {
     /// How many units the parameters take, with the receiver if there is one: 255 at most.
@@ -32,7 +32,7 @@ pub fn method_shape(text: Text<'_>, receiver: bool) -> Result<MethodShape, NameF
     judge_shape(text.bytes(), receiver)
 }
 
-/// What is known of parameters while they are read.
+/// The parameters so far, while they are read.
 #[derive(Clone, Copy)]
 struct Measured {
     /// Their units, if these are at most 255.

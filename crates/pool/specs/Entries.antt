@@ -8,7 +8,7 @@ use Rattle.names.specs.Units.{bad_text}
 use Rattle.pool.specs.declared.kind.ReferenceKind.{ReferenceKind}
 use Rattle.pool.specs.Kinds.{kind_number, kind_of}
 
--- What stands at an index, with the standard's names for its parts. A text is the list of its bytes.
+-- The entry at an index, with the standard's names for its parts. A text is the list of its bytes.
 pub data Entry : Type 0 where
   Utf8 : (bytes : List ℕ) → Entry
   Integer : (bits : ℕ) → Entry

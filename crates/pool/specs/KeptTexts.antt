@@ -1,4 +1,4 @@
--- What is kept of texts, by their indices. Words of the code's own steps.
+-- The readings of texts that are kept, by the indices of the texts. Words of the code's own steps.
 use Rattle.std.specs.Prelude.{◌≡◌, ℕ, ◌≤◌, false, List, Option, Some, Ok, vec_len}
 use Rattle.names.specs.declared.references.RefType.{RefType}
 use Rattle.names.specs.declared.descriptor.FieldType.{FieldType}

@@ -1,4 +1,4 @@
--- What the program's field and method constants stand for.
+-- The meaning of the program's field and method constants.
 use Rattle.names.specs.References.{reference_view}
 use Rattle.names.specs.Types.{type_of, method_of}
 use Rattle.pool.specs.declared.reference.FieldConstant.{FieldConstant as RawField}

@@ -1,4 +1,4 @@
--- What constants are to an instruction that names them (JVMS 4.4.1, 4.4.2): a reference type, a field or a method with its
+-- The meaning of constants to an instruction that names them (JVMS 4.4.1, 4.4.2): a reference type, a field or a method with its
 -- types. None where the constant is of another kind, or its texts are not of their forms.
 use Rattle.std.specs.Prelude.{ℕ, Bool, false, List, Option, Some, None, Result, Ok, Err}
 use Rattle.std.specs.Option.{option_and_then}

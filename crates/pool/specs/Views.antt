@@ -1,4 +1,4 @@
--- What the program's constants are: entries, without where their texts lie in memory.
+-- The program's constants as entries, without where their texts lie in memory.
 use Rattle.std.specs.Prelude.{List, map}
 use Rattle.pool.specs.declared.constant.Constant.{Constant}
 use Rattle.pool.specs.declared.constant.Constant.TheVariants as constants

@@ -1,4 +1,4 @@
-//! What the constant pool holds.
+//! The constants of a constant pool.
 ghost use Rattle.std.specs.Prelude.{◌≡◌};
 ghost use Rattle.pool.specs.Entries.{is_wide};
 ghost use Rattle.pool.specs.Views.{view};
@@ -6,7 +6,7 @@ ghost use Rattle.pool.specs.Views.{view};
 use crate::kind::ReferenceKind;
 use names::Text;
 
-/// What stands at an index of the constant pool (JVMS 4.4). Each `u16` but `bootstrap` is an index
+/// The constant at an index of the constant pool (JVMS 4.4). Each `u16` but `bootstrap` is an index
 /// into the pool.
 #[derive(Clone, Copy)]
 pub enum Constant<'a> {

@@ -1,4 +1,4 @@
-//! What constants are to the instructions that name them: a reference type, a field or a method with its types. A long descriptor is
+//! The meaning of constants to the instructions that name them: a reference type, a field or a method with its types. A long descriptor is
 //! read once, however many constants and instructions lead to it.
 ghost use Rattle.std.specs.Prelude.{◌≡◌, ◌≤◌, false, vec_len, option_map, IfOk, IfSome};
 ghost use Rattle.names.specs.Types.{type_of, method_of};

@@ -2,7 +2,7 @@
 ghost use Rattle.std.specs.Prelude.{◌≡◌};
 ghost use Rattle.pool.specs.Kinds.{kind_number, kind_of};
 
-/// What a method handle does with what it refers to (JVMS 4.4.8, table 5.4.3.5-A).
+/// The way in which a method handle uses the member that it refers to (JVMS 4.4.8, table 5.4.3.5-A).
 #[derive(Clone, Copy, Debug, PartialEq, Eq)]
 pub enum ReferenceKind {
     /// 1, `REF_getField`

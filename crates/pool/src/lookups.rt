@@ -32,7 +32,7 @@ fn constant_at<'a>(constants: &[Constant<'a>], place: usize) -> Constant<'a>
     constants[place]
 }
 
-/// What stands at an index, in a list of constants of which the first has index 1.
+/// The constant at an index, in a list of constants of which the first has index 1.
 #[tactic(auto, unfolding(crate::specs::Lookups::entry_at))]
 fn usable_at<'a>(constants: &[Constant<'a>], index: u16) -> Result<Constant<'a>, PoolFault>
     ensures { Answers view (entry_at (views constants.now) index) result }

@@ -53,7 +53,7 @@ fn entries<'a>(
     Ok(out)
 }
 
-/// What stands at an index; `second` says that it is the second index of a Long or Double.
+/// Reads the constant at an index; `second` says that it is the second index of a Long or Double.
 fn indexed<'a>(cursor: &mut Cursor<'a>, second: bool, last: bool) -> Result<Constant<'a>, ReadFault>
     ensures { GoesOn (indexed second last) view cursor.old cursor.new result }
 {

@@ -1,4 +1,4 @@
-//! What references of the constant pool lead to.
+//! The members that references of the constant pool lead to.
 
 ghost use Rattle.std.specs.Prelude.{◌≤◌, vec_len};
 

@@ -47,7 +47,7 @@ fn put_counted(out: &mut Output, constants: &[Constant<'_>]) -> Result<(), Write
     put_entries(out, constants)
 }
 
-/// What stands at all indices, one behind the other.
+/// Writes the constants at all indices, one behind the other.
 fn put_entries(out: &mut Output, constants: &[Constant<'_>]) -> Result<(), WriteFault>
     ensures { Goes (entries_pieces false (views constants.now)) out.old out.new result }
 {
@@ -61,7 +61,7 @@ fn put_entries(out: &mut Output, constants: &[Constant<'_>]) -> Result<(), Write
     Ok(())
 }
 
-/// What stands at an index; `second` says that it is the second index of a Long or Double.
+/// Writes the constant at an index; `second` says that it is the second index of a Long or Double.
 fn put_indexed(
     out: &mut Output,
     constant: &Constant<'_>,
@@ -146,7 +146,7 @@ fn put_number(out: &mut Output, tag: u8, number: u32) -> Result<(), WriteFault>
     out.put_u4(number)
 }
 
-/// What takes two indices, so that it may not stand at the last.
+/// A constant that takes two indices, so that it may not stand at the last.
 fn put_wide(out: &mut Output, tag: u8, high: u32, low: u32, last: bool) -> Result<(), WriteFault>
     ensures { Goes (marked (not last) (field 1 tag ++ (field 4 high ++ field 4 low)))
         out.old out.new result }

@@ -1,4 +1,4 @@
--- What no instruction does but `new`, which makes an object of a class, and `invokespecial`, which calls constructors.
+-- No instruction makes an object of a class but `new`, and none calls constructors but `invokespecial`.
 use Rattle.std.proofs.Common.{◌≡◌, ℕ, zero, suc, ◌+◌, ◌-◌, ◌<◌, ◌≤◌, Bool, true, false, List, [], ◌∷◌, length, get_or, drop, map, Option, Some, None, refl, sym, ap, ◌∙◌, arith, if◌then◌else◌}
 use Rattle.std.proofs.lemmas.List.{drop_all, length-map, length-reverse, get_or-reverse, get_or-map}
 use Rattle.std.specs.Prelude.{not, ◌&&◌}

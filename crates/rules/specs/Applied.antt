@@ -1,4 +1,4 @@
--- What `apply` answers.
+-- The answer of `apply`.
 use Rattle.std.specs.Prelude.{◌≡◌, ◌⊎◌, ℕ, Bool, List, Some, None, Result, MatchResult}
 use Rattle.hierarchy.specs.Class.{ClassFact}
 use Rattle.classfile.specs.Methods.{Method}

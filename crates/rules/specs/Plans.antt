@@ -1,4 +1,4 @@
--- What the rule of an instruction asks of the frame before it and does to it, family by family (JVMS 4.10.1.9).
+-- The plan of an instruction: what its rule asks of the frame before it and does to it, family by family (JVMS 4.10.1.9).
 use Rattle.std.specs.Prelude.{ℕ, zero, suc, ℤ, Bool, true, false, if◌then◌else◌, List, [], ◌∷◌, map, Option, Some, None}
 use Rattle.names.specs.declared.base.Primitive.{Primitive}
 use Rattle.names.specs.Descriptors.{FieldDescriptor, primitive, class as class_descriptor, array as array_descriptor}

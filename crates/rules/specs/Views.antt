@@ -1,4 +1,4 @@
--- What the program's values stand for.
+-- The meaning of the program's values.
 use Rattle.std.specs.Prelude.{ℕ, zero, suc, if◌then◌else◌, List, [], ◌∷◌, map, reverse, Option, Some, None}
 use Rattle.frames.specs.declared.vtype.VType.{VType}
 use Rattle.frames.specs.VerificationType.{VerificationType, type_of, top}

@@ -23,7 +23,7 @@ use insn::{BranchTargets, Insn, act};
 use pool::Descriptors;
 use std::alloc::Global;
 
-/// What an instruction leaves that is not refused.
+/// The frame and the ways that an instruction leaves that is not refused.
 #[derive(Debug, Drop)]
 pub struct After<'a> {
     /// The frame after it.

@@ -34,7 +34,7 @@ fn object_array<'a>() -> Want<'a>
     })
 }
 
-/// What an element of an array is, null for null.
+/// The type of an array's element, null for null.
 fn element_of<'a>(t: VType<'a>) -> VType<'a>
     ensures { type_of result ≡ element_of (type_of t.entry) }
 {
@@ -59,7 +59,7 @@ fn element_of<'a>(t: VType<'a>) -> VType<'a>
     }
 }
 
-/// What an element is of the array that stands beneath an index; top where no two items are there.
+/// The type of an element of the array that stands beneath an index; top where no two items are there.
 fn element_beneath<'a>(stack: &[VType<'a>]) -> VType<'a>
     ensures { type_of result ≡ element_of (top_of (rest_of (stack_of stack.now))) }
 {

@@ -23,7 +23,7 @@ use names::{FieldType, INIT, RefType};
 use pool::MethodConstant;
 use std::alloc::{AllocError, Global};
 
-/// What parameters take.
+/// The wants of parameters.
 fn wants_of<'a>(alloc: Global, parameters: &[FieldType<'a>]) -> Result<Vec<Want<'a>>, AllocError>
     ensures { IfOk result (λ v. map want_view v.items ≡ map want_of (map type_of parameters.now)) }
 {
@@ -34,7 +34,7 @@ fn wants_of<'a>(alloc: Global, parameters: &[FieldType<'a>]) -> Result<Vec<Want<
     Ok(wants)
 }
 
-/// What a call takes from the top of the stack down: its arguments, the last one first, and a receiver beneath them, if it
+/// The wants of a call from the top of the stack down: its arguments, the last one first, and a receiver beneath them, if it
 /// has one.
 pub fn arguments_on<'a>(
     alloc: Global,

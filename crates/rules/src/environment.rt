@@ -1,4 +1,4 @@
-//! What an instruction is judged in: the method, its instructions, and the classes around it.
+//! The surroundings in which an instruction is judged: the method, its instructions, and the classes around it.
 ghost use Rattle.std.specs.Prelude.{◌≡◌, Some, IsSome};
 ghost use Rattle.classfile.specs.CodeMethods.{IsAt};
 ghost use Rattle.classfile.specs.Methods.{method_of};

@@ -63,7 +63,7 @@ pub fn gives<'a, C: Classes>(
     pops(method, nothing, gives, frame, classes)
 }
 
-/// What is asked of operands, the top first, to a result.
+/// Pops the operands that are asked, the top first, and pushes a result.
 pub fn pops<'a, A: Ask<'a>, C: Classes>(
     method: &CodeMethod<'_, 'a>,
     asked: &[A],

@@ -86,7 +86,7 @@ fn is_own_field(method: &CodeMethod<'_, '_>, field: &FieldConstant<'_>) -> bool
     own_class(method) == field.class && declares_field(class, field.name, field.descriptor)
 }
 
-/// What `putfield` asks of the object: in an instance initialization method it may be the own one, where its class declares
+/// The want of `putfield` for the object: in an instance initialization method it may be the own one, where its class declares
 /// the field.
 fn target_of<'a>(method: &CodeMethod<'_, 'a>, field: &FieldConstant<'a>) -> Want<'a>
     ensures { want_view result ≡ target_of (method_view method.now) (field_constant_view field.now) }

@@ -1,4 +1,4 @@
-//! What the constant is that an instruction names.
+//! The constant that an instruction names.
 ghost use Rattle.std.specs.Prelude.{◌≡◌, option_map, IfOk};
 ghost use Rattle.std.specs.Option.{option_and_then};
 ghost use Rattle.insn.specs.Views.{act_view};

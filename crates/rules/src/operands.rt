@@ -1,4 +1,4 @@
-//! What is asked of operands.
+//! The wants of operands.
 ghost use Rattle.std.specs.Prelude.{◌≡◌, true, map, MatchOption};
 ghost use Rattle.hierarchy.specs.Answer.{outcome_of, yes_if};
 ghost use Rattle.frames.specs.VerificationType.{type_of};

@@ -65,7 +65,7 @@ pub fn is_among(at: u16, types: &[VType<'_>]) -> bool
     false
 }
 
-/// What stands for a type where another one takes the place of the object.
+/// The type that takes the place of a type, where another one replaces the object.
 fn in_its_place<'a>(object: &VType<'a>, by: VType<'a>, t: &VType<'a>) -> VType<'a>
     ensures { type_of result ≡ replaced (type_of object.now) (type_of by.entry) (type_of t.now) }
 {

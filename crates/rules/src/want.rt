@@ -1,4 +1,4 @@
-//! What is asked of an operand or a local variable.
+//! The wants of operands and local variables.
 ghost use Rattle.std.specs.Prelude.{◌≡◌};
 ghost use Rattle.names.specs.StandardNames.{throwable_name};
 ghost use Rattle.names.specs.Types.{type_of};
@@ -8,7 +8,7 @@ ghost use Rattle.rules.specs.Views.{want_view};
 use insn::{Kind, computed_as};
 use names::{Base, FieldType, Primitive, RefType, THROWABLE};
 
-/// What is asked of the type of an operand or a local variable.
+/// A want: what is asked of the type of an operand or a local variable.
 #[derive(Clone, Copy, Debug)]
 pub enum Want<'a> {
     /// A number of the kind.
@@ -25,7 +25,7 @@ pub enum Want<'a> {
     OwnOr(&'a [u8]),
 }
 
-/// What a field or a parameter of this type takes.
+/// The want of a field or a parameter of this type.
 pub fn want_of<'a>(t: &FieldType<'a>) -> Want<'a>
     ensures { want_view result ≡ want_of (type_of t.now) }
 {
@@ -45,7 +45,7 @@ pub fn throwable<'a>() -> Want<'a>
     Want::Assignable(RefType::Class(THROWABLE))
 }
 
-/// What stands for something that is asked.
+/// A thing that stands for a want.
 pub trait Ask<'a>: Copy {
     ghost asked: { Self → Want };
 

@@ -1,5 +1,5 @@
 -- Words of the code's own steps: nothing that a reader must believe rests on them.
--- What constants are, as the program keeps it.
+-- Constants as the program keeps them.
 use Rattle.names.specs.Types.{type_of, method_of}
 use Rattle.pool.specs.Members.{FieldConstant, MethodConstant}
 use Rattle.machine.specs.declared.constants.FieldConstant.{FieldConstant as RawField}

@@ -1,5 +1,5 @@
 -- Words of the code's own steps: nothing that a reader must believe rests on them.
--- What the machine demands, as tests that compute.
+-- The machine's demands, as tests that compute.
 use Rattle.std.specs.Prelude.{ℕ, Bool, true, false, not, ◌&&◌, ◌||◌, if◌then◌else◌, bytes_eq, List, [], ◌∷◌, Option, Some, None}
 use Rattle.names.specs.declared.base.Primitive.{Primitive}
 use Rattle.names.specs.declared.base.Primitive.TheVariants.{Byte, Char, Double as DoubleType, Float as FloatType, Int as IntType, Long as LongType, Short, Boolean}

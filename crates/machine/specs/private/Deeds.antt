@@ -1,5 +1,5 @@
 -- Words of the code's own steps: nothing that a reader must believe rests on them.
--- What instructions do, as the program keeps it.
+-- The deeds of instructions, as the program keeps them.
 use Rattle.std.specs.Prelude.{ℕ, List, [], ◌∷◌, map}
 use Rattle.names.specs.Types.{type_of}
 use Rattle.names.specs.ReferenceTypes.{class_type}

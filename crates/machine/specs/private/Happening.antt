@@ -1,5 +1,5 @@
 -- Words of the code's own steps: nothing that a reader must believe rests on them.
--- What the calls answer that go on and that raise, by what is done and where the next instruction begins.
+-- The answers of the calls that go on and that raise, by what is done and where the next instruction begins.
 use Rattle.std.specs.Prelude.{◌≡◌, ◌⊎◌, ℕ, zero, suc, ℤ, pos, Bool, true, List, [], ◌∷◌, slice_get, Option, Some, None, option_to_list, Result, Ok, Err, if◌then◌else◌}
 use Rattle.names.specs.ReferenceTypes.{ReferenceType}
 use Rattle.hierarchy.specs.World.{World}
