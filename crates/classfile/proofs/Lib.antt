@@ -3,6 +3,7 @@ pub mod ClassMeasure
 pub mod ClassOutlines
 pub mod Classes
 pub mod Encodings
+pub mod FieldIndices
 pub mod FirstFaults
 pub mod FormExamples
 pub mod FormedMethods
@@ -17,7 +18,7 @@ pub mod OutlineFaults
 pub mod Outlines
 pub mod Places
 pub mod Receivers
-pub mod OwnFields
+pub mod DeclaredFieldLaws
 pub mod Rows
 pub mod SeenLaws
 pub mod Steps

@@ -31,7 +31,7 @@ order a b = ordering_then (nat_cmp a.0 b.0) (nat_cmp a.1 b.1)
 
 -- ---- tests
 
-alike : (a b : Bool) → (a ≡ true → b ≡ true) → (b ≡ true → a ≡ true) → a ≡ b
+pub alike : (a b : Bool) → (a ≡ true → b ≡ true) → (b ≡ true → a ≡ true) → a ≡ b
 alike true b f g = sym (f refl)
 alike false true f g = g refl
 alike false false f g = refl
@@ -73,7 +73,7 @@ unfolding named
 no_descriptor pool i j name fault n e =
     then (text_at pool i) _ name n ∙ ap (λ (s : Result (List ℕ) PoolFault). and_then s (λ d. Ok (record { name = name; descriptor = d }))) e
 
-parts : {A B : Type 0} (r : Result A PoolFault) (next : A → Result B PoolFault) (b : B) → and_then r next ≡ Ok b → (a : A) × (r ≡ Ok a) × (next a ≡ Ok b)
+pub parts : {A B : Type 0} (r : Result A PoolFault) (next : A → Result B PoolFault) (b : B) → and_then r next ≡ Ok b → (a : A) × (r ≡ Ok a) × (next a ≡ Ok b)
 parts (Ok a) next b h = (a, refl, h)
 parts (Err e) next b h = absurd cc
 

@@ -4,6 +4,7 @@ pub mod ClassFile
 pub mod ClassForm
 pub mod CodeMethods
 pub mod Conditions
+pub mod DeclaredFields
 pub mod ConstantForm
 pub mod Earlier
 pub mod Encoding

@@ -35,3 +35,8 @@ pub record AreSeen (pool : List Entry) (members : List Member) (s : Signatures) 
 pub record MeetsMember (pool : List Entry) (old new : Signatures) (m : Member) (repeated : Bool) : Type 0 where
   pub repeats : (earlier : List Member) → AreSeen pool earlier old → repeated ≡ is_repeated pool earlier m
   pub seen : (earlier : List Member) → AreSeen pool earlier old → AreSeen pool (earlier ++ m ∷ []) new
+
+-- the name and the descriptor at two indices were looked for, and no member was met meanwhile
+pub record FindsMember (pool : List Entry) (old new : Signatures) (name descriptor : ℕ) (met : Bool) : Type 0 where
+  pub finds : (members : List Member) → AreSeen pool members old → met ≡ on_found (is_among pool members) (named pool name descriptor)
+  pub kept : (members : List Member) → AreSeen pool members old → AreSeen pool members new

@@ -91,5 +91,5 @@ pub use laws::{
 };
 pub use member::Member;
 pub use nested::NestedAttribute;
-pub use own_fields::declares_field;
+pub use own_fields::{OwnFields, declares_field};
 pub use reading::read_class;

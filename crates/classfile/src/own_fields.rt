@@ -1,13 +1,22 @@
 //! The fields that a class declares itself (JVMS 4.5).
-ghost use Rattle.std.specs.Prelude.{◌≡◌, [], map};
+ghost use Rattle.std.specs.Prelude.{◌≡◌, [], map, IfOk};
 ghost use Rattle.pool.specs.Lookups.{text_at};
 ghost use Rattle.pool.specs.Members.{found};
+ghost use Rattle.pool.specs.Views.{view};
 ghost use Rattle.classfile.specs.Methods.{is_declared, texts, declared_fields};
+ghost use Rattle.classfile.specs.DeclaredFields.{has_named, both_indices, text_indices, type_index, Declares};
+ghost use Rattle.classfile.specs.Seen.{AreSeen};
 ghost use Rattle.classfile.specs.Views.{member_view};
 
 use crate::class_file::ClassFile;
 use crate::member::Member;
-use pool::Pool;
+use crate::signatures::Signatures;
+use pool::{Constant, Pool};
+use std::alloc::{AllocError, Global};
+use std::marker::Model;
+
+/// Up to so many fields are looked at one by one: that takes no memory, and less time than a set of their names and descriptors.
+const FEW: usize = 32;
 
 /// Whether the texts at a member's indices are these.
 fn is_named(pool: &Pool<'_>, member: &Member<'_>, name: &[u8], descriptor: &[u8]) -> bool
@@ -37,4 +46,135 @@ pub fn declares_field(class: &ClassFile<'_>, name: &[u8], descriptor: &[u8]) -> 
     ensures { result ≡ is_declared (declared_fields class.now.constant_pool (map member_view class.now.fields.items)) name.now descriptor.now }
 {
     is_among(&class.constant_pool, &class.fields, name, descriptor)
+}
+
+/// The fields that a class declares, as its instructions ask for them. What is kept of many fields is made when they are asked first.
+#[derive(Drop)]
+pub struct OwnFields<'c, 'a> {
+    alloc: Global,
+    class: &'c ClassFile<'a>,
+    met: Option<Signatures<'a>>,
+}
+
+impl<'c, 'a> Model for OwnFields<'c, 'a> {
+    ghost use Rattle.std.specs.Prelude.{map, IfSome};
+    ghost use Rattle.classfile.specs.declared.class_file.ClassFile.{ClassFile};
+    ghost use Rattle.classfile.specs.Seen.{AreSeen};
+    ghost use Rattle.classfile.specs.Views.{member_view};
+
+    ghost Value = { ClassFile };
+
+    ghost view = { λ o. o.class.now };
+
+    ghost invariant = { λ o. IfSome o.met (AreSeen o.class.now.constant_pool (map member_view o.class.now.fields.items)) };
+}
+
+/// The names and descriptors of fields.
+fn met_fields<'a>(
+    alloc: Global,
+    pool: &Pool<'a>,
+    fields: &[Member<'_>],
+) -> Result<Signatures<'a>, AllocError>
+    ensures { IfOk result (AreSeen pool.now (map member_view fields.now)) }
+{
+    let mut met = Signatures::new(alloc, pool)?;
+    for field in fields {
+        met.meet_member(pool, field)?;
+    }
+    Ok(met)
+}
+
+/// The index of the NameAndType that a Fieldref has.
+fn type_index(constant: Constant<'_>) -> Option<u16>
+    ensures { result ≡ type_index (view constant.entry) }
+{
+    match constant {
+        Constant::Fieldref { name_and_type, .. } => Some(name_and_type),
+        _ => None,
+    }
+}
+
+/// The indices of the name and of the descriptor that a NameAndType has.
+fn both_indices(constant: Constant<'_>) -> Option<(u16, u16)>
+    ensures { result ≡ both_indices (view constant.entry) }
+{
+    match constant {
+        Constant::NameAndType { name, descriptor } => Some((name, descriptor)),
+        _ => None,
+    }
+}
+
+/// The indices of the name and of the descriptor to which the Fieldref at an index leads.
+fn text_indices(pool: &Pool<'_>, field: u16) -> Option<(u16, u16)>
+    ensures { result ≡ text_indices pool.now field }
+{
+    let Ok(field) = pool.get(field) else {
+        return None;
+    };
+    let index = type_index(field)?;
+    match pool.get(index) {
+        Ok(constant) => both_indices(constant),
+        Err(_) => None,
+    }
+}
+
+impl<'c, 'a> OwnFields<'c, 'a> {
+    /// Those of a class, of which none was asked.
+    pub fn new(alloc: Global, class: &'c ClassFile<'a>) -> OwnFields<'c, 'a>
+        ensures { result ≡ class.now }
+    {
+        OwnFields {
+            alloc,
+            class,
+            met: None,
+        }
+    }
+
+    /// The class that declares them.
+    pub fn class(&self) -> &'c ClassFile<'a>
+        ensures { result.now ≡ self.now }
+    {
+        self.class
+    }
+
+    /// The names and descriptors of the fields, which are taken out.
+    fn take_met(&mut self) -> Result<Signatures<'a>, AllocError>
+        ensures same { self.new ≡ self.old }
+        ensures met { IfOk result (AreSeen self.old.constant_pool (map member_view self.old.fields.items)) }
+    {
+        match self.met.take() {
+            Some(met) => Ok(met),
+            None => met_fields(self.alloc, &self.class.constant_pool, &self.class.fields),
+        }
+    }
+
+    /// Whether one of many fields has the name and the descriptor at these indices.
+    fn has_met(&mut self, name: u16, descriptor: u16) -> Result<bool, AllocError>
+        ensures same { self.new ≡ self.old }
+        ensures found { IfOk result (λ b. b ≡ has_named self.old name descriptor) }
+    {
+        let mut met = self.take_met()?;
+        let found = met.has_met(&self.class.constant_pool, name, descriptor)?;
+        self.met = Some(met);
+        Ok(found)
+    }
+
+    /// Whether the class declares a field, static or not, of the name and the descriptor to which the Fieldref at this index leads (JVMS 4.4.2).
+    /// What it costs does not hang on the number of fields, but for the first call where they are many. The only refusal is want of memory.
+    pub fn declares(&mut self, field: u16) -> Result<bool, AllocError>
+        ensures same { self.new ≡ self.old }
+        ensures declared { IfOk result (Declares self.old field) }
+    {
+        let class = self.class;
+        if class.fields.len() > FEW {
+            return match text_indices(&class.constant_pool, field) {
+                None => Ok(false),
+                Some((name, descriptor)) => self.has_met(name, descriptor),
+            };
+        }
+        match class.constant_pool.field_ref(field) {
+            Err(_) => Ok(false),
+            Ok(texts) => Ok(declares_field(class, texts.name.bytes(), texts.descriptor.bytes())),
+        }
+    }
 }

@@ -1,6 +1,6 @@
 //! Names and descriptors of members that were met, to find those that stand twice (JVMS 4.5, 4.6).
 ghost use Rattle.std.specs.Prelude.{IfOk, List, []};
-ghost use Rattle.classfile.specs.Seen.{AreSeen, MeetsMember};
+ghost use Rattle.classfile.specs.Seen.{AreSeen, FindsMember, MeetsMember};
 ghost use Rattle.classfile.specs.TextNumbers.{AreNumbers};
 ghost use Rattle.classfile.specs.Views.{member_view};
 
@@ -43,5 +43,26 @@ impl<'a> Signatures<'a> {
         let descriptor = self.numbers.of(pool, member.descriptor, descriptor)?;
         let is_new = self.seen.insert((name, descriptor))?;
         Ok(!is_new)
+    }
+
+    /// Whether one of the name and the descriptor at these indices was met.
+    pub fn has_met(
+        &mut self,
+        pool: &Pool<'a>,
+        name: u16,
+        descriptor: u16,
+    ) -> Result<bool, AllocError>
+        requires { AreNumbers pool.now self.now.numbers }
+        ensures { IfOk result (FindsMember pool.now self.old self.new name descriptor) }
+    {
+        let Ok(name_text) = pool.text(name) else {
+            return Ok(false);
+        };
+        let Ok(descriptor_text) = pool.text(descriptor) else {
+            return Ok(false);
+        };
+        let name = self.numbers.of(pool, name, name_text)?;
+        let descriptor = self.numbers.of(pool, descriptor, descriptor_text)?;
+        Ok(self.seen.contains(&(name, descriptor)))
     }
 }

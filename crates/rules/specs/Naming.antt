@@ -1,13 +1,19 @@
 -- Which constant an instruction names, and what the program keeps of it.
-use Rattle.std.specs.Prelude.{◌≡◌, ℕ, List, Option, Some, None, option_map}
+use Rattle.std.specs.Prelude.{◌≡◌, ℕ, Bool, false, ◌&&◌, Option, Some, None, option_map}
 use Rattle.std.specs.Option.{option_and_then}
 use Rattle.names.specs.References.{reference_view}
-use Rattle.pool.specs.Entries.{Entry}
+use Rattle.names.specs.declared.references.RefType.{RefType}
 use Rattle.pool.specs.Members.{class_at, field_at, method_at}
+use Rattle.pool.specs.Members as members
 use Rattle.pool.specs.MemberViews.{field_constant_view, method_constant_view}
+use Rattle.pool.specs.declared.reference.FieldConstant.{FieldConstant}
+use Rattle.pool.specs.declared.reference.MethodConstant.{MethodConstant}
+use Rattle.classfile.specs.Methods as methods
+use Rattle.classfile.specs.Methods.{is_own_field}
 use Rattle.insn.specs.Meanings as acts
 use Rattle.insn.specs.Meanings.{Act}
 use Rattle.rules.specs.declared.naming.Named.{Named}
+use Rattle.rules.specs.declared.naming.Named.TheVariants.{Nothing, Class, Field, Method}
 
 -- the Class constant of a type
 abbrev pub class_index : Act → Option ℕ
@@ -31,8 +37,36 @@ method_index (acts.InvokeStatic i) = Some i
 method_index (acts.InvokeInterface i count) = Some i
 method_index _ = None
 
+-- the field of the class itself that `putfield` sets in an instance initialization method
+abbrev pub is_own : methods.Method Act → Option members.FieldConstant → Bool
+is_own m (Some f) = m.is_init && is_own_field m f
+is_own m None = false
+
+abbrev pub sets_own : methods.Method Act → Act → Bool
+sets_own m (acts.PutField i) = is_own m (field_at m.constant_pool i)
+sets_own m _ = false
+
+-- ---- what the program keeps
+
+abbrev pub kept_class : Named → Option RefType
+kept_class (Class class) = class
+kept_class _ = None
+
+abbrev pub kept_field : Named → Option FieldConstant
+kept_field (Field field own) = field
+kept_field _ = None
+
+abbrev pub kept_own : Named → Bool
+kept_own (Field field own) = own
+kept_own _ = false
+
+abbrev pub kept_method : Named → Option MethodConstant
+kept_method (Method method) = method
+kept_method _ = None
+
 -- this is what the instruction names
-pub record IsNamed (pool : List Entry) (act : Act) (n : Named) : Type 0 where
-  pub class : option_map reference_view n.class ≡ option_and_then (class_at pool) (class_index act)
-  pub field : option_map field_constant_view n.field ≡ option_and_then (field_at pool) (field_index act)
-  pub method : option_map method_constant_view n.method ≡ option_and_then (method_at pool) (method_index act)
+pub record IsNamed (m : methods.Method Act) (act : Act) (n : Named) : Type 0 where
+  pub class : option_map reference_view (kept_class n) ≡ option_and_then (class_at m.constant_pool) (class_index act)
+  pub field : option_map field_constant_view (kept_field n) ≡ option_and_then (field_at m.constant_pool) (field_index act)
+  pub own : kept_own n ≡ sets_own m act
+  pub method : option_map method_constant_view (kept_method n) ≡ option_and_then (method_at m.constant_pool) (method_index act)

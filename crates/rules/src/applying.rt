@@ -74,7 +74,8 @@ pub fn apply<'a, C: Classes>(
     };
     let act = act(insn);
     let mut constants = Descriptors::new(alloc, &env.method.class.constant_pool);
-    let Ok(named) = named_by(&mut constants, &act) else {
+    let mut fields = OwnFields::new(alloc, env.method.class);
+    let Ok(named) = named_by(&mut constants, &mut fields, &env.method, &act) else {
         return out_of_memory();
     };
     let own = constructs_own(&env.method, &act, &named, &working);

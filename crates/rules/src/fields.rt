@@ -1,21 +1,22 @@
 //! Instructions that read and write fields.
-ghost use Rattle.std.specs.Prelude.{◌≡◌, ℕ, option_map};
-ghost use Rattle.classfile.specs.Methods.{is_own_field};
+ghost use Rattle.std.specs.Prelude.{◌≡◌, ℕ, Some, option_map};
+ghost use Rattle.classfile.specs.Methods.{Method};
+ghost use Rattle.insn.specs.Meanings.{Act};
 ghost use Rattle.pool.specs.MemberViews.{field_constant_view};
 ghost use Rattle.rules.specs.Constants.{get_static, put_static, get_field, put_field, target_of};
 ghost use Rattle.rules.specs.After.{after};
 ghost use Rattle.rules.specs.Rules.{conditions};
 ghost use Rattle.rules.specs.Bodies.{method_view};
 ghost use Rattle.rules.specs.Held.{held};
+ghost use Rattle.rules.specs.Naming.{is_own};
 ghost use Rattle.rules.specs.Outcomes.{Done};
 ghost use Rattle.rules.specs.Views.{want_view};
 
-use crate::declaring_class::own_class;
 use crate::families::{gives, pops};
 use crate::reason::Reason;
 use crate::want::{Want, want_of};
 use crate::working::Working;
-use classfile::{CodeMethod, declares_field};
+use classfile::CodeMethod;
 use frames::held_by;
 use hierarchy::Classes;
 use names::RefType;
@@ -78,33 +79,27 @@ pub fn get_field<'a, C: Classes>(
     }
 }
 
-/// Whether the class declares the field that the constant names.
-fn is_own_field(method: &CodeMethod<'_, '_>, field: &FieldConstant<'_>) -> bool
-    ensures { result ≡ is_own_field (method_view method.now) (field_constant_view field.now) }
-{
-    let class = method.class;
-    own_class(method) == field.class && declares_field(class, field.name, field.descriptor)
-}
-
 /// The want of `putfield` for the object: in an instance initialization method it may be the own one, where its class declares
 /// the field.
-fn target_of<'a>(method: &CodeMethod<'_, 'a>, field: &FieldConstant<'a>) -> Want<'a>
-    ensures { want_view result ≡ target_of (method_view method.now) (field_constant_view field.now) }
+fn target_of<'a>(field: &FieldConstant<'a>, own: bool) -> Want<'a>
+    ensures { (m : Method Act) → own ≡ is_own m (Some (field_constant_view field.now)) → want_view result ≡ target_of m (field_constant_view field.now) }
 {
-    if method.is_init && is_own_field(method, field) {
+    if own {
         Want::OwnOr(field.class)
     } else {
         Want::Assignable(RefType::Class(field.class))
     }
 }
 
-/// `putfield` of the field that it names
+/// `putfield` of the field that it names; `own` tells whether an instance initialization method sets a field of its own class.
 pub fn put_field<'a, C: Classes>(
     method: &CodeMethod<'_, 'a>,
     named: Option<FieldConstant<'a>>,
+    own: bool,
     frame: &mut Working<'a>,
     classes: &C,
 ) -> Result<(), Reason<'a>>
+    requires own { own ≡ is_own (method_view method.now) (option_map field_constant_view named) }
     ensures { (at : ℕ) → let m = method_view method.now in let f = held frame.old in
         let p = put_field m (option_map field_constant_view named.entry) in
         Done (conditions (C.content classes.now) m at p f) (after m at p f) (held frame.new) result }
@@ -112,7 +107,7 @@ pub fn put_field<'a, C: Classes>(
     match named {
         None => Err(Reason::WrongConstant),
         Some(field) => {
-            let target = target_of(method, &field);
+            let target = target_of(&field, own);
             pops(
                 method,
                 &[want_of(&field.field_type), target],

@@ -1,132 +1,130 @@
 //! The constant that an instruction names.
-ghost use Rattle.std.specs.Prelude.{◌≡◌, option_map, IfOk};
-ghost use Rattle.std.specs.Option.{option_and_then};
+ghost use Rattle.std.specs.Prelude.{◌≡◌, ℕ, option_map, IfOk, IfSome};
 ghost use Rattle.insn.specs.Views.{act_view};
-ghost use Rattle.names.specs.References.{reference_view};
-ghost use Rattle.pool.specs.Members.{class_at, field_at, method_at};
+ghost use Rattle.pool.specs.Members.{field_at};
 ghost use Rattle.pool.specs.MemberViews.{field_constant_view, method_constant_view};
-ghost use Rattle.rules.specs.Naming.{IsNamed, class_index, field_index, method_index};
+ghost use Rattle.rules.specs.Bodies.{method_view};
+ghost use Rattle.rules.specs.Naming.{IsNamed, is_own, kept_class, kept_field, kept_own, kept_method};
 
+use crate::declaring_class::own_class;
+use classfile::{CodeMethod, OwnFields};
 use insn::Act;
 use names::RefType;
 use pool::{Descriptors, FieldConstant, MethodConstant};
 use std::alloc::AllocError;
 
-/// What an instruction names: one of these at most, where the constant is one that it may name.
+/// The thing that an instruction names, where the constant is one that it may name.
 #[derive(Drop)]
-pub struct Named<'a> {
+pub enum Named<'a> {
+    /// The instruction names no class, field or method that is looked up, or it is `new`.
+    Nothing,
     /// The type that its Class constant names.
-    pub class: Option<RefType<'a>>,
+    Class(Option<RefType<'a>>),
     /// Its field.
-    pub field: Option<FieldConstant<'a>>,
+    Field {
+        field: Option<FieldConstant<'a>>,
+        /// Whether it is `putfield` of a field of the class itself, in an instance initialization method.
+        own: bool,
+    },
     /// Its method.
-    pub method: Option<MethodConstant<'a>>,
+    Method(Option<MethodConstant<'a>>),
 }
 
 impl<'a> Named<'a> {
+    /// The type that the instruction names.
+    pub fn class(&self) -> Option<RefType<'a>>
+        ensures { result ≡ kept_class self.now }
+    {
+        match self {
+            Named::Class(class) => *class,
+            _ => None,
+        }
+    }
+
+    /// The field that the instruction names.
+    pub fn field(&self) -> Option<FieldConstant<'a>>
+        ensures { result ≡ kept_field self.now }
+    {
+        match self {
+            Named::Field { field, .. } => *field,
+            _ => None,
+        }
+    }
+
+    /// Whether it is a field of the class itself that an instance initialization method sets.
+    pub fn is_own(&self) -> bool
+        ensures { result ≡ kept_own self.now }
+    {
+        match self {
+            Named::Field { own, .. } => *own,
+            _ => false,
+        }
+    }
+
     /// The method that the instruction names.
     pub fn method(&self) -> Option<&MethodConstant<'a>>
-        ensures { option_map (λ c. method_constant_view c.now) result ≡ option_map method_constant_view self.now.method }
+        ensures { option_map (λ c. method_constant_view c.now) result ≡ option_map method_constant_view (kept_method self.now) }
     {
-        match &self.method {
-            None => None,
-            Some(method) => Some(method),
+        match self {
+            Named::Method(Some(method)) => Some(method),
+            _ => None,
         }
     }
 }
 
-/// The index of the Class constant that an instruction names for a type: of an array's elements, of an array, or of a cast.
-fn class_index(act: &Act<'_>) -> Option<u16>
-    ensures { result ≡ class_index (act_view act.now) }
+/// Whether the field that the Fieldref at an index names is one of the method's class, and the method an instance initialization
+/// method.
+fn is_own<'a>(
+    fields: &mut OwnFields<'_, 'a>,
+    method: &CodeMethod<'_, 'a>,
+    index: u16,
+    field: Option<FieldConstant<'a>>,
+) -> Result<bool, AllocError>
+    requires class { fields.old ≡ method.now.class.now }
+    requires found { option_map field_constant_view field ≡ field_at (method_view method.now).constant_pool index }
+    ensures same { fields.new ≡ fields.old }
+    ensures own { IfOk result (λ b. b ≡ is_own (method_view method.now) (option_map field_constant_view field.entry)) }
+{
+    let Some(field) = field else {
+        return Ok(false);
+    };
+    if !method.is_init || own_class(method) != field.class {
+        return Ok(false);
+    }
+    fields.declares(index)
+}
+
+/// Looks up what an instruction that means this names, by the constants and the fields of its class. The only refusal is want of memory.
+pub fn named_by<'a>(
+    constants: &mut Descriptors<'_, 'a>,
+    fields: &mut OwnFields<'_, 'a>,
+    method: &CodeMethod<'_, 'a>,
+    act: &Act<'a>,
+) -> Result<Named<'a>, AllocError>
+    requires constants { constants.old ≡ method.now.class.now.constant_pool }
+    requires fields { fields.old ≡ method.now.class.now }
+    ensures same { constants.new ≡ constants.old }
+    ensures same_fields { fields.new ≡ fields.old }
+    ensures found { IfOk result (IsNamed (method_view method.now) (act_view act.now)) }
 {
     match *act {
         Act::NewReferenceArray { index }
         | Act::NewMultiArray { index, .. }
         | Act::CheckCast { index }
-        | Act::InstanceOf { index } => Some(index),
-        _ => None,
-    }
-}
-
-/// The index of the field that an instruction names.
-fn field_index(act: &Act<'_>) -> Option<u16>
-    ensures { result ≡ field_index (act_view act.now) }
-{
-    match *act {
-        Act::GetStatic { index }
-        | Act::PutStatic { index }
-        | Act::GetField { index }
-        | Act::PutField { index } => Some(index),
-        _ => None,
-    }
-}
-
-/// The index of the method that an instruction names.
-fn method_index(act: &Act<'_>) -> Option<u16>
-    ensures { result ≡ method_index (act_view act.now) }
-{
-    match *act {
+        | Act::InstanceOf { index } => Ok(Named::Class(constants.class_type(index)?)),
+        Act::GetStatic { index } | Act::PutStatic { index } | Act::GetField { index } => {
+            let field = constants.field_constant(index)?;
+            Ok(Named::Field { field, own: false })
+        }
+        Act::PutField { index } => {
+            let field = constants.field_constant(index)?;
+            let own = is_own(fields, method, index, field)?;
+            Ok(Named::Field { field, own })
+        }
         Act::InvokeVirtual { index }
         | Act::InvokeSpecial { index }
         | Act::InvokeStatic { index }
-        | Act::InvokeInterface { index, .. } => Some(index),
-        _ => None,
+        | Act::InvokeInterface { index, .. } => Ok(Named::Method(constants.method_constant(index)?)),
+        _ => Ok(Named::Nothing),
     }
-}
-
-fn class_type<'a>(
-    constants: &mut Descriptors<'_, 'a>,
-    index: Option<u16>,
-) -> Result<Option<RefType<'a>>, AllocError>
-    ensures same { constants.new ≡ constants.old }
-    ensures found { IfOk result (λ o. option_map reference_view o ≡ option_and_then (class_at constants.old) index) }
-{
-    match index {
-        None => Ok(None),
-        Some(index) => constants.class_type(index),
-    }
-}
-
-fn field_constant<'a>(
-    constants: &mut Descriptors<'_, 'a>,
-    index: Option<u16>,
-) -> Result<Option<FieldConstant<'a>>, AllocError>
-    ensures same { constants.new ≡ constants.old }
-    ensures found { IfOk result (λ o. option_map field_constant_view o ≡ option_and_then (field_at constants.old) index) }
-{
-    match index {
-        None => Ok(None),
-        Some(index) => constants.field_constant(index),
-    }
-}
-
-fn method_constant<'a>(
-    constants: &mut Descriptors<'_, 'a>,
-    index: Option<u16>,
-) -> Result<Option<MethodConstant<'a>>, AllocError>
-    ensures same { constants.new ≡ constants.old }
-    ensures found { IfOk result (λ o. option_map method_constant_view o ≡ option_and_then (method_at constants.old) index) }
-{
-    match index {
-        None => Ok(None),
-        Some(index) => constants.method_constant(index),
-    }
-}
-
-/// What an instruction that means this names, by the constants of its class. The only refusal is want of memory.
-pub fn named_by<'a>(
-    constants: &mut Descriptors<'_, 'a>,
-    act: &Act<'a>,
-) -> Result<Named<'a>, AllocError>
-    ensures same { constants.new ≡ constants.old }
-    ensures found { IfOk result (IsNamed constants.old (act_view act.now)) }
-{
-    let class = class_type(constants, class_index(act))?;
-    let field = field_constant(constants, field_index(act))?;
-    let method = method_constant(constants, method_index(act))?;
-    Ok(Named {
-        class,
-        field,
-        method,
-    })
 }

@@ -81,7 +81,7 @@ pub fn constructs_own<'a>(
     named: &Named<'a>,
     frame: &Working<'a>,
 ) -> bool
-    requires { IsNamed (method_view method.now).constant_pool (act_view act.now) named.now }
+    requires { IsNamed (method_view method.now) (act_view act.now) named.now }
     ensures { result ≡ constructs_own (plan (method_view method.now) (act_view act.now)) (held frame.now) }
 {
     match special_index(act) {

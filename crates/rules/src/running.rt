@@ -49,13 +49,12 @@ pub fn run<'a, S: Starts, C: Classes>(
     classes: &C,
 ) -> Result<(), Reason<'a>>
     requires locals { length (held frame.old).locals ≡ method.now.code.now.max_locals }
-    requires named { IsNamed (method_view method.now).constant_pool (act_view act) named.now }
+    requires named { IsNamed (method_view method.now) (act_view act) named.now }
     requires code { S.code starts.now ≡ (method_view method.now).code }
     ensures { let m = method_view method.now in let f = held frame.old in
         let p = plan m (act_view act.entry) in
         Done (conditions (C.content classes.now) m at p f) (after m at p f) (held frame.new) result }
 {
-    let called = named.method();
     match act {
         Act::Nothing | Act::Goto { .. } => gives(method, None, frame, classes),
         Act::Constant(kind) => gives(method, Some(number_type(kind)), frame, classes),
@@ -82,17 +81,19 @@ pub fn run<'a, S: Starts, C: Classes>(
         Act::ReturnReference => return_reference(method, frame, classes),
         Act::ReturnVoid => return_nothing(method, frame),
         Act::Throw => pops(method, &[throwable()], None, frame, classes),
-        Act::GetStatic { .. } => get_static(method, named.field, frame, classes),
-        Act::PutStatic { .. } => put_static(method, named.field, frame, classes),
-        Act::GetField { .. } => get_field(method, named.field, frame, classes),
-        Act::PutField { .. } => put_field(method, named.field, frame, classes),
-        Act::InvokeVirtual { .. } => invoke_virtual(alloc, method, called, frame, classes),
-        Act::InvokeSpecial { .. } => {
-            invoke_special(alloc, method, called, starts, frame, classes)
+        Act::GetStatic { .. } => get_static(method, named.field(), frame, classes),
+        Act::PutStatic { .. } => put_static(method, named.field(), frame, classes),
+        Act::GetField { .. } => get_field(method, named.field(), frame, classes),
+        Act::PutField { .. } => {
+            put_field(method, named.field(), named.is_own(), frame, classes)
         }
-        Act::InvokeStatic { .. } => invoke_static(alloc, method, called, frame, classes),
+        Act::InvokeVirtual { .. } => invoke_virtual(alloc, method, named.method(), frame, classes),
+        Act::InvokeSpecial { .. } => {
+            invoke_special(alloc, method, named.method(), starts, frame, classes)
+        }
+        Act::InvokeStatic { .. } => invoke_static(alloc, method, named.method(), frame, classes),
         Act::InvokeInterface { count, .. } => {
-            invoke_interface(alloc, method, called, count, frame, classes)
+            invoke_interface(alloc, method, named.method(), count, frame, classes)
         }
         Act::LoadElement(element) => load_element(method, element, frame, classes),
         Act::StoreElement(element) => store_element(method, element, frame, classes),
@@ -100,12 +101,12 @@ pub fn run<'a, S: Starts, C: Classes>(
         Act::StoreReferenceElement => store_reference_element(method, frame, classes),
         Act::ArrayLength => pops(method, &[Want::Array], Some(VType::Int), frame, classes),
         Act::NewArray(element) => new_array(method, element, frame, classes),
-        Act::NewReferenceArray { .. } => new_reference_array(method, named.class, frame, classes),
+        Act::NewReferenceArray { .. } => new_reference_array(method, named.class(), frame, classes),
         Act::NewMultiArray { dimensions, .. } => {
-            new_multi_array(alloc, method, named.class, dimensions, frame, classes)
+            new_multi_array(alloc, method, named.class(), dimensions, frame, classes)
         }
-        Act::CheckCast { .. } => check_cast(method, named.class, frame, classes),
-        Act::InstanceOf { .. } => instance_of(method, named.class, frame, classes),
+        Act::CheckCast { .. } => check_cast(method, named.class(), frame, classes),
+        Act::InstanceOf { .. } => instance_of(method, named.class(), frame, classes),
         Act::New { index } => new_object(method, at, index, frame),
         Act::Unsupported => Err(Reason::NotSupported),
     }

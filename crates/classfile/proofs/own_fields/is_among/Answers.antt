@@ -4,7 +4,7 @@ use Rattle.classfile.specs.Values.{Member}
 use Rattle.classfile.specs.Methods.{is_declared, declared_fields}
 use Rattle.classfile.specs.Views.{member_view}
 use Rattle.classfile.proofs.Places.{viewed_at}
-use Rattle.classfile.proofs.OwnFields.{from_one}
+use Rattle.classfile.proofs.DeclaredFieldLaws.{from_one}
 use Rattle.classfile.proofs.own_fields.is_among.Goals as goal
 
 pub returns-then-is_named : goal.returns-then-is_named

@@ -1,0 +1,37 @@
+-- Of the fields that a class declares itself: whether the one that a constant names is among them (JVMS 4.4.2, 4.5).
+use Rattle.std.specs.Prelude.{◌≡◌, ℕ, Bool, List, Ok, Option, Some, None, map}
+use Rattle.std.specs.Option.{option_and_then}
+use Rattle.pool.specs.Entries.{Entry, Fieldref, NameAndType}
+use Rattle.pool.specs.Lookups.{FieldOf, Named, named, field_ref_at}
+use Rattle.pool.specs.Members.{constant_at}
+use Rattle.classfile.specs.declared.class_file.ClassFile.{ClassFile}
+use Rattle.classfile.specs.Indices.{on_found}
+use Rattle.classfile.specs.Methods.{is_declared, declared_fields}
+use Rattle.classfile.specs.Views.{member_view}
+
+-- the fields of a class file, by their names and descriptors
+abbrev pub fields_of : ClassFile → List Named
+fields_of c = declared_fields c.constant_pool (map member_view c.fields.items)
+
+-- the class declares the field of the name and the descriptor at these indices
+abbrev pub has_named : ClassFile → ℕ → ℕ → Bool
+has_named c name descriptor = on_found (λ x. is_declared (fields_of c) x.name x.descriptor) (named c.constant_pool name descriptor)
+
+-- of a Fieldref that leads to a name and a descriptor, the answer tells whether the class declares that field
+abbrev pub Declares : ClassFile → ℕ → Bool → Type 0
+Declares c field b = (f : FieldOf) → field_ref_at c.constant_pool field ≡ Ok f → b ≡ is_declared (fields_of c) f.name f.descriptor
+
+-- ---- the indices of the texts to which a Fieldref leads
+
+abbrev pub type_index : Entry → Option ℕ
+type_index (Fieldref class name_and_type) = Some name_and_type
+type_index _ = None
+
+abbrev pub both_indices : Entry → Option (ℕ × ℕ)
+both_indices (NameAndType name descriptor) = Some (name, descriptor)
+both_indices _ = None
+
+-- of its name and of its descriptor
+abbrev pub text_indices : List Entry → ℕ → Option (ℕ × ℕ)
+text_indices pool field =
+    option_and_then (λ i. option_and_then both_indices (constant_at pool i)) (option_and_then type_index (constant_at pool field))
