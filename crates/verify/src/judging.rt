@@ -30,7 +30,7 @@ use crate::keeping::Known;
 use crate::place_set::PlaceSet;
 use crate::refusal::refuse;
 use crate::verdict::{Verdict, VerifyFault};
-use classfile::CodeMethod;
+use classfile::{CodeMethod, OwnFields};
 use frames::{CodeStarts, DeclaredFrames};
 use hierarchy::Classes;
 use insn::{Act, Instructions, act};
@@ -62,7 +62,7 @@ fn judge<'n, 'a, C: Classes>(
     requires locals { length (held frame.old).locals ≡ method.now.code.now.max_locals }
     requires starts { code_in starts.now ≡ method.now.code.now.code.now }
     requires declared { locals_in frames.now ≡ method.now.code.now.max_locals }
-    requires named { IsNamed (method_view method.now).constant_pool (act_view act) named.now }
+    requires named { IsNamed (method_view method.now) (act_view act) named.now }
     requires known { let m = method_view method.now in IsKnown (C.content classes.now) frames.now (after m at (plan m (act_view act)) (held frame.old)) known.old }
     requires caught { let m = method_view method.now in Judges (handler_conditions (C.content classes.now) (frames_in frames.now) at (held frame.old) m.exceptions) caught }
     requires covered { let m = method_view method.now in covered ≡ (constructs_own (plan m (act_view act)) (held frame.old) && is_covered m.exceptions at) }
@@ -95,7 +95,7 @@ fn covers_constructor<'a>(
     handlers: &mut Handlers<'a>,
     frame: &Working<'a>,
 ) -> Result<bool, AllocError>
-    requires { IsNamed (method_view method.now).constant_pool (act_view act.now) named.now }
+    requires { IsNamed (method_view method.now) (act_view act.now) named.now }
     ensures { (cs : List ClassFact) (frames : Frames) (es : List ExceptionEntry) → let f = held frame.now in
         Follows cs frames es at f handlers.old → AreAhead at handlers.old
         → IfOk result (λ covered. (covered ≡ (constructs_own (plan (method_view method.now) (act_view act.now)) f && is_covered es at))
@@ -116,10 +116,12 @@ pub fn pass<'a, C: Classes>(
     handlers: &mut Handlers<'a>,
     seen: &mut PlaceSet,
     constants: &mut Descriptors<'_, 'a>,
+    fields: &mut OwnFields<'_, 'a>,
     frame: &mut Working<'a>,
     classes: &C,
 ) -> Result<Verdict<'a>, VerifyFault>
     requires constants { constants.old ≡ method.now.class.now.constant_pool }
+    requires fields { fields.old ≡ method.now.class.now }
     requires initial { held frame.old ≡ initial_frame (method_view method.now) }
     requires locals { length (held frame.old).locals ≡ method.now.code.now.max_locals }
     requires starts { code_in starts.now ≡ method.now.code.now.code.now }
@@ -128,6 +130,7 @@ pub fn pass<'a, C: Classes>(
     requires spelled { (xs : List (ℕ × Instruction)) × SpellsCode 0 method.now.code.now.code.now xs }
     requires few { length method.now.code.now.code.now ≤ MAX_CODE_BYTES }
     ensures same { constants.new ≡ constants.old }
+    ensures same_fields { fields.new ≡ fields.old }
     ensures judged { Gives (code_judged plan (C.content classes.now) (method_view method.now) (frames_in frames.now)) result }
 {
     let mut code = Instructions::new(method.code.code);
@@ -147,7 +150,7 @@ pub fn pass<'a, C: Classes>(
         known = known.here(declared);
         let act = act(&insn);
         handlers.come_to(at)?;
-        let named = named_by(constants, &act)?;
+        let named = named_by(constants, fields, method, &act)?;
         let covered = covers_constructor(method, at, &act, &named, handlers, frame)?;
         let caught = handlers.catch(at, frame, frames, &mut known, classes);
         comes = goes_on(&act);

@@ -29,7 +29,7 @@ use crate::place_set::PlaceSet;
 use crate::refusal::{refuse, refuse_code};
 use crate::stack_maps::declared_frames;
 use crate::verdict::{Verdict, VerifyFault};
-use classfile::{CodeMethod, Formed};
+use classfile::{CodeMethod, Formed, OwnFields};
 use frames::{CodeStarts, DeclaredFrames};
 use hierarchy::Classes;
 use insn::count_instructions;
@@ -57,10 +57,12 @@ fn judge_code<'a, C: Classes>(
     starts: &CodeStarts<'_>,
     frames: &DeclaredFrames<'a>,
     constants: &mut Descriptors<'_, 'a>,
+    fields: &mut OwnFields<'_, 'a>,
     frame: &mut Working<'a>,
     classes: &C,
 ) -> Result<Verdict<'a>, VerifyFault>
     requires constants { constants.old ≡ method.now.class.now.constant_pool }
+    requires fields { fields.old ≡ method.now.class.now }
     requires initial { held frame.old ≡ initial_frame (method_view method.now) }
     requires locals { length (held frame.old).locals ≡ method.now.code.now.max_locals }
     requires starts { code_in starts.now ≡ method.now.code.now.code.now }
@@ -68,6 +70,7 @@ fn judge_code<'a, C: Classes>(
     requires spelled { (xs : List (ℕ × Instruction)) × SpellsCode 0 method.now.code.now.code.now xs }
     requires few { length method.now.code.now.code.now ≤ MAX_CODE_BYTES }
     ensures same { constants.new ≡ constants.old }
+    ensures same_fields { fields.new ≡ fields.old }
     ensures judged { let m = method_view method.now in Gives (with_frames plan (C.content classes.now) m (Ok (frames_in frames.now))) result }
 {
     let table = exceptions(alloc, method)?;
@@ -85,6 +88,7 @@ fn judge_code<'a, C: Classes>(
         &mut handlers,
         &mut seen,
         constants,
+        fields,
         frame,
         classes,
     )
@@ -97,14 +101,17 @@ fn judge_body<'a, C: Classes>(
     method: &CodeMethod<'_, 'a>,
     parameters: &[FieldType<'a>],
     constants: &mut Descriptors<'_, 'a>,
+    fields: &mut OwnFields<'_, 'a>,
     frame: &mut Working<'a>,
     classes: &C,
 ) -> Result<Verdict<'a>, VerifyFault>
     requires constants { constants.old ≡ method.now.class.now.constant_pool }
+    requires fields { fields.old ≡ method.now.class.now }
     requires parameters { (method_view method.now).type.params ≡ map type_of parameters.now }
     requires spelled { (xs : List (ℕ × Instruction)) × SpellsCode 0 method.now.code.now.code.now xs }
     requires few { length method.now.code.now.code.now ≤ MAX_CODE_BYTES }
     ensures same { constants.new ≡ constants.old }
+    ensures same_fields { fields.new ≡ fields.old }
     ensures judged { Gives (verdict plan (C.content classes.now) (method_view method.now)) result }
 {
     let max_locals = method.code.max_locals;
@@ -119,7 +126,9 @@ fn judge_body<'a, C: Classes>(
         Err(fault) => return refuse(0, Reason::BadStackMap { fault }),
     };
     frame.start(&locals, max_locals, begins_uninitialized(method))?;
-    judge_code(alloc, method, &starts, &frames, constants, frame, classes)
+    judge_code(
+        alloc, method, &starts, &frames, constants, fields, frame, classes,
+    )
 }
 
 /// The verdict on a method with code.
@@ -127,13 +136,16 @@ fn verify_code<'a, C: Classes>(
     alloc: Global,
     method: CodeMethod<'_, 'a>,
     constants: &mut Descriptors<'_, 'a>,
+    fields: &mut OwnFields<'_, 'a>,
     frame: &mut Working<'a>,
     classes: &C,
 ) -> Result<Verdict<'a>, VerifyFault>
     requires constants { constants.old ≡ method.class.now.constant_pool }
+    requires fields { fields.old ≡ method.class.now }
     requires formed { WellFormed (class_view method.class.now) }
     requires coded { code_at (class_view method.class.now) method.number ≡ Some (code_view method.code.now) }
     ensures same { constants.new ≡ constants.old }
+    ensures same_fields { fields.new ≡ fields.old }
     ensures answered { AnswersCode (C.content classes.now) (class_view method.entry.class.now) method.entry.number result }
 {
     match count_instructions(method.code.code) {
@@ -141,7 +153,15 @@ fn verify_code<'a, C: Classes>(
         Err(fault) => return refuse_code(fault),
     }
     let types = types_of(alloc, &method)?;
-    judge_body(alloc, &method, &types.params, constants, frame, classes)
+    judge_body(
+        alloc,
+        &method,
+        &types.params,
+        constants,
+        fields,
+        frame,
+        classes,
+    )
 }
 
 /// The verdict on a method of a class that the hierarchy has as it is; the constants are those of the class.
@@ -150,19 +170,22 @@ pub fn verify_listed<'a, C: Classes>(
     formed: &Formed<'_, 'a>,
     number: usize,
     constants: &mut Descriptors<'_, 'a>,
+    fields: &mut OwnFields<'_, 'a>,
     frame: &mut Working<'a>,
     classes: &C,
 ) -> Result<Verdict<'a>, VerifyFault>
     requires constants { constants.old ≡ formed.now.class.now.constant_pool }
+    requires fields { fields.old ≡ formed.now.class.now }
     requires within { number < length formed.now.class.now.methods.items }
     requires listed { IsListed (C.content classes.now) (class_view formed.now.class.now) }
     ensures same { constants.new ≡ constants.old }
+    ensures same_fields { fields.new ≡ fields.old }
     ensures answered { Answers (C.content classes.now) (class_view formed.now.class.now) number result }
 {
     formed.class();
     match formed.method(number) {
         None => Ok(Verdict::NoCode),
-        Some(method) => verify_code(alloc, method, constants, frame, classes),
+        Some(method) => verify_code(alloc, method, constants, fields, frame, classes),
     }
 }
 
@@ -197,6 +220,16 @@ pub fn verify_method<'a, C: Classes>(
         return Err(VerifyFault::NotInHierarchy);
     }
     let mut frame = Working::new(alloc, 0, false);
-    let mut constants = Descriptors::new(alloc, &formed.class().constant_pool);
-    verify_listed(alloc, formed, number, &mut constants, &mut frame, classes)
+    let class = formed.class();
+    let mut constants = Descriptors::new(alloc, &class.constant_pool);
+    let mut fields = OwnFields::new(alloc, class);
+    verify_listed(
+        alloc,
+        formed,
+        number,
+        &mut constants,
+        &mut fields,
+        &mut frame,
+        classes,
+    )
 }

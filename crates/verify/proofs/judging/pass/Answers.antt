@@ -43,6 +43,7 @@ loop-step-init g c =
       };
       locals = c.requires.locals;
       constants = refl;
+      fields = refl;
       known = c.nothing-known.ensures (g.C.Classes.content c.args.classes.now) c.args.frames.now (held c.args.frame.now);
       handlers = subst (λ n. Follows classes frames m.exceptions n (held c.args.frame.now) c.args.handlers.now) (sym (ap (λ (p : Place). p.at) c.new-code.ensures)) c.requires.handlers;
     }
@@ -108,12 +109,10 @@ judge-judged-requires-clause-covered g c =
     (c.in_ok-covered.ensures classes frames m.exceptions arrived.0 arrived.1).0
 
 pub covers_constructor-requires : goal.covers_constructor-requires
-covers_constructor-requires g c =
-    subst (λ (es : List Entry). IsNamed es (act_view c.act-act.result) c.in_ok-named.named) (c.loop-step.invariant.constants ∙ c.requires.constants) c.in_ok-named.ensures.found
+covers_constructor-requires g c = c.in_ok-named.ensures.found
 
 pub judge-judged-requires-clause-named : goal.judge-judged-requires-clause-named
-judge-judged-requires-clause-named g c =
-    subst (λ (es : List Entry). IsNamed es (act_view c.act-act.result) c.in_ok-named.named) (c.loop-step.invariant.constants ∙ c.requires.constants) c.in_ok-named.ensures.found
+judge-judged-requires-clause-named g c = c.in_ok-named.ensures.found
 
 pub unreachable-requires : goal.unreachable-requires
 unreachable-requires g c =
@@ -205,6 +204,7 @@ loop-step-preserved g c =
           keeps_length m x.0 (plan m a.1) g1 (held c.judge-judged.new.frame) c.args.method.now.code.now.max_locals
           (c.in_default-enter.ensures.locals ∙ c.loop-step.invariant.locals) well.outcome.1;
       constants = c.named_by.ensures.same ∙ c.loop-step.invariant.constants;
+      fields = c.named_by.ensures.same_fields ∙ c.loop-step.invariant.fields;
       known = subst (λ (r : Result Unit Reason). OnOk r (IsKnown classes c.args.frames.now (held c.judge-judged.new.frame) c.judge-judged.new.known)) c.in_default-judged.is c.judge-judged.ensures.known;
       handlers = follows_later classes frames m.exceptions x.0 c.next.new.self.at (held c.judge-judged.new.frame) c.behind-in-Some.new.self (omega (arith, within.0, within.1, within.2)) behind;
     }
@@ -255,6 +255,7 @@ loop-step-preserved-in_default-judged g c =
           keeps_length m x.0 (plan m a.1) g1 (held c.judge-judged.new.frame) c.args.method.now.code.now.max_locals
           (c.in_default-enter.ensures.locals ∙ c.loop-step.invariant.locals) well.outcome.1;
       constants = c.named_by.ensures.same ∙ c.loop-step.invariant.constants;
+      fields = c.named_by.ensures.same_fields ∙ c.loop-step.invariant.fields;
       known = subst (λ (r : Result Unit Reason). OnOk r (IsKnown classes c.args.frames.now (held c.judge-judged.new.frame) c.judge-judged.new.known)) c.in_default-judged.is c.judge-judged.ensures.known;
       handlers = follows_later classes frames m.exceptions x.0 c.next.new.self.at (held c.judge-judged.new.frame) c.behind-in-Some.new.self (omega (arith, within.0, within.1, within.2)) behind;
     }
