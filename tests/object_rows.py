@@ -83,11 +83,7 @@ OF_CONSTRUCTORS = """
 ()V 2 1 | aload_0; dup; invokespecial [method java/lang/Object <init> ()V]; invokevirtual [method K f ()V]; return | verified
 ()V 2 1 | aload_0; dup; invokespecial [method java/lang/Object <init> ()V]; invokespecial [method java/lang/Object <init> ()V]; return | refused 62 at 5
 (I)V 2 2 | aload_0; invokespecial [method java/lang/Object <init> ()V]; aload_0; iload_1; putfield [field K x I]; return | verified
-# until then its own fields may be set, and no more
-()V 2 1 | aload_0; iconst_0; putfield [field K x I]; aload_0; invokespecial [method java/lang/Object <init> ()V]; return | verified
-()V 2 1 | aload_0; iconst_0; putfield [field K y I]; aload_0; invokespecial [method java/lang/Object <init> ()V]; return | refused 62 at 2
-()V 3 1 | aload_0; lconst_0; putfield [field K x J]; aload_0; invokespecial [method java/lang/Object <init> ()V]; return | refused 62 at 2
-()V 2 1 | aload_0; iconst_0; putfield [field A x I]; aload_0; invokespecial [method java/lang/Object <init> ()V]; return | refused 62 at 2
+# until then nothing is done with it but to set its own fields
 ()V 1 1 | aload_0; getfield [field K x I]; pop; return | refused 62 at 1
 ()V 1 1 | aload_0; invokevirtual [method K f ()V]; return | refused 62 at 1
 ()V 1 1 | aload_0; invokespecial [method K f ()V]; return | refused 62 at 1
@@ -106,6 +102,18 @@ OF_CONSTRUCTORS = """
 ()V 1 1 | aconst_null; astore_0; return | refused 74 at 2
 ()V 1 1 | aload_0; astore_0; aload_0; invokespecial [method java/lang/Object <init> ()V]; return | verified
 """
+
+# The same of a constructor that sets fields, in a K that declares only x and in one with very many others in front of it.
+OF_OWN_FIELDS = """
+()V 2 1 | aload_0; iconst_0; putfield [field K x I]; aload_0; invokespecial [method java/lang/Object <init> ()V]; return | verified
+()V 2 1 | aload_0; iconst_0; putfield [field K y I]; aload_0; invokespecial [method java/lang/Object <init> ()V]; return | refused 62 at 2
+()V 3 1 | aload_0; lconst_0; putfield [field K x J]; aload_0; invokespecial [method java/lang/Object <init> ()V]; return | refused 62 at 2
+()V 2 1 | aload_0; iconst_0; putfield [field A x I]; aload_0; invokespecial [method java/lang/Object <init> ()V]; return | refused 62 at 2
+()V 2 1 | aload_0; iconst_0; putfield [field java/lang/Object x I]; aload_0; invokespecial [method java/lang/Object <init> ()V]; return | refused 62 at 2
+(I)V 2 2 | aload_0; invokespecial [method java/lang/Object <init> ()V]; aload_0; iload_1; putfield [field K x I]; return | verified
+(I)V 2 2 | aload_0; invokespecial [method java/lang/Object <init> ()V]; aload_0; iload_1; putfield [field K y I]; return | verified
+"""
+MANY = 100
 
 # The same of another method of K, with a receiver.
 OF_INSTANCES = """
@@ -129,24 +137,24 @@ OF_INSTANCES = """
 """
 
 
-def class_of(name, flags, descriptor, sizes, code, body):
-    """K with a field x and one method, which has this code and this stack map."""
+def class_of(name, flags, descriptor, sizes, code, body, others):
+    """K with a field x behind so many others, and one method, which has this code and this stack map."""
     constants = Constants(descriptor, name)
     data = assembled(code, constants)
     nested = [attribute(constants.text("StackMapTable"), bytes.fromhex(body))] if body else []
     method = method_f(code_f(data, stack=sizes[0], variables=sizes[1], nested=nested), flags=flags)
-    x = member(0, constants.text("x"), constants.text("I"))
-    return replace(K, constants=constants.items, fields=[x], methods=[method]).data()
+    fields = [member(0, constants.text(name), constants.text("I")) for name in [*(f"x{i}" for i in range(others)), "x"]]
+    return replace(K, constants=constants.items, fields=fields, methods=[method]).data()
 
 
-def rows_of(table, name, flags):
+def rows_of(table, name, flags, others=0):
     for line in table.strip().splitlines():
         if line.startswith("#"):
             continue
         sizes, code, *body, verdict = (it.strip() for it in line.split("|"))
         descriptor, stack, variables = sizes.split()
-        k = class_of(name, flags, descriptor, (int(stack), int(variables)), code, "".join(body))
-        yield f"{name} {sizes} {code} {''.join(body)}", [k, *KNOWN], f"method {name} {descriptor} {verdict}"
+        k = class_of(name, flags, descriptor, (int(stack), int(variables)), code, "".join(body), others)
+        yield f"{name} {sizes} {code} {''.join(body)} beside {others} fields", [k, *KNOWN], f"method {name} {descriptor} {verdict}"
 
 
 def of_object():
@@ -161,5 +169,7 @@ def with_objects():
     """A name for each method, its class and the known ones, and its verdict."""
     yield from rows_of(OF_CLASSES, "f", STATIC)
     yield from rows_of(OF_CONSTRUCTORS, "<init>", 0)
+    yield from rows_of(OF_OWN_FIELDS, "<init>", 0)
+    yield from rows_of(OF_OWN_FIELDS, "<init>", 0, MANY)
     yield from rows_of(OF_INSTANCES, "f", 0)
     yield from of_object()
