@@ -1,8 +1,6 @@
 -- The names of the classes of a list (JVMS 4.2.1) in an order in which each is found by halving: that of their hashes, and of the names themselves where two hashes are equal. Classes of one name stand by their places in the list.
 use Rattle.std.specs.Prelude.{◌≡◌, ℕ, List, [], length, Option, Some, None, position, slice_get, nat_lt, if◌then◌else◌}
 use Rattle.std.specs.Cmp.Lexicographic.{slice_cmp}
-use Rattle.std.specs.Hash as fed
-use Rattle.std.specs.List.{fold}
 use Rattle.std.specs.List.Sorted.{IsSortedByKey}
 use Rattle.std.specs.Option.{option_map_or, option_and_then}
 use Rattle.std.specs.Str.{bytes_eq}
@@ -16,7 +14,7 @@ use Rattle.hierarchy.specs.Class.{ClassFact}
 
 -- the hash of a name
 abbrev pub name_hash : {S H : Type 0} → builder.Ghosts S H → hasher.Ghosts H → S → List ℕ → ℕ
-name_hash b h s name = h.finish (fold h.write (b.build_hasher s) (fed.slice fed.u8 name))
+name_hash b h s name = h.finish (h.write (b.build_hasher s) name)
 
 -- a name with its hash and a place where it stands
 pub record Key : Type 0 where

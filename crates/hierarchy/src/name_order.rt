@@ -9,7 +9,7 @@ ghost use Rattle.hierarchy.specs.NameOrder.{name_hash, name_order, name_at, key_
 use crate::summary::Summary;
 use std::alloc::{AllocError, Global};
 use std::cmp::Ordering;
-use std::hash::BuildHasher;
+use std::hash::{BuildHasher, Hasher};
 
 /// The hash of the name of a class, and the place of the class in its list.
 #[derive(Clone, Copy)]
@@ -22,7 +22,9 @@ pub struct Slot {
 pub fn name_hash<S: BuildHasher>(hasher: &S, name: &[u8]) -> u64
     ensures { result ≡ name_hash S.BuildHasher S.Hasher.Hasher hasher.now name.now }
 {
-    hasher.hash_one(name)
+    let mut state = hasher.build_hasher();
+    state.write(name);
+    state.finish()
 }
 
 // The hash of the name of a class, the name, and the place of the class in its list.
