@@ -1,4 +1,4 @@
--- What is said for `verify` is one.
+-- The answer of `verify` is one.
 use Rattle.std.proofs.Common.{◌≡◌, ℕ, zero, suc, ◌+◌, ◌<◌, List, [], ◌∷◌, ◌++◌, length, map, Option, Some, None, refl, sym, ◌∙◌, ap, subst, inl, inr, arith}
 use Rattle.std.specs.Prelude.{◌⊎◌, ◌||◌, Bool, true, false, if◌then◌else◌, slice_get, codes, decimal}
 use Rattle.std.specs.List.{flat_map, list_any}

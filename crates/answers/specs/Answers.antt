@@ -1,4 +1,4 @@
--- What is answered to a command: a text and a status.
+-- The answer to a command: a text and a status.
 use Rattle.std.specs.Prelude.{◌≡◌, ◌⊎◌, ℕ, Bool, true, false, List, [], ◌∷◌, codes, if◌then◌else◌, Option, Result, Ok, Err}
 use Rattle.std.specs.List.{list_any}
 use Rattle.std.specs.Io.KnownBytes.{Appends, Keeps}
@@ -16,7 +16,7 @@ use Rattle.answers.specs.declared.fault.AnswerFault.TheVariants.{OutOfMemory, Wr
 use Rattle.answers.specs.declared.command.Command.{Command}
 use Rattle.answers.specs.declared.command.Command.TheVariants.{Check, Show, Verify}
 
--- What is said of a file: what is told of the class that it is, or why it is none.
+-- The answer about a file: what is told of its class, or why it has none.
 abbrev pub FileSays : (Class → List ℕ → ℕ → Type 0) → Read → List ℕ → ℕ → Type 0
 FileSays Tells read text status =
     ((c : Class) × IsFormed read c × Tells c text status)
@@ -30,14 +30,14 @@ CheckTells c text status = (text ≡ codes "ok\n") × (status ≡ 0)
 abbrev pub ShowTells : Class → List ℕ → ℕ → Type 0
 ShowTells c text status = (text ≡ class_lines c) × (status ≡ (if has_refused c then 1 else 0))
 
--- What is said of these files. Of no file nothing is said.
+-- The answer about these files. Of no file nothing is said.
 abbrev pub Says : Command → List Read → List ℕ → ℕ → Type 0
 Says command [] text status = (text ≡ []) × (status ≡ 0)
 Says Check (read ∷ others) text status = FileSays CheckTells read text status
 Says Show (read ∷ others) text status = FileSays ShowTells read text status
 Says Verify (read ∷ known) text status = VerifySays read known text status
 
--- What an answer did to the bytes that its writer holds: all of what is to be said was written; or nothing, where memory
+-- The bytes that a writer holds behind an answer: all of what is to be said was written; or nothing, where memory
 -- ran out; or a beginning of it, where a write failed.
 abbrev pub Answered : (List ℕ → ℕ → Type 0) → Option (List ℕ) → Option (List ℕ) → Result ℕ AnswerFault → Type 0
 Answered Told old new (Ok status) = (text : List ℕ) × Told text status × Appends old new text

@@ -1,4 +1,4 @@
--- What `verify` says of a class and of the classes that it may refer to.
+-- The answer of `verify` about a class and the classes that it may refer to.
 use Rattle.std.specs.Prelude.{◌≡◌, ◌≢◌, ◌⊎◌, ℕ, ◌+◌, Bool, true, false, if◌then◌else◌, List, [], ◌∷◌, ◌++◌, map, codes, decimal}
 use Rattle.std.specs.List.{flat_map, list_any}
 use Rattle.classfile.specs.Values.{Class}

@@ -68,7 +68,7 @@ abbrev pub ToldBy : Error → LineFault → Type 0
 ToldBy e OutOfMemory = kind_of e ≡ kind.OutOfMemory
 ToldBy e (NoRequest f) = (f ≡ e) × (kind_of e ≡ kind.OutOfMemory → ⊥)
 
--- What these words ask for, where `clap` takes them; otherwise one of the kinds of fault that it finds in them.
+-- The request of these words, where `clap` takes them; otherwise one of the kinds of fault that it finds in them.
 abbrev pub Asks : List Text → Result Request LineFault → Type 0
 Asks words (Ok r) = (fault_of line words ≡ []) × (asked (subcommand_of line words) ≡ Some (r.command, map string_bytes r.files.items))
 Asks words (Err e) = IsFault (fault_of line words) e

@@ -9,7 +9,7 @@ use answers::Command;
 use clap::{Arg, ArgMatches, Command as Parser};
 use std::alloc::{AllocError, Global};
 
-/// What the help says of the status that the program ends with.
+/// The part of the help that explains the status that the program ends with.
 const STATUSES: &str =
     "Status 0: all well. 1: something is refused. 2: a wrong line, a file that cannot be read, no memory, or output that cannot be written.
 

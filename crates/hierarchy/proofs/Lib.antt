@@ -1,7 +1,6 @@
 pub mod Names
 pub mod Chain
 pub mod Breaking
-pub mod Table
 pub mod Worlds
 pub mod Subclass
 pub mod OneFault
@@ -11,3 +10,5 @@ pub mod Doubling
 pub mod RowLists
 pub mod RowsKept
 pub mod Summaries
+pub mod Slots
+pub mod Twice

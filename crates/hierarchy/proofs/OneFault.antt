@@ -1,12 +1,12 @@
 -- A list of classes has one fault at most: it keeps the rules in front of the one that it breaks.
-use Rattle.std.proofs.Common.{◌≡◌, ◌≢◌, ℕ, ◌+◌, ◌≤◌, ◌<◌, List, Some, refl, sym, subst, ◌∙◌, ap, inl, inr, arith}
+use Rattle.std.proofs.Common.{◌≡◌, ◌≢◌, ℕ, ◌+◌, ◌<◌, List, Some, refl, sym, subst, ◌∙◌, ap, inl, inr, arith}
 use Rattle.std.specs.Prelude.{◌⊎◌, slice_get}
 use Rattle.std.proofs.lemmas.Bool.{cases_order}
 use Rattle.std.proofs.lemmas.Option.{slice_get_within}
 use Rattle.hierarchy.specs.declared.fault.HierarchyFault.{HierarchyFault}
 use Rattle.hierarchy.specs.declared.fault.HierarchyFault.TheVariants.{OutOfMemory, ClassTwice, Cycle, SuperMissing, NoObject, BadArrayInterface, TooManyClasses, InterfaceSuper}
 use Rattle.hierarchy.specs.Class.{ClassFact}
-use Rattle.hierarchy.specs.Rules.{IsTwice, IsOnCycle, LacksSuper, HasObject, IsBadArrayInterface, HasWrongSuper, NoClass, IsFirst, IsHierarchy}
+use Rattle.hierarchy.specs.Rules.{IsTwice, IsOnCycle, LacksSuper, IsBadArrayInterface, HasWrongSuper, NoClass, IsFirst, IsHierarchy}
 use Rattle.hierarchy.specs.Faults.{Rule, once, no_cycle, superclasses, object, array_interfaces, few_classes, interfaces, rule_number, Keeps, Breaks, KeepsBefore, FaultOf, number_of, fault_class, OneFault}
 
 module _ (P : ClassFact → Type 0) (classes : List ClassFact) where

@@ -1,4 +1,4 @@
--- What rows of ancestors say of the classes, and how they answer about subclasses.
+-- Rows of ancestors as they are kept, and how they answer about subclasses.
 use Rattle.std.proofs.Common.{◌≡◌, ◌≢◌, ◌⊎◌, ℕ, zero, suc, ◌+◌, ◌-◌, ◌*◌, ◌/◌, ◌%◌, ◌^◌, ◌<◌, ◌≤◌, List, [], length, get_or, slice_get, Bool, true, false, position, Option, Some, None, MatchOption, refl, ap, sym, subst, ◌∙◌, inl, inr, arith, pow-add, count_ones}
 use Rattle.std.specs.Prelude.{slice_index}
 use Rattle.std.specs.Str.{bytes_eq}

@@ -9,3 +9,4 @@ pub mod Extends
 pub mod Ancestors
 pub mod Rows
 pub mod Jumps
+pub mod NameOrder

@@ -1,4 +1,4 @@
--- What the program's summaries of classes and members stand for (JVMS 4.1, 4.5, 4.6).
+-- The facts that the program's summaries of classes and members stand for (JVMS 4.1, 4.5, 4.6).
 use Rattle.std.specs.Prelude.{List, map, option_map}
 use Rattle.hierarchy.specs.declared.summary.MemberSummary.{MemberSummary}
 use Rattle.hierarchy.specs.declared.summary.Summary.{Summary}

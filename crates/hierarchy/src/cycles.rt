@@ -38,7 +38,7 @@ fn superclass_places<'s, 'a, S: BuildHasher>(
         .collect(alloc)
 }
 
-// What a table says of a place.
+// The place to which a table leads from a place.
 fn place_after(places: &[Option<usize>], place: Option<usize>) -> Option<usize>
     ensures { result ≡ place_after places.now place }
 {
@@ -63,8 +63,8 @@ fn doubled(alloc: Global, places: &[Option<usize>]) -> Result<Vec<Option<usize>>
 
 /// The name of the first class in the list that stands on the chain of its own superclasses.
 ///
-/// What stands so many steps above some class, more than there are classes, is on a cycle, and all that is on a cycle
-/// stands there. So the steps are doubled until they are more than the classes, which takes time n log n for n classes.
+/// A class that stands more steps above some class than there are classes is on a cycle, and each class on a cycle
+/// stands so. The steps are doubled until they are more than the classes, which takes time n log n for n classes.
 pub fn first_on_cycle<'s, 'a, S: BuildHasher>(
     alloc: Global,
     classes: &[Summary<'a>],

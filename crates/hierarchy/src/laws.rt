@@ -7,7 +7,7 @@ ghost use Rattle.hierarchy.specs.Rows.{HasOneDepth, IsBelowByDepth};
 
 use classfile::formed_has_names;
 
-/// What is a subclass in a list of classes is one in each world that extends the list.
+/// A subclass in a list of classes is one in each world that extends the list.
 pub fn keeps_subclasses()
     ensures { KeepsSubclasses }
 {}

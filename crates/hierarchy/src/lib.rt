@@ -2,12 +2,13 @@
 //! finite chains of superclasses in specs/World.antt (JVMS 4.10.1.2). The call to know is [`Rows::new`], which makes
 //! a list of summaries answer as [`Classes`]; [`Chains::new`] makes one that answers the same by a walk.
 //!
-//! - `summary`: what is known of a class, and the names that the standard fixes.
+//! - `summary`: the summary of a class.
 //! - `class_summary`: the summary of a class file.
 //! - `answer`: yes, no, or a class that would be needed and is absent.
 //! - `classes`: the questions, whatever keeps the classes.
 //! - `fault`: why a list of classes is refused.
-//! - `index`: a list of classes with a table of their names.
+//! - `name_order`: the names of a list of classes in the order of their hashes.
+//! - `index`: a list of classes, each found by its name.
 //! - `places`: places in a list of classes.
 //! - `rules`: the rules that a single class may break, and the first class that does.
 //! - `cycles`: the first class that stands on the chain of its own superclasses.
@@ -29,6 +30,7 @@ mod fault;
 mod index;
 mod jumps;
 pub mod laws;
+mod name_order;
 mod places;
 mod row_table;
 mod rows;

@@ -21,7 +21,7 @@ use std::hash::BuildHasher;
 use std::marker::Model;
 
 /// A hierarchy that answers by the depths of its classes and by rows of ancestors. It borrows the list that it is made
-/// from, and copies no name.
+/// from, and copies no name. Beyond the list it keeps 22 bytes a class and 2 for each entry of a row.
 #[derive(Drop)]
 pub struct Rows<'s, 'a, S: BuildHasher> {
     index: Index<'s, 'a, S>,

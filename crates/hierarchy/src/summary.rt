@@ -1,4 +1,4 @@
-//! What is known of a class.
+//! The summary of a class.
 
 /// Whether a member is a field (JVMS 4.5) or a method (JVMS 4.6).
 #[derive(Clone, Copy, Debug, PartialEq, Eq)]
@@ -19,7 +19,7 @@ pub struct MemberSummary<'a> {
     pub is_protected: bool,
 }
 
-/// What is known of a class. Names are the bytes of internal names (JVMS 4.2.1).
+/// The parts of a class that other classes are verified against. Names are the bytes of internal names (JVMS 4.2.1).
 #[derive(Debug, Drop)]
 pub struct Summary<'a> {
     pub name: &'a [u8],

@@ -1,9 +1,9 @@
-//! Lines of classes, each below the one before, kept in rows of ancestors or asked by a walk along their superclasses: what
-//! `bench/hierarchy` measures.
+//! Lines of classes, each below the one before, and flat lists, kept in rows of ancestors or asked by a walk along their
+//! superclasses, for `bench/hierarchy` to measure.
 use hierarchy::{Answer, Chains, Classes, Rows, Summary};
 use names::OBJECT;
 use std::alloc::{AllocError, Global};
-use std::hash::{BuildHasherDefault, FoldHasher};
+use std::hash::{BuildHasher, BuildHasherDefault, FoldHasher, Hasher};
 
 /// The names of as many classes: numbers of two bytes.
 fn numbers(alloc: Global, count: u16) -> Result<Vec<[u8; 2]>, AllocError> {
@@ -20,18 +20,28 @@ fn summary<'a>(alloc: Global, name: &'a [u8], superclass: Option<&'a [u8]>) -> S
     }
 }
 
-/// The classes of these names, each below the one behind it, and `java/lang/Object`, below which is the last.
-fn line<'a>(alloc: Global, names: &'a [[u8; 2]]) -> Result<Vec<Summary<'a>>, AllocError> {
-    let mut list = Vec::with_capacity(alloc, names.len())?;
+/// The classes of these names and `java/lang/Object`: each below the one behind it, and the last below Object; or all below
+/// Object.
+fn list_of<'a>(
+    alloc: Global,
+    names: &'a [[u8; 2]],
+    in_line: bool,
+) -> Result<Vec<Summary<'a>>, AllocError> {
+    let mut list = Vec::with_capacity(alloc, names.len().saturating_add(1))?;
     for (place, name) in names.iter().enumerate() {
         let above: &'a [u8] = match names.get(place.saturating_add(1)) {
-            Some(next) => next,
-            None => OBJECT,
+            Some(next) if in_line => next,
+            _ => OBJECT,
         };
         list.push(summary(alloc, name, Some(above)))?;
     }
     list.push(summary(alloc, OBJECT, None))?;
     Ok(list)
+}
+
+/// Asks for 12,345 bytes, as nothing else does, and gives them back: who counts memory sees the moment.
+fn mark(alloc: Global) {
+    let _marks: Result<Vec<u8>, AllocError> = Vec::with_capacity(alloc, 12345);
 }
 
 /// How often a class of the first four is below `java/lang/Object`, asked so often in turn.
@@ -48,30 +58,67 @@ fn count_below<C: Classes>(classes: &C, names: &[[u8; 2]], rounds: u32) -> u32 {
     count
 }
 
-/// The same of a line of so many classes that is kept in rows; 0 where memory runs out.
+/// Rows of so many classes and Object, with a mark before they are made and one behind, and their answers.
+fn rows_of<S: BuildHasher + Drop>(
+    alloc: Global,
+    count: u16,
+    in_line: bool,
+    hasher: S,
+    rounds: u32,
+) -> Option<u32> {
+    let names = numbers(alloc, count).ok()?;
+    let list = list_of(alloc, &names, in_line).ok()?;
+    mark(alloc);
+    let rows = Rows::new(alloc, &list, hasher).ok()?;
+    mark(alloc);
+    Some(count_below(&rows, &names, rounds))
+}
+
+/// The answers of a line of so many classes that is kept in rows; 0 where memory runs out.
 #[unsafe(no_mangle)]
 pub extern "C" fn in_process_rows(alloc: Global, depth: u16, rounds: u32) -> u32 {
     let hasher: BuildHasherDefault<FoldHasher> = BuildHasherDefault::new();
-    let Ok(names) = numbers(alloc, depth) else {
-        return 0;
-    };
-    let Ok(list) = line(alloc, &names) else {
-        return 0;
-    };
-    match Rows::new(alloc, &list, hasher) {
-        Ok(rows) => count_below(&rows, &names, rounds),
-        Err(_) => 0,
-    }
+    rows_of(alloc, depth, true, hasher, rounds).unwrap_or(0)
 }
 
-/// The same by a walk along the superclasses.
+/// The same of so many classes that are all below Object.
+#[unsafe(no_mangle)]
+pub extern "C" fn in_process_flat(alloc: Global, count: u16, rounds: u32) -> u32 {
+    let hasher: BuildHasherDefault<FoldHasher> = BuildHasherDefault::new();
+    rows_of(alloc, count, false, hasher, rounds).unwrap_or(0)
+}
+
+/// A hasher that gives every name one hash.
+#[derive(Clone, Copy, Default, Drop)]
+struct OneHash;
+
+impl Hasher for OneHash {
+    ghost write = { λ s _. s };
+
+    ghost finish = { λ _. 0 };
+
+    fn finish(&self) -> u64 {
+        0
+    }
+
+    fn write(&mut self, _bytes: &[u8]) {}
+}
+
+/// The same of a line with one hash for all names.
+#[unsafe(no_mangle)]
+pub extern "C" fn in_process_one_hash(alloc: Global, depth: u16, rounds: u32) -> u32 {
+    let hasher: BuildHasherDefault<OneHash> = BuildHasherDefault::new();
+    rows_of(alloc, depth, true, hasher, rounds).unwrap_or(0)
+}
+
+/// The answers of a line of so many classes by a walk along the superclasses.
 #[unsafe(no_mangle)]
 pub extern "C" fn in_process_chains(alloc: Global, depth: u16, rounds: u32) -> u32 {
     let hasher: BuildHasherDefault<FoldHasher> = BuildHasherDefault::new();
     let Ok(names) = numbers(alloc, depth) else {
         return 0;
     };
-    let Ok(list) = line(alloc, &names) else {
+    let Ok(list) = list_of(alloc, &names, true) else {
         return 0;
     };
     match Chains::new(alloc, &list, hasher) {

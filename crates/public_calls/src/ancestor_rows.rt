@@ -4,7 +4,7 @@ use crate::making::{hasher, object, summary};
 use hierarchy::{Answer, Chains, Classes, HierarchyFault, Rows, Summary};
 use names::{CLONEABLE, OBJECT};
 use std::alloc::{AllocError, Global};
-use std::hash::BuildHasher;
+use std::hash::{BuildHasher, BuildHasherDefault, Hasher};
 use std::process::Abort;
 use std::test::*;
 
@@ -153,10 +153,15 @@ fn many<'a>(
 
 /// Of so many classes below `java/lang/Object`: whether the first is below the last, and how many entries of rows are
 /// looked at; or none where they are refused.
-fn first_and_last(alloc: Global, count: u16, in_line: bool) -> Option<(bool, u32)> {
+fn first_and_last<S: BuildHasher + Drop>(
+    alloc: Global,
+    count: u16,
+    in_line: bool,
+    hasher: S,
+) -> Option<(bool, u32)> {
     let names = numbers(alloc, count).ok()?;
     let list = many(alloc, &names, in_line).ok()?;
-    let rows = Rows::new(alloc, &list, hasher()).ok()?;
+    let rows = Rows::new(alloc, &list, hasher).ok()?;
     let (first, last) = (names.first()?, names.last()?);
     let (answer, looks) = rows.climb(first, last);
     Some((answer == Answer::Yes, looks))
@@ -166,13 +171,48 @@ fn first_and_last(alloc: Global, count: u16, in_line: bool) -> Option<(bool, u32
 fn as_many_classes_as_there_may_be(rt: HostRuntime) {
     let alloc = rt.alloc();
     // 65,533 steps: 0xFFFD has fifteen digits 1
-    assert!(rt; first_and_last(alloc, 65534, true) == Some((true, 15)));
-    assert!(rt; first_and_last(alloc, 65534, false) == Some((false, 0)));
+    assert!(rt; first_and_last(alloc, 65534, true, hasher()) == Some((true, 15)));
+    assert!(rt; first_and_last(alloc, 65534, false, hasher()) == Some((false, 0)));
+}
+
+/// A hasher that gives every name one hash.
+#[derive(Clone, Copy, Default, Drop)]
+struct OneHash;
+
+impl Hasher for OneHash {
+    ghost write = { λ s _. s };
+
+    ghost finish = { λ _. 0 };
+
+    fn finish(&self) -> u64 {
+        0
+    }
+
+    fn write(&mut self, _bytes: &[u8]) {}
+}
+
+/// Classes with one hash for all names are told apart by the names, and rows of many are made in no more time than n log n.
+#[test]
+fn one_hash_for_all_names(rt: HostRuntime) {
+    let alloc = rt.alloc();
+    let one: BuildHasherDefault<OneHash> = BuildHasherDefault::new();
+    // 15,999 steps, which has twelve digits 1
+    assert!(rt; first_and_last(alloc, 16000, true, one) == Some((true, 12)));
+    let twice = [
+        object(alloc),
+        summary(alloc, b"B", Some(OBJECT), false),
+        summary(alloc, b"A", Some(OBJECT), false),
+        summary(alloc, b"A", Some(OBJECT), false),
+        summary(alloc, b"B", Some(OBJECT), false),
+    ];
+    assert!(rt;
+        Rows::new(alloc, &twice, one).err() == Some(HierarchyFault::ClassTwice { name: b"B" })
+    );
 }
 
 /// One class more than there may be.
 #[test]
 fn too_many_classes(rt: HostRuntime) {
     let alloc = rt.alloc();
-    assert!(rt; first_and_last(alloc, 65535, true).is_none());
+    assert!(rt; first_and_last(alloc, 65535, true, hasher()).is_none());
 }

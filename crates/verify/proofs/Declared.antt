@@ -1,4 +1,4 @@
--- What is known of declared frames: each is at the start of an instruction, and its stack is no wider than max_stack.
+-- Facts about declared frames: each is at the start of an instruction, and its stack is no wider than max_stack.
 use Rattle.std.proofs.Common.{◌≡◌, ℕ, ◌≤◌, Bool, true, false, not, is_some, nat_eq, List, [], ◌∷◌, Option, Some, None, Result, Ok, Err, if◌then◌else◌, sym, refl, subst, ltb-false, eqb-true}
 use Rattle.pool.specs.Entries.{Entry}
 use Rattle.insn.specs.Meanings.{Act}

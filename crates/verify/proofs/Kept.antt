@@ -1,4 +1,4 @@
--- What is known of the locals of the running frame.
+-- Facts about the locals of the running frame.
 use Rattle.std.proofs.Common.{◌≡◌, ◌∙◌, List, Option, Some, None, IfSome, option_map, sym, ap, subst, refl}
 use Rattle.hierarchy.specs.Class.{ClassFact}
 use Rattle.frames.specs.FrameFact.{FrameFact}

@@ -1,4 +1,4 @@
--- What a stack map's bytes are read as, by what they spell and by their fault.
+-- The reading of a stack map's bytes, by what they spell and by their fault.
 use Rattle.std.proofs.Common.{◌≡◌, ℕ, ◌+◌, Bool, false, nat_eq, if◌then◌else◌, List, length, Some, Result, Ok, Err, refl, sym, ◌∙◌, ap, subst, arith, inl, inr}
 use Rattle.std.proofs.lemmas.Bool.Decides.{nat_tests}
 use Rattle.layout.specs.FormatLaws.{spelled_reads, fault_reads}

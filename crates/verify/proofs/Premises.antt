@@ -1,4 +1,4 @@
--- What comes before the pass: the frames that are declared, and the exception table.
+-- The premises of the pass: the frames that are declared, and the exception table.
 use Rattle.std.proofs.Common.{◌≡◌, ◌⊎◌, ℕ, ◌+◌, ◌<◌, Bool, true, false, not, ◌||◌, is_some, nat_eq, nat_lt, List, [], ◌∷◌, ◌++◌, length, Option, Some, None, Result, Ok, Err, refl, sym, ◌∙◌, ap, subst, inl, inr, arith, if◌then◌else◌, eq-eqb, eqb-true, ne_eqb, ltb-true, lt-ltb}
 use Rattle.std.proofs.lemmas.List.{append-nil}
 use Rattle.names.specs.StandardNames.{throwable_name}

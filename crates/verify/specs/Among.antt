@@ -1,4 +1,4 @@
--- What is answered of a class among the classes that it may refer to (JVMS 4.10.1).
+-- The report on a class among the classes that it may refer to, or its fault (JVMS 4.10.1).
 use Rattle.std.specs.Prelude.{◌≡◌, ◌≢◌, ℕ, true, false, ◌+◌, List, ◌∷◌, map, Result, Ok, Err}
 use Rattle.classfile.specs.Values.{Class}
 use Rattle.hierarchy.specs.declared.fault.HierarchyFault.TheVariants as hierarchies

@@ -1,4 +1,4 @@
--- What is answered of a method of a class (JVMS 4.10.1), by cases that exclude each other.
+-- The answer about a method of a class (JVMS 4.10.1), by cases that exclude each other.
 use Rattle.std.specs.Prelude.{◌≡◌, ◌⊎◌, ℕ, List, Some, None, Result, Ok, Err, MatchResult, IfOk}
 use Rattle.classfile.specs.Values.{CodeBody, Class}
 use Rattle.classfile.specs.Methods.{Method, method_of}

@@ -1,4 +1,4 @@
--- What is known of the locals of the running frame: declared frames that they are compared with no more.
+-- The declared frames that the locals of the running frame are compared with no more.
 use Rattle.std.specs.Prelude.{◌≡◌, List, IfSome}
 use Rattle.hierarchy.specs.Class.{ClassFact}
 use Rattle.hierarchy.specs.Answer.{yes}

@@ -1,4 +1,4 @@
--- What a refusal says: which step refuses, and how far the method is type-safe (JVMS 4.10.1.6).
+-- The meaning of a refusal: which step refuses, and how far the method is type-safe (JVMS 4.10.1.6).
 use Rattle.std.specs.Prelude.{◌≡◌, ℕ, ◌<◌, ◌≤◌, true, List, ◌∷◌, ◌++◌, Some, Err, length, ◌⊎◌, ◌↔◌}
 use Rattle.classfile.specs.Methods.{Method, ExceptionEntry}
 use Rattle.hierarchy.specs.Class.{ClassFact}

@@ -1,4 +1,4 @@
--- What is answered of a class: of each method its name, its descriptor and its verdict, in the order of the file (JVMS 4.10.1).
+-- The report on a class: of each method its name, its descriptor and its verdict, in the order of the file (JVMS 4.10.1).
 use Rattle.std.specs.Prelude.{◌≡◌, ℕ, true, false, List, length, slice_get, Some, Result, Ok, Err}
 use Rattle.pool.specs.Lookups.{named}
 use Rattle.classfile.specs.Values.{Member, Class}

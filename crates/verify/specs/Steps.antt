@@ -1,4 +1,4 @@
--- What the steps of the verifier answer.
+-- The answers of the steps of the verifier.
 use Rattle.std.specs.Prelude.{◌≡◌, ◌≢◌, ◌⊎◌, ℕ, Bool, List, Some, None, Option, Result, Ok, Err, MatchResult}
 use Rattle.hierarchy.specs.Class.{ClassFact}
 use Rattle.insn.specs.declared.fault.CodeFault.{CodeFault}

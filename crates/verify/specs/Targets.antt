@@ -1,4 +1,4 @@
--- What is answered of one target after the other.
+-- The answer about one target after the other.
 use Rattle.std.specs.Prelude.{◌≡◌, ◌⊎◌, ℕ, ℤ, true, List, slice_get, Option, Some, None, Result}
 use Rattle.hierarchy.specs.Class.{ClassFact}
 use Rattle.frames.specs.FrameFact.{FrameFact}

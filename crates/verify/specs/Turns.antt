@@ -1,4 +1,4 @@
--- What a set of places counts: its turns.
+-- The turns that a set of places counts.
 use Rattle.std.specs.Prelude.{◌≤◌, ℕ, List, get_or}
 
 -- no place was put in later than now, and there was a turn

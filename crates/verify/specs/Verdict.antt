@@ -1,4 +1,4 @@
--- What is answered of a method (JVMS 4.10.1.6): it is verified, or refused at an offset for a reason.
+-- The verdict on a method (JVMS 4.10.1.6): it is verified, or refused at an offset for a reason.
 -- One pass goes over the code and carries one frame.
 use Rattle.std.specs.Prelude.{ℕ, ℤ, pos, negsuc, Bool, true, false, not, ◌&&◌, ◌||◌, is_none, nat_lt, nat_eq, List, [], ◌∷◌, ◌++◌, length, Option, Some, None, Result, Ok, Err, if◌then◌else◌}
 use Rattle.names.specs.StandardNames.{throwable_name}

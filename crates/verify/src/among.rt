@@ -31,7 +31,7 @@ pub enum AmongFault<'a> {
     FinalSuper,
 }
 
-/// What is told where the known class of this number is refused.
+/// The fault of a known class of this number that is refused.
 fn known_refused<'a>(number: usize, fault: FileFault) -> AmongFault<'a>
     ensures { (known : List Read) (read : Read) (i : ℕ) (old new : List ClassFact)
         → number ≡ i + 1 → OrMemory read fault → (IsRefused read fault → IsFirstRefused known i fault) → Adds known old new (Err result) }
@@ -125,7 +125,7 @@ pub fn verify_among<'a, S: BuildHasher + Drop>(
     }
 }
 
-/// What is told where the class itself is refused.
+/// The fault of the class itself where it is refused.
 fn refused<'a>(fault: FileFault) -> AmongFault<'a>
     ensures { (read : Read) (known : List Read) → OrMemory read fault → ReportsAmong read known (Err result) }
 {

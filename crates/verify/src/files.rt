@@ -9,7 +9,7 @@ use hierarchy::{Summary, summary_of};
 use layout::ReadFault;
 use std::alloc::{AllocError, Global};
 
-/// What was read of a file.
+/// The bytes that were read of a file, or why there are none.
 #[derive(Clone, Copy, Debug)]
 pub enum FileRead<'a> {
     /// All its bytes.

@@ -81,7 +81,7 @@ pub fn first_reason<'a>(one: Reason<'a>, other: Result<(), Reason<'a>>) -> Reaso
     }
 }
 
-/// What two lists of conditions say together.
+/// The judgement of two lists of conditions taken together.
 pub fn together<'a>(
     one: Result<(), Reason<'a>>,
     other: Result<(), Reason<'a>>,

@@ -1,4 +1,4 @@
-//! What is known of the locals of the running frame, so that it is not compared with each declared frame local by local.
+//! The declared frames that are known to fit the locals of the running frame, so that it is not compared with each declared frame local by local.
 ghost use Rattle.frames.specs.FrameFact.{FrameFact};
 ghost use Rattle.frames.specs.declared.declared_frames.DeclaredFrames.{DeclaredFrames};
 
@@ -82,7 +82,7 @@ impl<'n, 'a> Known<'n, 'a> {
         }
     }
 
-    /// What is known where this frame is declared and taken on, or none is.
+    /// The same where this frame is declared and taken on, or none is.
     pub fn here(self, declared: Option<Declared<'n, 'a>>) -> Known<'n, 'a>
         ensures { (cs : List ClassFact) (t : DeclaredFrames) (f : FrameFact) → IfSome declared.entry (IsOf t) → IsKnown cs t f self.entry → IsKnown cs t (entered f (option_map declared_view declared.entry)) result }
     {
@@ -101,7 +101,7 @@ impl<'n, 'a> Known<'n, 'a> {
         }
     }
 
-    /// What is known behind an instruction that means this.
+    /// The same behind an instruction that means this.
     pub fn behind(self, act: &Act<'_>) -> Known<'n, 'a>
         ensures { (cs : List ClassFact) (t : DeclaredFrames) (m : Method acts.Act) (at : ℕ) (f : FrameFact) → IsKnown cs t f self.entry → IsKnown cs t (after m at (plan m (act_view act.now)) f) result }
     {

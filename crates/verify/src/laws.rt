@@ -1,4 +1,4 @@
-//! What the verdict on a method means.
+//! The meaning of the verdict on a method.
 ghost use Rattle.verify.specs.Refusals.{MapRefusedWhere, RefusedWhere};
 ghost use Rattle.verify.specs.FitsBreadth.{FitsBreadth};
 ghost use Rattle.verify.specs.OneVerdict.{OneVerdict, OneReport};
@@ -14,7 +14,7 @@ pub fn type_safe_is_verified()
     ensures { TypeSafeIsVerified }
 {}
 
-/// What a refusal says, both ways. Receiver and parameters do not fit. Or they do, and an entry of the exception table is refused, and
+/// A refusal says this, both ways. Receiver and parameters do not fit. Or they do, and an entry of the exception table is refused, and
 /// those in front of it are sound; or the initial frame does not fit the one declared at 0; or the method is type-safe up to an
 /// instruction, and either the reason is the least that holds there, or it is against the frame at the next start alone.
 pub fn refused_where()

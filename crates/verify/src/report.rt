@@ -19,7 +19,7 @@ use pool::Descriptors;
 use rules::Working;
 use std::alloc::{AllocError, Global};
 
-/// What is answered of a method.
+/// A method and the verdict on it.
 #[derive(Clone, Copy, Debug)]
 pub struct MethodVerdict<'a> {
     /// Its name.
@@ -30,7 +30,7 @@ pub struct MethodVerdict<'a> {
     pub verdict: Verdict<'a>,
 }
 
-/// What is answered of the methods of a class.
+/// The verdicts on the methods of a class.
 #[derive(Debug, Drop)]
 pub struct Report<'a> {
     /// Of each method, in the order of the file.
@@ -62,7 +62,7 @@ impl From<AllocError> for ClassFault {
     }
 }
 
-/// What is answered of the method of this number; the constants are those of the class.
+/// The verdict on the method of this number; the constants are those of the class.
 fn report_on<'a, C: Classes>(
     alloc: Global,
     formed: &Formed<'_, 'a>,

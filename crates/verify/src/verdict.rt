@@ -1,4 +1,4 @@
-//! What is answered of a method.
+//! The verdict on a method.
 ghost use Rattle.std.specs.Prelude.{◌≡◌};
 ghost use Rattle.verify.specs.Steps.{verify_fault_number};
 

@@ -1,4 +1,4 @@
--- What the verifier's assignability lets fit, fits in the machine.
+-- Each type that fits by the verifier's assignability fits in the machine.
 use Rattle.std.proofs.Common.{◌≡◌, ℕ, List, Some, refl}
 use Rattle.names.specs.ReferenceTypes.{ReferenceType, class_type, array_type, descriptor_of}
 use Rattle.hierarchy.specs.World.{World}

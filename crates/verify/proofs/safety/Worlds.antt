@@ -1,4 +1,4 @@
--- What is below what in a world is transitive, and what the hierarchy answers yes is so in each world that extends it.
+-- To be below is transitive in a world, and a yes of the hierarchy holds in each world that extends it.
 use Rattle.std.proofs.Common.{◌≡◌, ℕ, true, false, List, Option, Some, None, MatchOption, option_map, ◌⊎◌, inl, inr, sym, ap, refl, ◌∙◌, subst}
 use Rattle.std.specs.Str.{bytes_eq}
 use Rattle.std.proofs.lemmas.Slice.Eq.{bytes_eq-Decides}

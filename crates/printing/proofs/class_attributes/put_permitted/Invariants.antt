@@ -1,4 +1,4 @@
--- What is gone from the indices was written.
+-- The indices that are gone were written.
 use Rattle.std.proofs.Common.{length}
 use Rattle.std.specs.List.{flat_map}
 use Rattle.classfile.specs.ClassAttributes.{numbers_in}

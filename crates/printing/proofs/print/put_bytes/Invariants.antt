@@ -1,4 +1,4 @@
--- What is gone from `rest` was written, and each turn takes some of it.
+-- The bytes that are gone from `rest` were written, and each turn takes some.
 use Rattle.std.proofs.Common.{◌≡◌, ℕ, List, ◌++◌, length}
 use Rattle.std.specs.Io.KnownBytes.{Appends}
 use Rattle.printing.proofs.print.put_bytes.Given as goal

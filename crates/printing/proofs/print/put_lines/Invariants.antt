@@ -1,4 +1,4 @@
--- What is gone from the items was written.
+-- The items that are gone were written.
 use Rattle.std.proofs.Common.{drop}
 use Rattle.std.specs.List.{flat_map}
 use Rattle.printing.proofs.Writings.{SoFar}

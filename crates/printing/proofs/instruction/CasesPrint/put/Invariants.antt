@@ -1,4 +1,4 @@
--- What is gone from the pairs was written.
+-- The pairs that are gone were written.
 use Rattle.std.specs.List.{flat_map}
 use Rattle.insn.specs.Instructions.{pairs}
 use Rattle.insn.specs.Views.{pairs_left}

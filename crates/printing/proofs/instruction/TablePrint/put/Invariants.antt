@@ -1,4 +1,4 @@
--- What is gone from the offsets was written.
+-- The offsets that are gone were written.
 use Rattle.std.specs.List.{flat_map}
 use Rattle.insn.specs.Meanings.{offsets}
 use Rattle.insn.specs.Views.{offsets_left}

@@ -1,4 +1,4 @@
--- What is gone from the units was written.
+-- The units that are gone were written.
 use Rattle.std.specs.List.{flat_map}
 use Rattle.names.specs.UnitsLeft.{units_left}
 use Rattle.printing.specs.Names.{unit_text, name_text}
