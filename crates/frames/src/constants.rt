@@ -13,10 +13,7 @@ use pool::{Constant, Descriptors, Pool};
 use std::alloc::AllocError;
 
 // The type that the Class constant of an index names, or top.
-fn object_type<'a>(
-    constants: &mut Descriptors<'_, 'a>,
-    class: u16,
-) -> Result<VType<'a>, AllocError>
+fn object_type<'a>(constants: &mut Descriptors<'_, 'a>, class: u16) -> Result<VType<'a>, AllocError>
     ensures same { constants.new ≡ constants.old }
     ensures named { IfOk result (λ t. type_of t ≡ object_type (class_at constants.old class)) }
 {

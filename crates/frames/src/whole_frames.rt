@@ -53,7 +53,14 @@ pub fn declared<'a>(
     let starts = ListStarts::new(alloc, code)?;
     let mut constants = Descriptors::new(alloc, pool);
     match declare(
-        alloc, entries, pool, &mut constants, &starts, initial, max_locals, max_stack,
+        alloc,
+        entries,
+        pool,
+        &mut constants,
+        &starts,
+        initial,
+        max_locals,
+        max_stack,
     )? {
         Err(fault) => Ok(Err(fault)),
         Ok(table) => Ok(Ok(to_frames(alloc, &table)?)),

@@ -1,7 +1,7 @@
 use Rattle.std.proofs.Common.{◌∷◌, ◌++◌, ◌∙◌, [], List, map, reverse, take, refl, ap, subst}
 use Rattle.frames.specs.VerificationType.{VerificationType, type_of}
 use Rattle.frames.specs.MapViews.{info_of}
-use Rattle.frames.specs.DeclaredFrames.{type_given, types_given}
+use Rattle.frames.specs.DeclaredFrames.{types_given}
 use Rattle.frames.specs.Chains.{types_at, Grown}
 use Rattle.frames.proofs.Chains.{grown_none, grown_more}
 use Rattle.frames.proofs.Leaving.{types_more}
@@ -18,7 +18,7 @@ loop-info-preserved c =
     let old = c.args.chains.now.links.items in
     let base = types_at old c.args.below in
     let us : List VerificationType = reverse (types_given c.args.constants.now (map info_of (take c.loop-info.info-index c.args.infos.now))) in
-    let given = c.in_ok-vtype.ensures.given ∙ ap (λ es. type_given es (info_of _)) c.loop-info.invariant.same in
+    let given = rw c.loop-info.invariant.same at c.in_ok-vtype.ensures.given in
     record {
       same = c.type_given.ensures.same ∙ c.loop-info.invariant.same;
       grown = subst (λ (vs : List VerificationType). Grown old c.push.new.self.links.items (vs ++ base) c.in_ok-at.at)
