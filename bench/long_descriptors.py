@@ -3,7 +3,7 @@ import struct
 
 from long_texts import LONGEST, indices, utf8
 
-ACONST_NULL, ICONST_0, ALOAD_0, POP, RETURN = b"\x01", b"\x03", b"\x2a", b"\x57", b"\xb1"
+NOP, ACONST_NULL, ICONST_0, ALOAD_0, POP, RETURN = b"\x00", b"\x01", b"\x03", b"\x2a", b"\x57", b"\xb1"
 GETSTATIC, PUTFIELD, INVOKESPECIAL, INVOKESTATIC, CHECKCAST = b"\xb2", b"\xb5", b"\xb7", b"\xb8", b"\xc0"
 STATIC = 9
 
@@ -27,8 +27,9 @@ def class_constant(text):
 
 
 def code_of(method):
-    name, flags, max_stack, max_locals, code = method
-    body = struct.pack(">HHI", max_stack, max_locals, len(code)) + code + bytes(4)
+    """A method by its name, access flags, max_stack, max_locals, code, and perhaps the attributes of its Code."""
+    name, flags, max_stack, max_locals, code, *nested = method
+    body = struct.pack(">HHI", max_stack, max_locals, len(code)) + code + struct.pack(">HH", 0, len(nested)) + b"".join(nested)
     return struct.pack(">HHHHHI", flags, name, 5, 1, 6, len(body)) + body
 
 
@@ -83,6 +84,39 @@ def casts_to_an_array():
     return class_file(class_constant(ARRAY_TEXT), [utf8(b"m0")], [static(CONSTANTS, code)])
 
 
+FRAMES = 20_000
+
+
+def stack_map(name, entries):
+    body = struct.pack(">H", len(entries)) + b"".join(entries)
+    return struct.pack(">HI", name, len(body)) + body
+
+
+def array_on_the_stack(delta):
+    """A frame with the array of the long name alone on its stack."""
+    return bytes([64 + delta, 7]) + at(NAMED)
+
+
+def frames_of_an_array():
+    """At each `pop` a frame names the array: null comes in."""
+    method = (CONSTANTS, STATIC, 1, 0, (ACONST_NULL + POP) * FRAMES + RETURN, stack_map(CONSTANTS + 1, [array_on_the_stack(1)] * FRAMES))
+    return class_file(class_constant(ARRAY_TEXT), [utf8(b"m0"), utf8(b"StackMapTable")], [method])
+
+
+def frames_in_many_methods():
+    names = [utf8(b"m%d" % i) for i in range(METHODS)]
+    nested = stack_map(CONSTANTS, [array_on_the_stack(1)])
+    methods = [(CONSTANTS + 1 + i, STATIC, 1, 0, ACONST_NULL + POP + RETURN, nested) for i in range(METHODS)]
+    return class_file(class_constant(ARRAY_TEXT), [utf8(b"StackMapTable"), *names], methods)
+
+
+def frames_to_frames_of_an_array():
+    """At each instruction but the first a frame names the array, which also comes in."""
+    code = ACONST_NULL + CHECKCAST + at(NAMED) + NOP * (LONGEST - 6) + POP + RETURN
+    nested = stack_map(CONSTANTS + 1, [array_on_the_stack(4), *[array_on_the_stack(0)] * (LONGEST - 6)])
+    return class_file(class_constant(ARRAY_TEXT), [utf8(b"m0"), utf8(b"StackMapTable")], [(CONSTANTS, STATIC, 1, 0, code, nested)])
+
+
 FIELDS, WRITES = 60_000, 13_000
 
 
@@ -107,5 +141,8 @@ FILES = {
     "30,000 methods that each call one of a long descriptor": (calls_in_many_methods, verified(METHODS)),
     "16,383 reads of one field of a long descriptor": (reads_of_a_field, verified(1)),
     "21,843 casts to one array of a long name": (casts_to_an_array, verified(1)),
+    "20,000 frames that each name one array of a long name": (frames_of_an_array, verified(1)),
+    "30,000 methods with a frame that names an array of a long name": (frames_in_many_methods, verified(METHODS)),
+    "65,530 frames that each name the array of a long name that comes in": (frames_to_frames_of_an_array, verified(1)),
     "13,000 writes of the last of 60,000 own fields": (writes_of_an_own_field, b"method <init> ()V verified\n"),
 }

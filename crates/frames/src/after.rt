@@ -8,7 +8,7 @@ ghost use Rattle.frames.specs.DeclaredViews.{locals_at, Made};
 use crate::chain::Chains;
 use crate::constants::type_given;
 use crate::stack_map::{MapEntry, TypeInfo};
-use pool::Pool;
+use pool::Descriptors;
 use std::alloc::AllocError;
 
 /// A declared frame by its offset, in bytes, and the places where its chains begin.
@@ -24,14 +24,16 @@ fn push_given<'a>(
     chains: &mut Chains<'a>,
     infos: &[TypeInfo],
     below: usize,
-    pool: &Pool<'a>,
+    constants: &mut Descriptors<'_, 'a>,
 ) -> Result<usize, AllocError>
     requires { below ≤ length chains.old.links.items }
-    ensures { IfOk result (Grown chains.old.links.items chains.new.links.items (reverse (types_given pool.now (map info_of infos.now)) ++ types_at chains.old.links.items below)) }
+    ensures same { constants.new ≡ constants.old }
+    ensures pushed { IfOk result (Grown chains.old.links.items chains.new.links.items (reverse (types_given constants.old (map info_of infos.now)) ++ types_at chains.old.links.items below)) }
 {
     let mut at = below;
     for info in infos {
-        at = chains.push(type_given(pool, *info), at)?;
+        let vtype = type_given(constants, *info)?;
+        at = chains.push(vtype, at)?;
     }
     Ok(at)
 }
@@ -41,10 +43,11 @@ fn locals_after<'a>(
     chains: &mut Chains<'a>,
     before: usize,
     entry: &MapEntry,
-    pool: &Pool<'a>,
+    constants: &mut Descriptors<'_, 'a>,
 ) -> Result<usize, AllocError>
     requires { before ≤ length chains.old.links.items }
-    ensures { IfOk result (Grown chains.old.links.items chains.new.links.items (reverse (locals_of pool.now (locals_at chains.old.links.items before) (entry_of entry.now)))) }
+    ensures same { constants.new ≡ constants.old }
+    ensures left { IfOk result (Grown chains.old.links.items chains.new.links.items (reverse (locals_of constants.old (locals_at chains.old.links.items before) (entry_of entry.now)))) }
 {
     match entry {
         MapEntry::Same(_)
@@ -52,8 +55,8 @@ fn locals_after<'a>(
         | MapEntry::SameWithItemExtended(_, _)
         | MapEntry::SameExtended(_) => Ok(before),
         MapEntry::Chop(count, _) => Ok(chains.chop(before, *count)),
-        MapEntry::Append(_, locals) => push_given(chains, locals, before, pool),
-        MapEntry::Full(_, locals, _) => push_given(chains, locals, 0, pool),
+        MapEntry::Append(_, locals) => push_given(chains, locals, before, constants),
+        MapEntry::Full(_, locals, _) => push_given(chains, locals, 0, constants),
     }
 }
 
@@ -61,9 +64,10 @@ fn locals_after<'a>(
 fn stack_after<'a>(
     chains: &mut Chains<'a>,
     entry: &MapEntry,
-    pool: &Pool<'a>,
+    constants: &mut Descriptors<'_, 'a>,
 ) -> Result<usize, AllocError>
-    ensures { IfOk result (Grown chains.old.links.items chains.new.links.items (stack_of pool.now (entry_of entry.now))) }
+    ensures same { constants.new ≡ constants.old }
+    ensures left { IfOk result (Grown chains.old.links.items chains.new.links.items (stack_of constants.old (entry_of entry.now))) }
 {
     match entry {
         MapEntry::Same(_)
@@ -71,9 +75,10 @@ fn stack_after<'a>(
         | MapEntry::SameExtended(_)
         | MapEntry::Append(_, _) => Ok(0),
         MapEntry::SameWithItem(_, item) | MapEntry::SameWithItemExtended(_, item) => {
-            chains.push(type_given(pool, *item), 0)
+            let vtype = type_given(constants, *item)?;
+            chains.push(vtype, 0)
         }
-        MapEntry::Full(_, _, stack) => push_given(chains, stack, 0, pool),
+        MapEntry::Full(_, _, stack) => push_given(chains, stack, 0, constants),
     }
 }
 
@@ -83,13 +88,14 @@ pub fn frame_after<'a>(
     before: usize,
     at: u32,
     entry: &MapEntry,
-    pool: &Pool<'a>,
+    constants: &mut Descriptors<'_, 'a>,
 ) -> Result<FrameTops, AllocError>
     requires { before ≤ length chains.old.links.items }
+    ensures same { constants.new ≡ constants.old }
     ensures place { IfOk result (λ f. f.at ≡ at) }
-    ensures made { IfOk result (Made pool.now chains.old.links.items chains.new.links.items before (entry_of entry.now)) }
+    ensures made { IfOk result (Made constants.old chains.old.links.items chains.new.links.items before (entry_of entry.now)) }
 {
-    let locals = locals_after(chains, before, entry, pool)?;
-    let stack = stack_after(chains, entry, pool)?;
+    let locals = locals_after(chains, before, entry, constants)?;
+    let stack = stack_after(chains, entry, constants)?;
     Ok(FrameTops { at, locals, stack })
 }

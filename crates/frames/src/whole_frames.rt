@@ -15,7 +15,7 @@ use crate::frame_fault::FrameFault;
 use crate::stack_map::MapEntry;
 use crate::vtype::VType;
 use insn::Insn;
-use pool::Pool;
+use pool::{Descriptors, Pool};
 use std::alloc::{AllocError, Global};
 
 /// All frames of a table, each with its offset in bytes.
@@ -51,8 +51,16 @@ pub fn declared<'a>(
     ensures { IfOk result (AreTold (declared_frames pool.now (acts (views code.now)) max_locals max_stack (map type_of initial.now) (map entry_of entries.now))) }
 {
     let starts = ListStarts::new(alloc, code)?;
+    let mut constants = Descriptors::new(alloc, pool);
     match declare(
-        alloc, entries, pool, &starts, initial, max_locals, max_stack,
+        alloc,
+        entries,
+        pool,
+        &mut constants,
+        &starts,
+        initial,
+        max_locals,
+        max_stack,
     )? {
         Err(fault) => Ok(Err(fault)),
         Ok(table) => Ok(Ok(to_frames(alloc, &table)?)),

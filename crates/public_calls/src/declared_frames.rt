@@ -4,6 +4,7 @@ use frames::{
     CodeStarts, Declared, Frame, FrameFault, MapEntry, TypeInfo, VType, declare, declared,
 };
 use insn::decode_code;
+use pool::Descriptors;
 use std::alloc::{AllocError, Global};
 use std::test::*;
 
@@ -41,7 +42,9 @@ fn has(
 fn are_found(alloc: Global, class: &ClassFile<'_>) -> Result<bool, AllocError> {
     let starts = CodeStarts::new(alloc, &CODE)?;
     let entries = entries(alloc)?;
-    let Ok(frames) = declare(alloc, &entries, &class.constant_pool, &starts, &[], 5, 2)? else {
+    let pool = &class.constant_pool;
+    let mut constants = Descriptors::new(alloc, pool);
+    let Ok(frames) = declare(alloc, &entries, pool, &mut constants, &starts, &[], 5, 2)? else {
         return Ok(false);
     };
     match (

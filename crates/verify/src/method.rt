@@ -120,7 +120,7 @@ fn judge_body<'a, C: Classes>(
         return refuse(0, Reason::LocalOutOfRange);
     };
     let starts = CodeStarts::new(alloc, method.code.code)?;
-    let declared = declared_frames(alloc, method, &types, &starts)?;
+    let declared = declared_frames(alloc, method, &types, &starts, constants)?;
     let frames = match declared {
         Ok(frames) => frames,
         Err(fault) => return refuse(0, Reason::BadStackMap { fault }),

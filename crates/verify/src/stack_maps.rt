@@ -16,6 +16,7 @@ use crate::verdict::VerifyFault;
 use classfile::CodeMethod;
 use frames::{CodeStarts, DeclaredFrames, VType, declare, read_map};
 use layout::ReadFault;
+use pool::Descriptors;
 use std::alloc::Global;
 
 /// The number of a fault in a stack map's bytes.
@@ -36,9 +37,12 @@ pub fn declared_frames<'a>(
     method: &CodeMethod<'_, 'a>,
     types: &[VType<'a>],
     starts: &CodeStarts<'_>,
+    constants: &mut Descriptors<'_, 'a>,
 ) -> Result<Result<DeclaredFrames<'a>, u8>, VerifyFault>
+    requires constants { constants.old ≡ method.now.class.now.constant_pool }
     requires types { map type_of types.now ≡ initial_types (method_view method.now) }
     requires starts { code_in starts.now ≡ method.now.code.now.code.now }
+    ensures same { constants.new ≡ constants.old }
     ensures told { IfOk result (TellsFrames (frames_declared (method_view method.now))) }
     ensures locals { IfOk result (λ r. IfOk r (λ t. locals_in t ≡ method.now.code.now.max_locals)) }
     ensures memory { IfErr result (λ e. e ≡ OutOfMemory) }
@@ -54,6 +58,7 @@ pub fn declared_frames<'a>(
         alloc,
         map.entries(),
         &method.class.constant_pool,
+        constants,
         starts,
         types,
         method.code.max_locals,

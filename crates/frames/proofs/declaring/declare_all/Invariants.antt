@@ -1,4 +1,4 @@
-use Rattle.std.proofs.Common.{◌≤◌, map, drop}
+use Rattle.std.proofs.Common.{◌≡◌, ◌≤◌, map, drop}
 use Rattle.frames.specs.MapViews.{entry_of}
 use Rattle.frames.specs.DeclaredFrames.{declared_frames}
 use Rattle.frames.specs.DeclaredViews.{locals_at}
@@ -9,6 +9,6 @@ abbrev pub invariant-loop-entry : goal.invariant-loop-entry
 invariant-loop-entry g l =
     let code = g.S.Starts.code l.starts in
     let m = l.limits in
-    (l.behind ≤ 65536)
+    (l.behind ≤ 65536) × (l.constants ≡ l.fn.constants)
     × Declaring l.pool code m.max_locals m.max_stack l.chains.links.items l.frames.items l.before l.behind (map entry_of (drop l.entry-index l.entries))
     (declared_frames l.pool code m.max_locals m.max_stack (locals_at l.fn.chains.links.items l.fn.first) (map entry_of l.entries))
