@@ -1,4 +1,4 @@
--- What may be wrong with an entry of the constant pool (JVMS 4.4.1 to 4.4.10), by its kind. A condition that needs an entry
+-- The faults that an entry of the constant pool may have (JVMS 4.4.1 to 4.4.10), by its kind. A condition that needs an entry
 -- which is itself refused for its indices does not hold.
 use Rattle.std.specs.Prelude.{ℕ, Bool, false, not, ◌&&◌, ◌||◌, List, [], ◌∷◌, nat_lt}
 use Rattle.names.specs.Names.{less_than}

@@ -1,4 +1,4 @@
--- What may be wrong with the numbers in an attribute's body (JVMS 4.7): the indices among them, column by column.
+-- The faults that the numbers in an attribute's body may have (JVMS 4.7): the indices among them, column by column.
 use Rattle.std.specs.Prelude.{ℕ, zero, suc, ◌+◌, ◌*◌, Bool, true, false, ◌||◌, ◌&&◌, if◌then◌else◌, List, [], ◌∷◌, nat_lt, count_by, Option, Some, None}
 use Rattle.std.specs.List.{list_any}
 use Rattle.layout.specs.PieceLaws.{Either, fields as by_field, raw}

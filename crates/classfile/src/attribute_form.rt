@@ -1,4 +1,4 @@
-//! What may be wrong with attributes: their names, and what Code attributes hold (JVMS 4.7, 4.7.3).
+//! The faults that attributes may have: in their names, and in what Code attributes hold (JVMS 4.7, 4.7.3).
 ghost use Rattle.std.specs.Prelude.{◌≡◌, map};
 ghost use Rattle.classfile.specs.AttributeForm.{is_by_field, on_body, head_has_bad, head_has_other, handlers_have_bad, handlers_have_other, nested_have_bad, nested_have_other, code_has_bad, code_has_other, has_bad_length, has_two_stack_maps, attribute_has_bad, attribute_has_other, attributes_have_bad, attributes_have_other, have_bad_length, code_stands_twice, stack_map_stands_twice, have_twice};
 ghost use Rattle.classfile.specs.MemberForm.{has_code};

@@ -13,7 +13,7 @@ use std::alloc::{AllocError, Global};
 /// So many members are compared one with the other: that takes no memory, and less time than a set of their names and descriptors.
 const FEW: usize = 32;
 
-/// What is kept of the members before one.
+/// The members before one, as they are kept.
 #[derive(Drop)]
 pub enum Earlier<'a> {
     /// Nothing, since they are few: each is looked at.

@@ -1,4 +1,4 @@
-//! What stands at an index of the constant pool: whether it may be looked up, and of which kind it is (JVMS 4.4).
+//! The entry at an index of the constant pool: whether it may be looked up, and of which kind it is (JVMS 4.4).
 ghost use Rattle.std.specs.Prelude.{◌≡◌};
 ghost use Rattle.classfile.specs.Indices.{is_of, is_bad, is_bad_unless_zero, is_other};
 ghost use Rattle.pool.specs.Views.{view};

@@ -6,7 +6,7 @@ ghost use Rattle.classfile.specs.LayoutViews.{row_view};
 use crate::location::Location;
 use pool::Pool;
 
-/// What a number in the body of an attribute is.
+/// The meaning of a number in the body of an attribute.
 #[derive(Clone, Copy, Debug, PartialEq, Eq)]
 pub enum Column {
     /// It names no constant.
@@ -34,7 +34,7 @@ pub struct Row {
     pub once: bool,
     /// Whether a count stands before the rows; otherwise there is one row.
     pub counted: bool,
-    /// What the numbers of a row are.
+    /// The meanings of the numbers of a row.
     pub columns: &'static [Column],
 }
 

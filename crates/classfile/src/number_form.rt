@@ -1,4 +1,4 @@
-//! What may be wrong with the numbers in an attribute's body (JVMS 4.7): the indices among them, column by column.
+//! The faults that the numbers in an attribute's body may have (JVMS 4.7): the indices among them, column by column.
 ghost use Rattle.std.specs.Prelude.{◌≡◌, if◌then◌else◌, Some, None, option_map};
 ghost use Rattle.classfile.specs.LayoutViews.{row_view};
 ghost use Rattle.classfile.specs.NumberForm.{is_bad_in, is_other_in, breaks, row_breaks, behind_row, rows_break, counted_break, is_plain, are_plain, body_breaks, numbers_break};
@@ -13,7 +13,7 @@ use pool::Pool;
 pub enum IndexRule {
     /// It may be looked up: 20.
     BadIndex,
-    /// What stands there is of the kind that is asked: 21.
+    /// The entry there is of the kind that is asked: 21.
     WrongKind,
 }
 
@@ -47,7 +47,7 @@ fn breaks(pool: &Pool<'_>, rule: IndexRule, column: Column, number: u16) -> bool
     }
 }
 
-/// What stands behind a row of numbers, if none of them breaks the rule.
+/// The bytes behind a row of numbers, if none of them breaks the rule.
 fn sound_row<'b>(
     pool: &Pool<'_>,
     rule: IndexRule,

@@ -12,7 +12,7 @@ use pool::Pool;
 
 /// An attribute of a table that may have attributes of numbers.
 pub trait Tabled {
-    // What those hold that are read by field.
+    // The value of those that are read by field.
     ghost Held: { Type 0 };
 
     // An attribute without where its slices lie in memory.

@@ -1,4 +1,4 @@
-//! What may be wrong with the attributes of a class (JVMS 4.7), and with the components of a record (4.7.30).
+//! The faults that the attributes of a class may have (JVMS 4.7), and the components of a record (4.7.30).
 ghost use Rattle.std.specs.Prelude.{◌≡◌, map};
 ghost use Rattle.classfile.specs.AttributeForm.{is_by_field, on_body};
 ghost use Rattle.classfile.specs.RecordForm.{component_has_bad, component_has_other, component_has_twice, components_have_bad, components_have_other, components_have_twice, class_attribute_has_bad, class_attribute_has_other, class_attributes_have_bad, class_attributes_have_other, record_stands_twice, records_have_twice, class_attributes_have_twice};
