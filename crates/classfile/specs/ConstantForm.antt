@@ -49,8 +49,11 @@ unfoldable pub is_no_method_of_class : List Entry → ℕ → Bool
 is_no_method_of_class pool index = on_name_and_type pool index (λ x. not (fits_method false x.name x.descriptor))
 
 -- a name that begins with '<' and is not `<init>` (4.4.2)
+abbrev pub is_special_name : List ℕ → Bool
+is_special_name name = begins_with less_than name && not (is_init name)
+
 unfoldable pub is_special : List Entry → ℕ → Bool
-is_special pool index = on_name_and_type pool index (λ x. begins_with less_than x.name && not (is_init x.name))
+is_special pool index = on_name_and_type pool index (λ x. is_special_name x.name)
 
 unfoldable pub is_no_method_name : List Entry → ℕ → Bool
 is_no_method_name pool index = on_name_and_type pool index (λ x. not (is_method_name x.name))

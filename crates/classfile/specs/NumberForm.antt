@@ -38,6 +38,7 @@ is_other_in pool Value n = is_other pool kinds.Value n
 abbrev pub breaks : List Entry → IndexRule → Column → ℕ → Bool
 breaks pool rules.BadIndex column n = is_bad_in pool column n
 breaks pool rules.WrongKind column n = is_other_in pool column n
+breaks pool rules.Both column n = is_bad_in pool column n || is_other_in pool column n
 
 -- a number of a row breaks the rule
 abbrev pub row_breaks : (Column → ℕ → Bool) → List Column → List ℕ → Bool
