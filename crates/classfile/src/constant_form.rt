@@ -46,17 +46,6 @@ fn named_at<'a>(pool: &Pool<'a>, index: u16) -> Option<NamedAt<'a>>
     })
 }
 
-#[tactic(auto, unfolding(crate::specs::ConstantForm::is_no_class_name))]
-fn is_no_class_name(pool: &Pool<'_>, forms: &TextForms, index: u16) -> bool
-    requires { AreForms pool.now forms.now }
-    ensures { result ≡ is_no_class_name pool.now index }
-{
-    match pool.text(index) {
-        Ok(text) => !forms.of(pool, index, text).names_class,
-        Err(_) => false,
-    }
-}
-
 /// Whether the index leads to the name of an array class.
 #[tactic(auto, unfolding(crate::specs::ConstantForm::is_array_class))]
 pub fn is_array_class(pool: &Pool<'_>, index: u16) -> bool
@@ -76,20 +65,6 @@ pub fn is_no_unqualified_name(pool: &Pool<'_>, forms: &TextForms, index: u16) ->
 {
     match pool.text(index) {
         Ok(text) => !forms.of(pool, index, text).unqualified_name,
-        Err(_) => false,
-    }
-}
-
-#[tactic(auto, unfolding(crate::specs::ConstantForm::is_no_descriptor))]
-fn is_no_descriptor(pool: &Pool<'_>, forms: &TextForms, index: u16) -> bool
-    requires { AreForms pool.now forms.now }
-    ensures { result ≡ is_no_descriptor pool.now index }
-{
-    match pool.text(index) {
-        Ok(text) => {
-            let form = forms.of(pool, index, text);
-            !form.field_descriptor && !form.method_descriptor
-        }
         Err(_) => false,
     }
 }
@@ -211,16 +186,20 @@ pub fn texts_have_fault(pool: &Pool<'_>, name: u16, descriptor: u16) -> bool
     lacks(pool, ConstantKind::Utf8, name) || lacks(pool, ConstantKind::Utf8, descriptor)
 }
 
+#[tactic(auto, unfolding(pool::specs::Lookups::text_at, crate::specs::Indices::is_bad, crate::specs::Indices::is_other, crate::specs::ConstantForm::is_no_class_name))]
 fn class_rule(pool: &Pool<'_>, forms: &TextForms, name: u16) -> Option<FormRule>
     requires { AreForms pool.now forms.now }
     ensures { result ≡ broken_rule (class_conditions pool.now name) }
 {
-    if lacks(pool, ConstantKind::Utf8, name) {
-        Some(index_rule(is_bad(pool, name)))
-    } else if is_no_class_name(pool, forms, name) {
-        Some(FormRule::BadName)
-    } else {
-        None
+    match pool.text(name) {
+        Ok(text) => {
+            if forms.of(pool, name, text).names_class {
+                None
+            } else {
+                Some(FormRule::BadName)
+            }
+        }
+        Err(_) => Some(index_rule(is_bad(pool, name))),
     }
 }
 
@@ -280,6 +259,7 @@ fn interface_method_rule(
     }
 }
 
+#[tactic(auto, unfolding(pool::specs::Lookups::text_at, crate::specs::Indices::is_bad, crate::specs::Indices::is_other, crate::specs::ConstantForm::texts_have_bad, crate::specs::ConstantForm::texts_have_other, crate::specs::ConstantForm::is_no_unqualified_name, crate::specs::ConstantForm::is_no_descriptor))]
 fn name_and_type_rule(
     pool: &Pool<'_>,
     forms: &TextForms,
@@ -289,11 +269,13 @@ fn name_and_type_rule(
     requires { AreForms pool.now forms.now }
     ensures { result ≡ broken_rule (name_and_type_conditions pool.now name descriptor) }
 {
-    if texts_have_fault(pool, name, descriptor) {
-        Some(index_rule(texts_have_bad(pool, name, descriptor)))
-    } else if is_no_unqualified_name(pool, forms, name) {
+    let (Ok(name_text), Ok(text)) = (pool.text(name), pool.text(descriptor)) else {
+        return Some(index_rule(texts_have_bad(pool, name, descriptor)));
+    };
+    let form = forms.of(pool, descriptor, text);
+    if !forms.of(pool, name, name_text).unqualified_name {
         Some(FormRule::BadName)
-    } else if is_no_descriptor(pool, forms, descriptor) {
+    } else if !form.field_descriptor && !form.method_descriptor {
         Some(FormRule::BadDescriptor)
     } else {
         None

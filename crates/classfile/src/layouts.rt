@@ -101,7 +101,8 @@ pub fn rows(location: Location) -> &'static [Row]
 pub fn is_row(row: &Row, major: u16, name: &[u8]) -> bool
     ensures { result ≡ is_row major name.now (row_view row.now) }
 {
-    row.first_major <= major && name == row.name.as_bytes()
+    let text = row.name.as_bytes();
+    row.first_major <= major && name.len() == text.len() && name == text
 }
 
 /// The first row of this name.
