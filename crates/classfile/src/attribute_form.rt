@@ -66,9 +66,7 @@ fn handlers_have_bad(pool: &Pool<'_>, handlers: &[ExceptionHandler]) -> bool
 fn handlers_have_fault(pool: &Pool<'_>, handlers: &[ExceptionHandler]) -> bool
     ensures { result ≡ (handlers_have_bad pool.now (map handler_view handlers.now) || handlers_have_other pool.now (map handler_view handlers.now)) }
 {
-    handlers
-        .iter()
-        .any(|h| lacks_unless_zero(pool, ConstantKind::Class, h.catch_type))
+    handlers.iter().any(|h| lacks_unless_zero(pool, ConstantKind::Class, h.catch_type))
 }
 
 #[tactic(auto, unfolding(crate::specs::AttributeForm::nested_have_bad))]

@@ -13,7 +13,7 @@ use pool::{NameAndType, Pool};
 use std::alloc::{AllocError, Global};
 
 /// So many members are compared one with the other: that takes no memory, and less time than a set of their names and descriptors.
-const FEW: usize = 128;
+const FEW: usize = 96;
 
 /// The members before one, as they are kept.
 #[derive(Drop)]
