@@ -20,7 +20,7 @@ use Rattle.classfile.specs.Values.{Class as Value}
 use Rattle.classfile.specs.ClassFile as layouts
 use Rattle.classfile.specs.Outline.{end, bytes, repeated, counted, text, both, wide, constant, is_wide, tagged, indexed, constants, pool, attribute, attributes, numbers, member, members, interfaces, behind_pool, head, outline}
 
--- What spells a value of the one format spells one of the other, and the two go together.
+-- Bytes that spell a value of the one format spell one of the other, and the two go together.
 record Covers {V W : Type 0} (f : Format V) (g : Format W) (R : V → W → Type 0) : Type 0 where
   holds : (given : List ℕ) (v : V) → Spells f given v → (w : W) × Spells g given w × R v w
 

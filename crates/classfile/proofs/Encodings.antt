@@ -1,4 +1,4 @@
--- What the pieces of a class say of its layout.
+-- The pieces of a class, and its layout as they tell it.
 use Rattle.std.proofs.Common.{◌≡◌, ℕ, Bool, true, false, cond, Option, Some, None, List, Result, Ok, Err, refl, sym, subst}
 use Rattle.std.specs.Prelude.{IfErr}
 use Rattle.layout.specs.declared.fault.WriteFault.{WriteFault}

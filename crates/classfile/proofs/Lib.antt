@@ -3,6 +3,7 @@ pub mod ClassMeasure
 pub mod ClassOutlines
 pub mod Classes
 pub mod Encodings
+pub mod FewAttributes
 pub mod FieldIndices
 pub mod FirstFaults
 pub mod FormExamples

@@ -8,7 +8,7 @@ use Rattle.layout.specs.Pieces.{Piece, plain, over, unspelled, field, text, leng
 use Rattle.layout.specs.PieceLaws.{counted, text_append}
 use Rattle.classfile.specs.Sizes.{total, table_fits, table_size}
 
--- What the pieces of a part say, where `fits` tells whether its numbers fit and `size` how many bytes it has.
+-- The sums over the pieces of a part, where `fits` tells whether its numbers fit and `size` how many bytes it has.
 pub record Measured (p : List Piece) (fits : Bool) (size : ℕ) : Type 0 where
   pub counts : has_over p ≡ false → length (text p) ≡ size
   pub passes : fits ≡ false → has_over p ≡ true

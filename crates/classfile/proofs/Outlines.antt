@@ -19,7 +19,7 @@ pub behind_streams : {V W : Type 0} (f : Format V) (next : V → Format W) (v : 
     → Led f (whole v) a b q r → Streams {X = W} (next v) (λ x. x) b c r s (Err e) → Streams {X = W} (andthen f next) (λ x. x) a c q s (Err e)
 behind_streams f next v a b c q r s e h t = (t.0, stops_behind f next v a b c q r s e.why h t.1)
 
--- What is still to be read leads from here on to what all of it leads to from the start.
+-- The format that is still to be read leads from here on to what the whole one leads to from the start.
 abbrev pub Continues : {V : Type 0} → Format V → Format V → List ℕ → List ℕ → Option (List ℕ) → Option (List ℕ) → Type 0
 Continues {V = V} rest all here start now before =
     (there : List ℕ) (after : Option (List ℕ)) (result : Result V StreamFault) → Streams rest (λ x. x) here there now after result → Streams all (λ x. x) start there before after result

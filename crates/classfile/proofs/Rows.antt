@@ -1,12 +1,14 @@
 -- Rows of numbers that end early, and so many rows.
-use Rattle.std.proofs.Common.{◌≡◌, ℕ, zero, suc, ◌<◌, ◌+◌, ◌*◌, Bool, true, false, cond, ◌||◌, ◌&&◌, Some, None, List, [], ◌∷◌, length, refl, ap, sym, ◌∙◌, arith}
+use Rattle.std.proofs.Common.{Option, ◌≡◌, ℕ, zero, suc, ◌<◌, ◌+◌, ◌*◌, Bool, true, false, cond, ◌||◌, ◌&&◌, Some, None, List, [], ◌∷◌, length, refl, ap, sym, ◌∙◌, arith}
 use Rattle.pool.specs.Entries.{Entry}
 use Rattle.classfile.specs.declared.layouts.Column.{Column}
 use Rattle.classfile.specs.declared.layouts.Column.TheVariants.{Plain}
 use Rattle.classfile.specs.declared.number_form.IndexRule.{IndexRule}
-use Rattle.classfile.specs.declared.number_form.IndexRule.TheVariants.{BadIndex, WrongKind}
-use Rattle.classfile.specs.Layouts.{Row}
-use Rattle.classfile.specs.NumberForm.{breaks, row_breaks, behind_row, rows_break, counted_break, is_plain, are_plain, body_breaks}
+use Rattle.classfile.specs.declared.number_form.IndexRule.TheVariants.{BadIndex, WrongKind, Both}
+use Rattle.classfile.specs.declared.location.Location.{Location}
+use Rattle.classfile.specs.Layouts.{Row, row_at}
+use Rattle.classfile.specs.NumberForm.{breaks, row_breaks, behind_row, rows_break, counted_break, is_plain, are_plain, body_breaks, body_breaks_if, numbers_break}
+use Rattle.classfile.proofs.Tables.{four}
 
 pub short_row : (test : Column → ℕ → Bool) (cs : List Column) (bytes : List ℕ) → 0 < length cs → length bytes < 2
     → (row_breaks test cs bytes ≡ false) × (behind_row cs bytes ≡ [])
@@ -34,6 +36,7 @@ both false b e = absurd (let x : false ≡ true = e in cc)
 plain_number : (pool : List Entry) (rule : IndexRule) (c : Column) (n : ℕ) → is_plain c ≡ true → breaks pool rule c n ≡ false
 plain_number pool BadIndex Plain n e = refl
 plain_number pool WrongKind Plain n e = refl
+plain_number pool Both Plain n e = refl
 plain_number pool rule _ n e = absurd (let x : false ≡ true = e in cc)
 
 plain_row : (pool : List Entry) (rule : IndexRule) (cs : List Column) (bytes : List ℕ) → are_plain cs ≡ true → row_breaks (breaks pool rule) cs bytes ≡ false
@@ -60,3 +63,47 @@ plain_body pool rule row body e = by row.counted
     by : (b : Bool) → cond b (counted_break (breaks pool rule) row.columns body) (row_breaks (breaks pool rule) row.columns body) ≡ false
     by true = plain_counted pool rule row.columns body e
     by false = plain_row pool rule row.columns body e
+
+-- ---- both rules at once
+
+either_row : (p q : Column → ℕ → Bool) (cs : List Column) (bytes : List ℕ)
+    → row_breaks (λ c n. p c n || q c n) cs bytes ≡ row_breaks p cs bytes || row_breaks q cs bytes
+either_row p q [] bytes = refl
+either_row p q (c ∷ cs) [] = refl
+either_row p q (c ∷ cs) (b ∷ []) = refl
+either_row p q (c ∷ cs) (high ∷ low ∷ bytes) =
+    let n = high * 256 + low in
+    ap (λ (b : Bool). (p c n || q c n) || b) (either_row p q cs bytes) ∙ four (p c n) (q c n) (row_breaks p cs bytes) (row_breaks q cs bytes)
+
+either_rows : (p q : Column → ℕ → Bool) (cs : List Column) (n : ℕ) (bytes : List ℕ)
+    → rows_break (λ c n. p c n || q c n) cs n bytes ≡ rows_break p cs n bytes || rows_break q cs n bytes
+either_rows p q cs zero bytes = refl
+either_rows p q cs (suc n) bytes =
+    let rest = behind_row cs bytes in
+    ap (λ (b : Bool). b || rows_break (λ c n. p c n || q c n) cs n rest) (either_row p q cs bytes)
+    ∙ ap (λ (b : Bool). (row_breaks p cs bytes || row_breaks q cs bytes) || b) (either_rows p q cs n rest)
+    ∙ four (row_breaks p cs bytes) (row_breaks q cs bytes) (rows_break p cs n rest) (rows_break q cs n rest)
+
+either_counted : (p q : Column → ℕ → Bool) (cs : List Column) (body : List ℕ)
+    → counted_break (λ c n. p c n || q c n) cs body ≡ counted_break p cs body || counted_break q cs body
+either_counted p q cs [] = refl
+either_counted p q cs (b ∷ []) = refl
+either_counted p q cs (high ∷ low ∷ bytes) = either_rows p q cs (high * 256 + low) bytes
+
+either_body : (p q : Column → ℕ → Bool) (row : Row) (body : List ℕ)
+    → body_breaks (λ c n. p c n || q c n) row body ≡ body_breaks p row body || body_breaks q row body
+either_body p q row body = by row.counted
+  where
+    by : (b : Bool) → cond b (counted_break (λ c n. p c n || q c n) row.columns body) (row_breaks (λ c n. p c n || q c n) row.columns body) ≡ cond b (counted_break p row.columns body) (row_breaks p row.columns body) || cond b (counted_break q row.columns body) (row_breaks q row.columns body)
+    by true = either_counted p q row.columns body
+    by false = either_row p q row.columns body
+
+either_body_if : (p q : Column → ℕ → Bool) (row : Option Row) (body : List ℕ)
+    → body_breaks_if (λ c n. p c n || q c n) row body ≡ body_breaks_if p row body || body_breaks_if q row body
+either_body_if p q None body = refl
+either_body_if p q (Some row) body = either_body p q row body
+
+pub either_numbers : (pool : List Entry) (place : Location) (name : ℕ) (body : List ℕ)
+    → numbers_break pool place Both name body ≡ numbers_break pool place BadIndex name body || numbers_break pool place WrongKind name body
+unfolding numbers_break
+either_numbers pool place name body = either_body_if (breaks pool BadIndex) (breaks pool WrongKind) (row_at pool place name) body

@@ -1,4 +1,4 @@
--- What may be wrong with attributes (JVMS 4.7, 4.7.3, 4.7.4): their names, and what Code attributes hold.
+-- The faults that attributes may have (JVMS 4.7, 4.7.3, 4.7.4): their names, and what Code attributes hold.
 use Rattle.std.specs.Prelude.{Bool, true, false, ◌||◌, List, length, nat_eq, nat_lt, count_by}
 use Rattle.std.specs.List.{list_any}
 use Rattle.layout.specs.PieceLaws.{Either, fields as by_field, raw, name_of}

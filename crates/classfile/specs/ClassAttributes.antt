@@ -1,4 +1,4 @@
--- What the attributes of a class tell: the components of a record (JVMS 4.7.30), and the classes that may extend it directly (4.7.31).
+-- Facts that the attributes of a class tell: the components of a record (JVMS 4.7.30), and the classes that may extend it directly (4.7.31).
 use Rattle.std.specs.Prelude.{ℕ, ◌+◌, ◌*◌, if◌then◌else◌, List, [], ◌∷◌}
 use Rattle.layout.specs.PieceLaws.{fields as by_field, raw}
 use Rattle.pool.specs.Entries.{Entry}

@@ -1,4 +1,4 @@
--- What may be wrong with a class itself (JVMS 4.1): its names, its flags, its superclass and its own attributes.
+-- The faults that a class itself may have (JVMS 4.1): its names, its flags, its superclass and its own attributes.
 use Rattle.std.specs.Prelude.{ℕ, Bool, not, ◌&&◌, ◌||◌, List, [], ◌∷◌, nat_eq}
 use Rattle.std.specs.List.{list_any}
 use Rattle.std.specs.Str.{bytes_eq}

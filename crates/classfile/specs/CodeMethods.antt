@@ -1,4 +1,4 @@
--- What the program keeps of a method with code, as instructions see it.
+-- A method with code as the program keeps it, and as instructions see it.
 use Rattle.std.specs.Prelude.{◌≡◌, ℕ, List, [], Option}
 use Rattle.std.specs.Option.{option_map}
 use Rattle.names.specs.Descriptors.{MethodDescriptor}
@@ -24,7 +24,7 @@ pub record IsAt (class : ClassFile) (number : ℕ) (m : CodeMethod) : Type 0 whe
   pub class_is : m.class.now ≡ class
   pub number_is : m.number ≡ number
 
--- What is kept of the method of this number is what the class file says of it, if it has code. What the code says is only handed on:
+-- The method of this number is kept as the class file has it, if it has code. What the code says is only handed on:
 -- no instructions stand for all.
 abbrev pub TellsMethod : Class → ℕ → Option CodeMethod → Type 0
 TellsMethod c number kept = method_of {A = ℕ} c number [] ≡ option_map (λ m. code_method_view m []) kept

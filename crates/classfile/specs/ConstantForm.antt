@@ -1,4 +1,4 @@
--- What may be wrong with an entry of the constant pool (JVMS 4.4.1 to 4.4.10), by its kind. A condition that needs an entry
+-- The faults that an entry of the constant pool may have (JVMS 4.4.1 to 4.4.10), by its kind. A condition that needs an entry
 -- which is itself refused for its indices does not hold.
 use Rattle.std.specs.Prelude.{ℕ, Bool, false, not, ◌&&◌, ◌||◌, List, [], ◌∷◌, nat_lt}
 use Rattle.names.specs.Names.{less_than}
@@ -49,8 +49,11 @@ unfoldable pub is_no_method_of_class : List Entry → ℕ → Bool
 is_no_method_of_class pool index = on_name_and_type pool index (λ x. not (fits_method false x.name x.descriptor))
 
 -- a name that begins with '<' and is not `<init>` (4.4.2)
+abbrev pub is_special_name : List ℕ → Bool
+is_special_name name = begins_with less_than name && not (is_init name)
+
 unfoldable pub is_special : List Entry → ℕ → Bool
-is_special pool index = on_name_and_type pool index (λ x. begins_with less_than x.name && not (is_init x.name))
+is_special pool index = on_name_and_type pool index (λ x. is_special_name x.name)
 
 unfoldable pub is_no_method_name : List Entry → ℕ → Bool
 is_no_method_name pool index = on_name_and_type pool index (λ x. not (is_method_name x.name))

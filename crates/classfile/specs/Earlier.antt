@@ -1,4 +1,4 @@
--- What is kept of the members before one, to tell whether it has the name and the descriptor of one of them. Words of the code's own steps.
+-- The members before one as they are kept, to tell whether it has the name and the descriptor of one of them. Words of the code's own steps.
 use Rattle.std.specs.Prelude.{◌≡◌, Bool, List, [], ◌∷◌, ◌++◌}
 use Rattle.pool.specs.Entries.{Entry}
 use Rattle.classfile.specs.declared.earlier.Earlier.{Earlier}

@@ -1,4 +1,4 @@
--- What writing a class answers, in the words of the layout (JVMS 4.1).
+-- The answer of writing a class, in the words of the layout (JVMS 4.1).
 use Rattle.std.specs.Prelude.{◌≡◌, ◌⊎◌, ◌<◌, ℕ, false, List, Result, Ok, Err}
 use Rattle.layout.specs.declared.fault.WriteFault.{WriteFault}
 use Rattle.layout.specs.declared.fault.WriteFault.TheVariants.{OutOfMemory, DoesNotFit, HasNoSpelling}

@@ -1,4 +1,4 @@
--- What follows of the definition of well-formed classes alone: which rule is told of a place, that a class is
+-- Laws that follow of the definition of well-formed classes alone: which rule is told of a place, that a class is
 -- well formed or has one first fault, that the tests of names and descriptors are their forms, and that what a class names is there.
 use Rattle.std.specs.Prelude.{◌≡◌, ◌≢◌, ◌↔◌, ◌≤◌, ◌⊎◌, ℕ, Bool, List, slice_get, Some, None, Ok, IsTrue}
 use Rattle.names.specs.Names.{IsUnqualifiedName, IsMethodName, IsClassName}

@@ -1,5 +1,5 @@
--- What stands at an index of the constant pool (JVMS 4.1, 4.4): whether it may be looked up, and of which kind it is.
--- What is asked of an entry that cannot be looked up, or is of another kind, is not the case.
+-- The entry at an index of the constant pool (JVMS 4.1, 4.4): whether it may be looked up, and of which kind it is.
+-- A test of an entry that cannot be looked up, or is of another kind, does not hold.
 use Rattle.std.specs.Prelude.{ℕ, Bool, true, false, not, ◌&&◌, nat_eq, List, Result, Ok, Err}
 use Rattle.std.specs.Result.{is_err}
 use Rattle.pool.specs.declared.fault.PoolFault.{PoolFault}

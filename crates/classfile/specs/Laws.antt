@@ -1,4 +1,4 @@
--- What follows of the layout of class files alone: bytes spell at most one class, a class has at most one spelling,
+-- Laws that follow of the layout of class files alone: bytes spell at most one class, a class has at most one spelling,
 -- and bytes that spell none have exactly one first fault.
 use Rattle.std.specs.Prelude.{◌≡◌, ℕ, List, ◌⊎◌}
 use Rattle.layout.specs.Format.{AreBytes}

@@ -1,4 +1,4 @@
--- What the program's rows of the table of attributes are.
+-- The rows of the table of attributes that the program's rows are.
 use Rattle.classfile.specs.declared.layouts.Row as program
 use Rattle.classfile.specs.Layouts.{Row}
 

@@ -1,4 +1,4 @@
--- What may be wrong with a field or a method (JVMS 4.5, 4.6).
+-- The faults that a field or a method may have (JVMS 4.5, 4.6).
 use Rattle.std.specs.Prelude.{ℕ, Bool, not, ◌&&◌, ◌||◌, List, [], ◌∷◌, codes, if◌then◌else◌}
 use Rattle.std.specs.List.{list_any}
 use Rattle.std.specs.Str.{bytes_eq}

@@ -1,4 +1,4 @@
--- What is found of a name and type: its texts, and the indices that they stand at. Words of the code's own steps.
+-- The texts of a name and type as they are found, and the indices that they stand at. Words of the code's own steps.
 use Rattle.std.specs.Prelude.{◌≡◌, ℕ, true, List, Option, Some, None, Ok}
 use Rattle.std.specs.Result.{is_err}
 use Rattle.pool.specs.Entries.{Entry}

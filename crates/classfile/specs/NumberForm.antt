@@ -1,4 +1,4 @@
--- What may be wrong with the numbers in an attribute's body (JVMS 4.7): the indices among them, column by column.
+-- The faults that the numbers in an attribute's body may have (JVMS 4.7): the indices among them, column by column.
 use Rattle.std.specs.Prelude.{ℕ, zero, suc, ◌+◌, ◌*◌, Bool, true, false, ◌||◌, ◌&&◌, if◌then◌else◌, List, [], ◌∷◌, nat_lt, count_by, Option, Some, None}
 use Rattle.std.specs.List.{list_any}
 use Rattle.layout.specs.PieceLaws.{Either, fields as by_field, raw}
@@ -38,6 +38,7 @@ is_other_in pool Value n = is_other pool kinds.Value n
 abbrev pub breaks : List Entry → IndexRule → Column → ℕ → Bool
 breaks pool rules.BadIndex column n = is_bad_in pool column n
 breaks pool rules.WrongKind column n = is_other_in pool column n
+breaks pool rules.Both column n = is_bad_in pool column n || is_other_in pool column n
 
 -- a number of a row breaks the rule
 abbrev pub row_breaks : (Column → ℕ → Bool) → List Column → List ℕ → Bool

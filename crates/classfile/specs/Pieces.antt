@@ -1,4 +1,4 @@
--- What a class file is written as, part by part in the order of the file, and that its layout spells exactly that.
+-- The pieces that a class file is written as, part by part in the order of the file; its layout spells exactly these.
 use Rattle.std.proofs.Common.{◌≡◌, ℕ, Bool, true, false, cond, List, [], ◌∷◌, ◌++◌, length, refl, sym, ap, subst, ◌∙◌}
 use Rattle.std.specs.Prelude.{nat_eq, ◌&&◌}
 use Rattle.std.proofs.lemmas.Bool.{eqb-true}

@@ -1,4 +1,4 @@
--- What may be wrong with the attributes of a class (JVMS 4.7), and with the components that a Record attribute holds (4.7.30).
+-- The faults that the attributes of a class may have (JVMS 4.7), and the components that a Record attribute holds (4.7.30).
 use Rattle.std.specs.Prelude.{Bool, ◌||◌, List}
 use Rattle.std.specs.List.{list_any}
 use Rattle.pool.specs.Entries.{Entry}

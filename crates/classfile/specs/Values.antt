@@ -1,4 +1,4 @@
--- What a class file holds (JVMS 4.1, 4.5 to 4.7): its numbers and tables in the order of the file.
+-- The values that a class file holds (JVMS 4.1, 4.5 to 4.7): its numbers and tables in the order of the file.
 -- Names, descriptors and other constants stand as their indices into the constant pool.
 use Rattle.std.specs.Prelude.{ℕ, List}
 use Rattle.layout.specs.PieceLaws.{Either}

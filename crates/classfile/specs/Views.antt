@@ -1,4 +1,4 @@
--- What the program's values are, wherever their bytes lie.
+-- The values that the program's values stand for, wherever their bytes lie.
 use Rattle.std.specs.Prelude.{map}
 use Rattle.layout.specs.PieceLaws.{fields as by_field, raw}
 use Rattle.classfile.specs.declared.attribute.Attribute.{Attribute}

@@ -1,5 +1,5 @@
-//! What may be wrong with attributes: their names, and what Code attributes hold (JVMS 4.7, 4.7.3).
-ghost use Rattle.std.specs.Prelude.{◌≡◌, map};
+//! The faults that attributes may have: in their names, and in what Code attributes hold (JVMS 4.7, 4.7.3).
+ghost use Rattle.std.specs.Prelude.{◌≡◌, ◌||◌, map};
 ghost use Rattle.classfile.specs.AttributeForm.{is_by_field, on_body, head_has_bad, head_has_other, handlers_have_bad, handlers_have_other, nested_have_bad, nested_have_other, code_has_bad, code_has_other, has_bad_length, has_two_stack_maps, attribute_has_bad, attribute_has_other, attributes_have_bad, attributes_have_other, have_bad_length, code_stands_twice, stack_map_stands_twice, have_twice};
 ghost use Rattle.classfile.specs.MemberForm.{has_code};
 ghost use Rattle.classfile.specs.declared.location.Location.TheVariants as location;
@@ -7,10 +7,10 @@ ghost use Rattle.classfile.specs.Views.{attribute_view, handler_view, nested_vie
 
 use crate::attribute::Attribute;
 use crate::code::{CodeAttr, ExceptionHandler};
-use crate::indices::{ConstantKind, is_bad, is_bad_unless_zero, is_other};
+use crate::indices::{ConstantKind, is_bad, is_bad_unless_zero, lacks, lacks_unless_zero};
 use crate::location::Location;
 use crate::nested::NestedAttribute;
-use crate::number_form::{IndexRule, numbers_break};
+use crate::number_form::{IndexRule, numbers_break, numbers_have_fault};
 use crate::once::numbers_stand_twice;
 use pool::Pool;
 
@@ -27,15 +27,16 @@ fn nested_has_bad(pool: &Pool<'_>, attribute: &NestedAttribute<'_>) -> bool
     }
 }
 
-#[tactic(auto, unfolding(crate::specs::AttributeForm::head_has_other))]
-fn nested_has_other(pool: &Pool<'_>, attribute: &NestedAttribute<'_>) -> bool
-    ensures { result ≡ head_has_other pool.now location.Code (nested_view attribute.now) }
+/// Whether one of its indices breaks a rule, 20 or 21; each is looked up once for both, here and in what follows.
+#[tactic(auto, unfolding(crate::specs::AttributeForm::head_has_bad, crate::specs::AttributeForm::head_has_other))]
+fn nested_has_fault(pool: &Pool<'_>, attribute: &NestedAttribute<'_>) -> bool
+    ensures { result ≡ (head_has_bad pool.now location.Code (nested_view attribute.now) || head_has_other pool.now location.Code (nested_view attribute.now)) }
 {
     match attribute {
-        NestedAttribute::StackMapTable { name, .. } => is_other(pool, ConstantKind::Utf8, *name),
+        NestedAttribute::StackMapTable { name, .. } => lacks(pool, ConstantKind::Utf8, *name),
         NestedAttribute::Raw { name, body } => {
-            is_other(pool, ConstantKind::Utf8, *name)
-                || numbers_break(pool, Location::Code, IndexRule::WrongKind, *name, body)
+            lacks(pool, ConstantKind::Utf8, *name)
+                || numbers_have_fault(pool, Location::Code, *name, body)
         }
     }
 }
@@ -61,13 +62,11 @@ fn handlers_have_bad(pool: &Pool<'_>, handlers: &[ExceptionHandler]) -> bool
         .any(|h| is_bad_unless_zero(pool, h.catch_type))
 }
 
-#[tactic(auto, unfolding(crate::specs::AttributeForm::handlers_have_other))]
-fn handlers_have_other(pool: &Pool<'_>, handlers: &[ExceptionHandler]) -> bool
-    ensures { result ≡ handlers_have_other pool.now (map handler_view handlers.now) }
+#[tactic(auto, unfolding(crate::specs::AttributeForm::handlers_have_bad, crate::specs::AttributeForm::handlers_have_other))]
+fn handlers_have_fault(pool: &Pool<'_>, handlers: &[ExceptionHandler]) -> bool
+    ensures { result ≡ (handlers_have_bad pool.now (map handler_view handlers.now) || handlers_have_other pool.now (map handler_view handlers.now)) }
 {
-    handlers
-        .iter()
-        .any(|h| is_other(pool, ConstantKind::Class, h.catch_type))
+    handlers.iter().any(|h| lacks_unless_zero(pool, ConstantKind::Class, h.catch_type))
 }
 
 #[tactic(auto, unfolding(crate::specs::AttributeForm::nested_have_bad))]
@@ -77,11 +76,11 @@ fn nested_have_bad(pool: &Pool<'_>, attributes: &[NestedAttribute<'_>]) -> bool
     attributes.iter().any(|a| nested_has_bad(pool, a))
 }
 
-#[tactic(auto, unfolding(crate::specs::AttributeForm::nested_have_other))]
-fn nested_have_other(pool: &Pool<'_>, attributes: &[NestedAttribute<'_>]) -> bool
-    ensures { result ≡ nested_have_other pool.now (map nested_view attributes.now) }
+#[tactic(auto, unfolding(crate::specs::AttributeForm::nested_have_bad, crate::specs::AttributeForm::nested_have_other))]
+fn nested_have_fault(pool: &Pool<'_>, attributes: &[NestedAttribute<'_>]) -> bool
+    ensures { result ≡ (nested_have_bad pool.now (map nested_view attributes.now) || nested_have_other pool.now (map nested_view attributes.now)) }
 {
-    attributes.iter().any(|a| nested_has_other(pool, a))
+    attributes.iter().any(|a| nested_has_fault(pool, a))
 }
 
 #[tactic(auto, unfolding(crate::specs::AttributeForm::code_has_bad))]
@@ -91,11 +90,11 @@ fn code_has_bad(pool: &Pool<'_>, code: &CodeAttr<'_>) -> bool
     handlers_have_bad(pool, &code.exception_table) || nested_have_bad(pool, &code.attributes)
 }
 
-#[tactic(auto, unfolding(crate::specs::AttributeForm::code_has_other))]
-fn code_has_other(pool: &Pool<'_>, code: &CodeAttr<'_>) -> bool
-    ensures { result ≡ code_has_other pool.now (code_view code.now) }
+#[tactic(auto, unfolding(crate::specs::AttributeForm::code_has_bad, crate::specs::AttributeForm::code_has_other))]
+fn code_has_fault(pool: &Pool<'_>, code: &CodeAttr<'_>) -> bool
+    ensures { result ≡ (code_has_bad pool.now (code_view code.now) || code_has_other pool.now (code_view code.now)) }
 {
-    handlers_have_other(pool, &code.exception_table) || nested_have_other(pool, &code.attributes)
+    handlers_have_fault(pool, &code.exception_table) || nested_have_fault(pool, &code.attributes)
 }
 
 fn has_bad_length(code: &CodeAttr<'_>) -> bool
@@ -123,17 +122,17 @@ fn attribute_has_bad(pool: &Pool<'_>, location: Location, attribute: &Attribute<
     }
 }
 
-#[tactic(auto, unfolding(crate::specs::AttributeForm::attribute_has_other, crate::specs::AttributeForm::head_has_other))]
-fn attribute_has_other(pool: &Pool<'_>, location: Location, attribute: &Attribute<'_>) -> bool
-    ensures { result ≡ attribute_has_other pool.now location (attribute_view attribute.now) }
+#[tactic(auto, unfolding(crate::specs::AttributeForm::attribute_has_bad, crate::specs::AttributeForm::attribute_has_other, crate::specs::AttributeForm::head_has_bad, crate::specs::AttributeForm::head_has_other))]
+fn attribute_has_fault(pool: &Pool<'_>, location: Location, attribute: &Attribute<'_>) -> bool
+    ensures { result ≡ (attribute_has_bad pool.now location (attribute_view attribute.now) || attribute_has_other pool.now location (attribute_view attribute.now)) }
 {
     match attribute {
         Attribute::Code { name, code } => {
-            is_other(pool, ConstantKind::Utf8, *name) || code_has_other(pool, code)
+            lacks(pool, ConstantKind::Utf8, *name) || code_has_fault(pool, code)
         }
         Attribute::Raw { name, body } => {
-            is_other(pool, ConstantKind::Utf8, *name)
-                || numbers_break(pool, location, IndexRule::WrongKind, *name, body)
+            lacks(pool, ConstantKind::Utf8, *name)
+                || numbers_have_fault(pool, location, *name, body)
         }
     }
 }
@@ -170,18 +169,18 @@ pub fn attributes_have_bad(
         .any(|a| attribute_has_bad(pool, location, a))
 }
 
-/// Whether an index in the attributes leads to another kind.
-#[tactic(auto, unfolding(crate::specs::AttributeForm::attributes_have_other))]
-pub fn attributes_have_other(
+/// Whether an index in the attributes may not be looked up, or leads to another kind.
+#[tactic(auto, unfolding(crate::specs::AttributeForm::attributes_have_bad, crate::specs::AttributeForm::attributes_have_other))]
+pub fn attributes_have_fault(
     pool: &Pool<'_>,
     location: Location,
     attributes: &[Attribute<'_>],
 ) -> bool
-    ensures { result ≡ attributes_have_other pool.now location (map attribute_view attributes.now) }
+    ensures { result ≡ (attributes_have_bad pool.now location (map attribute_view attributes.now) || attributes_have_other pool.now location (map attribute_view attributes.now)) }
 {
     attributes
         .iter()
-        .any(|a| attribute_has_other(pool, location, a))
+        .any(|a| attribute_has_fault(pool, location, a))
 }
 
 /// Whether a Code attribute is among them.

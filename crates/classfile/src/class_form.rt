@@ -1,5 +1,5 @@
 //! Which rule a class itself breaks (JVMS 4.1).
-ghost use Rattle.std.specs.Prelude.{◌≡◌, map};
+ghost use Rattle.std.specs.Prelude.{◌≡◌, ◌||◌, map};
 ghost use Rattle.classfile.specs.Conditions.{broken_rule};
 ghost use Rattle.classfile.specs.ClassForm.{is_object, interfaces_have_bad, interfaces_have_other, interfaces_have_array, class_has_bad, class_has_other, class_has_array, leads_to_object, leads_elsewhere, has_bad_super, class_conditions};
 ghost use Rattle.classfile.specs.Views.{class_view};
@@ -9,10 +9,12 @@ use crate::class_file::ClassFile;
 use crate::constant_form::is_array_class;
 use crate::flags::{INTERFACE, are_bad_class_flags, has};
 use crate::form_fault::FormRule;
-use crate::indices::{ConstantKind, is_bad, is_bad_unless_zero, is_other};
+use crate::indices::{
+    ConstantKind, index_rule, is_bad, is_bad_unless_zero, lacks, lacks_unless_zero,
+};
 use crate::location::Location;
 use crate::record_form::{
-    class_attributes_have_bad, class_attributes_have_other, class_attributes_have_twice,
+    class_attributes_have_bad, class_attributes_have_fault, class_attributes_have_twice,
 };
 use names::{OBJECT, Text};
 use pool::Pool;
@@ -50,13 +52,13 @@ fn interfaces_have_bad(pool: &Pool<'_>, interfaces: &[u16]) -> bool
     interfaces.iter().any(|index| is_bad(pool, *index))
 }
 
-#[tactic(auto, unfolding(crate::specs::ClassForm::interfaces_have_other))]
-fn interfaces_have_other(pool: &Pool<'_>, interfaces: &[u16]) -> bool
-    ensures { result ≡ interfaces_have_other pool.now (map (λ n. n) interfaces.now) }
+#[tactic(auto, unfolding(crate::specs::ClassForm::interfaces_have_bad, crate::specs::ClassForm::interfaces_have_other))]
+fn interfaces_have_fault(pool: &Pool<'_>, interfaces: &[u16]) -> bool
+    ensures { result ≡ (interfaces_have_bad pool.now (map (λ n. n) interfaces.now) || interfaces_have_other pool.now (map (λ n. n) interfaces.now)) }
 {
     interfaces
         .iter()
-        .any(|index| is_other(pool, ConstantKind::Class, *index))
+        .any(|index| lacks(pool, ConstantKind::Class, *index))
 }
 
 #[tactic(auto, unfolding(crate::specs::ClassForm::interfaces_have_array))]
@@ -86,15 +88,16 @@ fn class_has_bad(class: &ClassFile<'_>) -> bool
         || class_attributes_have_bad(pool, location(class), &class.attributes)
 }
 
-#[tactic(auto, unfolding(crate::specs::ClassForm::class_has_other))]
-fn class_has_other(class: &ClassFile<'_>) -> bool
-    ensures { result ≡ class_has_other (class_view class.now) }
+/// Whether one of its indices breaks a rule, 20 or 21; each is looked up once for both.
+#[tactic(auto, unfolding(crate::specs::ClassForm::class_has_bad, crate::specs::ClassForm::class_has_other))]
+fn class_has_fault(class: &ClassFile<'_>) -> bool
+    ensures { result ≡ (class_has_bad (class_view class.now) || class_has_other (class_view class.now)) }
 {
     let pool = &class.constant_pool;
-    is_other(pool, ConstantKind::Class, class.this_class)
-        || is_other(pool, ConstantKind::Class, class.super_class)
-        || interfaces_have_other(pool, &class.interfaces)
-        || class_attributes_have_other(pool, location(class), &class.attributes)
+    lacks(pool, ConstantKind::Class, class.this_class)
+        || lacks_unless_zero(pool, ConstantKind::Class, class.super_class)
+        || interfaces_have_fault(pool, &class.interfaces)
+        || class_attributes_have_fault(pool, location(class), &class.attributes)
 }
 
 #[tactic(auto, unfolding(crate::specs::ClassForm::class_has_array))]
@@ -124,10 +127,8 @@ fn has_bad_super(class: &ClassFile<'_>) -> bool
 pub fn class_rule(class: &ClassFile<'_>) -> Option<FormRule>
     ensures { result ≡ broken_rule (class_conditions (class_view class.now)) }
 {
-    if class_has_bad(class) {
-        Some(FormRule::BadIndex)
-    } else if class_has_other(class) {
-        Some(FormRule::WrongKind)
+    if class_has_fault(class) {
+        Some(index_rule(class_has_bad(class)))
     } else if class_has_array(class) {
         Some(FormRule::BadName)
     } else if are_bad_class_flags(class.access_flags) {

@@ -179,7 +179,7 @@ fn put_sizes(
     put_held(out, code)
 }
 
-/// What the body of a Code attribute is written as.
+/// Writes the body of a Code attribute.
 #[tactic(auto, using(layout::specs::PieceLaws::writes_append))]
 pub fn put_code(out: &mut Output, pool: &Pool<'_>, code: &CodeAttr<'_>) -> Result<(), WriteFault>
     ensures { Goes (code_pieces pool.now (code_view code.now)) out.old out.new result }

@@ -106,7 +106,7 @@ pub fn whole_components<'a>(
     whole(name_at, &cursor, answer)
 }
 
-/// What the body of a Record attribute is written as.
+/// Writes the body of a Record attribute.
 pub fn put_components(
     out: &mut Output,
     pool: &Pool<'_>,

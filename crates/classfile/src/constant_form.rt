@@ -1,15 +1,17 @@
 //! Which rule an entry of the constant pool breaks, by its kind (JVMS 4.4.1 to 4.4.10).
-ghost use Rattle.std.specs.Prelude.{◌≡◌};
+ghost use Rattle.std.specs.Prelude.{◌≡◌, ◌||◌, ◌∷◌, []};
+ghost use Rattle.classfile.specs.declared.form_fault.FormRule.TheVariants.{BadName, BadDescriptor};
 ghost use Rattle.classfile.specs.Conditions.{broken_rule};
-ghost use Rattle.classfile.specs.ConstantForm.{is_no_class_name, is_array_class, is_no_unqualified_name, is_no_descriptor, is_no_field_descriptor, is_no_method_descriptor, is_no_field, is_no_method, is_no_method_of_class, is_special, is_no_method_name, has_bad, has_other, texts_have_bad, texts_have_other, class_conditions, string_conditions, field_conditions, method_conditions, interface_method_conditions, name_and_type_conditions, method_handle_conditions, method_type_conditions, dynamic_conditions, invoke_dynamic_conditions, constant_conditions};
+ghost use Rattle.classfile.specs.ConstantForm.{is_no_class_name, is_array_class, is_no_unqualified_name, is_no_descriptor, is_no_field_descriptor, is_no_method_descriptor, is_no_field, is_no_method, is_no_method_of_class, is_special_name, is_special, is_no_method_name, has_bad, has_other, texts_have_bad, texts_have_other, class_conditions, string_conditions, field_conditions, method_conditions, interface_method_conditions, name_and_type_conditions, method_handle_conditions, method_type_conditions, dynamic_conditions, invoke_dynamic_conditions, constant_conditions};
 ghost use Rattle.classfile.specs.NamedAt.{IsNamedAt};
 ghost use Rattle.classfile.specs.TextForms.{AreForms};
 ghost use Rattle.pool.specs.Views.{view};
 
 use crate::form_fault::FormRule;
-use crate::indices::{ConstantKind, is_bad, is_other};
+use crate::indices::{ConstantKind, index_rule, is_bad, is_other, lacks};
 use crate::naming::{begins_with, is_array_name, is_init};
 use crate::text_forms::{TextForms, fits_method};
+use names::Text;
 use pool::{Constant, NameAndType, Pool};
 
 /// A name and a descriptor with their indices, as a constant has them.
@@ -44,17 +46,6 @@ fn named_at<'a>(pool: &Pool<'a>, index: u16) -> Option<NamedAt<'a>>
     })
 }
 
-#[tactic(auto, unfolding(crate::specs::ConstantForm::is_no_class_name))]
-fn is_no_class_name(pool: &Pool<'_>, forms: &TextForms, index: u16) -> bool
-    requires { AreForms pool.now forms.now }
-    ensures { result ≡ is_no_class_name pool.now index }
-{
-    match pool.text(index) {
-        Ok(text) => !forms.of(pool, index, text).names_class,
-        Err(_) => false,
-    }
-}
-
 /// Whether the index leads to the name of an array class.
 #[tactic(auto, unfolding(crate::specs::ConstantForm::is_array_class))]
 pub fn is_array_class(pool: &Pool<'_>, index: u16) -> bool
@@ -74,20 +65,6 @@ pub fn is_no_unqualified_name(pool: &Pool<'_>, forms: &TextForms, index: u16) ->
 {
     match pool.text(index) {
         Ok(text) => !forms.of(pool, index, text).unqualified_name,
-        Err(_) => false,
-    }
-}
-
-#[tactic(auto, unfolding(crate::specs::ConstantForm::is_no_descriptor))]
-fn is_no_descriptor(pool: &Pool<'_>, forms: &TextForms, index: u16) -> bool
-    requires { AreForms pool.now forms.now }
-    ensures { result ≡ is_no_descriptor pool.now index }
-{
-    match pool.text(index) {
-        Ok(text) => {
-            let form = forms.of(pool, index, text);
-            !form.field_descriptor && !form.method_descriptor
-        }
         Err(_) => false,
     }
 }
@@ -141,28 +118,29 @@ fn is_no_method(pool: &Pool<'_>, forms: &TextForms, index: u16) -> bool
     }
 }
 
-#[tactic(auto, unfolding(crate::specs::ConstantForm::is_no_method_of_class))]
-fn is_no_method_of_class(pool: &Pool<'_>, forms: &TextForms, index: u16) -> bool
+/// The rule that a method of a class breaks by its name and its descriptor.
+#[tactic(auto, unfolding(crate::specs::ConstantForm::is_special, crate::specs::ConstantForm::is_no_method_of_class))]
+fn method_name_rule(pool: &Pool<'_>, forms: &TextForms, named: u16) -> Option<FormRule>
     requires { AreForms pool.now forms.now }
-    ensures { result ≡ is_no_method_of_class pool.now index }
+    ensures { result ≡ broken_rule ((BadName, is_special pool.now named) ∷ (BadDescriptor, is_no_method_of_class pool.now named) ∷ []) }
 {
-    match named_at(pool, index) {
-        Some(named) => {
-            let form = forms.of(pool, named.descriptor, named.texts.descriptor);
-            !fits_method(false, named.texts.name, named.texts.descriptor, form)
-        },
-        None => false,
+    let named = named_at(pool, named)?;
+    let texts = named.texts;
+    let form = forms.of(pool, named.descriptor, texts.descriptor);
+    if is_special_name(texts.name) {
+        Some(FormRule::BadName)
+    } else if !fits_method(false, texts.name, texts.descriptor, form) {
+        Some(FormRule::BadDescriptor)
+    } else {
+        None
     }
 }
 
-#[tactic(auto, unfolding(crate::specs::ConstantForm::is_special))]
-fn is_special(pool: &Pool<'_>, index: u16) -> bool
-    ensures { result ≡ is_special pool.now index }
+/// Whether the name is a special one other than that of instance initialization methods.
+fn is_special_name(name: Text<'_>) -> bool
+    ensures { result ≡ is_special_name name.entry.bytes.now }
 {
-    match pool.name_and_type(index) {
-        Ok(named) => begins_with(named.name, b'<') && !is_init(named.name),
-        Err(_) => false,
-    }
+    begins_with(name, b'<') && !is_init(name)
 }
 
 #[tactic(auto, unfolding(crate::specs::ConstantForm::is_no_method_name))]
@@ -184,12 +162,12 @@ fn has_bad(pool: &Pool<'_>, class: u16, named: u16) -> bool
     is_bad(pool, class) || is_bad(pool, named)
 }
 
-/// Whether one of a reference's indices leads to another kind.
-#[tactic(auto, unfolding(crate::specs::ConstantForm::has_other))]
-fn has_other(pool: &Pool<'_>, class: u16, named: u16) -> bool
-    ensures { result ≡ has_other pool.now class named }
+/// Whether one of a reference's indices breaks a rule, 20 or 21; each is looked up once for both.
+#[tactic(auto, unfolding(crate::specs::ConstantForm::has_bad, crate::specs::ConstantForm::has_other))]
+fn has_fault(pool: &Pool<'_>, class: u16, named: u16) -> bool
+    ensures { result ≡ (has_bad pool.now class named || has_other pool.now class named) }
 {
-    is_other(pool, ConstantKind::Class, class) || is_other(pool, ConstantKind::NameAndType, named)
+    lacks(pool, ConstantKind::Class, class) || lacks(pool, ConstantKind::NameAndType, named)
 }
 
 /// Whether the index of a name or that of a descriptor may not be looked up.
@@ -200,36 +178,36 @@ pub fn texts_have_bad(pool: &Pool<'_>, name: u16, descriptor: u16) -> bool
     is_bad(pool, name) || is_bad(pool, descriptor)
 }
 
-/// Whether the index of a name or that of a descriptor leads to another kind.
-#[tactic(auto, unfolding(crate::specs::ConstantForm::texts_have_other))]
-pub fn texts_have_other(pool: &Pool<'_>, name: u16, descriptor: u16) -> bool
-    ensures { result ≡ texts_have_other pool.now name descriptor }
+/// Whether the index of a name or that of a descriptor breaks a rule, 20 or 21; each is looked up once for both.
+#[tactic(auto, unfolding(crate::specs::ConstantForm::texts_have_bad, crate::specs::ConstantForm::texts_have_other))]
+pub fn texts_have_fault(pool: &Pool<'_>, name: u16, descriptor: u16) -> bool
+    ensures { result ≡ (texts_have_bad pool.now name descriptor || texts_have_other pool.now name descriptor) }
 {
-    is_other(pool, ConstantKind::Utf8, name) || is_other(pool, ConstantKind::Utf8, descriptor)
+    lacks(pool, ConstantKind::Utf8, name) || lacks(pool, ConstantKind::Utf8, descriptor)
 }
 
+#[tactic(auto, unfolding(pool::specs::Lookups::text_at, crate::specs::Indices::is_bad, crate::specs::Indices::is_other, crate::specs::ConstantForm::is_no_class_name))]
 fn class_rule(pool: &Pool<'_>, forms: &TextForms, name: u16) -> Option<FormRule>
     requires { AreForms pool.now forms.now }
     ensures { result ≡ broken_rule (class_conditions pool.now name) }
 {
-    if is_bad(pool, name) {
-        Some(FormRule::BadIndex)
-    } else if is_other(pool, ConstantKind::Utf8, name) {
-        Some(FormRule::WrongKind)
-    } else if is_no_class_name(pool, forms, name) {
-        Some(FormRule::BadName)
-    } else {
-        None
+    match pool.text(name) {
+        Ok(text) => {
+            if forms.of(pool, name, text).names_class {
+                None
+            } else {
+                Some(FormRule::BadName)
+            }
+        }
+        Err(_) => Some(index_rule(is_bad(pool, name))),
     }
 }
 
 fn string_rule(pool: &Pool<'_>, text: u16) -> Option<FormRule>
     ensures { result ≡ broken_rule (string_conditions pool.now text) }
 {
-    if is_bad(pool, text) {
-        Some(FormRule::BadIndex)
-    } else if is_other(pool, ConstantKind::Utf8, text) {
-        Some(FormRule::WrongKind)
+    if lacks(pool, ConstantKind::Utf8, text) {
+        Some(index_rule(is_bad(pool, text)))
     } else {
         None
     }
@@ -239,10 +217,8 @@ fn field_rule(pool: &Pool<'_>, forms: &TextForms, class: u16, named: u16) -> Opt
     requires { AreForms pool.now forms.now }
     ensures { result ≡ broken_rule (field_conditions pool.now class named) }
 {
-    if has_bad(pool, class, named) {
-        Some(FormRule::BadIndex)
-    } else if has_other(pool, class, named) {
-        Some(FormRule::WrongKind)
+    if has_fault(pool, class, named) {
+        Some(index_rule(has_bad(pool, class, named)))
     } else if is_array_class(pool, class) {
         Some(FormRule::BadName)
     } else if is_no_field(pool, forms, named) {
@@ -256,16 +232,10 @@ fn method_rule(pool: &Pool<'_>, forms: &TextForms, class: u16, named: u16) -> Op
     requires { AreForms pool.now forms.now }
     ensures { result ≡ broken_rule (method_conditions pool.now class named) }
 {
-    if has_bad(pool, class, named) {
-        Some(FormRule::BadIndex)
-    } else if has_other(pool, class, named) {
-        Some(FormRule::WrongKind)
-    } else if is_special(pool, named) {
-        Some(FormRule::BadName)
-    } else if is_no_method_of_class(pool, forms, named) {
-        Some(FormRule::BadDescriptor)
+    if has_fault(pool, class, named) {
+        Some(index_rule(has_bad(pool, class, named)))
     } else {
-        None
+        method_name_rule(pool, forms, named)
     }
 }
 
@@ -278,10 +248,8 @@ fn interface_method_rule(
     requires { AreForms pool.now forms.now }
     ensures { result ≡ broken_rule (interface_method_conditions pool.now class named) }
 {
-    if has_bad(pool, class, named) {
-        Some(FormRule::BadIndex)
-    } else if has_other(pool, class, named) {
-        Some(FormRule::WrongKind)
+    if has_fault(pool, class, named) {
+        Some(index_rule(has_bad(pool, class, named)))
     } else if is_array_class(pool, class) || is_no_method_name(pool, forms, named) {
         Some(FormRule::BadName)
     } else if is_no_method(pool, forms, named) {
@@ -291,6 +259,7 @@ fn interface_method_rule(
     }
 }
 
+#[tactic(auto, unfolding(pool::specs::Lookups::text_at, crate::specs::Indices::is_bad, crate::specs::Indices::is_other, crate::specs::ConstantForm::texts_have_bad, crate::specs::ConstantForm::texts_have_other, crate::specs::ConstantForm::is_no_unqualified_name, crate::specs::ConstantForm::is_no_descriptor))]
 fn name_and_type_rule(
     pool: &Pool<'_>,
     forms: &TextForms,
@@ -300,13 +269,13 @@ fn name_and_type_rule(
     requires { AreForms pool.now forms.now }
     ensures { result ≡ broken_rule (name_and_type_conditions pool.now name descriptor) }
 {
-    if texts_have_bad(pool, name, descriptor) {
-        Some(FormRule::BadIndex)
-    } else if texts_have_other(pool, name, descriptor) {
-        Some(FormRule::WrongKind)
-    } else if is_no_unqualified_name(pool, forms, name) {
+    let (Ok(name_text), Ok(text)) = (pool.text(name), pool.text(descriptor)) else {
+        return Some(index_rule(texts_have_bad(pool, name, descriptor)));
+    };
+    let form = forms.of(pool, descriptor, text);
+    if !forms.of(pool, name, name_text).unqualified_name {
         Some(FormRule::BadName)
-    } else if is_no_descriptor(pool, forms, descriptor) {
+    } else if !form.field_descriptor && !form.method_descriptor {
         Some(FormRule::BadDescriptor)
     } else {
         None
@@ -316,10 +285,8 @@ fn name_and_type_rule(
 fn method_handle_rule(pool: &Pool<'_>, reference: u16) -> Option<FormRule>
     ensures { result ≡ broken_rule (method_handle_conditions pool.now reference) }
 {
-    if is_bad(pool, reference) {
-        Some(FormRule::BadIndex)
-    } else if is_other(pool, ConstantKind::Reference, reference) {
-        Some(FormRule::WrongKind)
+    if lacks(pool, ConstantKind::Reference, reference) {
+        Some(index_rule(is_bad(pool, reference)))
     } else {
         None
     }
@@ -329,10 +296,8 @@ fn method_type_rule(pool: &Pool<'_>, forms: &TextForms, descriptor: u16) -> Opti
     requires { AreForms pool.now forms.now }
     ensures { result ≡ broken_rule (method_type_conditions pool.now descriptor) }
 {
-    if is_bad(pool, descriptor) {
-        Some(FormRule::BadIndex)
-    } else if is_other(pool, ConstantKind::Utf8, descriptor) {
-        Some(FormRule::WrongKind)
+    if lacks(pool, ConstantKind::Utf8, descriptor) {
+        Some(index_rule(is_bad(pool, descriptor)))
     } else if is_no_method_descriptor(pool, forms, descriptor) {
         Some(FormRule::BadDescriptor)
     } else {
@@ -359,10 +324,8 @@ fn invoke_dynamic_rule(pool: &Pool<'_>, forms: &TextForms, named: u16) -> Option
     requires { AreForms pool.now forms.now }
     ensures { result ≡ broken_rule (invoke_dynamic_conditions pool.now named) }
 {
-    if is_bad(pool, named) {
-        Some(FormRule::BadIndex)
-    } else if is_other(pool, ConstantKind::NameAndType, named) {
-        Some(FormRule::WrongKind)
+    if lacks(pool, ConstantKind::NameAndType, named) {
+        Some(index_rule(is_bad(pool, named)))
     } else if is_no_method(pool, forms, named) {
         Some(FormRule::BadDescriptor)
     } else {

@@ -20,9 +20,9 @@ use std::alloc::Global;
 /// 14 at 0 for more than 16,777,216 bytes, before anything is read, and 16 for a pool without a count;
 /// or 1 where memory runs out.
 pub fn decode(alloc: Global, bytes: &[u8]) -> Result<ClassFile<'_>, ReadFault>
-    // What is answered is spelled by the bytes.
+    // The bytes spell the class that is answered.
     ensures found { IfOk result (λ c. IsClass bytes.now (class_view c)) }
-    // What the bytes spell is answered, unless memory runs out.
+    // A class that the bytes spell is answered, unless memory runs out.
     ensures only { (c : Class) → IsClass bytes.now c → IfErr result (λ e. e ≡ OutOfMemory) }
     // Which fault it is.
     ensures fault { IfErr result (λ e. UnlessMemory e (ClassFault bytes.now e)) }

@@ -1,5 +1,6 @@
 //! Whether a member has the name and the descriptor of an earlier one (JVMS 4.5, 4.6).
 ghost use Rattle.std.specs.Prelude.{◌≡◌, ◌∷◌, ◌++◌, [], map, IfOk};
+ghost use Rattle.std.specs.Str.{bytes_eq};
 ghost use Rattle.classfile.specs.Earlier.{WereMet, Meets};
 ghost use Rattle.classfile.specs.MemberForm.{on_member, are_same, is_among, is_repeated};
 ghost use Rattle.classfile.specs.Views.{member_view};
@@ -7,13 +8,14 @@ ghost use Rattle.pool.specs.Views.{name_and_type_view};
 
 use crate::member::Member;
 use crate::signatures::Signatures;
+use names::Text;
 use pool::{NameAndType, Pool};
 use std::alloc::{AllocError, Global};
 
 /// So many members are compared one with the other: that takes no memory, and less time than a set of their names and descriptors.
-const FEW: usize = 32;
+const FEW: usize = 96;
 
-/// What is kept of the members before one.
+/// The members before one, as they are kept.
 #[derive(Drop)]
 pub enum Earlier<'a> {
     /// Nothing, since they are few: each is looked at.
@@ -50,6 +52,13 @@ impl<'a> Earlier<'a> {
     }
 }
 
+/// Whether the texts are equal. Most differ in their lengths, so these are compared first.
+fn are_equal(a: Text<'_>, b: Text<'_>) -> bool
+    ensures { result ≡ bytes_eq a.entry.bytes.now b.entry.bytes.now }
+{
+    a.bytes().len() == b.bytes().len() && a.bytes() == b.bytes()
+}
+
 /// Whether the member has this name and this descriptor.
 #[tactic(auto, unfolding(pool::specs::Lookups::named))]
 fn is_same(pool: &Pool<'_>, texts: NameAndType<'_>, member: &Member<'_>) -> bool
@@ -58,11 +67,11 @@ fn is_same(pool: &Pool<'_>, texts: NameAndType<'_>, member: &Member<'_>) -> bool
     let Ok(name) = pool.text(member.name) else {
         return false;
     };
-    if texts.name.bytes() != name.bytes() {
+    if !are_equal(texts.name, name) {
         return false;
     }
     match pool.text(member.descriptor) {
-        Ok(descriptor) => texts.descriptor.bytes() == descriptor.bytes(),
+        Ok(descriptor) => are_equal(texts.descriptor, descriptor),
         Err(_) => false,
     }
 }

@@ -25,9 +25,9 @@ fn written(alloc: Global, class: &ClassFile<'_>) -> Result<Vec<u8>, WriteFault>
 /// 17 where a count or a length passes its field or the parts have more than 16,777,216 bytes, and otherwise 18
 /// where no bytes spell the class, as where a raw attribute would be read by field; or 1 where memory runs out.
 pub fn encode(alloc: Global, class: &ClassFile<'_>) -> Result<Vec<u8>, WriteFault>
-    // What is answered spells the class, and which refusal it is.
+    // The bytes that are answered spell the class; and which refusal it is.
     ensures exact { Encodes (class_view class.now) (λ v. v.items) result }
-    // What has a spelling is written, unless memory runs out.
+    // A class that has a spelling is written, unless memory runs out.
     ensures only { (bytes : List ℕ) → AreBytes bytes → IsClass bytes (class_view class.now) → IfErr result (λ e. e ≡ OutOfMemory) }
 {
     written(alloc, class)

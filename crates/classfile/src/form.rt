@@ -118,7 +118,7 @@ pub fn form_check<'c, 'a>(
     alloc: Global,
     class: &'c ClassFile<'a>,
 ) -> Result<Formed<'c, 'a>, FormFault>
-    // What is answered is this class, which is well formed.
+    // The answer is this class, which is well formed.
     ensures same { IfOk result (λ f. f.class.now ≡ class.now) }
     ensures formed { IfOk result (λ _. WellFormed (class_view class.now)) }
     // A class that is well formed is answered, unless memory runs out.

@@ -1,4 +1,4 @@
-//! What follows of the definition of well-formed classes alone, whatever the code does.
+//! Laws that follow of the definition of well-formed classes alone, whatever the code does.
 ghost use Rattle.classfile.specs.FormLaws.{LeastIsTold, NoneIsTold, FormedOrFaulty, OneFirstFault, NoFaultInFormed, FormedHasNames, NamesAreForms, DescriptorsAreSpellings};
 ghost use Rattle.std.specs.Prelude.{◌≡◌, ℕ, List, Some};
 ghost use Rattle.classfile.specs.Methods.{method_of};
@@ -43,7 +43,7 @@ pub fn formed_has_names()
     ensures { FormedHasNames }
 {}
 
-/// What the class file says of a method is what is kept of it, whatever its code says: `A` is what is known of an instruction.
+/// A method is kept as the class file has it, whatever its code says: `A` is what is known of an instruction.
 pub fn method_is_told<A>(method: CodeMethod<'_, '_>)
     ensures { (code : List (ℕ × A)) → method_of (class_view method.entry.class.now) method.entry.number code ≡ Some (code_method_view method.entry code) }
 {}

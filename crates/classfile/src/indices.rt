@@ -1,8 +1,10 @@
-//! What stands at an index of the constant pool: whether it may be looked up, and of which kind it is (JVMS 4.4).
-ghost use Rattle.std.specs.Prelude.{◌≡◌};
+//! The entry at an index of the constant pool: whether it may be looked up, and of which kind it is (JVMS 4.4).
+ghost use Rattle.std.specs.Prelude.{◌≡◌, ◌||◌, if◌then◌else◌};
 ghost use Rattle.classfile.specs.Indices.{is_of, is_bad, is_bad_unless_zero, is_other};
+ghost use Rattle.classfile.specs.declared.form_fault.FormRule.TheVariants.{BadIndex, WrongKind};
 ghost use Rattle.pool.specs.Views.{view};
 
+use crate::form_fault::FormRule;
 use pool::{Constant, Pool};
 
 /// The kinds of constants that class files ask for at an index.
@@ -67,5 +69,35 @@ pub fn is_other(pool: &Pool<'_>, kind: ConstantKind, index: u16) -> bool
     match pool.get(index) {
         Ok(constant) => !is_of(kind, &constant),
         Err(_) => false,
+    }
+}
+
+/// Whether no constant of the kind stands at the index.
+#[tactic(auto, unfolding(crate::specs::Indices::is_bad, crate::specs::Indices::is_other))]
+pub fn lacks(pool: &Pool<'_>, kind: ConstantKind, index: u16) -> bool
+    ensures { result ≡ (is_bad pool.now index || is_other pool.now kind index) }
+{
+    match pool.get(index) {
+        Ok(constant) => !is_of(kind, &constant),
+        Err(_) => true,
+    }
+}
+
+/// Whether no constant of the kind stands at the index, which may be 0.
+#[tactic(auto, unfolding(crate::specs::Indices::is_other, pool::specs::Lookups::entry_at))]
+pub fn lacks_unless_zero(pool: &Pool<'_>, kind: ConstantKind, index: u16) -> bool
+    ensures { result ≡ (is_bad_unless_zero pool.now index || is_other pool.now kind index) }
+{
+    index != 0 && lacks(pool, kind, index)
+}
+
+/// The rule that is told of indices that break one: 20 where one may not be looked up.
+pub fn index_rule(bad: bool) -> FormRule
+    ensures { result ≡ (if bad then BadIndex else WrongKind) }
+{
+    if bad {
+        FormRule::BadIndex
+    } else {
+        FormRule::WrongKind
     }
 }

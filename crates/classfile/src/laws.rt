@@ -1,4 +1,4 @@
-//! What follows of the layout of class files alone, whatever the code does.
+//! Laws that follow of the layout of class files alone, whatever the code does.
 ghost use Rattle.classfile.specs.OutlineLaws.{ClassIsOutline, OneOutline, OutlineOrFault, NoFaultBehindOutline};
 ghost use Rattle.classfile.specs.Laws.{OneClass, OneSpelling, ClassOrFault, NoFaultInClass, OneFault};
 

@@ -6,7 +6,7 @@ ghost use Rattle.classfile.specs.LayoutViews.{row_view};
 use crate::location::Location;
 use pool::Pool;
 
-/// What a number in the body of an attribute is.
+/// The meaning of a number in the body of an attribute.
 #[derive(Clone, Copy, Debug, PartialEq, Eq)]
 pub enum Column {
     /// It names no constant.
@@ -34,7 +34,7 @@ pub struct Row {
     pub once: bool,
     /// Whether a count stands before the rows; otherwise there is one row.
     pub counted: bool,
-    /// What the numbers of a row are.
+    /// The meanings of the numbers of a row.
     pub columns: &'static [Column],
 }
 
@@ -101,7 +101,8 @@ pub fn rows(location: Location) -> &'static [Row]
 pub fn is_row(row: &Row, major: u16, name: &[u8]) -> bool
     ensures { result ≡ is_row major name.now (row_view row.now) }
 {
-    row.first_major <= major && name == row.name.as_bytes()
+    let text = row.name.as_bytes();
+    row.first_major <= major && name.len() == text.len() && name == text
 }
 
 /// The first row of this name.

@@ -1,5 +1,5 @@
 //! Which rule a field or a method breaks (JVMS 4.5, 4.6).
-ghost use Rattle.std.specs.Prelude.{◌≡◌};
+ghost use Rattle.std.specs.Prelude.{◌≡◌, ◌||◌};
 ghost use Rattle.classfile.specs.Conditions.{broken_rule};
 ghost use Rattle.classfile.specs.MemberForm.{member_has_bad, member_has_other, field_conditions, may_name_method, is_bad_method_name, may_describe_method, is_badly_described, is_instance_initializer, is_class_initializer, is_badly_flagged, has_body, body_conditions, method_conditions};
 ghost use Rattle.classfile.specs.TextForms.{form_of, AreForms};
@@ -7,13 +7,14 @@ ghost use Rattle.classfile.specs.Views.{member_view};
 ghost use Rattle.pool.specs.Views.{name_and_type_view};
 
 use crate::attribute_form::{
-    attributes_have_bad, attributes_have_other, has_code, have_bad_length, have_twice,
+    attributes_have_bad, attributes_have_fault, has_code, have_bad_length, have_twice,
 };
 use crate::constant_form::{
-    is_no_field_descriptor, is_no_unqualified_name, texts_have_bad, texts_have_other,
+    is_no_field_descriptor, is_no_unqualified_name, texts_have_bad, texts_have_fault,
 };
 use crate::flags::{ABSTRACT, NATIVE, STATIC, are_bad_field_flags, are_bad_method_flags, has};
 use crate::form_fault::FormRule;
+use crate::indices::index_rule;
 use crate::location::Location;
 use crate::member::Member;
 use crate::naming::{is_clinit, is_init};
@@ -30,12 +31,13 @@ fn member_has_bad(pool: &Pool<'_>, location: Location, member: &Member<'_>) -> b
         || attributes_have_bad(pool, location, &member.attributes)
 }
 
-#[tactic(auto, unfolding(crate::specs::MemberForm::member_has_other))]
-fn member_has_other(pool: &Pool<'_>, location: Location, member: &Member<'_>) -> bool
-    ensures { result ≡ member_has_other pool.now location (member_view member.now) }
+/// Whether one of its indices breaks a rule, 20 or 21; each is looked up once for both.
+#[tactic(auto, unfolding(crate::specs::MemberForm::member_has_bad, crate::specs::MemberForm::member_has_other))]
+fn member_has_fault(pool: &Pool<'_>, location: Location, member: &Member<'_>) -> bool
+    ensures { result ≡ (member_has_bad pool.now location (member_view member.now) || member_has_other pool.now location (member_view member.now)) }
 {
-    texts_have_other(pool, member.name, member.descriptor)
-        || attributes_have_other(pool, location, &member.attributes)
+    texts_have_fault(pool, member.name, member.descriptor)
+        || attributes_have_fault(pool, location, &member.attributes)
 }
 
 /// The rule that a field breaks; `repeated` where an earlier one has its name and descriptor.
@@ -48,10 +50,8 @@ pub fn field_rule(
     requires { AreForms pool.now forms.now }
     ensures { result ≡ broken_rule (field_conditions pool.now repeated (member_view field.now)) }
 {
-    if member_has_bad(pool, Location::Field, field) {
-        Some(FormRule::BadIndex)
-    } else if member_has_other(pool, Location::Field, field) {
-        Some(FormRule::WrongKind)
+    if member_has_fault(pool, Location::Field, field) {
+        Some(index_rule(member_has_bad(pool, Location::Field, field)))
     } else if is_no_unqualified_name(pool, forms, field.name) {
         Some(FormRule::BadName)
     } else if is_no_field_descriptor(pool, forms, field.descriptor) {
@@ -167,10 +167,8 @@ pub fn method_rule(
     requires { AreForms pool.now forms.now }
     ensures { result ≡ broken_rule (method_conditions pool.now interface repeated (member_view method.now)) }
 {
-    if member_has_bad(pool, Location::Method, method) {
-        Some(FormRule::BadIndex)
-    } else if member_has_other(pool, Location::Method, method) {
-        Some(FormRule::WrongKind)
+    if member_has_fault(pool, Location::Method, method) {
+        Some(index_rule(member_has_bad(pool, Location::Method, method)))
     } else if is_bad_method_name(pool, forms, interface, method.name) {
         Some(FormRule::BadName)
     } else if is_badly_described(pool, forms, method) {

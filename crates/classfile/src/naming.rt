@@ -34,14 +34,14 @@ pub fn name_forms(text: Text<'_>) -> NameForms
 pub fn is_init(text: Text<'_>) -> bool
     ensures { result ≡ is_init text.entry.bytes.now }
 {
-    text.bytes() == INIT
+    begins_with(text, b'<') && text.bytes() == INIT
 }
 
 /// Whether the text is the name of class initialization methods (JVMS 2.9.2).
 pub fn is_clinit(text: Text<'_>) -> bool
     ensures { result ≡ is_clinit text.entry.bytes.now }
 {
-    text.bytes() == b"<clinit>".as_slice()
+    begins_with(text, b'<') && text.bytes() == b"<clinit>".as_slice()
 }
 
 /// Whether the text is the descriptor of a field.

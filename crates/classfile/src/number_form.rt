@@ -1,9 +1,12 @@
-//! What may be wrong with the numbers in an attribute's body (JVMS 4.7): the indices among them, column by column.
-ghost use Rattle.std.specs.Prelude.{◌≡◌, if◌then◌else◌, Some, None, option_map};
+//! The faults that the numbers in an attribute's body may have (JVMS 4.7): the indices among them, column by column.
+ghost use Rattle.std.specs.Prelude.{◌≡◌, ◌||◌, if◌then◌else◌, Some, None, option_map};
 ghost use Rattle.classfile.specs.LayoutViews.{row_view};
+ghost use Rattle.classfile.specs.declared.number_form.IndexRule.TheVariants as rules;
 ghost use Rattle.classfile.specs.NumberForm.{is_bad_in, is_other_in, breaks, row_breaks, behind_row, rows_break, counted_break, is_plain, are_plain, body_breaks, numbers_break};
 
-use crate::indices::{ConstantKind, is_bad, is_bad_unless_zero, is_other};
+use crate::indices::{
+    ConstantKind, is_bad, is_bad_unless_zero, is_other, lacks, lacks_unless_zero,
+};
 use crate::layouts::{Column, Row, row_at};
 use crate::location::Location;
 use pool::Pool;
@@ -13,8 +16,10 @@ use pool::Pool;
 pub enum IndexRule {
     /// It may be looked up: 20.
     BadIndex,
-    /// What stands there is of the kind that is asked: 21.
+    /// The entry there is of the kind that is asked: 21.
     WrongKind,
+    /// Both of them.
+    Both,
 }
 
 fn is_bad_in(pool: &Pool<'_>, column: Column, number: u16) -> bool
@@ -38,16 +43,31 @@ fn is_other_in(pool: &Pool<'_>, column: Column, number: u16) -> bool
     }
 }
 
+/// The same by one look-up for both rules.
+fn is_unfit_in(pool: &Pool<'_>, column: Column, number: u16) -> bool
+    ensures { result ≡ (is_bad_in pool.now column number || is_other_in pool.now column number) }
+{
+    match column {
+        Column::Plain => false,
+        Column::Text => lacks(pool, ConstantKind::Utf8, number),
+        Column::TextOrZero => lacks_unless_zero(pool, ConstantKind::Utf8, number),
+        Column::Class => lacks(pool, ConstantKind::Class, number),
+        Column::ClassOrZero => lacks_unless_zero(pool, ConstantKind::Class, number),
+        Column::Value => lacks(pool, ConstantKind::Value, number),
+    }
+}
+
 fn breaks(pool: &Pool<'_>, rule: IndexRule, column: Column, number: u16) -> bool
     ensures { result ≡ breaks pool.now rule column number }
 {
     match rule {
         IndexRule::BadIndex => is_bad_in(pool, column, number),
         IndexRule::WrongKind => is_other_in(pool, column, number),
+        IndexRule::Both => is_unfit_in(pool, column, number),
     }
 }
 
-/// What stands behind a row of numbers, if none of them breaks the rule.
+/// The bytes behind a row of numbers, if none of them breaks the rule.
 fn sound_row<'b>(
     pool: &Pool<'_>,
     rule: IndexRule,
@@ -163,4 +183,11 @@ pub fn numbers_break(
         Some(row) => indices_break(pool, rule, row, body),
         None => false,
     }
+}
+
+/// Whether an index in the body of an attribute of this name breaks one of the two rules; each is looked up once.
+pub fn numbers_have_fault(pool: &Pool<'_>, location: Location, name: u16, body: &[u8]) -> bool
+    ensures { result ≡ (numbers_break pool.now location rules.BadIndex name body.now || numbers_break pool.now location rules.WrongKind name body.now) }
+{
+    numbers_break(pool, location, IndexRule::Both, name, body)
 }

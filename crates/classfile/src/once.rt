@@ -12,7 +12,7 @@ use pool::Pool;
 
 /// An attribute of a table that may have attributes of numbers.
 pub trait Tabled {
-    // What those hold that are read by field.
+    // The value of those that are read by field.
     ghost Held: { Type 0 };
 
     // An attribute without where its slices lie in memory.
@@ -85,12 +85,19 @@ fn row_stands_twice<A: Tabled>(
             > 1
 }
 
-/// Whether two attributes of numbers are among them of which there may be one.
 #[tactic(auto, unfolding(crate::specs::NumberForm::numbers_stand_twice))]
-pub fn numbers_stand_twice<A: Tabled>(pool: &Pool<'_>, location: Location, attributes: &[A]) -> bool
+fn one_stands_twice<A: Tabled>(pool: &Pool<'_>, location: Location, attributes: &[A]) -> bool
     ensures { result ≡ numbers_stand_twice pool.now location (map A.attribute attributes.now) }
 {
     rows(location)
         .iter()
         .any(|row| row_stands_twice(pool, location, attributes, row))
+}
+
+/// Whether two attributes of numbers are among them of which there may be one. Most tables have one attribute at most.
+#[tactic(auto, unfolding(crate::specs::NumberForm::numbers_stand_twice))]
+pub fn numbers_stand_twice<A: Tabled>(pool: &Pool<'_>, location: Location, attributes: &[A]) -> bool
+    ensures { result ≡ numbers_stand_twice pool.now location (map A.attribute attributes.now) }
+{
+    attributes.len() > 1 && one_stands_twice(pool, location, attributes)
 }

@@ -121,7 +121,7 @@ fn tagged<R: Read>(reading: &mut Reading, reader: &mut R, last: bool) -> Result<
     Ok(is_wide(tag))
 }
 
-/// What stands at an index, and whether it takes the next one too.
+/// Reads the entry at an index, and tells whether it takes the next one too.
 #[tactic(auto, using(crate::proofs::Outlines::steps), unfolding(crate::specs::Outline::indexed))]
 fn indexed<R: Read>(
     reading: &mut Reading,
@@ -250,7 +250,7 @@ fn interfaces<R: Read>(reading: &mut Reading, reader: &mut R) -> Result<(), Stre
     numbers(reading, reader, count)
 }
 
-/// What stands behind the constant pool.
+/// Reads the part behind the constant pool.
 #[tactic(auto, using(crate::proofs::Outlines::steps), unfolding(crate::specs::Outline::behind_pool))]
 fn behind_pool<R: Read>(reading: &mut Reading, reader: &mut R) -> Result<(), StreamFault>
     ensures { Streams behind_pool (λ x. x) reading.old.bytes reading.new.bytes (R.remaining reader.old) (R.remaining reader.new) result }

@@ -17,10 +17,10 @@ use std::io::Read;
 /// before the bytes are there: there is never memory for more than 8,192 bytes beyond those that were read.
 #[tactic(auto, using(crate::proofs::OutlineFaults::known_faults))]
 pub fn read_class<R: Read>(alloc: Global, reader: &mut R) -> Result<Vec<u8>, StreamFault>
-    // What is answered is an outline, and this is what was taken.
+    // The answer is an outline, and just this was taken.
     ensures found { IfOk result (λ v. IsOutline v.items × Consumes (R.remaining reader.old) (R.remaining reader.new) v.items) }
     ensures room { IfOk result (λ v. vec_capacity v ≤ length v.items + 8192) }
-    // What was taken, and why no more.
+    // So much was taken, and why no more.
     // Which fault it is of what the reader gives, where that is known; so an outline in front of it is answered unless it is lost.
     ensures fault { IfErr result (λ e. IfSome (R.remaining reader.old) (λ stream. IsLostOr (OutlineFault stream) e.why)) }
     ensures stopped { IfErr result (λ e. Stopped (R.remaining reader.old) (R.remaining reader.new) e) }

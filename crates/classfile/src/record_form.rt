@@ -1,16 +1,16 @@
-//! What may be wrong with the attributes of a class (JVMS 4.7), and with the components of a record (4.7.30).
-ghost use Rattle.std.specs.Prelude.{◌≡◌, map};
+//! The faults that the attributes of a class may have (JVMS 4.7), and the components of a record (4.7.30).
+ghost use Rattle.std.specs.Prelude.{◌≡◌, ◌||◌, map};
 ghost use Rattle.classfile.specs.AttributeForm.{is_by_field, on_body};
 ghost use Rattle.classfile.specs.RecordForm.{component_has_bad, component_has_other, component_has_twice, components_have_bad, components_have_other, components_have_twice, class_attribute_has_bad, class_attribute_has_other, class_attributes_have_bad, class_attributes_have_other, record_stands_twice, records_have_twice, class_attributes_have_twice};
 ghost use Rattle.classfile.specs.Views.{component_view, class_attribute_view};
 
-use crate::attribute_form::{attributes_have_bad, attributes_have_other};
+use crate::attribute_form::{attributes_have_bad, attributes_have_fault};
 use crate::class_attribute::ClassAttribute;
 use crate::component::Component;
-use crate::constant_form::{texts_have_bad, texts_have_other};
-use crate::indices::{ConstantKind, is_bad, is_other};
+use crate::constant_form::{texts_have_bad, texts_have_fault};
+use crate::indices::{ConstantKind, is_bad, lacks};
 use crate::location::Location;
-use crate::number_form::{IndexRule, numbers_break};
+use crate::number_form::{IndexRule, numbers_break, numbers_have_fault};
 use crate::once::numbers_stand_twice;
 use pool::Pool;
 
@@ -22,12 +22,13 @@ fn component_has_bad(pool: &Pool<'_>, component: &Component<'_>) -> bool
         || attributes_have_bad(pool, Location::RecordComponent, &component.attributes)
 }
 
-#[tactic(auto, unfolding(crate::specs::RecordForm::component_has_other))]
-fn component_has_other(pool: &Pool<'_>, component: &Component<'_>) -> bool
-    ensures { result ≡ component_has_other pool.now (component_view component.now) }
+/// Whether one of its indices breaks a rule, 20 or 21; each is looked up once for both, here and in what follows.
+#[tactic(auto, unfolding(crate::specs::RecordForm::component_has_bad, crate::specs::RecordForm::component_has_other))]
+fn component_has_fault(pool: &Pool<'_>, component: &Component<'_>) -> bool
+    ensures { result ≡ (component_has_bad pool.now (component_view component.now) || component_has_other pool.now (component_view component.now)) }
 {
-    texts_have_other(pool, component.name, component.descriptor)
-        || attributes_have_other(pool, Location::RecordComponent, &component.attributes)
+    texts_have_fault(pool, component.name, component.descriptor)
+        || attributes_have_fault(pool, Location::RecordComponent, &component.attributes)
 }
 
 #[tactic(auto, unfolding(crate::specs::RecordForm::component_has_twice))]
@@ -44,11 +45,11 @@ fn components_have_bad(pool: &Pool<'_>, components: &[Component<'_>]) -> bool
     components.iter().any(|c| component_has_bad(pool, c))
 }
 
-#[tactic(auto, unfolding(crate::specs::RecordForm::components_have_other))]
-fn components_have_other(pool: &Pool<'_>, components: &[Component<'_>]) -> bool
-    ensures { result ≡ components_have_other pool.now (map component_view components.now) }
+#[tactic(auto, unfolding(crate::specs::RecordForm::components_have_bad, crate::specs::RecordForm::components_have_other))]
+fn components_have_fault(pool: &Pool<'_>, components: &[Component<'_>]) -> bool
+    ensures { result ≡ (components_have_bad pool.now (map component_view components.now) || components_have_other pool.now (map component_view components.now)) }
 {
-    components.iter().any(|c| component_has_other(pool, c))
+    components.iter().any(|c| component_has_fault(pool, c))
 }
 
 #[tactic(auto, unfolding(crate::specs::RecordForm::components_have_twice))]
@@ -76,21 +77,21 @@ fn class_attribute_has_bad(
     }
 }
 
-#[tactic(auto, unfolding(crate::specs::RecordForm::class_attribute_has_other, crate::specs::AttributeForm::head_has_other))]
-fn class_attribute_has_other(
+#[tactic(auto, unfolding(crate::specs::RecordForm::class_attribute_has_bad, crate::specs::RecordForm::class_attribute_has_other, crate::specs::AttributeForm::head_has_bad, crate::specs::AttributeForm::head_has_other))]
+fn class_attribute_has_fault(
     pool: &Pool<'_>,
     location: Location,
     attribute: &ClassAttribute<'_>,
 ) -> bool
-    ensures { result ≡ class_attribute_has_other pool.now location (class_attribute_view attribute.now) }
+    ensures { result ≡ (class_attribute_has_bad pool.now location (class_attribute_view attribute.now) || class_attribute_has_other pool.now location (class_attribute_view attribute.now)) }
 {
     match attribute {
         ClassAttribute::Record { name, components } => {
-            is_other(pool, ConstantKind::Utf8, *name) || components_have_other(pool, components)
+            lacks(pool, ConstantKind::Utf8, *name) || components_have_fault(pool, components)
         }
         ClassAttribute::Raw { name, body } => {
-            is_other(pool, ConstantKind::Utf8, *name)
-                || numbers_break(pool, location, IndexRule::WrongKind, *name, body)
+            lacks(pool, ConstantKind::Utf8, *name)
+                || numbers_have_fault(pool, location, *name, body)
         }
     }
 }
@@ -109,18 +110,18 @@ pub fn class_attributes_have_bad(
         .any(|a| class_attribute_has_bad(pool, location, a))
 }
 
-/// Whether an index in the attributes of a class leads to another kind.
-#[tactic(auto, unfolding(crate::specs::RecordForm::class_attributes_have_other))]
-pub fn class_attributes_have_other(
+/// Whether an index in the attributes of a class may not be looked up, or leads to another kind.
+#[tactic(auto, unfolding(crate::specs::RecordForm::class_attributes_have_bad, crate::specs::RecordForm::class_attributes_have_other))]
+pub fn class_attributes_have_fault(
     pool: &Pool<'_>,
     location: Location,
     attributes: &[ClassAttribute<'_>],
 ) -> bool
-    ensures { result ≡ class_attributes_have_other pool.now location (map class_attribute_view attributes.now) }
+    ensures { result ≡ (class_attributes_have_bad pool.now location (map class_attribute_view attributes.now) || class_attributes_have_other pool.now location (map class_attribute_view attributes.now)) }
 {
     attributes
         .iter()
-        .any(|a| class_attribute_has_other(pool, location, a))
+        .any(|a| class_attribute_has_fault(pool, location, a))
 }
 
 fn is_record(attribute: &ClassAttribute<'_>) -> bool

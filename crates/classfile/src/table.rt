@@ -26,7 +26,7 @@ pub trait Item<'a>: Sized {
     // Which bytes spell which value.
     ghost format: { List Entry → Location → Format View };
 
-    // What a value is written as.
+    // The pieces that a value is written as.
     ghost pieces: { List Entry → Location → View → List Piece };
 
     fn take(

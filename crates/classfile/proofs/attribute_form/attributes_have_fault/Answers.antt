@@ -1,0 +1,19 @@
+use Rattle.std.proofs.Common.{rules, tests, ◌≡◌, ◌∙◌, Bool, ◌||◌, map}
+use Rattle.std.specs.List.{list_any}
+use Rattle.std.proofs.lemmas.Iterator.{YieldsList-from_slice}
+use Rattle.std.proofs.lemmas.Iterator.Search.{any_from_yields_List}
+use Rattle.classfile.specs.AttributeForm.{attribute_has_bad, attribute_has_other, attributes_have_bad, attributes_have_other}
+use Rattle.classfile.specs.Values.{Attribute}
+use Rattle.classfile.specs.Views.{attribute_view}
+use Rattle.classfile.proofs.Tables.{any_viewed, any_either}
+use Rattle.classfile.proofs.attribute_form.attributes_have_fault.Goals as goal
+
+pub returns : goal.returns
+unfolding attributes_have_bad attributes_have_other
+returns c =
+    let xs = c.args.attributes.now in
+    let bad : Attribute → Bool = attribute_has_bad c.args.pool.now c.args.location in
+    let other : Attribute → Bool = attribute_has_other c.args.pool.now c.args.location in
+    let e : c.any.result ≡ list_any (λ a. bad (attribute_view a) || other (attribute_view a)) xs =
+    any_from_yields_List (λ a. bad (attribute_view a) || other (attribute_view a)) _ _ c.any.result c.any.ensures.ran (YieldsList-from_slice xs cc) (λ x b q k. search (rules, tests)) in
+    e ∙ any_viewed (λ a. bad a || other a) attribute_view xs ∙ any_either bad other (map attribute_view xs)
