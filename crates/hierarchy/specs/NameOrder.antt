@@ -30,6 +30,7 @@ name_order a b = ordering_then (nat_cmp a.hash b.hash) (slice_cmp nat_cmp a.name
 abbrev pub key_order : Key → Key → Ordering
 key_order a b = ordering_then (name_order a b) (nat_cmp a.place b.place)
 
+-- the key of a named place
 abbrev pub key : NamedPlace → Key
 key n = record { hash = n.hash; name = n.name.now; place = n.place }
 

@@ -1,4 +1,4 @@
-//! A list of classes with a table of their names.
+//! A list of classes, each found by its name.
 ghost use Rattle.std.specs.Prelude.{◌≡◌, ◌↔◌, length, IsTrue, IfOk, IfErr, MatchOption, option_map, position};
 ghost use Rattle.std.specs.Option.{option_copied};
 ghost use Rattle.std.specs.Str.{bytes_eq};
@@ -16,7 +16,7 @@ use std::alloc::{AllocError, Global};
 use std::hash::BuildHasher;
 use std::marker::Model;
 
-/// A list of classes, each found by its name. Of each class it keeps 16 bytes beyond the list.
+/// A list of classes and the order of their names. Of each class it keeps 16 bytes beyond the list.
 #[derive(Drop)]
 pub struct Index<'s, 'a, S: BuildHasher> {
     classes: &'s [Summary<'a>],

@@ -91,7 +91,7 @@ fn name_at<'a>(classes: &[Summary<'a>], place: usize) -> &'a [u8]
     }
 }
 
-// How a slot stands to a name with its hash.
+// The order of a slot and a name that is given with its hash.
 fn order_to(classes: &[Summary<'_>], slot: Slot, hash: u64, name: &[u8]) -> Ordering
     ensures { result ≡ name_order (key_of (facts_of classes.now) slot) (record { hash = hash; name = name.now; place = 0 }) }
 {
@@ -101,7 +101,7 @@ fn order_to(classes: &[Summary<'_>], slot: Slot, hash: u64, name: &[u8]) -> Orde
     }
 }
 
-/// The lowest place of a name, which is given with its hash.
+/// The place of the first class of a name, which is given with its hash.
 pub fn place_of(classes: &[Summary<'_>], slots: &[Slot], hash: u64, name: &[u8]) -> Option<usize>
     requires { (h : List ℕ → ℕ) × AreSlots h (facts_of classes.now) slots.now × (hash ≡ h name.now) }
     ensures { result ≡ position (λ c. bytes_eq name.now c.name) (facts_of classes.now) }
