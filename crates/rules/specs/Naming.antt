@@ -13,7 +13,7 @@ use Rattle.classfile.specs.Methods.{is_own_field}
 use Rattle.insn.specs.Meanings as acts
 use Rattle.insn.specs.Meanings.{Act}
 use Rattle.rules.specs.declared.naming.Named.{Named}
-use Rattle.rules.specs.declared.naming.Named.TheVariants.{Nothing, Class, Field, Method}
+use Rattle.rules.specs.declared.naming.Named.TheVariants.{Class, Field, Method}
 
 -- the Class constant of a type
 abbrev pub class_index : Act → Option ℕ

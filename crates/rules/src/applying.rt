@@ -17,6 +17,7 @@ use crate::reason::Reason;
 use crate::running::run;
 use crate::ways::{branches, falls};
 use crate::working::Working;
+use classfile::OwnFields;
 use frames::Frame;
 use hierarchy::Classes;
 use insn::{BranchTargets, Insn, act};

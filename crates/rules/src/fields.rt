@@ -1,7 +1,5 @@
 //! Instructions that read and write fields.
 ghost use Rattle.std.specs.Prelude.{◌≡◌, ℕ, Some, option_map};
-ghost use Rattle.classfile.specs.Methods.{Method};
-ghost use Rattle.insn.specs.Meanings.{Act};
 ghost use Rattle.pool.specs.MemberViews.{field_constant_view};
 ghost use Rattle.rules.specs.Constants.{get_static, put_static, get_field, put_field, target_of};
 ghost use Rattle.rules.specs.After.{after};
@@ -81,8 +79,9 @@ pub fn get_field<'a, C: Classes>(
 
 /// The want of `putfield` for the object: in an instance initialization method it may be the own one, where its class declares
 /// the field.
-fn target_of<'a>(field: &FieldConstant<'a>, own: bool) -> Want<'a>
-    ensures { (m : Method Act) → own ≡ is_own m (Some (field_constant_view field.now)) → want_view result ≡ target_of m (field_constant_view field.now) }
+fn target_of<'a>(_method: &CodeMethod<'_, 'a>, field: &FieldConstant<'a>, own: bool) -> Want<'a>
+    requires { own ≡ is_own (method_view _method.now) (Some (field_constant_view field.now)) }
+    ensures { want_view result ≡ target_of (method_view _method.now) (field_constant_view field.now) }
 {
     if own {
         Want::OwnOr(field.class)
@@ -107,7 +106,7 @@ pub fn put_field<'a, C: Classes>(
     match named {
         None => Err(Reason::WrongConstant),
         Some(field) => {
-            let target = target_of(&field, own);
+            let target = target_of(method, &field, own);
             pops(
                 method,
                 &[want_of(&field.field_type), target],

@@ -124,7 +124,9 @@ pub fn named_by<'a>(
         Act::InvokeVirtual { index }
         | Act::InvokeSpecial { index }
         | Act::InvokeStatic { index }
-        | Act::InvokeInterface { index, .. } => Ok(Named::Method(constants.method_constant(index)?)),
+        | Act::InvokeInterface { index, .. } => Ok(Named::Method(constants.method_constant(
+            index,
+        )?)),
         _ => Ok(Named::Nothing),
     }
 }

@@ -84,9 +84,7 @@ pub fn run<'a, S: Starts, C: Classes>(
         Act::GetStatic { .. } => get_static(method, named.field(), frame, classes),
         Act::PutStatic { .. } => put_static(method, named.field(), frame, classes),
         Act::GetField { .. } => get_field(method, named.field(), frame, classes),
-        Act::PutField { .. } => {
-            put_field(method, named.field(), named.is_own(), frame, classes)
-        }
+        Act::PutField { .. } => { put_field(method, named.field(), named.is_own(), frame, classes) }
         Act::InvokeVirtual { .. } => invoke_virtual(alloc, method, named.method(), frame, classes),
         Act::InvokeSpecial { .. } => {
             invoke_special(alloc, method, named.method(), starts, frame, classes)

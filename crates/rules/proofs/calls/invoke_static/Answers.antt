@@ -1,4 +1,4 @@
-use Rattle.std.proofs.Common.{ap, sym, ◌∙◌}
+use Rattle.std.proofs.Common.{ap, sym}
 use Rattle.std.specs.Prelude.{not, ◌&&◌, option_map}
 use Rattle.names.specs.ReferenceTypes.{is_class_type}
 use Rattle.pool.specs.MemberViews.{method_constant_view}

@@ -1,4 +1,4 @@
-use Rattle.std.proofs.Common.{ap, sym, ◌∙◌}
+use Rattle.std.proofs.Common.{ap, sym}
 use Rattle.std.specs.Prelude.{not, ◌&&◌, option_map}
 use Rattle.pool.specs.MemberViews.{method_constant_view}
 use Rattle.rules.specs.Bodies.{method_view}

@@ -9,26 +9,33 @@ use Rattle.rules.specs.Rules.{conditions}
 use Rattle.rules.specs.Bodies.{method_view}
 use Rattle.rules.specs.Outcomes.{Done}
 use Rattle.rules.proofs.Settling.{returned, by_plan}
-use Rattle.std.specs.Prelude.{List, option_map}
+use Rattle.std.specs.Prelude.{Option, option_map}
 use Rattle.std.specs.Option.{option_and_then}
 use Rattle.names.specs.References.{reference_view}
-use Rattle.pool.specs.Entries.{Entry}
+use Rattle.names.specs.declared.references.RefType.{RefType}
+use Rattle.pool.specs.declared.reference.FieldConstant.{FieldConstant}
 use Rattle.pool.specs.Members.{class_at, field_at, method_at}
 use Rattle.pool.specs.MemberViews.{field_constant_view, method_constant_view}
+use Rattle.classfile.specs.Methods.{Method}
+use Rattle.insn.specs.Meanings as acts
 use Rattle.insn.specs.declared.operation.Act.{Act}
 use Rattle.rules.specs.declared.naming.Named.{Named}
-use Rattle.rules.specs.Naming.{IsNamed, class_index, field_index, method_index}
+use Rattle.rules.specs.Naming.{IsNamed, class_index, field_index, method_index, kept_class, kept_field, kept_method}
 use Rattle.rules.specs.Constants.{get_static, put_static, get_field, put_field, invoke_static, invoke_virtual, invoke_special, invoke_interface, new_reference_array, new_multi_array, check_cast, instance_of}
 use Rattle.rules.proofs.running.run.Goals as goal
 
-class_is : (pool : List Entry) (act other : Act) (n : Named) → IsNamed pool (act_view act) n → act ≡ other → option_map reference_view n.class ≡ option_and_then (class_at pool) (class_index (act_view other))
-class_is pool act other n h e = h.class ∙ ap (λ a. option_and_then (class_at pool) (class_index (act_view a))) e
+class_is : (m : Method acts.Act) (act other : Act) (n : Named) (r : Option RefType) → r ≡ kept_class n → IsNamed m (act_view act) n → act ≡ other
+    → option_map reference_view r ≡ option_and_then (class_at m.constant_pool) (class_index (act_view other))
+class_is m act other n r k h e = ap (option_map reference_view) k ∙ h.class ∙ ap (λ a. option_and_then (class_at m.constant_pool) (class_index (act_view a))) e
 
-field_is : (pool : List Entry) (act other : Act) (n : Named) → IsNamed pool (act_view act) n → act ≡ other → option_map field_constant_view n.field ≡ option_and_then (field_at pool) (field_index (act_view other))
-field_is pool act other n h e = h.field ∙ ap (λ a. option_and_then (field_at pool) (field_index (act_view a))) e
+field_is : (m : Method acts.Act) (act other : Act) (n : Named) (r : Option FieldConstant) → r ≡ kept_field n → IsNamed m (act_view act) n → act ≡ other
+    → option_map field_constant_view r ≡ option_and_then (field_at m.constant_pool) (field_index (act_view other))
+field_is m act other n r k h e =
+    ap (option_map field_constant_view) k ∙ h.field ∙ ap (λ a. option_and_then (field_at m.constant_pool) (field_index (act_view a))) e
 
-method_is : (pool : List Entry) (act other : Act) (n : Named) → IsNamed pool (act_view act) n → act ≡ other → option_map method_constant_view n.method ≡ option_and_then (method_at pool) (method_index (act_view other))
-method_is pool act other n h e = h.method ∙ ap (λ a. option_and_then (method_at pool) (method_index (act_view a))) e
+method_is : (m : Method acts.Act) (act other : Act) (n : Named) → IsNamed m (act_view act) n → act ≡ other
+    → option_map method_constant_view (kept_method n) ≡ option_and_then (method_at m.constant_pool) (method_index (act_view other))
+method_is m act other n h e = h.method ∙ ap (λ a. option_and_then (method_at m.constant_pool) (method_index (act_view a))) e
 
 pub returns-in-LoadConstant : goal.returns-in-LoadConstant
 returns-in-LoadConstant g c =
@@ -46,43 +53,43 @@ pub returns-in-GetStatic : goal.returns-in-GetStatic
 returns-in-GetStatic g c =
     let m = method_view c.args.method.now in
     by_plan m c.args.at (plan m (act_view c.args.act)) _ (g.C.Classes.content c.args.classes.now) (held c.args.frame.now) (held c.get_static.new.frame) c.get_static.result
-    (ap (λ a. plan m (act_view a)) c.in-GetStatic.is ∙ sym (ap (get_static) (field_is m.constant_pool c.args.act _ c.args.named.now c.requires.named c.in-GetStatic.is))) (c.get_static.ensures c.args.at)
+    (ap (λ a. plan m (act_view a)) c.in-GetStatic.is ∙ sym (ap (get_static) (field_is m c.args.act _ c.args.named.now c.field.result c.field.ensures c.requires.named c.in-GetStatic.is))) (c.get_static.ensures c.args.at)
 
 pub returns-in-PutStatic : goal.returns-in-PutStatic
 returns-in-PutStatic g c =
     let m = method_view c.args.method.now in
     by_plan m c.args.at (plan m (act_view c.args.act)) _ (g.C.Classes.content c.args.classes.now) (held c.args.frame.now) (held c.put_static.new.frame) c.put_static.result
-    (ap (λ a. plan m (act_view a)) c.in-PutStatic.is ∙ sym (ap (put_static) (field_is m.constant_pool c.args.act _ c.args.named.now c.requires.named c.in-PutStatic.is))) (c.put_static.ensures c.args.at)
+    (ap (λ a. plan m (act_view a)) c.in-PutStatic.is ∙ sym (ap (put_static) (field_is m c.args.act _ c.args.named.now c.field-in-PutStatic.result c.field-in-PutStatic.ensures c.requires.named c.in-PutStatic.is))) (c.put_static.ensures c.args.at)
 
 pub returns-in-GetField : goal.returns-in-GetField
 returns-in-GetField g c =
     let m = method_view c.args.method.now in
     by_plan m c.args.at (plan m (act_view c.args.act)) _ (g.C.Classes.content c.args.classes.now) (held c.args.frame.now) (held c.get_field.new.frame) c.get_field.result
-    (ap (λ a. plan m (act_view a)) c.in-GetField.is ∙ sym (ap (get_field) (field_is m.constant_pool c.args.act _ c.args.named.now c.requires.named c.in-GetField.is))) (c.get_field.ensures c.args.at)
+    (ap (λ a. plan m (act_view a)) c.in-GetField.is ∙ sym (ap (get_field) (field_is m c.args.act _ c.args.named.now c.field-in-GetField.result c.field-in-GetField.ensures c.requires.named c.in-GetField.is))) (c.get_field.ensures c.args.at)
 
 pub returns-in-PutField : goal.returns-in-PutField
 returns-in-PutField g c =
     let m = method_view c.args.method.now in
     by_plan m c.args.at (plan m (act_view c.args.act)) _ (g.C.Classes.content c.args.classes.now) (held c.args.frame.now) (held c.put_field.new.frame) c.put_field.result
-    (ap (λ a. plan m (act_view a)) c.in-PutField.is ∙ sym (ap (put_field m) (field_is m.constant_pool c.args.act _ c.args.named.now c.requires.named c.in-PutField.is))) (c.put_field.ensures c.args.at)
+    (ap (λ a. plan m (act_view a)) c.in-PutField.is ∙ sym (ap (put_field m) (field_is m c.args.act _ c.args.named.now c.field-in-PutField.result c.field-in-PutField.ensures c.requires.named c.in-PutField.is))) (c.put_field.ensures c.args.at)
 
 pub returns-in-InvokeVirtual : goal.returns-in-InvokeVirtual
 returns-in-InvokeVirtual g c =
     let m = method_view c.args.method.now in
     by_plan m c.args.at (plan m (act_view c.args.act)) _ (g.C.Classes.content c.args.classes.now) (held c.args.frame.now) (held c.invoke_virtual.new.frame) c.invoke_virtual.result
-    (ap (λ a. plan m (act_view a)) c.in-InvokeVirtual.is ∙ sym (ap (invoke_virtual) (c.method-called.ensures ∙ method_is m.constant_pool c.args.act _ c.args.named.now c.requires.named c.in-InvokeVirtual.is))) (c.invoke_virtual.ensures c.args.at)
+    (ap (λ a. plan m (act_view a)) c.in-InvokeVirtual.is ∙ sym (ap (invoke_virtual) (c.method.ensures ∙ method_is m c.args.act _ c.args.named.now c.requires.named c.in-InvokeVirtual.is))) (c.invoke_virtual.ensures c.args.at)
 
 pub returns-in-InvokeStatic : goal.returns-in-InvokeStatic
 returns-in-InvokeStatic g c =
     let m = method_view c.args.method.now in
     by_plan m c.args.at (plan m (act_view c.args.act)) _ (g.C.Classes.content c.args.classes.now) (held c.args.frame.now) (held c.invoke_static.new.frame) c.invoke_static.result
-    (ap (λ a. plan m (act_view a)) c.in-InvokeStatic.is ∙ sym (ap (invoke_static m.major_version) (c.method-called.ensures ∙ method_is m.constant_pool c.args.act _ c.args.named.now c.requires.named c.in-InvokeStatic.is))) (c.invoke_static.ensures c.args.at)
+    (ap (λ a. plan m (act_view a)) c.in-InvokeStatic.is ∙ sym (ap (invoke_static m.major_version) (c.method-in-InvokeStatic.ensures ∙ method_is m c.args.act _ c.args.named.now c.requires.named c.in-InvokeStatic.is))) (c.invoke_static.ensures c.args.at)
 
 pub returns-in-InvokeInterface : goal.returns-in-InvokeInterface
 returns-in-InvokeInterface g c =
     let m = method_view c.args.method.now in
     by_plan m c.args.at (plan m (act_view c.args.act)) _ (g.C.Classes.content c.args.classes.now) (held c.args.frame.now) (held c.invoke_interface.new.frame) c.invoke_interface.result
-    (ap (λ a. plan m (act_view a)) c.in-InvokeInterface.is ∙ sym (ap (invoke_interface c.in-InvokeInterface.count) (c.method-called.ensures ∙ method_is m.constant_pool c.args.act _ c.args.named.now c.requires.named c.in-InvokeInterface.is))) (c.invoke_interface.ensures c.args.at)
+    (ap (λ a. plan m (act_view a)) c.in-InvokeInterface.is ∙ sym (ap (invoke_interface c.in-InvokeInterface.count) (c.method-in-InvokeInterface.ensures ∙ method_is m c.args.act _ c.args.named.now c.requires.named c.in-InvokeInterface.is))) (c.invoke_interface.ensures c.args.at)
 
 pub returns-in-LoadElement : goal.returns-in-LoadElement
 returns-in-LoadElement g c =
@@ -118,25 +125,25 @@ pub returns-in-NewReferenceArray : goal.returns-in-NewReferenceArray
 returns-in-NewReferenceArray g c =
     let m = method_view c.args.method.now in
     by_plan m c.args.at (plan m (act_view c.args.act)) _ (g.C.Classes.content c.args.classes.now) (held c.args.frame.now) (held c.new_reference_array.new.frame) c.new_reference_array.result
-    (ap (λ a. plan m (act_view a)) c.in-NewReferenceArray.is ∙ sym (ap (new_reference_array) (class_is m.constant_pool c.args.act _ c.args.named.now c.requires.named c.in-NewReferenceArray.is))) (c.new_reference_array.ensures c.args.at)
+    (ap (λ a. plan m (act_view a)) c.in-NewReferenceArray.is ∙ sym (ap (new_reference_array) (class_is m c.args.act _ c.args.named.now c.class.result c.class.ensures c.requires.named c.in-NewReferenceArray.is))) (c.new_reference_array.ensures c.args.at)
 
 pub returns-in-NewMultiArray : goal.returns-in-NewMultiArray
 returns-in-NewMultiArray g c =
     let m = method_view c.args.method.now in
     by_plan m c.args.at (plan m (act_view c.args.act)) _ (g.C.Classes.content c.args.classes.now) (held c.args.frame.now) (held c.new_multi_array.new.frame) c.new_multi_array.result
-    (ap (λ a. plan m (act_view a)) c.in-NewMultiArray.is ∙ sym (ap (new_multi_array c.in-NewMultiArray.dimensions) (class_is m.constant_pool c.args.act _ c.args.named.now c.requires.named c.in-NewMultiArray.is))) (c.new_multi_array.ensures c.args.at)
+    (ap (λ a. plan m (act_view a)) c.in-NewMultiArray.is ∙ sym (ap (new_multi_array c.in-NewMultiArray.dimensions) (class_is m c.args.act _ c.args.named.now c.class-in-NewMultiArray.result c.class-in-NewMultiArray.ensures c.requires.named c.in-NewMultiArray.is))) (c.new_multi_array.ensures c.args.at)
 
 pub returns-in-CheckCast : goal.returns-in-CheckCast
 returns-in-CheckCast g c =
     let m = method_view c.args.method.now in
     by_plan m c.args.at (plan m (act_view c.args.act)) _ (g.C.Classes.content c.args.classes.now) (held c.args.frame.now) (held c.check_cast.new.frame) c.check_cast.result
-    (ap (λ a. plan m (act_view a)) c.in-CheckCast.is ∙ sym (ap (check_cast) (class_is m.constant_pool c.args.act _ c.args.named.now c.requires.named c.in-CheckCast.is))) (c.check_cast.ensures c.args.at)
+    (ap (λ a. plan m (act_view a)) c.in-CheckCast.is ∙ sym (ap (check_cast) (class_is m c.args.act _ c.args.named.now c.class-in-CheckCast.result c.class-in-CheckCast.ensures c.requires.named c.in-CheckCast.is))) (c.check_cast.ensures c.args.at)
 
 pub returns-in-InstanceOf : goal.returns-in-InstanceOf
 returns-in-InstanceOf g c =
     let m = method_view c.args.method.now in
     by_plan m c.args.at (plan m (act_view c.args.act)) _ (g.C.Classes.content c.args.classes.now) (held c.args.frame.now) (held c.instance_of.new.frame) c.instance_of.result
-    (ap (λ a. plan m (act_view a)) c.in-InstanceOf.is ∙ sym (ap (instance_of) (class_is m.constant_pool c.args.act _ c.args.named.now c.requires.named c.in-InstanceOf.is))) (c.instance_of.ensures c.args.at)
+    (ap (λ a. plan m (act_view a)) c.in-InstanceOf.is ∙ sym (ap (instance_of) (class_is m c.args.act _ c.args.named.now c.class-in-InstanceOf.result c.class-in-InstanceOf.ensures c.requires.named c.in-InstanceOf.is))) (c.instance_of.ensures c.args.at)
 
 pub returns-in-Stack : goal.returns-in-Stack
 returns-in-Stack g c =
@@ -164,7 +171,7 @@ pub returns-in-InvokeSpecial : goal.returns-in-InvokeSpecial
 returns-in-InvokeSpecial g c =
     let m = method_view c.args.method.now in
     by_plan m c.args.at (plan m (act_view c.args.act)) _ (g.C.Classes.content c.args.classes.now) (held c.args.frame.now) (held c.invoke_special.new.frame) c.invoke_special.result
-    (ap (λ a. plan m (act_view a)) c.in-InvokeSpecial.is ∙ sym (ap (invoke_special m.major_version m.class) (c.method-called.ensures ∙ method_is m.constant_pool c.args.act _ c.args.named.now c.requires.named c.in-InvokeSpecial.is))) (c.invoke_special.ensures c.args.at)
+    (ap (λ a. plan m (act_view a)) c.in-InvokeSpecial.is ∙ sym (ap (invoke_special m.major_version m.class) (c.method-in-InvokeSpecial.ensures ∙ method_is m c.args.act _ c.args.named.now c.requires.named c.in-InvokeSpecial.is))) (c.invoke_special.ensures c.args.at)
 
 pub returns-in-New : goal.returns-in-New
 returns-in-New g c =
