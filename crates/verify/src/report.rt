@@ -87,9 +87,7 @@ fn report_on<'a, C: Classes>(
     let pool = &class.constant_pool;
     let name = pool.text(member.name).unwrap();
     let descriptor = pool.text(member.descriptor).unwrap();
-    match verify_listed(
-        alloc, formed, number, constants, fields, frame, classes,
-    ) {
+    match verify_listed(alloc, formed, number, constants, fields, frame, classes) {
         Ok(verdict) => Ok(MethodVerdict {
             name,
             descriptor,
