@@ -130,6 +130,16 @@ def writes_of_an_own_field():
     return class_file(named, others, [(SPARE_NAME, 1, 2, 1, code)], fields)
 
 
+def writes_beside_fields_of_one_name():
+    """The same of one of 32 fields, which have one long name."""
+    types = [utf8(b"La%d;" % i) for i in range(31)]
+    others = [indices(10, 3, SPARE_INIT), utf8(b"I"), *types]
+    named = [indices(9, 1, NAME_AND_TYPE), indices(12, TEXT, CONSTANTS + 1), utf8(b"V" * 65_535), utf8(b"<init>"), indices(12, SPARE_NAME, 5)]
+    fields = [(TEXT, CONSTANTS + 2 + i) for i in range(31)] + [(TEXT, CONSTANTS + 1)]
+    code = (ALOAD_0 + ICONST_0 + PUTFIELD + at(NAMED)) * WRITES + ALOAD_0 + INVOKESPECIAL + at(CONSTANTS) + RETURN
+    return class_file(named, others, [(SPARE_NAME, 1, 2, 1, code)], fields)
+
+
 def verified(count):
     return b"".join(b"method m%d ()V verified\n" % i for i in range(count))
 
@@ -145,4 +155,5 @@ FILES = {
     "30,000 methods with a frame that names an array of a long name": (frames_in_many_methods, verified(METHODS)),
     "65,530 frames that each name the array of a long name that comes in": (frames_to_frames_of_an_array, verified(1)),
     "13,000 writes of the last of 60,000 own fields": (writes_of_an_own_field, b"method <init> ()V verified\n"),
+    "13,000 writes of the last of 32 own fields of one long name": (writes_beside_fields_of_one_name, b"method <init> ()V verified\n"),
 }
