@@ -67,5 +67,5 @@ pub use naming::{Named, named_by};
 pub use own_object::constructs_own;
 pub use reason::Reason;
 pub use running::run;
-pub use ways::{branches, branches_by, falls, goes_on, keeps_locals};
+pub use ways::{branches, branches_by, falls, goes_on, keeps_locals, is_plain};
 pub use working::Working;

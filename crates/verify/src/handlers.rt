@@ -107,6 +107,12 @@ impl<'a> Handlers<'a> {
         Ok(())
     }
 
+    /// Whether no range begins before an offset is left behind and no entry is to be compared: then nothing is to be done there.
+    pub fn are_idle(&self, at: u16) -> bool
+    {
+        self.fresh.is_empty() && self.next(at).is_none()
+    }
+
     /// Behind a change of the frame: unless its locals and its flag are the same, all are to be compared again.
     pub fn behind(&mut self, same: bool) -> Result<(), AllocError>
         ensures { (cs : List ClassFact) (frames : Frames) (es : List ExceptionEntry) (at : ℕ) (f g : FrameFact) → (same ≡ true → IsSameBeneath f g)

@@ -31,18 +31,18 @@ use crate::place_set::PlaceSet;
 use crate::refusal::refuse;
 use crate::verdict::{Verdict, VerifyFault};
 use classfile::{CodeMethod, OwnFields};
-use frames::{CodeStarts, DeclaredFrames};
+use frames::{CodeStarts, Declared, DeclaredFrames};
 use hierarchy::Classes;
 use insn::{Act, Instructions, act};
 use pool::Descriptors;
 use rules::{
-    Named, Reason, Working, branches_by, constructs_own, goes_on, keeps_locals, named_by, run,
+    Named, Reason, Working, branches_by, constructs_own, goes_on, keeps_locals, named_by, is_plain, run,
 };
 use std::alloc::{AllocError, Global};
 
 /// Judges an instruction in the frame before it, which becomes the frame after. Of the frame at the next start nothing is asked. What is
 /// caught in the frame before was judged. What is known of locals is known of the frame after.
-fn judge<'n, 'a, C: Classes>(
+fn settle<'n, 'a, C: Classes>(
     alloc: Global,
     method: &CodeMethod<'_, 'a>,
     starts: &CodeStarts<'_>,
@@ -85,6 +85,51 @@ fn judge<'n, 'a, C: Classes>(
     }
 }
 
+/// The frame that goes on comes to a start where this frame is declared, and becomes it: 69, 70 and 77 as [`enter`] refuses. What is known of
+/// locals, and which handlers are settled, is so of the frame that it becomes.
+#[inline(never)]
+fn take_up<'n, 'a, C: Classes>(
+    at: u16,
+    comes: bool,
+    declared: Option<Declared<'n, 'a>>,
+    known: &mut Known<'n, 'a>,
+    handlers: &mut Handlers<'a>,
+    frame: &mut Working<'a>,
+    classes: &C,
+) -> Result<(), Reason<'a>>
+{
+    let same = known.keeps(frame.flag(), declared);
+    enter(
+        comes,
+        declared,
+        known.kept,
+        known.fitting(),
+        frame,
+        classes,
+    )?;
+    handlers.behind(same)?;
+    *known = known.here(declared);
+    Ok(())
+}
+
+/// The frame that goes on, if one does, comes to an offset.
+fn arrive<'n, 'a, C: Classes>(
+    at: u16,
+    comes: bool,
+    frames: &'n DeclaredFrames<'a>,
+    known: &mut Known<'n, 'a>,
+    handlers: &mut Handlers<'a>,
+    frame: &mut Working<'a>,
+    classes: &C,
+) -> Result<(), Reason<'a>>
+{
+    let declared = frames.find(u32::from(at));
+    if comes && declared.is_none() {
+        return Ok(());
+    }
+    take_up(at, comes, declared, known, handlers, frame, classes)
+}
+
 /// Whether an entry of the exception table covers an instruction that calls a constructor on the own object. The entries have come to its
 /// offset.
 fn covers_constructor<'a>(
@@ -105,6 +150,36 @@ fn covers_constructor<'a>(
         return Ok(false);
     }
     handlers.covers(at)
+}
+
+/// Judges an instruction in the frame before it, which becomes the frame after.
+#[inline(never)]
+fn judge<'n, 'a, C: Classes>(
+    alloc: Global,
+    method: &CodeMethod<'_, 'a>,
+    starts: &CodeStarts<'_>,
+    at: u16,
+    act: Act<'a>,
+    last: bool,
+    constants: &mut Descriptors<'_, 'a>,
+    fields: &mut OwnFields<'_, 'a>,
+    frames: &'n DeclaredFrames<'a>,
+    known: &mut Known<'n, 'a>,
+    seen: &mut PlaceSet,
+    handlers: &mut Handlers<'a>,
+    frame: &mut Working<'a>,
+    classes: &C,
+) -> Result<(), Reason<'a>>
+{
+    handlers.come_to(at)?;
+    let named = named_by(constants, fields, method, &act)?;
+    let covered = covers_constructor(method, at, &act, &named, handlers, frame)?;
+    let caught = handlers.catch(at, frame, frames, known, classes);
+    known.behind(&act);
+    handlers.behind(keeps_locals(&act))?;
+    settle(
+        alloc, method, starts, at, act, &named, goes_on(&act), last, caught, covered, frames, known, seen, frame, classes,
+    )
 }
 
 /// Judges code, by one pass over its bytes that carries one frame, the one with which the method begins.
@@ -136,31 +211,25 @@ pub fn pass<'a, C: Classes>(
     let mut code = Instructions::new(method.code.code);
     let mut comes = true;
     let mut known = Known::nothing();
+    let nothing = Named::Nothing;
     while let Some(step) = code.next() {
         let Ok((at, insn)) = step else {
             unreachable!();
         };
         let at = at as u16;
-        let declared = frames.find(u32::from(at));
-        let same = known.keeps(frame.flag(), declared);
-        if let Err(reason) = enter(comes, declared, known.kept, known.fitting(), frame, classes) {
+        if let Err(reason) = arrive(at, comes, frames, &mut known, handlers, frame, classes) {
             return refuse(at, reason);
         }
-        handlers.behind(same)?;
-        known = known.here(declared);
         let act = act(&insn);
-        handlers.come_to(at)?;
-        let named = named_by(constants, fields, method, &act)?;
-        let covered = covers_constructor(method, at, &act, &named, handlers, frame)?;
-        let caught = handlers.catch(at, frame, frames, &mut known, classes);
-        comes = goes_on(&act);
-        known = known.behind(&act);
-        handlers.behind(keeps_locals(&act))?;
         let last = code.is_at_end();
-        let judged = judge(
-            alloc, method, starts, at, act, &named, comes, last, caught, covered, frames,
-            &mut known, seen, frame, classes,
-        );
+        comes = goes_on(&act);
+        let judged = if !last && is_plain(&act) && handlers.are_idle(at) {
+            run(alloc, method, starts, at, act, &nothing, frame, classes)
+        } else {
+            judge(
+                alloc, method, starts, at, act, last, constants, fields, frames, &mut known, seen, handlers, frame, classes,
+            )
+        };
         if let Err(reason) = judged {
             return refuse(at, reason);
         }
