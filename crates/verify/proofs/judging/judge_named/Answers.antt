@@ -16,7 +16,7 @@ use Rattle.verify.proofs.Onward.{keeps_length}
 use Rattle.verify.proofs.Going.{ways}
 use Rattle.verify.proofs.Ends.{done_ways, refused_end}
 use Rattle.verify.proofs.Kept.{known_same}
-use Rattle.verify.proofs.judging.judge.Goals as goal
+use Rattle.verify.proofs.judging.judge_named.Goals as goal
 
 pub check_targets-requires-clause-size : goal.check_targets-requires-clause-size
 check_targets-requires-clause-size g c =
