@@ -19,7 +19,7 @@ ghost use Rattle.rules.specs.Naming.{IsNamed};
 ghost use Rattle.rules.specs.Ways.{goes_on};
 ghost use Rattle.verify.specs.InitialFrames.{initial_frame};
 ghost use Rattle.verify.specs.Verdict.{handler_conditions, at_conditions, code_judged, is_covered};
-ghost use Rattle.verify.specs.Steps.{Judges, Gives};
+ghost use Rattle.verify.specs.Steps.{Enters, Judges, Gives};
 ghost use Rattle.verify.specs.Keeping.{IsKnown};
 ghost use Rattle.verify.specs.Handling.{AreAhead, Follows};
 ghost use Rattle.verify.specs.TypeSafety.{Frames};
