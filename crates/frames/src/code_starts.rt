@@ -14,7 +14,7 @@ use crate::starts::Starts;
 use insn::{CodeFault, Insn, Instructions, made_index};
 use std::alloc::{AllocError, Global};
 
-/// What stands at an offset of code.
+/// The thing that stands at an offset of code.
 #[derive(Clone, Copy, Debug)]
 pub enum Mark {
     /// No instruction begins there.
