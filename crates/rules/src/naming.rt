@@ -90,7 +90,7 @@ fn is_own<'a>(
     let Some(field) = field else {
         return Ok(false);
     };
-    if !method.is_init || own_class(method) != field.class {
+    if !method.is_init || !(fields.names_class(index) || own_class(method) == field.class) {
         return Ok(false);
     }
     fields.declares(index)
