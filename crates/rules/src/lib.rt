@@ -69,5 +69,5 @@ pub use naming::{Named, named_by};
 pub use own_object::constructs_own;
 pub use reason::Reason;
 pub use running::{run, run_unnamed};
-pub use ways::{branches, branches_by, falls, goes_on, keeps_locals, is_plain};
+pub use ways::{branches, branches_by, falls, goes_on, is_plain, keeps_locals};
 pub use working::Working;

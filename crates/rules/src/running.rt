@@ -14,11 +14,11 @@ use crate::arrays::{
     new_reference_array, store_element, store_reference_element,
 };
 use crate::calls::{invoke_interface, invoke_static, invoke_virtual};
-use crate::constants::{load_constant, load_wide_constant};
 use crate::computing::{
     array_length, computes, gives_null, gives_number, takes_int, takes_ints, takes_nothing,
     takes_reference, takes_references, throws,
 };
+use crate::constants::{load_constant, load_wide_constant};
 use crate::families::{
     counts, loads, loads_number, return_nothing, return_number, return_reference,
 };
@@ -126,5 +126,14 @@ pub fn run_unnamed<'a, S: Starts, C: Classes>(
         let p = plan m (act_view act.entry) in
         Done (conditions (C.content classes.now) m at p f) (after m at p f) (held frame.new) result }
 {
-    run(alloc, method, starts, at, act, &Named::Nothing, frame, classes)
+    run(
+        alloc,
+        method,
+        starts,
+        at,
+        act,
+        &Named::Nothing,
+        frame,
+        classes,
+    )
 }

@@ -37,7 +37,8 @@ use hierarchy::Classes;
 use insn::{Act, Instructions, act};
 use pool::Descriptors;
 use rules::{
-    Named, Reason, Working, branches_by, constructs_own, goes_on, keeps_locals, is_plain, named_by, run, run_unnamed,
+    Named, Reason, Working, branches_by, constructs_own, goes_on, is_plain, keeps_locals, named_by,
+    run, run_unnamed,
 };
 use std::alloc::{AllocError, Global};
 

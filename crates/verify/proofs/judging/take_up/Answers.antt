@@ -21,5 +21,5 @@ returns-clause-handlers g c = λ es place t.
     let f = held c.args.frame.now in
     let came = c.in_ok-enter.ensures.entered.outcome in
     let same = λ (e : c.keeps-same.result ≡ true).
-        subst (IsSameBeneath f) (sym came.1) (c.keeps-same.ensures classes c.args.frames.now f e (sym c.flag.ensures) c.find-declared.ensures.own c.requires.known) in
+    subst (IsSameBeneath f) (sym came.1) (c.keeps-same.ensures classes c.args.frames.now f e (sym c.flag.ensures) c.find-declared.ensures.own c.requires.known) in
     c.in_ok-behind.ensures classes (frames_in c.args.frames.now) es place f (held c.enter.new.frame) same t
