@@ -18,7 +18,7 @@ METHOD_TEXT, FIELD_TEXT, ARRAY_TEXT = b"(L" + CLASS_OF_LONG_NAME + b";)V", b"L" 
 
 
 def member_constants(tag, text):
-    """What a Fieldref or a Methodref leads to, by its descriptor."""
+    """The constants to which a Fieldref or a Methodref leads, by its descriptor."""
     return [indices(tag, 1, NAME_AND_TYPE), indices(12, 7, TEXT), utf8(text), utf8(b"<init>"), indices(12, SPARE_NAME, 5)]
 
 
