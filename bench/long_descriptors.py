@@ -18,7 +18,7 @@ METHOD_TEXT, FIELD_TEXT, ARRAY_TEXT = b"(L" + CLASS_OF_LONG_NAME + b";)V", b"L" 
 
 
 def member_constants(tag, text):
-    """What a Fieldref or a Methodref leads to, by its descriptor."""
+    """The constants to which a Fieldref or a Methodref leads, by its descriptor."""
     return [indices(tag, 1, NAME_AND_TYPE), indices(12, 7, TEXT), utf8(text), utf8(b"<init>"), indices(12, SPARE_NAME, 5)]
 
 
@@ -33,9 +33,9 @@ def code_of(method):
     return struct.pack(">HHHHHI", flags, name, 5, 1, 6, len(body)) + body
 
 
-def class_file(named, others, methods, fields=()):
+def class_file(named, others, methods, fields=(), name=b"K"):
     """A class with the constant that is named, with others behind it, and with these methods and fields."""
-    table = [*HEAD, *named, *others]
+    table = [HEAD[0], utf8(name), *HEAD[2:], *named, *others]
     members = b"".join(struct.pack(">HHHH", 0, name, descriptor, 0) for name, descriptor in fields)
     return (
         b"\xca\xfe\xba\xbe\x00\x00\x00\x34" + struct.pack(">H", len(table) + 1) + b"".join(table)
@@ -140,6 +140,26 @@ def writes_beside_fields_of_one_name():
     return class_file(named, others, [(SPARE_NAME, 1, 2, 1, code)], fields)
 
 
+def writes_of_long_names():
+    """Each by a Fieldref of its own, of eight fields whose long names differ in the last byte."""
+    names = [utf8(b"V" * 65_534 + b"%d" % i) for i in range(8)]
+    behind = CONSTANTS + 2 + len(names)
+    references = [part for i in range(WRITES) for part in (indices(9, 1, behind + 2 * i + 1), indices(12, CONSTANTS + 2 + i % 8, CONSTANTS + 1))]
+    others = [indices(10, 3, SPARE_INIT), utf8(b"I"), *names, *references]
+    named = [utf8(b"g"), utf8(b"h"), utf8(b"V"), utf8(b"<init>"), indices(12, SPARE_NAME, 5)]
+    writes = b"".join(ALOAD_0 + ICONST_0 + PUTFIELD + at(behind + 2 * i) for i in range(WRITES))
+    code = writes + ALOAD_0 + INVOKESPECIAL + at(CONSTANTS) + RETURN
+    return class_file(named, others, [(SPARE_NAME, 1, 2, 1, code)], [(CONSTANTS + 2 + i, CONSTANTS + 1) for i in range(8)])
+
+
+def writes_in_a_class_of_a_long_name():
+    """The same of the one field of a class whose name is long."""
+    named = [indices(9, 1, NAME_AND_TYPE), indices(12, 7, CONSTANTS + 1), utf8(b"V"), utf8(b"<init>"), indices(12, SPARE_NAME, 5)]
+    code = (ALOAD_0 + ICONST_0 + PUTFIELD + at(NAMED)) * WRITES + ALOAD_0 + INVOKESPECIAL + at(CONSTANTS) + RETURN
+    others = [indices(10, 3, SPARE_INIT), utf8(b"I")]
+    return class_file(named, others, [(SPARE_NAME, 1, 2, 1, code)], [(7, CONSTANTS + 1)], name=b"K" * 65_535)
+
+
 def verified(count):
     return b"".join(b"method m%d ()V verified\n" % i for i in range(count))
 
@@ -156,4 +176,6 @@ FILES = {
     "65,530 frames that each name the array of a long name that comes in": (frames_to_frames_of_an_array, verified(1)),
     "13,000 writes of the last of 60,000 own fields": (writes_of_an_own_field, b"method <init> ()V verified\n"),
     "13,000 writes of the last of 32 own fields of one long name": (writes_beside_fields_of_one_name, b"method <init> ()V verified\n"),
+    "13,000 writes, each by a Fieldref of its own, of 8 own fields of long names that begin alike": (writes_of_long_names, b"method <init> ()V verified\n"),
+    "13,000 writes of an own field of a class of a long name": (writes_in_a_class_of_a_long_name, b"method <init> ()V verified\n"),
 }

@@ -103,7 +103,7 @@ OF_CONSTRUCTORS = """
 ()V 1 1 | aload_0; astore_0; aload_0; invokespecial [method java/lang/Object <init> ()V]; return | verified
 """
 
-# The same of a constructor that sets fields, in a K that declares only x and in one with very many others in front of it.
+# The same of a constructor that sets fields, in a K that declares only x, and in one with very many others, or with one of a long name, in front of it.
 OF_OWN_FIELDS = """
 ()V 2 1 | aload_0; iconst_0; putfield [field K x I]; aload_0; invokespecial [method java/lang/Object <init> ()V]; return | verified
 ()V 2 1 | aload_0; iconst_0; putfield [field K y I]; aload_0; invokespecial [method java/lang/Object <init> ()V]; return | refused 62 at 2
@@ -113,7 +113,7 @@ OF_OWN_FIELDS = """
 (I)V 2 2 | aload_0; invokespecial [method java/lang/Object <init> ()V]; aload_0; iload_1; putfield [field K x I]; return | verified
 (I)V 2 2 | aload_0; invokespecial [method java/lang/Object <init> ()V]; aload_0; iload_1; putfield [field K y I]; return | verified
 """
-MANY = 100
+MANY, LONG = [f"x{i}" for i in range(100)], ["x" * 300]
 
 # The same of another method of K, with a receiver.
 OF_INSTANCES = """
@@ -138,23 +138,28 @@ OF_INSTANCES = """
 
 
 def class_of(name, flags, descriptor, sizes, code, body, others):
-    """K with a field x behind so many others, and one method, which has this code and this stack map."""
+    """K with a field x behind others of these names, and one method, which has this code and this stack map."""
     constants = Constants(descriptor, name)
     data = assembled(code, constants)
     nested = [attribute(constants.text("StackMapTable"), bytes.fromhex(body))] if body else []
     method = method_f(code_f(data, stack=sizes[0], variables=sizes[1], nested=nested), flags=flags)
-    fields = [member(0, constants.text(name), constants.text("I")) for name in [*(f"x{i}" for i in range(others)), "x"]]
+    fields = [member(0, constants.text(name), constants.text("I")) for name in [*others, "x"]]
     return replace(K, constants=constants.items, fields=fields, methods=[method]).data()
 
 
-def rows_of(table, name, flags, others=0):
+def rows_of(table, name, flags, others=()):
     for line in table.strip().splitlines():
         if line.startswith("#"):
             continue
         sizes, code, *body, verdict = (it.strip() for it in line.split("|"))
         descriptor, stack, variables = sizes.split()
         k = class_of(name, flags, descriptor, (int(stack), int(variables)), code, "".join(body), others)
-        yield f"{name} {sizes} {code} {''.join(body)} beside {others} fields", [k, *KNOWN], f"method {name} {descriptor} {verdict}"
+        yield f"{name} {sizes} {code} {''.join(body)} beside {len(others)} fields", [k, *KNOWN], f"method {name} {descriptor} {verdict}"
+
+
+def of_many_fields():
+    """A K with very many fields, of which its constructor sets one."""
+    return next(rows_of(OF_OWN_FIELDS, "<init>", 0, MANY))[1][0]
 
 
 def of_object():
@@ -171,5 +176,6 @@ def with_objects():
     yield from rows_of(OF_CONSTRUCTORS, "<init>", 0)
     yield from rows_of(OF_OWN_FIELDS, "<init>", 0)
     yield from rows_of(OF_OWN_FIELDS, "<init>", 0, MANY)
+    yield from rows_of(OF_OWN_FIELDS, "<init>", 0, LONG)
     yield from rows_of(OF_INSTANCES, "f", 0)
     yield from of_object()

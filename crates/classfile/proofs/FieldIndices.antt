@@ -1,11 +1,12 @@
 -- Where a Fieldref leads to texts, their indices are found one entry after the other.
-use Rattle.std.proofs.Common.{◌≡◌, ℕ, List, Option, Some, None, Result, Ok, Err, refl, sym, ap, ◌∙◌}
+use Rattle.std.proofs.Common.{◌≡◌, ℕ, true, eqb-true, List, Option, Some, Result, Ok, refl, sym, ap, ◌∙◌}
 use Rattle.std.specs.Option.{option_and_then}
 use Rattle.pool.specs.declared.fault.PoolFault.{PoolFault}
 use Rattle.pool.specs.Entries.{Entry, Utf8, Integer, Float, Long, Double, Class, String, Fieldref, Methodref, InterfaceMethodref, NameAndType, MethodHandle, MethodType, Dynamic, InvokeDynamic, Unusable}
 use Rattle.pool.specs.Lookups.{FieldOf, Named, named, and_then, entry_at, class_name_at, name_and_type_in, name_and_type_at, member, field_ref_in, field_ref_at}
 use Rattle.pool.specs.Members.{found, constant_at}
-use Rattle.classfile.specs.DeclaredFields.{type_index, both_indices, text_indices}
+use Rattle.classfile.specs.Indices.{on_found}
+use Rattle.classfile.specs.DeclaredFields.{is_field_of, type_index, both_indices, text_indices}
 use Rattle.classfile.proofs.SeenLaws.{parts}
 
 abbrev pub pair : List ℕ → List ℕ → Named
@@ -81,3 +82,37 @@ leads_to pool field f h =
     let first : option_and_then type_index (constant_at pool field) ≡ Some l.types = ap (λ (r : Result Entry PoolFault). option_and_then type_index (found r)) e.1 ∙ l.index in
     let second : rest l.types ≡ Some x.0 = ap (λ (r : Result Entry PoolFault). option_and_then both_indices (found r)) t.1 ∙ x.1 in
     (x.0, ap (option_and_then rest) first ∙ second, x.2 ∙ ap Ok l.same)
+
+class_by_entry : (pool : List Entry) (i index : ℕ) (e : Entry) (f : FieldOf) → is_field_of index e ≡ true → field_ref_in pool i e ≡ Ok f
+    → class_name_at pool index ≡ Ok f.class
+unfolding member
+class_by_entry pool i index (Fieldref class types) f is h =
+    let c = parts (class_name_at pool class) (λ c. and_then (name_and_type_at pool types) (λ n. Ok (record { class = c; name = n.name; descriptor = n.descriptor }))) f h in
+    let n = parts (name_and_type_at pool types) (λ n. Ok (record { class = c.0; name = n.name; descriptor = n.descriptor })) f c.2 in
+    ap (class_name_at pool) (sym (eqb-true class index is)) ∙ c.1 ∙ same_class (record { class = c.0; name = n.0.name; descriptor = n.0.descriptor }) f n.2
+  where
+    same_class : (x y : FieldOf) → (let r : Result FieldOf PoolFault = Ok x in r) ≡ Ok y → (let r : Result (List ℕ) PoolFault = Ok x.class in r) ≡ Ok y.class
+    same_class x y h = cc
+class_by_entry pool i index (Utf8 bytes) f is h = absurd cc
+class_by_entry pool i index (Integer bits) f is h = absurd cc
+class_by_entry pool i index (Float bits) f is h = absurd cc
+class_by_entry pool i index (Long high low) f is h = absurd cc
+class_by_entry pool i index (Double high low) f is h = absurd cc
+class_by_entry pool i index (Class name) f is h = absurd cc
+class_by_entry pool i index (String text) f is h = absurd cc
+class_by_entry pool i index (Methodref class types) f is h = absurd cc
+class_by_entry pool i index (InterfaceMethodref class types) f is h = absurd cc
+class_by_entry pool i index (NameAndType name descriptor) f is h = absurd cc
+class_by_entry pool i index (MethodHandle kind reference) f is h = absurd cc
+class_by_entry pool i index (MethodType descriptor) f is h = absurd cc
+class_by_entry pool i index (Dynamic bootstrap types) f is h = absurd cc
+class_by_entry pool i index (InvokeDynamic bootstrap types) f is h = absurd cc
+class_by_entry pool i index Unusable f is h = absurd cc
+
+-- a Fieldref of the Class at this index has the name that is there
+pub class_named_at : (pool : List Entry) (field index : ℕ) (f : FieldOf) → on_found (is_field_of index) (entry_at pool field) ≡ true
+    → field_ref_at pool field ≡ Ok f → class_name_at pool index ≡ Ok f.class
+unfolding field_ref_at
+class_named_at pool field index f is h =
+    let e = parts (entry_at pool field) (field_ref_in pool field) f h in
+    class_by_entry pool field index e.0 f (sym (ap (on_found (is_field_of index)) e.1) ∙ is) e.2

@@ -1,8 +1,8 @@
 -- Of the fields that a class declares itself: whether the one that a constant names is among them (JVMS 4.4.2, 4.5).
-use Rattle.std.specs.Prelude.{◌≡◌, ℕ, Bool, List, Ok, Option, Some, None, map}
+use Rattle.std.specs.Prelude.{ℕ, nat_eq, Bool, false, List, Option, Some, None, map}
 use Rattle.std.specs.Option.{option_and_then}
 use Rattle.pool.specs.Entries.{Entry, Fieldref, NameAndType}
-use Rattle.pool.specs.Lookups.{FieldOf, Named, named, field_ref_at}
+use Rattle.pool.specs.Lookups.{Named, named, entry_at, field_ref_at}
 use Rattle.pool.specs.Members.{constant_at}
 use Rattle.classfile.specs.declared.class_file.ClassFile.{ClassFile}
 use Rattle.classfile.specs.Indices.{on_found}
@@ -17,9 +17,18 @@ fields_of c = declared_fields c.constant_pool (map member_view c.fields.items)
 abbrev pub has_named : ClassFile → ℕ → ℕ → Bool
 has_named c name descriptor = on_found (λ x. is_declared (fields_of c) x.name x.descriptor) (named c.constant_pool name descriptor)
 
--- of a Fieldref that leads to a name and a descriptor, the answer tells whether the class declares that field
-abbrev pub Declares : ClassFile → ℕ → Bool → Type 0
-Declares c field b = (f : FieldOf) → field_ref_at c.constant_pool field ≡ Ok f → b ≡ is_declared (fields_of c) f.name f.descriptor
+-- a Fieldref stands at this index, it leads to texts, and the class declares a field of its name and its descriptor
+abbrev pub declares : ClassFile → ℕ → Bool
+declares c field = on_found (λ f. is_declared (fields_of c) f.name f.descriptor) (field_ref_at c.constant_pool field)
+
+-- the entry is a Fieldref of the Class at this index
+abbrev pub is_field_of : ℕ → Entry → Bool
+is_field_of index (Fieldref class name_and_type) = nat_eq class index
+is_field_of index _ = false
+
+-- a Fieldref stands at this index, with the Class by which the class file names its own class
+abbrev pub names_class : ClassFile → ℕ → Bool
+names_class c field = on_found (is_field_of c.this_class) (entry_at c.constant_pool field)
 
 -- ---- the indices of the texts to which a Fieldref leads
 

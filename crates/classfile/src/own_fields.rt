@@ -1,10 +1,10 @@
 //! The fields that a class declares itself (JVMS 4.5).
-ghost use Rattle.std.specs.Prelude.{◌≡◌, [], map, IfOk};
-ghost use Rattle.pool.specs.Lookups.{text_at};
+ghost use Rattle.std.specs.Prelude.{◌≡◌, true, [], map, Ok, IfOk};
+ghost use Rattle.pool.specs.Lookups.{text_at, class_name_at, FieldOf, field_ref_at};
 ghost use Rattle.pool.specs.Members.{found};
 ghost use Rattle.pool.specs.Views.{view};
 ghost use Rattle.classfile.specs.Methods.{is_declared, texts, declared_fields};
-ghost use Rattle.classfile.specs.DeclaredFields.{has_named, both_indices, text_indices, type_index, Declares};
+ghost use Rattle.classfile.specs.DeclaredFields.{has_named, both_indices, text_indices, type_index, declares, names_class};
 ghost use Rattle.classfile.specs.Seen.{AreSeen};
 ghost use Rattle.classfile.specs.Views.{member_view};
 
@@ -15,8 +15,12 @@ use pool::{Constant, Pool};
 use std::alloc::{AllocError, Global};
 use std::marker::Model;
 
-/// Up to so many fields are looked at one by one: that takes no memory, and less time than a set of their names and descriptors.
+/// Up to so many fields of short texts are looked at one by one: that takes no memory, and less time than a set of their names and
+/// descriptors.
 const FEW: usize = 32;
+
+/// A text of up to so many bytes is short: to compare it takes little, however often it is done.
+const SHORT: usize = 128;
 
 /// Whether the texts at a member's indices are these.
 fn is_named(pool: &Pool<'_>, member: &Member<'_>, name: &[u8], descriptor: &[u8]) -> bool
@@ -48,11 +52,31 @@ pub fn declares_field(class: &ClassFile<'_>, name: &[u8], descriptor: &[u8]) -> 
     is_among(&class.constant_pool, &class.fields, name, descriptor)
 }
 
-/// The fields that a class declares, as its instructions ask for them. What is kept of many fields is made when they are asked first.
+/// Whether the text at an index, if one is there, is short.
+fn is_short(pool: &Pool<'_>, index: u16) -> bool {
+    match pool.text(index) {
+        Ok(text) => text.bytes().len() <= SHORT,
+        Err(_) => true,
+    }
+}
+
+/// Whether fields have only short names and descriptors.
+fn have_short_texts(pool: &Pool<'_>, fields: &[Member<'_>]) -> bool {
+    for field in fields {
+        if !is_short(pool, field.name) || !is_short(pool, field.descriptor) {
+            return false;
+        }
+    }
+    true
+}
+
+/// The fields that a class declares, as its instructions ask for them. A set of their names and descriptors, as numbers of their texts,
+/// is made when they are asked first, but for few fields of short texts.
 #[derive(Drop)]
 pub struct OwnFields<'c, 'a> {
     alloc: Global,
     class: &'c ClassFile<'a>,
+    one_by_one: bool,
     met: Option<Signatures<'a>>,
 }
 
@@ -123,18 +147,26 @@ impl<'c, 'a> OwnFields<'c, 'a> {
     pub fn new(alloc: Global, class: &'c ClassFile<'a>) -> OwnFields<'c, 'a>
         ensures { result ≡ class.now }
     {
+        let one_by_one = class.fields.len() <= FEW
+            && have_short_texts(&class.constant_pool, &class.fields);
         OwnFields {
             alloc,
             class,
+            one_by_one,
             met: None,
         }
     }
 
-    /// The class that declares them.
-    pub fn class(&self) -> &'c ClassFile<'a>
-        ensures { result.now ≡ self.now }
+    /// Whether the constant at this index is a Fieldref of the Class constant by which the class file names its own class. Takes no memory.
+    pub fn names_class(&self, field: u16) -> bool
+        ensures exactly { result ≡ names_class self.now field }
+        // Then its class has the name of the own class.
+        ensures name { result ≡ true → (f : FieldOf) → field_ref_at self.now.constant_pool field ≡ Ok f → class_name_at self.now.constant_pool self.now.this_class ≡ Ok f.class }
     {
-        self.class
+        match self.class.constant_pool.get(field) {
+            Ok(Constant::Fieldref { class, .. }) => class == self.class.this_class,
+            _ => false,
+        }
     }
 
     /// The names and descriptors of the fields, which are taken out.
@@ -148,7 +180,7 @@ impl<'c, 'a> OwnFields<'c, 'a> {
         }
     }
 
-    /// Whether one of many fields has the name and the descriptor at these indices.
+    /// Whether one of the fields has the name and the descriptor at these indices.
     fn has_met(&mut self, name: u16, descriptor: u16) -> Result<bool, AllocError>
         ensures same { self.new ≡ self.old }
         ensures found { IfOk result (λ b. b ≡ has_named self.old name descriptor) }
@@ -159,22 +191,24 @@ impl<'c, 'a> OwnFields<'c, 'a> {
         Ok(found)
     }
 
-    /// Whether the class declares a field, static or not, of the name and the descriptor to which the Fieldref at this index leads (JVMS 4.4.2).
-    /// What it costs does not hang on the number of fields, but for the first call where they are many. The only refusal is want of memory.
+    /// Whether a Fieldref stands at this index that leads to texts, and the class declares a field, static or not, of its name and its
+    /// descriptor (JVMS 4.4.2). A call takes the same time however many fields there are and however long the texts, but that the first may
+    /// read each field once, and a long text is read once at each index. The only refusal is want of memory.
     pub fn declares(&mut self, field: u16) -> Result<bool, AllocError>
         ensures same { self.new ≡ self.old }
-        ensures declared { IfOk result (Declares self.old field) }
+        ensures declared { IfOk result (λ b. b ≡ declares self.old field) }
     {
         let class = self.class;
-        if class.fields.len() > FEW {
-            return match text_indices(&class.constant_pool, field) {
-                None => Ok(false),
-                Some((name, descriptor)) => self.has_met(name, descriptor),
-            };
+        let pool = &class.constant_pool;
+        let Ok(texts) = pool.field_ref(field) else {
+            return Ok(false);
+        };
+        if self.one_by_one {
+            return Ok(declares_field(class, texts.name.bytes(), texts.descriptor.bytes()));
         }
-        match class.constant_pool.field_ref(field) {
-            Err(_) => Ok(false),
-            Ok(texts) => Ok(declares_field(class, texts.name.bytes(), texts.descriptor.bytes())),
+        match text_indices(pool, field) {
+            None => Ok(false),
+            Some((name, descriptor)) => self.has_met(name, descriptor),
         }
     }
 }

@@ -1,4 +1,4 @@
--- What the answers for frames mean.
+-- The answers for frames, by the definitions of assignability.
 use Rattle.std.proofs.Common.{◌≡◌, ◌≢◌, ◌⊎◌, ◌↔◌, ◌∙◌, ◌==◌, ℕ, zero, suc, ◌<◌, ◌≤◌, List, [], ◌∷◌, ◌++◌, Bool, true, false, Some, length, reverse, slice_get, eq-eqb, refl, sym, ap, subst, inl, inr, arith}
 use Rattle.std.proofs.lemmas.Bool.{false≢true, cases_lt, eqb-true, eqb-false}
 use Rattle.std.proofs.lemmas.List.{length-reverse, reverse-reverse}

@@ -7,7 +7,7 @@ use Rattle.layout.specs.Place.{Place}
 use Rattle.insn.specs.declared.fault.CodeFault.{CodeFault}
 use Rattle.insn.specs.declared.instruction.Insn.{Insn}
 use Rattle.insn.specs.Instructions.{Instruction}
-use Rattle.insn.specs.Code.{StepsThrough}
+use Rattle.insn.specs.Code.{SpellsCode, FaultyCode, StepsThrough}
 use Rattle.insn.specs.Meanings.{Act, act}
 use Rattle.insn.specs.Offsets.{acts, at_offset}
 use Rattle.insn.specs.Readings.{or_none, reading_of, reading_from, instructions_in}
@@ -17,15 +17,6 @@ use Rattle.insn.proofs.Readings.{only_reading}
 use Rattle.frames.specs.declared.code_starts.Mark.{Mark}
 use Rattle.frames.specs.declared.code_starts.Mark.TheVariants.{Inside}
 use Rattle.frames.specs.Marks.{IsMark, AreMarks, AreClear}
-
--- ---- no instruction
-
-pub none_marked : (code : List ℕ) → instructions_in code ≡ [] → AreMarks [] (acts (instructions_in code))
-none_marked code e = subst (λ (xs : List (ℕ × Instruction)). AreMarks [] (acts xs)) (sym e) (λ k. record { start = refl; new = refl; index = refl })
-
-pub no_code : instructions_in [] ≡ []
-unfolding reading_of reading_from
-no_code = refl
 
 -- ---- one instruction more
 
@@ -117,9 +108,11 @@ marking_last code p marks now end =
     let whole = code_whole code now.done p now.so_far (ap (λ (l : List ℕ). length l) end) in
     subst (λ (xs : List (ℕ × Instruction)). AreMarks marks (acts xs)) (sym (ap or_none (only_reading code (Ok now.done) whole))) now.right
 
-pub marking_fault : (code : List ℕ) (old new : Place) (marks : List Mark) (step : Result (ℕ × Insn) CodeFault) (e : CodeFault) → Marking code old marks → StepsThrough located old (Some step) new → step ≡ Err e → instructions_in code ≡ []
-marking_fault code old new marks step e now stepped is =
-    ap or_none (only_reading code (Err e) (step_fault located code now.done old new step e now.so_far stepped is))
+pub marking_spells : (code : List ℕ) (p : Place) (marks : List Mark) → Marking code p marks → p.rest ≡ [] → (xs : List (ℕ × Instruction)) × SpellsCode 0 code xs
+marking_spells code p marks now end = (now.done, code_whole code now.done p now.so_far (ap (λ (l : List ℕ). length l) end))
+
+pub marking_fault : (code : List ℕ) (old new : Place) (marks : List Mark) (step : Result (ℕ × Insn) CodeFault) (e : CodeFault) → Marking code old marks → StepsThrough located old (Some step) new → step ≡ Err e → FaultyCode code e
+marking_fault code old new marks step e now stepped is = step_fault located code now.done old new step e now.so_far stepped is
 
 -- ---- a list from its end
 

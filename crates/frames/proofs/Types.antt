@@ -1,4 +1,4 @@
--- What the answers for classes and types mean.
+-- The answers for classes and types, by the definitions of assignability.
 use Rattle.std.proofs.Common.{◌≡◌, ◌≢◌, ◌↔◌, ◌||◌, ◌==◌, ℕ, List, Bool, true, false, cond, eq-eqb, Option, Some, None, IsSome, option_map, refl, ap, sym, ◌∙◌, subst, inl, inr}
 use Rattle.std.specs.Str.{bytes_eq}
 use Rattle.std.proofs.lemmas.Bool.{false≢true, eqb-true}

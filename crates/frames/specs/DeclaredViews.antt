@@ -1,4 +1,4 @@
--- What a declared frame stands for.
+-- The frame that a declared frame stands for.
 use Rattle.std.specs.Prelude.{◌≡◌, ◌<◌, ◌≤◌, ◌++◌, ℕ, List, length, map, reverse, slice_get, Some}
 use Rattle.pool.specs.Entries.{Entry}
 use Rattle.frames.specs.StackMaps.{MapEntry}

@@ -1,7 +1,6 @@
 -- Marks at the offsets of code: where instructions begin, and which of them are a `new`.
 use Rattle.std.specs.Prelude.{◌≡◌, ℕ, Bool, true, false, List, Option, Some, None, is_some, get_or}
-use Rattle.insn.specs.Meanings.{Act}
-use Rattle.insn.specs.Meanings as acts
+use Rattle.insn.specs.Meanings.{Act, made_index}
 use Rattle.insn.specs.Offsets.{at_offset}
 use Rattle.frames.specs.DeclaredFrames.{is_new}
 use Rattle.frames.specs.declared.code_starts.Mark.{Mark}
@@ -22,10 +21,10 @@ index_of_mark Inside = None
 index_of_mark Start = None
 index_of_mark (New index) = Some index
 
--- the class that a `new` makes an object of, by its index (JVMS 6.5, new)
+-- the class of which a `new` makes an object, by its index, where an instruction is one
 abbrev pub new_index : Option Act → Option ℕ
-new_index (Some (acts.New index)) = Some index
-new_index _ = None
+new_index (Some what) = made_index what
+new_index None = None
 
 -- the mark of what stands at an offset
 pub record IsMark (m : Mark) (what : Option Act) : Type 0 where

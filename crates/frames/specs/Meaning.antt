@@ -1,4 +1,4 @@
--- What the answers mean: when one type is assignable to another (JVMS 4.10.1.2), which class is missing otherwise, and how the slots of two frames decide (JVMS 4.10.1.4).
+-- The meaning of the answers: when one type is assignable to another (JVMS 4.10.1.2), which class is missing otherwise, and how the slots of two frames decide (JVMS 4.10.1.4).
 use Rattle.std.specs.Prelude.{◌≡◌, ◌≢◌, ◌⊎◌, ◌↔◌, ◌++◌, ℕ, ◌<◌, List, [], ◌∷◌, Some, true, length, reverse, slice_get}
 use Rattle.names.specs.declared.base.Primitive.{Primitive}
 use Rattle.names.specs.Descriptors.{FieldDescriptor, primitive, class as class_type, array as array_type}

@@ -1,5 +1,7 @@
 //! The offsets at which the instructions of a method's code begin, marked byte by byte.
-ghost use Rattle.std.specs.Prelude.{◌≡◌, ◌≤◌, [], Some, length, get_or, true, false, OnOk, OnErr};
+ghost use Rattle.std.specs.Prelude.{◌≡◌, ◌≤◌, ℕ, List, Some, length, get_or, OnOk, IfErr};
+ghost use Rattle.insn.specs.Code.{SpellsCode, FaultyCode, UnlessMemory};
+ghost use Rattle.insn.specs.Instructions.{Instruction};
 ghost use Rattle.insn.specs.Meanings.{act};
 ghost use Rattle.insn.specs.Offsets.{acts};
 ghost use Rattle.insn.specs.Readings.{instructions_in};
@@ -9,10 +11,10 @@ ghost use Rattle.frames.specs.DeclaredFrames.{is_new};
 ghost use Rattle.frames.specs.Marks.{IsMark, AreMarks, AreClear, is_start_mark, is_new_mark, index_of_mark};
 
 use crate::starts::Starts;
-use insn::{Act, Insn, Instructions, act};
+use insn::{CodeFault, Insn, Instructions, made_index};
 use std::alloc::{AllocError, Global};
 
-/// What stands at an offset of code.
+/// The thing that stands at an offset of code.
 #[derive(Clone, Copy, Debug)]
 pub enum Mark {
     /// No instruction begins there.
@@ -26,8 +28,7 @@ pub enum Mark {
     },
 }
 
-/// Where the instructions of a method's code begin, with four bytes for each byte of the code. It is made once for a method,
-/// and again for the next one in the same memory.
+/// Where the instructions of a method's code begin, with four bytes for each byte of the code.
 #[derive(Drop)]
 pub struct CodeStarts<'a> {
     code: &'a [u8],
@@ -39,9 +40,9 @@ pub struct CodeStarts<'a> {
 fn mark_of(insn: &Insn) -> Mark
     ensures { IsMark result (Some (act (view insn.now))) }
 {
-    match act(insn) {
-        Act::New { index } => Mark::New { index },
-        _ => Mark::Start,
+    match made_index(insn) {
+        Some(index) => Mark::New { index },
+        None => Mark::Start,
     }
 }
 
@@ -82,41 +83,26 @@ fn index_of(mark: Mark) -> Option<u16>
     }
 }
 
-// So many marks, at none of which an instruction begins; or none at all, where memory runs out.
+// So many marks, at none of which an instruction begins.
 fn clear_marks(marks: &mut Vec<Mark>, count: usize) -> Result<(), AllocError>
     ensures clear { AreClear marks.new.items }
     ensures len { OnOk result (length marks.new.items ≡ count) }
-    ensures none { OnErr result (marks.new.items ≡ []) }
 {
     marks.clear();
     marks.resize(count, Mark::Inside)
 }
 
-// Marks where instructions begin; or says that the code has a fault, and then nothing of the marks.
-fn mark_starts(code: &[u8], marks: &mut [Mark]) -> bool
+// Marks where instructions begin; or tells the fault of the first that is none, and then nothing of the marks.
+fn mark_starts(code: &[u8], marks: &mut [Mark]) -> Result<(), CodeFault>
     requires clear { AreClear marks.old }
     requires len { length marks.old ≡ length code.now }
-    ensures marked { result ≡ true → AreMarks marks.new (acts (instructions_in code.now)) }
-    ensures faulty { result ≡ false → instructions_in code.now ≡ [] }
+    ensures marked { OnOk result (AreMarks marks.new (acts (instructions_in code.now))) }
+    ensures spelled { OnOk result ((xs : List (ℕ × Instruction)) × SpellsCode 0 code.now xs) }
+    ensures fault { IfErr result (λ e. FaultyCode code.now e) }
 {
     for step in Instructions::new(code) {
-        match step {
-            Ok((at, insn)) => marks[at] = mark_of(&insn),
-            Err(_fault) => return false,
-        }
-    }
-    true
-}
-
-// Marks anew where the instructions of code begin: nowhere, where it has a fault or memory runs out.
-fn mark_code(code: &[u8], marks: &mut Vec<Mark>) -> Result<(), AllocError>
-    ensures marked { OnOk result (AreMarks marks.new.items (acts (instructions_in code.now))) }
-    ensures few { OnOk result (length marks.new.items ≤ length code.now) }
-    ensures none { OnErr result (marks.new.items ≡ []) }
-{
-    clear_marks(marks, code.len())?;
-    if !mark_starts(code, marks) {
-        marks.clear();
+        let (at, insn) = step?;
+        marks[at] = mark_of(&insn);
     }
     Ok(())
 }
@@ -134,30 +120,22 @@ fn mark_list(list: &[(u16, Insn<'_>)], marks: &mut [Mark])
 }
 
 impl<'a> CodeStarts<'a> {
-    ghost use Rattle.std.specs.Prelude.{IfOk};
+    ghost use Rattle.std.specs.Prelude.{ℕ, List, IfOk, IfErr};
     ghost use Rattle.layout.specs.declared.limits.TheConstants.{MAX_CODE_BYTES};
     ghost use Rattle.frames.specs.MarkedCode.{code_in};
 
-    /// Where the instructions of this code begin, which has at most 65,535 bytes (JVMS 4.7.3): nowhere, where it has a
-    /// fault.
-    pub fn new(alloc: Global, code: &'a [u8]) -> Result<CodeStarts<'a>, AllocError>
+    /// Where the instructions of this code begin, which has at most 65,535 bytes (JVMS 4.7.3); or the fault of the first that is none, 31 to
+    /// 35; or 1 where memory ran out.
+    pub fn new(alloc: Global, code: &'a [u8]) -> Result<CodeStarts<'a>, CodeFault>
         requires { length code.now ≤ MAX_CODE_BYTES }
-        ensures { IfOk result (λ s. code_in s ≡ code.now) }
+        ensures found { IfOk result (λ s. code_in s ≡ code.now) }
+        ensures spelled { OnOk result ((xs : List (ℕ × Instruction)) × SpellsCode 0 code.now xs) }
+        ensures fault { IfErr result (λ e. UnlessMemory e (FaultyCode code.now e)) }
     {
         let mut marks: Vec<Mark> = Vec::new(alloc);
-        mark_code(code, &mut marks)?;
+        clear_marks(&mut marks, code.len())?;
+        mark_starts(code, &mut marks)?;
         Ok(CodeStarts { code, marks })
-    }
-
-    /// The same for another code, in the memory that is there.
-    pub fn fill(&mut self, code: &'a [u8]) -> Result<(), AllocError>
-        requires { length code.now ≤ MAX_CODE_BYTES }
-        ensures { OnOk result (code_in self.new ≡ code.now) }
-    {
-        self.code = &[];
-        mark_code(code, &mut self.marks)?;
-        self.code = code;
-        Ok(())
     }
 }
 

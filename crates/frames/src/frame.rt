@@ -1,7 +1,7 @@
 //! Frames.
 use crate::vtype::VType;
 
-/// What is known of the locals and of the operand stack before an instruction (JVMS 4.10.1.4).
+/// The types of the locals and of the items of the operand stack before an instruction (JVMS 4.10.1.4).
 #[derive(Debug, Drop)]
 pub struct Frame<'a> {
     /// The types of all locals, max_locals of them. A long or double is its type and then `Top`.

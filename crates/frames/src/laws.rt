@@ -1,4 +1,4 @@
-//! What the answers of the comparisons mean, and that declared frames tell the same in both of their forms.
+//! The meaning of the answers of the comparisons, and that declared frames tell the same in both of their forms.
 ghost use Rattle.frames.specs.DeclaredForms.{FormsAgree};
 ghost use Rattle.frames.specs.Meaning.{ClassesHaveOneAnswer, TypesMean, FramesHaveOneAnswer, FramesToThemselves};
 

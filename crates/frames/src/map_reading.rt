@@ -11,7 +11,7 @@ use crate::stack_map::{MapEntry, TypeInfo};
 use layout::{Cursor, ReadFault, many};
 use std::alloc::Global;
 
-/// What stands behind a tag.
+/// The value that follows a tag.
 fn behind_tag(tag: u8, cursor: &mut Cursor<'_>) -> Result<TypeInfo, ReadFault>
     requires { 0 < cursor.now.at }
     ensures { GoesOn (type_behind tag) info_of cursor.old cursor.new result }
@@ -88,7 +88,7 @@ fn full(alloc: Global, cursor: &mut Cursor<'_>) -> Result<MapEntry, ReadFault>
     Ok(MapEntry::Full(delta, locals, stack))
 }
 
-/// What stands behind a frame type; 128 to 246 are reserved.
+/// The entry that follows a frame type; 128 to 246 are reserved.
 fn behind_type(
     alloc: Global,
     frame_type: u8,

@@ -128,7 +128,7 @@ fn put_full(
     put_type_table(out, stack)
 }
 
-/// What stands behind an entry's frame type.
+/// Writes the part of an entry that follows its frame type.
 fn put_behind(out: &mut Output, entry: &MapEntry) -> Result<(), WriteFault>
     ensures { Goes (behind_pieces (entry_of entry.now)) out.old out.new result }
 {

@@ -22,7 +22,7 @@ pub struct Limits {
     pub max_stack: u16,
 }
 
-/// What may be wrong with a type of an entry.
+/// The faults that a type of an entry may have.
 #[derive(Clone, Copy, Debug)]
 pub enum Wrong {
     /// The index of its class names nothing.

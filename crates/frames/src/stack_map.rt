@@ -24,7 +24,7 @@ pub enum TypeInfo {
     UninitializedThis,
     /// The class that stands at this index of the constant pool.
     Object(u16),
-    /// What the `new` at this offset of the code made, in bytes.
+    /// The object that the `new` at this offset of the code made, in bytes, and that no constructor was called for.
     Uninitialized(u16),
 }
 
@@ -186,9 +186,9 @@ impl<'a> Part<'a> for StackMap {
 /// Otherwise the first fault in the order of the bytes: 2 where a part passes the end, 47 for a frame type, 48 for a type's tag, and
 /// 12 at the first byte left over; or 1 where memory runs out. Places count bytes from the body's first.
 pub fn read_map(alloc: Global, body: &[u8]) -> Result<StackMap, ReadFault>
-    // What is answered is spelled by the body.
+    // The answer is spelled by the body.
     ensures found { IfOk result (λ m. IsMap body.now m) }
-    // What the body spells is answered, unless memory runs out.
+    // The map that the body spells is answered, unless memory runs out.
     ensures only { (es : List maps.MapEntry) → IsMap body.now es → IfErr result (λ e. e ≡ OutOfMemory) }
     // Which fault it is.
     ensures fault { IfErr result (λ e. UnlessMemory e (MapFault body.now e)) }

@@ -1,7 +1,7 @@
 //! Verification types.
 use names::Base;
 
-/// What a local variable or an item of the operand stack is known to hold (JVMS 4.10.1.2).
+/// The kind of value that a local variable or an item of the operand stack is known to hold (JVMS 4.10.1.2).
 #[derive(Clone, Copy, Debug, PartialEq, Eq)]
 pub enum VType<'a> {
     /// Anything, or nothing that may be used.

@@ -154,3 +154,8 @@ act_of means.Unsupported x = Unsupported
 -- the act of an instruction; behind `wide` that of the opcode which is modified
 abbrev pub act : Instruction → Act
 act i = act_of (meaning (modified i.opcode i.operands)) i.operands
+
+-- the class of which `new` makes an object, by its index (JVMS 6.5, new)
+abbrev pub made_index : Act → Option ℕ
+made_index (New i) = Some i
+made_index _ = None

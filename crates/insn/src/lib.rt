@@ -52,7 +52,7 @@ pub use laws::{
     code_is_one_list, list_is_one_code, opcodes_have_numbers, read_is_written,
     readings_are_spellings, written_is_read,
 };
-pub use meaning::act;
+pub use meaning::{act, made_index};
 pub use opcode::Opcode;
 pub use operation::{Act, Kind, Meaning, NumericOperator, computed_as, takes_array};
 pub use reading::read_insn;

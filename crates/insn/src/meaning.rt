@@ -1,7 +1,7 @@
 //! The meaning of an instruction, from its opcode and its operands. No call takes memory.
 ghost use Rattle.std.specs.Prelude.{◌≡◌};
 ghost use Rattle.insn.specs.Code.{modified};
-ghost use Rattle.insn.specs.Meanings.{Switch, act, act_of, local_of, index_of, byte_of, offset_of, offsets_of, element_of};
+ghost use Rattle.insn.specs.Meanings.{Switch, act, made_index, act_of, local_of, index_of, byte_of, offset_of, offsets_of, element_of};
 ghost use Rattle.insn.specs.Views.{view, operands_view, act_view, targets_view};
 
 use crate::instruction::{Insn, Operands, modified};
@@ -16,6 +16,16 @@ pub fn act<'a>(insn: &Insn<'a>) -> Act<'a>
     ensures { act_view result ≡ act (view insn.now) }
 {
     act_of(modified(insn).meaning(), insn.operands)
+}
+
+/// The index of the class of which an instruction makes an object, where it is a `new` (JVMS 6.5, new). Takes no memory.
+pub fn made_index(insn: &Insn<'_>) -> Option<u16>
+    ensures { result ≡ made_index (act (view insn.now)) }
+{
+    match modified(insn).meaning() {
+        Meaning::New => Some(parts_of(insn.operands).index),
+        _ => None,
+    }
 }
 
 /// The act of this meaning with these operands.

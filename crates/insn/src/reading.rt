@@ -23,6 +23,7 @@ fn or_cut<T: Drop>(at: usize, answer: Result<T, ReadFault>) -> Result<T, CodeFau
 }
 
 /// Reads the operands behind an opcode of this form.
+#[inline(never)]
 #[tactic(auto, unfolding(crate::specs::Instructions::operands_at))]
 fn operands<'a>(cursor: &mut Cursor<'a>, at: usize, form: Form) -> Result<Operands<'a>, CodeFault>
     ensures { Decodes at (operands_at at form) operands_view cursor.old cursor.new result }
@@ -277,7 +278,14 @@ fn behind_opcode<'a>(
 ) -> Result<Insn<'a>, CodeFault>
     ensures { Decodes at (behind_opcode at (Some opcode)) view cursor.old cursor.new result }
 {
-    let operands = operands(cursor, at, opcode.form())?;
+    let form = opcode.form();
+    if let Form::Nothing = form {
+        return Ok(Insn {
+            opcode,
+            operands: Operands::Nothing,
+        });
+    }
+    let operands = operands(cursor, at, form)?;
     Ok(Insn { opcode, operands })
 }
 

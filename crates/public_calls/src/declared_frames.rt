@@ -40,7 +40,9 @@ fn has(
 
 /// Whether the frames of the entries are found by their offsets.
 fn are_found(alloc: Global, class: &ClassFile<'_>) -> Result<bool, AllocError> {
-    let starts = CodeStarts::new(alloc, &CODE)?;
+    let Ok(starts) = CodeStarts::new(alloc, &CODE) else {
+        return Ok(false);
+    };
     let entries = entries(alloc)?;
     let pool = &class.constant_pool;
     let mut constants = Descriptors::new(alloc, pool);

@@ -1,5 +1,6 @@
 pub mod Elements
 mod Examples
+mod Unnamed
 pub mod Going
 pub mod Holding
 pub mod Keeping

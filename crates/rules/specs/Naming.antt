@@ -1,5 +1,5 @@
 -- Which constant an instruction names, and what the program keeps of it.
-use Rattle.std.specs.Prelude.{◌≡◌, ℕ, Bool, false, ◌&&◌, Option, Some, None, option_map}
+use Rattle.std.specs.Prelude.{◌≡◌, ℕ, Bool, false, ◌&&◌, Option, Some, None, is_none, option_map}
 use Rattle.std.specs.Option.{option_and_then}
 use Rattle.names.specs.References.{reference_view}
 use Rattle.names.specs.declared.references.RefType.{RefType}
@@ -36,6 +36,9 @@ method_index (acts.InvokeSpecial i) = Some i
 method_index (acts.InvokeStatic i) = Some i
 method_index (acts.InvokeInterface i count) = Some i
 method_index _ = None
+
+abbrev pub names_nothing : Act → Bool
+names_nothing a = is_none (class_index a) && is_none (field_index a) && is_none (method_index a)
 
 -- the field of the class itself that `putfield` sets in an instance initialization method
 abbrev pub is_own : methods.Method Act → Option members.FieldConstant → Bool

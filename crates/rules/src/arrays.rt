@@ -70,6 +70,7 @@ fn element_beneath<'a>(stack: &[VType<'a>]) -> VType<'a>
 }
 
 /// `iaload`, `laload`, `faload`, `daload`, `baload`, `caload` and `saload`
+#[inline(never)]
 pub fn load_element<'a, C: Classes>(
     method: &CodeMethod<'_, 'a>,
     element: Primitive,
@@ -85,6 +86,7 @@ pub fn load_element<'a, C: Classes>(
 }
 
 /// `iastore`, `lastore`, `fastore`, `dastore`, `bastore`, `castore` and `sastore`
+#[inline(never)]
 pub fn store_element<'a, C: Classes>(
     method: &CodeMethod<'_, 'a>,
     element: Primitive,
@@ -103,6 +105,7 @@ pub fn store_element<'a, C: Classes>(
 }
 
 /// `aastore`
+#[inline(never)]
 pub fn store_reference_element<'a, C: Classes>(
     method: &CodeMethod<'_, 'a>,
     frame: &mut Working<'a>,
@@ -122,6 +125,7 @@ pub fn store_reference_element<'a, C: Classes>(
 }
 
 /// `aaload`
+#[inline(never)]
 pub fn load_reference_element<'a, C: Classes>(
     method: &CodeMethod<'_, 'a>,
     frame: &mut Working<'a>,
@@ -141,6 +145,7 @@ pub fn load_reference_element<'a, C: Classes>(
 }
 
 /// `newarray`
+#[inline(never)]
 pub fn new_array<'a, C: Classes>(
     method: &CodeMethod<'_, 'a>,
     element: Option<Primitive>,
@@ -163,6 +168,7 @@ pub fn new_array<'a, C: Classes>(
 }
 
 /// `anewarray` of the component that it names
+#[inline(never)]
 pub fn new_reference_array<'a, C: Classes>(
     method: &CodeMethod<'_, 'a>,
     named: Option<RefType<'a>>,
@@ -199,6 +205,7 @@ fn sizes<'a>(alloc: Global, count: u8) -> Result<Vec<Want<'a>>, AllocError>
 }
 
 /// `multianewarray` of the array that it names
+#[inline(never)]
 pub fn new_multi_array<'a, C: Classes>(
     alloc: Global,
     method: &CodeMethod<'_, 'a>,
@@ -223,6 +230,7 @@ pub fn new_multi_array<'a, C: Classes>(
 }
 
 /// `checkcast` to the type that it names
+#[inline(never)]
 pub fn check_cast<'a, C: Classes>(
     method: &CodeMethod<'_, 'a>,
     named: Option<RefType<'a>>,
@@ -241,6 +249,7 @@ pub fn check_cast<'a, C: Classes>(
 }
 
 /// `instanceof` of the type that it names
+#[inline(never)]
 pub fn instance_of<'a, C: Classes>(
     method: &CodeMethod<'_, 'a>,
     named: Option<RefType<'a>>,

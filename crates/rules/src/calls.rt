@@ -126,6 +126,7 @@ fn may_invoke_static(major: u16, called: &MethodConstant<'_>) -> bool
 }
 
 /// `invokestatic` of the method that it names
+#[inline(never)]
 pub fn invoke_static<'a, C: Classes>(
     alloc: Global,
     method: &CodeMethod<'_, 'a>,
@@ -155,6 +156,7 @@ fn may_invoke_virtual(called: &MethodConstant<'_>) -> bool
 }
 
 /// `invokevirtual` of the method that it names
+#[inline(never)]
 pub fn invoke_virtual<'a, C: Classes>(
     alloc: Global,
     method: &CodeMethod<'_, 'a>,
@@ -189,6 +191,7 @@ fn may_invoke_interface(count: u8, called: &MethodConstant<'_>) -> bool
 }
 
 /// `invokeinterface` of the method that it names
+#[inline(never)]
 pub fn invoke_interface<'a, C: Classes>(
     alloc: Global,
     method: &CodeMethod<'_, 'a>,

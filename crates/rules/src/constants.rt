@@ -18,6 +18,7 @@ use names::{CLASS, METHOD_HANDLE, METHOD_TYPE, STRING};
 use pool::Constant;
 
 /// `ldc` and `ldc_w`
+#[inline(never)]
 pub fn load_constant<'a, C: Classes>(
     method: &CodeMethod<'_, 'a>,
     index: u16,
@@ -42,6 +43,7 @@ pub fn load_constant<'a, C: Classes>(
 }
 
 /// `ldc2_w`
+#[inline(never)]
 pub fn load_wide_constant<'a, C: Classes>(
     method: &CodeMethod<'_, 'a>,
     index: u16,

@@ -59,8 +59,7 @@ pub fn gives<'a, C: Classes>(
         let p = pops [] (pushed_types gives.entry) [] true in
         Done (conditions (C.content classes.now) m 0 p f) (after m 0 p f) (held frame.new) result }
 {
-    let nothing: &[Want<'a>] = &[];
-    pops(method, nothing, gives, frame, classes)
+    settle(method, Answer::Yes, gives, frame)
 }
 
 /// Pops the operands that are asked, the top first, and pushes a result.
@@ -170,6 +169,7 @@ pub fn returns<'a>(method: &CodeMethod<'_, 'a>, frame: &mut Working<'a>) -> Resu
 }
 
 /// A return without a value.
+#[inline(never)]
 pub fn return_nothing<'a>(
     method: &CodeMethod<'_, 'a>,
     frame: &mut Working<'a>,
@@ -185,6 +185,7 @@ pub fn return_nothing<'a>(
 }
 
 /// A return of a number.
+#[inline(never)]
 pub fn return_number<'a, C: Classes>(
     method: &CodeMethod<'_, 'a>,
     kind: Kind,
@@ -206,6 +207,7 @@ pub fn return_number<'a, C: Classes>(
 }
 
 /// A return of a reference.
+#[inline(never)]
 pub fn return_reference<'a, C: Classes>(
     method: &CodeMethod<'_, 'a>,
     frame: &mut Working<'a>,

@@ -21,6 +21,7 @@ use names::RefType;
 use pool::FieldConstant;
 
 /// `getstatic` of the field that it names
+#[inline(never)]
 pub fn get_static<'a, C: Classes>(
     method: &CodeMethod<'_, 'a>,
     named: Option<FieldConstant<'a>>,
@@ -38,6 +39,7 @@ pub fn get_static<'a, C: Classes>(
 }
 
 /// `putstatic` of the field that it names
+#[inline(never)]
 pub fn put_static<'a, C: Classes>(
     method: &CodeMethod<'_, 'a>,
     named: Option<FieldConstant<'a>>,
@@ -55,6 +57,7 @@ pub fn put_static<'a, C: Classes>(
 }
 
 /// `getfield` of the field that it names
+#[inline(never)]
 pub fn get_field<'a, C: Classes>(
     method: &CodeMethod<'_, 'a>,
     named: Option<FieldConstant<'a>>,
@@ -91,6 +94,7 @@ fn target_of<'a>(_method: &CodeMethod<'_, 'a>, field: &FieldConstant<'a>, own: b
 }
 
 /// `putfield` of the field that it names; `own` tells whether an instance initialization method sets a field of its own class.
+#[inline(never)]
 pub fn put_field<'a, C: Classes>(
     method: &CodeMethod<'_, 'a>,
     named: Option<FieldConstant<'a>>,

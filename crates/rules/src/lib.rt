@@ -6,6 +6,7 @@
 //! - `environment`: what an instruction is judged in.
 //! - `operands`: what is asked of operands, and how deep the stack is.
 //! - `families`: operands to results, loads, increments and returns.
+//! - `computing`: operands to a result, an instruction a function.
 //! - `stores`: stores to local variables.
 //! - `stacks`: instructions that move what is on the stack.
 //! - `constants`: instructions that load constants.
@@ -38,6 +39,7 @@
 mod applying;
 mod arrays;
 mod calls;
+mod computing;
 mod constants;
 mod constructing;
 mod declaring_class;
@@ -66,6 +68,6 @@ pub use environment::Env;
 pub use naming::{Named, named_by};
 pub use own_object::constructs_own;
 pub use reason::Reason;
-pub use running::run;
-pub use ways::{branches, branches_by, falls, goes_on, keeps_locals};
+pub use running::{run, run_unnamed};
+pub use ways::{branches, branches_by, falls, goes_on, is_plain, keeps_locals};
 pub use working::Working;

@@ -36,6 +36,7 @@ fn makes<'a>(
 }
 
 /// `new`
+#[inline(never)]
 pub fn new_object<'a>(
     method: &CodeMethod<'_, 'a>,
     at: u16,

@@ -32,6 +32,7 @@ pub enum Named<'a> {
 
 impl<'a> Named<'a> {
     /// The type that the instruction names.
+    #[inline(never)]
     pub fn class(&self) -> Option<RefType<'a>>
         ensures { result ≡ kept_class self.now }
     {
@@ -42,6 +43,7 @@ impl<'a> Named<'a> {
     }
 
     /// The field that the instruction names.
+    #[inline(never)]
     pub fn field(&self) -> Option<FieldConstant<'a>>
         ensures { result ≡ kept_field self.now }
     {
@@ -88,7 +90,7 @@ fn is_own<'a>(
     let Some(field) = field else {
         return Ok(false);
     };
-    if !method.is_init || own_class(method) != field.class {
+    if !method.is_init || !(fields.names_class(index) || own_class(method) == field.class) {
         return Ok(false);
     }
     fields.declares(index)

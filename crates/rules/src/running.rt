@@ -1,12 +1,12 @@
 //! The rule of an instruction, on a frame in place.
-ghost use Rattle.std.specs.Prelude.{◌≡◌, length};
+ghost use Rattle.std.specs.Prelude.{◌≡◌, true, length};
 ghost use Rattle.insn.specs.Views.{act_view};
 ghost use Rattle.rules.specs.Table.{plan};
 ghost use Rattle.rules.specs.After.{after};
 ghost use Rattle.rules.specs.Rules.{conditions};
 ghost use Rattle.rules.specs.Bodies.{method_view};
 ghost use Rattle.rules.specs.Held.{held};
-ghost use Rattle.rules.specs.Naming.{IsNamed};
+ghost use Rattle.rules.specs.Naming.{IsNamed, names_nothing};
 ghost use Rattle.rules.specs.Outcomes.{Done};
 
 use crate::arrays::{
@@ -14,9 +14,13 @@ use crate::arrays::{
     new_reference_array, store_element, store_reference_element,
 };
 use crate::calls::{invoke_interface, invoke_static, invoke_virtual};
+use crate::computing::{
+    array_length, computes, gives_null, gives_number, takes_int, takes_ints, takes_nothing,
+    takes_reference, takes_references, throws,
+};
 use crate::constants::{load_constant, load_wide_constant};
 use crate::families::{
-    counts, gives, loads, loads_number, pops, return_nothing, return_number, return_reference,
+    counts, loads, loads_number, return_nothing, return_number, return_reference,
 };
 use crate::fields::{get_field, get_static, put_field, put_static};
 use crate::making::new_object;
@@ -25,12 +29,12 @@ use crate::reason::Reason;
 use crate::special::invoke_special;
 use crate::stacks::rearranges;
 use crate::stores::{stores, stores_number};
-use crate::want::{Want, throwable};
+use crate::want::Want;
 use crate::working::Working;
 use classfile::CodeMethod;
-use frames::{Starts, VType, number_type};
+use frames::Starts;
 use hierarchy::Classes;
-use insn::{Act, Kind};
+use insn::Act;
 use std::alloc::Global;
 
 /// Runs the instruction at an offset on a frame, in place, by its rule (JVMS 4.10.1.9). The frame has max_locals
@@ -56,9 +60,9 @@ pub fn run<'a, S: Starts, C: Classes>(
         Done (conditions (C.content classes.now) m at p f) (after m at p f) (held frame.new) result }
 {
     match act {
-        Act::Nothing | Act::Goto { .. } => gives(method, None, frame, classes),
-        Act::Constant(kind) => gives(method, Some(number_type(kind)), frame, classes),
-        Act::ConstantNull => gives(method, Some(VType::Null), frame, classes),
+        Act::Nothing | Act::Goto { .. } => takes_nothing(method, frame, classes),
+        Act::Constant(kind) => gives_number(method, kind, frame, classes),
+        Act::ConstantNull => gives_null(method, frame, classes),
         Act::LoadConstant { index } => load_constant(method, index, frame, classes),
         Act::LoadWideConstant { index } => load_wide_constant(method, index, frame, classes),
         Act::Load { kind, local } => loads_number(method, kind, local, frame, classes),
@@ -66,21 +70,16 @@ pub fn run<'a, S: Starts, C: Classes>(
         Act::Store { kind, local } => stores_number(method, kind, local, frame, classes),
         Act::StoreReference { local } => stores(method, Want::Reference, local, 1, frame, classes),
         Act::Increment { local } => counts(method, local, frame, classes),
-        Act::Numeric(operator) => {
-            let (taken, given) = operator.row();
-            pops(method, taken, Some(number_type(given)), frame, classes)
-        }
+        Act::Numeric(operator) => computes(method, operator, frame, classes),
         Act::Stack(operator) => rearranges(method, operator, frame),
-        Act::IfInt { .. } | Act::Switch { .. } => pops(method, &[Kind::Int], None, frame, classes),
-        Act::IfInts { .. } => pops(method, &[Kind::Int, Kind::Int], None, frame, classes),
-        Act::IfReferences { .. } => pops(method, &[Want::Reference; 2], None, frame, classes),
-        Act::IfNull { .. } | Act::Monitor => {
-            pops(method, &[Want::Reference], None, frame, classes)
-        }
+        Act::IfInt { .. } | Act::Switch { .. } => takes_int(method, frame, classes),
+        Act::IfInts { .. } => takes_ints(method, frame, classes),
+        Act::IfReferences { .. } => takes_references(method, frame, classes),
+        Act::IfNull { .. } | Act::Monitor => takes_reference(method, frame, classes),
         Act::Return(kind) => return_number(method, kind, frame, classes),
         Act::ReturnReference => return_reference(method, frame, classes),
         Act::ReturnVoid => return_nothing(method, frame),
-        Act::Throw => pops(method, &[throwable()], None, frame, classes),
+        Act::Throw => throws(method, frame, classes),
         Act::GetStatic { .. } => get_static(method, named.field(), frame, classes),
         Act::PutStatic { .. } => put_static(method, named.field(), frame, classes),
         Act::GetField { .. } => get_field(method, named.field(), frame, classes),
@@ -97,7 +96,7 @@ pub fn run<'a, S: Starts, C: Classes>(
         Act::StoreElement(element) => store_element(method, element, frame, classes),
         Act::LoadReferenceElement => load_reference_element(method, frame, classes),
         Act::StoreReferenceElement => store_reference_element(method, frame, classes),
-        Act::ArrayLength => pops(method, &[Want::Array], Some(VType::Int), frame, classes),
+        Act::ArrayLength => array_length(method, frame, classes),
         Act::NewArray(element) => new_array(method, element, frame, classes),
         Act::NewReferenceArray { .. } => new_reference_array(method, named.class(), frame, classes),
         Act::NewMultiArray { dimensions, .. } => {
@@ -108,4 +107,33 @@ pub fn run<'a, S: Starts, C: Classes>(
         Act::New { index } => new_object(method, at, index, frame),
         Act::Unsupported => Err(Reason::NotSupported),
     }
+}
+
+/// Runs an instruction that names no class, field or method that is looked up, as [`run`] does.
+pub fn run_unnamed<'a, S: Starts, C: Classes>(
+    alloc: Global,
+    method: &CodeMethod<'_, 'a>,
+    starts: &S,
+    at: u16,
+    act: Act<'a>,
+    frame: &mut Working<'a>,
+    classes: &C,
+) -> Result<(), Reason<'a>>
+    requires locals { length (held frame.old).locals ≡ method.now.code.now.max_locals }
+    requires nothing { names_nothing (act_view act) ≡ true }
+    requires code { S.code starts.now ≡ (method_view method.now).code }
+    ensures { let m = method_view method.now in let f = held frame.old in
+        let p = plan m (act_view act.entry) in
+        Done (conditions (C.content classes.now) m at p f) (after m at p f) (held frame.new) result }
+{
+    run(
+        alloc,
+        method,
+        starts,
+        at,
+        act,
+        &Named::Nothing,
+        frame,
+        classes,
+    )
 }

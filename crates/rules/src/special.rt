@@ -121,6 +121,7 @@ fn call_special<'a, C: Classes>(
 }
 
 /// `invokespecial` of the method that it names
+#[inline(never)]
 pub fn invoke_special<'a, S: Starts, C: Classes>(
     alloc: Global,
     method: &CodeMethod<'_, 'a>,

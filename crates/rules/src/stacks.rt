@@ -86,6 +86,7 @@ fn units_taken(forms: &[StackForm]) -> usize
 }
 
 /// An instruction that moves what is on the stack.
+#[inline(never)]
 pub fn rearranges<'a>(
     method: &CodeMethod<'_, 'a>,
     operator: StackOperator,

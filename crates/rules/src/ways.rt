@@ -2,7 +2,7 @@
 ghost use Rattle.std.specs.Prelude.{◌≡◌};
 ghost use Rattle.insn.specs.Meanings.{act};
 ghost use Rattle.insn.specs.Views.{view, act_view};
-ghost use Rattle.rules.specs.Ways.{goes_on, branch_offsets, keeps_locals};
+ghost use Rattle.rules.specs.Ways.{goes_on, branch_offsets, keeps_locals, is_plain};
 ghost use Rattle.insn.specs.Branching.{branches_view};
 
 use insn::{Act, Branches, Insn, act};
@@ -38,6 +38,33 @@ pub fn keeps_locals(act: &Act<'_>) -> bool
     !matches!(
         act,
         Act::Store { .. } | Act::StoreReference { .. } | Act::InvokeSpecial { .. } | Act::New { .. }
+    )
+}
+
+/// Whether an instruction that means this goes on to the next one and nowhere else, leaves all locals as they are, and names no class, field
+/// or method that is looked up.
+pub fn is_plain(act: &Act<'_>) -> bool
+    ensures { result ≡ is_plain (act_view act.now) }
+{
+    matches!(
+        act,
+        Act::Nothing
+            | Act::Constant(_)
+            | Act::ConstantNull
+            | Act::LoadConstant { .. }
+            | Act::LoadWideConstant { .. }
+            | Act::Load { .. }
+            | Act::LoadReference { .. }
+            | Act::Increment { .. }
+            | Act::Numeric(_)
+            | Act::Stack(_)
+            | Act::LoadElement(_)
+            | Act::StoreElement(_)
+            | Act::LoadReferenceElement
+            | Act::StoreReferenceElement
+            | Act::ArrayLength
+            | Act::NewArray(_)
+            | Act::Monitor
     )
 }
 

@@ -18,6 +18,7 @@ pub mod TableEntries
 pub mod Comparing
 pub mod Going
 pub mod Ends
+mod Plain
 pub mod Repeated
 pub mod Onward
 pub mod Parameters

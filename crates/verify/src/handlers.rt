@@ -61,7 +61,8 @@ impl<'a> Handlers<'a> {
     ghost use Rattle.verify.specs.Keeping.{IsKnown, IsSameBeneath};
     ghost use Rattle.verify.specs.ExceptionTables.{entry_view, AreNumbered};
     ghost use Rattle.verify.specs.Handling.{Follows, AreAhead, Settles, Catches};
-    ghost use Rattle.verify.specs.Verdict.{is_covered};
+    ghost use Rattle.frames.specs.Conditions.{least};
+    ghost use Rattle.verify.specs.Verdict.{is_covered, handler_conditions};
     ghost use Rattle.verify.specs.declared.exceptions.Entry as entries;
 
     /// Those of this table, before the code.
@@ -105,6 +106,14 @@ impl<'a> Handlers<'a> {
             self.begun += 1;
         }
         Ok(())
+    }
+
+    /// Whether nothing is to be done at an offset: no range begins there, and all entries that cover it were compared with the frame.
+    pub fn are_idle(&self, at: u16) -> bool
+        ensures { result ≡ true → (cs : List ClassFact) (frames : Frames) (es : List ExceptionEntry) (f : FrameFact)
+            → Follows cs frames es at f self.now → AreAhead at self.now × (least (handler_conditions cs frames at f es) ≡ None) }
+    {
+        self.fresh.is_empty() && self.next(at).is_none()
     }
 
     /// Behind a change of the frame: unless its locals and its flag are the same, all are to be compared again.

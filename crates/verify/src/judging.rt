@@ -3,6 +3,7 @@ ghost use Rattle.std.specs.Prelude.{◌≡◌, ◌≤◌, ◌&&◌, ℕ, Option,
 ghost use Rattle.layout.specs.declared.limits.TheConstants.{MAX_CODE_BYTES};
 ghost use Rattle.insn.specs.Instructions.{Instruction};
 ghost use Rattle.insn.specs.Code.{SpellsCode};
+ghost use Rattle.insn.specs.Offsets.{at_offset};
 ghost use Rattle.insn.specs.Views.{act_view};
 ghost use Rattle.frames.specs.DeclaredTables.{frames_in, locals_in};
 ghost use Rattle.frames.specs.MarkedCode.{code_in};
@@ -18,7 +19,7 @@ ghost use Rattle.rules.specs.Naming.{IsNamed};
 ghost use Rattle.rules.specs.Ways.{goes_on};
 ghost use Rattle.verify.specs.InitialFrames.{initial_frame};
 ghost use Rattle.verify.specs.Verdict.{handler_conditions, at_conditions, code_judged, is_covered};
-ghost use Rattle.verify.specs.Steps.{Judges, Gives};
+ghost use Rattle.verify.specs.Steps.{Enters, Judges, Gives};
 ghost use Rattle.verify.specs.Keeping.{IsKnown};
 ghost use Rattle.verify.specs.Handling.{AreAhead, Follows};
 ghost use Rattle.verify.specs.TypeSafety.{Frames};
@@ -31,18 +32,19 @@ use crate::place_set::PlaceSet;
 use crate::refusal::refuse;
 use crate::verdict::{Verdict, VerifyFault};
 use classfile::{CodeMethod, OwnFields};
-use frames::{CodeStarts, DeclaredFrames};
+use frames::{CodeStarts, Declared, DeclaredFrames};
 use hierarchy::Classes;
 use insn::{Act, Instructions, act};
 use pool::Descriptors;
 use rules::{
-    Named, Reason, Working, branches_by, constructs_own, goes_on, keeps_locals, named_by, run,
+    Named, Reason, Working, branches_by, constructs_own, goes_on, is_plain, keeps_locals, named_by,
+    run, run_unnamed,
 };
 use std::alloc::{AllocError, Global};
 
-/// Judges an instruction in the frame before it, which becomes the frame after. Of the frame at the next start nothing is asked. What is
-/// caught in the frame before was judged. What is known of locals is known of the frame after.
-fn judge<'n, 'a, C: Classes>(
+/// Judges an instruction that names this, in the frame before it, which becomes the frame after. Of the frame at the next start nothing is
+/// asked. What is caught in the frame before was judged. What is known of locals is known of the frame after.
+fn judge_named<'n, 'a, C: Classes>(
     alloc: Global,
     method: &CodeMethod<'_, 'a>,
     starts: &CodeStarts<'_>,
@@ -85,6 +87,58 @@ fn judge<'n, 'a, C: Classes>(
     }
 }
 
+/// The frame that goes on, if one does, comes to a start, and becomes the one that is declared there, if one is: 69, 70 and 77 as [`enter`]
+/// refuses. What is known of locals, and the handlers that were compared, stay so of the frame that it becomes.
+#[inline(never)]
+fn take_up<'n, 'a, C: Classes>(
+    at: u16,
+    comes: bool,
+    frames: &'n DeclaredFrames<'a>,
+    known: &mut Known<'n, 'a>,
+    handlers: &mut Handlers<'a>,
+    frame: &mut Working<'a>,
+    classes: &C,
+) -> Result<(), Reason<'a>>
+    requires locals { length (held frame.old).locals ≡ locals_in frames.now }
+    requires known { IsKnown (C.content classes.now) frames.now (held frame.old) known.old }
+    ensures entered { Enters (C.content classes.now) comes (held frame.old) (at_offset (frames_in frames.now) at) (held frame.new) result }
+    ensures locals { OnOk result (length (held frame.new).locals ≡ length (held frame.old).locals) }
+    ensures known { OnOk result (IsKnown (C.content classes.now) frames.now (held frame.new) known.new) }
+    ensures handlers { (es : List ExceptionEntry) (place : ℕ) → let cs = C.content classes.now in let t = frames_in frames.now in
+        Follows cs t es place (held frame.old) handlers.old → OnOk result (Follows cs t es place (held frame.new) handlers.new) }
+{
+    let declared = frames.find(u32::from(at));
+    let same = known.keeps(frame.flag(), declared);
+    enter(comes, declared, known.kept, known.fitting(), frame, classes)?;
+    handlers.behind(same)?;
+    *known = known.here(declared);
+    Ok(())
+}
+
+/// The same, in no time where a frame comes and none is declared.
+fn arrive<'n, 'a, C: Classes>(
+    at: u16,
+    comes: bool,
+    frames: &'n DeclaredFrames<'a>,
+    known: &mut Known<'n, 'a>,
+    handlers: &mut Handlers<'a>,
+    frame: &mut Working<'a>,
+    classes: &C,
+) -> Result<(), Reason<'a>>
+    requires locals { length (held frame.old).locals ≡ locals_in frames.now }
+    requires known { IsKnown (C.content classes.now) frames.now (held frame.old) known.old }
+    ensures entered { Enters (C.content classes.now) comes (held frame.old) (at_offset (frames_in frames.now) at) (held frame.new) result }
+    ensures locals { OnOk result (length (held frame.new).locals ≡ length (held frame.old).locals) }
+    ensures known { OnOk result (IsKnown (C.content classes.now) frames.now (held frame.new) known.new) }
+    ensures handlers { (es : List ExceptionEntry) (place : ℕ) → let cs = C.content classes.now in let t = frames_in frames.now in
+        Follows cs t es place (held frame.old) handlers.old → OnOk result (Follows cs t es place (held frame.new) handlers.new) }
+{
+    if comes && frames.find(u32::from(at)).is_none() {
+        return Ok(());
+    }
+    take_up(at, comes, frames, known, handlers, frame, classes)
+}
+
 /// Whether an entry of the exception table covers an instruction that calls a constructor on the own object. The entries have come to its
 /// offset.
 fn covers_constructor<'a>(
@@ -105,6 +159,108 @@ fn covers_constructor<'a>(
         return Ok(false);
     }
     handlers.covers(at)
+}
+
+/// Judges an instruction in the frame before it, which becomes the frame after: by its rule, its targets, and the handlers of the entries that
+/// cover it. What is known of locals, and the handlers that were compared, are so of the frame after.
+#[inline(never)]
+fn judge_wholly<'n, 'a, C: Classes>(
+    alloc: Global,
+    method: &CodeMethod<'_, 'a>,
+    starts: &CodeStarts<'_>,
+    at: u16,
+    act: Act<'a>,
+    last: bool,
+    constants: &mut Descriptors<'_, 'a>,
+    fields: &mut OwnFields<'_, 'a>,
+    frames: &'n DeclaredFrames<'a>,
+    known: &mut Known<'n, 'a>,
+    seen: &mut PlaceSet,
+    handlers: &mut Handlers<'a>,
+    frame: &mut Working<'a>,
+    classes: &C,
+) -> Result<(), Reason<'a>>
+    requires constants { constants.old ≡ method.now.class.now.constant_pool }
+    requires fields { fields.old ≡ method.now.class.now }
+    requires locals { length (held frame.old).locals ≡ method.now.code.now.max_locals }
+    requires starts { code_in starts.now ≡ method.now.code.now.code.now }
+    requires declared { locals_in frames.now ≡ method.now.code.now.max_locals }
+    requires known { IsKnown (C.content classes.now) frames.now (held frame.old) known.old }
+    requires handlers { let m = method_view method.now in Follows (C.content classes.now) (frames_in frames.now) m.exceptions at (held frame.old) handlers.old }
+    ensures same { constants.new ≡ constants.old }
+    ensures same_fields { fields.new ≡ fields.old }
+    ensures judged { (next : Option ℕ) → is_none next ≡ last →
+        let m = method_view method.now in let f = held frame.old in
+        let p = plan m (act_view act.entry) in
+        Done (at_conditions (C.content classes.now) m (frames_in frames.now) at p next f) (after m at p f) (held frame.new) result }
+    ensures known { OnOk result (IsKnown (C.content classes.now) frames.now (held frame.new) known.new) }
+    ensures handlers { let m = method_view method.now in OnOk result (Follows (C.content classes.now) (frames_in frames.now) m.exceptions at (held frame.new) handlers.new) }
+{
+    handlers.come_to(at)?;
+    let named = named_by(constants, fields, method, &act)?;
+    let covered = covers_constructor(method, at, &act, &named, handlers, frame)?;
+    let caught = handlers.catch(at, frame, frames, known, classes);
+    known.behind(&act);
+    handlers.behind(keeps_locals(&act))?;
+    judge_named(
+        alloc,
+        method,
+        starts,
+        at,
+        act,
+        &named,
+        goes_on(&act),
+        last,
+        caught,
+        covered,
+        frames,
+        known,
+        seen,
+        frame,
+        classes,
+    )
+}
+
+/// The same, by the rule alone where nothing else is asked: no handler is to be compared, and the instruction is plain and not the last one.
+fn judge<'n, 'a, C: Classes>(
+    alloc: Global,
+    method: &CodeMethod<'_, 'a>,
+    starts: &CodeStarts<'_>,
+    at: u16,
+    act: Act<'a>,
+    last: bool,
+    constants: &mut Descriptors<'_, 'a>,
+    fields: &mut OwnFields<'_, 'a>,
+    frames: &'n DeclaredFrames<'a>,
+    known: &mut Known<'n, 'a>,
+    seen: &mut PlaceSet,
+    handlers: &mut Handlers<'a>,
+    frame: &mut Working<'a>,
+    classes: &C,
+) -> Result<(), Reason<'a>>
+    requires constants { constants.old ≡ method.now.class.now.constant_pool }
+    requires fields { fields.old ≡ method.now.class.now }
+    requires locals { length (held frame.old).locals ≡ method.now.code.now.max_locals }
+    requires starts { code_in starts.now ≡ method.now.code.now.code.now }
+    requires declared { locals_in frames.now ≡ method.now.code.now.max_locals }
+    requires known { IsKnown (C.content classes.now) frames.now (held frame.old) known.old }
+    requires handlers { let m = method_view method.now in Follows (C.content classes.now) (frames_in frames.now) m.exceptions at (held frame.old) handlers.old }
+    ensures same { constants.new ≡ constants.old }
+    ensures same_fields { fields.new ≡ fields.old }
+    ensures judged { (next : Option ℕ) → is_none next ≡ last →
+        let m = method_view method.now in let f = held frame.old in
+        let p = plan m (act_view act.entry) in
+        Done (at_conditions (C.content classes.now) m (frames_in frames.now) at p next f) (after m at p f) (held frame.new) result }
+    ensures known { OnOk result (IsKnown (C.content classes.now) frames.now (held frame.new) known.new) }
+    ensures handlers { let m = method_view method.now in OnOk result (Follows (C.content classes.now) (frames_in frames.now) m.exceptions at (held frame.new) handlers.new) }
+{
+    if !last && is_plain(&act) && handlers.are_idle(at) {
+        return run_unnamed(alloc, method, starts, at, act, frame, classes);
+    }
+    judge_wholly(
+        alloc, method, starts, at, act, last, constants, fields, frames, known, seen, handlers,
+        frame, classes,
+    )
 }
 
 /// Judges code, by one pass over its bytes that carries one frame, the one with which the method begins.
@@ -141,25 +297,15 @@ pub fn pass<'a, C: Classes>(
             unreachable!();
         };
         let at = at as u16;
-        let declared = frames.find(u32::from(at));
-        let same = known.keeps(frame.flag(), declared);
-        if let Err(reason) = enter(comes, declared, known.kept, known.fitting(), frame, classes) {
+        if let Err(reason) = arrive(at, comes, frames, &mut known, handlers, frame, classes) {
             return refuse(at, reason);
         }
-        handlers.behind(same)?;
-        known = known.here(declared);
         let act = act(&insn);
-        handlers.come_to(at)?;
-        let named = named_by(constants, fields, method, &act)?;
-        let covered = covers_constructor(method, at, &act, &named, handlers, frame)?;
-        let caught = handlers.catch(at, frame, frames, &mut known, classes);
-        comes = goes_on(&act);
-        known = known.behind(&act);
-        handlers.behind(keeps_locals(&act))?;
         let last = code.is_at_end();
+        comes = goes_on(&act);
         let judged = judge(
-            alloc, method, starts, at, act, &named, comes, last, caught, covered, frames,
-            &mut known, seen, frame, classes,
+            alloc, method, starts, at, act, last, constants, fields, frames, &mut known, seen,
+            handlers, frame, classes,
         );
         if let Err(reason) = judged {
             return refuse(at, reason);

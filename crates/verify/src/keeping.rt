@@ -102,12 +102,11 @@ impl<'n, 'a> Known<'n, 'a> {
     }
 
     /// The same behind an instruction that means this.
-    pub fn behind(self, act: &Act<'_>) -> Known<'n, 'a>
-        ensures { (cs : List ClassFact) (t : DeclaredFrames) (m : Method acts.Act) (at : ℕ) (f : FrameFact) → IsKnown cs t f self.entry → IsKnown cs t (after m at (plan m (act_view act.now)) f) result }
+    pub fn behind(&mut self, act: &Act<'_>)
+        ensures { (cs : List ClassFact) (t : DeclaredFrames) (m : Method acts.Act) (at : ℕ) (f : FrameFact) → IsKnown cs t f self.old → IsKnown cs t (after m at (plan m (act_view act.now)) f) self.new }
     {
         if !keeps_locals(act) {
-            return Known::nothing();
+            *self = Known::nothing();
         }
-        self
     }
 }

@@ -32,7 +32,6 @@ use crate::verdict::{Verdict, VerifyFault};
 use classfile::{CodeMethod, Formed, OwnFields};
 use frames::{CodeStarts, DeclaredFrames};
 use hierarchy::Classes;
-use insn::count_instructions;
 use names::{FieldType, MethodType, method_type};
 use pool::Descriptors;
 use rules::{Reason, Working};
@@ -99,6 +98,7 @@ fn judge_code<'a, C: Classes>(
 fn judge_body<'a, C: Classes>(
     alloc: Global,
     method: &CodeMethod<'_, 'a>,
+    starts: &CodeStarts<'_>,
     parameters: &[FieldType<'a>],
     constants: &mut Descriptors<'_, 'a>,
     fields: &mut OwnFields<'_, 'a>,
@@ -107,6 +107,7 @@ fn judge_body<'a, C: Classes>(
 ) -> Result<Verdict<'a>, VerifyFault>
     requires constants { constants.old ≡ method.now.class.now.constant_pool }
     requires fields { fields.old ≡ method.now.class.now }
+    requires starts { code_in starts.now ≡ method.now.code.now.code.now }
     requires parameters { (method_view method.now).type.params ≡ map type_of parameters.now }
     requires spelled { (xs : List (ℕ × Instruction)) × SpellsCode 0 method.now.code.now.code.now xs }
     requires few { length method.now.code.now.code.now ≤ MAX_CODE_BYTES }
@@ -119,15 +120,14 @@ fn judge_body<'a, C: Classes>(
     let Some(locals) = initial_locals(alloc, &types, max_locals)? else {
         return refuse(0, Reason::LocalOutOfRange);
     };
-    let starts = CodeStarts::new(alloc, method.code.code)?;
-    let declared = declared_frames(alloc, method, &types, &starts, constants)?;
+    let declared = declared_frames(alloc, method, &types, starts, constants)?;
     let frames = match declared {
         Ok(frames) => frames,
         Err(fault) => return refuse(0, Reason::BadStackMap { fault }),
     };
     frame.start(&locals, max_locals, begins_uninitialized(method))?;
     judge_code(
-        alloc, method, &starts, &frames, constants, fields, frame, classes,
+        alloc, method, starts, &frames, constants, fields, frame, classes,
     )
 }
 
@@ -148,14 +148,15 @@ fn verify_code<'a, C: Classes>(
     ensures same_fields { fields.new ≡ fields.old }
     ensures answered { AnswersCode (C.content classes.now) (class_view method.entry.class.now) method.entry.number result }
 {
-    match count_instructions(method.code.code) {
-        Ok(_) => {}
+    let starts = match CodeStarts::new(alloc, method.code.code) {
+        Ok(starts) => starts,
         Err(fault) => return refuse_code(fault),
-    }
+    };
     let types = types_of(alloc, &method)?;
     judge_body(
         alloc,
         &method,
+        &starts,
         &types.params,
         constants,
         fields,

@@ -8,7 +8,6 @@ use Rattle.insn.specs.Meanings.{Act}
 use Rattle.insn.specs.Offsets.{acts}
 use Rattle.insn.specs.Readings.{instructions_in}
 use Rattle.verify.proofs.MethodCode.{little_code}
-use Rattle.insn.proofs.CodeLaws.{unless_memory}
 use Rattle.verify.proofs.Decoded.{read_spelled}
 use Rattle.verify.proofs.Answering.{bad_code, given}
 use Rattle.verify.proofs.method.verify_code.Goals as goal
@@ -17,18 +16,22 @@ pub judge_body-requires-clause-few : goal.judge_body-requires-clause-few
 judge_body-requires-clause-few g c = let m = c.args.method in
     little_code (class_view m.class.now) c.requires.formed m.number (code_view m.code.now) c.requires.coded
 
+pub new-requires : goal.new-requires
+new-requires g c = let m = c.args.method in
+    little_code (class_view m.class.now) c.requires.formed m.number (code_view m.code.now) c.requires.coded
+
 pub returns-in-Err-clause-answered : goal.returns-in-Err-clause-answered
 returns-in-Err-clause-answered g c =
     let m = c.args.method in
     bad_code (g.C.Classes.content c.args.classes.now) (class_view m.class.now) m.number (code_view m.code.now) c.in-Err.fault c.refuse_code.result c.requires.coded
-    (unless_memory c.in-Err.fault c.in-Err.ensures.fault) c.refuse_code.ensures
+    c.in-Err.ensures.fault c.refuse_code.ensures
 
 pub returns-clause-answered : goal.returns-clause-answered
 returns-clause-answered g c =
     let m = c.args.method in
     let xs = instructions_in m.code.now.code.now in
     let spelled : SpellsCode 0 (code_view m.code.now).code xs =
-    read_spelled (code_view m.code.now).code c.in-Ok.ensures.found.0 c.in-Ok.ensures.found.1 in
+    read_spelled (code_view m.code.now).code c.in-Ok.ensures.spelled.0 c.in-Ok.ensures.spelled.1 in
     given (g.C.Classes.content c.args.classes.now) (class_view m.class.now) m.number (code_view m.code.now) xs
     (code_method_view {A = Act} m (acts xs)) c.judge_body.result c.requires.coded spelled
     (method_says {A = Act} (class_view m.class.now) m.number (code_view m.code.now) m.is_static m.is_init

@@ -1,0 +1,167 @@
+//! Instructions that take operands off the stack and push a result: the rule of each in a function of its own, so that what one
+//! is given is not made for the others.
+ghost use Rattle.std.specs.Prelude.{◌≡◌, [], ◌∷◌, true, false};
+ghost use Rattle.insn.specs.Acts.{numeric_row};
+ghost use Rattle.insn.specs.declared.operation.Kind.TheVariants.{Int};
+ghost use Rattle.frames.specs.Slots.{number_type};
+ghost use Rattle.frames.specs.VerificationType.{int, null};
+ghost use Rattle.names.specs.StandardNames.{throwable_name};
+ghost use Rattle.rules.specs.Plans.{number, numbers, any_reference, any_array, class_want, pops, gives, takes};
+ghost use Rattle.rules.specs.Table.{leaves_with};
+ghost use Rattle.rules.specs.After.{after};
+ghost use Rattle.rules.specs.Rules.{conditions};
+ghost use Rattle.rules.specs.Bodies.{method_view};
+ghost use Rattle.rules.specs.Held.{held};
+ghost use Rattle.rules.specs.Outcomes.{Done};
+
+use crate::families::{gives, pops};
+use crate::reason::Reason;
+use crate::want::{Want, throwable};
+use crate::working::Working;
+use classfile::CodeMethod;
+use frames::{VType, number_type};
+use hierarchy::Classes;
+use insn::{Kind, NumericOperator};
+
+/// `nop`, and what `goto` does to the frame
+#[inline(never)]
+pub fn takes_nothing<'a, C: Classes>(
+    method: &CodeMethod<'_, 'a>,
+    frame: &mut Working<'a>,
+    classes: &C,
+) -> Result<(), Reason<'a>>
+    ensures { let m = method_view method.now in let f = held frame.old in
+        let p = takes [] in
+        Done (conditions (C.content classes.now) m 0 p f) (after m 0 p f) (held frame.new) result }
+{
+    gives(method, None, frame, classes)
+}
+
+/// A number of a kind onto the stack: `iconst_0` and its like
+#[inline(never)]
+pub fn gives_number<'a, C: Classes>(
+    method: &CodeMethod<'_, 'a>,
+    kind: Kind,
+    frame: &mut Working<'a>,
+    classes: &C,
+) -> Result<(), Reason<'a>>
+    ensures { let m = method_view method.now in let f = held frame.old in
+        let p = gives (number_type kind) in
+        Done (conditions (C.content classes.now) m 0 p f) (after m 0 p f) (held frame.new) result }
+{
+    gives(method, Some(number_type(kind)), frame, classes)
+}
+
+/// `aconst_null`
+#[inline(never)]
+pub fn gives_null<'a, C: Classes>(
+    method: &CodeMethod<'_, 'a>,
+    frame: &mut Working<'a>,
+    classes: &C,
+) -> Result<(), Reason<'a>>
+    ensures { let m = method_view method.now in let f = held frame.old in
+        let p = gives null in
+        Done (conditions (C.content classes.now) m 0 p f) (after m 0 p f) (held frame.new) result }
+{
+    gives(method, Some(VType::Null), frame, classes)
+}
+
+/// Numbers to a number: `iadd` and its like
+#[inline(never)]
+pub fn computes<'a, C: Classes>(
+    method: &CodeMethod<'_, 'a>,
+    operator: NumericOperator,
+    frame: &mut Working<'a>,
+    classes: &C,
+) -> Result<(), Reason<'a>>
+    ensures { let m = method_view method.now in let f = held frame.old in
+        let p = pops (numbers (numeric_row operator).taken) (number_type (numeric_row operator).given ∷ []) [] true in
+        Done (conditions (C.content classes.now) m 0 p f) (after m 0 p f) (held frame.new) result }
+{
+    let (taken, given) = operator.row();
+    pops(method, taken, Some(number_type(given)), frame, classes)
+}
+
+/// An `int` is compared with 0, or is the key of a switch.
+#[inline(never)]
+pub fn takes_int<'a, C: Classes>(
+    method: &CodeMethod<'_, 'a>,
+    frame: &mut Working<'a>,
+    classes: &C,
+) -> Result<(), Reason<'a>>
+    ensures { let m = method_view method.now in let f = held frame.old in
+        let p = takes (number Int ∷ []) in
+        Done (conditions (C.content classes.now) m 0 p f) (after m 0 p f) (held frame.new) result }
+{
+    pops(method, &[Kind::Int], None, frame, classes)
+}
+
+/// Two of `int` are compared.
+#[inline(never)]
+pub fn takes_ints<'a, C: Classes>(
+    method: &CodeMethod<'_, 'a>,
+    frame: &mut Working<'a>,
+    classes: &C,
+) -> Result<(), Reason<'a>>
+    ensures { let m = method_view method.now in let f = held frame.old in
+        let p = takes (number Int ∷ number Int ∷ []) in
+        Done (conditions (C.content classes.now) m 0 p f) (after m 0 p f) (held frame.new) result }
+{
+    pops(method, &[Kind::Int, Kind::Int], None, frame, classes)
+}
+
+/// A reference is compared with `null`, or its monitor is entered or left.
+#[inline(never)]
+pub fn takes_reference<'a, C: Classes>(
+    method: &CodeMethod<'_, 'a>,
+    frame: &mut Working<'a>,
+    classes: &C,
+) -> Result<(), Reason<'a>>
+    ensures { let m = method_view method.now in let f = held frame.old in
+        let p = takes (any_reference ∷ []) in
+        Done (conditions (C.content classes.now) m 0 p f) (after m 0 p f) (held frame.new) result }
+{
+    pops(method, &[Want::Reference], None, frame, classes)
+}
+
+/// Two references are compared.
+#[inline(never)]
+pub fn takes_references<'a, C: Classes>(
+    method: &CodeMethod<'_, 'a>,
+    frame: &mut Working<'a>,
+    classes: &C,
+) -> Result<(), Reason<'a>>
+    ensures { let m = method_view method.now in let f = held frame.old in
+        let p = takes (any_reference ∷ any_reference ∷ []) in
+        Done (conditions (C.content classes.now) m 0 p f) (after m 0 p f) (held frame.new) result }
+{
+    pops(method, &[Want::Reference; 2], None, frame, classes)
+}
+
+/// `athrow`
+#[inline(never)]
+pub fn throws<'a, C: Classes>(
+    method: &CodeMethod<'_, 'a>,
+    frame: &mut Working<'a>,
+    classes: &C,
+) -> Result<(), Reason<'a>>
+    ensures { let m = method_view method.now in let f = held frame.old in
+        let p = leaves_with (class_want throwable_name) in
+        Done (conditions (C.content classes.now) m 0 p f) (after m 0 p f) (held frame.new) result }
+{
+    pops(method, &[throwable()], None, frame, classes)
+}
+
+/// `arraylength`
+#[inline(never)]
+pub fn array_length<'a, C: Classes>(
+    method: &CodeMethod<'_, 'a>,
+    frame: &mut Working<'a>,
+    classes: &C,
+) -> Result<(), Reason<'a>>
+    ensures { let m = method_view method.now in let f = held frame.old in
+        let p = pops (any_array ∷ []) (int ∷ []) [] true in
+        Done (conditions (C.content classes.now) m 0 p f) (after m 0 p f) (held frame.new) result }
+{
+    pops(method, &[Want::Array], Some(VType::Int), frame, classes)
+}

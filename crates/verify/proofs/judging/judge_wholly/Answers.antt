@@ -1,0 +1,60 @@
+use Rattle.std.proofs.Common.{◌≡◌, ◌∙◌, ℕ, Bool, true, false, is_none, Option, Some, None, Result, Ok, Err, refl, sym, ap, subst}
+use Rattle.std.specs.Prelude.{OnOk, IsOk}
+use Rattle.insn.specs.Views.{act_view}
+use Rattle.frames.specs.DeclaredTables.{frames_in}
+use Rattle.rules.specs.After.{after}
+use Rattle.rules.specs.Bodies.{method_view}
+use Rattle.rules.specs.Held.{held}
+use Rattle.rules.specs.Outcomes.{Done}
+use Rattle.rules.specs.Table.{plan}
+use Rattle.verify.specs.Handling.{Follows}
+use Rattle.verify.specs.Verdict.{at_conditions}
+use Rattle.verify.proofs.Comparing.{same_behind}
+use Rattle.verify.proofs.InTurn.{when_ok}
+use Rattle.verify.proofs.judging.judge_wholly.Goals as goal
+
+-- an offset behind an instruction that is not the last, and none behind the last
+some_next : (last : Bool) → (next : Option ℕ) × (is_none next ≡ last)
+some_next true = (None, refl)
+some_next false = (Some 0, refl)
+
+on_ok : {T E : Type 0} {P : Type 0} (r : Result T E) → ((x : T) → r ≡ Ok x → P) → OnOk r P
+on_ok (Ok x) p = p x refl
+on_ok (Err e) p = tt
+
+pub judge_named-requires-clause-caught : goal.judge_named-requires-clause-caught
+judge_named-requires-clause-caught g c =
+    let classes = g.C.Classes.content c.args.classes.now in
+    let m = method_view c.args.method.now in
+    let frames = frames_in c.args.frames.now in
+    let f = held c.args.frame.now in
+    let arrived = c.in_ok-come_to.ensures classes frames m.exceptions f c.requires.handlers in
+    let looked = c.in_ok-covered.ensures classes frames m.exceptions arrived.0 arrived.1 in
+    (c.catch-caught.ensures.caught m.exceptions looked.1 looked.2).judged
+
+pub judge_named-requires-clause-covered : goal.judge_named-requires-clause-covered
+judge_named-requires-clause-covered g c =
+    let classes = g.C.Classes.content c.args.classes.now in
+    let m = method_view c.args.method.now in
+    let frames = frames_in c.args.frames.now in
+    let f = held c.args.frame.now in
+    let arrived = c.in_ok-come_to.ensures classes frames m.exceptions f c.requires.handlers in
+    (c.in_ok-covered.ensures classes frames m.exceptions arrived.0 arrived.1).0
+
+pub returns-clause-handlers : goal.returns-clause-handlers
+returns-clause-handlers g c =
+    let classes = g.C.Classes.content c.args.classes.now in
+    let m = method_view c.args.method.now in
+    let frames = frames_in c.args.frames.now in
+    let f = held c.args.frame.now in
+    let p = plan m (act_view c.args.act) in
+    let now = held c.judge_named.new.frame in
+    let next = some_next c.args.last in
+    let arrived = c.in_ok-come_to.ensures classes frames m.exceptions f c.requires.handlers in
+    let looked = c.in_ok-covered.ensures classes frames m.exceptions arrived.0 arrived.1 in
+    on_ok c.judge_named.result (λ u is.
+    let done = subst (Done (at_conditions classes m frames c.args.at p next.0 f) (after m c.args.at p f) now) is (c.judge_named.ensures.judged next.0 next.1) in
+    let ok = subst (λ (r : Result Unit _). OnOk r (IsOk c.catch-caught.result)) is c.judge_named.ensures.caught in
+    let caught = when_ok (Follows classes frames m.exceptions c.args.at f c.catch-caught.new.self) c.catch-caught.result ok (c.catch-caught.ensures.caught m.exceptions looked.1 looked.2).followed in
+    let same = λ (e : c.keeps_locals.result ≡ true). same_behind m c.args.at (act_view c.args.act) f now (sym c.keeps_locals.ensures ∙ e) done.outcome.1 in
+    c.in_ok-behind.ensures classes frames m.exceptions c.args.at f now same caught)
