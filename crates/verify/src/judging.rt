@@ -115,7 +115,7 @@ fn take_up<'n, 'a, C: Classes>(
     Ok(())
 }
 
-/// The same, in no time where a frame comes and none is declared.
+/// The same, by one look-up where a frame comes and none is declared.
 fn arrive<'n, 'a, C: Classes>(
     at: u16,
     comes: bool,
