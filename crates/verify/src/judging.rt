@@ -32,7 +32,7 @@ use crate::place_set::PlaceSet;
 use crate::refusal::refuse;
 use crate::verdict::{Verdict, VerifyFault};
 use classfile::{CodeMethod, OwnFields};
-use frames::{CodeStarts, Declared, DeclaredFrames};
+use frames::{CodeStarts, DeclaredFrames};
 use hierarchy::Classes;
 use insn::{Act, Instructions, act};
 use pool::Descriptors;
