@@ -9,7 +9,7 @@ use Rattle.insn.specs.declared.fault.CodeFault.{CodeFault}
 use Rattle.insn.specs.declared.fault.CodeFault.TheVariants.{OutOfMemory, CutInstruction}
 use Rattle.insn.specs.Instructions.{Instruction, instruction_at}
 use Rattle.insn.specs.Faults.{judged, beside}
-use Rattle.insn.specs.Code.{SpellsInstruction, FaultyInstruction, SpellsCode, FaultyCode, StepsThrough, UnlessMemory}
+use Rattle.insn.specs.Code.{SpellsInstruction, FaultyInstruction, SpellsCode, FaultyCode, StepsThrough, StepsBy, UnlessMemory}
 use Rattle.insn.specs.Offsets.{StartsRise}
 
 -- ---- what reading one instruction gives
@@ -121,6 +121,19 @@ pub step_fault : {X : Type 0} (view : X → ℕ × Instruction) (bytes : List �
     → SoFar bytes old xs → StepsThrough view old (Some step) new → step ≡ Err e → FaultyCode bytes e
 step_fault view bytes xs old new (Ok x) e so s is = absurd cc
 step_fault view bytes xs old new (Err f) e so s is = let same : f ≡ e = cc in subst (λ (g : CodeFault). FaultyCode bytes g) same (code_fault bytes xs old f so s.0 s.1)
+
+-- a step of which something is told is a step
+pub told_step : {X Y : Type 0} (view : X → Y) (told : ℕ × Instruction → Y) (old new : Place) (step : Result X CodeFault) (x : X)
+    → StepsBy view told old (Some step) new → step ≡ Ok x
+    → (i : Instruction) × (view x ≡ told (old.at, i)) × StepsThrough (λ (y : ℕ × Instruction). y) old (Some (Ok (old.at, i))) new
+told_step view told old new step x s is =
+    let (i, same, first, spells, took) = subst (λ (r : Result _ CodeFault). StepsBy view told old (Some r) new) is s in
+    (i, same, (refl, first, spells, took))
+
+pub told_fault : {X Y : Type 0} (view : X → Y) (told : ℕ × Instruction → Y) (bytes : List ℕ) (xs : List (ℕ × Instruction)) (old new : Place) (step : Result X CodeFault) (e : CodeFault)
+    → SoFar bytes old xs → StepsBy view told old (Some step) new → step ≡ Err e → FaultyCode bytes e
+told_fault view told bytes xs old new (Ok x) e so s is = absurd cc
+told_fault view told bytes xs old new (Err f) e so s is = let same : f ≡ e = cc in subst (λ (g : CodeFault). FaultyCode bytes g) same (code_fault bytes xs old f so s.0 s.1)
 
 pub unless_memory : {P : Type 0} (e : CodeFault) → P → UnlessMemory e P
 unless_memory OutOfMemory p = tt

@@ -1,5 +1,5 @@
 -- Where an instruction branches to, as the program keeps it.
-use Rattle.std.specs.Prelude.{ℤ, List, [], ◌∷◌, ◌++◌, Option, option_to_list}
+use Rattle.std.specs.Prelude.{ℤ, List, [], ◌∷◌, ◌++◌, option_to_list}
 use Rattle.insn.specs.declared.branching.Branches.{Branches}
 use Rattle.insn.specs.declared.branching.Branches.TheVariants.{Nowhere, One, Switch}
 use Rattle.insn.specs.declared.branching.BranchTargets.{BranchTargets}

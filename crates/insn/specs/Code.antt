@@ -6,7 +6,7 @@ use Rattle.layout.specs.Format.{Spells, FirstFault}
 use Rattle.insn.specs.declared.fault.CodeFault.{CodeFault}
 use Rattle.insn.specs.declared.fault.CodeFault.TheVariants.{OutOfMemory, CutInstruction}
 use Rattle.insn.specs.declared.opcode.Opcode.{Opcode}
-use Rattle.insn.specs.Instructions.{Instruction, Operands, wide_local, wide_increment, instruction_at}
+use Rattle.insn.specs.Instructions.{Instruction, Operands, nothing, wide_local, wide_increment, instruction_at}
 
 -- these bytes, at this offset, are the instruction
 abbrev pub SpellsInstruction : ℕ → List ℕ → Instruction → Type 0
@@ -50,6 +50,17 @@ abbrev pub StepsThrough : {X : Type 0} → (X → ℕ × Instruction) → Place 
 StepsThrough view old None new = (old.rest ≡ []) × (new ≡ old)
 StepsThrough view old (Some (Ok x)) new = ((view x).0 ≡ old.at) × (first : List ℕ) × SpellsInstruction old.at first (view x).1 × Took first old new
 StepsThrough view old (Some (Err e)) new = (0 < length old.rest) × FaultyInstruction old.at old.rest e × (new.rest ≡ [])
+
+-- A step through code that tells something of the instruction in front, as `told` has it; and otherwise as above.
+abbrev pub StepsBy : {X Y : Type 0} → (X → Y) → (ℕ × Instruction → Y) → Place → Option (Result X CodeFault) → Place → Type 0
+StepsBy view told old None new = (old.rest ≡ []) × (new ≡ old)
+StepsBy view told old (Some (Ok x)) new = (i : Instruction) × (view x ≡ told (old.at, i)) × (first : List ℕ) × SpellsInstruction old.at first i × Took first old new
+StepsBy view told old (Some (Err e)) new = (0 < length old.rest) × FaultyInstruction old.at old.rest e × (new.rest ≡ [])
+
+-- An instruction without operands was taken, and the place is behind it; or nothing was, and the place is where it was.
+abbrev pub TakesAlone : Place → Place → Option Opcode → Type 0
+TakesAlone old new (Some o) = (first : List ℕ) × SpellsInstruction old.at first (record { opcode = o; operands = nothing }) × Took first old new
+TakesAlone old new None = new ≡ old
 
 -- The opcode that says what is done: behind `wide` the one that is modified (JVMS 6.5, wide).
 abbrev pub modified : Opcode → Operands → Opcode

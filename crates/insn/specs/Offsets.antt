@@ -1,11 +1,18 @@
 -- Instructions by the offsets where they begin (JVMS 4.9.1): what begins where, and what comes next.
 use Rattle.std.specs.Prelude.{◌≡◌, ℕ, ◌+◌, ◌≤◌, ℤ, pos, ◌+ℤ◌, Bool, is_some, if◌then◌else◌, nat_eq, List, [], ◌∷◌, map, Option, Some, None, ◌⊎◌}
 use Rattle.insn.specs.Instructions.{Instruction}
-use Rattle.insn.specs.Meanings.{Act, act}
+use Rattle.insn.specs.Meanings.{Act, act, made_index}
 
 -- the acts of instructions
 abbrev pub acts : List (ℕ × Instruction) → List (ℕ × Act)
 acts code = map (λ x. (x.0, act x.1)) code
+
+-- an instruction by its act, and by the class of which it makes an object
+abbrev pub by_act : ℕ × Instruction → ℕ × Act
+by_act x = (x.0, act x.1)
+
+abbrev pub by_made : ℕ × Instruction → ℕ × Option ℕ
+by_made x = (x.0, made_index (act x.1))
 
 -- what stands at an offset
 abbrev pub at_offset : {A : Type 0} → List (ℕ × A) → ℕ → Option A

@@ -114,3 +114,7 @@ act_view (acts.InstanceOf index) = means.InstanceOf index
 act_view acts.Throw = means.Throw
 act_view acts.Monitor = means.Monitor
 act_view acts.Unsupported = means.Unsupported
+
+-- an act with the offset where its instruction begins
+abbrev pub act_located : ℕ × Act → ℕ × means.Act
+act_located x = (x.0, act_view x.1)

@@ -2,8 +2,10 @@
 ghost use Rattle.std.specs.Prelude.{◌≡◌};
 
 use crate::fault::CodeFault;
-use crate::instruction::Insn;
-use crate::reading::read_insn;
+use crate::instruction::{Insn, Operands};
+use crate::meaning::{act, act_alone, made_index};
+use crate::operation::Act;
+use crate::reading::{read_insn, take_alone};
 use layout::Cursor;
 use std::marker::Model;
 
@@ -30,6 +32,9 @@ impl<'a> Model for Instructions<'a> {
 
 impl<'a> Instructions<'a> {
     ghost use Rattle.std.specs.Prelude.{length, nat_eq};
+    ghost use Rattle.insn.specs.Code.{StepsBy};
+    ghost use Rattle.insn.specs.Offsets.{by_act, by_made};
+    ghost use Rattle.insn.specs.Views.{act_located};
 
     /// The instructions of this code, from its first byte on.
     pub fn new(code: &'a [u8]) -> Self
@@ -45,6 +50,55 @@ impl<'a> Instructions<'a> {
         ensures { result ≡ nat_eq (length self.now.rest) 0 }
     {
         self.cursor.rest().is_empty()
+    }
+
+    /// The next instruction as `next` goes to it, by its meaning alone, with the offset where it begins.
+    pub fn next_act(&mut self) -> Option<Result<(usize, Act<'a>), CodeFault>>
+        ensures { StepsBy act_located by_act self.old result self.new }
+    {
+        let at = self.cursor.at();
+        match take_alone(&mut self.cursor) {
+            Some(opcode) => Some(Ok((at, act_alone(opcode)))),
+            None => self.act_with_operands(),
+        }
+    }
+
+    #[inline(never)]
+    fn act_with_operands(&mut self) -> Option<Result<(usize, Act<'a>), CodeFault>>
+        ensures { StepsBy act_located by_act self.old result self.new }
+    {
+        match self.next()? {
+            Ok((at, insn)) => Some(Ok((at, act(&insn)))),
+            Err(fault) => Some(Err(fault)),
+        }
+    }
+
+    /// The next instruction as `next` goes to it, by the offset where it begins and the index of the class of which it makes an
+    /// object, where it is a `new` (JVMS 6.5, new).
+    pub fn next_start(&mut self) -> Option<Result<(usize, Option<u16>), CodeFault>>
+        ensures { StepsBy (λ x. x) by_made self.old result self.new }
+    {
+        let at = self.cursor.at();
+        match take_alone(&mut self.cursor) {
+            Some(opcode) => Some(Ok((
+                at,
+                made_index(&Insn {
+                    opcode,
+                    operands: Operands::Nothing,
+                }),
+            ))),
+            None => self.start_with_operands(),
+        }
+    }
+
+    #[inline(never)]
+    fn start_with_operands(&mut self) -> Option<Result<(usize, Option<u16>), CodeFault>>
+        ensures { StepsBy (λ x. x) by_made self.old result self.new }
+    {
+        match self.next()? {
+            Ok((at, insn)) => Some(Ok((at, made_index(&insn)))),
+            Err(fault) => Some(Err(fault)),
+        }
     }
 }
 

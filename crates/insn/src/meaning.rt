@@ -1,10 +1,12 @@
 //! The meaning of an instruction, from its opcode and its operands. No call takes memory.
 ghost use Rattle.std.specs.Prelude.{◌≡◌};
 ghost use Rattle.insn.specs.Code.{modified};
+ghost use Rattle.insn.specs.Instructions.{nothing};
 ghost use Rattle.insn.specs.Meanings.{Switch, act, made_index, act_of, local_of, index_of, byte_of, offset_of, offsets_of, element_of};
 ghost use Rattle.insn.specs.Views.{view, operands_view, act_view, targets_view};
 
 use crate::instruction::{Insn, Operands, modified};
+use crate::opcode::Opcode;
 use crate::operation::{Act, Meaning};
 use crate::switch::{LookupSwitch, TableSwitch, Targets};
 use names::Primitive;
@@ -18,6 +20,13 @@ pub fn act<'a>(insn: &Insn<'a>) -> Act<'a>
     act_of(modified(insn).meaning(), insn.operands)
 }
 
+/// The meaning of an instruction of this opcode that has no operands.
+pub(crate) fn act_alone<'a>(opcode: Opcode) -> Act<'a>
+    ensures { act_view result ≡ act (record { opcode = opcode; operands = nothing }) }
+{
+    act_of(opcode.meaning(), Operands::Nothing)
+}
+
 /// The index of the class of which an instruction makes an object, where it is a `new` (JVMS 6.5, new). Takes no memory.
 pub fn made_index(insn: &Insn<'_>) -> Option<u16>
     ensures { result ≡ made_index (act (view insn.now)) }
@@ -29,6 +38,7 @@ pub fn made_index(insn: &Insn<'_>) -> Option<u16>
 }
 
 /// The act of this meaning with these operands.
+#[inline(always)]
 fn act_of<'a>(meaning: Meaning, operands: Operands<'a>) -> Act<'a>
     ensures { act_view result ≡ act_of meaning (operands_view operands.entry) }
 {
@@ -104,6 +114,7 @@ struct Parts<'a> {
 }
 
 /// The parts of these operands that acts take.
+#[inline(always)]
 fn parts_of<'a>(operands: Operands<'a>) -> Parts<'a>
     ensures local { result.local ≡ local_of (operands_view operands.entry) }
     ensures index { result.index ≡ index_of (operands_view operands.entry) }

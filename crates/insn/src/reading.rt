@@ -1,6 +1,6 @@
 //! Reading one instruction. No call takes memory.
 ghost use Rattle.std.specs.Prelude.{◌≡◌, ◌≤◌, ◌-◌, Some, length, take};
-ghost use Rattle.insn.specs.Code.{ReadsInstruction};
+ghost use Rattle.insn.specs.Code.{ReadsInstruction, TakesAlone};
 ghost use Rattle.insn.specs.Faults.{Decodes, or_cut};
 ghost use Rattle.insn.specs.Instructions.{operands_at, behind_opcode, instruction_at, wide_at, widened, widened_opcode, invoke_interface_at, invoke_dynamic_at, table_switch_at, table_behind, lookup_switch_at, pairs_behind, keys, rising, follows};
 ghost use Rattle.insn.specs.Views.{operands_view, table_switch_view, lookup_switch_view, view};
@@ -299,4 +299,21 @@ pub fn read_insn<'a>(cursor: &mut Cursor<'a>) -> Result<Insn<'a>, CodeFault>
     let insn = instruction(&mut step, at)?;
     *cursor = step;
     Ok(insn)
+}
+
+/// Goes behind the instruction in front and answers its opcode, where it has no operands; otherwise the cursor stays where it
+/// is.
+pub(crate) fn take_alone(cursor: &mut Cursor<'_>) -> Option<Opcode>
+    ensures { TakesAlone cursor.old cursor.new result }
+{
+    let mut step = cursor.fork();
+    let Ok(number) = step.u1() else {
+        return None;
+    };
+    let opcode = Opcode::from_number(number)?;
+    let Form::Nothing = opcode.form() else {
+        return None;
+    };
+    *cursor = step;
+    Some(opcode)
 }
