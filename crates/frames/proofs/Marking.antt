@@ -7,16 +7,27 @@ use Rattle.layout.specs.Place.{Place}
 use Rattle.insn.specs.declared.fault.CodeFault.{CodeFault}
 use Rattle.insn.specs.declared.instruction.Insn.{Insn}
 use Rattle.insn.specs.Instructions.{Instruction}
-use Rattle.insn.specs.Code.{SpellsCode, FaultyCode, StepsThrough}
-use Rattle.insn.specs.Meanings.{Act, act}
-use Rattle.insn.specs.Offsets.{acts, at_offset}
+use Rattle.insn.specs.Code.{SpellsCode, FaultyCode, StepsThrough, StepsBy}
+use Rattle.insn.specs.Meanings.{Act, New, act, made_index}
+use Rattle.insn.specs.Offsets.{acts, at_offset, by_made}
 use Rattle.insn.specs.Readings.{or_none, reading_of, reading_from, instructions_in}
-use Rattle.insn.specs.Views.{view, views, located}
-use Rattle.insn.proofs.CodeLaws.{SoFar, step_read, step_fault, code_step, code_whole, shorter, has_bytes}
+use Rattle.insn.specs.Views.{view, views}
+use Rattle.insn.proofs.CodeLaws.{SoFar, told_step, told_fault, code_step, code_whole, shorter, has_bytes}
 use Rattle.insn.proofs.Readings.{only_reading}
 use Rattle.frames.specs.declared.code_starts.Mark.{Mark}
 use Rattle.frames.specs.declared.code_starts.Mark.TheVariants.{Inside}
+use Rattle.frames.specs.DeclaredFrames.{is_new}
 use Rattle.frames.specs.Marks.{IsMark, AreMarks, AreClear}
+
+-- ---- the mark of an instruction
+
+pub no_new : (a : Act) → None ≡ made_index a → is_new (Some a) ≡ false
+no_new (New index) e = absurd cc
+no_new a e = refl
+
+pub one_new : (a : Act) (index : ℕ) → Some index ≡ made_index a → is_new (Some a) ≡ true
+one_new (New i) index e = refl
+one_new a index e = absurd cc
 
 -- ---- one instruction more
 
@@ -53,49 +64,66 @@ marking_first code p marks e h long =
       long = long;
     })
 
-module _ (code : List ℕ) (old new : Place) (marks : List Mark) (step : Result (ℕ × Insn) CodeFault) (x : ℕ × Insn) (now : Marking code old marks) (stepped : StepsThrough located old (Some step) new) (is : step ≡ Ok x) where
-  read : StepsThrough located old (Some (Ok x)) new
-  read = step_read located old new step x stepped is
+module _ (code : List ℕ) (old new : Place) (marks : List Mark) (step : Result (ℕ × Option ℕ) CodeFault) (x : ℕ × Option ℕ) (now : Marking code old marks) (stepped : StepsBy (λ (y : ℕ × Option ℕ). y) by_made old (Some step) new) (is : step ≡ Ok x) where
+  told : (i : Instruction) × (x ≡ by_made (old.at, i)) × StepsThrough (λ (y : ℕ × Instruction). y) old (Some (Ok (old.at, i))) new
+  told = told_step (λ (y : ℕ × Option ℕ). y) by_made old new step x stepped is
+
+  instruction : Instruction
+  instruction = told.0
+
+  start : x.0 ≡ old.at
+  start = ap (λ (y : ℕ × Option ℕ). y.0) told.1
+
+  made : x.1 ≡ made_index (act instruction)
+  unfolding instruction
+  made = ap (λ (y : ℕ × Option ℕ). y.1) told.1
+
+  read : StepsThrough (λ (y : ℕ × Instruction). y) old (Some (Ok (old.at, instruction))) new
+  unfolding instruction
+  read = told.2
+
+  pub marking_shorter : length new.rest < length old.rest
+  marking_shorter = shorter read.1 instruction old new read.2 read.3
 
   pub marking_within : x.0 < length marks
   marking_within =
-      let less = shorter read.1 (view x.1) old new read.2 read.3 in
+      let less = marking_shorter in
       let whole : length code ≡ length (now.so_far.0 ++ old.rest) = ap (λ (l : List ℕ). length l) now.so_far.1 in
-      omega (arith, less, whole, length-append now.so_far.0 old.rest, now.so_far.2, read.0, now.long)
+      omega (arith, less, whole, length-append now.so_far.0 old.rest, now.so_far.2, start, now.long)
 
-  split : acts (now.done ++ located x ∷ []) ≡ acts now.done ++ (x.0, act (view x.1)) ∷ []
-  split = map-append (λ (y : ℕ × Instruction). (y.0, act y.1)) now.done (located x ∷ [])
+  split : acts (now.done ++ (x.0, instruction) ∷ []) ≡ acts now.done ++ (x.0, act instruction) ∷ []
+  split = map-append (λ (y : ℕ × Instruction). (y.0, act y.1)) now.done ((x.0, instruction) ∷ [])
 
   free : at_offset (acts now.done) x.0 ≡ None
-  free = now.beyond x.0 (omega (arith, read.0))
+  free = now.beyond x.0 (omega (arith, start))
 
-  right_here : (m : Mark) → IsMark m (Some (act (view x.1))) → IsMark (get_or (set marks x.0 m) x.0 Inside) (at_offset (acts now.done ++ (x.0, act (view x.1)) ∷ []) x.0)
+  right_here : (m : Mark) → IsMark m (Some (act instruction)) → IsMark (get_or (set marks x.0 m) x.0 Inside) (at_offset (acts now.done ++ (x.0, act instruction) ∷ []) x.0)
   right_here m h =
       let same : eqb x.0 x.0 ≡ true = grind (arith, nat_tests) in
-      rw (get_or-set_same marks x.0 m Inside marking_within, last_here (acts now.done) (x.0, act (view x.1)) x.0 free same) h
+      rw (get_or-set_same marks x.0 m Inside marking_within, last_here (acts now.done) (x.0, act instruction) x.0 free same) h
 
-  right_there : (m : Mark) (k : ℕ) → k ≢ x.0 → IsMark (get_or (set marks x.0 m) k Inside) (at_offset (acts now.done ++ (x.0, act (view x.1)) ∷ []) k)
+  right_there : (m : Mark) (k : ℕ) → k ≢ x.0 → IsMark (get_or (set marks x.0 m) k Inside) (at_offset (acts now.done ++ (x.0, act instruction) ∷ []) k)
   right_there m k other =
       let differs : eqb x.0 k ≡ false = grind (arith, nat_tests, other) in
-      rw (get_or-set_other marks x.0 k m Inside other, last_other (acts now.done) (x.0, act (view x.1)) k differs) (now.right k)
+      rw (get_or-set_other marks x.0 k m Inside other, last_other (acts now.done) (x.0, act instruction) k differs) (now.right k)
 
-  right_at : (m : Mark) → IsMark m (Some (act (view x.1))) → (k : ℕ) → IsMark (get_or (set marks x.0 m) k Inside) (at_offset (acts now.done ++ (x.0, act (view x.1)) ∷ []) k)
+  right_at : (m : Mark) → IsMark m (Some (act instruction)) → (k : ℕ) → IsMark (get_or (set marks x.0 m) k Inside) (at_offset (acts now.done ++ (x.0, act instruction) ∷ []) k)
   right_at m h k = by (cases_eq k x.0)
     where
-      by : (k ≡ x.0) ⊎ (k ≢ x.0) → IsMark (get_or (set marks x.0 m) k Inside) (at_offset (acts now.done ++ (x.0, act (view x.1)) ∷ []) k)
-      by (inl e) = subst (λ (j : ℕ). IsMark (get_or (set marks x.0 m) j Inside) (at_offset (acts now.done ++ (x.0, act (view x.1)) ∷ []) j)) (sym e) (right_here m h)
+      by : (k ≡ x.0) ⊎ (k ≢ x.0) → IsMark (get_or (set marks x.0 m) k Inside) (at_offset (acts now.done ++ (x.0, act instruction) ∷ []) k)
+      by (inl e) = subst (λ (j : ℕ). IsMark (get_or (set marks x.0 m) j Inside) (at_offset (acts now.done ++ (x.0, act instruction) ∷ []) j)) (sym e) (right_here m h)
       by (inr other) = right_there m k other
 
-  beyond_new : (k : ℕ) → new.at ≤ k → at_offset (acts now.done ++ (x.0, act (view x.1)) ∷ []) k ≡ None
+  beyond_new : (k : ℕ) → new.at ≤ k → at_offset (acts now.done ++ (x.0, act instruction) ∷ []) k ≡ None
   beyond_new k le =
-      let longer : x.0 < new.at = omega (arith, read.0, read.3.at, has_bytes old.at read.1 (Ok (view x.1)) read.2) in
+      let longer : x.0 < new.at = omega (arith, start, read.3.at, has_bytes old.at read.1 (Ok instruction) read.2) in
       let differs : eqb x.0 k ≡ false = grind (arith, nat_tests, longer, le) in
-      last_other (acts now.done) (x.0, act (view x.1)) k differs ∙ now.beyond k (omega (arith, longer, read.0, le))
+      last_other (acts now.done) (x.0, act instruction) k differs ∙ now.beyond k (omega (arith, longer, start, le))
 
-  pub marking_next : (m : Mark) → IsMark m (Some (act (view x.1))) → Marking code new (set marks x.0 m)
-  marking_next m h = record {
-    done = now.done ++ located x ∷ [];
-    so_far = code_step code now.done (now.done ++ located x ∷ []) old new (located x) now.so_far read.0 refl (read.1, read.2, read.3);
+  pub marking_next : (m : Mark) → ((a : Act) → x.1 ≡ made_index a → IsMark m (Some a)) → Marking code new (set marks x.0 m)
+  marking_next m marked = let h = marked (act instruction) made in record {
+    done = now.done ++ (x.0, instruction) ∷ [];
+    so_far = code_step code now.done (now.done ++ (x.0, instruction) ∷ []) old new (x.0, instruction) now.so_far start refl (read.1, read.2, read.3);
     right = λ k. subst (λ (xs : List (ℕ × Act)). IsMark (get_or (set marks x.0 m) k Inside) (at_offset xs k)) (sym split) (right_at m h k);
     beyond = λ k le. ap (λ (xs : List (ℕ × Act)). at_offset xs k) split ∙ beyond_new k le;
     long = length-set marks x.0 m ∙ now.long;
@@ -111,8 +139,8 @@ marking_last code p marks now end =
 pub marking_spells : (code : List ℕ) (p : Place) (marks : List Mark) → Marking code p marks → p.rest ≡ [] → (xs : List (ℕ × Instruction)) × SpellsCode 0 code xs
 marking_spells code p marks now end = (now.done, code_whole code now.done p now.so_far (ap (λ (l : List ℕ). length l) end))
 
-pub marking_fault : (code : List ℕ) (old new : Place) (marks : List Mark) (step : Result (ℕ × Insn) CodeFault) (e : CodeFault) → Marking code old marks → StepsThrough located old (Some step) new → step ≡ Err e → FaultyCode code e
-marking_fault code old new marks step e now stepped is = step_fault located code now.done old new step e now.so_far stepped is
+pub marking_fault : (code : List ℕ) (old new : Place) (marks : List Mark) (step : Result (ℕ × Option ℕ) CodeFault) (e : CodeFault) → Marking code old marks → StepsBy (λ (y : ℕ × Option ℕ). y) by_made old (Some step) new → step ≡ Err e → FaultyCode code e
+marking_fault code old new marks step e now stepped is = told_fault (λ (y : ℕ × Option ℕ). y) by_made code now.done old new step e now.so_far stepped is
 
 -- ---- a list from its end
 

@@ -2,10 +2,10 @@
 ghost use Rattle.std.specs.Prelude.{◌≡◌, ◌≤◌, ℕ, List, Some, length, get_or, OnOk, IfErr};
 ghost use Rattle.insn.specs.Code.{SpellsCode, FaultyCode, UnlessMemory};
 ghost use Rattle.insn.specs.Instructions.{Instruction};
-ghost use Rattle.insn.specs.Meanings.{act};
+ghost use Rattle.insn.specs.Meanings.{Act, made_index};
 ghost use Rattle.insn.specs.Offsets.{acts};
 ghost use Rattle.insn.specs.Readings.{instructions_in};
-ghost use Rattle.insn.specs.Views.{view, views};
+ghost use Rattle.insn.specs.Views.{views};
 ghost use Rattle.frames.specs.declared.code_starts.Mark.TheVariants.{Inside};
 ghost use Rattle.frames.specs.DeclaredFrames.{is_new};
 ghost use Rattle.frames.specs.Marks.{IsMark, AreMarks, AreClear, is_start_mark, is_new_mark, index_of_mark};
@@ -37,10 +37,11 @@ pub struct CodeStarts<'a> {
     ghost few: { length marks.items ≤ 65536 },
 }
 
-fn mark_of(insn: &Insn) -> Mark
-    ensures { IsMark result (Some (act (view insn.now))) }
+// The mark of an instruction that makes an object of this class, or of none.
+fn mark_of(made: Option<u16>) -> Mark
+    ensures { (what : Act) → made ≡ made_index what → IsMark result (Some what) }
 {
-    match made_index(insn) {
+    match made {
         Some(index) => Mark::New { index },
         None => Mark::Start,
     }
@@ -100,9 +101,10 @@ fn mark_starts(code: &[u8], marks: &mut [Mark]) -> Result<(), CodeFault>
     ensures spelled { OnOk result ((xs : List (ℕ × Instruction)) × SpellsCode 0 code.now xs) }
     ensures fault { IfErr result (λ e. FaultyCode code.now e) }
 {
-    for step in Instructions::new(code) {
-        let (at, insn) = step?;
-        marks[at] = mark_of(&insn);
+    let mut instructions = Instructions::new(code);
+    while let Some(step) = instructions.next_start() {
+        let (at, made) = step?;
+        marks[at] = mark_of(made);
     }
     Ok(())
 }
@@ -115,7 +117,7 @@ fn mark_list(list: &[(u16, Insn<'_>)], marks: &mut [Mark])
 {
     for i in (0..list.len()).rev() {
         let (at, insn) = &list[i];
-        marks[usize::from(*at)] = mark_of(insn);
+        marks[usize::from(*at)] = mark_of(made_index(insn));
     }
 }
 

@@ -1,3 +1,4 @@
+pub mod Alone
 pub mod CodeLaws
 pub mod CodeSpellings
 pub mod Keys

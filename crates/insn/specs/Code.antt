@@ -6,6 +6,8 @@ use Rattle.layout.specs.Format.{Spells, FirstFault}
 use Rattle.insn.specs.declared.fault.CodeFault.{CodeFault}
 use Rattle.insn.specs.declared.fault.CodeFault.TheVariants.{OutOfMemory, CutInstruction}
 use Rattle.insn.specs.declared.opcode.Opcode.{Opcode}
+use Rattle.insn.specs.declared.table.Form.TheVariants as forms
+use Rattle.insn.specs.Opcodes.{form}
 use Rattle.insn.specs.Instructions.{Instruction, Operands, nothing, wide_local, wide_increment, instruction_at}
 
 -- these bytes, at this offset, are the instruction
@@ -59,7 +61,7 @@ StepsBy view told old (Some (Err e)) new = (0 < length old.rest) × FaultyInstru
 
 -- An instruction without operands was taken, and the place is behind it; or nothing was, and the place is where it was.
 abbrev pub TakesAlone : Place → Place → Option Opcode → Type 0
-TakesAlone old new (Some o) = (first : List ℕ) × SpellsInstruction old.at first (record { opcode = o; operands = nothing }) × Took first old new
+TakesAlone old new (Some o) = (form o ≡ forms.Nothing) × (first : List ℕ) × SpellsInstruction old.at first (record { opcode = o; operands = nothing }) × Took first old new
 TakesAlone old new None = new ≡ old
 
 -- The opcode that says what is done: behind `wide` the one that is modified (JVMS 6.5, wide).

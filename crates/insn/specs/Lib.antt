@@ -6,6 +6,7 @@ pub mod Instructions
 pub mod Laws
 pub mod Meanings
 pub mod Opcodes
+pub mod Parts
 pub mod Readings
 pub mod Sizes
 pub mod Spellings

@@ -2,7 +2,7 @@
 ghost use Rattle.std.specs.Prelude.{◌≡◌};
 
 use crate::fault::CodeFault;
-use crate::instruction::{Insn, Operands};
+use crate::instruction::Insn;
 use crate::meaning::{act, act_alone, made_index};
 use crate::operation::Act;
 use crate::reading::{read_insn, take_alone};
@@ -75,18 +75,13 @@ impl<'a> Instructions<'a> {
 
     /// The next instruction as `next` goes to it, by the offset where it begins and the index of the class of which it makes an
     /// object, where it is a `new` (JVMS 6.5, new).
+    #[tactic(auto, using(crate::proofs::Alone::makes_none))]
     pub fn next_start(&mut self) -> Option<Result<(usize, Option<u16>), CodeFault>>
         ensures { StepsBy (λ x. x) by_made self.old result self.new }
     {
         let at = self.cursor.at();
         match take_alone(&mut self.cursor) {
-            Some(opcode) => Some(Ok((
-                at,
-                made_index(&Insn {
-                    opcode,
-                    operands: Operands::Nothing,
-                }),
-            ))),
+            Some(_) => Some(Ok((at, None))),
             None => self.start_with_operands(),
         }
     }

@@ -2,8 +2,9 @@
 ghost use Rattle.std.specs.Prelude.{◌≡◌};
 ghost use Rattle.insn.specs.Code.{modified};
 ghost use Rattle.insn.specs.Instructions.{nothing};
-ghost use Rattle.insn.specs.Meanings.{Switch, act, made_index, act_of, local_of, index_of, byte_of, offset_of, offsets_of, element_of};
-ghost use Rattle.insn.specs.Views.{view, operands_view, act_view, targets_view};
+ghost use Rattle.insn.specs.Meanings.{act, made_index, element_of};
+ghost use Rattle.insn.specs.Parts.{AreParts, IsActOf};
+ghost use Rattle.insn.specs.Views.{view, operands_view, act_view};
 
 use crate::instruction::{Insn, Operands, modified};
 use crate::opcode::Opcode;
@@ -17,14 +18,14 @@ use names::Primitive;
 pub fn act<'a>(insn: &Insn<'a>) -> Act<'a>
     ensures { act_view result ≡ act (view insn.now) }
 {
-    act_of(modified(insn).meaning(), insn.operands)
+    act_of(modified(insn).meaning(), &parts_of(insn.operands))
 }
 
 /// The meaning of an instruction of this opcode that has no operands.
 pub(crate) fn act_alone<'a>(opcode: Opcode) -> Act<'a>
     ensures { act_view result ≡ act (record { opcode = opcode; operands = nothing }) }
 {
-    act_of(opcode.meaning(), Operands::Nothing)
+    act_of(opcode.meaning(), &Parts::none())
 }
 
 /// The index of the class of which an instruction makes an object, where it is a `new` (JVMS 6.5, new). Takes no memory.
@@ -37,12 +38,10 @@ pub fn made_index(insn: &Insn<'_>) -> Option<u16>
     }
 }
 
-/// The act of this meaning with these operands.
-#[inline(always)]
-fn act_of<'a>(meaning: Meaning, operands: Operands<'a>) -> Act<'a>
-    ensures { act_view result ≡ act_of meaning (operands_view operands.entry) }
+/// The act of this meaning with operands of these parts.
+fn act_of<'a>(meaning: Meaning, parts: &Parts<'a>) -> Act<'a>
+    ensures { IsActOf meaning parts.now (act_view result) }
 {
-    let parts = parts_of(operands);
     let (local, index, byte, offset) = (parts.local, parts.index, parts.byte, parts.offset);
     match meaning {
         Meaning::Nothing => Act::Nothing,
@@ -66,7 +65,7 @@ fn act_of<'a>(meaning: Meaning, operands: Operands<'a>) -> Act<'a>
         Meaning::IfReferences => Act::IfReferences { offset },
         Meaning::IfNull => Act::IfNull { offset },
         Meaning::Goto => Act::Goto { offset },
-        Meaning::Switch => switch(parts),
+        Meaning::Switch => Act::Switch { default: offset, targets: parts.targets },
         Meaning::Return(kind) => Act::Return(kind),
         Meaning::ReturnReference => Act::ReturnReference,
         Meaning::ReturnVoid => Act::ReturnVoid,
@@ -113,22 +112,29 @@ struct Parts<'a> {
     targets: Targets<'a>,
 }
 
+impl<'a> Parts<'a> {
+    ghost use Rattle.insn.specs.Instructions.{nothing};
+    ghost use Rattle.insn.specs.Parts.{AreParts};
+
+    /// Those of an instruction without operands.
+    fn none() -> Parts<'a>
+        ensures { AreParts result nothing }
+    {
+        Parts {
+            local: 0,
+            index: 0,
+            byte: 0,
+            offset: 0,
+            targets: Targets::Offsets(&[]),
+        }
+    }
+}
+
 /// The parts of these operands that acts take.
-#[inline(always)]
 fn parts_of<'a>(operands: Operands<'a>) -> Parts<'a>
-    ensures local { result.local ≡ local_of (operands_view operands.entry) }
-    ensures index { result.index ≡ index_of (operands_view operands.entry) }
-    ensures byte { result.byte ≡ byte_of (operands_view operands.entry) }
-    ensures offset { result.offset ≡ offset_of (operands_view operands.entry) }
-    ensures targets { targets_view result.targets ≡ offsets_of (operands_view operands.entry) }
+    ensures { AreParts result (operands_view operands.entry) }
 {
-    let mut parts = Parts {
-        local: 0,
-        index: 0,
-        byte: 0,
-        offset: 0,
-        targets: Targets::Offsets(&[]),
-    };
+    let mut parts = Parts::none();
     match operands {
         Operands::Nothing | Operands::Byte(_) | Operands::Short(_) => {}
         Operands::Constant(index) => parts.index = u16::from(index),
@@ -162,16 +168,6 @@ fn parts_of<'a>(operands: Operands<'a>) -> Parts<'a>
         }
     }
     parts
-}
-
-/// The act of a switch with these operands.
-fn switch<'a>(parts: Parts<'a>) -> Act<'a>
-    ensures { act_view result ≡ Switch parts.entry.offset (targets_view parts.entry.targets) }
-{
-    Act::Switch {
-        default: parts.offset,
-        targets: parts.targets,
-    }
 }
 
 /// The type of an array's elements by its number (JVMS 6.5, table 6.5.newarray-A).

@@ -34,7 +34,7 @@ use crate::verdict::{Verdict, VerifyFault};
 use classfile::{CodeMethod, OwnFields};
 use frames::{CodeStarts, DeclaredFrames};
 use hierarchy::Classes;
-use insn::{Act, Instructions, act};
+use insn::{Act, Instructions};
 use pool::Descriptors;
 use rules::{
     Named, Reason, Working, branches_by, constructs_own, goes_on, is_plain, keeps_locals, named_by,
@@ -292,15 +292,14 @@ pub fn pass<'a, C: Classes>(
     let mut code = Instructions::new(method.code.code);
     let mut comes = true;
     let mut known = Known::nothing();
-    while let Some(step) = code.next() {
-        let Ok((at, insn)) = step else {
+    while let Some(step) = code.next_act() {
+        let Ok((at, act)) = step else {
             unreachable!();
         };
         let at = at as u16;
         if let Err(reason) = arrive(at, comes, frames, &mut known, handlers, frame, classes) {
             return refuse(at, reason);
         }
-        let act = act(&insn);
         let last = code.is_at_end();
         comes = goes_on(&act);
         let judged = judge(

@@ -1,4 +1,4 @@
-use Rattle.std.proofs.Common.{◌≡◌, ℕ, suc, ◌+◌, ◌-◌, ap, sym, ◌∙◌, arith}
+use Rattle.std.proofs.Common.{◌≡◌, suc, ◌+◌, ◌-◌, ap, sym, ◌∙◌, arith}
 use Rattle.names.specs.Descriptors.{base_of, dimensioned}
 use Rattle.names.specs.ReferenceTypes.{dimensions_of, descriptor_of}
 use Rattle.names.specs.References.{reference_view}

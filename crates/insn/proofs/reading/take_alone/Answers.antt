@@ -26,4 +26,5 @@ returns c =
     let opcode : Some o ≡ opcode_of n = sym c.in_ok-opcode.was ∙ c.from_number.ensures in
     let whole = goes_on at (number 1) (λ k. behind_opcode at (opcode_of k)) (λ (x : Instruction). x) old mid mid n (Ok i) read
         (subst (λ x. judged at (reads (behind_opcode at x) mid.at mid.rest) ≡ Ok (i, mid)) opcode alone) in
-    read_spells at (instruction_at at) old mid i (reads (instruction_at at) at old.rest) refl whole
+    let (first, spells, took) = read_spells at (instruction_at at) old mid i (reads (instruction_at at) at old.rest) refl whole in
+    (sym c.form.ensures ∙ c.in-Nothing.is, first, spells, took)
