@@ -11,7 +11,7 @@ loop-i-init c =
 pub loop-i-preserved : goal.loop-i-preserved
 loop-i-preserved c =
     let small : c.from.result < 65536 = search rules in
-    marked_from c.args.list.now c.loop-i.i c.loop-i.marks _ c.mark_of.result c.from.result c.loop-i-test.true (omega arith) c.from.ensures (omega (arith, small, c.requires.len)) c.mark_of.ensures c.loop-i.invariant
+    marked_from c.args.list.now c.loop-i.i c.loop-i.marks _ c.mark_of.result c.from.result c.loop-i-test.true (omega arith) c.from.ensures (omega (arith, small, c.requires.len)) (c.mark_of.ensures _ c.made_index.ensures) c.loop-i.invariant
 
 pub returns : goal.returns
 returns c = let none : c.loop-i.i ≡ 0 = omega (arith, c.loop-i-test.false) in rw none at c.loop-i.invariant
