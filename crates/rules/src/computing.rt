@@ -14,13 +14,13 @@ ghost use Rattle.rules.specs.Bodies.{method_view};
 ghost use Rattle.rules.specs.Held.{held};
 ghost use Rattle.rules.specs.Outcomes.{Done};
 
-use crate::families::{gives, pops};
+use crate::families::{gives, judge_left, pops};
 use crate::reason::Reason;
 use crate::want::{Want, throwable};
 use crate::working::Working;
 use classfile::CodeMethod;
 use frames::{VType, number_type};
-use hierarchy::Classes;
+use hierarchy::{Answer, Classes};
 use insn::{Kind, NumericOperator};
 
 /// `nop`, and what `goto` does to the frame
@@ -34,7 +34,7 @@ pub fn takes_nothing<'a, C: Classes>(
         let p = takes [] in
         Done (conditions (C.content classes.now) m 0 p f) (after m 0 p f) (held frame.new) result }
 {
-    gives(method, None, frame, classes)
+    judge_left(method, Answer::Yes, frame)
 }
 
 /// A number of a kind onto the stack: `iconst_0` and its like
@@ -49,7 +49,7 @@ pub fn gives_number<'a, C: Classes>(
         let p = gives (number_type kind) in
         Done (conditions (C.content classes.now) m 0 p f) (after m 0 p f) (held frame.new) result }
 {
-    gives(method, Some(number_type(kind)), frame, classes)
+    gives(method, number_type(kind), frame, classes)
 }
 
 /// `aconst_null`
@@ -63,7 +63,7 @@ pub fn gives_null<'a, C: Classes>(
         let p = gives null in
         Done (conditions (C.content classes.now) m 0 p f) (after m 0 p f) (held frame.new) result }
 {
-    gives(method, Some(VType::Null), frame, classes)
+    gives(method, VType::Null, frame, classes)
 }
 
 /// Numbers to a number: `iadd` and its like

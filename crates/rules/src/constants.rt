@@ -39,7 +39,7 @@ pub fn load_constant<'a, C: Classes>(
         Ok(Constant::Dynamic { .. }) => return Err(Reason::NotSupported),
         Ok(_) | Err(_) => return Err(Reason::WrongConstant),
     };
-    gives(method, Some(loaded), frame, classes)
+    gives(method, loaded, frame, classes)
 }
 
 /// `ldc2_w`
@@ -55,8 +55,8 @@ pub fn load_wide_constant<'a, C: Classes>(
         Done (conditions (C.content classes.now) m 0 p f) (after m 0 p f) (held frame.new) result }
 {
     match method.class.constant_pool.get(index) {
-        Ok(Constant::Long { .. }) => gives(method, Some(VType::Long), frame, classes),
-        Ok(Constant::Double { .. }) => gives(method, Some(VType::Double), frame, classes),
+        Ok(Constant::Long { .. }) => gives(method, VType::Long, frame, classes),
+        Ok(Constant::Double { .. }) => gives(method, VType::Double, frame, classes),
         Ok(Constant::Dynamic { .. }) => Err(Reason::NotSupported),
         Ok(_) | Err(_) => Err(Reason::WrongConstant),
     }

@@ -1,21 +1,22 @@
 //! Families of rules: operands to a result, loads, increments and returns.
-ghost use Rattle.std.specs.Prelude.{◌≡◌, ◌≤◌, ℕ, List, [], true, length, map, option_map};
+ghost use Rattle.std.specs.Prelude.{◌≡◌, ◌≤◌, ℕ, List, [], ◌∷◌, true, length, map, option_map};
 ghost use Rattle.std.specs.Option.{option_and_then};
 ghost use Rattle.names.specs.References.{reference_view, referred_by};
 ghost use Rattle.names.specs.Types.{type_of};
+ghost use Rattle.frames.specs.VerificationType as frames;
 ghost use Rattle.hierarchy.specs.Class.{ClassFact};
 ghost use Rattle.hierarchy.specs.Answer.{outcome_of};
 ghost use Rattle.insn.specs.Acts.{kind_units};
-ghost use Rattle.rules.specs.Plans.{number, pops, loads, counts, returns};
+ghost use Rattle.rules.specs.Plans.{number, any_reference, pops, loads, counts, returns};
 ghost use Rattle.rules.specs.Table.{return_number, return_nothing, return_reference};
 ghost use Rattle.rules.specs.After.{after};
 ghost use Rattle.rules.specs.Rules.{conditions};
 ghost use Rattle.rules.specs.Bodies.{method_view};
 ghost use Rattle.rules.specs.Held.{held};
-ghost use Rattle.rules.specs.Views.{want_view, pushed_types};
+ghost use Rattle.rules.specs.Views.{pushed_types};
 ghost use Rattle.rules.specs.Outcomes.{Done, pushed, settled, result_kind};
 
-use crate::operands::{accepts, take};
+use crate::operands::take;
 use crate::reason::Reason;
 use crate::want::{Ask, Want};
 use crate::working::Working;
@@ -25,20 +26,15 @@ use hierarchy::{Answer, Classes};
 use insn::{Kind, computed_as};
 use names::{Base, FieldType, RefType};
 
-/// Pushes what an instruction gives, and judges what is left: 65, or 77 by the answer for its operands, which is not
-/// no.
-pub fn settle<'a>(
+/// Judges what is left: 65, or 77 by the answer for what was taken, which is not no.
+pub fn judge_left<'a>(
     method: &CodeMethod<'_, 'a>,
     answer: Answer<'a>,
-    gives: Option<VType<'a>>,
-    frame: &mut Working<'a>,
+    frame: &Working<'a>,
 ) -> Result<(), Reason<'a>>
-    ensures { let f = pushed (pushed_types gives.entry) (held frame.old) in
-        Done (settled (method_view method.now) (outcome_of answer.entry) f) f (held frame.new) result }
+    ensures { let f = held frame.now in
+        Done (settled (method_view method.now) (outcome_of answer.entry) f) f f result }
 {
-    if let Some(t) = gives {
-        frame.push(t)?;
-    }
     if frame.is_wider(method.code.max_stack) {
         return Err(Reason::StackOver);
     }
@@ -48,18 +44,48 @@ pub fn settle<'a>(
     }
 }
 
+/// Pushes what an instruction gives, and judges what is left.
+pub fn give<'a>(
+    method: &CodeMethod<'_, 'a>,
+    answer: Answer<'a>,
+    t: VType<'a>,
+    frame: &mut Working<'a>,
+) -> Result<(), Reason<'a>>
+    ensures { let f = pushed (frames.type_of t.entry ∷ []) (held frame.old) in
+        Done (settled (method_view method.now) (outcome_of answer.entry) f) f (held frame.new) result }
+{
+    frame.push(t)?;
+    judge_left(method, answer, frame)
+}
+
+/// Pushes what an instruction gives, if it gives something, and judges what is left.
+pub fn settle<'a>(
+    method: &CodeMethod<'_, 'a>,
+    answer: Answer<'a>,
+    gives: Option<VType<'a>>,
+    frame: &mut Working<'a>,
+) -> Result<(), Reason<'a>>
+    ensures { let f = pushed (pushed_types gives.entry) (held frame.old) in
+        Done (settled (method_view method.now) (outcome_of answer.entry) f) f (held frame.new) result }
+{
+    match gives {
+        Some(t) => give(method, answer, t, frame),
+        None => judge_left(method, answer, frame),
+    }
+}
+
 /// Nothing to a result.
 pub fn gives<'a, C: Classes>(
     method: &CodeMethod<'_, 'a>,
-    gives: Option<VType<'a>>,
+    t: VType<'a>,
     frame: &mut Working<'a>,
     classes: &C,
 ) -> Result<(), Reason<'a>>
     ensures { let m = method_view method.now in let f = held frame.old in
-        let p = pops [] (pushed_types gives.entry) [] true in
+        let p = pops [] (frames.type_of t.entry ∷ []) [] true in
         Done (conditions (C.content classes.now) m 0 p f) (after m 0 p f) (held frame.new) result }
 {
-    settle(method, Answer::Yes, gives, frame)
+    give(method, Answer::Yes, t, frame)
 }
 
 /// Pops the operands that are asked, the top first, and pushes a result.
@@ -84,9 +110,9 @@ pub fn pops<'a, A: Ask<'a>, C: Classes>(
 }
 
 /// A local variable onto the stack.
-pub fn loads<'a, C: Classes>(
+pub fn loads<'a, A: Ask<'a>, C: Classes>(
     method: &CodeMethod<'_, 'a>,
-    want: Want<'a>,
+    ask: A,
     local: u16,
     width: usize,
     frame: &mut Working<'a>,
@@ -96,7 +122,7 @@ pub fn loads<'a, C: Classes>(
     requires some { 1 ≤ width }
     requires few { width ≤ 2 }
     ensures { let m = method_view method.now in let f = held frame.old in
-        let p = loads (want_view want.entry) local width in
+        let p = loads (A.asked ask) local width in
         Done (conditions (C.content classes.now) m 0 p f) (after m 0 p f) (held frame.new) result }
 {
     let place = usize::from(local);
@@ -104,14 +130,15 @@ pub fn loads<'a, C: Classes>(
         return Err(Reason::LocalOutOfRange);
     }
     let t = frame.local(place);
-    let answer = accepts(want, &t, classes);
+    let answer = ask.meets(&t, classes);
     match answer {
         Answer::No => Err(Reason::WrongLocal),
-        _ => settle(method, answer, Some(t), frame),
+        _ => give(method, answer, t, frame),
     }
 }
 
 /// A number in a local variable onto the stack.
+#[inline(never)]
 pub fn loads_number<'a, C: Classes>(
     method: &CodeMethod<'_, 'a>,
     kind: Kind,
@@ -124,17 +151,27 @@ pub fn loads_number<'a, C: Classes>(
         let p = loads (number kind) local (kind_units kind) in
         Done (conditions (C.content classes.now) m 0 p f) (after m 0 p f) (held frame.new) result }
 {
-    loads(
-        method,
-        Want::Number(kind),
-        local,
-        kind.units(),
-        frame,
-        classes,
-    )
+    loads(method, kind, local, kind.units(), frame, classes)
+}
+
+/// A reference in a local variable onto the stack.
+#[inline(never)]
+pub fn loads_reference<'a, C: Classes>(
+    method: &CodeMethod<'_, 'a>,
+    local: u16,
+    frame: &mut Working<'a>,
+    classes: &C,
+) -> Result<(), Reason<'a>>
+    requires { length (held frame.old).locals ≡ method.now.code.now.max_locals }
+    ensures { let m = method_view method.now in let f = held frame.old in
+        let p = loads any_reference local 1 in
+        Done (conditions (C.content classes.now) m 0 p f) (after m 0 p f) (held frame.new) result }
+{
+    loads(method, Want::Reference, local, 1, frame, classes)
 }
 
 /// An int in a local variable that is changed.
+#[inline(never)]
 pub fn counts<'a, C: Classes>(
     method: &CodeMethod<'_, 'a>,
     local: u16,
@@ -150,10 +187,10 @@ pub fn counts<'a, C: Classes>(
         return Err(Reason::LocalOutOfRange);
     }
     let t = frame.local(place);
-    let answer = accepts(Want::Number(Kind::Int), &t, classes);
+    let answer = Kind::Int.meets(&t, classes);
     match answer {
         Answer::No => Err(Reason::WrongLocal),
-        _ => settle(method, answer, None, frame),
+        _ => judge_left(method, answer, frame),
     }
 }
 
@@ -165,7 +202,7 @@ pub fn returns<'a>(method: &CodeMethod<'_, 'a>, frame: &mut Working<'a>) -> Resu
     if method.is_init && frame.flag() {
         return Err(Reason::OwnObjectNotReady);
     }
-    settle(method, Answer::Yes, None, frame)
+    judge_left(method, Answer::Yes, frame)
 }
 
 /// A return without a value.

@@ -34,7 +34,7 @@ pub fn get_static<'a, C: Classes>(
 {
     match named {
         None => Err(Reason::WrongConstant),
-        Some(field) => gives(method, Some(held_by(&field.field_type)), frame, classes),
+        Some(field) => gives(method, held_by(&field.field_type), frame, classes),
     }
 }
 

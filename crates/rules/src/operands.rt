@@ -1,6 +1,8 @@
 //! The wants of operands.
-ghost use Rattle.std.specs.Prelude.{◌≡◌, true, map, MatchOption};
+ghost use Rattle.std.specs.Prelude.{◌≡◌, List, true, map, MatchOption};
+ghost use Rattle.hierarchy.specs.Class.{ClassFact};
 ghost use Rattle.hierarchy.specs.Answer.{outcome_of, yes_if};
+ghost use Rattle.rules.specs.Plans.{number};
 ghost use Rattle.frames.specs.VerificationType.{type_of};
 ghost use Rattle.rules.specs.Rules.{accepts, is_array, is_array_for, is_reference, is_short, own_or_answer};
 ghost use Rattle.rules.specs.Outcomes.{TookOff};
@@ -11,7 +13,7 @@ use crate::want::{Ask, Want};
 use crate::working::Working;
 use frames::{VType, assignable, both, number_type, reference_to};
 use hierarchy::{Answer, Classes};
-use insn::takes_array;
+use insn::{Kind, takes_array};
 use names::{Base, Primitive};
 
 /// Whether a type is that of a reference, initialized or not.
@@ -67,8 +69,26 @@ fn is_array_for(primitive: Primitive, t: &VType<'_>) -> bool
     }
 }
 
+/// Whether a type is that of a number of the kind.
+pub fn is_number(kind: Kind, t: &VType<'_>) -> bool
+    ensures { (classes : List ClassFact) → accepts classes (number kind) (type_of t.now) ≡ yes_if result }
+{
+    match *t {
+        VType::Int => kind == Kind::Int,
+        VType::Float => kind == Kind::Float,
+        VType::Long => kind == Kind::Long,
+        VType::Double => kind == Kind::Double,
+        VType::Top
+        | VType::Null
+        | VType::Class(_)
+        | VType::Array { .. }
+        | VType::UninitThis
+        | VType::Uninit(_) => false,
+    }
+}
+
 /// Yes where it holds, and otherwise no.
-fn yes_if<'a>(holds: bool) -> Answer<'a>
+pub fn yes_if<'a>(holds: bool) -> Answer<'a>
     ensures { outcome_of result ≡ yes_if holds }
 {
     if holds { Answer::Yes } else { Answer::No }
@@ -111,7 +131,7 @@ pub fn take<'a, A: Ask<'a>, C: Classes>(
     for ask in asked {
         match frame.pop() {
             None => return None,
-            Some(t) => so_far = both(so_far, accepts(ask.want(), &t, classes)),
+            Some(t) => so_far = both(so_far, ask.meets(&t, classes)),
         }
     }
     Some(so_far)

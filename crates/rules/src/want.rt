@@ -1,10 +1,16 @@
 //! The wants of operands and local variables.
 ghost use Rattle.std.specs.Prelude.{◌≡◌};
 ghost use Rattle.names.specs.StandardNames.{throwable_name};
-ghost use Rattle.names.specs.Types.{type_of};
+ghost use Rattle.names.specs.Types as names;
+ghost use Rattle.frames.specs.VerificationType.{type_of};
+ghost use Rattle.hierarchy.specs.Answer.{outcome_of};
+ghost use Rattle.rules.specs.Rules.{accepts};
 ghost use Rattle.rules.specs.Plans.{Want, class_want, number, want_of};
 ghost use Rattle.rules.specs.Views.{want_view};
 
+use crate::operands::{accepts, is_number, yes_if};
+use frames::VType;
+use hierarchy::{Answer, Classes};
 use insn::{Kind, computed_as};
 use names::{Base, FieldType, Primitive, RefType, THROWABLE};
 
@@ -27,7 +33,7 @@ pub enum Want<'a> {
 
 /// The want of a field or a parameter of this type.
 pub fn want_of<'a>(t: &FieldType<'a>) -> Want<'a>
-    ensures { want_view result ≡ want_of (type_of t.now) }
+    ensures { want_view result ≡ want_of (names.type_of t.now) }
 {
     match t.dims {
         0 => match t.base {
@@ -49,15 +55,16 @@ pub fn throwable<'a>() -> Want<'a>
 pub trait Ask<'a>: Copy {
     ghost asked: { Self → Want };
 
-    fn want(&self) -> Want<'a>
-        ensures { want_view result ≡ asked self.now };
+    /// Whether a type meets it.
+    fn meets<C: Classes>(&self, t: &VType<'a>, classes: &C) -> Answer<'a>
+        ensures { outcome_of result ≡ accepts (C.content classes.now) (asked self.now) (type_of t.now) };
 }
 
 impl<'a> Ask<'a> for Want<'a> {
     ghost asked = { want_view };
 
-    fn want(&self) -> Want<'a> {
-        *self
+    fn meets<C: Classes>(&self, t: &VType<'a>, classes: &C) -> Answer<'a> {
+        accepts(*self, t, classes)
     }
 }
 
@@ -65,7 +72,7 @@ impl<'a> Ask<'a> for Want<'a> {
 impl<'a> Ask<'a> for Kind {
     ghost asked = { number };
 
-    fn want(&self) -> Want<'a> {
-        Want::Number(*self)
+    fn meets<C: Classes>(&self, t: &VType<'a>, classes: &C) -> Answer<'a> {
+        yes_if(is_number(*self, t))
     }
 }
