@@ -1,10 +1,10 @@
 pub mod Elements
 mod Examples
-mod Unnamed
 pub mod Going
 pub mod Holding
 pub mod Keeping
 pub mod Moving
+pub mod Plainly
 pub mod Settling
 pub mod Storing
 pub mod Taking

@@ -1,7 +1,7 @@
 -- Where each instruction goes, and whether it leaves the locals as they are.
-use Rattle.std.specs.Prelude.{ℕ, ℤ, Bool, true, false, ◌&&◌, List, [], ◌∷◌, length, Option, Some, None, nat_eq}
+use Rattle.std.specs.Prelude.{ℕ, ℤ, Bool, true, false, ◌&&◌, List, [], ◌∷◌, length, Option, Some, None, is_none, nat_eq}
 use Rattle.insn.specs.Meanings as acts
-use Rattle.insn.specs.Meanings.{Act}
+use Rattle.insn.specs.Meanings.{Act, made_index}
 use Rattle.rules.specs.Naming.{names_nothing}
 
 -- an instruction goes on to the next one, where it is not refused
@@ -33,9 +33,9 @@ keeps_locals (acts.InvokeSpecial i) = false
 keeps_locals (acts.New i) = false
 keeps_locals _ = true
 
--- it goes on to the next one and nowhere else, leaves all locals as they are, and names no class, field or method that is looked up
+-- it goes on to the next one and nowhere else, makes no object of a class, and names no class, field or method that is looked up
 abbrev pub is_plain : Act → Bool
-is_plain a = goes_on a && nat_eq (length (branch_offsets a)) 0 && keeps_locals a && names_nothing a
+is_plain a = goes_on a && nat_eq (length (branch_offsets a)) 0 && is_none (made_index a) && names_nothing a
 
 -- the method that `invokespecial` names, by its index
 abbrev pub special_index : Act → Option ℕ

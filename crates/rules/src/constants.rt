@@ -50,9 +50,9 @@ pub fn load_wide_constant<'a, C: Classes>(
     frame: &mut Working<'a>,
     classes: &C,
 ) -> Result<(), Reason<'a>>
-    ensures { let m = method_view method.now in let f = held frame.old in
+    ensures { (at : ℕ) → let m = method_view method.now in let f = held frame.old in
         let p = load_wide_constant (constant_at m.constant_pool index) in
-        Done (conditions (C.content classes.now) m 0 p f) (after m 0 p f) (held frame.new) result }
+        Done (conditions (C.content classes.now) m at p f) (after m at p f) (held frame.new) result }
 {
     match method.class.constant_pool.get(index) {
         Ok(Constant::Long { .. }) => gives(method, VType::Long, frame, classes),

@@ -68,6 +68,6 @@ pub use environment::Env;
 pub use naming::{Named, named_by};
 pub use own_object::constructs_own;
 pub use reason::Reason;
-pub use running::{run, run_unnamed};
+pub use running::{run, run_plain};
 pub use ways::{branches, branches_by, falls, goes_on, is_plain, keeps_locals};
 pub use working::Working;

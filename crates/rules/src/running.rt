@@ -1,12 +1,13 @@
 //! The rule of an instruction, on a frame in place.
-ghost use Rattle.std.specs.Prelude.{◌≡◌, true, length};
+ghost use Rattle.std.specs.Prelude.{◌≡◌, ℕ, true, length};
 ghost use Rattle.insn.specs.Views.{act_view};
 ghost use Rattle.rules.specs.Table.{plan};
 ghost use Rattle.rules.specs.After.{after};
 ghost use Rattle.rules.specs.Rules.{conditions};
 ghost use Rattle.rules.specs.Bodies.{method_view};
 ghost use Rattle.rules.specs.Held.{held};
-ghost use Rattle.rules.specs.Naming.{IsNamed, names_nothing};
+ghost use Rattle.rules.specs.Naming.{IsNamed};
+ghost use Rattle.rules.specs.Ways.{is_plain};
 ghost use Rattle.rules.specs.Outcomes.{Done};
 
 use crate::arrays::{
@@ -20,7 +21,7 @@ use crate::computing::{
 };
 use crate::constants::{load_constant, load_wide_constant};
 use crate::families::{
-    counts, loads, loads_number, return_nothing, return_number, return_reference,
+    counts, loads_number, loads_reference, return_nothing, return_number, return_reference,
 };
 use crate::fields::{get_field, get_static, put_field, put_static};
 use crate::making::new_object;
@@ -28,8 +29,7 @@ use crate::naming::Named;
 use crate::reason::Reason;
 use crate::special::invoke_special;
 use crate::stacks::rearranges;
-use crate::stores::{stores, stores_number};
-use crate::want::Want;
+use crate::stores::{stores_number, stores_reference};
 use crate::working::Working;
 use classfile::CodeMethod;
 use frames::Starts;
@@ -60,22 +60,11 @@ pub fn run<'a, S: Starts, C: Classes>(
         Done (conditions (C.content classes.now) m at p f) (after m at p f) (held frame.new) result }
 {
     match act {
-        Act::Nothing | Act::Goto { .. } => takes_nothing(method, frame, classes),
-        Act::Constant(kind) => gives_number(method, kind, frame, classes),
-        Act::ConstantNull => gives_null(method, frame, classes),
-        Act::LoadConstant { index } => load_constant(method, index, frame, classes),
-        Act::LoadWideConstant { index } => load_wide_constant(method, index, frame, classes),
-        Act::Load { kind, local } => loads_number(method, kind, local, frame, classes),
-        Act::LoadReference { local } => loads(method, Want::Reference, local, 1, frame, classes),
-        Act::Store { kind, local } => stores_number(method, kind, local, frame, classes),
-        Act::StoreReference { local } => stores(method, Want::Reference, local, 1, frame, classes),
-        Act::Increment { local } => counts(method, local, frame, classes),
-        Act::Numeric(operator) => computes(method, operator, frame, classes),
-        Act::Stack(operator) => rearranges(method, operator, frame),
+        Act::Goto { .. } => takes_nothing(method, frame, classes),
         Act::IfInt { .. } | Act::Switch { .. } => takes_int(method, frame, classes),
         Act::IfInts { .. } => takes_ints(method, frame, classes),
         Act::IfReferences { .. } => takes_references(method, frame, classes),
-        Act::IfNull { .. } | Act::Monitor => takes_reference(method, frame, classes),
+        Act::IfNull { .. } => takes_reference(method, frame, classes),
         Act::Return(kind) => return_number(method, kind, frame, classes),
         Act::ReturnReference => return_reference(method, frame, classes),
         Act::ReturnVoid => return_nothing(method, frame),
@@ -92,12 +81,6 @@ pub fn run<'a, S: Starts, C: Classes>(
         Act::InvokeInterface { count, .. } => {
             invoke_interface(alloc, method, named.method(), count, frame, classes)
         }
-        Act::LoadElement(element) => load_element(method, element, frame, classes),
-        Act::StoreElement(element) => store_element(method, element, frame, classes),
-        Act::LoadReferenceElement => load_reference_element(method, frame, classes),
-        Act::StoreReferenceElement => store_reference_element(method, frame, classes),
-        Act::ArrayLength => array_length(method, frame, classes),
-        Act::NewArray(element) => new_array(method, element, frame, classes),
         Act::NewReferenceArray { .. } => new_reference_array(method, named.class(), frame, classes),
         Act::NewMultiArray { dimensions, .. } => {
             new_multi_array(alloc, method, named.class(), dimensions, frame, classes)
@@ -106,34 +89,43 @@ pub fn run<'a, S: Starts, C: Classes>(
         Act::InstanceOf { .. } => instance_of(method, named.class(), frame, classes),
         Act::New { index } => new_object(method, at, index, frame),
         Act::Unsupported => Err(Reason::NotSupported),
+        _ => run_plain(method, &act, frame, classes),
     }
 }
 
-/// Runs an instruction that names no class, field or method that is looked up, as [`run`] does.
-pub fn run_unnamed<'a, S: Starts, C: Classes>(
-    alloc: Global,
+/// Runs a plain instruction (see [`is_plain`](crate::is_plain)) as [`run`] does, at whichever offset.
+pub fn run_plain<'a, C: Classes>(
     method: &CodeMethod<'_, 'a>,
-    starts: &S,
-    at: u16,
-    act: Act<'a>,
+    act: &Act<'a>,
     frame: &mut Working<'a>,
     classes: &C,
 ) -> Result<(), Reason<'a>>
     requires locals { length (held frame.old).locals ≡ method.now.code.now.max_locals }
-    requires nothing { names_nothing (act_view act) ≡ true }
-    requires code { S.code starts.now ≡ (method_view method.now).code }
-    ensures { let m = method_view method.now in let f = held frame.old in
-        let p = plan m (act_view act.entry) in
+    requires plain { is_plain (act_view act.now) ≡ true }
+    ensures { (at : ℕ) → let m = method_view method.now in let f = held frame.old in
+        let p = plan m (act_view act.now) in
         Done (conditions (C.content classes.now) m at p f) (after m at p f) (held frame.new) result }
 {
-    run(
-        alloc,
-        method,
-        starts,
-        at,
-        act,
-        &Named::Nothing,
-        frame,
-        classes,
-    )
+    match *act {
+        Act::Nothing => takes_nothing(method, frame, classes),
+        Act::Constant(kind) => gives_number(method, kind, frame, classes),
+        Act::ConstantNull => gives_null(method, frame, classes),
+        Act::LoadConstant { index } => load_constant(method, index, frame, classes),
+        Act::LoadWideConstant { index } => load_wide_constant(method, index, frame, classes),
+        Act::Load { kind, local } => loads_number(method, kind, local, frame, classes),
+        Act::LoadReference { local } => loads_reference(method, local, frame, classes),
+        Act::Store { kind, local } => stores_number(method, kind, local, frame, classes),
+        Act::StoreReference { local } => stores_reference(method, local, frame, classes),
+        Act::Increment { local } => counts(method, local, frame, classes),
+        Act::Numeric(operator) => computes(method, operator, frame, classes),
+        Act::Stack(operator) => rearranges(method, operator, frame),
+        Act::LoadElement(element) => load_element(method, element, frame, classes),
+        Act::StoreElement(element) => store_element(method, element, frame, classes),
+        Act::LoadReferenceElement => load_reference_element(method, frame, classes),
+        Act::StoreReferenceElement => store_reference_element(method, frame, classes),
+        Act::ArrayLength => array_length(method, frame, classes),
+        Act::NewArray(element) => new_array(method, element, frame, classes),
+        Act::Monitor => takes_reference(method, frame, classes),
+        _ => unreachable!(),
+    }
 }

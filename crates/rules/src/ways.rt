@@ -41,8 +41,8 @@ pub fn keeps_locals(act: &Act<'_>) -> bool
     )
 }
 
-/// Whether an instruction that means this goes on to the next one and nowhere else, leaves all locals as they are, and names no class, field
-/// or method that is looked up.
+/// Whether an instruction that means this goes on to the next one and nowhere else, is no `new`, and names no class, field or method that is
+/// looked up.
 pub fn is_plain(act: &Act<'_>) -> bool
     ensures { result ≡ is_plain (act_view act.now) }
 {
@@ -55,6 +55,8 @@ pub fn is_plain(act: &Act<'_>) -> bool
             | Act::LoadWideConstant { .. }
             | Act::Load { .. }
             | Act::LoadReference { .. }
+            | Act::Store { .. }
+            | Act::StoreReference { .. }
             | Act::Increment { .. }
             | Act::Numeric(_)
             | Act::Stack(_)

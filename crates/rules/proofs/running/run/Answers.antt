@@ -22,6 +22,7 @@ use Rattle.insn.specs.declared.operation.Act.{Act}
 use Rattle.rules.specs.declared.naming.Named.{Named}
 use Rattle.rules.specs.Naming.{IsNamed, class_index, field_index, method_index, kept_class, kept_field, kept_method}
 use Rattle.rules.specs.Constants.{get_static, put_static, get_field, put_field, invoke_static, invoke_virtual, invoke_special, invoke_interface, new_reference_array, new_multi_array, check_cast, instance_of}
+use Rattle.rules.proofs.Plainly.{plain_else}
 use Rattle.rules.proofs.running.run.Goals as goal
 
 class_is : (m : Method acts.Act) (act other : Act) (n : Named) (r : Option RefType) → r ≡ kept_class n → IsNamed m (act_view act) n → act ≡ other
@@ -36,12 +37,6 @@ field_is m act other n r k h e =
 method_is : (m : Method acts.Act) (act other : Act) (n : Named) → IsNamed m (act_view act) n → act ≡ other
     → option_map method_constant_view (kept_method n) ≡ option_and_then (method_at m.constant_pool) (method_index (act_view other))
 method_is m act other n h e = h.method ∙ ap (λ a. option_and_then (method_at m.constant_pool) (method_index (act_view a))) e
-
-pub returns-in-LoadConstant : goal.returns-in-LoadConstant
-returns-in-LoadConstant g c =
-    let m = method_view c.args.method.now in
-    by_plan m c.args.at (plan m (act_view c.args.act)) _ (g.C.Classes.content c.args.classes.now) (held c.args.frame.now) (held c.load_constant.new.frame) c.load_constant.result
-    (ap (λ a. plan m (act_view a)) c.in-LoadConstant.is) (c.load_constant.ensures c.args.at)
 
 pub returns-in-ReturnReference : goal.returns-in-ReturnReference
 returns-in-ReturnReference g c =
@@ -91,36 +86,6 @@ returns-in-InvokeInterface g c =
     by_plan m c.args.at (plan m (act_view c.args.act)) _ (g.C.Classes.content c.args.classes.now) (held c.args.frame.now) (held c.invoke_interface.new.frame) c.invoke_interface.result
     (ap (λ a. plan m (act_view a)) c.in-InvokeInterface.is ∙ sym (ap (invoke_interface c.in-InvokeInterface.count) (c.method-in-InvokeInterface.ensures ∙ method_is m c.args.act _ c.args.named.now c.requires.named c.in-InvokeInterface.is))) (c.invoke_interface.ensures c.args.at)
 
-pub returns-in-LoadElement : goal.returns-in-LoadElement
-returns-in-LoadElement g c =
-    let m = method_view c.args.method.now in
-    by_plan m c.args.at (plan m (act_view c.args.act)) _ (g.C.Classes.content c.args.classes.now) (held c.args.frame.now) (held c.load_element.new.frame) c.load_element.result
-    (ap (λ a. plan m (act_view a)) c.in-LoadElement.is) (c.load_element.ensures c.args.at)
-
-pub returns-in-StoreElement : goal.returns-in-StoreElement
-returns-in-StoreElement g c =
-    let m = method_view c.args.method.now in
-    by_plan m c.args.at (plan m (act_view c.args.act)) _ (g.C.Classes.content c.args.classes.now) (held c.args.frame.now) (held c.store_element.new.frame) c.store_element.result
-    (ap (λ a. plan m (act_view a)) c.in-StoreElement.is) (c.store_element.ensures c.args.at)
-
-pub returns-in-LoadReferenceElement : goal.returns-in-LoadReferenceElement
-returns-in-LoadReferenceElement g c =
-    let m = method_view c.args.method.now in
-    by_plan m c.args.at (plan m (act_view c.args.act)) _ (g.C.Classes.content c.args.classes.now) (held c.args.frame.now) (held c.load_reference_element.new.frame) c.load_reference_element.result
-    (ap (λ a. plan m (act_view a)) c.in-LoadReferenceElement.is) (c.load_reference_element.ensures c.args.at)
-
-pub returns-in-StoreReferenceElement : goal.returns-in-StoreReferenceElement
-returns-in-StoreReferenceElement g c =
-    let m = method_view c.args.method.now in
-    by_plan m c.args.at (plan m (act_view c.args.act)) _ (g.C.Classes.content c.args.classes.now) (held c.args.frame.now) (held c.store_reference_element.new.frame) c.store_reference_element.result
-    (ap (λ a. plan m (act_view a)) c.in-StoreReferenceElement.is) (c.store_reference_element.ensures c.args.at)
-
-pub returns-in-NewArray : goal.returns-in-NewArray
-returns-in-NewArray g c =
-    let m = method_view c.args.method.now in
-    by_plan m c.args.at (plan m (act_view c.args.act)) _ (g.C.Classes.content c.args.classes.now) (held c.args.frame.now) (held c.new_array.new.frame) c.new_array.result
-    (ap (λ a. plan m (act_view a)) c.in-NewArray.is) (c.new_array.ensures c.args.at)
-
 pub returns-in-NewReferenceArray : goal.returns-in-NewReferenceArray
 returns-in-NewReferenceArray g c =
     let m = method_view c.args.method.now in
@@ -145,14 +110,6 @@ returns-in-InstanceOf g c =
     by_plan m c.args.at (plan m (act_view c.args.act)) _ (g.C.Classes.content c.args.classes.now) (held c.args.frame.now) (held c.instance_of.new.frame) c.instance_of.result
     (ap (λ a. plan m (act_view a)) c.in-InstanceOf.is ∙ sym (ap (instance_of) (class_is m c.args.act _ c.args.named.now c.class-in-InstanceOf.result c.class-in-InstanceOf.ensures c.requires.named c.in-InstanceOf.is))) (c.instance_of.ensures c.args.at)
 
-pub returns-in-Stack : goal.returns-in-Stack
-returns-in-Stack g c =
-    let cs = g.C.Classes.content c.args.classes.now in
-    let m = method_view c.args.method.now in
-    let f = held c.args.frame.now in
-    let e : plan m (act_view c.args.act) ≡ rearranges (stack_forms c.in-Stack.operator) = ap (λ a. plan m (act_view a)) c.in-Stack.is in
-    subst (λ p. Done (conditions cs m c.args.at p f) (after m c.args.at p f) (held c.rearranges.new.frame) c.rearranges.result) (sym e) (c.rearranges.ensures cs)
-
 pub returns-in-ReturnVoid : goal.returns-in-ReturnVoid
 returns-in-ReturnVoid g c =
     let cs = g.C.Classes.content c.args.classes.now in
@@ -160,12 +117,6 @@ returns-in-ReturnVoid g c =
     let f = held c.args.frame.now in
     let e : plan m (act_view c.args.act) ≡ return_nothing m.type.result = ap (λ a. plan m (act_view a)) c.in-ReturnVoid.is in
     returned m c.args.at (plan m (act_view c.args.act)) cs f (held c.return_nothing.new.frame) c.return_nothing.result e (c.return_nothing.ensures cs)
-
-pub returns-in-Numeric : goal.returns-in-Numeric
-returns-in-Numeric g c = search rules
-
-pub returns-in-Nothing : goal.returns-in-Nothing
-returns-in-Nothing g c = search rules
 
 pub returns-in-InvokeSpecial : goal.returns-in-InvokeSpecial
 returns-in-InvokeSpecial g c =
@@ -178,3 +129,9 @@ returns-in-New g c =
     let m = method_view c.args.method.now in
     by_plan m c.args.at (plan m (act_view c.args.act)) _ (g.C.Classes.content c.args.classes.now) (held c.args.frame.now) (held c.new_object.new.frame) c.new_object.result
     (ap (λ a. plan m (act_view a)) c.in-New.is) (c.new_object.ensures (g.C.Classes.content c.args.classes.now))
+
+pub run_plain-requires-clause-plain : goal.run_plain-requires-clause-plain
+run_plain-requires-clause-plain g c = plain_else c.args.act c.in_default.not-Goto c.in_default.not-IfInt c.in_default.not-Switch c.in_default.not-IfInts c.in_default.not-IfReferences c.in_default.not-IfNull c.in_default.not-Return c.in_default.not-ReturnReference c.in_default.not-ReturnVoid c.in_default.not-Throw c.in_default.not-GetStatic c.in_default.not-PutStatic c.in_default.not-GetField c.in_default.not-PutField c.in_default.not-InvokeVirtual c.in_default.not-InvokeSpecial c.in_default.not-InvokeStatic c.in_default.not-InvokeInterface c.in_default.not-NewReferenceArray c.in_default.not-NewMultiArray c.in_default.not-CheckCast c.in_default.not-InstanceOf c.in_default.not-New c.in_default.not-Unsupported
+
+pub returns-in_default : goal.returns-in_default
+returns-in_default g c = c.run_plain.ensures c.args.at
