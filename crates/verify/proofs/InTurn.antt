@@ -176,3 +176,8 @@ follows_later classes frames es at to f h le t =
 pub when_ok : {T E : Type 0} (P : Type 0) (r : Result T E) → IsOk r → OnOk r P → P
 when_ok P (Ok x) e p = p
 when_ok P (Err x) e p = cc
+
+-- what follows from an answer that is one
+pub on_ok : {T E : Type 0} {P : Type 0} (r : Result T E) → ((x : T) → r ≡ Ok x → P) → OnOk r P
+on_ok (Ok x) p = p x refl
+on_ok (Err e) p = tt

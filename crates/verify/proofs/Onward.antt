@@ -7,11 +7,13 @@ use Rattle.hierarchy.specs.Class.{ClassFact}
 use Rattle.layout.specs.Place.{Place}
 use Rattle.insn.specs.declared.fault.CodeFault.{CodeFault}
 use Rattle.insn.specs.Instructions.{Instruction}
-use Rattle.insn.specs.Code.{StepsThrough}
+use Rattle.insn.specs.declared.operation.Act as program
+use Rattle.insn.specs.Code.{StepsBy}
 use Rattle.insn.specs.Meanings.{Act}
-use Rattle.insn.specs.Offsets.{at_offset, first_offset, acts}
+use Rattle.insn.specs.Offsets.{at_offset, first_offset, acts, by_act}
 use Rattle.insn.specs.Readings.{Reading, behind}
-use Rattle.insn.proofs.CodeLaws.{has_bytes}
+use Rattle.insn.specs.Views.{act_located}
+use Rattle.insn.proofs.CodeLaws.{has_bytes, told_step}
 use Rattle.insn.proofs.Readings.{reading_at, step_reads, stop_reads, end_reads, some_left}
 use Rattle.frames.specs.VerificationType.{VerificationType}
 use Rattle.frames.specs.FrameFact.{FrameFact}
@@ -131,41 +133,43 @@ pub record Remains (classes : List ClassFact) (m : Method Act) (frames : Frames)
   pub same : v ≡ left classes m frames (acts instructions) comes f
   pub within : p.at + length p.rest ≡ size
 
--- the instruction in front of the others
-pub record Steps (old new : Place) (x : ℕ × Instruction) (xs : List (ℕ × Instruction)) : Type 0 where
+-- the act of the instruction in front of those of the others
+pub record Steps (old new : Place) (x : ℕ × Act) (xs : List (ℕ × Instruction)) : Type 0 where
   pub others : List (ℕ × Instruction)
   pub read : reading_at new ≡ Ok others
-  pub all : xs ≡ x ∷ others
+  pub all : acts xs ≡ x ∷ acts others
 
-pub steps : {X : Type 0} (view : X → ℕ × Instruction) (old new : Place) (step : Result X CodeFault) (x : X) (xs : List (ℕ × Instruction))
-    → reading_at old ≡ Ok xs → StepsThrough view old (Some step) new → step ≡ Ok x → Steps old new (view x) xs
-steps view old new step x xs read s is =
-    by (reading_at new) refl (sym (step_reads view old new x (subst (λ r. StepsThrough view old (Some r) new) is s)) ∙ read)
-  where
-    by : (r : Reading) → reading_at new ≡ r → behind (view x) r ≡ Ok xs → Steps old new (view x) xs
-    by (Ok ys) now e = let all : view x ∷ ys ≡ xs = cc in record { others = ys; read = now; all = sym all }
-    by (Err fault) now e = absurd cc
+stepped : (old new : Place) (y : ℕ × Instruction) (x : ℕ × Act) (xs : List (ℕ × Instruction)) → x ≡ by_act y
+    → (r : Reading) → reading_at new ≡ r → behind y r ≡ Ok xs → Steps old new x xs
+stepped old new y x xs same (Ok ys) now e =
+    let all : y ∷ ys ≡ xs = cc in record { others = ys; read = now; all = ap acts (sym all) ∙ ap (λ z. z ∷ acts ys) (sym same) }
+stepped old new y x xs same (Err fault) now e = absurd cc
 
--- code without a fault has none
-pub no_stop : {X : Type 0} (view : X → ℕ × Instruction) (old new : Place) (step : Result X CodeFault) (e : CodeFault) (xs : List (ℕ × Instruction))
-    → reading_at old ≡ Ok xs → StepsThrough view old (Some step) new → step ≡ Err e → ⊥
-no_stop view old new step e xs read s is =
-    let stopped = stop_reads view old new e (subst (λ r. StepsThrough view old (Some r) new) is s) in
+pub steps : (old new : Place) (step : Result (ℕ × program.Act) CodeFault) (x : ℕ × program.Act) (xs : List (ℕ × Instruction))
+    → reading_at old ≡ Ok xs → StepsBy act_located by_act old (Some step) new → step ≡ Ok x → Steps old new (act_located x) xs
+steps old new step x xs read s is =
+    let (i, same, t) = told_step act_located by_act old new step x s is in
+    stepped old new (old.at, i) (act_located x) xs same (reading_at new) refl (sym (step_reads (λ (y : ℕ × Instruction). y) old new (old.at, i) t) ∙ read)
+
+-- code that was read is at fault nowhere
+pub no_stop : (old new : Place) (step : Result (ℕ × program.Act) CodeFault) (e : CodeFault) (xs : List (ℕ × Instruction))
+    → reading_at old ≡ Ok xs → StepsBy act_located by_act old (Some step) new → step ≡ Err e → ⊥
+no_stop old new step e xs read s is =
+    let stopped = stop_reads (λ (y : ℕ × Instruction). y) old new e (subst (λ r. StepsBy act_located by_act old (Some r) new) is s) in
     absurd (let both : Ok xs ≡ (let r : Reading = Err e in r) = sym read ∙ stopped in cc)
 
 -- nothing is left
-pub at_end : {X : Type 0} (view : X → ℕ × Instruction) (old new : Place) (xs : List (ℕ × Instruction))
-    → reading_at old ≡ Ok xs → StepsThrough view old None new → xs ≡ []
-at_end view old new xs read s =
-    let both : Ok xs ≡ (let r : Reading = Ok [] in r) = sym read ∙ end_reads view old new s in cc
+pub at_end : (old new : Place) (xs : List (ℕ × Instruction)) → reading_at old ≡ Ok xs → StepsBy act_located by_act old None new → xs ≡ []
+at_end old new xs read s =
+    let both : Ok xs ≡ (let r : Reading = Ok [] in r) = sym read ∙ end_reads (λ (y : ℕ × Instruction). y) old new s in cc
 
 -- a step takes bytes, and leaves the others
-pub step_within : {X : Type 0} (view : X → ℕ × Instruction) (old new : Place) (step : Result X CodeFault) (x : X)
-    → StepsThrough view old (Some step) new → step ≡ Ok x → (old.at ≡ (view x).0) × (new.at + length new.rest ≡ old.at + length old.rest) × (length new.rest < length old.rest)
-step_within view old new step x s is =
-    let (here, first, spelled, took) = subst (λ r. StepsThrough view old (Some r) new) is s in
-    let some = has_bytes old.at first (Ok (view x).1) spelled in (
-      sym here,
+pub step_within : (old new : Place) (step : Result (ℕ × program.Act) CodeFault) (x : ℕ × program.Act)
+    → StepsBy act_located by_act old (Some step) new → step ≡ Ok x → (old.at ≡ x.0) × (new.at + length new.rest ≡ old.at + length old.rest) × (length new.rest < length old.rest)
+step_within old new step x s is =
+    let (i, same, here, first, spelled, took) = told_step act_located by_act old new step x s is in
+    let some = has_bytes old.at first (Ok i) spelled in (
+      sym (ap (λ (z : ℕ × Act). z.0) same),
       omega (arith, took.at, ap length took.parts, length-append first new.rest),
       omega (arith, some, ap length took.parts, length-append first new.rest),
     )

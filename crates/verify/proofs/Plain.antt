@@ -3,7 +3,8 @@ use Rattle.std.proofs.Common.{◌≡◌, ◌∙◌, ℕ, Bool, true, false, ◌&
 use Rattle.std.proofs.lemmas.Bool.Decides.{nat_tests}
 use Rattle.classfile.specs.Methods.{Method}
 use Rattle.hierarchy.specs.Class.{ClassFact}
-use Rattle.insn.specs.Meanings.{Act}
+use Rattle.insn.specs.Meanings as acts
+use Rattle.insn.specs.Meanings.{Act, made_index}
 use Rattle.insn.specs.Offsets.{led_to}
 use Rattle.frames.specs.FrameFact.{FrameFact}
 use Rattle.frames.specs.Conditions.{Conditions, reason, least}
@@ -13,7 +14,7 @@ use Rattle.rules.specs.Outcomes.{Done}
 use Rattle.rules.specs.Plans.{Plan}
 use Rattle.rules.specs.Rules.{conditions, constructs_own}
 use Rattle.rules.specs.Table.{plan}
-use Rattle.rules.specs.Ways.{goes_on, branch_offsets, keeps_locals, is_plain}
+use Rattle.rules.specs.Ways.{goes_on, branch_offsets, is_plain}
 use Rattle.rules.specs.declared.reason.Reason.{Reason}
 use Rattle.rules.proofs.Made.{never}
 use Rattle.verify.specs.Steps.{Judges}
@@ -39,14 +40,18 @@ is_nil (x ∷ xs) e = let none : length (x ∷ xs) ≡ 0 = grind (arith, nat_tes
 abbrev first_two : Act → Bool
 first_two a = goes_on a && nat_eq (length (branch_offsets a)) 0
 
-first_three : (a : Act) → is_plain a ≡ true → (first_two a && keeps_locals a) ≡ true
-first_three a e = left_holds (first_two a && keeps_locals a) (names_nothing a) e
+first_three : (a : Act) → is_plain a ≡ true → (first_two a && is_none (made_index a)) ≡ true
+first_three a e = left_holds (first_two a && is_none (made_index a)) (names_nothing a) e
 
 pub nowhere : (a : Act) → is_plain a ≡ true → branch_offsets a ≡ []
-nowhere a e = is_nil (branch_offsets a) (right_holds (goes_on a) (nat_eq (length (branch_offsets a)) 0) (left_holds (first_two a) (keeps_locals a) (first_three a e)))
+nowhere a e = is_nil (branch_offsets a) (right_holds (goes_on a) (nat_eq (length (branch_offsets a)) 0) (left_holds (first_two a) (is_none (made_index a)) (first_three a e)))
 
-pub keeps : (a : Act) → is_plain a ≡ true → keeps_locals a ≡ true
-keeps a e = right_holds (first_two a) (keeps_locals a) (first_three a e)
+constructs_none : (m : Method Act) (a : Act) (f : FrameFact) → is_plain a ≡ true → constructs_own (plan m a) f ≡ false
+constructs_none m (acts.Store kind n) f e = refl
+constructs_none m (acts.StoreReference n) f e = refl
+constructs_none m (acts.InvokeSpecial i) f e = cc
+constructs_none m (acts.New i) f e = cc
+constructs_none m a f e = never m a f refl
 
 not_last : (b last : Bool) → last ≡ false → (b && last) ≡ false
 not_last true last e = e
@@ -72,7 +77,7 @@ module _ (classes : List ClassFact) (m : Method Act) (frames : Frames) (at : ℕ
   end_none =
       both_least (handler_conditions classes frames at f m.exceptions) rest None None idle
       (no_end (goes_on a && last) (constructs_own p f && is_covered m.exceptions at) (not_last (goes_on a) last goes)
-      (ap (λ b. b && is_covered m.exceptions at) (never m a f (keeps a plain))))
+      (ap (λ b. b && is_covered m.exceptions at) (constructs_none m a f plain)))
 
   pub plain_done : (next : Option ℕ) → is_none next ≡ last → (g : FrameFact) (r : Result Unit Reason) → Done (conditions classes m at p f) (after m at p f) g r
       → Done (at_conditions classes m frames at p next f) (after m at p f) g r

@@ -38,7 +38,7 @@ use insn::{Act, Instructions};
 use pool::Descriptors;
 use rules::{
     Named, Reason, Working, branches_by, constructs_own, goes_on, is_plain, keeps_locals, named_by,
-    run, run_unnamed,
+    run, run_plain,
 };
 use std::alloc::{AllocError, Global};
 
@@ -227,7 +227,7 @@ fn judge<'n, 'a, C: Classes>(
     method: &CodeMethod<'_, 'a>,
     starts: &CodeStarts<'_>,
     at: u16,
-    act: Act<'a>,
+    act: &Act<'a>,
     last: bool,
     constants: &mut Descriptors<'_, 'a>,
     fields: &mut OwnFields<'_, 'a>,
@@ -249,16 +249,18 @@ fn judge<'n, 'a, C: Classes>(
     ensures same_fields { fields.new ≡ fields.old }
     ensures judged { (next : Option ℕ) → is_none next ≡ last →
         let m = method_view method.now in let f = held frame.old in
-        let p = plan m (act_view act.entry) in
+        let p = plan m (act_view act.now) in
         Done (at_conditions (C.content classes.now) m (frames_in frames.now) at p next f) (after m at p f) (held frame.new) result }
     ensures known { OnOk result (IsKnown (C.content classes.now) frames.now (held frame.new) known.new) }
     ensures handlers { let m = method_view method.now in OnOk result (Follows (C.content classes.now) (frames_in frames.now) m.exceptions at (held frame.new) handlers.new) }
 {
-    if !last && is_plain(&act) && handlers.are_idle(at) {
-        return run_unnamed(alloc, method, starts, at, act, frame, classes);
+    if !last && is_plain(act) && handlers.are_idle(at) {
+        known.behind(act);
+        handlers.behind(keeps_locals(act))?;
+        return run_plain(method, act, frame, classes);
     }
     judge_wholly(
-        alloc, method, starts, at, act, last, constants, fields, frames, known, seen, handlers,
+        alloc, method, starts, at, *act, last, constants, fields, frames, known, seen, handlers,
         frame, classes,
     )
 }
@@ -303,7 +305,7 @@ pub fn pass<'a, C: Classes>(
         let last = code.is_at_end();
         comes = goes_on(&act);
         let judged = judge(
-            alloc, method, starts, at, act, last, constants, fields, frames, &mut known, seen,
+            alloc, method, starts, at, &act, last, constants, fields, frames, &mut known, seen,
             handlers, frame, classes,
         );
         if let Err(reason) = judged {

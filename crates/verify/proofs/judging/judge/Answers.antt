@@ -1,8 +1,15 @@
-use Rattle.std.proofs.Common.{◌∙◌, sym}
+use Rattle.std.proofs.Common.{◌≡◌, ◌∙◌, true, sym, subst}
 use Rattle.insn.specs.Views.{act_view}
 use Rattle.frames.specs.DeclaredTables.{frames_in}
 use Rattle.rules.specs.Bodies.{method_view}
 use Rattle.rules.specs.Held.{held}
+use Rattle.rules.specs.After.{after}
+use Rattle.rules.specs.Outcomes.{Done}
+use Rattle.rules.specs.Rules.{conditions}
+use Rattle.rules.specs.Table.{plan}
+use Rattle.verify.specs.Keeping.{IsKnown}
+use Rattle.verify.proofs.Comparing.{same_behind}
+use Rattle.verify.proofs.InTurn.{on_ok}
 use Rattle.verify.proofs.Plain.{plain_done}
 use Rattle.verify.proofs.judging.judge.Goals as goal
 
@@ -13,5 +20,30 @@ returns-then-are_idle-clause-judged g c = λ next is.
     let frames = frames_in c.args.frames.now in
     let f = held c.args.frame.now in
     let idle = (c.are_idle.ensures c.if-are_idle.true classes frames m.exceptions f c.requires.handlers).1 in
-    plain_done classes m frames c.args.at f (act_view c.args.act) (sym c.is_plain.ensures ∙ c.if-is_plain.true) idle c.args.last c.if-not-last.true next is
-    (held c.run_unnamed.new.frame) c.run_unnamed.result c.run_unnamed.ensures
+    plain_done classes m frames c.args.at f (act_view c.args.act.now) (sym c.is_plain.ensures ∙ c.if-is_plain.true) idle c.args.last c.if-not-last.true next is
+    (held c.run_plain.new.frame) c.run_plain.result (c.run_plain.ensures c.args.at)
+
+pub returns-then-are_idle-clause-known : goal.returns-then-are_idle-clause-known
+returns-then-are_idle-clause-known g c =
+    let classes = g.C.Classes.content c.args.classes.now in
+    let m = method_view c.args.method.now in
+    let f = held c.args.frame.now in
+    let p = plan m (act_view c.args.act.now) in
+    let now = held c.run_plain.new.frame in
+    on_ok c.run_plain.result (λ u is.
+    let done = subst (Done (conditions classes m c.args.at p f) (after m c.args.at p f) now) is (c.run_plain.ensures c.args.at) in
+    subst (λ x. IsKnown classes c.args.frames.now x c.behind.new.self) (sym done.outcome.1) (c.behind.ensures classes c.args.frames.now m c.args.at f c.requires.known))
+
+pub returns-then-are_idle-clause-handlers : goal.returns-then-are_idle-clause-handlers
+returns-then-are_idle-clause-handlers g c =
+    let classes = g.C.Classes.content c.args.classes.now in
+    let m = method_view c.args.method.now in
+    let frames = frames_in c.args.frames.now in
+    let f = held c.args.frame.now in
+    let p = plan m (act_view c.args.act.now) in
+    let now = held c.run_plain.new.frame in
+    let followed = (c.are_idle.ensures c.if-are_idle.true classes frames m.exceptions f c.requires.handlers).0 in
+    on_ok c.run_plain.result (λ u is.
+    let done = subst (Done (conditions classes m c.args.at p f) (after m c.args.at p f) now) is (c.run_plain.ensures c.args.at) in
+    let same = λ (e : c.keeps_locals.result ≡ true). same_behind m c.args.at (act_view c.args.act.now) f now (sym c.keeps_locals.ensures ∙ e) done.outcome.1 in
+    c.in_ok-behind.ensures classes frames m.exceptions c.args.at f now same followed)

@@ -10,17 +10,13 @@ use Rattle.rules.specs.Table.{plan}
 use Rattle.verify.specs.Handling.{Follows}
 use Rattle.verify.specs.Verdict.{at_conditions}
 use Rattle.verify.proofs.Comparing.{same_behind}
-use Rattle.verify.proofs.InTurn.{when_ok}
+use Rattle.verify.proofs.InTurn.{on_ok, when_ok}
 use Rattle.verify.proofs.judging.judge_wholly.Goals as goal
 
 -- an offset behind an instruction that is not the last, and none behind the last
 some_next : (last : Bool) → (next : Option ℕ) × (is_none next ≡ last)
 some_next true = (None, refl)
 some_next false = (Some 0, refl)
-
-on_ok : {T E : Type 0} {P : Type 0} (r : Result T E) → ((x : T) → r ≡ Ok x → P) → OnOk r P
-on_ok (Ok x) p = p x refl
-on_ok (Err e) p = tt
 
 pub judge_named-requires-clause-caught : goal.judge_named-requires-clause-caught
 judge_named-requires-clause-caught g c =

@@ -1,10 +1,10 @@
 use Rattle.std.proofs.Common.{◌≡◌, ℕ, ◌+◌, true, ◌∷◌, Result, Ok, OnOk, List, option_map, length, refl, sym, ◌∙◌, ap, subst, arith}
 use Rattle.layout.specs.Place.{Place}
-use Rattle.insn.specs.declared.instruction.Insn.{Insn}
-use Rattle.insn.specs.Meanings.{Act, act}
+use Rattle.insn.specs.declared.operation.Act as program
+use Rattle.insn.specs.Meanings.{Act}
 use Rattle.insn.specs.Offsets.{acts, at_offset, first_offset}
 use Rattle.insn.specs.Readings.{or_none, instructions_in}
-use Rattle.insn.specs.Views.{view, act_view, located}
+use Rattle.insn.specs.Views.{act_view, act_located}
 use Rattle.pool.specs.Entries.{Entry}
 use Rattle.insn.proofs.Readings.{reading_at, whole_reading, only_reading}
 use Rattle.rules.specs.After.{after}
@@ -54,14 +54,14 @@ judge-judged-requires-clause-handlers g c =
     let m = method_view c.args.method.now in
     let frames = frames_in c.args.frames.now in
     let f = held c.loop-step.frame in
-    let here = (step_within located c.loop-step.code c.next.new.self c.in-Some.step (c.in-Ok.at, c.in-Ok.insn) c.in-Some.ensures.steps c.in-Ok.is).0 in
+    let here = (step_within c.loop-step.code c.next_act.new.self c.in-Some.step (c.in-Ok.at, c.in-Ok.act) c.in-Some.ensures c.in-Ok.is).0 in
     let before = subst (λ n. Follows classes frames m.exceptions n f c.loop-step.handlers) here c.loop-step.invariant.handlers in
     c.in_default-arrive.ensures.handlers m.exceptions c.in-Ok.at before
 
 pub unreachable-requires : goal.unreachable-requires
 unreachable-requires g c =
-    no_stop located c.loop-step.code c.next.new.self c.in-Some.step c.in_default-step.field-0 c.loop-step.invariant.left.instructions
-    c.loop-step.invariant.left.read c.in-Some.ensures.steps c.in_default-step.is
+    no_stop c.loop-step.code c.next_act.new.self c.in-Some.step c.in_default-step.field-0 c.loop-step.invariant.left.instructions
+    c.loop-step.invariant.left.read c.in-Some.ensures c.in_default-step.is
 
 pub returns-in-Err-clause-judged : goal.returns-in-Err-clause-judged
 returns-in-Err-clause-judged g c =
@@ -72,11 +72,11 @@ returns-in-Err-clause-judged g c =
     let v = code_judged plan classes m frames in
     let comes = c.loop-step.comes in
     let now = c.loop-step.invariant.left in
-    let x : ℕ × Insn = (c.in-Ok.at, c.in-Ok.insn) in
-    let one = steps located c.loop-step.code c.next.new.self c.in-Some.step x now.instructions now.read c.in-Some.ensures.steps c.in-Ok.is in
-    let same : v ≡ left classes m frames (acts (located x ∷ one.others)) comes f = now.same ∙ ap (λ xs. left classes m frames (acts xs) comes f) one.all in
+    let x : ℕ × program.Act = (c.in-Ok.at, c.in-Ok.act) in
+    let one = steps c.loop-step.code c.next_act.new.self c.in-Some.step x now.instructions now.read c.in-Some.ensures c.in-Ok.is in
+    let same : v ≡ left classes m frames (act_located x ∷ acts one.others) comes f = now.same ∙ ap (λ xs. left classes m frames xs comes f) one.all in
     c.refuse.ensures v
-    (stops_in classes m frames (x.0, act (view x.1)) (acts one.others) comes f v same (held c.arrive.new.frame) c.arrive.result c.in-Err.reason c.in-Err.is c.arrive.ensures.entered)
+    (stops_in classes m frames (act_located x) (acts one.others) comes f v same (held c.arrive.new.frame) c.arrive.result c.in-Err.reason c.in-Err.is c.arrive.ensures.entered)
 
 pub returns-in-Err-judged-clause-judged : goal.returns-in-Err-judged-clause-judged
 returns-in-Err-judged-clause-judged g c =
@@ -87,15 +87,13 @@ returns-in-Err-judged-clause-judged g c =
     let v = code_judged plan classes m frames in
     let comes = c.loop-step.comes in
     let now = c.loop-step.invariant.left in
-    let x : ℕ × Insn = (c.in-Ok.at, c.in-Ok.insn) in
-    let one = steps located c.loop-step.code c.next.new.self c.in-Some.step x now.instructions now.read c.in-Some.ensures.steps c.in-Ok.is in
-    let same : v ≡ left classes m frames (acts (located x ∷ one.others)) comes f = now.same ∙ ap (λ xs. left classes m frames (acts xs) comes f) one.all in
-    let a : ℕ × Act = (x.0, act (view x.1)) in
+    let x : ℕ × program.Act = (c.in-Ok.at, c.in-Ok.act) in
+    let one = steps c.loop-step.code c.next_act.new.self c.in-Some.step x now.instructions now.read c.in-Some.ensures c.in-Ok.is in
+    let same : v ≡ left classes m frames (act_located x ∷ acts one.others) comes f = now.same ∙ ap (λ xs. left classes m frames xs comes f) one.all in
+    let a : ℕ × Act = act_located x in
     let g1 = held c.arrive.new.frame in
     let next = first_offset (acts one.others) in
-    let done =
-    subst (λ b. Done (at_conditions classes m frames x.0 (plan m b) next g1) (after m x.0 (plan m b) g1) (held c.judge-judged.new.frame) c.judge-judged.result) c.act-act.ensures
-    (c.judge-judged.ensures.judged next (last_is c.next.new.self one.others one.read ∙ sym c.is_at_end-last.ensures)) in
+    let done = c.judge-judged.ensures.judged next (last_is c.next_act.new.self one.others one.read ∙ sym c.is_at_end-last.ensures) in
     c.refuse-in-Err-judged.ensures v
     (stops_at classes m frames a (acts one.others) comes f v same g1 c.arrive.result c.in_default-arrive.field-0 c.in_default-arrive.is c.arrive.ensures.entered
     (held c.judge-judged.new.frame) c.judge-judged.result c.in-Err-judged.reason c.in-Err-judged.is done)
@@ -109,17 +107,15 @@ loop-step-preserved g c =
     let v = code_judged plan classes m frames in
     let comes = c.loop-step.comes in
     let now = c.loop-step.invariant.left in
-    let x : ℕ × Insn = (c.in-Ok.at, c.in-Ok.insn) in
-    let one = steps located c.loop-step.code c.next.new.self c.in-Some.step x now.instructions now.read c.in-Some.ensures.steps c.in-Ok.is in
-    let same : v ≡ left classes m frames (acts (located x ∷ one.others)) comes f = now.same ∙ ap (λ xs. left classes m frames (acts xs) comes f) one.all in
-    let a : ℕ × Act = (x.0, act (view x.1)) in
+    let x : ℕ × program.Act = (c.in-Ok.at, c.in-Ok.act) in
+    let one = steps c.loop-step.code c.next_act.new.self c.in-Some.step x now.instructions now.read c.in-Some.ensures c.in-Ok.is in
+    let same : v ≡ left classes m frames (act_located x ∷ acts one.others) comes f = now.same ∙ ap (λ xs. left classes m frames xs comes f) one.all in
+    let a : ℕ × Act = act_located x in
     let g1 = held c.arrive.new.frame in
     let next = first_offset (acts one.others) in
-    let done =
-    subst (λ b. Done (at_conditions classes m frames x.0 (plan m b) next g1) (after m x.0 (plan m b) g1) (held c.judge-judged.new.frame) c.judge-judged.result) c.act-act.ensures
-    (c.judge-judged.ensures.judged next (last_is c.next.new.self one.others one.read ∙ sym c.is_at_end-last.ensures)) in
+    let done = c.judge-judged.ensures.judged next (last_is c.next_act.new.self one.others one.read ∙ sym c.is_at_end-last.ensures) in
     let well = subst (Done (at_conditions classes m frames x.0 (plan m a.1) next g1) (after m x.0 (plan m a.1) g1) (held c.judge-judged.new.frame)) c.in_default-judged.is done in
-    let within = step_within located c.loop-step.code c.next.new.self c.in-Some.step x c.in-Some.ensures.steps c.in-Ok.is in
+    let within = step_within c.loop-step.code c.next_act.new.self c.in-Some.step x c.in-Some.ensures c.in-Ok.is in
     record {
       left = record {
         instructions = one.others;
@@ -127,7 +123,7 @@ loop-step-preserved g c =
         same =
             goes_done classes m frames a (acts one.others) comes f v same g1 c.arrive.result c.in_default-arrive.field-0 c.in_default-arrive.is c.arrive.ensures.entered
             (held c.judge-judged.new.frame) c.judge-judged.result c.in_default-judged.field-0 c.goes_on-comes.result
-            c.in_default-judged.is done (c.goes_on-comes.ensures ∙ ap goes_on c.act-act.ensures);
+            c.in_default-judged.is done c.goes_on-comes.ensures;
         within = within.1 ∙ now.within;
       };
       locals =
@@ -137,9 +133,12 @@ loop-step-preserved g c =
       fields = c.judge-judged.ensures.same_fields ∙ c.loop-step.invariant.fields;
       known = c.in_default-judged.ensures.known;
       handlers =
-          follows_later classes frames m.exceptions x.0 c.next.new.self.at (held c.judge-judged.new.frame) c.judge-judged.new.handlers
+          follows_later classes frames m.exceptions x.0 c.next_act.new.self.at (held c.judge-judged.new.frame) c.judge-judged.new.handlers
           (omega (arith, within.0, within.1, within.2)) c.in_default-judged.ensures.handlers;
     }
+
+pub loop-step-smaller : goal.loop-step-smaller
+loop-step-smaller g c = (step_within c.loop-step.code c.next_act.new.self c.in-Some.step (c.in-Ok.at, c.in-Ok.act) c.in-Some.ensures c.in-Ok.is).2
 
 pub returns-clause-judged : goal.returns-clause-judged
 returns-clause-judged g c =
@@ -148,4 +147,4 @@ returns-clause-judged g c =
     let frames = frames_in c.args.frames.now in
     let now = c.loop-step.invariant.left in
     now.same ∙ ap (λ xs. left classes m frames (acts xs) c.loop-step.comes (held c.loop-step.frame))
-    (at_end located c.loop-step.code c.next.new.self now.instructions now.read c.in_default.ensures.steps)
+    (at_end c.loop-step.code c.next_act.new.self now.instructions now.read c.in_default.ensures)
