@@ -167,7 +167,7 @@ at_end old new xs read s =
 pub step_within : (old new : Place) (step : Result (ℕ × program.Act) CodeFault) (x : ℕ × program.Act)
     → StepsBy act_located by_act old (Some step) new → step ≡ Ok x → (old.at ≡ x.0) × (new.at + length new.rest ≡ old.at + length old.rest) × (length new.rest < length old.rest)
 step_within old new step x s is =
-    let (i, same, here, first, spelled, took) = told_step act_located by_act old new step x s is in
+    let (i, same, (here, first, spelled, took)) = told_step act_located by_act old new step x s is in
     let some = has_bytes old.at first (Ok i) spelled in (
       sym (ap (λ (z : ℕ × Act). z.0) same),
       omega (arith, took.at, ap length took.parts, length-append first new.rest),

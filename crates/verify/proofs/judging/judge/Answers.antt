@@ -42,8 +42,7 @@ returns-then-are_idle-clause-handlers g c =
     let f = held c.args.frame.now in
     let p = plan m (act_view c.args.act.now) in
     let now = held c.run_plain.new.frame in
-    let followed = (c.are_idle.ensures c.if-are_idle.true classes frames m.exceptions f c.requires.handlers).0 in
     on_ok c.run_plain.result (λ u is.
     let done = subst (Done (conditions classes m c.args.at p f) (after m c.args.at p f) now) is (c.run_plain.ensures c.args.at) in
     let same = λ (e : c.keeps_locals.result ≡ true). same_behind m c.args.at (act_view c.args.act.now) f now (sym c.keeps_locals.ensures ∙ e) done.outcome.1 in
-    c.in_ok-behind.ensures classes frames m.exceptions c.args.at f now same followed)
+    c.in_ok-behind.ensures classes frames m.exceptions c.args.at f now same c.requires.handlers)
