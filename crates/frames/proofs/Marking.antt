@@ -10,7 +10,7 @@ use Rattle.insn.specs.Instructions.{Instruction}
 use Rattle.insn.specs.Code.{SpellsCode, FaultyCode, StepsThrough, StepsBy}
 use Rattle.insn.specs.Meanings.{Act, New, act, made_index}
 use Rattle.insn.specs.Offsets.{acts, at_offset, by_made}
-use Rattle.insn.specs.Readings.{or_none, reading_of, reading_from, instructions_in}
+use Rattle.insn.specs.Readings.{or_none, instructions_in}
 use Rattle.insn.specs.Views.{view, views}
 use Rattle.insn.proofs.CodeLaws.{SoFar, told_step, told_fault, code_step, code_whole, shorter, has_bytes}
 use Rattle.insn.proofs.Readings.{only_reading}

@@ -94,6 +94,7 @@ fn clear_marks(marks: &mut Vec<Mark>, count: usize) -> Result<(), AllocError>
 }
 
 // Marks where instructions begin; or tells the fault of the first that is none, and then nothing of the marks.
+#[inline(never)]
 fn mark_starts(code: &[u8], marks: &mut [Mark]) -> Result<(), CodeFault>
     requires clear { AreClear marks.old }
     requires len { length marks.old ≡ length code.now }

@@ -169,7 +169,7 @@ fronts at a b x y v w s t e =
     let same = same_good made other one in
     (ap (λ (z : Read). z.0) same, ap (λ (z : Read). z.1.at) same, ap (λ (z : Read). z.1.rest) same)
 
-not_both : (at : ℕ) (first rest others : List ℕ) (i : Instruction) (e : CodeFault)
+pub not_both : (at : ℕ) (first rest others : List ℕ) (i : Instruction) (e : CodeFault)
     → SpellsInstruction at first i → others ≡ first ++ rest → FaultyInstruction at others e → ⊥
 not_both at first rest others i e s parts (inl h) =
     spelled_no_fault (instruction_at at) first rest at (Ok i) h.1 s (subst (λ (t : List ℕ). FirstFault (instruction_at at) at t h.1) parts h.2)

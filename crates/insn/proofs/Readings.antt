@@ -7,7 +7,7 @@ use Rattle.layout.specs.FormatLaws.{spelled_reads, fault_reads}
 use Rattle.insn.specs.declared.fault.CodeFault.{CodeFault}
 use Rattle.insn.specs.Instructions.{Instruction, instruction_at}
 use Rattle.insn.specs.Faults.{judged, beside}
-use Rattle.insn.specs.Code.{FaultyInstruction, StepsThrough}
+use Rattle.insn.specs.Code.{FaultyInstruction, StepsThrough, HasInstruction}
 use Rattle.insn.specs.Readings.{Reading, IsReading, behind, reading_behind, reading_from, reading_of}
 use Rattle.insn.proofs.CodeLaws.{SoFar, read_spells, refusal_faulty, code_step, code_fault, code_whole, has_bytes, shorter, one_code, code_or_fault, one_fault}
 
@@ -139,6 +139,17 @@ some_left p more e = by (judged p.at (reads (instruction_at p.at) p.at p.rest)) 
     by : (r : Result (Instruction × Place) CodeFault) → judged p.at (reads (instruction_at p.at) p.at p.rest) ≡ r → ⊥
     by (Ok x) is = no_front (p.at, x.0) (reading_from (length x.1.rest) x.1.at x.1.rest) (sym (one_step p.at p.rest (Ok x) more is) ∙ e)
     by (Err fault) is = let none : Err fault ≡ (let r : Reading = Ok [] in r) = sym (one_step p.at p.rest (Err fault) more is) ∙ e in cc
+
+-- where bytes are left of code that is read, an instruction is in front
+pub has_instruction : (p : Place) (xs : List (ℕ × Instruction)) → 0 < length p.rest → reading_at p ≡ Ok xs → HasInstruction p
+unfolding reading_at
+has_instruction p xs more e = by (judged p.at (reads (instruction_at p.at) p.at p.rest)) refl
+  where
+    by : (r : Result (Instruction × Place) CodeFault) → judged p.at (reads (instruction_at p.at) p.at p.rest) ≡ r → HasInstruction p
+    by (Ok x) is =
+        let (first, spells, took) = read_spells p.at (instruction_at p.at) p x.1 x.0 (reads (instruction_at p.at) p.at p.rest) refl is in
+        (x.0, first, x.1.rest, took.parts, spells)
+    by (Err fault) is = absurd (let both : Err fault ≡ (let r : Reading = Ok xs in r) = sym (one_step p.at p.rest (Err fault) more is) ∙ e in cc)
 
 -- all of the code
 pub whole_reading : (code : List ℕ) → reading_of code ≡ reading_at (record { at = 0; rest = code })

@@ -59,6 +59,10 @@ StepsBy view told old None new = (old.rest ≡ []) × (new ≡ old)
 StepsBy view told old (Some (Ok x)) new = (i : Instruction) × (view x ≡ told (old.at, i)) × (first : List ℕ) × SpellsInstruction old.at first i × Took first old new
 StepsBy view told old (Some (Err e)) new = (0 < length old.rest) × FaultyInstruction old.at old.rest e × (new.rest ≡ [])
 
+-- an instruction is in front of the place
+abbrev pub HasInstruction : Place → Type 0
+HasInstruction p = (i : Instruction) × (first : List ℕ) × (others : List ℕ) × (p.rest ≡ first ++ others) × SpellsInstruction p.at first i
+
 -- An instruction without operands was taken, and the place is behind it; or nothing was, and the place is where it was.
 abbrev pub TakesAlone : Place → Place → Option Opcode → Type 0
 TakesAlone old new (Some o) = (form o ≡ forms.Nothing) × (first : List ℕ) × SpellsInstruction old.at first (record { opcode = o; operands = nothing }) × Took first old new

@@ -31,8 +31,8 @@ impl<'a> Model for Instructions<'a> {
 }
 
 impl<'a> Instructions<'a> {
-    ghost use Rattle.std.specs.Prelude.{length, nat_eq};
-    ghost use Rattle.insn.specs.Code.{StepsBy};
+    ghost use Rattle.std.specs.Prelude.{Some, Ok, length, nat_eq};
+    ghost use Rattle.insn.specs.Code.{StepsBy, HasInstruction};
     ghost use Rattle.insn.specs.Offsets.{by_act, by_made};
     ghost use Rattle.insn.specs.Views.{act_located};
 
@@ -52,24 +52,32 @@ impl<'a> Instructions<'a> {
         self.cursor.rest().is_empty()
     }
 
-    /// The next instruction as `next` goes to it, by its meaning alone, with the offset where it begins.
-    pub fn next_act(&mut self) -> Option<Result<(usize, Act<'a>), CodeFault>>
-        ensures { StepsBy act_located by_act self.old result self.new }
+    /// The offset of the byte in front, or of the end.
+    pub fn at(&self) -> usize
+        ensures { result ≡ self.now.at }
     {
-        let at = self.cursor.at();
+        self.cursor.at()
+    }
+
+    /// Goes behind the instruction in front, of which it tells the meaning. One stands there.
+    pub fn take_act(&mut self) -> Act<'a>
+        requires { HasInstruction self.old }
+        ensures { StepsBy act_located by_act self.old (Some (Ok (self.old.at, result))) self.new }
+    {
         match take_alone(&mut self.cursor) {
-            Some(opcode) => Some(Ok((at, act_alone(opcode)))),
+            Some(opcode) => act_alone(opcode),
             None => self.act_with_operands(),
         }
     }
 
     #[inline(never)]
-    fn act_with_operands(&mut self) -> Option<Result<(usize, Act<'a>), CodeFault>>
-        ensures { StepsBy act_located by_act self.old result self.new }
+    fn act_with_operands(&mut self) -> Act<'a>
+        requires { HasInstruction self.old }
+        ensures { StepsBy act_located by_act self.old (Some (Ok (self.old.at, result))) self.new }
     {
-        match self.next()? {
-            Ok((at, insn)) => Some(Ok((at, act(&insn)))),
-            Err(fault) => Some(Err(fault)),
+        match read_insn(&mut self.cursor) {
+            Ok(insn) => act(&insn),
+            Err(_) => unreachable!(),
         }
     }
 

@@ -115,6 +115,29 @@ fn instructions_one_by_one(rt: HostRuntime) {
     assert!(rt; Instructions::new(&[]).next().is_none());
 }
 
+/// Of `iconst_0`, `iload 1`, `new` of constant 2 and a byte that is no opcode.
+#[test]
+fn instructions_by_what_they_mean(rt: HostRuntime) {
+    let code = [0x03, 0x15, 1, 0xBB, 0, 2, 0xCA];
+    let mut acts = Instructions::new(&code);
+    assert!(rt; matches!(acts.next_act(), Some(Ok((0, Act::Constant(Kind::Int))))));
+    assert!(rt; matches!(acts.next_act(), Some(Ok((1, Act::Load { kind: Kind::Int, local: 1 })))));
+    assert!(rt; matches!(acts.next_act(), Some(Ok((3, Act::New { index: 2 })))));
+    assert!(rt; matches!(acts.next_act(), Some(Err(CodeFault::BadOpcode { at: 6 }))));
+    assert!(rt; acts.next_act().is_none());
+}
+
+/// Of the same: where each begins, and the class of which it makes an object.
+#[test]
+fn instructions_by_where_they_begin(rt: HostRuntime) {
+    let mut starts = Instructions::new(&[0x03, 0x15, 1, 0xBB, 0, 2, 0xCA]);
+    assert!(rt; matches!(starts.next_start(), Some(Ok((0, None)))));
+    assert!(rt; matches!(starts.next_start(), Some(Ok((1, None)))));
+    assert!(rt; matches!(starts.next_start(), Some(Ok((3, Some(2))))));
+    assert!(rt; matches!(starts.next_start(), Some(Err(CodeFault::BadOpcode { at: 6 }))));
+    assert!(rt; starts.next_start().is_none());
+}
+
 /// True where `Debug` writes the value as this text, or memory ran out.
 fn is_shown<T: Debug>(alloc: Global, shown: &T, want: &str) -> bool {
     match format!(in alloc; "{shown:?}") {

@@ -1,11 +1,10 @@
 -- The pass, from one instruction to the next.
-use Rattle.std.proofs.Common.{◌≡◌, ℕ, zero, suc, ◌+◌, ◌<◌, Bool, true, false, is_none, nat_eq, List, [], ◌∷◌, ◌⊎◌, inl, inr, subst, Result, Ok, Err, Option, Some, None, length, refl, sym, ◌∙◌, ap, arith, if◌then◌else◌}
-use Rattle.std.proofs.lemmas.List.{length-map, length-append}
+use Rattle.std.proofs.Common.{◌≡◌, ℕ, zero, suc, ◌+◌, ◌<◌, Bool, true, false, is_none, nat_eq, List, [], ◌∷◌, ◌⊎◌, inl, inr, subst, Result, Ok, Err, Option, Some, length, refl, sym, ◌∙◌, ap, arith, if◌then◌else◌}
+use Rattle.std.proofs.lemmas.List.{length-map, length-append, nil_from_length}
 use Rattle.std.proofs.lemmas.Bool.Decides.{nat_tests}
 use Rattle.classfile.specs.Methods.{Method}
 use Rattle.hierarchy.specs.Class.{ClassFact}
 use Rattle.layout.specs.Place.{Place}
-use Rattle.insn.specs.declared.fault.CodeFault.{CodeFault}
 use Rattle.insn.specs.Instructions.{Instruction}
 use Rattle.insn.specs.declared.operation.Act as program
 use Rattle.insn.specs.Code.{StepsBy}
@@ -14,7 +13,7 @@ use Rattle.insn.specs.Offsets.{at_offset, first_offset, acts, by_act}
 use Rattle.insn.specs.Readings.{Reading, behind}
 use Rattle.insn.specs.Views.{act_located}
 use Rattle.insn.proofs.CodeLaws.{has_bytes, told_step}
-use Rattle.insn.proofs.Readings.{reading_at, step_reads, stop_reads, end_reads, some_left}
+use Rattle.insn.proofs.Readings.{reading_at, step_reads, end_reads, some_left}
 use Rattle.frames.specs.VerificationType.{VerificationType}
 use Rattle.frames.specs.FrameFact.{FrameFact}
 use Rattle.frames.specs.Slots.{is_wide}
@@ -145,29 +144,27 @@ stepped old new y x xs same (Ok ys) now e =
     let all : y ∷ ys ≡ xs = cc in record { others = ys; read = now; all = ap acts (sym all) ∙ ap (λ z. z ∷ acts ys) (sym same) }
 stepped old new y x xs same (Err fault) now e = absurd cc
 
-pub steps : (old new : Place) (step : Result (ℕ × program.Act) CodeFault) (x : ℕ × program.Act) (xs : List (ℕ × Instruction))
-    → reading_at old ≡ Ok xs → StepsBy act_located by_act old (Some step) new → step ≡ Ok x → Steps old new (act_located x) xs
-steps old new step x xs read s is =
-    let (i, same, t) = told_step act_located by_act old new step x s is in
+pub steps : (old new : Place) (x : ℕ × program.Act) (xs : List (ℕ × Instruction))
+    → reading_at old ≡ Ok xs → StepsBy act_located by_act old (Some (Ok x)) new → Steps old new (act_located x) xs
+steps old new x xs read s =
+    let (i, same, t) = told_step act_located by_act old new (Ok x) x s refl in
     stepped old new (old.at, i) (act_located x) xs same (reading_at new) refl (sym (step_reads (λ (y : ℕ × Instruction). y) old new (old.at, i) t) ∙ read)
 
--- code that was read is at fault nowhere
-pub no_stop : (old new : Place) (step : Result (ℕ × program.Act) CodeFault) (e : CodeFault) (xs : List (ℕ × Instruction))
-    → reading_at old ≡ Ok xs → StepsBy act_located by_act old (Some step) new → step ≡ Err e → ⊥
-no_stop old new step e xs read s is =
-    let stopped = stop_reads (λ (y : ℕ × Instruction). y) old new e (subst (λ r. StepsBy act_located by_act old (Some r) new) is s) in
-    absurd (let both : Ok xs ≡ (let r : Reading = Err e in r) = sym read ∙ stopped in cc)
+-- the step from a place of which the offset was asked
+pub taken_at : (old new : Place) (n : ℕ) (a : program.Act) → n ≡ old.at → StepsBy act_located by_act old (Some (Ok (old.at, a))) new → StepsBy act_located by_act old (Some (Ok (n, a))) new
+taken_at old new n a is s = subst (λ k. StepsBy act_located by_act old (Some (Ok (k, a))) new) (sym is) s
 
 -- nothing is left
-pub at_end : (old new : Place) (xs : List (ℕ × Instruction)) → reading_at old ≡ Ok xs → StepsBy act_located by_act old None new → xs ≡ []
-at_end old new xs read s =
-    let both : Ok xs ≡ (let r : Reading = Ok [] in r) = sym read ∙ end_reads (λ (y : ℕ × Instruction). y) old new s in cc
+pub at_end : (p : Place) (xs : List (ℕ × Instruction)) → reading_at p ≡ Ok xs → nat_eq (length p.rest) 0 ≡ true → xs ≡ []
+at_end p xs read e =
+    let none : length p.rest ≡ 0 = grind (arith, nat_tests, e) in
+    let both : Ok xs ≡ (let r : Reading = Ok [] in r) = sym read ∙ end_reads (λ (y : ℕ × Instruction). y) p p (nil_from_length p.rest none, refl) in cc
 
 -- a step takes bytes, and leaves the others
-pub step_within : (old new : Place) (step : Result (ℕ × program.Act) CodeFault) (x : ℕ × program.Act)
-    → StepsBy act_located by_act old (Some step) new → step ≡ Ok x → (old.at ≡ x.0) × (new.at + length new.rest ≡ old.at + length old.rest) × (length new.rest < length old.rest)
-step_within old new step x s is =
-    let (i, same, (here, first, spelled, took)) = told_step act_located by_act old new step x s is in
+pub step_within : (old new : Place) (x : ℕ × program.Act)
+    → StepsBy act_located by_act old (Some (Ok x)) new → (old.at ≡ x.0) × (new.at + length new.rest ≡ old.at + length old.rest) × (length new.rest < length old.rest)
+step_within old new x s =
+    let (i, same, (here, first, spelled, took)) = told_step act_located by_act old new (Ok x) x s refl in
     let some = has_bytes old.at first (Ok i) spelled in (
       sym (ap (λ (z : ℕ × Act). z.0) same),
       omega (arith, took.at, ap length took.parts, length-append first new.rest),

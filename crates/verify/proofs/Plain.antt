@@ -1,5 +1,5 @@
 -- A plain instruction that is not the last one, where no handler is against it: its rule alone decides.
-use Rattle.std.proofs.Common.{◌≡◌, ◌∙◌, ℕ, Bool, true, false, ◌&&◌, is_none, nat_eq, ℤ, List, [], ◌∷◌, ◌++◌, length, Option, Some, None, Result, Ok, Err, arith, refl, sym, ap, subst}
+use Rattle.std.proofs.Common.{◌≡◌, ◌∙◌, ℕ, Bool, true, false, ◌&&◌, is_none, nat_eq, ℤ, List, [], ◌∷◌, ◌++◌, length, Option, None, Result, Ok, Err, arith, refl, ap}
 use Rattle.std.proofs.lemmas.Bool.Decides.{nat_tests}
 use Rattle.classfile.specs.Methods.{Method}
 use Rattle.hierarchy.specs.Class.{ClassFact}
@@ -17,7 +17,6 @@ use Rattle.rules.specs.Table.{plan}
 use Rattle.rules.specs.Ways.{goes_on, branch_offsets, is_plain}
 use Rattle.rules.specs.declared.reason.Reason.{Reason}
 use Rattle.rules.proofs.Made.{never}
-use Rattle.verify.specs.Steps.{Judges}
 use Rattle.verify.specs.TypeSafety.{Frames}
 use Rattle.verify.specs.Verdict.{at_conditions, handler_conditions, target_conditions, is_covered}
 use Rattle.verify.proofs.Ends.{done_ways, refused_end}

@@ -1,7 +1,6 @@
 -- Where what a refusal says holds, the verdict is that refusal.
-use Rattle.std.proofs.Common.{◌≡◌, ◌⊎◌, ℕ, ◌+◌, ◌<◌, ◌≤◌, Bool, true, false, nat_eq, nat_lt, List, [], ◌∷◌, ◌++◌, length, Option, Some, None, refl, sym, ◌∙◌, ap, subst, inl, inr, arith, if◌then◌else◌, eq-eqb, eqb-true, ne_eqb, ltb-true, ltb-false, lt-ltb, le-ltb}
-use Rattle.std.proofs.lemmas.Bool.{eqb-false}
-use Rattle.classfile.specs.Methods.{Method, ExceptionEntry}
+use Rattle.std.proofs.Common.{◌≡◌, ◌⊎◌, ℕ, ◌+◌, ◌<◌, ◌≤◌, Bool, true, false, nat_eq, nat_lt, List, [], ◌∷◌, length, Some, None, refl, sym, ◌∙◌, ap, subst, inl, inr, arith, eq-eqb, eqb-true, ltb-true, ltb-false, lt-ltb, le-ltb}
+use Rattle.classfile.specs.Methods.{Method}
 use Rattle.hierarchy.specs.Class.{ClassFact}
 use Rattle.insn.specs.Meanings.{Act}
 use Rattle.insn.specs.Offsets.{at_offset, first_offset, next_offset, IsStart, StartsRise}
@@ -13,9 +12,9 @@ use Rattle.rules.specs.Plans.{falls}
 use Rattle.rules.specs.Table.{Plans}
 use Rattle.rules.specs.After.{after}
 use Rattle.verify.specs.InitialFrames.{initial_types, initial_frame}
-use Rattle.verify.specs.TypeSafety.{Frames, Comes, IsTypeSafeAt}
-use Rattle.verify.specs.Verdict.{Verdict, refused, refused_or, at_conditions, entry, entered, arrives, passes, code_judged, table_conditions, table_judged, with_frames, verdict}
-use Rattle.verify.specs.Refusals.{IsTypeSafeUpTo, Reaches, BreaksRule, BreaksFrame, BreaksFirst, BreaksTable, HasNoRoom, BreaksCode, BreaksWithFrames, RefusedWhere}
+use Rattle.verify.specs.TypeSafety.{Frames}
+use Rattle.verify.specs.Verdict.{Verdict, refused, refused_or, at_conditions, entry, entered, arrives, passes, code_judged, table_judged, with_frames, verdict}
+use Rattle.verify.specs.Refusals.{Reaches, BreaksRule, BreaksFrame, BreaksFirst, BreaksTable, HasNoRoom, BreaksCode, BreaksWithFrames, RefusedWhere}
 use Rattle.verify.proofs.Reasons.{none_told}
 use Rattle.verify.proofs.Passing.{IsFineIn, at_first}
 use Rattle.verify.proofs.Following.{comes_none, fine_behind, none_here, at_next}

@@ -266,6 +266,7 @@ fn judge<'n, 'a, C: Classes>(
 }
 
 /// Judges code, by one pass over its bytes that carries one frame, the one with which the method begins.
+#[inline(never)]
 pub fn pass<'a, C: Classes>(
     alloc: Global,
     method: &CodeMethod<'_, 'a>,
@@ -294,11 +295,9 @@ pub fn pass<'a, C: Classes>(
     let mut code = Instructions::new(method.code.code);
     let mut comes = true;
     let mut known = Known::nothing();
-    while let Some(step) = code.next_act() {
-        let Ok((at, act)) = step else {
-            unreachable!();
-        };
-        let at = at as u16;
+    while !code.is_at_end() {
+        let at = code.at() as u16;
+        let act = code.take_act();
         if let Err(reason) = arrive(at, comes, frames, &mut known, handlers, frame, classes) {
             return refuse(at, reason);
         }

@@ -1,13 +1,8 @@
-use Rattle.std.proofs.Common.{◌≡◌, ◌∙◌, sym, ap, subst, rules}
-use Rattle.insn.specs.Acts.{stack_forms}
+use Rattle.std.proofs.Common.{◌≡◌, ◌∙◌, sym, ap}
 use Rattle.insn.specs.Views.{act_view}
 use Rattle.rules.specs.Held.{held}
-use Rattle.rules.specs.Plans.{rearranges}
 use Rattle.rules.specs.Table.{plan, return_nothing}
-use Rattle.rules.specs.After.{after}
-use Rattle.rules.specs.Rules.{conditions}
 use Rattle.rules.specs.Bodies.{method_view}
-use Rattle.rules.specs.Outcomes.{Done}
 use Rattle.rules.proofs.Settling.{returned, by_plan}
 use Rattle.std.specs.Prelude.{Option, option_map}
 use Rattle.std.specs.Option.{option_and_then}

@@ -1,4 +1,4 @@
-use Rattle.std.proofs.Common.{◌≡◌, ◌∙◌, ℕ, Bool, true, false, is_none, Option, Some, None, Result, Ok, Err, refl, sym, ap, subst}
+use Rattle.std.proofs.Common.{◌≡◌, ◌∙◌, ℕ, Bool, true, false, is_none, Option, Some, None, Result, refl, sym, subst}
 use Rattle.std.specs.Prelude.{OnOk, IsOk}
 use Rattle.insn.specs.Views.{act_view}
 use Rattle.frames.specs.DeclaredTables.{frames_in}

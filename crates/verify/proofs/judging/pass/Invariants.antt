@@ -9,8 +9,8 @@ use Rattle.verify.specs.Verdict.{code_judged}
 use Rattle.verify.proofs.Onward.{Remains}
 use Rattle.verify.proofs.judging.pass.Given as goal
 
-abbrev pub invariant-loop-step : goal.invariant-loop-step
-invariant-loop-step g l = record {
+abbrev pub invariant-loop-code : goal.invariant-loop-code
+invariant-loop-code g l = record {
   left :
       Remains (g.C.Classes.content l.classes) (method_view l.method) (frames_in l.frames) (length l.method.code.now.code.now) l.code l.comes (held l.frame)
       (code_judged plan (g.C.Classes.content l.classes) (method_view l.method) (frames_in l.frames));
@@ -21,5 +21,5 @@ invariant-loop-step g l = record {
   handlers : Follows (g.C.Classes.content l.classes) (frames_in l.frames) (method_view l.method).exceptions l.code.at (held l.frame) l.handlers;
 }
 
-abbrev pub decreases-loop-step : goal.decreases-loop-step
-decreases-loop-step g l = length l.code.rest
+abbrev pub decreases-loop-code : goal.decreases-loop-code
+decreases-loop-code g l = length l.code.rest
