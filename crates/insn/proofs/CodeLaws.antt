@@ -9,7 +9,7 @@ use Rattle.insn.specs.declared.fault.CodeFault.{CodeFault}
 use Rattle.insn.specs.declared.fault.CodeFault.TheVariants.{OutOfMemory, CutInstruction}
 use Rattle.insn.specs.Instructions.{Instruction, instruction_at}
 use Rattle.insn.specs.Faults.{judged, beside}
-use Rattle.insn.specs.Code.{SpellsInstruction, FaultyInstruction, SpellsCode, FaultyCode, StepsThrough, StepsBy, UnlessMemory}
+use Rattle.insn.specs.Code.{SpellsInstruction, FaultyInstruction, SpellsCode, FaultyCode, StepsThrough, StepsBy, HasInstruction, UnlessMemory}
 use Rattle.insn.specs.Offsets.{StartsRise}
 
 -- ---- what reading one instruction gives
@@ -92,6 +92,11 @@ code_step bytes xs ys old new x so here is read =
       omega (arith, took.at, so.2, length-append front first),
       subst (λ (zs : List (ℕ × Instruction)). SpellsCode 0 (front ++ first) zs) (sym is) code,
     )
+
+-- code that has instructions begins with one
+pub code_front : (bytes : List ℕ) (xs : List (ℕ × Instruction)) → SpellsCode 0 bytes xs → 0 < length xs → HasInstruction (record { at = 0; rest = bytes })
+code_front bytes [] code more = absurd (omega (arith, more))
+code_front bytes (x ∷ xs) code more = (x.1, code.0, code.1, code.2, code.4)
 
 pub code_fault : (bytes : List ℕ) (xs : List (ℕ × Instruction)) (old : Place) (e : CodeFault)
     → SoFar bytes old xs → 0 < length old.rest → FaultyInstruction old.at old.rest e → FaultyCode bytes e

