@@ -1,15 +1,14 @@
 -- The forms of names of a text, found byte by byte.
 use Rattle.std.proofs.Common.{◌≡◌, ℕ, ◌+◌, ◌<◌, Bool, true, false, not, eqb, ◌&&◌, ◌||◌, List, ◌∷◌, length, get_or, drop, refl, sym, ap, subst, ◌∙◌, arith, ne_eqb}
-use Rattle.std.specs.Char.{is_ascii_alphabetic}
 use Rattle.std.specs.List.{list_all}
 use Rattle.std.proofs.lemmas.List.Folds.{list_all_at}
 use Rattle.std.proofs.lemmas.List.{drop_more, drop_all}
 use Rattle.std.proofs.lemmas.List.Sums.{AllPass-from_list_all, list_all-from_AllPass}
-use Rattle.std.proofs.lemmas.Bool.{and_parts, and_from, false≢true, or_parts, or_left, or_from, eqb-false}
-use Rattle.names.specs.Names.{dot, slash, semicolon, bracket, less_than, greater_than, is_name_unit, is_angle, IsUnqualifiedName, IsMethodName}
+use Rattle.std.proofs.lemmas.Bool.{and_parts, and_from, false≢true, or_parts, eqb-false}
+use Rattle.names.specs.Names.{dot, slash, semicolon, bracket, is_name_unit, is_angle, IsUnqualifiedName, IsMethodName}
 use Rattle.names.specs.Reading.{goes_on, ends_class_name}
-use Rattle.names.specs.Forms.{AreNameForms}
-use Rattle.names.proofs.Scan.{scan_ends, class_to_the_end, no_class_there}
+use Rattle.names.specs.Forms.{AreNameForms, IsPlain}
+use Rattle.names.proofs.Scan.{plain_goes_on, scan_ends, class_to_the_end, no_class_there}
 
 abbrev pub is_no_angle : ℕ → Bool
 is_no_angle u = not (is_angle u)
@@ -71,10 +70,7 @@ one_byte_more bytes at fresh has_slash has_angle lt on s =
     later : (n : ℕ) → false ≡ eqb (n + 1) 0
     later n = sym (ne_eqb (n + 1) 0 (λ h. omega (arith, h)))
 
--- ---- a letter more
-
-no_letter : (b : ℕ) → is_ascii_alphabetic b ≡ true → (other : ℕ) → is_ascii_alphabetic other ≡ false → eqb b other ≡ false
-no_letter b letter other differs = ne_eqb b other (λ e. false≢true (sym differs ∙ ap is_ascii_alphabetic (sym e) ∙ letter))
+-- ---- a plain byte more
 
 with_flags : (bytes : List ℕ) (at : ℕ) (f g s t a c : Bool) → f ≡ g → s ≡ t → a ≡ c → Scanning bytes at f s a → Scanning bytes at g t c
 with_flags bytes at f g s t a c fresh has_slash has_angle h =
@@ -84,27 +80,11 @@ or_nothing : (a b : Bool) → b ≡ false → (a || b) ≡ a
 or_nothing true b h = refl
 or_nothing false b h = h
 
-pub letter_more : (bytes : List ℕ) (at : ℕ) (fresh has_slash has_angle : Bool) → at < length bytes → is_ascii_alphabetic (get_or bytes at 0) ≡ true
+pub plain_more : (bytes : List ℕ) (at : ℕ) (fresh has_slash has_angle : Bool) → at < length bytes → IsPlain (get_or bytes at 0)
     → Scanning bytes at fresh has_slash has_angle → Scanning bytes (at + 1) false has_slash has_angle
-letter_more bytes at fresh has_slash has_angle lt letter s =
-    with_flags bytes (at + 1) _ _ _ _ _ _ no_slash (or_nothing has_slash _ no_slash) (or_nothing has_angle _ no_angle)
-    (one_byte_more bytes at fresh has_slash has_angle lt (or_left (is_name_unit (get_or bytes at 0)) (not fresh && eqb (get_or bytes at 0) slash) unit) s)
-  where
-    no_slash : eqb (get_or bytes at 0) slash ≡ false
-    no_slash = no_letter (get_or bytes at 0) letter slash refl
-
-    no_angle : is_angle (get_or bytes at 0) ≡ false
-    no_angle = or_from _ _ (no_letter (get_or bytes at 0) letter less_than refl) (no_letter (get_or bytes at 0) letter greater_than refl)
-
-    unit : is_name_unit (get_or bytes at 0) ≡ true
-    unit = by_tests _ _ _ _ (no_letter (get_or bytes at 0) letter dot refl) (no_letter (get_or bytes at 0) letter semicolon refl) (no_letter (get_or bytes at 0) letter bracket refl) no_slash
-      where
-        by_tests : (d s k l : Bool) → d ≡ false → s ≡ false → k ≡ false → l ≡ false → not (d || s || k || l) ≡ true
-        by_tests false false false false d s k l = refl
-        by_tests true s k l h i j m = absurd (false≢true (sym h))
-        by_tests false true k l h i j m = absurd (false≢true (sym i))
-        by_tests false false true l h i j m = absurd (false≢true (sym j))
-        by_tests false false false true h i j m = absurd (false≢true (sym m))
+plain_more bytes at fresh has_slash has_angle lt plain s =
+    with_flags bytes (at + 1) _ _ _ _ _ _ plain.no_slash (or_nothing has_slash _ plain.no_slash) (or_nothing has_angle _ plain.no_angle)
+    (one_byte_more bytes at fresh has_slash has_angle lt (plain_goes_on fresh (get_or bytes at 0) plain) s)
 
 -- ---- the end
 

@@ -2,8 +2,9 @@
 use Rattle.std.proofs.Common.{◌≡◌, ℕ, ◌+◌, ◌<◌, Bool, true, false, not, eqb, ◌&&◌, List, [], ◌∷◌, ◌++◌, length, get_or, take, drop, refl, sym, ap, ◌∙◌, append_assoc, arith}
 use Rattle.std.specs.Prelude.{◌↔◌}
 use Rattle.std.proofs.lemmas.List.{drop_more, take_more, drop_all, append-nil, nil_from_length}
-use Rattle.std.proofs.lemmas.Bool.{and_left, false≢true}
-use Rattle.names.specs.Names.{slash, semicolon, IsClassName}
+use Rattle.std.proofs.lemmas.Bool.{and_left, or_left, false≢true}
+use Rattle.names.specs.Names.{slash, semicolon, is_name_unit, IsClassName}
+use Rattle.names.specs.Forms.{IsPlain}
 use Rattle.names.specs.Reading.{Reading, found, outside, mapped, goes_on, ends_class_name, read_class}
 use Rattle.names.proofs.ClassNameLaws.{class_name_ends, class_name_from_ends}
 use Rattle.names.proofs.FieldReader.{class_on, class_end, class_outside, class_nothing, wants_no_more}
@@ -36,6 +37,23 @@ scan_reads bytes at fresh lt on so_far =
     ∙ ap (λ (x : List ℕ). mapped (λ name. take at bytes ++ name) (read_class fresh x)) (drop_more bytes at 0 lt)
     ∙ ap (mapped (λ name. take at bytes ++ name)) (class_on fresh (get_or bytes at 0) (drop (at + 1) bytes) on)
     ∙ joined (take at bytes) (take (at + 1) bytes) (get_or bytes at 0) (read_class (eqb (get_or bytes at 0) slash) (drop (at + 1) bytes)) (take_more bytes at 0 lt)
+
+-- ---- a plain byte
+
+pub plain_goes_on : (fresh : Bool) (b : ℕ) → IsPlain b → goes_on fresh b ≡ true
+plain_goes_on fresh b plain = or_left (is_name_unit b) (not fresh && eqb b slash) plain.unit
+
+pub plain_ends : (bytes : List ℕ) (at : ℕ) (fresh : Bool) → at < length bytes → IsPlain (get_or bytes at 0) → ends_class_name true bytes ≡ ends_class_name fresh (drop at bytes)
+    → ends_class_name true bytes ≡ ends_class_name false (drop (at + 1) bytes)
+plain_ends bytes at fresh lt plain so_far =
+    scan_ends bytes at fresh lt (plain_goes_on fresh (get_or bytes at 0) plain) so_far ∙ ap (λ (f : Bool). ends_class_name f (drop (at + 1) bytes)) plain.no_slash
+
+pub plain_reads : (bytes : List ℕ) (at : ℕ) (fresh : Bool) → at < length bytes → IsPlain (get_or bytes at 0)
+    → read_class true bytes ≡ mapped (λ name. take at bytes ++ name) (read_class fresh (drop at bytes))
+    → read_class true bytes ≡ mapped (λ name. take (at + 1) bytes ++ name) (read_class false (drop (at + 1) bytes))
+plain_reads bytes at fresh lt plain so_far =
+    scan_reads bytes at fresh lt (plain_goes_on fresh (get_or bytes at 0) plain) so_far
+    ∙ ap (λ (f : Bool). mapped (λ name. take (at + 1) bytes ++ name) (read_class f (drop (at + 1) bytes))) plain.no_slash
 
 -- all bytes go on as a class name
 pub class_to_the_end : (bytes : List ℕ) (front : ℕ) (fresh : Bool) → front ≡ length bytes → ends_class_name true bytes ≡ ends_class_name fresh (drop front bytes) → (not fresh ≡ true) ↔ IsClassName bytes

@@ -4,7 +4,7 @@ ghost use Rattle.std.specs.Prelude.{◌≡◌, ◌↔◌, IsTrue};
 ghost use Rattle.names.specs.Names.{IsUnqualifiedName, IsMethodName, IsClassName};
 ghost use Rattle.names.specs.Forms.{AreNameForms};
 
-use crate::name::{goes_on, is_angle};
+use crate::name::{goes_on, is_angle, is_plain};
 use crate::text::Text;
 
 /// The forms of names that a text has (JVMS 4.2).
@@ -34,8 +34,7 @@ fn forms_of(bytes: &[u8]) -> NameForms
     let mut slash = false;
     let mut angle = false;
     for b in bytes {
-        // Most bytes are letters, of which each goes on and is nothing else.
-        if b.is_ascii_alphabetic() {
+        if is_plain(*b) {
             fresh = false;
             continue;
         }

@@ -4,6 +4,7 @@ ghost use Rattle.std.specs.Prelude.{◌≡◌, ◌↔◌, ◌≤◌, ℕ, IsTrue
 ghost use Rattle.names.specs.Names.{is_name_unit, is_angle, IsUnqualifiedName, IsMethodName, IsClassName};
 ghost use Rattle.names.specs.Reading.{mapped, goes_on, ends_class_name, read_class};
 ghost use Rattle.names.specs.Texts.{spelling};
+ghost use Rattle.names.specs.Forms.{IsPlain};
 
 use crate::text::Text;
 
@@ -59,6 +60,34 @@ pub(crate) fn goes_on(fresh: bool, b: u8) -> bool
     is_name_byte(b) || (!fresh && b == b'/')
 }
 
+/// For each byte whether it is none of `.`, `/`, `;`, `<`, `>` and `[`.
+static PLAIN: [bool; 256] = [
+    true, true, true, true, true, true, true, true, true, true, true, true, true, true, true, true,
+    true, true, true, true, true, true, true, true, true, true, true, true, true, true, true, true,
+    true, true, true, true, true, true, true, true, true, true, true, true, true, true, false,
+    false, true, true, true, true, true, true, true, true, true, true, true, false, false, true,
+    false, true, true, true, true, true, true, true, true, true, true, true, true, true, true,
+    true, true, true, true, true, true, true, true, true, true, true, true, true, true, false,
+    true, true, true, true, true, true, true, true, true, true, true, true, true, true, true, true,
+    true, true, true, true, true, true, true, true, true, true, true, true, true, true, true, true,
+    true, true, true, true, true, true, true, true, true, true, true, true, true, true, true, true,
+    true, true, true, true, true, true, true, true, true, true, true, true, true, true, true, true,
+    true, true, true, true, true, true, true, true, true, true, true, true, true, true, true, true,
+    true, true, true, true, true, true, true, true, true, true, true, true, true, true, true, true,
+    true, true, true, true, true, true, true, true, true, true, true, true, true, true, true, true,
+    true, true, true, true, true, true, true, true, true, true, true, true, true, true, true, true,
+    true, true, true, true, true, true, true, true, true, true, true, true, true, true, true, true,
+    true, true, true, true, true, true, true, true, true, true, true, true, true, true, true, true,
+    true, true, true, true,
+];
+
+/// Whether names go on with the byte, whatever stands before it, and it is neither `<` nor `>`.
+pub(crate) fn is_plain(b: u8) -> bool
+    ensures { result ≡ true → IsPlain b }
+{
+    PLAIN[usize::from(b)]
+}
+
 /// How many bytes begin a class name, and whether an unqualified name has still to begin behind them.
 pub(crate) fn class_name_front(bytes: &[u8]) -> (usize, bool)
     ensures within { result.0 ≤ length bytes.now }
@@ -68,6 +97,10 @@ pub(crate) fn class_name_front(bytes: &[u8]) -> (usize, bool)
 {
     let mut fresh = true;
     for (at, b) in bytes.iter().enumerate() {
+        if is_plain(*b) {
+            fresh = false;
+            continue;
+        }
         if !goes_on(fresh, *b) {
             return (at, fresh);
         }

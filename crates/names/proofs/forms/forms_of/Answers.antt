@@ -1,5 +1,5 @@
 use Rattle.std.proofs.Common.{sym, ◌∙◌, arith}
-use Rattle.names.proofs.NameScan.{one_byte_more, letter_more, at_the_end, stopped, at_first}
+use Rattle.names.proofs.NameScan.{one_byte_more, plain_more, at_the_end, stopped, at_first}
 use Rattle.names.proofs.forms.forms_of.Goals as goal
 
 pub loop-b-init : goal.loop-b-init
@@ -21,7 +21,7 @@ returns c =
     let l = c.loop-b in
     at_the_end c.args.bytes.now l.b-index l.fresh l.slash l.angle (omega (arith, c.loop-b-test.false, l.auto.b-index-end)) l.invariant
 
-pub loop-b-preserved-then-is_ascii_alphabetic : goal.loop-b-preserved-then-is_ascii_alphabetic
-loop-b-preserved-then-is_ascii_alphabetic c =
+pub loop-b-preserved-then-is_plain : goal.loop-b-preserved-then-is_plain
+loop-b-preserved-then-is_plain c =
     let l = c.loop-b in
-    letter_more c.args.bytes.now l.b-index l.fresh l.slash l.angle c.loop-b-test.true (sym c.is_ascii_alphabetic.ensures.value ∙ c.if-is_ascii_alphabetic.true) l.invariant
+    plain_more c.args.bytes.now l.b-index l.fresh l.slash l.angle c.loop-b-test.true (c.is_plain.ensures c.if-is_plain.true) l.invariant
