@@ -7,6 +7,7 @@ pub mod FewAttributes
 pub mod FieldIndices
 pub mod FirstFaults
 pub mod FormExamples
+pub mod FormKinds
 pub mod FormedMethods
 pub mod FormedNames
 pub mod FormedOrFaulty

@@ -2,7 +2,7 @@
 ghost use Rattle.std.specs.Prelude.{◌≡◌, ◌||◌};
 ghost use Rattle.classfile.specs.Conditions.{broken_rule};
 ghost use Rattle.classfile.specs.MemberForm.{member_has_bad, member_has_other, field_conditions, may_name_method, is_bad_method_name, may_describe_method, is_badly_described, is_instance_initializer, is_class_initializer, is_badly_flagged, has_body, body_conditions, method_conditions};
-ghost use Rattle.classfile.specs.TextForms.{form_of, AreForms};
+ghost use Rattle.classfile.specs.TextForms.{name_form_of, descriptor_form_of, AreForms};
 ghost use Rattle.classfile.specs.Views.{member_view};
 ghost use Rattle.pool.specs.Views.{name_and_type_view};
 
@@ -19,7 +19,7 @@ use crate::location::Location;
 use crate::member::Member;
 use crate::naming::{is_clinit, is_init};
 use crate::once::numbers_stand_twice;
-use crate::text_forms::{TextForm, TextForms, fits_method};
+use crate::text_forms::{DescriptorForm, NameForm, TextForms, fits_method};
 use names::Text;
 use pool::{NameAndType, Pool};
 
@@ -43,12 +43,13 @@ fn member_has_fault(pool: &Pool<'_>, location: Location, member: &Member<'_>) ->
 /// The rule that a field breaks; `repeated` where an earlier one has its name and descriptor.
 pub fn field_rule(
     pool: &Pool<'_>,
-    forms: &TextForms,
+    forms: &mut TextForms,
     repeated: bool,
     field: &Member<'_>,
 ) -> Option<FormRule>
     requires { AreForms pool.now forms.now }
-    ensures { result ≡ broken_rule (field_conditions pool.now repeated (member_view field.now)) }
+    ensures told { result ≡ broken_rule (field_conditions pool.now repeated (member_view field.now)) }
+    ensures kept { AreForms pool.now forms.new }
 {
     if member_has_fault(pool, Location::Field, field) {
         Some(index_rule(member_has_bad(pool, Location::Field, field)))
@@ -67,8 +68,8 @@ pub fn field_rule(
     }
 }
 
-fn may_name_method(interface: bool, name: Text<'_>, form: TextForm) -> bool
-    requires { form ≡ form_of name.bytes.now }
+fn may_name_method(interface: bool, name: Text<'_>, form: NameForm) -> bool
+    requires { form ≡ name_form_of name.bytes.now }
     ensures { result ≡ may_name_method interface name.entry.bytes.now }
 {
     if is_init(name) {
@@ -79,18 +80,19 @@ fn may_name_method(interface: bool, name: Text<'_>, form: TextForm) -> bool
 }
 
 #[tactic(auto, unfolding(crate::specs::MemberForm::is_bad_method_name))]
-fn is_bad_method_name(pool: &Pool<'_>, forms: &TextForms, interface: bool, index: u16) -> bool
+fn is_bad_method_name(pool: &Pool<'_>, forms: &mut TextForms, interface: bool, index: u16) -> bool
     requires { AreForms pool.now forms.now }
-    ensures { result ≡ is_bad_method_name pool.now interface index }
+    ensures told { result ≡ is_bad_method_name pool.now interface index }
+    ensures kept { AreForms pool.now forms.new }
 {
     match pool.text(index) {
-        Ok(name) => !may_name_method(interface, name, forms.of(pool, index, name)),
+        Ok(name) => !may_name_method(interface, name, forms.name(pool, index, name)),
         Err(_) => false,
     }
 }
 
-fn may_describe_method(receiver: bool, named: NameAndType<'_>, form: TextForm) -> bool
-    requires { form ≡ form_of named.descriptor.bytes.now }
+fn may_describe_method(receiver: bool, named: NameAndType<'_>, form: DescriptorForm) -> bool
+    requires { form ≡ descriptor_form_of named.descriptor.bytes.now }
     ensures { result ≡ may_describe_method receiver (name_and_type_view named.entry) }
 {
     if is_clinit(named.name) {
@@ -101,9 +103,10 @@ fn may_describe_method(receiver: bool, named: NameAndType<'_>, form: TextForm) -
 }
 
 #[tactic(auto, unfolding(crate::specs::MemberForm::is_badly_described, pool::specs::Lookups::named))]
-fn is_badly_described(pool: &Pool<'_>, forms: &TextForms, method: &Member<'_>) -> bool
+fn is_badly_described(pool: &Pool<'_>, forms: &mut TextForms, method: &Member<'_>) -> bool
     requires { AreForms pool.now forms.now }
-    ensures { result ≡ is_badly_described pool.now (member_view method.now) }
+    ensures told { result ≡ is_badly_described pool.now (member_view method.now) }
+    ensures kept { AreForms pool.now forms.new }
 {
     let Ok(name) = pool.text(method.name) else {
         return false;
@@ -112,7 +115,7 @@ fn is_badly_described(pool: &Pool<'_>, forms: &TextForms, method: &Member<'_>) -
         return false;
     };
     let receiver = !has(method.access_flags, STATIC);
-    let form = forms.of(pool, method.descriptor, descriptor);
+    let form = forms.descriptor(pool, method.descriptor, descriptor);
     !may_describe_method(receiver, NameAndType { name, descriptor }, form)
 }
 
@@ -159,13 +162,14 @@ fn has_body(pool: &Pool<'_>, method: &Member<'_>) -> bool
 /// descriptor.
 pub fn method_rule(
     pool: &Pool<'_>,
-    forms: &TextForms,
+    forms: &mut TextForms,
     interface: bool,
     repeated: bool,
     method: &Member<'_>,
 ) -> Option<FormRule>
     requires { AreForms pool.now forms.now }
-    ensures { result ≡ broken_rule (method_conditions pool.now interface repeated (member_view method.now)) }
+    ensures told { result ≡ broken_rule (method_conditions pool.now interface repeated (member_view method.now)) }
+    ensures kept { AreForms pool.now forms.new }
 {
     if member_has_fault(pool, Location::Method, method) {
         Some(index_rule(member_has_bad(pool, Location::Method, method)))

@@ -8,8 +8,8 @@ use Rattle.classfile.specs.Views.{class_view, member_view}
 use Rattle.classfile.proofs.Places.{field_told, field_past, viewed_at, take_one_more, none_more, none_at_all}
 use Rattle.classfile.proofs.form.fields_form.Goals as goal
 
-pub returns-in-Some : goal.returns-in-Some
-returns-in-Some c =
+pub returns-in-Some-clause-passes : goal.returns-in-Some-clause-passes
+returns-in-Some-clause-passes c =
     let k = class_view c.args.class.now in
     let n = c.loop-n.n in
     let m = member_view c.field-item.result in
@@ -18,7 +18,7 @@ returns-in-Some c =
     ap (λ l. map member_view (take n l)) c.deref.ensures.value ∙ sym (take-map member_view n c.args.class.now.fields.items) in
     let here : slice_get k.fields n ≡ Some m =
     ap (λ l. slice_get (map member_view l) n) (sym c.deref-field-items.ensures.value) ∙ viewed_at member_view c.deref-field-items.result.now n c.field-item.result c.loop-n-test.true c.field-item.is in
-    (n, refl, field_told k n m c.in_ok-repeated.repeated here (met.repeats ∙ ap (λ l. is_repeated k.constant_pool l m) before) ∙ sym c.in-Some.ensures, c.loop-n.invariant.none)
+    (n, refl, field_told k n m c.in_ok-repeated.repeated here (met.repeats ∙ ap (λ l. is_repeated k.constant_pool l m) before) ∙ sym c.field_rule.ensures.told ∙ c.in-Some.is, c.loop-n.invariant.none)
 
 pub loop-n-preserved : goal.loop-n-preserved
 loop-n-preserved c =
@@ -31,12 +31,13 @@ loop-n-preserved c =
     let here : slice_get k.fields n ≡ Some m =
     ap (λ l. slice_get (map member_view l) n) (sym c.deref-field-items.ensures.value) ∙ viewed_at member_view c.deref-field-items.result.now n c.field-item.result c.loop-n-test.true c.field-item.is in
     record {
+      kept = c.field_rule.ensures.kept;
       met = subst (λ l. WereMet k.constant_pool l c.meet.new.self) (ap (λ l. l ++ m ∷ []) before ∙ sym (take_one_more k.fields n m here)) met.met;
-      none = none_more k (λ i. places.Field i) n c.loop-n.invariant.none (field_told k n m c.in_ok-repeated.repeated here (met.repeats ∙ ap (λ l. is_repeated k.constant_pool l m) before) ∙ sym c.in_default.ensures);
+      none = none_more k (λ i. places.Field i) n c.loop-n.invariant.none (field_told k n m c.in_ok-repeated.repeated here (met.repeats ∙ ap (λ l. is_repeated k.constant_pool l m) before) ∙ sym c.field_rule.ensures.told ∙ c.in_default.is);
     }
 
-pub returns : goal.returns
-returns c =
+pub returns-clause-passes : goal.returns-clause-passes
+returns-clause-passes c =
     let k = class_view c.args.class.now in
     let all : length k.fields ≤ c.loop-n.n = omega (arith, ap length c.deref-field-items.ensures.value, length-map c.args.class.now.fields.items member_view) in
     none_at_all k (λ n. places.Field n) k.fields (field_past k) c.loop-n.n all c.loop-n.invariant.none
