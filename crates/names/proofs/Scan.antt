@@ -1,8 +1,8 @@
 -- A class name's front, found byte by byte.
-use Rattle.std.proofs.Common.{◌≡◌, ℕ, ◌+◌, ◌<◌, Bool, true, false, not, eqb, ◌&&◌, List, [], ◌∷◌, ◌++◌, length, get_or, take, drop, refl, sym, ap, ◌∙◌, append_assoc, arith}
+use Rattle.std.proofs.Common.{◌≡◌, ℕ, ◌+◌, ◌<◌, Bool, true, false, not, eqb, ◌&&◌, List, [], ◌∷◌, ◌++◌, length, get_or, take, drop, refl, sym, ap, ◌∙◌, append_assoc, arith, subst, eqb-true, eq-eqb, ne_eqb, ◌⊎◌, inl, inr, ◌≤◌}
 use Rattle.std.specs.Prelude.{◌↔◌}
 use Rattle.std.proofs.lemmas.List.{drop_more, take_more, drop_all, append-nil, nil_from_length}
-use Rattle.std.proofs.lemmas.Bool.{and_left, or_left, false≢true}
+use Rattle.std.proofs.lemmas.Bool.{and_left, and_right, or_left, or_right, or_from, false≢true}
 use Rattle.names.specs.Names.{slash, semicolon, is_name_unit, IsClassName}
 use Rattle.names.specs.Forms.{IsPlain}
 use Rattle.names.specs.Reading.{Reading, found, outside, mapped, goes_on, ends_class_name, read_class}
@@ -43,17 +43,45 @@ scan_reads bytes at fresh lt on so_far =
 pub plain_goes_on : (fresh : Bool) (b : ℕ) → IsPlain b → goes_on fresh b ≡ true
 plain_goes_on fresh b plain = or_left (is_name_unit b) (not fresh && eqb b slash) plain.unit
 
-pub plain_ends : (bytes : List ℕ) (at : ℕ) (fresh : Bool) → at < length bytes → IsPlain (get_or bytes at 0) → ends_class_name true bytes ≡ ends_class_name fresh (drop at bytes)
-    → ends_class_name true bytes ≡ ends_class_name false (drop (at + 1) bytes)
-plain_ends bytes at fresh lt plain so_far =
-    scan_ends bytes at fresh lt (plain_goes_on fresh (get_or bytes at 0) plain) so_far ∙ ap (λ (f : Bool). ends_class_name f (drop (at + 1) bytes)) plain.no_slash
+-- ---- a byte behind the begin of the unqualified name that is read
 
-pub plain_reads : (bytes : List ℕ) (at : ℕ) (fresh : Bool) → at < length bytes → IsPlain (get_or bytes at 0)
-    → read_class true bytes ≡ mapped (λ name. take at bytes ++ name) (read_class fresh (drop at bytes))
-    → read_class true bytes ≡ mapped (λ name. take (at + 1) bytes ++ name) (read_class false (drop (at + 1) bytes))
-plain_reads bytes at fresh lt plain so_far =
-    scan_reads bytes at fresh lt (plain_goes_on fresh (get_or bytes at 0) plain) so_far
-    ∙ ap (λ (f : Bool). mapped (λ name. take (at + 1) bytes ++ name) (read_class f (drop (at + 1) bytes))) plain.no_slash
+pub not_first : (at start : ℕ) → start ≤ at → eqb (at + 1) start ≡ false
+not_first at start behind = ne_eqb (at + 1) start (λ e. omega (arith, e, behind))
+
+pub unit_no_slash : (b : ℕ) → is_name_unit b ≡ true → eqb b slash ≡ false
+unit_no_slash b unit = by_test (eqb b slash) refl
+  where
+    by_test : (t : Bool) → eqb b slash ≡ t → t ≡ false
+    by_test false h = refl
+    by_test true h = absurd (false≢true (subst (λ x. is_name_unit x ≡ true) (eqb-true b slash h) unit))
+
+pub on_by_unit : (fresh : Bool) (b : ℕ) → is_name_unit b ≡ true → goes_on fresh b ≡ true
+on_by_unit fresh b unit = or_left (is_name_unit b) (not fresh && eqb b slash) unit
+
+pub on_by_slash : (fresh : Bool) (b : ℕ) → fresh ≡ false → eqb b slash ≡ true → goes_on fresh b ≡ true
+on_by_slash fresh b later is = or_right (is_name_unit b) (not fresh && eqb b slash) (rw (later, is) refl)
+
+pub off_there : (fresh : Bool) (b : ℕ) → is_name_unit b ≡ false → (not fresh && eqb b slash) ≡ false → goes_on fresh b ≡ false
+off_there fresh b no_unit no_slash = or_from (is_name_unit b) (not fresh && eqb b slash) no_unit no_slash
+
+pub no_slash_on : (at start b : ℕ) → ((b ≡ slash) × (at ≡ start)) ⊎ (b ≡ slash → ⊥) → (not (eqb at start) && eqb b slash) ≡ false
+no_slash_on at start b (inl both) = ap (λ (t : Bool). not t && eqb b slash) (eq-eqb at start both.1)
+no_slash_on at start b (inr other) = and_right (not (eqb at start)) (eqb b slash) (ne_eqb b slash other)
+
+-- what the bytes up to a place tell
+pub record Front (bytes : List ℕ) (at : ℕ) (fresh : Bool) : Type 0 where
+  pub ends : ends_class_name true bytes ≡ ends_class_name fresh (drop at bytes)
+  pub reads : read_class true bytes ≡ mapped (λ name. take at bytes ++ name) (read_class fresh (drop at bytes))
+
+pub front_more : (bytes : List ℕ) (at : ℕ) (fresh next : Bool) → at < length bytes → goes_on fresh (get_or bytes at 0) ≡ true → eqb (get_or bytes at 0) slash ≡ next
+    → Front bytes at fresh → Front bytes (at + 1) next
+front_more bytes at fresh next lt on is so_far =
+    record {
+      ends = scan_ends bytes at fresh lt on so_far.ends ∙ ap (λ (f : Bool). ends_class_name f (drop (at + 1) bytes)) is;
+      reads =
+          scan_reads bytes at fresh lt on so_far.reads
+          ∙ ap (λ (f : Bool). mapped (λ name. take (at + 1) bytes ++ name) (read_class f (drop (at + 1) bytes))) is;
+    }
 
 -- all bytes go on as a class name
 pub class_to_the_end : (bytes : List ℕ) (front : ℕ) (fresh : Bool) → front ≡ length bytes → ends_class_name true bytes ≡ ends_class_name fresh (drop front bytes) → (not fresh ≡ true) ↔ IsClassName bytes

@@ -9,7 +9,7 @@ ghost use Rattle.names.specs.Forms.{IsPlain};
 use crate::text::Text;
 
 /// Whether the byte may stand in an unqualified name.
-fn is_name_byte(b: u8) -> bool
+pub(crate) fn is_name_byte(b: u8) -> bool
     ensures { result ≡ is_name_unit b }
 {
     !matches!(b, b'.' | b';' | b'[' | b'/')
@@ -53,13 +53,6 @@ pub fn is_class_name(text: Text<'_>) -> bool
     front == name.len() && !fresh
 }
 
-/// Whether a class name goes on with the byte; `fresh` where an unqualified name has to begin.
-pub(crate) fn goes_on(fresh: bool, b: u8) -> bool
-    ensures { result ≡ goes_on fresh b }
-{
-    is_name_byte(b) || (!fresh && b == b'/')
-}
-
 /// For each byte whether it is none of `.`, `/`, `;`, `<`, `>` and `[`.
 static PLAIN: [bool; 256] = [
     true, true, true, true, true, true, true, true, true, true, true, true, true, true, true, true,
@@ -88,25 +81,28 @@ pub(crate) fn is_plain(b: u8) -> bool
     PLAIN[usize::from(b)]
 }
 
-/// How many bytes begin a class name, and whether an unqualified name has still to begin behind them.
+/// How many bytes begin a class name, and whether an unqualified name has still to begin behind them. The unqualified
+/// name that is read begins at `start`.
 pub(crate) fn class_name_front(bytes: &[u8]) -> (usize, bool)
     ensures within { result.0 ≤ length bytes.now }
     ensures ends { ends_class_name true bytes.now ≡ ends_class_name result.1 (drop result.0 bytes.now) }
     ensures reads { read_class true bytes.now ≡ mapped (λ name. take result.0 bytes.now ++ name) (read_class result.1 (drop result.0 bytes.now)) }
     ensures stops { (b : ℕ) (rest : List ℕ) → drop result.0 bytes.now ≡ b ∷ rest → goes_on result.1 b ≡ false }
 {
-    let mut fresh = true;
+    let mut start = 0;
     for (at, b) in bytes.iter().enumerate() {
         if is_plain(*b) {
-            fresh = false;
             continue;
         }
-        if !goes_on(fresh, *b) {
-            return (at, fresh);
+        if *b == b'/' && at != start {
+            start = at + 1;
+            continue;
         }
-        fresh = *b == b'/';
+        if !is_name_byte(*b) {
+            return (at, at == start);
+        }
     }
-    (bytes.len(), fresh)
+    (bytes.len(), bytes.len() == start)
 }
 
 /// The definitions of names hold of a text's units exactly if they hold of the bytes that spell them.
