@@ -23,6 +23,7 @@ struct NamedAt<'a> {
 }
 
 /// The name and the descriptor that the index leads to, if both are there.
+#[inline(always)]
 #[tactic(auto, unfolding(pool::specs::Lookups::name_and_type_at, pool::specs::Lookups::named))]
 fn named_at<'a>(pool: &Pool<'a>, index: u16) -> Option<NamedAt<'a>>
     ensures { IsNamedAt pool.now index result }

@@ -62,6 +62,7 @@ fn method_form(text: Text<'_>) -> DescriptorForm
 }
 
 /// What begins as the descriptor of an array is no other name.
+#[inline(never)]
 fn name_form(text: Text<'_>) -> NameForm
     ensures { result ≡ name_form_of text.entry.bytes.now }
 {
@@ -81,6 +82,7 @@ fn name_form(text: Text<'_>) -> NameForm
 }
 
 /// What begins with a `(` is no field's descriptor, and nothing else is a method's.
+#[inline(never)]
 fn descriptor_form(text: Text<'_>) -> DescriptorForm
     ensures { result ≡ descriptor_form_of text.entry.bytes.now }
 {
