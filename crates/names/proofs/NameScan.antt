@@ -7,8 +7,8 @@ use Rattle.std.proofs.lemmas.List.Sums.{AllPass-from_list_all, list_all-from_All
 use Rattle.std.proofs.lemmas.Bool.{and_parts, and_from, false≢true, or_parts, eqb-false}
 use Rattle.names.specs.Names.{dot, slash, semicolon, bracket, is_name_unit, is_angle, IsUnqualifiedName, IsMethodName}
 use Rattle.names.specs.Reading.{goes_on, ends_class_name}
-use Rattle.names.specs.Forms.{AreNameForms, IsPlain}
-use Rattle.names.proofs.Scan.{plain_goes_on, not_first, unit_no_slash, on_by_unit, on_by_slash, scan_ends, class_to_the_end, no_class_there}
+use Rattle.names.specs.Forms.{AreNameForms}
+use Rattle.names.proofs.Scan.{IsPlain, plain_goes_on, not_first, unit_no_slash, on_by_unit, on_by_slash, scan_ends, class_to_the_end, no_class_there}
 
 abbrev pub is_no_angle : ℕ → Bool
 is_no_angle u = not (is_angle u)

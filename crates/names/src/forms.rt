@@ -4,7 +4,8 @@ ghost use Rattle.std.specs.Prelude.{◌≡◌, ◌↔◌, IsTrue};
 ghost use Rattle.names.specs.Names.{IsUnqualifiedName, IsMethodName, IsClassName};
 ghost use Rattle.names.specs.Forms.{AreNameForms};
 
-use crate::name::{is_angle, is_name_byte, is_plain};
+use crate::name::{is_angle, is_name_byte};
+use crate::plain::is_plain;
 use crate::text::Text;
 
 /// The forms of names that a text has (JVMS 4.2).

@@ -24,6 +24,7 @@ mod fault;
 mod forms;
 mod name;
 mod parameters;
+mod plain;
 mod reading;
 mod references;
 mod shape;

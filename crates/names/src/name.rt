@@ -4,8 +4,8 @@ ghost use Rattle.std.specs.Prelude.{◌≡◌, ◌↔◌, ◌≤◌, ℕ, IsTrue
 ghost use Rattle.names.specs.Names.{is_name_unit, is_angle, IsUnqualifiedName, IsMethodName, IsClassName};
 ghost use Rattle.names.specs.Reading.{mapped, goes_on, ends_class_name, read_class};
 ghost use Rattle.names.specs.Texts.{spelling};
-ghost use Rattle.names.specs.Forms.{IsPlain};
 
+use crate::plain::plain_end;
 use crate::text::Text;
 
 /// Whether the byte may stand in an unqualified name.
@@ -53,34 +53,6 @@ pub fn is_class_name(text: Text<'_>) -> bool
     front == name.len() && !fresh
 }
 
-/// For each byte whether it is none of `.`, `/`, `;`, `<`, `>` and `[`.
-static PLAIN: [bool; 256] = [
-    true, true, true, true, true, true, true, true, true, true, true, true, true, true, true, true,
-    true, true, true, true, true, true, true, true, true, true, true, true, true, true, true, true,
-    true, true, true, true, true, true, true, true, true, true, true, true, true, true, false,
-    false, true, true, true, true, true, true, true, true, true, true, true, false, false, true,
-    false, true, true, true, true, true, true, true, true, true, true, true, true, true, true,
-    true, true, true, true, true, true, true, true, true, true, true, true, true, true, false,
-    true, true, true, true, true, true, true, true, true, true, true, true, true, true, true, true,
-    true, true, true, true, true, true, true, true, true, true, true, true, true, true, true, true,
-    true, true, true, true, true, true, true, true, true, true, true, true, true, true, true, true,
-    true, true, true, true, true, true, true, true, true, true, true, true, true, true, true, true,
-    true, true, true, true, true, true, true, true, true, true, true, true, true, true, true, true,
-    true, true, true, true, true, true, true, true, true, true, true, true, true, true, true, true,
-    true, true, true, true, true, true, true, true, true, true, true, true, true, true, true, true,
-    true, true, true, true, true, true, true, true, true, true, true, true, true, true, true, true,
-    true, true, true, true, true, true, true, true, true, true, true, true, true, true, true, true,
-    true, true, true, true, true, true, true, true, true, true, true, true, true, true, true, true,
-    true, true, true, true,
-];
-
-/// Whether names go on with the byte, whatever stands before it, and it is neither `<` nor `>`.
-pub(crate) fn is_plain(b: u8) -> bool
-    ensures { result ≡ true → IsPlain b }
-{
-    PLAIN[usize::from(b)]
-}
-
 /// How many bytes begin a class name, and whether an unqualified name has still to begin behind them. The unqualified
 /// name that is read begins at `start`.
 pub(crate) fn class_name_front(bytes: &[u8]) -> (usize, bool)
@@ -90,19 +62,20 @@ pub(crate) fn class_name_front(bytes: &[u8]) -> (usize, bool)
     ensures stops { (b : ℕ) (rest : List ℕ) → drop result.0 bytes.now ≡ b ∷ rest → goes_on result.1 b ≡ false }
 {
     let mut start = 0;
-    for (at, b) in bytes.iter().enumerate() {
-        if is_plain(*b) {
-            continue;
-        }
-        if *b == b'/' && at != start {
-            start = at + 1;
-            continue;
-        }
-        if !is_name_byte(*b) {
+    let mut at = 0;
+    'bytes: loop {
+        at = plain_end(bytes, at);
+        if at == bytes.len() {
             return (at, at == start);
         }
+        let b = bytes[at];
+        if b == b'/' && at != start {
+            start = at + 1;
+        } else if !is_name_byte(b) {
+            return (at, at == start);
+        }
+        at += 1;
     }
-    (bytes.len(), bytes.len() == start)
 }
 
 /// The definitions of names hold of a text's units exactly if they hold of the bytes that spell them.

@@ -1,13 +1,13 @@
 use Rattle.std.proofs.Common.{◌≡◌, sym, ◌∙◌, refl, subst, not, length, get_or, arith, eq-eqb, ne_eqb}
 use Rattle.std.specs.Prelude.{nat_eq}
-use Rattle.names.proofs.Scan.{off_there, no_slash_on}
+use Rattle.names.proofs.Scan.{plain_so, off_there, no_slash_on}
 use Rattle.names.proofs.NameScan.{InName, plain_in_name, slash_in_name, unit_in_name, in_name_at_the_end, stopped}
 use Rattle.names.proofs.forms.forms_of.Goals as goal
 
 pub loop-at-preserved-then-is_plain : goal.loop-at-preserved-then-is_plain
 loop-at-preserved-then-is_plain c =
     let l = c.loop-at in
-    plain_in_name c.args.bytes.now l.at l.start l.angle c.loop-at-test.true (c.is_plain.ensures c.if-is_plain.true) l.invariant
+    plain_in_name c.args.bytes.now l.at l.start l.angle c.loop-at-test.true (plain_so _ (c.is_plain.ensures c.if-is_plain.true)) l.invariant
 
 pub loop-at-preserved-then-at-start : goal.loop-at-preserved-then-at-start
 loop-at-preserved-then-at-start c =

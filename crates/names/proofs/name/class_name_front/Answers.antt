@@ -1,39 +1,59 @@
-use Rattle.std.proofs.Common.{◌+◌, sym, ◌∙◌, arith, eq-eqb, ne_eqb, refl, get_or}
-use Rattle.names.proofs.Scan.{front_more, plain_goes_on, on_by_slash, on_by_unit, unit_no_slash, not_first}
+use Rattle.std.proofs.Common.{◌<◌, ◌≤◌, ◌+◌, sym, ◌∙◌, arith, eq-eqb, ne_eqb, get_or, length}
 use Rattle.std.specs.Prelude.{nat_eq}
+use Rattle.names.specs.Names.{slash}
+use Rattle.names.proofs.Scan.{front_up_to, front_more, on_by_slash, on_by_unit, unit_no_slash, not_first}
+use Rattle.names.proofs.name.class_name_front.Goals.{then-b-eq47+then-at-start, else-b-eq47+else-not-is_name_byte}
 use Rattle.names.proofs.name.class_name_front.Goals as goal
 
-pub loop-at-preserved-then-is_plain : goal.loop-at-preserved-then-is_plain
-loop-at-preserved-then-is_plain c =
-    let l = c.loop-at in
-    let b = get_or c.args.bytes.now l.at 0 in
-    let plain = c.is_plain.ensures c.if-is_plain.true in
-    let behind = l.invariant.behind in
-    record {
-      behind = omega (arith, behind);
-      front = front_more c.args.bytes.now l.at (nat_eq l.at l.start) (nat_eq (l.at + 1) l.start) c.loop-at-test.true (plain_goes_on (nat_eq l.at l.start) b plain) (plain.no_slash ∙ sym (not_first l.at l.start behind)) l.invariant.front;
-    }
+pub returns-then-at-bytes-clause-ends : goal.returns-then-at-bytes-clause-ends
+returns-then-at-bytes-clause-ends c =
+    let i = c.bytes.invariant in
+    (front_up_to c.args.bytes.now c.bytes.at c.plain_end-at.result c.bytes.start i.behind c.plain_end-at.ensures i.front).ends
 
-pub loop-at-preserved-then-at-start : goal.loop-at-preserved-then-at-start
-loop-at-preserved-then-at-start c =
-    let l = c.loop-at in
-    let b = get_or c.args.bytes.now l.at 0 in
-    record {
-      behind = omega arith;
-      front =
-          front_more c.args.bytes.now l.at (nat_eq l.at l.start) (nat_eq (l.at + 1) (l.at + 1)) c.loop-at-test.true (on_by_slash (nat_eq l.at l.start) b (ne_eqb l.at l.start c.if-at-start.true) (eq-eqb _ _ c.if-b-eq47.true))
-          (eq-eqb _ _ c.if-b-eq47.true ∙ sym (eq-eqb (l.at + 1) (l.at + 1) refl)) l.invariant.front;
-    }
+pub returns-then-at-bytes-clause-reads : goal.returns-then-at-bytes-clause-reads
+returns-then-at-bytes-clause-reads c =
+    let i = c.bytes.invariant in
+    (front_up_to c.args.bytes.now c.bytes.at c.plain_end-at.result c.bytes.start i.behind c.plain_end-at.ensures i.front).reads
 
-pub loop-at-preserved : goal.loop-at-preserved
-loop-at-preserved c =
-    let l = c.loop-at in
-    let b = get_or c.args.bytes.now l.at 0 in
-    let unit = sym c.is_name_byte.ensures ∙ c.if-not-is_name_byte.false in
-    let behind = l.invariant.behind in
-    record {
-      behind = omega (arith, behind);
-      front =
-          front_more c.args.bytes.now l.at (nat_eq l.at l.start) (nat_eq (l.at + 1) l.start) c.loop-at-test.true (on_by_unit (nat_eq l.at l.start) b unit)
-          (unit_no_slash b unit ∙ sym (not_first l.at l.start behind)) l.invariant.front;
-    }
+pub returns-then-not-is_name_byte-clause-ends : goal.returns-then-not-is_name_byte-clause-ends
+returns-then-not-is_name_byte-clause-ends c =
+    let i = c.bytes.invariant in
+    (front_up_to c.args.bytes.now c.bytes.at c.plain_end-at.result c.bytes.start i.behind c.plain_end-at.ensures i.front).ends
+
+pub returns-then-not-is_name_byte-clause-reads : goal.returns-then-not-is_name_byte-clause-reads
+returns-then-not-is_name_byte-clause-reads c =
+    let i = c.bytes.invariant in
+    (front_up_to c.args.bytes.now c.bytes.at c.plain_end-at.result c.bytes.start i.behind c.plain_end-at.ensures i.front).reads
+
+pub bytes-preserved : goal.bytes-preserved
+bytes-preserved c =
+    let i = c.bytes.invariant in
+    let bytes = c.args.bytes.now in
+    let at = c.plain_end-at.result in
+    let run = c.plain_end-at.ensures in
+    let within = run.within in
+    let ordered = run.ordered in
+    let less : at < length bytes = omega (arith, within, c.if-at-bytes.false) in
+    let here = front_up_to bytes c.bytes.at at c.bytes.start i.behind run i.front in
+    elim c.if-b-eq47.branch [
+      | then-b-eq47+then-at-start w ↦
+          let is = eq-eqb (get_or bytes at 0) slash w.if-b-eq47.true in
+          let on = on_by_slash (nat_eq at c.bytes.start) (get_or bytes at 0) (ne_eqb at c.bytes.start w.if-at-start.true) is in
+          let starts = w.start-is in
+          record {
+            behind = omega (arith, starts);
+            within = omega (arith, less);
+            front = front_more bytes at (nat_eq at c.bytes.start) (nat_eq (at + 1) c.if-b-eq47.start) less on (is ∙ sym (eq-eqb (at + 1) c.if-b-eq47.start (sym starts))) here;
+          }
+      | else-b-eq47+else-not-is_name_byte w ↦
+          let unit = sym w.is_name_byte.ensures ∙ w.if-not-is_name_byte.false in
+          let on = on_by_unit (nat_eq at c.bytes.start) (get_or bytes at 0) unit in
+          let starts = w.start-is in
+          let behind = i.behind in
+          let later : c.if-b-eq47.start ≤ at = omega (arith, starts, behind, ordered) in
+          record {
+            behind = omega (arith, later);
+            within = omega (arith, less);
+            front = front_more bytes at (nat_eq at c.bytes.start) (nat_eq (at + 1) c.if-b-eq47.start) less on (unit_no_slash (get_or bytes at 0) unit ∙ sym (not_first at c.if-b-eq47.start later)) here;
+          }
+    ]
