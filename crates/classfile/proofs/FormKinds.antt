@@ -4,9 +4,10 @@ use Rattle.std.proofs.lemmas.Bool.{false≢true}
 use Rattle.names.specs.Names.{bracket}
 use Rattle.names.specs.Descriptors.{left_parenthesis}
 use Rattle.names.specs.Reading.{ends_class_name, read_base, read_field, read_method, field_answer, method_answer}
-use Rattle.classfile.specs.Naming.{begins_with, is_array_name, is_class_name, is_unqualified_name, is_method_name, is_field_descriptor, is_method_descriptor, is_void_descriptor}
+use Rattle.classfile.specs.Naming.{begins_with, is_array_name, is_class_name, is_field_descriptor, is_method_descriptor, is_void_descriptor}
 use Rattle.classfile.specs.declared.text_forms.DescriptorForm.{DescriptorForm}
-use Rattle.classfile.specs.TextForms.{name_form_of, descriptor_form_of, AreMethodForms}
+use Rattle.classfile.specs.ConstantForm.{names_class}
+use Rattle.classfile.specs.TextForms.{descriptor_form_of, AreMethodForms}
 
 -- ---- a '(' begins no field's descriptor, and every method's
 
@@ -40,23 +41,20 @@ as_field text field begins is =
 
 -- ---- a '[' begins no name but that of an array class
 
-no_name_there : (rest : List ℕ) → (is_class_name (bracket ∷ rest) ≡ false) × (is_unqualified_name (bracket ∷ rest) ≡ false)
+no_class_there : (rest : List ℕ) → is_class_name (bracket ∷ rest) ≡ false
 unfolding ends_class_name
-no_name_there rest = (refl, refl)
+no_class_there rest = refl
 
-no_name : (text : List ℕ) → is_array_name text ≡ true → (is_class_name text ≡ false) × (is_unqualified_name text ≡ false)
-no_name [] h = absurd (false≢true h)
-no_name (b ∷ rest) h = subst (λ x. (is_class_name (x ∷ rest) ≡ false) × (is_unqualified_name (x ∷ rest) ≡ false)) (sym (eqb-true b bracket h)) (no_name_there rest)
+no_class : (text : List ℕ) → is_array_name text ≡ true → is_class_name text ≡ false
+no_class [] h = absurd (false≢true h)
+no_class (b ∷ rest) h = subst (λ x. is_class_name (x ∷ rest) ≡ false) (sym (eqb-true b bracket h)) (no_class_there rest)
 
-pub array_name : (text : List ℕ) (field : Bool) → is_array_name text ≡ true → field ≡ is_field_descriptor text → record { names_class = field; unqualified_name = false; method_name = false } ≡ name_form_of text
-array_name text field begins is =
-    let none = no_name text begins in
-    rw (is, begins, none.0, none.1) refl
+pub array_name : (text : List ℕ) → is_array_name text ≡ true → is_field_descriptor text ≡ names_class text
+array_name text begins = rw (begins, no_class text begins) refl
 
 or_nothing : (a b : Bool) → (a || (false && b)) ≡ a
 or_nothing true b = refl
 or_nothing false b = refl
 
-pub other_name : (text : List ℕ) (class unqualified method : Bool) → is_array_name text ≡ false → class ≡ is_class_name text → unqualified ≡ is_unqualified_name text → method ≡ is_method_name text
-    → record { names_class = class; unqualified_name = unqualified; method_name = method } ≡ name_form_of text
-other_name text class unqualified method begins a b c = rw (a, b, c, begins, or_nothing (is_class_name text) (is_field_descriptor text)) refl
+pub other_name : (text : List ℕ) → is_array_name text ≡ false → is_class_name text ≡ names_class text
+other_name text begins = rw begins (sym (or_nothing (is_class_name text) (is_field_descriptor text)))

@@ -11,7 +11,6 @@ use Rattle.classfile.specs.ConstantForm.{names_class}
 
 abbrev pub name_form_of : List ℕ → NameForm
 name_form_of text = record {
-  names_class = names_class text;
   unqualified_name = is_unqualified_name text;
   method_name = is_method_name text;
 }
@@ -39,5 +38,6 @@ pub record AreKept {F : Type 0} (form_of : List ℕ → F) (pool : List Entry) (
   pub right : (place : ℕ) (default : Option F) (form : F) (text : List ℕ) → slice_index_or kept place default ≡ Some form → place < length pool → text_at pool (place + 1) ≡ Ok text → form ≡ form_of text
 
 pub record AreForms (pool : List Entry) (forms : TextForms) : Type 0 where
+  pub classes : AreKept names_class pool forms.classes.items
   pub names : AreKept name_form_of pool forms.names.items
   pub descriptors : AreKept descriptor_form_of pool forms.descriptors.items

@@ -202,7 +202,7 @@ fn class_rule(pool: &Pool<'_>, forms: &mut TextForms, name: u16) -> Option<FormR
 {
     match pool.text(name) {
         Ok(text) => {
-            if forms.name(pool, name, text).names_class {
+            if forms.names_class(pool, name, text) {
                 None
             } else {
                 Some(FormRule::BadName)

@@ -1,7 +1,8 @@
 //! Of which forms the texts of a constant pool are (JVMS 4.2, 4.3): each that some constant or member asks it of is judged once, however many do.
 ghost use Rattle.std.specs.Prelude.{◌≡◌, Ok, IfOk};
 ghost use Rattle.pool.specs.Lookups.{text_at};
-ghost use Rattle.classfile.specs.Naming.{fits_method};
+ghost use Rattle.classfile.specs.Naming.{is_class_name, fits_method};
+ghost use Rattle.classfile.specs.ConstantForm.{names_class};
 ghost use Rattle.classfile.specs.TextForms.{name_form_of, descriptor_form_of, AreForms, AreMethodForms};
 
 use crate::naming::{begins_with, is_array_name, is_field_descriptor, is_init, name_forms};
@@ -12,8 +13,6 @@ use std::alloc::{AllocError, Global};
 /// Of which forms of names a text is.
 #[derive(Clone, Copy)]
 pub struct NameForm {
-    /// The name of a class or interface, or the descriptor of an array.
-    pub names_class: bool,
     /// An unqualified name.
     pub unqualified_name: bool,
     /// The name of a method that is not special.
@@ -61,21 +60,31 @@ fn method_form(text: Text<'_>) -> DescriptorForm
     }
 }
 
-/// What begins as the descriptor of an array is no other name.
+/// Whether the text is the name of a class or interface in its internal form (JVMS 4.2.1).
+fn is_class_name(text: Text<'_>) -> bool
+    ensures { result ≡ is_class_name text.entry.bytes.now }
+{
+    names::is_class_name(text)
+}
+
+/// Whether the text is the name of a class or interface, or the descriptor of an array (JVMS 4.4.1).
+#[inline(never)]
+fn names_class(text: Text<'_>) -> bool
+    ensures { result ≡ names_class text.entry.bytes.now }
+{
+    if is_array_name(text) {
+        is_field_descriptor(text)
+    } else {
+        is_class_name(text)
+    }
+}
+
 #[inline(never)]
 fn name_form(text: Text<'_>) -> NameForm
     ensures { result ≡ name_form_of text.entry.bytes.now }
 {
-    if is_array_name(text) {
-        return NameForm {
-            names_class: is_field_descriptor(text),
-            unqualified_name: false,
-            method_name: false,
-        };
-    }
     let names = name_forms(text);
     NameForm {
-        names_class: names.class_name,
         unqualified_name: names.unqualified_name,
         method_name: names.method_name,
     }
@@ -102,6 +111,8 @@ fn descriptor_form(text: Text<'_>) -> DescriptorForm
 /// The forms of the texts of a pool, each found when it is first asked.
 #[derive(Drop)]
 pub struct TextForms {
+    /// For each entry whether it names a class, where it was asked.
+    classes: Vec<Option<bool>>,
     /// For each entry its form as a name, where it was asked.
     names: Vec<Option<NameForm>>,
     /// For each entry its form as a descriptor, where it was asked.
@@ -113,9 +124,30 @@ impl TextForms {
     pub fn new(alloc: Global, pool: &Pool<'_>) -> Result<TextForms, AllocError>
         ensures { IfOk result (AreForms pool.now) }
     {
+        let classes = vec![in alloc; None; pool.constants().len()]?;
         let names = vec![in alloc; None; pool.constants().len()]?;
         let descriptors = vec![in alloc; None; pool.constants().len()]?;
-        Ok(TextForms { names, descriptors })
+        Ok(TextForms {
+            classes,
+            names,
+            descriptors,
+        })
+    }
+
+    /// Whether the text at this index names a class.
+    pub fn names_class(&mut self, pool: &Pool<'_>, index: u16, text: Text<'_>) -> bool
+        requires kept { AreForms pool.now self.now }
+        requires text { text_at pool.now index ≡ Ok text.bytes.now }
+        ensures form { result ≡ names_class text.entry.bytes.now }
+        ensures kept { AreForms pool.now self.new }
+    {
+        let place = usize::from(index) - 1;
+        if let Some(form) = self.classes[place] {
+            return form;
+        }
+        let form = names_class(text);
+        self.classes[place] = Some(form);
+        form
     }
 
     /// Of which forms of names the text at this index is.

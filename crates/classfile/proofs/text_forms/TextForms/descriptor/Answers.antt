@@ -35,5 +35,6 @@ returns-clause-kept c =
       descriptors =
           keep_form descriptor_form_of c.args.pool.now items (slice_set items (c.from-place.result - 1) (Some form)) c.args.index c.args.text.bytes.now c.requires.kept.descriptors c.requires.text
           (ap (λ (k : ℕ). slice_set items (k - 1) (Some form)) c.from-place.ensures ∙ ap (λ (f : DescriptorForm). slice_set items (c.args.index - 1) (Some f)) c.descriptor_form-form.ensures);
+      classes = c.requires.kept.classes;
       names = c.requires.kept.names;
     }

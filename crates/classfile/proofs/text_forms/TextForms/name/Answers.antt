@@ -35,5 +35,6 @@ returns-clause-kept c =
       names =
           keep_form name_form_of c.args.pool.now items (slice_set items (c.from-place.result - 1) (Some form)) c.args.index c.args.text.bytes.now c.requires.kept.names c.requires.text
           (ap (λ (k : ℕ). slice_set items (k - 1) (Some form)) c.from-place.ensures ∙ ap (λ (f : NameForm). slice_set items (c.args.index - 1) (Some f)) c.name_form-form.ensures);
+      classes = c.requires.kept.classes;
       descriptors = c.requires.kept.descriptors;
     }
