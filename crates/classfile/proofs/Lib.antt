@@ -22,6 +22,7 @@ pub mod Receivers
 pub mod DeclaredFieldLaws
 pub mod Rows
 pub mod SeenLaws
+pub mod SpecialNames
 pub mod Steps
 pub mod Tables
 pub mod TextNumberLaws
