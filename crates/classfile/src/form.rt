@@ -68,7 +68,7 @@ fn fields_form(alloc: Global, class: &ClassFile<'_>, forms: &TextForms) -> Resul
     let pool = &class.constant_pool;
     let mut seen = Earlier::new(alloc, pool, class.fields.len())?;
     for (n, field) in class.fields.iter().enumerate() {
-        let repeated = seen.meet(pool, &class.fields[..n], field)?;
+        let repeated = seen.meet(pool, field)?;
         if let Some(rule) = field_rule(pool, forms, repeated, field) {
             return Err(FormFault::Broken {
                 rule,
@@ -87,7 +87,7 @@ fn methods_form(alloc: Global, class: &ClassFile<'_>, forms: &TextForms) -> Resu
     let interface = has(class.access_flags, INTERFACE);
     let mut seen = Earlier::new(alloc, pool, class.methods.len())?;
     for (n, method) in class.methods.iter().enumerate() {
-        let repeated = seen.meet(pool, &class.methods[..n], method)?;
+        let repeated = seen.meet(pool, method)?;
         if let Some(rule) = method_rule(pool, forms, interface, repeated, method) {
             return Err(FormFault::Broken {
                 rule,
