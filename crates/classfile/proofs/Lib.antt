@@ -2,6 +2,7 @@ pub mod Bodies
 pub mod ClassMeasure
 pub mod ClassOutlines
 pub mod Classes
+pub mod DeclaredFieldLaws
 pub mod Encodings
 pub mod FewAttributes
 pub mod FieldIndices
@@ -10,6 +11,7 @@ pub mod FormExamples
 pub mod FormedMethods
 pub mod FormedNames
 pub mod FormedOrFaulty
+pub mod IndexRows
 pub mod Judged
 pub mod LeastRules
 pub mod Measures
@@ -19,7 +21,6 @@ pub mod OutlineFaults
 pub mod Outlines
 pub mod Places
 pub mod Receivers
-pub mod DeclaredFieldLaws
 pub mod Rows
 pub mod SeenLaws
 pub mod SpecialNames

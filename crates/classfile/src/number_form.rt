@@ -1,13 +1,16 @@
 //! The faults that the numbers in an attribute's body may have (JVMS 4.7): the indices among them, column by column.
-ghost use Rattle.std.specs.Prelude.{◌≡◌, ◌||◌, if◌then◌else◌, Some, None, option_map};
+ghost use Rattle.std.specs.Prelude.{◌≡◌, ◌||◌, if◌then◌else◌, Some, None, map, option_map};
+ghost use Rattle.classfile.specs.declared.indices.ConstantKind.TheVariants as kinds;
+ghost use Rattle.classfile.specs.Indices.{is_bad, is_other};
+ghost use Rattle.classfile.specs.Layouts.{row_in, rows, major_at};
 ghost use Rattle.classfile.specs.LayoutViews.{row_view};
 ghost use Rattle.classfile.specs.declared.number_form.IndexRule.TheVariants as rules;
-ghost use Rattle.classfile.specs.NumberForm.{is_bad_in, is_other_in, breaks, row_breaks, behind_row, rows_break, counted_break, is_plain, are_plain, body_breaks, numbers_break};
+ghost use Rattle.classfile.specs.NumberForm.{is_bad_in, is_other_in, breaks, row_breaks, behind_row, rows_break, counted_break, is_plain, are_plain, is_index_row, index_row_in, body_breaks, body_breaks_if, numbers_break};
 
 use crate::indices::{
     ConstantKind, is_bad, is_bad_unless_zero, is_other, lacks, lacks_unless_zero,
 };
-use crate::layouts::{Column, Row, row_at};
+use crate::layouts::{Column, Row, is_row, major_at, row_at, rows};
 use crate::location::Location;
 use pool::Pool;
 
@@ -185,9 +188,41 @@ pub fn numbers_break(
     }
 }
 
-/// Whether an index in the body of an attribute of this name breaks one of the two rules; each is looked up once.
-pub fn numbers_have_fault(pool: &Pool<'_>, location: Location, name: u16, body: &[u8]) -> bool
-    ensures { result ≡ (numbers_break pool.now location rules.BadIndex name body.now || numbers_break pool.now location rules.WrongKind name body.now) }
+/// The row of this name, if its attributes have indices. Rows that have none, as that of line numbers, are not compared with the name.
+fn index_row_in(rows: &'static [Row], major: u16, name: &[u8]) -> Option<&'static Row>
+    ensures { option_map (λ r. row_view r.now) result ≡ index_row_in major name.now (map row_view rows.now) }
 {
-    numbers_break(pool, location, IndexRule::Both, name, body)
+    for row in rows {
+        if is_index_row(row, major, name) {
+            return Some(row);
+        }
+    }
+    None
+}
+
+/// Whether the row is that of this name, and its attributes have indices.
+fn is_index_row(row: &Row, major: u16, name: &[u8]) -> bool
+    ensures { result ≡ is_index_row major name.now (row_view row.now) }
+{
+    row.name.len() == name.len() && !are_plain(row.columns) && is_row(row, major, name)
+}
+
+/// Whether an index in the body of an attribute of this name breaks one of the two rules; each is looked up once.
+fn numbers_have_fault(pool: &Pool<'_>, location: Location, name: &[u8], body: &[u8]) -> bool
+    ensures { result ≡ body_breaks_if (breaks pool.now rules.Both) (row_in (major_at location) name.now (rows location)) body.now }
+{
+    match index_row_in(rows(location), major_at(location), name) {
+        Some(row) => body_breaks(pool, IndexRule::Both, row, body),
+        None => false,
+    }
+}
+
+/// Whether the index of an attribute's name breaks one of the two rules, or an index in its body does; each is looked up once.
+pub fn head_has_fault(pool: &Pool<'_>, location: Location, name: u16, body: &[u8]) -> bool
+    ensures { result ≡ ((is_bad pool.now name || numbers_break pool.now location rules.BadIndex name body.now) || (is_other pool.now kinds.Utf8 name || numbers_break pool.now location rules.WrongKind name body.now)) }
+{
+    match pool.text(name) {
+        Ok(text) => numbers_have_fault(pool, location, text.bytes(), body),
+        Err(_) => true,
+    }
 }
