@@ -70,6 +70,14 @@ abbrev pub are_plain : List Column → Bool
 are_plain [] = true
 are_plain (c ∷ cs) = is_plain c && are_plain cs
 
+-- the columns of local variables (4.7.13); words of the code's own steps
+abbrev pub is_text : Column → Bool
+is_text Text = true
+is_text column = false
+
+abbrev pub variable : List Column
+variable = Plain ∷ Plain ∷ Text ∷ Text ∷ Plain ∷ []
+
 -- the first row of this name, if its attributes have indices; words of the code's own steps
 abbrev pub is_index_row : ℕ → List ℕ → Row → Bool
 is_index_row major name row = not (are_plain row.columns) && is_row major name row
