@@ -99,6 +99,13 @@ numbers_break pool place rule name body = body_breaks_if (breaks pool rule) (row
 
 -- ---- attributes that may stand once
 
+-- the bodies of two attributes are kept as they are; words of the code's own steps
+abbrev pub is_kept : {A : Type 0} → Either A → Bool
+is_kept attribute = on_kept (λ name body. true) attribute
+
+abbrev pub two_are_kept : {A : Type 0} → List (Either A) → Bool
+two_are_kept attributes = nat_lt 1 (count_by is_kept attributes)
+
 -- the row is that of the name at this index
 abbrev pub is_row_named : List Entry → Location → Row → ℕ → Bool
 is_row_named pool place row name = on_text pool name (λ t. is_row (major_at place) t row)
