@@ -2,6 +2,7 @@ pub mod Bodies
 pub mod ClassMeasure
 pub mod ClassOutlines
 pub mod Classes
+pub mod DeclaredFieldLaws
 pub mod Encodings
 pub mod FewAttributes
 pub mod FieldIndices
@@ -11,6 +12,7 @@ pub mod FormKinds
 pub mod FormedMethods
 pub mod FormedNames
 pub mod FormedOrFaulty
+pub mod IndexRows
 pub mod Judged
 pub mod LeastRules
 pub mod Measures
@@ -20,9 +22,9 @@ pub mod OutlineFaults
 pub mod Outlines
 pub mod Places
 pub mod Receivers
-pub mod DeclaredFieldLaws
 pub mod Rows
 pub mod SeenLaws
+pub mod SpecialNames
 pub mod Steps
 pub mod Tables
 pub mod TextNumberLaws

@@ -16,6 +16,7 @@ pub mod LayoutViews
 pub mod Layouts
 pub mod Locations
 pub mod MemberForm
+pub mod MemberTexts
 pub mod MethodParts
 pub mod Methods
 pub mod NamedAt
