@@ -79,6 +79,7 @@ fn names_class(text: Text<'_>) -> bool
     }
 }
 
+/// The forms of unqualified names (JVMS 4.2.2), found in one pass.
 #[inline(never)]
 fn name_form(text: Text<'_>) -> NameForm
     ensures { result ≡ name_form_of text.entry.bytes.now }
@@ -90,7 +91,7 @@ fn name_form(text: Text<'_>) -> NameForm
     }
 }
 
-/// What begins with a `(` is no field's descriptor, and nothing else is a method's.
+/// A text that begins with a `(` is no field's descriptor, and no other is a method's (JVMS 4.3).
 #[inline(never)]
 fn descriptor_form(text: Text<'_>) -> DescriptorForm
     ensures { result ≡ descriptor_form_of text.entry.bytes.now }

@@ -82,7 +82,7 @@ pub no_slash_on : (at start b : ℕ) → ((b ≡ slash) × (at ≡ start)) ⊎ (
 no_slash_on at start b (inl both) = ap (λ (t : Bool). not t && eqb b slash) (eq-eqb at start both.1)
 no_slash_on at start b (inr other) = and_right (not (eqb at start)) (eqb b slash) (ne_eqb b slash other)
 
--- what the bytes up to a place tell
+-- the bytes up to a place begin a class name
 pub record Front (bytes : List ℕ) (at : ℕ) (fresh : Bool) : Type 0 where
   pub ends : ends_class_name true bytes ≡ ends_class_name fresh (drop at bytes)
   pub reads : read_class true bytes ≡ mapped (λ name. take at bytes ++ name) (read_class fresh (drop at bytes))
