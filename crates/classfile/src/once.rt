@@ -110,7 +110,7 @@ fn one_stands_twice<A: Tabled>(pool: &Pool<'_>, location: Location, attributes: 
 fn two_are_kept<A: Tabled>(attributes: &[A]) -> bool
     ensures { result ≡ two_are_kept (map A.attribute attributes.now) }
 {
-    attributes.iter().filter(|a| a.is_kept()).count() > 1
+    attributes.len() > 1 && attributes.iter().filter(|a| a.is_kept()).count() > 1
 }
 
 /// Whether two attributes of numbers are among them of which there may be one. Most tables have one attribute at most, or one beside
