@@ -2,7 +2,8 @@
 ghost use Rattle.std.specs.Prelude.{◌≡◌, map};
 ghost use Rattle.layout.specs.PieceLaws.{Either};
 ghost use Rattle.classfile.specs.LayoutViews.{row_view};
-ghost use Rattle.classfile.specs.NumberForm.{is_kept, two_are_kept, is_row_named, is_of_row, row_stands_twice, numbers_stand_twice};
+ghost use Rattle.classfile.specs.IndexRows.{is_kept, two_are_kept};
+ghost use Rattle.classfile.specs.NumberForm.{is_row_named, is_of_row, row_stands_twice, numbers_stand_twice};
 
 use crate::attribute::Attribute;
 use crate::class_attribute::ClassAttribute;
