@@ -8,7 +8,8 @@ use Rattle.layout.specs.PieceLaws.{Either, fields as by_field, raw}
 use Rattle.pool.specs.Entries.{Entry}
 use Rattle.classfile.specs.declared.location.Location.{Location}
 use Rattle.classfile.specs.Layouts.{Row, rows}
-use Rattle.classfile.specs.NumberForm.{is_kept, two_are_kept, is_row_named, is_of_row, row_stands_twice, numbers_stand_twice}
+use Rattle.classfile.specs.IndexRows.{is_kept, two_are_kept}
+use Rattle.classfile.specs.NumberForm.{is_row_named, is_of_row, row_stands_twice, numbers_stand_twice}
 
 at_most_one : (n : ℕ) → n < 2 → nat_lt 1 n ≡ false
 at_most_one zero few = refl

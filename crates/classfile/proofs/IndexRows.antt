@@ -14,7 +14,8 @@ use Rattle.classfile.specs.declared.number_form.IndexRule.{IndexRule}
 use Rattle.classfile.specs.declared.number_form.IndexRule.TheVariants.{BadIndex, WrongKind, Both}
 use Rattle.classfile.specs.Indices.{is_of, is_bad, is_other, on_found}
 use Rattle.classfile.specs.Layouts.{Row, is_row, row_in, rows, row_named, major_at}
-use Rattle.classfile.specs.NumberForm.{breaks, are_plain, is_index_row, index_row_in, body_breaks_if, numbers_break}
+use Rattle.classfile.specs.IndexRows.{is_index_row, index_row_in}
+use Rattle.classfile.specs.NumberForm.{breaks, are_plain, body_breaks_if, numbers_break}
 use Rattle.classfile.proofs.Rows.{plain_body, either_numbers}
 use lib.Pointwise.{bytes_decides}
 

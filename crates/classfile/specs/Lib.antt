@@ -10,6 +10,7 @@ pub mod Earlier
 pub mod Encoding
 pub mod Flags
 pub mod FormLaws
+pub mod IndexRows
 pub mod Indices
 pub mod Laws
 pub mod LayoutViews

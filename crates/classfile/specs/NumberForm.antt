@@ -1,5 +1,5 @@
 -- The faults that the numbers in an attribute's body may have (JVMS 4.7): the indices among them, column by column.
-use Rattle.std.specs.Prelude.{ℕ, zero, suc, ◌+◌, ◌*◌, Bool, true, false, not, ◌||◌, ◌&&◌, if◌then◌else◌, List, [], ◌∷◌, nat_lt, count_by, Option, Some, None}
+use Rattle.std.specs.Prelude.{ℕ, zero, suc, ◌+◌, ◌*◌, Bool, true, false, ◌||◌, ◌&&◌, if◌then◌else◌, List, [], ◌∷◌, nat_lt, count_by, Option, Some, None}
 use Rattle.std.specs.List.{list_any}
 use Rattle.layout.specs.PieceLaws.{Either, fields as by_field, raw}
 use Rattle.pool.specs.Entries.{Entry}
@@ -70,22 +70,6 @@ abbrev pub are_plain : List Column → Bool
 are_plain [] = true
 are_plain (c ∷ cs) = is_plain c && are_plain cs
 
--- the columns of local variables (4.7.13); words of the code's own steps
-abbrev pub is_text : Column → Bool
-is_text Text = true
-is_text column = false
-
-abbrev pub variable : List Column
-variable = Plain ∷ Plain ∷ Text ∷ Text ∷ Plain ∷ []
-
--- the first row of this name, if its attributes have indices; words of the code's own steps
-abbrev pub is_index_row : ℕ → List ℕ → Row → Bool
-is_index_row major name row = not (are_plain row.columns) && is_row major name row
-
-abbrev pub index_row_in : ℕ → List ℕ → List Row → Option Row
-index_row_in major name [] = None
-index_row_in major name (row ∷ others) = if is_index_row major name row then Some row else index_row_in major name others
-
 abbrev pub body_breaks : (Column → ℕ → Bool) → Row → List ℕ → Bool
 body_breaks test row body = if row.counted then counted_break test row.columns body else row_breaks test row.columns body
 
@@ -98,13 +82,6 @@ unfoldable pub numbers_break : List Entry → Location → IndexRule → ℕ →
 numbers_break pool place rule name body = body_breaks_if (breaks pool rule) (row_at pool place name) body
 
 -- ---- attributes that may stand once
-
--- the bodies of two attributes are kept as they are; words of the code's own steps
-abbrev pub is_kept : {A : Type 0} → Either A → Bool
-is_kept attribute = on_kept (λ name body. true) attribute
-
-abbrev pub two_are_kept : {A : Type 0} → List (Either A) → Bool
-two_are_kept attributes = nat_lt 1 (count_by is_kept attributes)
 
 -- the row is that of the name at this index
 abbrev pub is_row_named : List Entry → Location → Row → ℕ → Bool

@@ -5,7 +5,8 @@ ghost use Rattle.classfile.specs.Indices.{is_bad, is_other};
 ghost use Rattle.classfile.specs.Layouts.{row_in, rows, major_at};
 ghost use Rattle.classfile.specs.LayoutViews.{row_view};
 ghost use Rattle.classfile.specs.declared.number_form.IndexRule.TheVariants as rules;
-ghost use Rattle.classfile.specs.NumberForm.{is_bad_in, is_other_in, breaks, row_breaks, behind_row, rows_break, counted_break, is_plain, are_plain, is_text, variable, is_index_row, index_row_in, body_breaks, body_breaks_if, numbers_break};
+ghost use Rattle.classfile.specs.IndexRows.{is_text, variable, is_index_row, index_row_in};
+ghost use Rattle.classfile.specs.NumberForm.{is_bad_in, is_other_in, breaks, row_breaks, behind_row, rows_break, counted_break, is_plain, are_plain, body_breaks, body_breaks_if, numbers_break};
 
 use crate::indices::{
     ConstantKind, is_bad, is_bad_unless_zero, is_other, lacks, lacks_unless_zero,

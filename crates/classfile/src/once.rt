@@ -2,7 +2,8 @@
 ghost use Rattle.std.specs.Prelude.{◌≡◌, map};
 ghost use Rattle.layout.specs.PieceLaws.{Either};
 ghost use Rattle.classfile.specs.LayoutViews.{row_view};
-ghost use Rattle.classfile.specs.NumberForm.{is_kept, two_are_kept, is_row_named, is_of_row, row_stands_twice, numbers_stand_twice};
+ghost use Rattle.classfile.specs.IndexRows.{is_kept, two_are_kept};
+ghost use Rattle.classfile.specs.NumberForm.{is_row_named, is_of_row, row_stands_twice, numbers_stand_twice};
 
 use crate::attribute::Attribute;
 use crate::class_attribute::ClassAttribute;
@@ -110,7 +111,7 @@ fn one_stands_twice<A: Tabled>(pool: &Pool<'_>, location: Location, attributes: 
 fn two_are_kept<A: Tabled>(attributes: &[A]) -> bool
     ensures { result ≡ two_are_kept (map A.attribute attributes.now) }
 {
-    attributes.iter().filter(|a| a.is_kept()).count() > 1
+    attributes.len() > 1 && attributes.iter().filter(|a| a.is_kept()).count() > 1
 }
 
 /// Whether two attributes of numbers are among them of which there may be one. Most tables have one attribute at most, or one beside

@@ -1,6 +1,6 @@
 -- No row so far has the name and indices, so it rests with the others.
 use Rattle.std.proofs.Common.{◌≡◌, map, drop}
-use Rattle.classfile.specs.NumberForm.{index_row_in}
+use Rattle.classfile.specs.IndexRows.{index_row_in}
 use Rattle.classfile.specs.LayoutViews.{row_view}
 use Rattle.classfile.proofs.number_form.index_row_in.Given as goal
 

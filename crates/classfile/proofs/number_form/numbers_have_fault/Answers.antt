@@ -2,7 +2,8 @@ use Rattle.std.proofs.Common.{◌∙◌, Bool, map, List, Option, sym, ap, ℕ}
 use Rattle.classfile.specs.declared.number_form.IndexRule.TheVariants.{Both}
 use Rattle.classfile.specs.Layouts.{Row, major_at}
 use Rattle.classfile.specs.LayoutViews.{row_view}
-use Rattle.classfile.specs.NumberForm.{breaks, index_row_in, body_breaks_if}
+use Rattle.classfile.specs.IndexRows.{index_row_in}
+use Rattle.classfile.specs.NumberForm.{breaks, body_breaks_if}
 use Rattle.classfile.proofs.IndexRows.{index_row_found}
 use Rattle.classfile.proofs.number_form.numbers_have_fault.Goals as goal
 
