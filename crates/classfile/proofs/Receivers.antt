@@ -66,13 +66,14 @@ fits_void false m = refl
 
 -- what is kept of a text whose types are within the limits without a receiver
 pub some_are : (bytes : List ℕ) (m : MethodDescriptor) (void fits both : Bool) → method_answer false bytes ≡ Ok m → void ≡ is_none m.result
-    → fits ≡ nat_le (method_width m true) 255 → both ≡ (fits && void) → AreMethodForms bytes (record { method = true; void = void; receiver_method = fits; receiver_void = both })
+    → fits ≡ nat_le (method_width m true) 255 → both ≡ (fits && void) → AreMethodForms bytes (record { field = false; method = true; void = void; receiver_method = fits; receiver_void = both })
 unfolding method_answer
 some_are bytes m void fits both h v f b =
     let also = limited_ok (whole bytes (read_method bytes)) m h in
     let width = method_width m true in
     let within : fits ≡ not (nat_lt 255 width) = f ∙ not_over width in
     record {
+      no_field = refl;
       method = sym (ap is_ok h);
       void = v ∙ sym (ap has_no_result h);
       receiver_method = within ∙ sym (ap is_ok also ∙ fits_ok (nat_lt 255 width) m);
@@ -80,11 +81,11 @@ some_are bytes m void fits both h v f b =
     }
 
 -- and of one without
-pub none_are : (bytes : List ℕ) (e : NameFault) → method_answer false bytes ≡ Err e → AreMethodForms bytes (record { method = false; void = false; receiver_method = false; receiver_void = false })
+pub none_are : (bytes : List ℕ) (e : NameFault) → method_answer false bytes ≡ Err e → AreMethodForms bytes (record { field = false; method = false; void = false; receiver_method = false; receiver_void = false })
 unfolding method_answer
 none_are bytes e h =
     let also = limited_err (whole bytes (read_method bytes)) e h in
-    record { method = sym (ap is_ok h); void = sym (ap has_no_result h); receiver_method = sym also.0; receiver_void = sym also.1 }
+    record { no_field = refl; method = sym (ap is_ok h); void = sym (ap has_no_result h); receiver_method = sym also.0; receiver_void = sym also.1 }
 
 -- a result is none where it is not some
 pub same_void : (t : Option FieldDescriptor) (has_result : Bool) → has_result ≡ is_some t → not has_result ≡ is_none t

@@ -54,10 +54,6 @@ kept_number pool s index n text numbers found here some =
       good = numbers;
     }
 
--- a text that was found by its bytes
-pub found_number : (pool : List Entry) (s : TextNumbers) (n : ℕ) (text : List ℕ) → AreNumbers pool s → number_of s text ≡ Some n → Numbers pool s s text n
-found_number pool s n text numbers here = record { here = here; others = λ x m h. h; good = numbers }
-
 -- a text that had no number gets one
 pub new_number : (pool : List Entry) (old new : TextNumbers) (index : ℕ) (text : List ℕ) → AreNumbers pool old → text_at pool index ≡ Ok text → number_of old text ≡ None
     → new.known ≡ old.known → ((x : List ℕ) → number_of new x ≡ cond (bytes_eq text x) (Some index) (number_of old x)) → Numbers pool old new text index
@@ -87,6 +83,30 @@ new_number pool old new index text numbers found none known told =
 
     leads : (x : List ℕ) (m : ℕ) → number_of new x ≡ Some m → text_at pool m ≡ Ok x
     leads x m h = led (bytes_eq text x) x m refl (sym (told x) ∙ h)
+
+-- a text that had a number has it again
+pub old_number : (pool : List Entry) (old between new : TextNumbers) (index n : ℕ) (text : List ℕ) → AreNumbers pool old → number_of old text ≡ Some n
+    → new.known ≡ old.known → ((x : List ℕ) → number_of between x ≡ cond (bytes_eq text x) (Some index) (number_of old x))
+    → ((x : List ℕ) → number_of new x ≡ cond (bytes_eq text x) (Some n) (number_of between x)) → Numbers pool old new text n
+old_number pool old between new index n text numbers here known first second =
+    record {
+      here = read text ∙ here;
+      others = λ x m h. read x ∙ h;
+      good = record {
+        sized = ap (λ (v : Vec ℕ). length v.items) known ∙ numbers.sized;
+        leads = λ x m h. numbers.leads x m (sym (read x) ∙ h);
+        kept = λ place default x some within at.
+            let same : slice_index_or new.known.items place default ≡ slice_index_or old.known.items place default = ap (λ (v : Vec ℕ). slice_index_or v.items place default) known in
+            read x ∙ numbers.kept place default x (λ z. some (same ∙ z)) within at ∙ ap Some (sym same);
+      };
+    }
+  where
+    by_test : (b : Bool) (x : List ℕ) → bytes_eq text x ≡ b → cond b (Some n) (cond b (Some index) (number_of old x)) ≡ number_of old x
+    by_test true x e = sym here ∙ ap (number_of old) ((bytes_decides text x).0 e)
+    by_test false x e = refl
+
+    read : (x : List ℕ) → number_of new x ≡ number_of old x
+    read x = second x ∙ ap (cond (bytes_eq text x) (Some n)) (first x) ∙ by_test (bytes_eq text x) x refl
 
 -- and it is kept for its entry
 pub keep_number : (pool : List Entry) (old found new : TextNumbers) (index n : ℕ) (text : List ℕ) → Numbers pool old found text n → text_at pool index ≡ Ok text

@@ -10,12 +10,14 @@ pub mod Earlier
 pub mod Encoding
 pub mod Flags
 pub mod FormLaws
+pub mod IndexRows
 pub mod Indices
 pub mod Laws
 pub mod LayoutViews
 pub mod Layouts
 pub mod Locations
 pub mod MemberForm
+pub mod MemberTexts
 pub mod MethodParts
 pub mod Methods
 pub mod NamedAt

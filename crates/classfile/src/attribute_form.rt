@@ -10,7 +10,7 @@ use crate::code::{CodeAttr, ExceptionHandler};
 use crate::indices::{ConstantKind, is_bad, is_bad_unless_zero, lacks, lacks_unless_zero};
 use crate::location::Location;
 use crate::nested::NestedAttribute;
-use crate::number_form::{IndexRule, numbers_break, numbers_have_fault};
+use crate::number_form::{IndexRule, head_has_fault, numbers_break};
 use crate::once::numbers_stand_twice;
 use pool::Pool;
 
@@ -34,10 +34,7 @@ fn nested_has_fault(pool: &Pool<'_>, attribute: &NestedAttribute<'_>) -> bool
 {
     match attribute {
         NestedAttribute::StackMapTable { name, .. } => lacks(pool, ConstantKind::Utf8, *name),
-        NestedAttribute::Raw { name, body } => {
-            lacks(pool, ConstantKind::Utf8, *name)
-                || numbers_have_fault(pool, Location::Code, *name, body)
-        }
+        NestedAttribute::Raw { name, body } => { head_has_fault(pool, Location::Code, *name, body) }
     }
 }
 
@@ -130,10 +127,7 @@ fn attribute_has_fault(pool: &Pool<'_>, location: Location, attribute: &Attribut
         Attribute::Code { name, code } => {
             lacks(pool, ConstantKind::Utf8, *name) || code_has_fault(pool, code)
         }
-        Attribute::Raw { name, body } => {
-            lacks(pool, ConstantKind::Utf8, *name)
-                || numbers_have_fault(pool, location, *name, body)
-        }
+        Attribute::Raw { name, body } => { head_has_fault(pool, location, *name, body) }
     }
 }
 

@@ -23,6 +23,7 @@ struct NamedAt<'a> {
 }
 
 /// The name and the descriptor that the index leads to, if both are there.
+#[inline(always)]
 #[tactic(auto, unfolding(pool::specs::Lookups::name_and_type_at, pool::specs::Lookups::named))]
 fn named_at<'a>(pool: &Pool<'a>, index: u16) -> Option<NamedAt<'a>>
     ensures { IsNamedAt pool.now index result }
@@ -59,74 +60,80 @@ pub fn is_array_class(pool: &Pool<'_>, index: u16) -> bool
 
 /// Whether the index leads to a text that is no unqualified name.
 #[tactic(auto, unfolding(crate::specs::ConstantForm::is_no_unqualified_name))]
-pub fn is_no_unqualified_name(pool: &Pool<'_>, forms: &TextForms, index: u16) -> bool
+pub fn is_no_unqualified_name(pool: &Pool<'_>, forms: &mut TextForms, index: u16) -> bool
     requires { AreForms pool.now forms.now }
-    ensures { result ≡ is_no_unqualified_name pool.now index }
+    ensures told { result ≡ is_no_unqualified_name pool.now index }
+    ensures kept { AreForms pool.now forms.new }
 {
     match pool.text(index) {
-        Ok(text) => !forms.of(pool, index, text).unqualified_name,
+        Ok(text) => !forms.name(pool, index, text).unqualified_name,
         Err(_) => false,
     }
 }
 
 /// Whether the index leads to a text that is no descriptor of a field.
 #[tactic(auto, unfolding(crate::specs::ConstantForm::is_no_field_descriptor))]
-pub fn is_no_field_descriptor(pool: &Pool<'_>, forms: &TextForms, index: u16) -> bool
+pub fn is_no_field_descriptor(pool: &Pool<'_>, forms: &mut TextForms, index: u16) -> bool
     requires { AreForms pool.now forms.now }
-    ensures { result ≡ is_no_field_descriptor pool.now index }
+    ensures told { result ≡ is_no_field_descriptor pool.now index }
+    ensures kept { AreForms pool.now forms.new }
 {
     match pool.text(index) {
-        Ok(text) => !forms.of(pool, index, text).field_descriptor,
+        Ok(text) => !forms.descriptor(pool, index, text).field,
         Err(_) => false,
     }
 }
 
 #[tactic(auto, unfolding(crate::specs::ConstantForm::is_no_method_descriptor))]
-fn is_no_method_descriptor(pool: &Pool<'_>, forms: &TextForms, index: u16) -> bool
+fn is_no_method_descriptor(pool: &Pool<'_>, forms: &mut TextForms, index: u16) -> bool
     requires { AreForms pool.now forms.now }
-    ensures { result ≡ is_no_method_descriptor pool.now index }
+    ensures told { result ≡ is_no_method_descriptor pool.now index }
+    ensures kept { AreForms pool.now forms.new }
 {
     match pool.text(index) {
-        Ok(text) => !forms.of(pool, index, text).method_descriptor,
+        Ok(text) => !forms.descriptor(pool, index, text).method,
         Err(_) => false,
     }
 }
 
 #[tactic(auto, unfolding(crate::specs::ConstantForm::is_no_field))]
-fn is_no_field(pool: &Pool<'_>, forms: &TextForms, index: u16) -> bool
+fn is_no_field(pool: &Pool<'_>, forms: &mut TextForms, index: u16) -> bool
     requires { AreForms pool.now forms.now }
-    ensures { result ≡ is_no_field pool.now index }
+    ensures told { result ≡ is_no_field pool.now index }
+    ensures kept { AreForms pool.now forms.new }
 {
     match named_at(pool, index) {
         Some(named) => !forms
-            .of(pool, named.descriptor, named.texts.descriptor)
-            .field_descriptor,
+            .descriptor(pool, named.descriptor, named.texts.descriptor)
+            .field,
         None => false,
     }
 }
 
 #[tactic(auto, unfolding(crate::specs::ConstantForm::is_no_method))]
-fn is_no_method(pool: &Pool<'_>, forms: &TextForms, index: u16) -> bool
+fn is_no_method(pool: &Pool<'_>, forms: &mut TextForms, index: u16) -> bool
     requires { AreForms pool.now forms.now }
-    ensures { result ≡ is_no_method pool.now index }
+    ensures told { result ≡ is_no_method pool.now index }
+    ensures kept { AreForms pool.now forms.new }
 {
     match named_at(pool, index) {
         Some(named) => !forms
-            .of(pool, named.descriptor, named.texts.descriptor)
-            .method_descriptor,
+            .descriptor(pool, named.descriptor, named.texts.descriptor)
+            .method,
         None => false,
     }
 }
 
 /// The rule that a method of a class breaks by its name and its descriptor.
 #[tactic(auto, unfolding(crate::specs::ConstantForm::is_special, crate::specs::ConstantForm::is_no_method_of_class))]
-fn method_name_rule(pool: &Pool<'_>, forms: &TextForms, named: u16) -> Option<FormRule>
+fn method_name_rule(pool: &Pool<'_>, forms: &mut TextForms, named: u16) -> Option<FormRule>
     requires { AreForms pool.now forms.now }
-    ensures { result ≡ broken_rule ((BadName, is_special pool.now named) ∷ (BadDescriptor, is_no_method_of_class pool.now named) ∷ []) }
+    ensures told { result ≡ broken_rule ((BadName, is_special pool.now named) ∷ (BadDescriptor, is_no_method_of_class pool.now named) ∷ []) }
+    ensures kept { AreForms pool.now forms.new }
 {
     let named = named_at(pool, named)?;
     let texts = named.texts;
-    let form = forms.of(pool, named.descriptor, texts.descriptor);
+    let form = forms.descriptor(pool, named.descriptor, texts.descriptor);
     if is_special_name(texts.name) {
         Some(FormRule::BadName)
     } else if !fits_method(false, texts.name, texts.descriptor, form) {
@@ -144,12 +151,13 @@ fn is_special_name(name: Text<'_>) -> bool
 }
 
 #[tactic(auto, unfolding(crate::specs::ConstantForm::is_no_method_name))]
-fn is_no_method_name(pool: &Pool<'_>, forms: &TextForms, index: u16) -> bool
+fn is_no_method_name(pool: &Pool<'_>, forms: &mut TextForms, index: u16) -> bool
     requires { AreForms pool.now forms.now }
-    ensures { result ≡ is_no_method_name pool.now index }
+    ensures told { result ≡ is_no_method_name pool.now index }
+    ensures kept { AreForms pool.now forms.new }
 {
     match named_at(pool, index) {
-        Some(named) => !forms.of(pool, named.name, named.texts.name).method_name,
+        Some(named) => !forms.name(pool, named.name, named.texts.name).method_name,
         None => false,
     }
 }
@@ -187,13 +195,14 @@ pub fn texts_have_fault(pool: &Pool<'_>, name: u16, descriptor: u16) -> bool
 }
 
 #[tactic(auto, unfolding(pool::specs::Lookups::text_at, crate::specs::Indices::is_bad, crate::specs::Indices::is_other, crate::specs::ConstantForm::is_no_class_name))]
-fn class_rule(pool: &Pool<'_>, forms: &TextForms, name: u16) -> Option<FormRule>
+fn class_rule(pool: &Pool<'_>, forms: &mut TextForms, name: u16) -> Option<FormRule>
     requires { AreForms pool.now forms.now }
-    ensures { result ≡ broken_rule (class_conditions pool.now name) }
+    ensures told { result ≡ broken_rule (class_conditions pool.now name) }
+    ensures kept { AreForms pool.now forms.new }
 {
     match pool.text(name) {
         Ok(text) => {
-            if forms.of(pool, name, text).names_class {
+            if forms.names_class(pool, name, text) {
                 None
             } else {
                 Some(FormRule::BadName)
@@ -213,9 +222,10 @@ fn string_rule(pool: &Pool<'_>, text: u16) -> Option<FormRule>
     }
 }
 
-fn field_rule(pool: &Pool<'_>, forms: &TextForms, class: u16, named: u16) -> Option<FormRule>
+fn field_rule(pool: &Pool<'_>, forms: &mut TextForms, class: u16, named: u16) -> Option<FormRule>
     requires { AreForms pool.now forms.now }
-    ensures { result ≡ broken_rule (field_conditions pool.now class named) }
+    ensures told { result ≡ broken_rule (field_conditions pool.now class named) }
+    ensures kept { AreForms pool.now forms.new }
 {
     if has_fault(pool, class, named) {
         Some(index_rule(has_bad(pool, class, named)))
@@ -228,9 +238,10 @@ fn field_rule(pool: &Pool<'_>, forms: &TextForms, class: u16, named: u16) -> Opt
     }
 }
 
-fn method_rule(pool: &Pool<'_>, forms: &TextForms, class: u16, named: u16) -> Option<FormRule>
+fn method_rule(pool: &Pool<'_>, forms: &mut TextForms, class: u16, named: u16) -> Option<FormRule>
     requires { AreForms pool.now forms.now }
-    ensures { result ≡ broken_rule (method_conditions pool.now class named) }
+    ensures told { result ≡ broken_rule (method_conditions pool.now class named) }
+    ensures kept { AreForms pool.now forms.new }
 {
     if has_fault(pool, class, named) {
         Some(index_rule(has_bad(pool, class, named)))
@@ -241,12 +252,13 @@ fn method_rule(pool: &Pool<'_>, forms: &TextForms, class: u16, named: u16) -> Op
 
 fn interface_method_rule(
     pool: &Pool<'_>,
-    forms: &TextForms,
+    forms: &mut TextForms,
     class: u16,
     named: u16,
 ) -> Option<FormRule>
     requires { AreForms pool.now forms.now }
-    ensures { result ≡ broken_rule (interface_method_conditions pool.now class named) }
+    ensures told { result ≡ broken_rule (interface_method_conditions pool.now class named) }
+    ensures kept { AreForms pool.now forms.new }
 {
     if has_fault(pool, class, named) {
         Some(index_rule(has_bad(pool, class, named)))
@@ -262,20 +274,22 @@ fn interface_method_rule(
 #[tactic(auto, unfolding(pool::specs::Lookups::text_at, crate::specs::Indices::is_bad, crate::specs::Indices::is_other, crate::specs::ConstantForm::texts_have_bad, crate::specs::ConstantForm::texts_have_other, crate::specs::ConstantForm::is_no_unqualified_name, crate::specs::ConstantForm::is_no_descriptor))]
 fn name_and_type_rule(
     pool: &Pool<'_>,
-    forms: &TextForms,
+    forms: &mut TextForms,
     name: u16,
     descriptor: u16,
 ) -> Option<FormRule>
     requires { AreForms pool.now forms.now }
-    ensures { result ≡ broken_rule (name_and_type_conditions pool.now name descriptor) }
+    ensures told { result ≡ broken_rule (name_and_type_conditions pool.now name descriptor) }
+    ensures kept { AreForms pool.now forms.new }
 {
     let (Ok(name_text), Ok(text)) = (pool.text(name), pool.text(descriptor)) else {
         return Some(index_rule(texts_have_bad(pool, name, descriptor)));
     };
-    let form = forms.of(pool, descriptor, text);
-    if !forms.of(pool, name, name_text).unqualified_name {
-        Some(FormRule::BadName)
-    } else if !form.field_descriptor && !form.method_descriptor {
+    if !forms.name(pool, name, name_text).unqualified_name {
+        return Some(FormRule::BadName);
+    }
+    let form = forms.descriptor(pool, descriptor, text);
+    if !form.field && !form.method {
         Some(FormRule::BadDescriptor)
     } else {
         None
@@ -292,9 +306,10 @@ fn method_handle_rule(pool: &Pool<'_>, reference: u16) -> Option<FormRule>
     }
 }
 
-fn method_type_rule(pool: &Pool<'_>, forms: &TextForms, descriptor: u16) -> Option<FormRule>
+fn method_type_rule(pool: &Pool<'_>, forms: &mut TextForms, descriptor: u16) -> Option<FormRule>
     requires { AreForms pool.now forms.now }
-    ensures { result ≡ broken_rule (method_type_conditions pool.now descriptor) }
+    ensures told { result ≡ broken_rule (method_type_conditions pool.now descriptor) }
+    ensures kept { AreForms pool.now forms.new }
 {
     if lacks(pool, ConstantKind::Utf8, descriptor) {
         Some(index_rule(is_bad(pool, descriptor)))
@@ -305,9 +320,10 @@ fn method_type_rule(pool: &Pool<'_>, forms: &TextForms, descriptor: u16) -> Opti
     }
 }
 
-fn dynamic_rule(major: u16, pool: &Pool<'_>, forms: &TextForms, named: u16) -> Option<FormRule>
+fn dynamic_rule(major: u16, pool: &Pool<'_>, forms: &mut TextForms, named: u16) -> Option<FormRule>
     requires { AreForms pool.now forms.now }
-    ensures { result ≡ broken_rule (dynamic_conditions major pool.now named) }
+    ensures told { result ≡ broken_rule (dynamic_conditions major pool.now named) }
+    ensures kept { AreForms pool.now forms.new }
 {
     if is_bad(pool, named) {
         Some(FormRule::BadIndex)
@@ -320,9 +336,10 @@ fn dynamic_rule(major: u16, pool: &Pool<'_>, forms: &TextForms, named: u16) -> O
     }
 }
 
-fn invoke_dynamic_rule(pool: &Pool<'_>, forms: &TextForms, named: u16) -> Option<FormRule>
+fn invoke_dynamic_rule(pool: &Pool<'_>, forms: &mut TextForms, named: u16) -> Option<FormRule>
     requires { AreForms pool.now forms.now }
-    ensures { result ≡ broken_rule (invoke_dynamic_conditions pool.now named) }
+    ensures told { result ≡ broken_rule (invoke_dynamic_conditions pool.now named) }
+    ensures kept { AreForms pool.now forms.new }
 {
     if lacks(pool, ConstantKind::NameAndType, named) {
         Some(index_rule(is_bad(pool, named)))
@@ -338,11 +355,12 @@ fn invoke_dynamic_rule(pool: &Pool<'_>, forms: &TextForms, named: u16) -> Option
 pub fn constant_rule(
     major: u16,
     pool: &Pool<'_>,
-    forms: &TextForms,
+    forms: &mut TextForms,
     constant: &Constant<'_>,
 ) -> Option<FormRule>
     requires { AreForms pool.now forms.now }
-    ensures { result ≡ broken_rule (constant_conditions major pool.now (view constant.now)) }
+    ensures told { result ≡ broken_rule (constant_conditions major pool.now (view constant.now)) }
+    ensures kept { AreForms pool.now forms.new }
 {
     match *constant {
         Constant::Utf8(_)

@@ -33,9 +33,10 @@ impl<'c, 'a> Formed<'c, 'a> {
     }
 }
 
-fn pool_form(class: &ClassFile<'_>, forms: &TextForms) -> Result<(), FormFault>
+fn pool_form(class: &ClassFile<'_>, forms: &mut TextForms) -> Result<(), FormFault>
     requires { AreForms class.now.constant_pool forms.now }
-    ensures { Passes (class_view class.now) (λ n. places.Pool n) result }
+    ensures passes { Passes (class_view class.now) (λ n. places.Pool n) result }
+    ensures kept { AreForms class.now.constant_pool forms.new }
 {
     let pool = &class.constant_pool;
     for (place, constant) in pool.constants().iter().enumerate() {
@@ -61,14 +62,15 @@ fn class_form(class: &ClassFile<'_>) -> Result<(), FormFault>
     }
 }
 
-fn fields_form(alloc: Global, class: &ClassFile<'_>, forms: &TextForms) -> Result<(), FormFault>
+fn fields_form(alloc: Global, class: &ClassFile<'_>, forms: &mut TextForms) -> Result<(), FormFault>
     requires { AreForms class.now.constant_pool forms.now }
-    ensures { Passes (class_view class.now) (λ n. places.Field n) result }
+    ensures passes { Passes (class_view class.now) (λ n. places.Field n) result }
+    ensures kept { AreForms class.now.constant_pool forms.new }
 {
     let pool = &class.constant_pool;
     let mut seen = Earlier::new(alloc, pool, class.fields.len())?;
     for (n, field) in class.fields.iter().enumerate() {
-        let repeated = seen.meet(pool, &class.fields[..n], field)?;
+        let repeated = seen.meet(pool, field)?;
         if let Some(rule) = field_rule(pool, forms, repeated, field) {
             return Err(FormFault::Broken {
                 rule,
@@ -79,7 +81,11 @@ fn fields_form(alloc: Global, class: &ClassFile<'_>, forms: &TextForms) -> Resul
     Ok(())
 }
 
-fn methods_form(alloc: Global, class: &ClassFile<'_>, forms: &TextForms) -> Result<(), FormFault>
+fn methods_form(
+    alloc: Global,
+    class: &ClassFile<'_>,
+    forms: &mut TextForms,
+) -> Result<(), FormFault>
     requires { AreForms class.now.constant_pool forms.now }
     ensures { Passes (class_view class.now) (λ n. places.Method n) result }
 {
@@ -87,7 +93,7 @@ fn methods_form(alloc: Global, class: &ClassFile<'_>, forms: &TextForms) -> Resu
     let interface = has(class.access_flags, INTERFACE);
     let mut seen = Earlier::new(alloc, pool, class.methods.len())?;
     for (n, method) in class.methods.iter().enumerate() {
-        let repeated = seen.meet(pool, &class.methods[..n], method)?;
+        let repeated = seen.meet(pool, method)?;
         if let Some(rule) = method_rule(pool, forms, interface, repeated, method) {
             return Err(FormFault::Broken {
                 rule,
@@ -102,11 +108,11 @@ fn methods_form(alloc: Global, class: &ClassFile<'_>, forms: &TextForms) -> Resu
 fn places_form(alloc: Global, class: &ClassFile<'_>) -> Result<(), FormFault>
     ensures { MatchResult result (λ _. WellFormed (class_view class.now)) (TellsFirst (class_view class.now)) }
 {
-    let forms = TextForms::new(alloc, class)?;
-    pool_form(class, &forms)?;
+    let mut forms = TextForms::new(alloc, &class.constant_pool)?;
+    pool_form(class, &mut forms)?;
     class_form(class)?;
-    fields_form(alloc, class, &forms)?;
-    methods_form(alloc, class, &forms)
+    fields_form(alloc, class, &mut forms)?;
+    methods_form(alloc, class, &mut forms)
 }
 
 /// Whether the class file is well formed: the entries of its pool (JVMS 4.4), the class itself (4.1), its fields (4.5),

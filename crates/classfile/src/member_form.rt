@@ -1,9 +1,11 @@
 //! Which rule a field or a method breaks (JVMS 4.5, 4.6).
-ghost use Rattle.std.specs.Prelude.{◌≡◌, ◌||◌};
+ghost use Rattle.std.specs.Prelude.{◌≡◌, ◌||◌, Ok};
 ghost use Rattle.classfile.specs.Conditions.{broken_rule};
-ghost use Rattle.classfile.specs.MemberForm.{member_has_bad, member_has_other, field_conditions, may_name_method, is_bad_method_name, may_describe_method, is_badly_described, is_instance_initializer, is_class_initializer, is_badly_flagged, has_body, body_conditions, method_conditions};
-ghost use Rattle.classfile.specs.TextForms.{form_of, AreForms};
+ghost use Rattle.classfile.specs.MemberForm.{member_has_bad, member_has_other, field_conditions, may_name_method, is_bad_method_name, may_describe_method, is_badly_described, is_instance_initializer, is_badly_flagged, has_body, body_conditions, method_conditions};
+ghost use Rattle.classfile.specs.MemberTexts.{HasTexts, AreSoundTexts, named_method_conditions};
+ghost use Rattle.classfile.specs.TextForms.{name_form_of, descriptor_form_of, AreForms};
 ghost use Rattle.classfile.specs.Views.{member_view};
+ghost use Rattle.pool.specs.Lookups.{text_at};
 ghost use Rattle.pool.specs.Views.{name_and_type_view};
 
 use crate::attribute_form::{
@@ -19,7 +21,7 @@ use crate::location::Location;
 use crate::member::Member;
 use crate::naming::{is_clinit, is_init};
 use crate::once::numbers_stand_twice;
-use crate::text_forms::{TextForm, TextForms, fits_method};
+use crate::text_forms::{DescriptorForm, NameForm, TextForms, fits_method};
 use names::Text;
 use pool::{NameAndType, Pool};
 
@@ -40,15 +42,37 @@ fn member_has_fault(pool: &Pool<'_>, location: Location, member: &Member<'_>) ->
         || attributes_have_fault(pool, location, &member.attributes)
 }
 
+/// The name and the descriptor of a member, each looked up once, if none of its indices breaks a rule, 20 or 21.
+#[tactic(auto, unfolding(pool::specs::Lookups::text_at, crate::specs::Indices::is_bad, crate::specs::Indices::is_other, crate::specs::ConstantForm::texts_have_bad, crate::specs::ConstantForm::texts_have_other, crate::specs::MemberForm::member_has_bad, crate::specs::MemberForm::member_has_other))]
+fn sound_texts<'a>(
+    pool: &Pool<'a>,
+    location: Location,
+    member: &Member<'_>,
+) -> Option<NameAndType<'a>>
+    ensures { AreSoundTexts pool.now location (member_view member.now) result }
+{
+    let Ok(name) = pool.text(member.name) else {
+        return None;
+    };
+    let Ok(descriptor) = pool.text(member.descriptor) else {
+        return None;
+    };
+    if attributes_have_fault(pool, location, &member.attributes) {
+        return None;
+    }
+    Some(NameAndType { name, descriptor })
+}
+
 /// The rule that a field breaks; `repeated` where an earlier one has its name and descriptor.
 pub fn field_rule(
     pool: &Pool<'_>,
-    forms: &TextForms,
+    forms: &mut TextForms,
     repeated: bool,
     field: &Member<'_>,
 ) -> Option<FormRule>
     requires { AreForms pool.now forms.now }
-    ensures { result ≡ broken_rule (field_conditions pool.now repeated (member_view field.now)) }
+    ensures told { result ≡ broken_rule (field_conditions pool.now repeated (member_view field.now)) }
+    ensures kept { AreForms pool.now forms.new }
 {
     if member_has_fault(pool, Location::Field, field) {
         Some(index_rule(member_has_bad(pool, Location::Field, field)))
@@ -67,8 +91,8 @@ pub fn field_rule(
     }
 }
 
-fn may_name_method(interface: bool, name: Text<'_>, form: TextForm) -> bool
-    requires { form ≡ form_of name.bytes.now }
+fn may_name_method(interface: bool, name: Text<'_>, form: NameForm) -> bool
+    requires { form ≡ name_form_of name.bytes.now }
     ensures { result ≡ may_name_method interface name.entry.bytes.now }
 {
     if is_init(name) {
@@ -79,18 +103,23 @@ fn may_name_method(interface: bool, name: Text<'_>, form: TextForm) -> bool
 }
 
 #[tactic(auto, unfolding(crate::specs::MemberForm::is_bad_method_name))]
-fn is_bad_method_name(pool: &Pool<'_>, forms: &TextForms, interface: bool, index: u16) -> bool
-    requires { AreForms pool.now forms.now }
-    ensures { result ≡ is_bad_method_name pool.now interface index }
+fn is_bad_method_name(
+    pool: &Pool<'_>,
+    forms: &mut TextForms,
+    interface: bool,
+    index: u16,
+    name: Text<'_>,
+) -> bool
+    requires forms { AreForms pool.now forms.now }
+    requires name { text_at pool.now index ≡ Ok name.bytes.now }
+    ensures told { result ≡ is_bad_method_name pool.now interface index }
+    ensures kept { AreForms pool.now forms.new }
 {
-    match pool.text(index) {
-        Ok(name) => !may_name_method(interface, name, forms.of(pool, index, name)),
-        Err(_) => false,
-    }
+    !may_name_method(interface, name, forms.name(pool, index, name))
 }
 
-fn may_describe_method(receiver: bool, named: NameAndType<'_>, form: TextForm) -> bool
-    requires { form ≡ form_of named.descriptor.bytes.now }
+fn may_describe_method(receiver: bool, named: NameAndType<'_>, form: DescriptorForm) -> bool
+    requires { form ≡ descriptor_form_of named.descriptor.bytes.now }
     ensures { result ≡ may_describe_method receiver (name_and_type_view named.entry) }
 {
     if is_clinit(named.name) {
@@ -101,19 +130,20 @@ fn may_describe_method(receiver: bool, named: NameAndType<'_>, form: TextForm) -
 }
 
 #[tactic(auto, unfolding(crate::specs::MemberForm::is_badly_described, pool::specs::Lookups::named))]
-fn is_badly_described(pool: &Pool<'_>, forms: &TextForms, method: &Member<'_>) -> bool
-    requires { AreForms pool.now forms.now }
-    ensures { result ≡ is_badly_described pool.now (member_view method.now) }
+fn is_badly_described(
+    pool: &Pool<'_>,
+    forms: &mut TextForms,
+    method: &Member<'_>,
+    texts: NameAndType<'_>,
+) -> bool
+    requires forms { AreForms pool.now forms.now }
+    requires texts { HasTexts pool.now (member_view method.now) texts }
+    ensures told { result ≡ is_badly_described pool.now (member_view method.now) }
+    ensures kept { AreForms pool.now forms.new }
 {
-    let Ok(name) = pool.text(method.name) else {
-        return false;
-    };
-    let Ok(descriptor) = pool.text(method.descriptor) else {
-        return false;
-    };
     let receiver = !has(method.access_flags, STATIC);
-    let form = forms.of(pool, method.descriptor, descriptor);
-    !may_describe_method(receiver, NameAndType { name, descriptor }, form)
+    let form = forms.descriptor(pool, method.descriptor, texts.descriptor);
+    !may_describe_method(receiver, texts, form)
 }
 
 #[tactic(auto, unfolding(crate::specs::MemberForm::is_instance_initializer))]
@@ -127,66 +157,76 @@ pub fn is_instance_initializer(pool: &Pool<'_>, method: &Member<'_>) -> bool
     }
 }
 
-#[tactic(auto, unfolding(crate::specs::MemberForm::is_class_initializer))]
-fn is_class_initializer(pool: &Pool<'_>, method: &Member<'_>) -> bool
-    ensures { result ≡ is_class_initializer pool.now (member_view method.now) }
+#[tactic(auto, unfolding(crate::specs::MemberForm::is_badly_flagged, crate::specs::MemberForm::is_instance_initializer, crate::specs::MemberForm::is_class_initializer))]
+fn is_badly_flagged(_pool: &Pool<'_>, method: &Member<'_>, name: Text<'_>) -> bool
+    requires { text_at _pool.now method.now.name ≡ Ok name.bytes.now }
+    ensures { result ≡ is_badly_flagged _pool.now (member_view method.now) }
 {
-    match pool.text(method.name) {
-        Ok(name) => is_clinit(name),
-        Err(_) => false,
-    }
-}
-
-#[tactic(auto, unfolding(crate::specs::MemberForm::is_badly_flagged))]
-fn is_badly_flagged(pool: &Pool<'_>, method: &Member<'_>) -> bool
-    ensures { result ≡ is_badly_flagged pool.now (member_view method.now) }
-{
-    let init = is_instance_initializer(pool, method);
-    let clinit = is_class_initializer(pool, method);
-    are_bad_method_flags(init, clinit, method.access_flags)
+    are_bad_method_flags(is_init(name), is_clinit(name), method.access_flags)
 }
 
 /// Whether the method has a body, so that its Code has to stand there.
-#[tactic(auto, unfolding(crate::specs::MemberForm::has_body))]
-fn has_body(pool: &Pool<'_>, method: &Member<'_>) -> bool
-    ensures { result ≡ has_body pool.now (member_view method.now) }
+#[tactic(auto, unfolding(crate::specs::MemberForm::has_body, crate::specs::MemberForm::is_class_initializer))]
+fn has_body(_pool: &Pool<'_>, method: &Member<'_>, name: Text<'_>) -> bool
+    requires { text_at _pool.now method.now.name ≡ Ok name.bytes.now }
+    ensures { result ≡ has_body _pool.now (member_view method.now) }
 {
     let flags = method.access_flags;
-    is_class_initializer(pool, method) || !(has(flags, NATIVE) || has(flags, ABSTRACT))
+    is_clinit(name) || !(has(flags, NATIVE) || has(flags, ABSTRACT))
 }
 
 /// The rule that a method breaks in a class or in an interface; `repeated` where an earlier one has its name and
 /// descriptor.
 pub fn method_rule(
     pool: &Pool<'_>,
-    forms: &TextForms,
+    forms: &mut TextForms,
     interface: bool,
     repeated: bool,
     method: &Member<'_>,
 ) -> Option<FormRule>
     requires { AreForms pool.now forms.now }
-    ensures { result ≡ broken_rule (method_conditions pool.now interface repeated (member_view method.now)) }
+    ensures told { result ≡ broken_rule (method_conditions pool.now interface repeated (member_view method.now)) }
+    ensures kept { AreForms pool.now forms.new }
 {
-    if member_has_fault(pool, Location::Method, method) {
-        Some(index_rule(member_has_bad(pool, Location::Method, method)))
-    } else if is_bad_method_name(pool, forms, interface, method.name) {
+    match sound_texts(pool, Location::Method, method) {
+        Some(texts) => named_method_rule(pool, forms, interface, repeated, method, texts),
+        None => Some(index_rule(member_has_bad(pool, Location::Method, method))),
+    }
+}
+
+/// The rule that a method of this name and this descriptor breaks by another thing than an index.
+fn named_method_rule(
+    pool: &Pool<'_>,
+    forms: &mut TextForms,
+    interface: bool,
+    repeated: bool,
+    method: &Member<'_>,
+    texts: NameAndType<'_>,
+) -> Option<FormRule>
+    requires forms { AreForms pool.now forms.now }
+    requires texts { HasTexts pool.now (member_view method.now) texts }
+    ensures told { result ≡ broken_rule (named_method_conditions pool.now interface repeated (member_view method.now)) }
+    ensures kept { AreForms pool.now forms.new }
+{
+    if is_bad_method_name(pool, forms, interface, method.name, texts.name) {
         Some(FormRule::BadName)
-    } else if is_badly_described(pool, forms, method) {
+    } else if is_badly_described(pool, forms, method, texts) {
         Some(FormRule::BadDescriptor)
-    } else if is_badly_flagged(pool, method) {
+    } else if is_badly_flagged(pool, method, texts.name) {
         Some(FormRule::BadFlags)
     } else if repeated {
         Some(FormRule::Twice)
     } else {
-        body_rule(pool, method)
+        body_rule(pool, method, texts.name)
     }
 }
 
-/// The rule that a method breaks by its attributes.
-fn body_rule(pool: &Pool<'_>, method: &Member<'_>) -> Option<FormRule>
+/// The rule that a method of this name breaks by its attributes.
+fn body_rule(pool: &Pool<'_>, method: &Member<'_>, name: Text<'_>) -> Option<FormRule>
+    requires { text_at pool.now method.now.name ≡ Ok name.bytes.now }
     ensures { result ≡ broken_rule (body_conditions pool.now (member_view method.now)) }
 {
-    let has_body = has_body(pool, method);
+    let has_body = has_body(pool, method, name);
     let has_code = has_code(&method.attributes);
     if has_body && !has_code {
         Some(FormRule::CodeMissing)

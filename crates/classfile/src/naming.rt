@@ -2,7 +2,7 @@
 ghost use Rattle.std.specs.Prelude.{◌≡◌};
 ghost use Rattle.classfile.specs.Naming.{begins_with, is_array_name, is_class_name, is_unqualified_name, is_method_name, is_init, is_clinit, is_field_descriptor};
 
-use names::{INIT, NameForms, Text, field_type};
+use names::{NameForms, Text, field_type};
 
 /// Whether the text begins with the byte.
 pub fn begins_with(text: Text<'_>, byte: u8) -> bool
@@ -34,14 +34,27 @@ pub fn name_forms(text: Text<'_>) -> NameForms
 pub fn is_init(text: Text<'_>) -> bool
     ensures { result ≡ is_init text.entry.bytes.now }
 {
-    begins_with(text, b'<') && text.bytes() == INIT
+    let [a, b, c, d, e, f] = text.bytes() else {
+        return false;
+    };
+    (*a == b'<') & (*b == b'i') & (*c == b'n') & (*d == b'i') & (*e == b't') & (*f == b'>')
 }
 
 /// Whether the text is the name of class initialization methods (JVMS 2.9.2).
 pub fn is_clinit(text: Text<'_>) -> bool
     ensures { result ≡ is_clinit text.entry.bytes.now }
 {
-    begins_with(text, b'<') && text.bytes() == b"<clinit>".as_slice()
+    let [a, b, c, d, e, f, g, h] = text.bytes() else {
+        return false;
+    };
+    (*a == b'<')
+        & (*b == b'c')
+        & (*c == b'l')
+        & (*d == b'i')
+        & (*e == b'n')
+        & (*f == b'i')
+        & (*g == b't')
+        & (*h == b'>')
 }
 
 /// Whether the text is the descriptor of a field.

@@ -1,13 +1,17 @@
 //! The faults that the numbers in an attribute's body may have (JVMS 4.7): the indices among them, column by column.
-ghost use Rattle.std.specs.Prelude.{◌≡◌, ◌||◌, if◌then◌else◌, Some, None, option_map};
+ghost use Rattle.std.specs.Prelude.{◌≡◌, ◌||◌, if◌then◌else◌, true, Some, None, map, option_map};
+ghost use Rattle.classfile.specs.declared.indices.ConstantKind.TheVariants as kinds;
+ghost use Rattle.classfile.specs.Indices.{is_bad, is_other};
+ghost use Rattle.classfile.specs.Layouts.{row_in, rows, major_at};
 ghost use Rattle.classfile.specs.LayoutViews.{row_view};
 ghost use Rattle.classfile.specs.declared.number_form.IndexRule.TheVariants as rules;
-ghost use Rattle.classfile.specs.NumberForm.{is_bad_in, is_other_in, breaks, row_breaks, behind_row, rows_break, counted_break, is_plain, are_plain, body_breaks, numbers_break};
+ghost use Rattle.classfile.specs.IndexRows.{is_text, variable, is_index_row, index_row_in};
+ghost use Rattle.classfile.specs.NumberForm.{is_bad_in, is_other_in, breaks, row_breaks, behind_row, rows_break, counted_break, is_plain, are_plain, body_breaks, body_breaks_if, numbers_break};
 
 use crate::indices::{
     ConstantKind, is_bad, is_bad_unless_zero, is_other, lacks, lacks_unless_zero,
 };
-use crate::layouts::{Column, Row, row_at};
+use crate::layouts::{Column, Row, is_row, major_at, row_at, rows};
 use crate::location::Location;
 use pool::Pool;
 
@@ -185,9 +189,103 @@ pub fn numbers_break(
     }
 }
 
-/// Whether an index in the body of an attribute of this name breaks one of the two rules; each is looked up once.
-pub fn numbers_have_fault(pool: &Pool<'_>, location: Location, name: u16, body: &[u8]) -> bool
-    ensures { result ≡ (numbers_break pool.now location rules.BadIndex name body.now || numbers_break pool.now location rules.WrongKind name body.now) }
+/// The row of this name, if its attributes have indices. Rows that have none, as that of line numbers, are not compared with the name.
+fn index_row_in(rows: &'static [Row], major: u16, name: &[u8]) -> Option<&'static Row>
+    ensures { option_map (λ r. row_view r.now) result ≡ index_row_in major name.now (map row_view rows.now) }
 {
-    numbers_break(pool, location, IndexRule::Both, name, body)
+    for row in rows {
+        if is_index_row(row, major, name) {
+            return Some(row);
+        }
+    }
+    None
+}
+
+/// Whether the row is that of this name, and its attributes have indices.
+fn is_index_row(row: &Row, major: u16, name: &[u8]) -> bool
+    ensures { result ≡ is_index_row major name.now (row_view row.now) }
+{
+    row.name.len() == name.len() && !are_plain(row.columns) && is_row(row, major, name)
+}
+
+/// Whether the columns are those of a LocalVariableTable (JVMS 4.7.13): of five numbers the third and the fourth are indices of texts.
+fn are_variables(columns: &[Column]) -> bool
+    ensures { result ≡ true → columns.now ≡ variable }
+{
+    let [start, length, name, descriptor, index] = columns else {
+        return false;
+    };
+    is_plain(*start) & is_plain(*length) & is_text(*name) & is_text(*descriptor) & is_plain(*index)
+}
+
+fn is_text(column: Column) -> bool
+    ensures { result ≡ is_text column }
+{
+    matches!(column, Column::Text)
+}
+
+/// The bytes behind a local variable, if neither its name nor its descriptor breaks one of the two rules. Of all rows these are
+/// the most, so their other numbers are not looked at one by one.
+fn sound_variable<'b>(pool: &Pool<'_>, columns: &[Column], bytes: &'b [u8]) -> Option<&'b [u8]>
+    requires { columns.now ≡ variable }
+    ensures { option_map (λ b. b.now) result ≡ (if row_breaks (breaks pool.now rules.Both) columns.now bytes.entry.now then None else Some (behind_row columns.now bytes.entry.now)) }
+{
+    let [_, _, _, _, a, b, c, d, _, _, behind @ ..] = bytes else {
+        return sound_row(pool, IndexRule::Both, columns, bytes);
+    };
+    let name = u16::from(*a) * 256 + u16::from(*b);
+    let descriptor = u16::from(*c) * 256 + u16::from(*d);
+    if lacks(pool, ConstantKind::Utf8, name) || lacks(pool, ConstantKind::Utf8, descriptor) {
+        return None;
+    }
+    Some(behind)
+}
+
+/// Whether a name or a descriptor of so many local variables breaks one of the two rules.
+fn variables_break(pool: &Pool<'_>, columns: &[Column], count: u16, bytes: &[u8]) -> bool
+    requires { columns.now ≡ variable }
+    ensures { result ≡ rows_break (breaks pool.now rules.Both) columns.now count bytes.now }
+{
+    let mut rest = bytes;
+    for _ in 0..count {
+        let Some(behind) = sound_variable(pool, columns, rest) else {
+            return true;
+        };
+        rest = behind;
+    }
+    false
+}
+
+/// Whether a number in a row, or in a count's rows, breaks one of the two rules.
+fn indices_have_fault(pool: &Pool<'_>, row: &Row, body: &[u8]) -> bool
+    ensures { result ≡ body_breaks (breaks pool.now rules.Both) (row_view row.now) body.now }
+{
+    if !row.counted || !are_variables(row.columns) {
+        return body_breaks(pool, IndexRule::Both, row, body);
+    }
+    let [high, low, bytes @ ..] = body else {
+        return false;
+    };
+    let count = u16::from(*high) * 256 + u16::from(*low);
+    variables_break(pool, row.columns, count, bytes)
+}
+
+/// Whether an index in the body of an attribute of this name breaks one of the two rules; each is looked up once.
+fn numbers_have_fault(pool: &Pool<'_>, location: Location, name: &[u8], body: &[u8]) -> bool
+    ensures { result ≡ body_breaks_if (breaks pool.now rules.Both) (row_in (major_at location) name.now (rows location)) body.now }
+{
+    match index_row_in(rows(location), major_at(location), name) {
+        Some(row) => indices_have_fault(pool, row, body),
+        None => false,
+    }
+}
+
+/// Whether the index of an attribute's name breaks one of the two rules, or an index in its body does; each is looked up once.
+pub fn head_has_fault(pool: &Pool<'_>, location: Location, name: u16, body: &[u8]) -> bool
+    ensures { result ≡ ((is_bad pool.now name || numbers_break pool.now location rules.BadIndex name body.now) || (is_other pool.now kinds.Utf8 name || numbers_break pool.now location rules.WrongKind name body.now)) }
+{
+    match pool.text(name) {
+        Ok(text) => numbers_have_fault(pool, location, text.bytes(), body),
+        Err(_) => true,
+    }
 }

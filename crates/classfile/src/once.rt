@@ -2,6 +2,7 @@
 ghost use Rattle.std.specs.Prelude.{◌≡◌, map};
 ghost use Rattle.layout.specs.PieceLaws.{Either};
 ghost use Rattle.classfile.specs.LayoutViews.{row_view};
+ghost use Rattle.classfile.specs.IndexRows.{is_kept, two_are_kept};
 ghost use Rattle.classfile.specs.NumberForm.{is_row_named, is_of_row, row_stands_twice, numbers_stand_twice};
 
 use crate::attribute::Attribute;
@@ -17,6 +18,10 @@ pub trait Tabled {
 
     // An attribute without where its slices lie in memory.
     ghost attribute: { Self → Either Held };
+
+    /// Whether the body of the attribute is kept as it is.
+    fn is_kept(&self) -> bool
+        ensures { result ≡ is_kept (attribute self.now) };
 
     /// Whether the attribute is that of the row.
     fn is_of_row(&self, pool: &Pool<'_>, location: Location, row: &Row) -> bool
@@ -41,6 +46,10 @@ impl<'a> Tabled for Attribute<'a> {
 
     ghost attribute = { attribute_view };
 
+    fn is_kept(&self) -> bool {
+        matches!(self, Attribute::Raw { .. })
+    }
+
     #[tactic(auto, unfolding(crate::specs::NumberForm::is_of_row))]
     fn is_of_row(&self, pool: &Pool<'_>, location: Location, row: &Row) -> bool {
         match self {
@@ -58,6 +67,10 @@ impl<'a> Tabled for ClassAttribute<'a> {
     ghost Held = { List Component };
 
     ghost attribute = { class_attribute_view };
+
+    fn is_kept(&self) -> bool {
+        matches!(self, ClassAttribute::Raw { .. })
+    }
 
     #[tactic(auto, unfolding(crate::specs::NumberForm::is_of_row))]
     fn is_of_row(&self, pool: &Pool<'_>, location: Location, row: &Row) -> bool {
@@ -94,10 +107,18 @@ fn one_stands_twice<A: Tabled>(pool: &Pool<'_>, location: Location, attributes: 
         .any(|row| row_stands_twice(pool, location, attributes, row))
 }
 
-/// Whether two attributes of numbers are among them of which there may be one. Most tables have one attribute at most.
+/// Whether the bodies of two attributes are kept as they are.
+fn two_are_kept<A: Tabled>(attributes: &[A]) -> bool
+    ensures { result ≡ two_are_kept (map A.attribute attributes.now) }
+{
+    attributes.len() > 1 && attributes.iter().filter(|a| a.is_kept()).count() > 1
+}
+
+/// Whether two attributes of numbers are among them of which there may be one. Most tables have one attribute at most, or one beside
+/// the Code.
 #[tactic(auto, unfolding(crate::specs::NumberForm::numbers_stand_twice))]
 pub fn numbers_stand_twice<A: Tabled>(pool: &Pool<'_>, location: Location, attributes: &[A]) -> bool
     ensures { result ≡ numbers_stand_twice pool.now location (map A.attribute attributes.now) }
 {
-    attributes.len() > 1 && one_stands_twice(pool, location, attributes)
+    two_are_kept(attributes) && one_stands_twice(pool, location, attributes)
 }

@@ -10,7 +10,7 @@ use crate::component::Component;
 use crate::constant_form::{texts_have_bad, texts_have_fault};
 use crate::indices::{ConstantKind, is_bad, lacks};
 use crate::location::Location;
-use crate::number_form::{IndexRule, numbers_break, numbers_have_fault};
+use crate::number_form::{IndexRule, head_has_fault, numbers_break};
 use crate::once::numbers_stand_twice;
 use pool::Pool;
 
@@ -89,10 +89,7 @@ fn class_attribute_has_fault(
         ClassAttribute::Record { name, components } => {
             lacks(pool, ConstantKind::Utf8, *name) || components_have_fault(pool, components)
         }
-        ClassAttribute::Raw { name, body } => {
-            lacks(pool, ConstantKind::Utf8, *name)
-                || numbers_have_fault(pool, location, *name, body)
-        }
+        ClassAttribute::Raw { name, body } => { head_has_fault(pool, location, *name, body) }
     }
 }
 

@@ -29,17 +29,18 @@ impl<'a> TextNumbers<'a> {
         })
     }
 
-    /// The number of a text that stands at this index, which is looked for by its bytes.
+    /// The number of a text that stands at this index, which is looked for by its bytes. Most have none yet, so its index is put to
+    /// them at once.
     fn find(&mut self, _pool: &Pool<'_>, index: u16, text: Text<'a>) -> Result<u16, AllocError>
         requires kept { AreNumbers _pool.now self.now }
         requires text { text_at _pool.now index ≡ Ok text.bytes.now }
         ensures { IfOk result (Numbers _pool.now self.old self.new text.entry.bytes.now) }
     {
-        if let Some(number) = self.numbers.get(text.bytes()) {
-            return Ok(*number);
-        }
-        self.numbers.insert(text.bytes(), index)?;
-        Ok(index)
+        let Some(number) = self.numbers.insert(text.bytes(), index)? else {
+            return Ok(index);
+        };
+        self.numbers.insert(text.bytes(), number)?;
+        Ok(number)
     }
 
     /// The number of the text at this index.

@@ -1,6 +1,7 @@
 pub mod AnswerLaws
 pub mod ClassNameLaws
 pub mod FieldReader
+pub mod Lanes
 pub mod MethodReader
 pub mod NamesOfUnits
 pub mod Readers

@@ -1,15 +1,14 @@
 -- The forms of names of a text, found byte by byte.
-use Rattle.std.proofs.Common.{◌≡◌, ℕ, ◌+◌, ◌<◌, Bool, true, false, not, eqb, ◌&&◌, ◌||◌, List, ◌∷◌, length, get_or, drop, refl, sym, ap, subst, ◌∙◌, arith, ne_eqb}
-use Rattle.std.specs.Char.{is_ascii_alphabetic}
+use Rattle.std.proofs.Common.{◌≡◌, ℕ, ◌+◌, ◌<◌, Bool, true, false, not, eqb, ◌&&◌, ◌||◌, List, ◌∷◌, length, get_or, drop, refl, sym, ap, subst, ◌∙◌, arith, ne_eqb, ◌≤◌, eqb-true, eq-eqb}
 use Rattle.std.specs.List.{list_all}
 use Rattle.std.proofs.lemmas.List.Folds.{list_all_at}
 use Rattle.std.proofs.lemmas.List.{drop_more, drop_all}
 use Rattle.std.proofs.lemmas.List.Sums.{AllPass-from_list_all, list_all-from_AllPass}
-use Rattle.std.proofs.lemmas.Bool.{and_parts, and_from, false≢true, or_parts, or_left, or_from, eqb-false}
-use Rattle.names.specs.Names.{dot, slash, semicolon, bracket, less_than, greater_than, is_name_unit, is_angle, IsUnqualifiedName, IsMethodName}
+use Rattle.std.proofs.lemmas.Bool.{and_parts, and_from, false≢true, or_parts, eqb-false}
+use Rattle.names.specs.Names.{dot, slash, semicolon, bracket, is_name_unit, is_angle, IsUnqualifiedName, IsMethodName}
 use Rattle.names.specs.Reading.{goes_on, ends_class_name}
 use Rattle.names.specs.Forms.{AreNameForms}
-use Rattle.names.proofs.Scan.{scan_ends, class_to_the_end, no_class_there}
+use Rattle.names.proofs.Scan.{IsPlain, plain_goes_on, not_first, unit_no_slash, on_by_unit, on_by_slash, scan_ends, class_to_the_end, no_class_there}
 
 abbrev pub is_no_angle : ℕ → Bool
 is_no_angle u = not (is_angle u)
@@ -71,10 +70,7 @@ one_byte_more bytes at fresh has_slash has_angle lt on s =
     later : (n : ℕ) → false ≡ eqb (n + 1) 0
     later n = sym (ne_eqb (n + 1) 0 (λ h. omega (arith, h)))
 
--- ---- a letter more
-
-no_letter : (b : ℕ) → is_ascii_alphabetic b ≡ true → (other : ℕ) → is_ascii_alphabetic other ≡ false → eqb b other ≡ false
-no_letter b letter other differs = ne_eqb b other (λ e. false≢true (sym differs ∙ ap is_ascii_alphabetic (sym e) ∙ letter))
+-- ---- a plain byte more
 
 with_flags : (bytes : List ℕ) (at : ℕ) (f g s t a c : Bool) → f ≡ g → s ≡ t → a ≡ c → Scanning bytes at f s a → Scanning bytes at g t c
 with_flags bytes at f g s t a c fresh has_slash has_angle h =
@@ -84,27 +80,55 @@ or_nothing : (a b : Bool) → b ≡ false → (a || b) ≡ a
 or_nothing true b h = refl
 or_nothing false b h = h
 
-pub letter_more : (bytes : List ℕ) (at : ℕ) (fresh has_slash has_angle : Bool) → at < length bytes → is_ascii_alphabetic (get_or bytes at 0) ≡ true
+pub plain_more : (bytes : List ℕ) (at : ℕ) (fresh has_slash has_angle : Bool) → at < length bytes → IsPlain (get_or bytes at 0)
     → Scanning bytes at fresh has_slash has_angle → Scanning bytes (at + 1) false has_slash has_angle
-letter_more bytes at fresh has_slash has_angle lt letter s =
-    with_flags bytes (at + 1) _ _ _ _ _ _ no_slash (or_nothing has_slash _ no_slash) (or_nothing has_angle _ no_angle)
-    (one_byte_more bytes at fresh has_slash has_angle lt (or_left (is_name_unit (get_or bytes at 0)) (not fresh && eqb (get_or bytes at 0) slash) unit) s)
+plain_more bytes at fresh has_slash has_angle lt plain s =
+    with_flags bytes (at + 1) _ _ _ _ _ _ plain.no_slash (or_nothing has_slash _ plain.no_slash) (or_nothing has_angle _ plain.no_angle)
+    (one_byte_more bytes at fresh has_slash has_angle lt (plain_goes_on fresh (get_or bytes at 0) plain) s)
+
+-- ---- a byte more in a name that begins at `start`
+
+pub record InName (bytes : List ℕ) (at start : ℕ) (has_angle : Bool) : Type 0 where
+  pub behind : start ≤ at
+  pub scanning : Scanning bytes at (eqb at start) (not (eqb start 0)) has_angle
+
+pub in_name_first : (bytes : List ℕ) → InName bytes 0 0 false
+in_name_first bytes = record { behind = omega arith; scanning = at_first bytes }
+
+pub plain_in_name : (bytes : List ℕ) (at start : ℕ) (has_angle : Bool) → at < length bytes → IsPlain (get_or bytes at 0) → InName bytes at start has_angle → InName bytes (at + 1) start has_angle
+plain_in_name bytes at start has_angle lt plain n =
+    record {
+      behind = let b = n.behind in omega (arith, b);
+      scanning = with_flags bytes (at + 1) _ _ _ _ _ _ (sym (not_first at start n.behind)) refl refl (plain_more bytes at (eqb at start) (not (eqb start 0)) has_angle lt plain n.scanning);
+    }
+
+pub slash_in_name : (bytes : List ℕ) (at start : ℕ) (has_angle : Bool) → at < length bytes → eqb (get_or bytes at 0) slash ≡ true → eqb at start ≡ false → InName bytes at start has_angle
+    → InName bytes (at + 1) (at + 1) has_angle
+slash_in_name bytes at start has_angle lt is later n =
+    record {
+      behind = omega arith;
+      scanning =
+          with_flags bytes (at + 1) _ _ _ _ _ _ (is ∙ sym (eq-eqb (at + 1) (at + 1) refl)) (has_one (not (eqb start 0)) _ _ is (not_first at 0 (omega arith))) (or_nothing has_angle _ no_angle)
+          (one_byte_more bytes at (eqb at start) (not (eqb start 0)) has_angle lt (on_by_slash (eqb at start) (get_or bytes at 0) later is) n.scanning);
+    }
   where
-    no_slash : eqb (get_or bytes at 0) slash ≡ false
-    no_slash = no_letter (get_or bytes at 0) letter slash refl
+    has_one : (before here zero : Bool) → here ≡ true → zero ≡ false → (before || here) ≡ not zero
+    has_one true here zero h z = ap not (sym z)
+    has_one false here zero h z = h ∙ ap not (sym z)
 
     no_angle : is_angle (get_or bytes at 0) ≡ false
-    no_angle = or_from _ _ (no_letter (get_or bytes at 0) letter less_than refl) (no_letter (get_or bytes at 0) letter greater_than refl)
+    no_angle = ap is_angle (eqb-true (get_or bytes at 0) slash is)
 
-    unit : is_name_unit (get_or bytes at 0) ≡ true
-    unit = by_tests _ _ _ _ (no_letter (get_or bytes at 0) letter dot refl) (no_letter (get_or bytes at 0) letter semicolon refl) (no_letter (get_or bytes at 0) letter bracket refl) no_slash
-      where
-        by_tests : (d s k l : Bool) → d ≡ false → s ≡ false → k ≡ false → l ≡ false → not (d || s || k || l) ≡ true
-        by_tests false false false false d s k l = refl
-        by_tests true s k l h i j m = absurd (false≢true (sym h))
-        by_tests false true k l h i j m = absurd (false≢true (sym i))
-        by_tests false false true l h i j m = absurd (false≢true (sym j))
-        by_tests false false false true h i j m = absurd (false≢true (sym m))
+pub unit_in_name : (bytes : List ℕ) (at start : ℕ) (has_angle : Bool) → at < length bytes → is_name_unit (get_or bytes at 0) ≡ true → InName bytes at start has_angle
+    → InName bytes (at + 1) start (has_angle || is_angle (get_or bytes at 0))
+unit_in_name bytes at start has_angle lt unit n =
+    let no_slash = unit_no_slash (get_or bytes at 0) unit in
+    record {
+      behind = let b = n.behind in omega (arith, b);
+      scanning =
+          with_flags bytes (at + 1) _ _ _ _ _ _ (no_slash ∙ sym (not_first at start n.behind)) (or_nothing (not (eqb start 0)) _ no_slash) refl
+          (one_byte_more bytes at (eqb at start) (not (eqb start 0)) has_angle lt (on_by_unit (eqb at start) (get_or bytes at 0) unit) n.scanning);
+    }
 
 -- ---- the end
 
@@ -174,3 +198,13 @@ stopped bytes at fresh has_slash has_angle lt off s =
     no_name n =
         let no_unit = (or_parts (is_name_unit (get_or bytes at 0)) (not fresh && eqb (get_or bytes at 0) slash) off).0 in
         false≢true (sym (list_all_at is_name_unit bytes at 0 lt no_unit) ∙ list_all-from_AllPass is_name_unit bytes n.each)
+
+not_not : (b : Bool) → not (not b) ≡ b
+not_not true = refl
+not_not false = refl
+
+pub in_name_at_the_end : (bytes : List ℕ) (at start : ℕ) (has_angle : Bool) → at ≡ length bytes → InName bytes at start has_angle
+    → AreNameForms bytes (record { class_name = not (eqb at start); unqualified_name = not (eqb at start) && eqb start 0; method_name = (not (eqb at start) && eqb start 0) && not has_angle })
+in_name_at_the_end bytes at start has_angle all n =
+    subst (λ x. AreNameForms bytes (record { class_name = not (eqb at start); unqualified_name = not (eqb at start) && x; method_name = (not (eqb at start) && x) && not has_angle })) (not_not (eqb start 0))
+    (at_the_end bytes at (eqb at start) (not (eqb start 0)) has_angle all n.scanning)

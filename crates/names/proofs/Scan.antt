@@ -1,9 +1,10 @@
 -- A class name's front, found byte by byte.
-use Rattle.std.proofs.Common.{◌≡◌, ℕ, ◌+◌, ◌<◌, Bool, true, false, not, eqb, ◌&&◌, List, [], ◌∷◌, ◌++◌, length, get_or, take, drop, refl, sym, ap, ◌∙◌, append_assoc, arith}
+use Rattle.std.proofs.Common.{◌≡◌, ℕ, zero, suc, ◌-◌, ◌+◌, ◌<◌, Bool, true, false, not, eqb, ◌&&◌, List, [], ◌∷◌, ◌++◌, length, get_or, take, drop, refl, sym, ap, ◌∙◌, append_assoc, arith, subst, eqb-true, eq-eqb, ne_eqb, ◌⊎◌, inl, inr, ◌≤◌}
 use Rattle.std.specs.Prelude.{◌↔◌}
 use Rattle.std.proofs.lemmas.List.{drop_more, take_more, drop_all, append-nil, nil_from_length}
-use Rattle.std.proofs.lemmas.Bool.{and_left, false≢true}
-use Rattle.names.specs.Names.{slash, semicolon, IsClassName}
+use Rattle.std.proofs.lemmas.Bool.{and_parts, and_left, and_right, or_left, or_right, or_from, false≢true}
+use Rattle.names.specs.Names.{slash, semicolon, is_name_unit, is_angle, IsClassName}
+use Rattle.names.specs.Forms.{is_plain, ArePlainBetween, IsPlainUpTo}
 use Rattle.names.specs.Reading.{Reading, found, outside, mapped, goes_on, ends_class_name, read_class}
 use Rattle.names.proofs.ClassNameLaws.{class_name_ends, class_name_from_ends}
 use Rattle.names.proofs.FieldReader.{class_on, class_end, class_outside, class_nothing, wants_no_more}
@@ -36,6 +37,85 @@ scan_reads bytes at fresh lt on so_far =
     ∙ ap (λ (x : List ℕ). mapped (λ name. take at bytes ++ name) (read_class fresh x)) (drop_more bytes at 0 lt)
     ∙ ap (mapped (λ name. take at bytes ++ name)) (class_on fresh (get_or bytes at 0) (drop (at + 1) bytes) on)
     ∙ joined (take at bytes) (take (at + 1) bytes) (get_or bytes at 0) (read_class (eqb (get_or bytes at 0) slash) (drop (at + 1) bytes)) (take_more bytes at 0 lt)
+
+-- ---- a plain byte
+
+pub record IsPlain (b : ℕ) : Type 0 where
+  pub unit : is_name_unit b ≡ true
+  pub no_slash : eqb b slash ≡ false
+  pub no_angle : is_angle b ≡ false
+
+pub unit_no_slash : (b : ℕ) → is_name_unit b ≡ true → eqb b slash ≡ false
+unit_no_slash b unit = by_test (eqb b slash) refl
+  where
+    by_test : (t : Bool) → eqb b slash ≡ t → t ≡ false
+    by_test false h = refl
+    by_test true h = absurd (false≢true (subst (λ x. is_name_unit x ≡ true) (eqb-true b slash h) unit))
+
+not_true : (b : Bool) → not b ≡ true → b ≡ false
+not_true true h = absurd (false≢true h)
+not_true false h = refl
+
+pub plain_so : (b : ℕ) → is_plain b ≡ true → IsPlain b
+plain_so b h =
+    let p = and_parts (is_name_unit b) (not (is_angle b)) h in
+    record { unit = p.0; no_slash = unit_no_slash b p.0; no_angle = not_true (is_angle b) p.1 }
+
+pub plain_goes_on : (fresh : Bool) (b : ℕ) → IsPlain b → goes_on fresh b ≡ true
+plain_goes_on fresh b plain = or_left (is_name_unit b) (not fresh && eqb b slash) plain.unit
+
+-- ---- a byte behind the begin of the unqualified name that is read
+
+pub not_first : (at start : ℕ) → start ≤ at → eqb (at + 1) start ≡ false
+not_first at start behind = ne_eqb (at + 1) start (λ e. omega (arith, e, behind))
+
+pub on_by_unit : (fresh : Bool) (b : ℕ) → is_name_unit b ≡ true → goes_on fresh b ≡ true
+on_by_unit fresh b unit = or_left (is_name_unit b) (not fresh && eqb b slash) unit
+
+pub on_by_slash : (fresh : Bool) (b : ℕ) → fresh ≡ false → eqb b slash ≡ true → goes_on fresh b ≡ true
+on_by_slash fresh b later is = or_right (is_name_unit b) (not fresh && eqb b slash) (rw (later, is) refl)
+
+pub off_there : (fresh : Bool) (b : ℕ) → is_name_unit b ≡ false → (not fresh && eqb b slash) ≡ false → goes_on fresh b ≡ false
+off_there fresh b no_unit no_slash = or_from (is_name_unit b) (not fresh && eqb b slash) no_unit no_slash
+
+pub no_slash_on : (at start b : ℕ) → ((b ≡ slash) × (at ≡ start)) ⊎ (b ≡ slash → ⊥) → (not (eqb at start) && eqb b slash) ≡ false
+no_slash_on at start b (inl both) = ap (λ (t : Bool). not t && eqb b slash) (eq-eqb at start both.1)
+no_slash_on at start b (inr other) = and_right (not (eqb at start)) (eqb b slash) (ne_eqb b slash other)
+
+-- the bytes up to a place begin a class name
+pub record Front (bytes : List ℕ) (at : ℕ) (fresh : Bool) : Type 0 where
+  pub ends : ends_class_name true bytes ≡ ends_class_name fresh (drop at bytes)
+  pub reads : read_class true bytes ≡ mapped (λ name. take at bytes ++ name) (read_class fresh (drop at bytes))
+
+pub front_more : (bytes : List ℕ) (at : ℕ) (fresh next : Bool) → at < length bytes → goes_on fresh (get_or bytes at 0) ≡ true → eqb (get_or bytes at 0) slash ≡ next
+    → Front bytes at fresh → Front bytes (at + 1) next
+front_more bytes at fresh next lt on is so_far =
+    record {
+      ends = scan_ends bytes at fresh lt on so_far.ends ∙ ap (λ (f : Bool). ends_class_name f (drop (at + 1) bytes)) is;
+      reads =
+          scan_reads bytes at fresh lt on so_far.reads
+          ∙ ap (λ (f : Bool). mapped (λ name. take (at + 1) bytes ++ name) (read_class f (drop (at + 1) bytes))) is;
+    }
+
+front_run : (n : ℕ) (bytes : List ℕ) (at start : ℕ) → start ≤ at → at + n ≤ length bytes → ArePlainBetween bytes at (at + n) → Front bytes at (eqb at start) → Front bytes (at + n) (eqb (at + n) start)
+front_run zero bytes at start behind within plain so_far =
+    let here : at ≡ at + 0 = omega arith in
+    subst (λ e. Front bytes e (eqb e start)) here so_far
+front_run (suc n) bytes at start behind within plain so_far =
+    let there : (at + n) + 1 ≡ at + suc n = omega arith in
+    let is = plain_so (get_or bytes (at + n) 0) (plain (at + n) (omega arith) (omega arith)) in
+    subst (λ e. Front bytes e (eqb e start)) there
+    (front_more bytes (at + n) (eqb (at + n) start) (eqb ((at + n) + 1) start) (omega (arith, within)) (plain_goes_on (eqb (at + n) start) (get_or bytes (at + n) 0) is)
+    (is.no_slash ∙ sym (not_first (at + n) start (omega (arith, behind))))
+    (front_run n bytes at start behind (omega (arith, within)) (λ k from to. plain k from (omega (arith, to))) so_far))
+
+pub front_up_to : (bytes : List ℕ) (at end start : ℕ) → start ≤ at → IsPlainUpTo bytes at end → Front bytes at (eqb at start) → Front bytes end (eqb end start)
+front_up_to bytes at end start behind run so_far =
+    let ordered = run.ordered in
+    let within = run.within in
+    let there : at + (end - at) ≡ end = omega (arith, ordered) in
+    subst (λ e. Front bytes e (eqb e start)) there
+    (front_run (end - at) bytes at start behind (omega (arith, ordered, within)) (λ k from to. run.plain k from (omega (arith, to, ordered))) so_far)
 
 -- all bytes go on as a class name
 pub class_to_the_end : (bytes : List ℕ) (front : ℕ) (fresh : Bool) → front ≡ length bytes → ends_class_name true bytes ≡ ends_class_name fresh (drop front bytes) → (not fresh ≡ true) ↔ IsClassName bytes

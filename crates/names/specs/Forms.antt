@@ -1,9 +1,31 @@
 -- Of which forms of names a text is (JVMS 4.2). Words of the code's own steps.
-use Rattle.std.specs.Prelude.{◌↔◌, ℕ, IsTrue, List}
-use Rattle.names.specs.Names.{IsUnqualifiedName, IsMethodName, IsClassName}
+use Rattle.std.specs.Prelude.{◌≡◌, ◌↔◌, ◌≤◌, ◌<◌, ◌+◌, ℕ, Bool, true, not, ◌&&◌, nat_eq, if◌then◌else◌, IsTrue, List, length, slice_index}
+use Rattle.std.specs.Int.{w64, trailing_zeros}
+use Rattle.names.specs.Names.{is_name_unit, is_angle, IsUnqualifiedName, IsMethodName, IsClassName}
 use Rattle.names.specs.declared.forms.NameForms.{NameForms}
 
 pub record AreNameForms (bytes : List ℕ) (f : NameForms) : Type 0 where
   pub class : IsTrue f.class_name ↔ IsClassName bytes
   pub unqualified : IsTrue f.unqualified_name ↔ IsUnqualifiedName bytes
   pub method : IsTrue f.method_name ↔ IsMethodName bytes
+
+-- a byte with which each name goes on, whatever stands before it
+abbrev pub is_plain : ℕ → Bool
+is_plain b = is_name_unit b && not (is_angle b)
+
+-- the bytes from one place up to another are plain
+abbrev pub ArePlainBetween : List ℕ → ℕ → ℕ → Type 0
+ArePlainBetween bytes at end = (k : ℕ) → at ≤ k → k < end → is_plain (slice_index bytes k) ≡ true
+
+-- the first bytes, so many, of n from a place on are plain
+abbrev pub ArePlainIn : List ℕ → ℕ → ℕ → ℕ → Type 0
+ArePlainIn bytes at n count = (count ≤ n) × ArePlainBetween bytes at (at + count)
+
+pub record IsPlainUpTo (bytes : List ℕ) (at end : ℕ) : Type 0 where
+  pub ordered : at ≤ end
+  pub within : end ≤ length bytes
+  pub plain : ArePlainBetween bytes at end
+
+-- the place of the lowest bit that is set, or n
+abbrev pub first_set : ℕ → ℕ → ℕ
+first_set mask n = if nat_eq mask 0 then n else trailing_zeros w64 mask

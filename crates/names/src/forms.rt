@@ -4,7 +4,8 @@ ghost use Rattle.std.specs.Prelude.{◌≡◌, ◌↔◌, IsTrue};
 ghost use Rattle.names.specs.Names.{IsUnqualifiedName, IsMethodName, IsClassName};
 ghost use Rattle.names.specs.Forms.{AreNameForms};
 
-use crate::name::{goes_on, is_angle};
+use crate::name::{is_angle, is_name_byte};
+use crate::plain::is_plain;
 use crate::text::Text;
 
 /// The forms of names that a text has (JVMS 4.2).
@@ -27,31 +28,31 @@ pub fn name_forms(text: Text<'_>) -> NameForms
     forms_of(text.bytes())
 }
 
+/// The unqualified name that is read begins at `start`.
 fn forms_of(bytes: &[u8]) -> NameForms
     ensures { AreNameForms bytes.now result }
 {
-    let mut fresh = true;
-    let mut slash = false;
+    let mut start = 0;
     let mut angle = false;
-    for b in bytes {
-        // Most bytes are letters, of which each goes on and is nothing else.
-        if b.is_ascii_alphabetic() {
-            fresh = false;
+    for (at, b) in bytes.iter().enumerate() {
+        if is_plain(*b) {
             continue;
         }
-        if !goes_on(fresh, *b) {
+        if *b == b'/' && at != start {
+            start = at + 1;
+            continue;
+        }
+        if !is_name_byte(*b) {
             return NameForms {
                 class_name: false,
                 unqualified_name: false,
                 method_name: false,
             };
         }
-        fresh = *b == b'/';
-        slash |= fresh;
         angle |= is_angle(*b);
     }
-    let class_name = !fresh;
-    let unqualified_name = class_name & !slash;
+    let class_name = bytes.len() != start;
+    let unqualified_name = class_name & (start == 0);
     NameForms {
         class_name,
         unqualified_name,

@@ -9,6 +9,7 @@
 //! - `text`: texts, and the units that they spell.
 //! - `name`: whether a text is a class name, a field's name or a method's name.
 //! - `forms`: the three of them in one pass.
+//! - `plain`: where bytes end with which each name goes on, as most do.
 //! - `base`, `descriptor`: the types that descriptors name, their widths, and their texts.
 //! - `reading`: the types of a descriptor's text.
 //! - `parameters`: the parameters of a method's descriptor, one by one.
@@ -24,6 +25,7 @@ mod fault;
 mod forms;
 mod name;
 mod parameters;
+mod plain;
 mod reading;
 mod references;
 mod shape;

@@ -5,10 +5,11 @@ ghost use Rattle.names.specs.Names.{is_name_unit, is_angle, IsUnqualifiedName, I
 ghost use Rattle.names.specs.Reading.{mapped, goes_on, ends_class_name, read_class};
 ghost use Rattle.names.specs.Texts.{spelling};
 
+use crate::plain::plain_end;
 use crate::text::Text;
 
 /// Whether the byte may stand in an unqualified name.
-fn is_name_byte(b: u8) -> bool
+pub(crate) fn is_name_byte(b: u8) -> bool
     ensures { result ≡ is_name_unit b }
 {
     !matches!(b, b'.' | b';' | b'[' | b'/')
@@ -52,28 +53,29 @@ pub fn is_class_name(text: Text<'_>) -> bool
     front == name.len() && !fresh
 }
 
-/// Whether a class name goes on with the byte; `fresh` where an unqualified name has to begin.
-pub(crate) fn goes_on(fresh: bool, b: u8) -> bool
-    ensures { result ≡ goes_on fresh b }
-{
-    is_name_byte(b) || (!fresh && b == b'/')
-}
-
-/// How many bytes begin a class name, and whether an unqualified name has still to begin behind them.
+/// How many bytes begin a class name, and whether an unqualified name has still to begin behind them. The unqualified
+/// name that is read begins at `start`.
 pub(crate) fn class_name_front(bytes: &[u8]) -> (usize, bool)
     ensures within { result.0 ≤ length bytes.now }
     ensures ends { ends_class_name true bytes.now ≡ ends_class_name result.1 (drop result.0 bytes.now) }
     ensures reads { read_class true bytes.now ≡ mapped (λ name. take result.0 bytes.now ++ name) (read_class result.1 (drop result.0 bytes.now)) }
     ensures stops { (b : ℕ) (rest : List ℕ) → drop result.0 bytes.now ≡ b ∷ rest → goes_on result.1 b ≡ false }
 {
-    let mut fresh = true;
-    for (at, b) in bytes.iter().enumerate() {
-        if !goes_on(fresh, *b) {
-            return (at, fresh);
+    let mut start = 0;
+    let mut at = 0;
+    'bytes: loop {
+        at = plain_end(bytes, at);
+        if at == bytes.len() {
+            return (at, at == start);
         }
-        fresh = *b == b'/';
+        let b = bytes[at];
+        if b == b'/' && at != start {
+            start = at + 1;
+        } else if !is_name_byte(b) {
+            return (at, at == start);
+        }
+        at += 1;
     }
-    (bytes.len(), fresh)
 }
 
 /// The definitions of names hold of a text's units exactly if they hold of the bytes that spell them.

@@ -1,27 +1,34 @@
-use Rattle.std.proofs.Common.{sym, ◌∙◌, arith}
-use Rattle.names.proofs.NameScan.{one_byte_more, letter_more, at_the_end, stopped, at_first}
+use Rattle.std.proofs.Common.{◌≡◌, sym, ◌∙◌, refl, subst, not, length, get_or, arith, eq-eqb, ne_eqb}
+use Rattle.std.specs.Prelude.{nat_eq}
+use Rattle.names.proofs.Scan.{plain_so, off_there, no_slash_on}
+use Rattle.names.proofs.NameScan.{InName, plain_in_name, slash_in_name, unit_in_name, in_name_at_the_end, stopped}
 use Rattle.names.proofs.forms.forms_of.Goals as goal
 
-pub loop-b-init : goal.loop-b-init
-loop-b-init c = at_first c.args.bytes.now
+pub loop-at-preserved-then-is_plain : goal.loop-at-preserved-then-is_plain
+loop-at-preserved-then-is_plain c =
+    let l = c.loop-at in
+    plain_in_name c.args.bytes.now l.at l.start l.angle c.loop-at-test.true (plain_so _ (c.is_plain.ensures c.if-is_plain.true)) l.invariant
 
-pub returns-then-not-goes_on : goal.returns-then-not-goes_on
-returns-then-not-goes_on c =
-    let l = c.loop-b in
-    stopped c.args.bytes.now l.b-index l.fresh l.slash l.angle c.loop-b-test.true (sym c.goes_on.ensures ∙ c.if-not-goes_on.true) l.invariant
+pub loop-at-preserved-then-at-start : goal.loop-at-preserved-then-at-start
+loop-at-preserved-then-at-start c =
+    let l = c.loop-at in
+    slash_in_name c.args.bytes.now l.at l.start l.angle c.loop-at-test.true (eq-eqb _ _ c.if-b-eq47.true) (ne_eqb l.at l.start c.if-at-start.true) l.invariant
 
-pub loop-b-preserved : goal.loop-b-preserved
-loop-b-preserved c =
-    let l = c.loop-b in
-    rw c.is_angle-angle.ensures
-    (one_byte_more c.args.bytes.now l.b-index l.fresh l.slash l.angle c.loop-b-test.true (sym c.goes_on.ensures ∙ c.if-not-goes_on.false) l.invariant)
+pub loop-at-preserved : goal.loop-at-preserved
+loop-at-preserved c =
+    let l = c.loop-at in
+    rw c.is_angle-angle.ensures (unit_in_name c.args.bytes.now l.at l.start l.angle c.loop-at-test.true (sym c.is_name_byte.ensures ∙ c.if-not-is_name_byte.false) l.invariant)
+
+pub returns-then-not-is_name_byte : goal.returns-then-not-is_name_byte
+returns-then-not-is_name_byte c =
+    let l = c.loop-at in
+    let b = get_or c.args.bytes.now l.at 0 in
+    let off = off_there (nat_eq l.at l.start) b (sym c.is_name_byte.ensures ∙ c.if-not-is_name_byte.true) (no_slash_on l.at l.start b c.else-b-eq47.either) in
+    stopped c.args.bytes.now l.at (nat_eq l.at l.start) (not (nat_eq l.start 0)) l.angle c.loop-at-test.true off l.invariant.scanning
 
 pub returns : goal.returns
 returns c =
-    let l = c.loop-b in
-    at_the_end c.args.bytes.now l.b-index l.fresh l.slash l.angle (omega (arith, c.loop-b-test.false, l.auto.b-index-end)) l.invariant
-
-pub loop-b-preserved-then-is_ascii_alphabetic : goal.loop-b-preserved-then-is_ascii_alphabetic
-loop-b-preserved-then-is_ascii_alphabetic c =
-    let l = c.loop-b in
-    letter_more c.args.bytes.now l.b-index l.fresh l.slash l.angle c.loop-b-test.true (sym c.is_ascii_alphabetic.ensures.value ∙ c.if-is_ascii_alphabetic.true) l.invariant
+    let l = c.loop-at in
+    let bytes = c.args.bytes.now in
+    let end : l.at ≡ length bytes = omega (arith, c.loop-at-test.false, l.auto.at-end) in
+    in_name_at_the_end bytes (length bytes) l.start l.angle refl (subst (λ x. InName bytes x l.start l.angle) end l.invariant)

@@ -1,5 +1,5 @@
-use Rattle.names.proofs.NameScan.{Scanning}
+use Rattle.names.proofs.NameScan.{InName}
 use Rattle.names.proofs.forms.forms_of.Given as goal
 
-abbrev pub invariant-loop-b : goal.invariant-loop-b
-invariant-loop-b l = Scanning l.bytes l.b-index l.fresh l.slash l.angle
+abbrev pub invariant-loop-at : goal.invariant-loop-at
+invariant-loop-at l = InName l.bytes l.at l.start l.angle

@@ -1,10 +1,15 @@
-use Rattle.std.proofs.Common.{◌≡◌, true, ◌++◌, take, drop}
-use Rattle.names.specs.Reading.{mapped, ends_class_name, read_class}
+use Rattle.std.proofs.Common.{◌≤◌, ◌-◌, length}
+use Rattle.std.specs.Prelude.{nat_eq}
+use Rattle.names.proofs.Scan.{Front}
 use Rattle.names.proofs.name.class_name_front.Given as goal
 
-abbrev pub invariant-loop-at : goal.invariant-loop-at
-invariant-loop-at l =
+abbrev pub invariant-bytes : goal.invariant-bytes
+invariant-bytes l =
     record {
-      ends : ends_class_name true l.bytes ≡ ends_class_name l.fresh (drop l.at l.bytes);
-      reads : read_class true l.bytes ≡ mapped (λ name. take l.at l.bytes ++ name) (read_class l.fresh (drop l.at l.bytes));
+      behind : l.start ≤ l.at;
+      within : l.at ≤ length l.bytes;
+      front : Front l.bytes l.at (nat_eq l.at l.start);
     }
+
+abbrev pub decreases-bytes : goal.decreases-bytes
+decreases-bytes l = length l.bytes - l.at

@@ -1,6 +1,6 @@
 use Rattle.std.proofs.Common.{refl}
 use Rattle.classfile.proofs.Receivers.{some_are, none_are, same_void, fits_receiver}
-use Rattle.classfile.proofs.text_forms.method_forms.Goals as goal
+use Rattle.classfile.proofs.text_forms.method_form.Goals as goal
 
 pub returns-in-Ok : goal.returns-in-Ok
 returns-in-Ok c =
