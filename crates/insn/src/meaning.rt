@@ -65,7 +65,10 @@ fn act_of<'a>(meaning: Meaning, parts: &Parts<'a>) -> Act<'a>
         Meaning::IfReferences => Act::IfReferences { offset },
         Meaning::IfNull => Act::IfNull { offset },
         Meaning::Goto => Act::Goto { offset },
-        Meaning::Switch => Act::Switch { default: offset, targets: parts.targets },
+        Meaning::Switch => Act::Switch {
+            default: offset,
+            targets: parts.targets,
+        },
         Meaning::Return(kind) => Act::Return(kind),
         Meaning::ReturnReference => Act::ReturnReference,
         Meaning::ReturnVoid => Act::ReturnVoid,

@@ -133,8 +133,24 @@ fn first_act(alloc: Global, code: &[u8]) -> Option<(Act<'_>, usize)> {
 
 #[test]
 fn instructions_by_what_they_mean(rt: HostRuntime) {
-    assert!(rt; matches!(first_act(rt.alloc(), &[0x03, 0xB1]), Some((Act::Constant(Kind::Int), 1))));
-    assert!(rt; matches!(first_act(rt.alloc(), &[0x15, 1]), Some((Act::Load { kind: Kind::Int, local: 1 }, 2))));
+    assert!(rt;
+        matches!(
+            first_act(rt.alloc(), &[0x03, 0xB1]),
+            Some((Act::Constant(Kind::Int), 1))
+        )
+    );
+    assert!(rt;
+        matches!(
+            first_act(rt.alloc(), &[0x15, 1]),
+            Some((
+                Act::Load {
+                    kind: Kind::Int,
+                    local: 1
+                },
+                2
+            ))
+        )
+    );
     assert!(rt; first_act(rt.alloc(), &[]).is_none());
 }
 
@@ -145,7 +161,12 @@ fn instructions_by_where_they_begin(rt: HostRuntime) {
     assert!(rt; matches!(starts.next_start(), Some(Ok((0, None)))));
     assert!(rt; matches!(starts.next_start(), Some(Ok((1, None)))));
     assert!(rt; matches!(starts.next_start(), Some(Ok((3, Some(2))))));
-    assert!(rt; matches!(starts.next_start(), Some(Err(CodeFault::BadOpcode { at: 6 }))));
+    assert!(rt;
+        matches!(
+            starts.next_start(),
+            Some(Err(CodeFault::BadOpcode { at: 6 }))
+        )
+    );
     assert!(rt; starts.next_start().is_none());
 }
 

@@ -25,6 +25,6 @@ returns c =
     let alone = opcode_ok at o (operands_at at (form o)) mid nothing mid taken in
     let opcode : Some o ≡ opcode_of n = sym c.in_ok-opcode.was ∙ c.from_number.ensures in
     let whole = goes_on at (number 1) (λ k. behind_opcode at (opcode_of k)) (λ (x : Instruction). x) old mid mid n (Ok i) read
-        (subst (λ x. judged at (reads (behind_opcode at x) mid.at mid.rest) ≡ Ok (i, mid)) opcode alone) in
+    (subst (λ x. judged at (reads (behind_opcode at x) mid.at mid.rest) ≡ Ok (i, mid)) opcode alone) in
     let (first, spells, took) = read_spells at (instruction_at at) old mid i (reads (instruction_at at) at old.rest) refl whole in
     (sym c.form.ensures ∙ c.in-Nothing.is, first, spells, took)
