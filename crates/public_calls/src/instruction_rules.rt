@@ -3,9 +3,9 @@ use crate::making::{OUT_OF_MEMORY, frame, hasher, object};
 use classfile::{ClassFile, Formed, decode, form_check};
 use frames::{Frame, VType};
 use hierarchy::{Classes, Rows};
-use insn::{Branches, Insn, decode_code};
+use insn::{Act, Branches, Insn, Kind, decode_code};
 use layout::MAX_CODE_BYTES;
-use rules::{After, Env, apply, branches, falls};
+use rules::{After, Env, apply, branches, falls, is_plain};
 use std::alloc::Global;
 use std::test::*;
 
@@ -178,6 +178,19 @@ fn has_ways(alloc: Global) -> bool {
 #[test]
 fn ways(rt: HostRuntime) {
     assert!(rt; has_ways(rt.alloc()));
+}
+
+/// A `new` is not plain, since what the locals hold of its last object is forgotten.
+#[test]
+fn plain_instructions(rt: HostRuntime) {
+    assert!(rt;
+        is_plain(&Act::Store {
+            kind: Kind::Int,
+            local: 1
+        })
+    );
+    assert!(rt; !is_plain(&Act::New { index: 1 }));
+    assert!(rt; !is_plain(&Act::Goto { offset: 0 }));
 }
 
 /// With memory enough no instruction is answered that it ran out, whatever else.
