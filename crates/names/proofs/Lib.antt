@@ -13,5 +13,6 @@ pub mod Judged
 pub mod Kept
 pub mod Returned
 pub mod NameScan
+mod PlainNames
 pub mod ShapeLaws
 pub mod ParameterLaws

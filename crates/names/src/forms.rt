@@ -5,7 +5,7 @@ ghost use Rattle.names.specs.Names.{IsUnqualifiedName, IsMethodName, IsClassName
 ghost use Rattle.names.specs.Forms.{AreNameForms};
 
 use crate::name::{is_angle, is_name_byte};
-use crate::plain::is_plain;
+use crate::plain::{are_plain, is_plain};
 use crate::text::Text;
 
 /// The forms of names that a text has (JVMS 4.2).
@@ -32,6 +32,13 @@ pub fn name_forms(text: Text<'_>) -> NameForms
 fn forms_of(bytes: &[u8]) -> NameForms
     ensures { AreNameForms bytes.now result }
 {
+    if !bytes.is_empty() && are_plain(bytes) {
+        return NameForms {
+            class_name: true,
+            unqualified_name: true,
+            method_name: true,
+        };
+    }
     let mut start = 0;
     let mut angle = false;
     for (at, b) in bytes.iter().enumerate() {

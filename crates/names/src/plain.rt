@@ -1,7 +1,7 @@
 //! Plain bytes: those with which each name goes on, whatever stands before them. Most bytes of names are plain.
 
 ghost use Rattle.std.specs.Prelude.{◌≡◌, ◌+◌, ◌≤◌, true, length};
-ghost use Rattle.names.specs.Forms.{is_plain, first_set, ArePlainIn, IsPlainUpTo};
+ghost use Rattle.names.specs.Forms.{is_plain, first_set, ArePlainBetween, ArePlainIn, IsPlainUpTo};
 
 use std::simd::prelude::*;
 
@@ -45,15 +45,16 @@ fn first_set(mask: u64, lanes: usize) -> usize
     }
 }
 
-/// How many of the sixteen bytes from a place on are seen to be plain, up to the first `[` or byte from `.` to `>`.
+/// How many of the sixteen bytes from a place on are seen to be plain, up to the first that is not, or is a `=`.
 #[inline(always)]
 fn plain_of_sixteen(bytes: &[u8], at: usize) -> usize
     requires { at + 16 ≤ length bytes.now }
     ensures { ArePlainIn bytes.now at 16 result }
 {
     let v = u8x16::from_slice(&bytes[at..]);
-    let others = u8x16::splat(b'>' - b'.').simd_ge(v - u8x16::splat(b'.'));
-    let stops = others | v.simd_eq(u8x16::splat(b'['));
+    let dots = u8x16::splat(b'/' - b'.').simd_ge(v - u8x16::splat(b'.'));
+    let angles = u8x16::splat(b'>' - b';').simd_ge(v - u8x16::splat(b';'));
+    let stops = dots | angles | v.simd_eq(u8x16::splat(b'['));
     first_set(stops.to_bitmask(), 16)
 }
 
@@ -64,8 +65,9 @@ fn plain_of_eight(bytes: &[u8], at: usize) -> usize
     ensures { ArePlainIn bytes.now at 8 result }
 {
     let v = u8x8::from_slice(&bytes[at..]);
-    let others = u8x8::splat(b'>' - b'.').simd_ge(v - u8x8::splat(b'.'));
-    let stops = others | v.simd_eq(u8x8::splat(b'['));
+    let dots = u8x8::splat(b'/' - b'.').simd_ge(v - u8x8::splat(b'.'));
+    let angles = u8x8::splat(b'>' - b';').simd_ge(v - u8x8::splat(b';'));
+    let stops = dots | angles | v.simd_eq(u8x8::splat(b'['));
     first_set(stops.to_bitmask(), 8)
 }
 
@@ -95,4 +97,45 @@ pub(crate) fn plain_end(bytes: &[u8], from: usize) -> usize
         at += 1;
     }
     at
+}
+
+/// Whether each byte is seen to be plain, one after the other.
+fn are_plain_singly(bytes: &[u8]) -> bool
+    ensures { result ≡ true → ArePlainBetween bytes.now 0 (length bytes.now) }
+{
+    for b in bytes {
+        if !is_plain(*b) {
+            return false;
+        }
+    }
+    true
+}
+
+/// The same of sixteen bytes or more, sixteen at a time. The last sixteen may begin before the others end.
+fn are_plain_by_sixteen(bytes: &[u8]) -> bool
+    requires { 16 ≤ length bytes.now }
+    ensures { result ≡ true → ArePlainBetween bytes.now 0 (length bytes.now) }
+{
+    let last = bytes.len() - 16;
+    let mut at = 0;
+    while at < last {
+        if plain_of_sixteen(bytes, at) < 16 {
+            return false;
+        }
+        at += 16;
+    }
+    plain_of_sixteen(bytes, last) == 16
+}
+
+/// Whether all bytes are seen to be plain. Takes no memory.
+pub(crate) fn are_plain(bytes: &[u8]) -> bool
+    ensures { result ≡ true → ArePlainBetween bytes.now 0 (length bytes.now) }
+{
+    if bytes.len() >= 16 {
+        are_plain_by_sixteen(bytes)
+    } else if bytes.len() >= 8 {
+        plain_of_eight(bytes, 0) == 8 && plain_of_eight(bytes, bytes.len() - 8) == 8
+    } else {
+        are_plain_singly(bytes)
+    }
 }

@@ -1,8 +1,17 @@
-use Rattle.std.proofs.Common.{◌≡◌, sym, ◌∙◌, refl, subst, not, length, get_or, arith, eq-eqb, ne_eqb}
+use Rattle.std.proofs.Common.{◌≡◌, ◌<◌, sym, ◌∙◌, refl, subst, not, length, get_or, arith, eq-eqb, ne_eqb}
+use Rattle.std.proofs.lemmas.Bool.{eqb-false}
 use Rattle.std.specs.Prelude.{nat_eq}
 use Rattle.names.proofs.Scan.{plain_so, off_there, no_slash_on}
 use Rattle.names.proofs.NameScan.{InName, plain_in_name, slash_in_name, unit_in_name, in_name_at_the_end, stopped}
+use Rattle.names.proofs.PlainNames.{plain_to_the_end}
 use Rattle.names.proofs.forms.forms_of.Goals as goal
+
+pub returns-then-are_plain : goal.returns-then-are_plain
+returns-then-are_plain c =
+    let bytes = c.args.bytes.now in
+    let not_none = eqb-false (length bytes) 0 (sym c.is_empty.ensures ∙ c.if-not-is_empty.true) in
+    let some : 0 < length bytes = omega (arith, not_none) in
+    plain_to_the_end bytes some (c.are_plain.ensures c.if-are_plain.true)
 
 pub loop-at-preserved-then-is_plain : goal.loop-at-preserved-then-is_plain
 loop-at-preserved-then-is_plain c =
