@@ -12,12 +12,12 @@ use Rattle.names.specs.Forms.{first_set}
 abbrev pub Passes : (ℕ → Bool) → List ℕ → ℕ → ℕ → ℕ → Type 0
 Passes test bytes at n run = (run ≤ n) × ((k : ℕ) → at ≤ k → k < at + run → test (slice_index bytes k) ≡ true)
 
-zip2-map : (h : ℕ → ℕ → ℕ) (f g : ℕ → ℕ) (xs : List ℕ) → zip2 h (map f xs) (map g xs) ≡ map (λ x. h (f x) (g x)) xs
+zip2-map : {X : Type 0} (h : ℕ → ℕ → ℕ) (f g : X → ℕ) (xs : List X) → zip2 h (map f xs) (map g xs) ≡ map (λ x. h (f x) (g x)) xs
 zip2-map h f g [] = refl
 zip2-map h f g (x ∷ xs) = ap (λ r. h (f x) (g x) ∷ r) (zip2-map h f g xs)
 
 -- an operation on two vectors that were computed lane by lane from v
-pub joined : (h : ℕ → ℕ → ℕ) (f g : ℕ → ℕ) (v : List ℕ) {a b : List ℕ} → a ≡ map f v → b ≡ map g v → zip2 h a b ≡ map (λ x. h (f x) (g x)) v
+pub joined : {X : Type 0} (h : ℕ → ℕ → ℕ) (f g : X → ℕ) (v : List X) {a b : List ℕ} → a ≡ map f v → b ≡ map g v → zip2 h a b ≡ map (λ x. h (f x) (g x)) v
 joined h f g v p q = ap₂ (zip2 h) p q ∙ zip2-map h f g v
 
 pub splat_is : (v : List ℕ) (n y : ℕ) → length v ≡ n → replicate n y ≡ map (λ _. y) v

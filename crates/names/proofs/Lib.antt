@@ -14,5 +14,7 @@ pub mod Kept
 pub mod Returned
 pub mod NameScan
 mod PlainNames
+pub mod JoinedLanes
+pub mod JoinedNames
 pub mod ShapeLaws
 pub mod ParameterLaws

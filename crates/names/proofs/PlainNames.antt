@@ -1,5 +1,5 @@
 -- Bytes that are all plain are a name of each form.
-use Rattle.std.proofs.Common.{◌≡◌, ℕ, zero, suc, ◌+◌, ◌<◌, ◌≤◌, Bool, true, false, not, eqb, ◌&&◌, List, length, get_or, refl, subst, arith, ne_eqb}
+use Rattle.std.proofs.Common.{◌≡◌, ℕ, zero, suc, ◌+◌, ◌<◌, ◌≤◌, true, false, not, eqb, ◌&&◌, List, length, get_or, refl, subst, arith, ne_eqb}
 use Rattle.names.specs.Forms.{AreNameForms, ArePlainBetween}
 use Rattle.names.proofs.Scan.{plain_so}
 use Rattle.names.proofs.NameScan.{InName, in_name_first, plain_in_name, in_name_at_the_end}

@@ -9,6 +9,7 @@
 //! - `text`: texts, and the units that they spell.
 //! - `name`: whether a text is a class name, a field's name or a method's name.
 //! - `forms`: the three of them in one pass.
+//! - `joined`: most class names, told by lanes.
 //! - `plain`: where bytes end with which each name goes on, as most do.
 //! - `base`, `descriptor`: the types that descriptors name, their widths, and their texts.
 //! - `reading`: the types of a descriptor's text.
@@ -23,6 +24,7 @@ mod base;
 mod descriptor;
 mod fault;
 mod forms;
+mod joined;
 mod name;
 mod parameters;
 mod plain;

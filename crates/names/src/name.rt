@@ -5,6 +5,7 @@ ghost use Rattle.names.specs.Names.{is_name_unit, is_angle, IsUnqualifiedName, I
 ghost use Rattle.names.specs.Reading.{mapped, goes_on, ends_class_name, read_class};
 ghost use Rattle.names.specs.Texts.{spelling};
 
+use crate::joined::is_seen_as_class_name;
 use crate::plain::plain_end;
 use crate::text::Text;
 
@@ -49,6 +50,12 @@ pub fn is_class_name(text: Text<'_>) -> bool
     ensures { IsTrue result ↔ IsClassName text.entry.bytes.now }
 {
     let name = text.bytes();
+    is_seen_as_class_name(name) || is_class_name_by_front(name)
+}
+
+fn is_class_name_by_front(name: &[u8]) -> bool
+    ensures { IsTrue result ↔ IsClassName name.now }
+{
     let (front, fresh) = class_name_front(name);
     front == name.len() && !fresh
 }
