@@ -157,7 +157,7 @@ has_letter (q ∷ types) b p e =
       | inr miss ↦ has_letter types b p (sym (cond-false (eqb b (letter q)) _ _ miss) ∙ e)
     ]
 
-primitive_has_letter : (b : ℕ) (p : Primitive) → primitive_of b ≡ Some p → b ≡ letter p
+pub primitive_has_letter : (b : ℕ) (p : Primitive) → primitive_of b ≡ Some p → b ≡ letter p
 primitive_has_letter b p e = has_letter primitives b p e
 
 -- ---- types that are no arrays

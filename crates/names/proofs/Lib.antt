@@ -1,10 +1,13 @@
 pub mod AnswerLaws
 pub mod ClassNameLaws
 pub mod FieldReader
+pub mod FieldSeen
 pub mod Lanes
 pub mod MethodReader
 pub mod NamesOfUnits
 pub mod Readers
+pub mod RunLaws
+pub mod TypeEndLaws
 pub mod UnitLaws
 pub mod Scan
 pub mod Written
@@ -17,4 +20,5 @@ mod PlainNames
 pub mod JoinedLanes
 pub mod JoinedNames
 pub mod ShapeLaws
+pub mod ShapeSeen
 pub mod ParameterLaws

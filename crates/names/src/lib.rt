@@ -15,6 +15,8 @@
 //! - `reading`: the types of a descriptor's text.
 //! - `parameters`: the parameters of a method's descriptor, one by one.
 //! - `shape`: how wide a method's descriptor is and whether it has a result, without the types.
+//! - `name_run`, `type_end`: where the types of a descriptor end, for judging it without them.
+//! - `field_descriptor`: whether a text is the descriptor of a field.
 //! - `references`: the types of references, and those that Class constants name.
 //! - `standard`: names that the standard speaks of.
 //! - `fault`: the refusals.
@@ -23,9 +25,11 @@
 mod base;
 mod descriptor;
 mod fault;
+mod field_descriptor;
 mod forms;
 mod joined;
 mod name;
+mod name_run;
 mod parameters;
 mod plain;
 mod reading;
@@ -33,10 +37,12 @@ mod references;
 mod shape;
 mod standard;
 mod text;
+mod type_end;
 
 pub use base::{Base, Primitive};
 pub use descriptor::{FieldType, MethodType};
 pub use fault::NameFault;
+pub use field_descriptor::is_field_descriptor;
 pub use forms::{NameForms, name_forms};
 pub use name::{is_class_name, is_field_name, is_method_name, names_by_units};
 pub use parameters::{Parameters, parameter_types};

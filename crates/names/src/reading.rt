@@ -113,7 +113,7 @@ impl<'a> FieldRead<'a> {
 }
 
 /// How many `[` the bytes begin with.
-fn brackets(bytes: &[u8]) -> usize
+pub(crate) fn brackets(bytes: &[u8]) -> usize
     ensures within { result ≤ length bytes.now }
     ensures count { result ≡ prefix_len (λ b. b == bracket) bytes.now }
 {

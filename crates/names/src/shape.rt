@@ -1,17 +1,19 @@
 //! The shape of a method: what its descriptor says without a list of its types (JVMS 4.3.3).
 
-ghost use Rattle.std.specs.Prelude.{◌≡◌, ◌≤◌, List, length, MatchResult};
+ghost use Rattle.std.specs.Prelude.{◌≡◌, ◌≤◌, List, length, MatchResult, IfSome};
 ghost use Rattle.std.specs.List.{list_any};
 ghost use Rattle.std.specs.Option.{option_map};
 ghost use Rattle.names.specs.Descriptors.{FieldDescriptor, field_width, result_types};
 ghost use Rattle.names.specs.Reading.{outside, is_deep, read_params, read_method, method_type};
 ghost use Rattle.names.specs.ReadTypes.{type_read};
-ghost use Rattle.names.specs.Shapes.{Sums, OneMore, SumsParams, SumsMethod, IsShapeWithin, IsShapeAnswer};
+ghost use Rattle.names.specs.Shapes.{Sums, OneMore, SumsParams, SumsMethod, IsShapeWithin, HasShape, IsShapeAnswer};
+ghost use Rattle.names.specs.TypeEnds.{SeesParams, SeesResult};
 
 use crate::base::{Base, Primitive};
 use crate::fault::NameFault;
 use crate::reading::{FieldRead, Outside, bad_descriptor, is_first, read_field, read_result};
 use crate::text::Text;
+use crate::type_end::{type_end, units_of};
 
 /// The parameters and the result of a method's descriptor, without their types (JVMS 4.3.3).
 #[derive(Clone, Copy, Debug, PartialEq, Eq)]
@@ -29,7 +31,74 @@ pub fn method_shape(text: Text<'_>, receiver: bool) -> Result<MethodShape, NameF
     // A shape exactly where `method_type` has types, which are of this shape; and otherwise its refusal.
     ensures { IsShapeAnswer receiver text.entry.bytes.now result }
 {
-    judge_shape(text.bytes(), receiver)
+    let bytes = text.bytes();
+    match shape_seen(bytes, receiver) {
+        Some(shape) => Ok(shape),
+        None => judge_shape(bytes, receiver),
+    }
+}
+
+/// The place of the `)` behind parameters, and their units, where each of them is seen.
+fn params_seen(bytes: &[u8]) -> Option<(usize, usize)>
+    requires { 1 ≤ length bytes.now }
+    ensures { IfSome result (λ x. SeesParams bytes.now x.0 x.1) }
+{
+    let mut at = 1;
+    let mut units = 0;
+    'types: loop {
+        if at == bytes.len() {
+            return None;
+        }
+        let first = bytes[at];
+        if first == b')' {
+            return Some((at, units));
+        }
+        let end = type_end(bytes, at);
+        if end == at {
+            return None;
+        }
+        units += units_of(first);
+        at = end;
+    }
+}
+
+/// Whether there is a result, where it or a `V` is seen from this place up to the end.
+fn result_seen(bytes: &[u8], at: usize) -> Option<bool>
+    requires { at ≤ length bytes.now }
+    ensures { IfSome result (λ has_result. SeesResult bytes.now at has_result) }
+{
+    if at == bytes.len() {
+        return None;
+    }
+    let has_result = bytes[at] != b'V';
+    let end = if has_result {
+        type_end(bytes, at)
+    } else {
+        at + 1
+    };
+    if end == at || end != bytes.len() {
+        return None;
+    }
+    Some(has_result)
+}
+
+/// The shape of most descriptors within the limits, without their types.
+fn shape_seen(bytes: &[u8], receiver: bool) -> Option<MethodShape>
+    ensures { IfSome result (λ s. HasShape receiver bytes.now s) }
+{
+    if !is_first(bytes, b'(') {
+        return None;
+    }
+    let (end, units) = params_seen(bytes)?;
+    let has_result = result_seen(bytes, end + 1)?;
+    let units = units + usize::from(receiver);
+    if units > 255 {
+        return None;
+    }
+    Some(MethodShape {
+        units: units as u16,
+        has_result,
+    })
 }
 
 /// The parameters so far, while they are read.
