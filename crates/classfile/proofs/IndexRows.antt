@@ -14,8 +14,8 @@ use Rattle.classfile.specs.declared.number_form.IndexRule.{IndexRule}
 use Rattle.classfile.specs.declared.number_form.IndexRule.TheVariants.{BadIndex, WrongKind, Both}
 use Rattle.classfile.specs.Indices.{is_of, is_bad, is_other, on_found}
 use Rattle.classfile.specs.Layouts.{Row, is_row, row_in, rows, row_named, major_at}
-use Rattle.classfile.specs.IndexRows.{is_index_row, index_row_in}
-use Rattle.classfile.specs.NumberForm.{breaks, are_plain, body_breaks_if, numbers_break}
+use Rattle.classfile.specs.IndexRows.{variable, names_variables, is_index_row, index_row_in}
+use Rattle.classfile.specs.NumberForm.{breaks, are_plain, counted_break, body_breaks_if, numbers_break}
 use Rattle.classfile.proofs.Rows.{plain_body, either_numbers}
 use lib.Pointwise.{bytes_decides}
 
@@ -117,3 +117,14 @@ no_name_found pool n fault p q e = by (entry_at pool n) e p
     by (Ok _) e true = refl
     by (Ok _) e false = refl
     by (Err fault) e p = refl
+
+-- ---- the attributes of a Code attribute
+
+-- of their rows that of local variables alone has indices
+pub code_row_found : (pool : List Entry) (name body : List ℕ)
+    → body_breaks_if (breaks pool Both) (row_in (major_at Code) name (rows Code)) body ≡ names_variables name && counted_break (breaks pool Both) variable body
+code_row_found pool name body = index_row_found pool Both Code name body ∙ by (names_variables name) refl
+  where
+    by : (b : Bool) → names_variables name ≡ b → body_breaks_if (breaks pool Both) (index_row_in (major_at Code) name (rows Code)) body ≡ b && counted_break (breaks pool Both) variable body
+    by true e = rw e refl
+    by false e = rw e refl

@@ -1,19 +1,19 @@
 -- Rows of the table of attributes by which the code looks for indices, and attributes by which it looks for two of a kind. Words of the
 -- code's own steps.
-use Rattle.std.specs.Prelude.{ℕ, Bool, true, false, not, ◌&&◌, if◌then◌else◌, List, [], ◌∷◌, nat_lt, count_by, Option, Some, None}
+use Rattle.std.specs.Prelude.{ℕ, Bool, true, false, not, ◌&&◌, if◌then◌else◌, List, [], ◌∷◌, nat_lt, count_by, codes, Option, Some, None}
+use Rattle.std.specs.Str.{bytes_eq}
 use Rattle.layout.specs.PieceLaws.{Either}
 use Rattle.classfile.specs.declared.layouts.Column.{Column}
 use Rattle.classfile.specs.declared.layouts.Column.TheVariants.{Plain, Text}
 use Rattle.classfile.specs.Layouts.{Row, is_row}
 use Rattle.classfile.specs.NumberForm.{on_kept, are_plain}
 
--- the columns of local variables (4.7.13)
-abbrev pub is_text : Column → Bool
-is_text Text = true
-is_text column = false
-
+-- the columns of local variables (4.7.13), and the name of their tables
 abbrev pub variable : List Column
 variable = Plain ∷ Plain ∷ Text ∷ Text ∷ Plain ∷ []
+
+abbrev pub names_variables : List ℕ → Bool
+names_variables name = bytes_eq name (codes "LocalVariableTable")
 
 -- the first row of this name, if its attributes have indices
 abbrev pub is_index_row : ℕ → List ℕ → Row → Bool

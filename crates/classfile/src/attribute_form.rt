@@ -10,7 +10,7 @@ use crate::code::{CodeAttr, ExceptionHandler};
 use crate::indices::{ConstantKind, is_bad, is_bad_unless_zero, lacks, lacks_unless_zero};
 use crate::location::Location;
 use crate::nested::NestedAttribute;
-use crate::number_form::{IndexRule, head_has_fault, numbers_break};
+use crate::number_form::{IndexRule, code_head_has_fault, head_has_fault, numbers_break};
 use crate::once::numbers_stand_twice;
 use pool::Pool;
 
@@ -34,7 +34,7 @@ fn nested_has_fault(pool: &Pool<'_>, attribute: &NestedAttribute<'_>) -> bool
 {
     match attribute {
         NestedAttribute::StackMapTable { name, .. } => lacks(pool, ConstantKind::Utf8, *name),
-        NestedAttribute::Raw { name, body } => { head_has_fault(pool, Location::Code, *name, body) }
+        NestedAttribute::Raw { name, body } => code_head_has_fault(pool, *name, body),
     }
 }
 

@@ -1,11 +1,12 @@
 //! The faults that the numbers in an attribute's body may have (JVMS 4.7): the indices among them, column by column.
-ghost use Rattle.std.specs.Prelude.{◌≡◌, ◌||◌, if◌then◌else◌, true, Some, None, map, option_map};
+ghost use Rattle.std.specs.Prelude.{◌≡◌, ◌≤◌, ◌||◌, if◌then◌else◌, Some, None, length, map, option_map};
 ghost use Rattle.classfile.specs.declared.indices.ConstantKind.TheVariants as kinds;
 ghost use Rattle.classfile.specs.Indices.{is_bad, is_other};
 ghost use Rattle.classfile.specs.Layouts.{row_in, rows, major_at};
 ghost use Rattle.classfile.specs.LayoutViews.{row_view};
 ghost use Rattle.classfile.specs.declared.number_form.IndexRule.TheVariants as rules;
-ghost use Rattle.classfile.specs.IndexRows.{is_text, variable, is_index_row, index_row_in};
+ghost use Rattle.classfile.specs.declared.location.Location.TheVariants as location;
+ghost use Rattle.classfile.specs.IndexRows.{variable, names_variables, is_index_row, index_row_in};
 ghost use Rattle.classfile.specs.NumberForm.{is_bad_in, is_other_in, breaks, row_breaks, behind_row, rows_break, counted_break, is_plain, are_plain, body_breaks, body_breaks_if, numbers_break};
 
 use crate::indices::{
@@ -14,6 +15,15 @@ use crate::indices::{
 use crate::layouts::{Column, Row, is_row, major_at, row_at, rows};
 use crate::location::Location;
 use pool::Pool;
+
+/// Of five numbers the third and the fourth are indices of texts.
+static VARIABLE: [Column; 5] = [
+    Column::Plain,
+    Column::Plain,
+    Column::Text,
+    Column::Text,
+    Column::Plain,
+];
 
 /// A rule that indices keep.
 #[derive(Clone, Copy, Debug, PartialEq, Eq)]
@@ -208,74 +218,12 @@ fn is_index_row(row: &Row, major: u16, name: &[u8]) -> bool
     row.name.len() == name.len() && !are_plain(row.columns) && is_row(row, major, name)
 }
 
-/// Whether the columns are those of a LocalVariableTable (JVMS 4.7.13): of five numbers the third and the fourth are indices of texts.
-fn are_variables(columns: &[Column]) -> bool
-    ensures { result ≡ true → columns.now ≡ variable }
-{
-    let [start, length, name, descriptor, index] = columns else {
-        return false;
-    };
-    is_plain(*start) & is_plain(*length) & is_text(*name) & is_text(*descriptor) & is_plain(*index)
-}
-
-fn is_text(column: Column) -> bool
-    ensures { result ≡ is_text column }
-{
-    matches!(column, Column::Text)
-}
-
-/// The bytes behind a local variable, if neither its name nor its descriptor breaks one of the two rules. Of all rows these are
-/// the most, so their other numbers are not looked at one by one.
-fn sound_variable<'b>(pool: &Pool<'_>, columns: &[Column], bytes: &'b [u8]) -> Option<&'b [u8]>
-    requires { columns.now ≡ variable }
-    ensures { option_map (λ b. b.now) result ≡ (if row_breaks (breaks pool.now rules.Both) columns.now bytes.entry.now then None else Some (behind_row columns.now bytes.entry.now)) }
-{
-    let [_, _, _, _, a, b, c, d, _, _, behind @ ..] = bytes else {
-        return sound_row(pool, IndexRule::Both, columns, bytes);
-    };
-    let name = u16::from(*a) * 256 + u16::from(*b);
-    let descriptor = u16::from(*c) * 256 + u16::from(*d);
-    if lacks(pool, ConstantKind::Utf8, name) || lacks(pool, ConstantKind::Utf8, descriptor) {
-        return None;
-    }
-    Some(behind)
-}
-
-/// Whether a name or a descriptor of so many local variables breaks one of the two rules.
-fn variables_break(pool: &Pool<'_>, columns: &[Column], count: u16, bytes: &[u8]) -> bool
-    requires { columns.now ≡ variable }
-    ensures { result ≡ rows_break (breaks pool.now rules.Both) columns.now count bytes.now }
-{
-    let mut rest = bytes;
-    for _ in 0..count {
-        let Some(behind) = sound_variable(pool, columns, rest) else {
-            return true;
-        };
-        rest = behind;
-    }
-    false
-}
-
-/// Whether a number in a row, or in a count's rows, breaks one of the two rules.
-fn indices_have_fault(pool: &Pool<'_>, row: &Row, body: &[u8]) -> bool
-    ensures { result ≡ body_breaks (breaks pool.now rules.Both) (row_view row.now) body.now }
-{
-    if !row.counted || !are_variables(row.columns) {
-        return body_breaks(pool, IndexRule::Both, row, body);
-    }
-    let [high, low, bytes @ ..] = body else {
-        return false;
-    };
-    let count = u16::from(*high) * 256 + u16::from(*low);
-    variables_break(pool, row.columns, count, bytes)
-}
-
 /// Whether an index in the body of an attribute of this name breaks one of the two rules; each is looked up once.
 fn numbers_have_fault(pool: &Pool<'_>, location: Location, name: &[u8], body: &[u8]) -> bool
     ensures { result ≡ body_breaks_if (breaks pool.now rules.Both) (row_in (major_at location) name.now (rows location)) body.now }
 {
     match index_row_in(rows(location), major_at(location), name) {
-        Some(row) => indices_have_fault(pool, row, body),
+        Some(row) => body_breaks(pool, IndexRule::Both, row, body),
         None => false,
     }
 }
@@ -286,6 +234,74 @@ pub fn head_has_fault(pool: &Pool<'_>, location: Location, name: u16, body: &[u8
 {
     match pool.text(name) {
         Ok(text) => numbers_have_fault(pool, location, text.bytes(), body),
+        Err(_) => true,
+    }
+}
+
+/// The columns of a LocalVariableTable (JVMS 4.7.13).
+fn variable() -> &'static [Column]
+    ensures { result.now ≡ variable }
+{
+    &VARIABLE
+}
+
+/// The bytes behind a local variable, if neither its name nor its descriptor breaks one of the two rules. Of all rows these are
+/// the most, so their other numbers are not looked at one by one.
+fn sound_variable<'b>(pool: &Pool<'_>, bytes: &'b [u8]) -> Option<&'b [u8]>
+    requires { 10 ≤ length bytes.now }
+    ensures { option_map (λ b. b.now) result ≡ (if row_breaks (breaks pool.now rules.Both) variable bytes.entry.now then None else Some (behind_row variable bytes.entry.now)) }
+{
+    let [_, _, _, _, a, b, c, d, _, _, behind @ ..] = bytes else {
+        return None;
+    };
+    let name = u16::from(*a) * 256 + u16::from(*b);
+    let descriptor = u16::from(*c) * 256 + u16::from(*d);
+    if lacks(pool, ConstantKind::Utf8, name) || lacks(pool, ConstantKind::Utf8, descriptor) {
+        return None;
+    }
+    Some(behind)
+}
+
+/// Whether a name or a descriptor of so many local variables breaks one of the two rules.
+fn variables_break(pool: &Pool<'_>, count: u16, bytes: &[u8]) -> bool
+    ensures { result ≡ rows_break (breaks pool.now rules.Both) variable count bytes.now }
+{
+    let mut rest = bytes;
+    for done in 0..count {
+        if rest.len() < 10 {
+            return rows_break(pool, IndexRule::Both, variable(), count - done, rest);
+        }
+        let Some(behind) = sound_variable(pool, rest) else {
+            return true;
+        };
+        rest = behind;
+    }
+    false
+}
+
+/// Whether a number in the body of a LocalVariableTable breaks one of the two rules.
+fn variables_have_fault(pool: &Pool<'_>, body: &[u8]) -> bool
+    ensures { result ≡ counted_break (breaks pool.now rules.Both) variable body.now }
+{
+    let [high, low, bytes @ ..] = body else {
+        return false;
+    };
+    variables_break(pool, u16::from(*high) * 256 + u16::from(*low), bytes)
+}
+
+/// Whether the text is the name of tables of local variables.
+fn names_variables(name: &[u8]) -> bool
+    ensures { result ≡ names_variables name.now }
+{
+    name.len() == 18 && name == b"LocalVariableTable".as_slice()
+}
+
+/// The same for an attribute of a Code attribute: of the rows there, that of local variables alone has indices.
+pub fn code_head_has_fault(pool: &Pool<'_>, name: u16, body: &[u8]) -> bool
+    ensures { result ≡ ((is_bad pool.now name || numbers_break pool.now location.Code rules.BadIndex name body.now) || (is_other pool.now kinds.Utf8 name || numbers_break pool.now location.Code rules.WrongKind name body.now)) }
+{
+    match pool.text(name) {
+        Ok(text) => names_variables(text.bytes()) && variables_have_fault(pool, body),
         Err(_) => true,
     }
 }

@@ -11,7 +11,7 @@ pub returns-in-Some : goal.returns-in-Some
 returns-in-Some c =
     let name = c.args.name.now in
     let holds : Option Row → Bool = λ (o : Option Row). body_breaks_if (breaks c.args.pool.now Both) o c.args.body.now in
-    c.indices_have_fault.ensures ∙ ap holds c.in-Some.ensures ∙ ap (λ (m : ℕ). holds (index_row_in m name (map row_view c.rows.result.now))) c.major_at.ensures
+    c.body_breaks.ensures ∙ ap holds c.in-Some.ensures ∙ ap (λ (m : ℕ). holds (index_row_in m name (map row_view c.rows.result.now))) c.major_at.ensures
     ∙ ap (λ (l : List Row). holds (index_row_in (major_at c.args.location) name l)) c.rows.ensures
     ∙ sym (index_row_found c.args.pool.now Both c.args.location name c.args.body.now)
 
