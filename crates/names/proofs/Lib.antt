@@ -17,6 +17,7 @@ pub mod Kept
 pub mod Returned
 pub mod NameScan
 mod PlainNames
+mod SingleUnits
 pub mod JoinedLanes
 pub mod JoinedNames
 pub mod ShapeLaws

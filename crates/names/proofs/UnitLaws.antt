@@ -12,7 +12,7 @@ use Rattle.names.specs.Units.{bad_behind, bad_from, bad_text, unit_at, two, thre
 
 -- ---- what is spelled is found
 
-again_one : (u : ℕ) (x : List ℕ) → 0 < u → u < 128 → unit_at (u ∷ x) ≡ Some (u, 1)
+pub again_one : (u : ℕ) (x : List ℕ) → 0 < u → u < 128 → unit_at (u ∷ x) ≡ Some (u, 1)
 again_one u x h k = grind (arith, nat_tests)
 
 again_two : (a b u : ℕ) (x : List ℕ) → 192 ≤ a → a < 224 → 128 ≤ b → b < 192 → (a - 192) * 64 + (b - 128) ≡ u → (128 ≤ u) ⊎ (u ≡ 0) → unit_at (a ∷ b ∷ x) ≡ Some (u, 2)

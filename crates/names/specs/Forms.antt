@@ -13,13 +13,19 @@ pub record AreNameForms (bytes : List ℕ) (f : NameForms) : Type 0 where
 abbrev pub is_plain : ℕ → Bool
 is_plain b = is_name_unit b && not (is_angle b)
 
--- the bytes from one place up to another are plain
-abbrev pub ArePlainBetween : List ℕ → ℕ → ℕ → Type 0
-ArePlainBetween bytes at end = (k : ℕ) → at ≤ k → k < end → is_plain (slice_index bytes k) ≡ true
+-- the bytes from one place up to another are of a kind
+abbrev pub AreBetween : (ℕ → Bool) → List ℕ → ℕ → ℕ → Type 0
+AreBetween is bytes at end = (k : ℕ) → at ≤ k → k < end → is (slice_index bytes k) ≡ true
 
--- the first bytes, so many, of n from a place on are plain
+-- the first bytes, so many, of n from a place on are
+abbrev pub AreIn : (ℕ → Bool) → List ℕ → ℕ → ℕ → ℕ → Type 0
+AreIn is bytes at n count = (count ≤ n) × AreBetween is bytes at (at + count)
+
+abbrev pub ArePlainBetween : List ℕ → ℕ → ℕ → Type 0
+ArePlainBetween = AreBetween is_plain
+
 abbrev pub ArePlainIn : List ℕ → ℕ → ℕ → ℕ → Type 0
-ArePlainIn bytes at n count = (count ≤ n) × ArePlainBetween bytes at (at + count)
+ArePlainIn = AreIn is_plain
 
 pub record IsPlainUpTo (bytes : List ℕ) (at end : ℕ) : Type 0 where
   pub ordered : at ≤ end

@@ -1,6 +1,6 @@
 -- The unit that a byte list begins with, and the first byte with which none begins: words that compute
 -- what the spelling of units (Texts) says (JVMS 4.4.7).
-use Rattle.std.specs.Prelude.{ℕ, zero, suc, length, drop, ◌+◌, ◌-◌, ◌*◌, List, [], ◌∷◌, nat_lt, nat_le, nat_eq, if◌then◌else◌, Option, Some, None, ◌&&◌, ◌||◌}
+use Rattle.std.specs.Prelude.{ℕ, zero, suc, length, drop, ◌+◌, ◌-◌, ◌*◌, not, Bool, List, [], ◌∷◌, nat_lt, nat_le, nat_eq, if◌then◌else◌, Option, Some, None, ◌&&◌, ◌||◌}
 
 -- the unit that n bytes spell, unless fewer bytes spell it
 abbrev pub shortest : ℕ → ℕ → ℕ → Option (ℕ × ℕ)
@@ -26,6 +26,10 @@ unit_at (a ∷ bs) =
     else if nat_lt a 224 then two a bs
     else if nat_lt a 240 then three a bs
     else None
+
+-- a byte that spells a unit by itself
+abbrev pub is_single : ℕ → Bool
+is_single b = nat_lt b 128 && not (nat_eq b 0)
 
 -- what the rest of a text says behind a unit, if there is one
 abbrev pub bad_behind : (ℕ → List ℕ → Option ℕ) → ℕ → List ℕ → Option (ℕ × ℕ) → Option ℕ

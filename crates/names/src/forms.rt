@@ -4,8 +4,9 @@ ghost use Rattle.std.specs.Prelude.{◌≡◌, ◌↔◌, IsTrue};
 ghost use Rattle.names.specs.Names.{IsUnqualifiedName, IsMethodName, IsClassName};
 ghost use Rattle.names.specs.Forms.{AreNameForms};
 
+use crate::by_lanes::are_all;
 use crate::name::{is_angle, is_name_byte};
-use crate::plain::{are_plain, is_plain};
+use crate::plain::{Plain, is_plain};
 use crate::text::Text;
 
 /// The forms of names that a text has (JVMS 4.2).
@@ -32,7 +33,7 @@ pub fn name_forms(text: Text<'_>) -> NameForms
 fn forms_of(bytes: &[u8]) -> NameForms
     ensures { AreNameForms bytes.now result }
 {
-    if !bytes.is_empty() && are_plain(bytes) {
+    if !bytes.is_empty() && are_all::<Plain>(bytes) {
         return NameForms {
             class_name: true,
             unqualified_name: true,

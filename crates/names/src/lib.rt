@@ -10,6 +10,8 @@
 //! - `name`: whether a text is a class name, a field's name or a method's name.
 //! - `forms`: the three of them in one pass.
 //! - `joined`: most class names, told by lanes.
+//! - `by_lanes`: bytes of one kind, sixteen or eight at a time.
+//! - `single`: bytes that spell a unit each.
 //! - `plain`: where bytes end with which each name goes on, as most do.
 //! - `base`, `descriptor`: the types that descriptors name, their widths, and their texts.
 //! - `reading`: the types of a descriptor's text.
@@ -23,6 +25,7 @@
 #![tactic(auto)]
 
 mod base;
+mod by_lanes;
 mod descriptor;
 mod fault;
 mod field_descriptor;
@@ -35,6 +38,7 @@ mod plain;
 mod reading;
 mod references;
 mod shape;
+mod single;
 mod standard;
 mod text;
 mod type_end;

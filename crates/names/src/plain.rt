@@ -1,8 +1,9 @@
 //! Plain bytes: those with which each name goes on, whatever stands before them. Most bytes of names are plain.
 
 ghost use Rattle.std.specs.Prelude.{◌≡◌, ◌+◌, ◌≤◌, true, length};
-ghost use Rattle.names.specs.Forms.{is_plain, first_set, ArePlainBetween, ArePlainIn, IsPlainUpTo};
+ghost use Rattle.names.specs.Forms.{is_plain, ArePlainIn, IsPlainUpTo};
 
+use crate::by_lanes::{ByLanes, first_set};
 use std::simd::prelude::*;
 
 /// For each byte whether it is none of `.`, `/`, `;`, `<`, `>` and `[`.
@@ -31,18 +32,6 @@ pub(crate) fn is_plain(b: u8) -> bool
     ensures { result ≡ true → is_plain b ≡ true }
 {
     PLAIN[usize::from(b)]
-}
-
-/// The place of the lowest bit that is set, or `lanes` where none is.
-#[inline(always)]
-fn first_set(mask: u64, lanes: usize) -> usize
-    ensures { result ≡ first_set mask lanes }
-{
-    if mask == 0 {
-        lanes
-    } else {
-        mask.trailing_zeros() as usize
-    }
 }
 
 /// How many of the sixteen bytes from a place on are seen to be plain, up to the first that is not, or is a `=`.
@@ -99,43 +88,21 @@ pub(crate) fn plain_end(bytes: &[u8], from: usize) -> usize
     at
 }
 
-/// Whether each byte is seen to be plain, one after the other.
-fn are_plain_singly(bytes: &[u8]) -> bool
-    ensures { result ≡ true → ArePlainBetween bytes.now 0 (length bytes.now) }
-{
-    for b in bytes {
-        if !is_plain(*b) {
-            return false;
-        }
-    }
-    true
-}
+/// Plain bytes, as a kind.
+pub(crate) struct Plain;
 
-/// The same of sixteen bytes or more, sixteen at a time. The last sixteen may begin before the others end.
-fn are_plain_by_sixteen(bytes: &[u8]) -> bool
-    requires { 16 ≤ length bytes.now }
-    ensures { result ≡ true → ArePlainBetween bytes.now 0 (length bytes.now) }
-{
-    let last = bytes.len() - 16;
-    let mut at = 0;
-    while at < last {
-        if plain_of_sixteen(bytes, at) < 16 {
-            return false;
-        }
-        at += 16;
-    }
-    plain_of_sixteen(bytes, last) == 16
-}
+impl ByLanes for Plain {
+    ghost is = { is_plain };
 
-/// Whether all bytes are seen to be plain. Takes no memory.
-pub(crate) fn are_plain(bytes: &[u8]) -> bool
-    ensures { result ≡ true → ArePlainBetween bytes.now 0 (length bytes.now) }
-{
-    if bytes.len() >= 16 {
-        are_plain_by_sixteen(bytes)
-    } else if bytes.len() >= 8 {
-        plain_of_eight(bytes, 0) == 8 && plain_of_eight(bytes, bytes.len() - 8) == 8
-    } else {
-        are_plain_singly(bytes)
+    fn has(b: u8) -> bool {
+        is_plain(b)
+    }
+
+    fn in_sixteen(bytes: &[u8], at: usize) -> usize {
+        plain_of_sixteen(bytes, at)
+    }
+
+    fn in_eight(bytes: &[u8], at: usize) -> usize {
+        plain_of_eight(bytes, at)
     }
 }

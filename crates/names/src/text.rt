@@ -6,7 +6,9 @@ ghost use Rattle.names.specs.UnitsLeft.{units_left};
 ghost use Rattle.names.specs.Texts.{IsText, FirstBad, AreUnits, unit, spelling};
 ghost use Rattle.names.specs.declared.fault.NameFault.TheVariants.{BadText, OutOfMemory};
 
+use crate::by_lanes::are_all;
 use crate::fault::NameFault;
+use crate::single::Single;
 use std::alloc::{AllocError, Global};
 
 /// Bytes that are well-spelled modified UTF-8: each 16-bit unit in its shortest spelling, where 0 takes
@@ -106,6 +108,9 @@ fn unit_at(bytes: &[u8]) -> Option<(u16, usize)>
 fn first_bad(bytes: &[u8]) -> Option<usize>
     ensures { result ≡ bad_text bytes.now }
 {
+    if are_all::<Single>(bytes) {
+        return None;
+    }
     let mut at = 0;
     while at < bytes.len() {
         let (_, rest) = bytes.split_at(at);

@@ -6,12 +6,12 @@ use Rattle.names.proofs.NameScan.{InName, plain_in_name, slash_in_name, unit_in_
 use Rattle.names.proofs.PlainNames.{plain_to_the_end}
 use Rattle.names.proofs.forms.forms_of.Goals as goal
 
-pub returns-then-are_plain : goal.returns-then-are_plain
-returns-then-are_plain c =
+pub returns-then-are_all : goal.returns-then-are_all
+returns-then-are_all c =
     let bytes = c.args.bytes.now in
     let not_none = eqb-false (length bytes) 0 (sym c.is_empty.ensures ∙ c.if-not-is_empty.true) in
     let some : 0 < length bytes = omega (arith, not_none) in
-    plain_to_the_end bytes some (c.are_plain.ensures c.if-are_plain.true)
+    plain_to_the_end bytes some (c.are_all.ensures c.if-are_all.true)
 
 pub loop-at-preserved-then-is_plain : goal.loop-at-preserved-then-is_plain
 loop-at-preserved-then-is_plain c =

@@ -1,7 +1,11 @@
 use Rattle.std.proofs.Common.{◌≡◌, drop, sym, Some, None}
 use Rattle.names.specs.Units.{unit_at}
 use Rattle.names.proofs.UnitLaws.{read_all, text_is_good, bad_is_found, read_on, stays_within}
+use Rattle.names.proofs.SingleUnits.{single_is_good}
 use Rattle.names.proofs.text.first_bad.Goals as goal
+
+pub returns-then-are_all : goal.returns-then-are_all
+returns-then-are_all c = sym (single_is_good c.args.bytes.now (c.are_all.ensures c.if-are_all.true))
 
 pub returns-in-None : goal.returns-in-None
 returns-in-None c =

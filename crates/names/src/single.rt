@@ -1,0 +1,49 @@
+//! Bytes that spell a unit each: those from 1 to 127, as most of a text are (JVMS 4.4.7).
+
+ghost use Rattle.std.specs.Prelude.{◌≡◌, ◌+◌, ◌≤◌, true, length};
+ghost use Rattle.names.specs.Units.{is_single};
+ghost use Rattle.names.specs.Forms.{AreIn};
+
+use crate::by_lanes::{ByLanes, first_set};
+use std::simd::prelude::*;
+
+/// Bytes that spell a unit each, as a kind.
+pub(crate) struct Single;
+
+impl ByLanes for Single {
+    ghost is = { is_single };
+
+    fn has(b: u8) -> bool {
+        matches!(b, 1..=127)
+    }
+
+    fn in_sixteen(bytes: &[u8], at: usize) -> usize {
+        single_of_sixteen(bytes, at)
+    }
+
+    fn in_eight(bytes: &[u8], at: usize) -> usize {
+        single_of_eight(bytes, at)
+    }
+}
+
+/// How many of the sixteen bytes from a place on spell a unit each, up to the first that does not.
+#[inline(always)]
+fn single_of_sixteen(bytes: &[u8], at: usize) -> usize
+    requires { at + 16 ≤ length bytes.now }
+    ensures { AreIn is_single bytes.now at 16 result }
+{
+    let v = u8x16::from_slice(&bytes[at..]);
+    let stops = (v - u8x16::splat(1)).simd_ge(u8x16::splat(127));
+    first_set(stops.to_bitmask(), 16)
+}
+
+/// The same of eight bytes.
+#[inline(always)]
+fn single_of_eight(bytes: &[u8], at: usize) -> usize
+    requires { at + 8 ≤ length bytes.now }
+    ensures { AreIn is_single bytes.now at 8 result }
+{
+    let v = u8x8::from_slice(&bytes[at..]);
+    let stops = (v - u8x8::splat(1)).simd_ge(u8x8::splat(127));
+    first_set(stops.to_bitmask(), 8)
+}
