@@ -85,7 +85,7 @@ fn result_seen(bytes: &[u8], at: usize, stops: u64) -> Option<bool>
     Some(has_result)
 }
 
-/// The shape of most descriptors within the limits, without their types.
+/// The shape of a method within the limits, by the places where its types end.
 fn shape_seen(bytes: &[u8], receiver: bool) -> Option<MethodShape>
     ensures { IfSome result (λ s. HasShape receiver bytes.now s) }
 {

@@ -1,8 +1,8 @@
 use names::{
     Base, FieldType, MethodShape, MethodType, NameFault, NameForms, Text, check_text,
-    field_answers, field_type, is_class_name, is_field_name, is_method_name, method_answers,
-    method_shape, method_type, name_forms, names_by_units, one_field_type, one_method_type,
-    one_unit_list, parameter_types, result_type, spell, text_answers, units,
+    field_answers, field_type, is_class_name, is_field_descriptor, is_field_name, is_method_name,
+    method_answers, method_shape, method_type, name_forms, names_by_units, one_field_type,
+    one_method_type, one_unit_list, parameter_types, result_type, spell, text_answers, units,
 };
 use std::alloc::Global;
 use std::test::*;
@@ -267,6 +267,47 @@ fn want_of_memory(rt: HostRuntime) {
     assert!(rt; is_text(rt.alloc(), true));
     assert!(rt; is_method(rt.alloc(), METHOD, true));
     assert!(rt; is_array(rt.alloc(), b"[[J", true));
+}
+
+/// Whether the text is the descriptor of a field.
+fn is_field(descriptor: &[u8]) -> bool {
+    match check_text(descriptor) {
+        Ok(text) => is_field_descriptor(text),
+        Err(_) => false,
+    }
+}
+
+#[test]
+fn descriptors_of_fields(rt: HostRuntime) {
+    let long: &[u8] =
+        b"[[Ljava/util/concurrent/ConcurrentHashMap$ForwardingNode_of_a_name_beyond_64;";
+    for one in [b"J".as_slice(), b"[[I", b"La;", b"Ljava/lang/String;", long] {
+        assert!(rt; is_field(one));
+    }
+    let doubled: &[u8] = b"Ljava/lang//String;";
+    for none in [
+        b"".as_slice(),
+        b"V",
+        b"[",
+        b"L;",
+        b"La",
+        b"La/;",
+        b"L/a;",
+        b"II",
+        doubled,
+        METHOD,
+    ] {
+        assert!(rt; !is_field(none));
+    }
+}
+
+/// Arrays of as many dimensions as the limit allows, and of one more.
+#[test]
+fn deepest_fields(rt: HostRuntime) {
+    let mut field = [b'['; 257];
+    field[256] = b'I';
+    assert!(rt; is_field(&field[1..]));
+    assert!(rt; !is_field(&field));
 }
 
 /// The shape of a method of this descriptor, with the receiver or without it.
