@@ -279,35 +279,40 @@ fn is_field(descriptor: &[u8]) -> bool {
 
 #[test]
 fn descriptors_of_fields(rt: HostRuntime) {
-    let long: &[u8] =
-        b"[[Ljava/util/concurrent/ConcurrentHashMap$ForwardingNode_of_a_name_beyond_64;";
-    for one in [b"J".as_slice(), b"[[I", b"La;", b"Ljava/lang/String;", long] {
-        assert!(rt; is_field(one));
-    }
-    let doubled: &[u8] = b"Ljava/lang//String;";
-    for none in [
-        b"".as_slice(),
-        b"V",
-        b"[",
-        b"L;",
-        b"La",
-        b"La/;",
-        b"L/a;",
-        b"II",
-        doubled,
-        METHOD,
+    for one in [
+        "J",
+        "[[I",
+        "La;",
+        "Ljava/lang/String;",
+        "[Lsome/package/with/a/name/of/more/bytes/than/the/first/sixty/four/of/a/text;",
     ] {
-        assert!(rt; !is_field(none));
+        assert!(rt; is_field(one.as_bytes()));
+    }
+    for none in [
+        "",
+        "V",
+        "[",
+        "L;",
+        "La",
+        "La/;",
+        "L/a;",
+        "II",
+        "()V",
+        "Ljava/lang//String;",
+    ] {
+        assert!(rt; !is_field(none.as_bytes()));
     }
 }
 
 /// Arrays of as many dimensions as the limit allows, and of one more.
 #[test]
 fn deepest_fields(rt: HostRuntime) {
-    let mut field = [b'['; 257];
-    field[256] = b'I';
-    assert!(rt; is_field(&field[1..]));
-    assert!(rt; !is_field(&field));
+    let mut deepest = [b'['; 256];
+    deepest[255] = b'I';
+    assert!(rt; is_field(&deepest));
+    let mut deeper = [b'['; 257];
+    deeper[256] = b'I';
+    assert!(rt; !is_field(&deeper));
 }
 
 /// The shape of a method of this descriptor, with the receiver or without it.
