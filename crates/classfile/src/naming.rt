@@ -2,7 +2,7 @@
 ghost use Rattle.std.specs.Prelude.{◌≡◌};
 ghost use Rattle.classfile.specs.Naming.{begins_with, is_array_name, is_class_name, is_unqualified_name, is_method_name, is_init, is_clinit, is_field_descriptor};
 
-use names::{NameForms, Text, field_type};
+use names::{NameForms, Text};
 
 /// Whether the text begins with the byte.
 pub fn begins_with(text: Text<'_>, byte: u8) -> bool
@@ -61,5 +61,5 @@ pub fn is_clinit(text: Text<'_>) -> bool
 pub fn is_field_descriptor(text: Text<'_>) -> bool
     ensures { result ≡ is_field_descriptor text.entry.bytes.now }
 {
-    field_type(text).is_ok()
+    names::is_field_descriptor(text)
 }

@@ -1,15 +1,17 @@
 -- From the mask of a load, and of the load one byte before it, to how far class names go on.
-use Rattle.std.proofs.Common.{◌≡◌, ℕ, ◌+◌, ◌-◌, ◌/◌, ◌%◌, ◌^◌, ◌<◌, ◌≤◌, Bool, true, false, ◌||◌, eqb, cond, List, [], ◌∷◌, map, length, get_or, Fits, w8, w64, bit_or, bit_and, refl, sym, ap, ◌∙◌, subst, arith, inl, inr}
+use Rattle.std.proofs.Common.{◌≡◌, ℕ, ◌+◌, ◌-◌, ◌*◌, ◌/◌, ◌%◌, ◌^◌, ◌<◌, ◌≤◌, Bool, true, false, ◌||◌, eqb, cond, List, [], ◌∷◌, map, length, get_or, Fits, w8, w64, bit_or, bit_and, refl, sym, ap, ◌∙◌, subst, arith, inl, inr}
 use Rattle.std.proofs.lemmas.Bool.{agree_below, agree_below_at, cases_lt}
 use Rattle.std.proofs.lemmas.Simd.{mask_l-mod, mask_l-lt, bit_mask_l, length-chunk, get_or-chunk, get_or-zip2, length-zip2}
 use Rattle.std.proofs.lemmas.List.{length-map, get_or-map}
-use Rattle.std.proofs.lemmas.Nat.{shr-shr, shr_le}
-use Rattle.std.proofs.lemmas.Nat.Bits.{bit_at-zero, bit_at_above, bit_at-trailing_zeros}
+use Rattle.std.proofs.lemmas.Nat.{shr-shr, shr_le, shr_split}
+use Rattle.std.proofs.lemmas.Nat.Bits.{bit_at-zero, bit_at_above, bit_at-trailing_zeros, bit_at_or, bit_at_cat_low, bit_at_cat_high}
 use Rattle.std.specs.Int.{bit_at, trailing_zeros}
+use Rattle.std.specs.Prelude.{max}
+use native.Mathlib.Nat.{one-le-pow}
 use lib.Lanes.{chunk, zip2, mask_l, top}
 use Rattle.names.specs.Names.{slash}
 use Rattle.names.specs.Reading.{goes_on}
-use Rattle.names.specs.TypeEnds.{goes_on_at, AreStops, GoesOnUpTo}
+use Rattle.names.specs.TypeEnds.{goes_on_at, AreStops, AreStopsUpTo, GoesOnUpTo}
 
 -- an operation on a vector that was computed lane by lane from xs, and on two of which one was from ys
 paired : (f h : ℕ → ℕ → ℕ) (g k l : ℕ → ℕ) (xs ys : List ℕ) → zip2 f (map g xs) (zip2 h (map k xs) (map l ys)) ≡ zip2 (λ x y. f (g x) (h (k x) (l y))) xs ys
@@ -122,3 +124,40 @@ module _ (bytes : List ℕ) (start at from mask : ℕ) (so_far : GoesOnUpTo byte
         | inr more ↦ (let set : 1 ≡ 0 = sym t.1 ∙ ap (λ m. m % 2) (shr-shr mask skip n) ∙ bit_at_above mask 16 (skip + n) small more in absurd (omega (arith, set)))
       ]) in
       go_on bytes start at n so_far (omega (arith, lt, room, ordered)) (λ k less. goes k (omega (arith, lt, less)) (t.2 k less))
+
+-- ---- the first 64 bytes
+
+both_unset : (a b : ℕ) → max a b ≡ 0 → (a ≡ 0) × (b ≡ 0)
+both_unset a b none = omega (arith, none)
+
+moved_bit : (mask from k : ℕ) → from ≤ k → k < 64 → bit_at (mask * 2 ^ from % 2 ^ 64) k ≡ bit_at mask (k - from)
+moved_bit mask from k le lt =
+    let n = mask * 2 ^ from in
+    let plain : n + 0 ≡ n = omega arith in
+    sym (bit_at_cat_low (n / 2 ^ 64) 64 (n % 2 ^ 64) k lt)
+    ∙ ap (λ m. bit_at m k) (shr_split n 64 ∙ sym plain)
+    ∙ bit_at_cat_high mask from 0 k (one-le-pow from 2 (omega arith)) le
+
+pub more_stops : (bytes : List ℕ) (at from stops mask : ℕ) → AreStopsUpTo bytes at stops → from ≤ at → AreStops bytes from 16 mask → AreStopsUpTo bytes (from + 16) (bit_or stops (mask * 2 ^ from % 2 ^ 64))
+more_stops bytes at from stops mask so_far ordered more k some lt few off =
+    let off = both_unset _ _ (sym (bit_at_or stops (mask * 2 ^ from % 2 ^ 64) k) ∙ off) in
+    elim (cases_lt k from) [
+      | inl before ↦ so_far k some (omega (arith, before, ordered)) few off.0
+      | inr behind ↦
+          let back : from + (k - from) ≡ k = omega (arith, behind) in
+          subst (λ p. goes_on_at bytes p ≡ true) back (more (k - from) (omega (arith, behind, lt)) (sym (moved_bit mask from k behind few) ∙ off.1))
+    ]
+
+pub up_to_first : (bytes : List ℕ) (start stops : ℕ) → 1 ≤ start → start ≤ length bytes → AreStopsUpTo bytes (length bytes) stops → stops < 2 ^ 64 → 0 < stops / 2 ^ start → start + trailing_zeros w64 (stops / 2 ^ start) < length bytes
+    → GoesOnUpTo bytes start (start + trailing_zeros w64 (stops / 2 ^ start))
+up_to_first bytes start stops behind within are small some short =
+    let ahead = stops / 2 ^ start in
+    let t = bit_at-trailing_zeros w64 ahead some (omega (arith, small, shr_le stops start)) in
+    let n = trailing_zeros w64 ahead in
+    let lt : start + n < 64 =
+    (elim (cases_lt (start + n) 64) [
+      | inl less ↦ less
+      | inr more ↦ (let set : 1 ≡ 0 = sym t.1 ∙ ap (λ m. m % 2) (shr-shr stops start n) ∙ bit_at_above stops 64 (start + n) small more in absurd (omega (arith, set)))
+    ]) in
+    let here : GoesOnUpTo bytes start start = record { ordered = omega arith; within = within; goes = λ k from to. absurd (omega (arith, from, to)) } in
+    go_on bytes start start n here (omega (arith, short)) (λ k less. are (start + k) (omega (arith, behind)) (omega (arith, short, less)) (omega (arith, lt, less)) (sym (ap (λ m. m % 2) (shr-shr stops start k)) ∙ t.2 k less))

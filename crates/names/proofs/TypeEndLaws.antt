@@ -9,9 +9,9 @@ use Rattle.names.specs.Names.{slash, semicolon, bracket, is_name_unit}
 use Rattle.names.specs.declared.base.Primitive.{Primitive}
 use Rattle.names.specs.declared.base.Primitive.TheVariants.{Byte, Char, Double, Float, Int, Long, Short, Boolean}
 use Rattle.names.specs.Descriptors.{FieldDescriptor, primitive, class, letter, class_letter, dimensioned, dimensions, field_width}
-use Rattle.names.specs.Reading.{found, mapped, goes_on, read_class, primitive_of}
+use Rattle.names.specs.Reading.{found, mapped, goes_on, read_class, read_base, read_field, primitive_of}
 use Rattle.names.specs.TypeEnds.{goes_on_at, GoesOnUpTo, is_letter, units_of, ReadsBase, ReadsType}
-use Rattle.names.proofs.FieldReader.{class_on, class_end, primitive_has_letter}
+use Rattle.names.proofs.FieldReader.{class_on, class_end, field_base, primitive_has_letter}
 use Rattle.names.proofs.Steps.{brackets, base_is_class, base_is_primitive, field_is_read}
 
 -- ---- class names
@@ -125,3 +125,15 @@ module _ (bytes rest : List ℕ) (at d end : ℕ) (is_rest : rest ≡ drop at by
         shallow = le-ltb 255 (dimensions (dimensioned d base.type)) (omega (arith, flat, deep, few));
         width = width_is d refl;
       }
+
+pub base_to_end : (bytes : List ℕ) (at end : ℕ) → at < length bytes → (get_or bytes at 0 ≡ bracket → ⊥) → ReadsBase bytes at end → ReadsType bytes at end
+base_to_end bytes at end within other base =
+    let flat = base.flat in
+    let is = drop_more bytes at 0 within in
+    record {
+      type = base.type;
+      within = base.within;
+      reads = ap read_field is ∙ field_base (get_or bytes at 0) (drop (at + 1) bytes) (ne_eqb (get_or bytes at 0) bracket other) ∙ ap read_base (sym is) ∙ base.reads;
+      shallow = le-ltb 255 (dimensions base.type) (omega (arith, flat));
+      width = base.width;
+    }

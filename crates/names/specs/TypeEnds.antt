@@ -15,6 +15,10 @@ goes_on_at bytes place = goes_on (nat_eq (slice_index bytes (place - 1)) slash) 
 abbrev pub AreStops : List ℕ → ℕ → ℕ → ℕ → Type 0
 AreStops bytes at n mask = (k : ℕ) → k < n → bit_at mask k ≡ 0 → goes_on_at bytes (at + k) ≡ true
 
+-- it does so at each place up to one, of the first 64, unless its bit is set
+abbrev pub AreStopsUpTo : List ℕ → ℕ → ℕ → Type 0
+AreStopsUpTo bytes end mask = (k : ℕ) → 1 ≤ k → k < end → k < 64 → bit_at mask k ≡ 0 → goes_on_at bytes k ≡ true
+
 -- it does so at each place from one up to another
 pub record GoesOnUpTo (bytes : List ℕ) (start end : ℕ) : Type 0 where
   pub ordered : start ≤ end

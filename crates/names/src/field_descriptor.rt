@@ -5,6 +5,7 @@ ghost use Rattle.std.specs.Result.{is_ok};
 ghost use Rattle.names.specs.Descriptors.{FieldDescriptor, SpellsField, dimensions};
 ghost use Rattle.names.specs.Reading.{field_answer};
 
+use crate::name_run::stops_in_front;
 use crate::reading::field_type;
 use crate::text::Text;
 use crate::type_end::type_end;
@@ -25,5 +26,5 @@ pub fn is_field_descriptor(text: Text<'_>) -> bool
 fn is_one_type(bytes: &[u8]) -> bool
     ensures { IsTrue result → IsTrue (is_ok (field_answer bytes.now)) }
 {
-    !bytes.is_empty() && type_end(bytes, 0) == bytes.len()
+    !bytes.is_empty() && type_end(bytes, 0, stops_in_front(bytes)) == bytes.len()
 }

@@ -3,7 +3,7 @@
 ghost use Rattle.std.specs.Prelude.{◌≡◌, ◌+◌, ◌≤◌, ◌<◌, ◌^◌, nat_eq, length};
 ghost use Rattle.names.specs.Names.{slash};
 ghost use Rattle.names.specs.Reading.{goes_on};
-ghost use Rattle.names.specs.TypeEnds.{AreStops, GoesOnUpTo};
+ghost use Rattle.names.specs.TypeEnds.{AreStops, AreStopsUpTo, GoesOnUpTo};
 
 use crate::name::is_name_byte;
 use std::simd::prelude::*;
@@ -46,8 +46,46 @@ fn run_end_of_few(bytes: &[u8], start: usize) -> usize
     at
 }
 
+/// For the first 64 bytes a bit each behind the first, where there are more than sixteen: set where no class name goes on
+/// with it, behind the byte before it.
+pub(crate) fn stops_in_front(bytes: &[u8]) -> u64
+    ensures { 16 < length bytes.now → AreStopsUpTo bytes.now (length bytes.now) result }
+{
+    if bytes.len() <= 16 {
+        return 0;
+    }
+    let mut stops = 0;
+    let mut at = 1;
+    while at < 64 && at < bytes.len() {
+        let from = at.min(bytes.len() - 16);
+        stops |= stops_in_sixteen(bytes, from) << from;
+        at = from + 16;
+    }
+    stops
+}
+
+/// The first place from one on where no class name goes on, behind the byte before it, or the end of the bytes. The bytes'
+/// `stops` are those of [`stops_in_front`].
+#[inline(always)]
+pub(crate) fn name_end(bytes: &[u8], start: usize, stops: u64) -> usize
+    requires behind { 1 ≤ start }
+    requires within { start ≤ length bytes.now }
+    requires stops { 16 < length bytes.now → AreStopsUpTo bytes.now (length bytes.now) stops }
+    ensures { GoesOnUpTo bytes.now start result }
+{
+    if bytes.len() > 16 && start < 64 {
+        let ahead = stops >> start;
+        let end = start + ahead.trailing_zeros() as usize;
+        if ahead != 0 && end < bytes.len() {
+            return end;
+        }
+    }
+    run_end(bytes, start)
+}
+
 /// The first place from one on where no class name goes on, behind the byte before it, or the end of the bytes.
-pub(crate) fn run_end(bytes: &[u8], start: usize) -> usize
+#[inline(never)]
+fn run_end(bytes: &[u8], start: usize) -> usize
     requires behind { 1 ≤ start }
     requires within { start ≤ length bytes.now }
     ensures { GoesOnUpTo bytes.now start result }

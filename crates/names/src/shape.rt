@@ -1,16 +1,17 @@
 //! The shape of a method: what its descriptor says without a list of its types (JVMS 4.3.3).
 
-ghost use Rattle.std.specs.Prelude.{◌≡◌, ◌≤◌, List, length, MatchResult, IfSome};
+ghost use Rattle.std.specs.Prelude.{◌≡◌, ◌≤◌, ◌<◌, List, length, MatchResult, IfSome};
 ghost use Rattle.std.specs.List.{list_any};
 ghost use Rattle.std.specs.Option.{option_map};
 ghost use Rattle.names.specs.Descriptors.{FieldDescriptor, field_width, result_types};
 ghost use Rattle.names.specs.Reading.{outside, is_deep, read_params, read_method, method_type};
 ghost use Rattle.names.specs.ReadTypes.{type_read};
 ghost use Rattle.names.specs.Shapes.{Sums, OneMore, SumsParams, SumsMethod, IsShapeWithin, HasShape, IsShapeAnswer};
-ghost use Rattle.names.specs.TypeEnds.{SeesParams, SeesResult};
+ghost use Rattle.names.specs.TypeEnds.{AreStopsUpTo, SeesParams, SeesResult};
 
 use crate::base::{Base, Primitive};
 use crate::fault::NameFault;
+use crate::name_run::stops_in_front;
 use crate::reading::{FieldRead, Outside, bad_descriptor, is_first, read_field, read_result};
 use crate::text::Text;
 use crate::type_end::{type_end, units_of};
@@ -39,8 +40,9 @@ pub fn method_shape(text: Text<'_>, receiver: bool) -> Result<MethodShape, NameF
 }
 
 /// The place of the `)` behind parameters, and their units, where each of them is seen.
-fn params_seen(bytes: &[u8]) -> Option<(usize, usize)>
-    requires { 1 ≤ length bytes.now }
+fn params_seen(bytes: &[u8], stops: u64) -> Option<(usize, usize)>
+    requires some { 1 ≤ length bytes.now }
+    requires stops { 16 < length bytes.now → AreStopsUpTo bytes.now (length bytes.now) stops }
     ensures { IfSome result (λ x. SeesParams bytes.now x.0 x.1) }
 {
     let mut at = 1;
@@ -53,7 +55,7 @@ fn params_seen(bytes: &[u8]) -> Option<(usize, usize)>
         if first == b')' {
             return Some((at, units));
         }
-        let end = type_end(bytes, at);
+        let end = type_end(bytes, at, stops);
         if end == at {
             return None;
         }
@@ -63,8 +65,9 @@ fn params_seen(bytes: &[u8]) -> Option<(usize, usize)>
 }
 
 /// Whether there is a result, where it or a `V` is seen from this place up to the end.
-fn result_seen(bytes: &[u8], at: usize) -> Option<bool>
-    requires { at ≤ length bytes.now }
+fn result_seen(bytes: &[u8], at: usize, stops: u64) -> Option<bool>
+    requires there { at ≤ length bytes.now }
+    requires stops { 16 < length bytes.now → AreStopsUpTo bytes.now (length bytes.now) stops }
     ensures { IfSome result (λ has_result. SeesResult bytes.now at has_result) }
 {
     if at == bytes.len() {
@@ -72,7 +75,7 @@ fn result_seen(bytes: &[u8], at: usize) -> Option<bool>
     }
     let has_result = bytes[at] != b'V';
     let end = if has_result {
-        type_end(bytes, at)
+        type_end(bytes, at, stops)
     } else {
         at + 1
     };
@@ -82,15 +85,16 @@ fn result_seen(bytes: &[u8], at: usize) -> Option<bool>
     Some(has_result)
 }
 
-/// The shape of most descriptors within the limits, without their types.
+/// The shape of a method within the limits, by the places where its types end.
 fn shape_seen(bytes: &[u8], receiver: bool) -> Option<MethodShape>
     ensures { IfSome result (λ s. HasShape receiver bytes.now s) }
 {
     if !is_first(bytes, b'(') {
         return None;
     }
-    let (end, units) = params_seen(bytes)?;
-    let has_result = result_seen(bytes, end + 1)?;
+    let stops = stops_in_front(bytes);
+    let (end, units) = params_seen(bytes, stops)?;
+    let has_result = result_seen(bytes, end + 1, stops)?;
     let units = units + usize::from(receiver);
     if units > 255 {
         return None;

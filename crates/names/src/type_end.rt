@@ -2,9 +2,9 @@
 
 ghost use Rattle.std.specs.Prelude.{◌≡◌, ◌≤◌, ◌<◌, length, slice_index};
 ghost use Rattle.names.specs.Descriptors.{class_letter};
-ghost use Rattle.names.specs.TypeEnds.{units_of, is_letter, ReadsBase, ReadsType};
+ghost use Rattle.names.specs.TypeEnds.{units_of, is_letter, AreStopsUpTo, ReadsBase, ReadsType};
 
-use crate::name_run::run_end;
+use crate::name_run::name_end;
 use crate::reading::brackets;
 
 /// How many units a value takes whose type begins with the byte (JVMS 2.6.1).
@@ -25,14 +25,16 @@ fn is_letter(b: u8) -> bool
 }
 
 /// Where a class ends whose `L` stands at this place: this place itself where none does.
-fn class_end(bytes: &[u8], at: usize) -> usize
+#[inline(always)]
+fn class_end(bytes: &[u8], at: usize, stops: u64) -> usize
     requires there { at < length bytes.now }
     requires letter { slice_index bytes.now at ≡ class_letter }
+    requires stops { 16 < length bytes.now → AreStopsUpTo bytes.now (length bytes.now) stops }
     ensures forth { at ≤ result }
     ensures read { at < result → ReadsBase bytes.now at result }
 {
     let start = at + 1;
-    let end = run_end(bytes, start);
+    let end = name_end(bytes, start, stops);
     if end == bytes.len() || bytes[end] != b';' || end == start {
         return at;
     }
@@ -43,14 +45,16 @@ fn class_end(bytes: &[u8], at: usize) -> usize
 }
 
 /// Where a primitive type or a class ends that begins at this place: this place itself where none does.
-fn base_end(bytes: &[u8], at: usize) -> usize
-    requires { at < length bytes.now }
+#[inline(always)]
+fn base_end(bytes: &[u8], at: usize, stops: u64) -> usize
+    requires there { at < length bytes.now }
+    requires stops { 16 < length bytes.now → AreStopsUpTo bytes.now (length bytes.now) stops }
     ensures forth { at ≤ result }
     ensures read { at < result → ReadsBase bytes.now at result }
 {
     let first = bytes[at];
     if first == b'L' {
-        return class_end(bytes, at);
+        return class_end(bytes, at, stops);
     }
     if is_letter(first) {
         return at + 1;
@@ -58,9 +62,11 @@ fn base_end(bytes: &[u8], at: usize) -> usize
     at
 }
 
-/// Where a type of at most 255 dimensions ends that begins at this place: this place itself where none does.
-pub(crate) fn type_end(bytes: &[u8], at: usize) -> usize
-    requires { at < length bytes.now }
+/// Where an array of at most 255 dimensions ends that begins at this place: this place itself where none does.
+#[inline(never)]
+fn array_end(bytes: &[u8], at: usize, stops: u64) -> usize
+    requires there { at < length bytes.now }
+    requires stops { 16 < length bytes.now → AreStopsUpTo bytes.now (length bytes.now) stops }
     ensures forth { at ≤ result }
     ensures read { at < result → ReadsType bytes.now at result }
 {
@@ -70,9 +76,25 @@ pub(crate) fn type_end(bytes: &[u8], at: usize) -> usize
     if dims > 255 || base == bytes.len() {
         return at;
     }
-    let end = base_end(bytes, base);
+    let end = base_end(bytes, base, stops);
     if end == base {
         return at;
     }
     end
+}
+
+/// Where a type of at most 255 dimensions ends that begins at this place: this place itself where none does. The bytes'
+/// `stops` are those of [`stops_in_front`](crate::name_run::stops_in_front).
+#[inline(always)]
+pub(crate) fn type_end(bytes: &[u8], at: usize, stops: u64) -> usize
+    requires there { at < length bytes.now }
+    requires stops { 16 < length bytes.now → AreStopsUpTo bytes.now (length bytes.now) stops }
+    ensures forth { at ≤ result }
+    ensures read { at < result → ReadsType bytes.now at result }
+{
+    if bytes[at] == b'[' {
+        array_end(bytes, at, stops)
+    } else {
+        base_end(bytes, at, stops)
+    }
 }

@@ -1,8 +1,8 @@
 use names::{
     Base, FieldType, MethodShape, MethodType, NameFault, NameForms, Text, check_text,
-    field_answers, field_type, is_class_name, is_field_name, is_method_name, method_answers,
-    method_shape, method_type, name_forms, names_by_units, one_field_type, one_method_type,
-    one_unit_list, parameter_types, result_type, spell, text_answers, units,
+    field_answers, field_type, is_class_name, is_field_descriptor, is_field_name, is_method_name,
+    method_answers, method_shape, method_type, name_forms, names_by_units, one_field_type,
+    one_method_type, one_unit_list, parameter_types, result_type, spell, text_answers, units,
 };
 use std::alloc::Global;
 use std::test::*;
@@ -267,6 +267,52 @@ fn want_of_memory(rt: HostRuntime) {
     assert!(rt; is_text(rt.alloc(), true));
     assert!(rt; is_method(rt.alloc(), METHOD, true));
     assert!(rt; is_array(rt.alloc(), b"[[J", true));
+}
+
+/// Whether the text is the descriptor of a field.
+fn is_field(descriptor: &[u8]) -> bool {
+    match check_text(descriptor) {
+        Ok(text) => is_field_descriptor(text),
+        Err(_) => false,
+    }
+}
+
+#[test]
+fn descriptors_of_fields(rt: HostRuntime) {
+    for one in [
+        "J",
+        "[[I",
+        "La;",
+        "Ljava/lang/String;",
+        "[Lsome/package/with/a/name/of/more/bytes/than/the/first/sixty/four/of/a/text;",
+    ] {
+        assert!(rt; is_field(one.as_bytes()));
+    }
+    for none in [
+        "",
+        "V",
+        "[",
+        "L;",
+        "La",
+        "La/;",
+        "L/a;",
+        "II",
+        "()V",
+        "Ljava/lang//String;",
+    ] {
+        assert!(rt; !is_field(none.as_bytes()));
+    }
+}
+
+/// Arrays of as many dimensions as the limit allows, and of one more.
+#[test]
+fn deepest_fields(rt: HostRuntime) {
+    let mut deepest = [b'['; 256];
+    deepest[255] = b'I';
+    assert!(rt; is_field(&deepest));
+    let mut deeper = [b'['; 257];
+    deeper[256] = b'I';
+    assert!(rt; !is_field(&deeper));
 }
 
 /// The shape of a method of this descriptor, with the receiver or without it.

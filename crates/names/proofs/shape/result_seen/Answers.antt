@@ -10,7 +10,7 @@ returns c =
     let bytes = c.args.bytes.now in
     let at = c.args.at in
     let some = c.if-end-at.false in
-    let within = c.requires in
+    let within = c.requires.there in
     let more = c.if-at-bytes.false in
     elim c.if-has_result.branch [
       | then-has_result w ↦
