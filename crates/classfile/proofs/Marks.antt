@@ -1,14 +1,15 @@
 -- Members by their marks: of those that were met none has a mark that is not set.
-use Rattle.std.proofs.Common.{◌≡◌, ℕ, ◌+◌, ◌*◌, ◌-◌, ◌/◌, ◌%◌, ◌<◌, Bool, true, false, ◌||◌, List, [], ◌∷◌, ◌++◌, length, Ok, Err, refl, sym, ap, ◌∙◌}
+use Rattle.std.proofs.Common.{◌≡◌, ℕ, ◌+◌, ◌*◌, ◌-◌, ◌/◌, ◌%◌, ◌<◌, Bool, true, false, ◌||◌, ◌&&◌, List, [], ◌∷◌, ◌++◌, length, Result, Ok, Err, refl, sym, ap, ◌∙◌}
 use Rattle.std.proofs.lemmas.Bool.{and_parts, eqb-true, eqb-false}
 use Rattle.std.proofs.lemmas.List.{get_or-set_same, get_or-set_other}
 use Rattle.std.specs.Prelude.{nat_eq, slice_index_or, slice_set}
 use Rattle.std.specs.Str.{bytes_eq}
 use Rattle.pool.specs.declared.fault.PoolFault.{PoolFault}
 use Rattle.pool.specs.Entries.{Entry}
-use Rattle.pool.specs.Lookups.{Named, named}
+use Rattle.pool.specs.Lookups.{Named, named, text_at, and_then}
+use Rattle.classfile.specs.Indices.{on_found, on_text}
 use Rattle.classfile.specs.Earlier.{byte_at, mark, AreMarked, MeetsMarked}
-use Rattle.classfile.specs.MemberForm.{are_same, is_among}
+use Rattle.classfile.specs.MemberForm.{are_same, on_member, is_among}
 use Rattle.classfile.specs.Values.{Member}
 use Rattle.classfile.proofs.SeenLaws.{alike, repeated_one, repeated_none, among_one, among_none}
 use lib.Pointwise.{bytes_decides}
@@ -64,3 +65,18 @@ meets_new pool earlier m x marks is marked within unset = record {
   where
     new : false ≡ is_among pool earlier x
     new = alike false (is_among pool earlier x) (λ (h : false ≡ true). absurd cc) (λ h. sym unset ∙ marked x h)
+
+-- a member has the name, and it has the descriptor
+pub both_texts : (pool : List Entry) (m : Member) (x : Named) → on_text pool m.name (bytes_eq x.name) && on_text pool m.descriptor (bytes_eq x.descriptor) ≡ on_member pool m (are_same x)
+unfolding named
+both_texts pool m x = by (text_at pool m.name) (text_at pool m.descriptor)
+  where
+    by : (n d : Result (List ℕ) PoolFault) → on_found (bytes_eq x.name) n && on_found (bytes_eq x.descriptor) d
+        ≡ on_found (are_same x) (and_then n (λ a. and_then d (λ b. Ok (record { name = a; descriptor = b }))))
+    by (Ok a) (Ok b) = refl
+    by (Ok a) (Err e) = neither (bytes_eq x.name a)
+      where
+        neither : (b : Bool) → b && false ≡ false
+        neither true = refl
+        neither false = refl
+    by (Err e) d = refl

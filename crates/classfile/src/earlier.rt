@@ -1,8 +1,9 @@
 //! Whether a member has the name and the descriptor of an earlier one (JVMS 4.5, 4.6).
 ghost use Rattle.std.specs.Prelude.{◌≡◌, true, [], map, option_map, IfOk};
+ghost use Rattle.std.specs.Str.{bytes_eq};
 ghost use Rattle.classfile.specs.Earlier.{WereMet, MeetsNext, MeetsMarked, AreMarked, byte_at, mark};
-ghost use Rattle.classfile.specs.Indices.{on_found};
-ghost use Rattle.classfile.specs.MemberForm.{are_same, is_among};
+ghost use Rattle.classfile.specs.Indices.{on_text};
+ghost use Rattle.classfile.specs.MemberForm.{are_same, on_member, is_among};
 ghost use Rattle.classfile.specs.Views.{member_view};
 ghost use Rattle.pool.specs.Lookups.{named};
 ghost use Rattle.pool.specs.Members.{found};
@@ -10,12 +11,13 @@ ghost use Rattle.pool.specs.Views.{name_and_type_view};
 
 use crate::member::Member;
 use crate::signatures::Signatures;
+use names::Text;
 use pool::{NameAndType, Pool};
 use std::alloc::{AllocError, Global};
 
 /// So many members are compared one with the other, where their marks are the same: that takes less time than a set of their names
 /// and descriptors.
-const FEW: usize = 256;
+const FEW: usize = 96;
 
 /// The members before one, as they are kept.
 #[derive(Drop)]
@@ -75,21 +77,21 @@ fn mark(texts: NameAndType<'_>) -> usize
     (lengths + 5 * last + 29 * middle) % 256
 }
 
-/// Whether a member has this name and descriptor.
-fn has_texts(pool: &Pool<'_>, member: &Member<'_>, texts: NameAndType<'_>) -> bool
-    ensures { result ≡ on_found (are_same (name_and_type_view texts.entry)) (named pool.now member.now.name member.now.descriptor) }
+/// Whether the text at an index is this one.
+fn is_text(pool: &Pool<'_>, index: u16, text: Text<'_>) -> bool
+    ensures { result ≡ on_text pool.now index (bytes_eq text.entry.bytes.now) }
 {
-    match texts_of(pool, member) {
-        Some(own) => are_same(texts, own),
-        None => false,
+    match pool.text(index) {
+        Ok(own) => text.bytes() == own.bytes(),
+        Err(_) => false,
     }
 }
 
-/// Whether the names are equal, and the descriptors too.
-fn are_same(a: NameAndType<'_>, b: NameAndType<'_>) -> bool
-    ensures { result ≡ are_same (name_and_type_view a.entry) (name_and_type_view b.entry) }
+/// Whether a member has this name and descriptor. Its descriptor is looked up only where it has the name.
+fn has_texts(pool: &Pool<'_>, member: &Member<'_>, texts: NameAndType<'_>) -> bool
+    ensures { result ≡ on_member pool.now (member_view member.now) (are_same (name_and_type_view texts.entry)) }
 {
-    a.name.bytes() == b.name.bytes() && a.descriptor.bytes() == b.descriptor.bytes()
+    is_text(pool, member.name, texts.name) && is_text(pool, member.descriptor, texts.descriptor)
 }
 
 /// Whether one of the members has this name and descriptor.
