@@ -15,6 +15,7 @@ pub mod FormedOrFaulty
 pub mod IndexRows
 pub mod Judged
 pub mod LeastRules
+pub mod Marks
 pub mod Measures
 pub mod MethodLaws
 pub mod NamingLaws

@@ -15,10 +15,7 @@ use Rattle.std.specs.Str.{bytes_eq}
 use Rattle.pool.specs.declared.fault.PoolFault.{PoolFault}
 use Rattle.pool.specs.Entries.{Entry}
 use Rattle.pool.specs.Lookups.{text_at, Named, named, and_then}
-use Rattle.classfile.specs.declared.earlier.Earlier.{Earlier}
-use Rattle.classfile.specs.declared.earlier.Earlier.TheVariants.{Few, Many}
 use Rattle.classfile.specs.declared.text_numbers.TextNumbers.{TextNumbers}
-use Rattle.classfile.specs.Earlier.{WereMet, IsReady}
 use Rattle.classfile.specs.Values.{Member}
 use Rattle.classfile.specs.Indices.{on_found}
 use Rattle.classfile.specs.MemberForm.{are_same, on_member, is_among, is_repeated}
@@ -212,9 +209,3 @@ among_none pool earlier m fault y e =
     none_more (list_any test earlier)
     ∙ ap (λ (b : Bool). list_any test earlier || (b || false)) (sym (on_none pool m fault (are_same y) e))
     ∙ sym (list_any-append test earlier (m ∷ []))
-
--- ---- behind the members that were met another may be met
-
-pub ready : (pool : List Entry) (members : List Member) (seen : Earlier) → WereMet pool members seen → IsReady pool seen
-ready pool members (Few texts) met = tt
-ready pool members (Many signatures) met = met.numbers

@@ -1,36 +1,37 @@
 -- The members before one as they are kept, to tell whether it has the name and the descriptor of one of them. Words of the code's own steps.
-use Rattle.std.specs.Prelude.{◌≡◌, Bool, List, [], ◌∷◌, ◌++◌, map}
-use Rattle.std.specs.List.{list_any}
+use Rattle.std.specs.Prelude.{◌≡◌, ℕ, ◌+◌, ◌-◌, ◌*◌, ◌/◌, ◌%◌, Bool, true, false, List, [], ◌∷◌, ◌++◌, length, slice_index_or}
 use Rattle.pool.specs.Entries.{Entry}
 use Rattle.pool.specs.Lookups.{Named}
-use Rattle.pool.specs.Views.{name_and_type_view}
 use Rattle.classfile.specs.declared.earlier.Earlier.{Earlier}
 use Rattle.classfile.specs.declared.earlier.Earlier.TheVariants.{Few, Many}
-use Rattle.classfile.specs.MemberForm.{are_same, is_among, is_repeated}
+use Rattle.classfile.specs.MemberForm.{is_among, is_repeated}
 use Rattle.classfile.specs.Seen.{AreSeen}
-use Rattle.classfile.specs.TextNumbers.{AreNumbers}
 use Rattle.classfile.specs.Values.{Member}
 
--- these are the names and descriptors of the members that have both
-abbrev pub AreTextsOf : List Entry → List Member → List Named → Type 0
-AreTextsOf pool members kept = (x : Named) → list_any (are_same x) kept ≡ is_among pool members x
+-- A mark of a name and a descriptor, of 256: those that differ mostly have different marks. It is told by their lengths, and by the last
+-- byte of the name and the one in its middle.
+abbrev pub byte_at : List ℕ → ℕ → ℕ
+byte_at bytes place = slice_index_or bytes place 0
+
+abbrev pub mark : Named → ℕ
+mark x =
+    (17 * (length x.name % 256) + 71 * (length x.descriptor % 256) + 5 * byte_at x.name (length x.name - 1) + 29 * byte_at x.name (length x.name / 2)) % 256
+
+-- the mark of each of these members is set
+abbrev pub AreMarked : List Entry → List Member → List Bool → Type 0
+AreMarked pool members marks = (x : Named) → is_among pool members x ≡ true → slice_index_or marks (mark x) false ≡ true
 
 -- these members were met
 abbrev pub WereMet : List Entry → List Member → Earlier → Type 0
-WereMet pool members (Few texts) = AreTextsOf pool members (map name_and_type_view texts.items)
+WereMet pool members (Few marks) = AreMarked pool members marks
 WereMet pool members (Many signatures) = AreSeen pool members signatures
 
--- a member may be met
-abbrev pub IsReady : List Entry → Earlier → Type 0
-IsReady pool (Few texts) = Unit {0}
-IsReady pool (Many signatures) = AreNumbers pool signatures.numbers
-
 -- a member was met, behind few others
-pub record MeetsTexts (pool : List Entry) (old new : List Named) (m : Member) (repeated : Bool) : Type 0 where
-  pub repeats : (earlier : List Member) → AreTextsOf pool earlier old → repeated ≡ is_repeated pool earlier m
-  pub met : (earlier : List Member) → AreTextsOf pool earlier old → AreTextsOf pool (earlier ++ m ∷ []) new
+pub record MeetsMarked (pool : List Entry) (earlier : List Member) (m : Member) (marks : List Bool) (repeated : Bool) : Type 0 where
+  pub repeats : repeated ≡ is_repeated pool earlier m
+  pub met : AreMarked pool (earlier ++ m ∷ []) marks
 
 -- a member was met, behind others
-pub record MeetsNext (pool : List Entry) (old new : Earlier) (m : Member) (repeated : Bool) : Type 0 where
-  pub repeats : (earlier : List Member) → WereMet pool earlier old → repeated ≡ is_repeated pool earlier m
-  pub met : (earlier : List Member) → WereMet pool earlier old → WereMet pool (earlier ++ m ∷ []) new
+pub record MeetsNext (pool : List Entry) (earlier : List Member) (m : Member) (new : Earlier) (repeated : Bool) : Type 0 where
+  pub repeats : repeated ≡ is_repeated pool earlier m
+  pub met : WereMet pool (earlier ++ m ∷ []) new

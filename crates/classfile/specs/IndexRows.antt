@@ -1,6 +1,6 @@
 -- Rows of the table of attributes by which the code looks for indices, and attributes by which it looks for two of a kind. Words of the
 -- code's own steps.
-use Rattle.std.specs.Prelude.{ℕ, Bool, true, false, not, ◌&&◌, if◌then◌else◌, List, [], ◌∷◌, nat_lt, count_by, codes, Option, Some, None}
+use Rattle.std.specs.Prelude.{ℕ, Bool, true, not, ◌&&◌, if◌then◌else◌, List, [], ◌∷◌, nat_lt, count_by, codes, Option, Some, None}
 use Rattle.std.specs.Str.{bytes_eq}
 use Rattle.layout.specs.PieceLaws.{Either}
 use Rattle.classfile.specs.declared.layouts.Column.{Column}

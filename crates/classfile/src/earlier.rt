@@ -1,9 +1,9 @@
 //! Whether a member has the name and the descriptor of an earlier one (JVMS 4.5, 4.6).
 ghost use Rattle.std.specs.Prelude.{◌≡◌, true, [], map, option_map, IfOk};
-ghost use Rattle.std.specs.List.{list_any};
 ghost use Rattle.std.specs.Str.{bytes_eq};
-ghost use Rattle.classfile.specs.Earlier.{WereMet, IsReady, MeetsNext, MeetsTexts};
-ghost use Rattle.classfile.specs.MemberForm.{are_same};
+ghost use Rattle.classfile.specs.Earlier.{WereMet, MeetsNext, MeetsMarked, AreMarked, byte_at, mark};
+ghost use Rattle.classfile.specs.Indices.{on_text};
+ghost use Rattle.classfile.specs.MemberForm.{are_same, on_member, is_among};
 ghost use Rattle.classfile.specs.Views.{member_view};
 ghost use Rattle.pool.specs.Lookups.{named};
 ghost use Rattle.pool.specs.Members.{found};
@@ -15,14 +15,15 @@ use names::Text;
 use pool::{NameAndType, Pool};
 use std::alloc::{AllocError, Global};
 
-/// So many members are compared one with the other: that takes less time than a set of their names and descriptors.
+/// So many members are compared one with the other, where their marks are the same: that takes less time than a set of their names
+/// and descriptors.
 const FEW: usize = 96;
 
 /// The members before one, as they are kept.
 #[derive(Drop)]
 pub enum Earlier<'a> {
-    /// Their names and descriptors, since they are few: each is looked at.
-    Few(Vec<NameAndType<'a>>),
+    /// The marks that one of them has, since they are few.
+    Few([bool; 256]),
     /// Their names and descriptors as a set.
     Many(Signatures<'a>),
 }
@@ -33,60 +34,73 @@ impl<'a> Earlier<'a> {
         ensures { IfOk result (WereMet pool.now []) }
     {
         if members <= FEW {
-            return Ok(Earlier::Few(Vec::with_capacity(alloc, members)?));
+            return Ok(Earlier::Few([false; 256]));
         }
         Ok(Earlier::Many(Signatures::new(alloc, pool)?))
     }
 
     /// Whether one of the earlier members has the name and the descriptor of this one, which then is met.
-    pub fn meet(&mut self, pool: &Pool<'a>, member: &Member<'_>) -> Result<bool, AllocError>
-        requires { IsReady pool.now self.now }
-        ensures { IfOk result (MeetsNext pool.now self.old self.new (member_view member.now)) }
+    pub fn meet(
+        &mut self,
+        pool: &Pool<'a>,
+        earlier: &[Member<'_>],
+        member: &Member<'_>,
+    ) -> Result<bool, AllocError>
+        requires { WereMet pool.now (map member_view earlier.now) self.now }
+        ensures { IfOk result (MeetsNext pool.now (map member_view earlier.now) (member_view member.now) self.new) }
     {
         match self {
-            Earlier::Few(texts) => meet_member(texts, pool, member),
+            Earlier::Few(marks) => Ok(meet_marked(marks, pool, earlier, member)),
             Earlier::Many(signatures) => signatures.meet_member(pool, member),
         }
     }
 }
 
-/// Whether both end with the same byte, as most that differ do not.
-fn end_alike(a: &[u8], b: &[u8]) -> bool
-    ensures { a.now ≡ b.now → result ≡ true }
+/// The byte at a place of a text, or 0 behind its end.
+fn byte_at(bytes: &[u8], place: usize) -> usize
+    ensures { result ≡ byte_at bytes.now place }
 {
-    match (a, b) {
-        ([.., x], [.., y]) => *x == *y,
-        _ => true,
+    match bytes.get(place) {
+        Some(byte) => usize::from(*byte),
+        None => 0,
     }
 }
 
-/// Whether the texts are equal: their lengths and their last bytes are compared first.
-fn are_equal(a: Text<'_>, b: Text<'_>) -> bool
-    ensures { result ≡ bytes_eq a.entry.bytes.now b.entry.bytes.now }
+/// The mark of a name and a descriptor, below 256. Most of the members of a class differ in it.
+fn mark(texts: NameAndType<'_>) -> usize
+    ensures { result ≡ mark (name_and_type_view texts.entry) }
 {
-    a.bytes().len() == b.bytes().len() && end_alike(a.bytes(), b.bytes()) && a.bytes() == b.bytes()
+    let name = texts.name.bytes();
+    let lengths = 17 * (name.len() % 256) + 71 * (texts.descriptor.bytes().len() % 256);
+    let last = byte_at(name, name.len().saturating_sub(1));
+    let middle = byte_at(name, name.len() / 2);
+    (lengths + 5 * last + 29 * middle) % 256
 }
 
-/// Whether the names have one length, and the descriptors too, as those of most members do not.
-fn have_one_length(a: NameAndType<'_>, b: NameAndType<'_>) -> bool
-    ensures { are_same (name_and_type_view a.entry) (name_and_type_view b.entry) ≡ true → result ≡ true }
+/// Whether the text at an index is this one.
+fn is_text(pool: &Pool<'_>, index: u16, text: Text<'_>) -> bool
+    ensures { result ≡ on_text pool.now index (bytes_eq text.entry.bytes.now) }
 {
-    a.name.bytes().len() == b.name.bytes().len()
-        && a.descriptor.bytes().len() == b.descriptor.bytes().len()
+    match pool.text(index) {
+        Ok(own) => text.bytes() == own.bytes(),
+        Err(_) => false,
+    }
 }
 
-/// Whether the names are equal, and the descriptors too.
-fn are_same(a: NameAndType<'_>, b: NameAndType<'_>) -> bool
-    ensures { result ≡ are_same (name_and_type_view a.entry) (name_and_type_view b.entry) }
+/// Whether a member has this name and descriptor. Its descriptor is looked up only where it has the name.
+fn has_texts(pool: &Pool<'_>, member: &Member<'_>, texts: NameAndType<'_>) -> bool
+    ensures { result ≡ on_member pool.now (member_view member.now) (are_same (name_and_type_view texts.entry)) }
 {
-    have_one_length(a, b) && are_equal(a.name, b.name) && are_equal(a.descriptor, b.descriptor)
+    is_text(pool, member.name, texts.name) && is_text(pool, member.descriptor, texts.descriptor)
 }
 
-/// Whether this name and descriptor are among the others.
-fn are_among(others: &[NameAndType<'_>], texts: NameAndType<'_>) -> bool
-    ensures { result ≡ list_any (are_same (name_and_type_view texts.entry)) (map name_and_type_view others.now) }
+/// Whether one of the members has this name and descriptor.
+#[inline(never)]
+#[tactic(auto, unfolding(crate::specs::MemberForm::is_among))]
+fn is_among(pool: &Pool<'_>, members: &[Member<'_>], texts: NameAndType<'_>) -> bool
+    ensures { result ≡ is_among pool.now (map member_view members.now) (name_and_type_view texts.entry) }
 {
-    others.iter().any(|other| are_same(texts, *other))
+    members.iter().any(|member| has_texts(pool, member, texts))
 }
 
 /// The name and the descriptor of a member, if both are there.
@@ -103,18 +117,24 @@ fn texts_of<'a>(pool: &Pool<'a>, member: &Member<'_>) -> Option<NameAndType<'a>>
     Some(NameAndType { name, descriptor })
 }
 
-/// Whether the name and the descriptor of a member are among those that are kept; then they are kept too.
-fn meet_member<'a>(
-    kept: &mut Vec<NameAndType<'a>>,
-    pool: &Pool<'a>,
+/// Whether one of few earlier members has the name and the descriptor of this one, whose mark then is set. Where no earlier one has
+/// the mark, none is looked at.
+fn meet_marked(
+    marks: &mut [bool; 256],
+    pool: &Pool<'_>,
+    earlier: &[Member<'_>],
     member: &Member<'_>,
-) -> Result<bool, AllocError>
-    ensures { IfOk result (MeetsTexts pool.now (map name_and_type_view kept.old.items) (map name_and_type_view kept.new.items) (member_view member.now)) }
+) -> bool
+    requires { AreMarked pool.now (map member_view earlier.now) marks.now }
+    ensures { MeetsMarked pool.now (map member_view earlier.now) (member_view member.now) marks.new result }
 {
     let Some(texts) = texts_of(pool, member) else {
-        return Ok(false);
+        return false;
     };
-    let repeated = are_among(kept, texts);
-    kept.push(texts)?;
-    Ok(repeated)
+    let mark = mark(texts);
+    if marks[mark] {
+        return is_among(pool, earlier, texts);
+    }
+    marks[mark] = true;
+    false
 }

@@ -148,10 +148,16 @@ pub(crate) fn are_bad_field_flags(flags: u16) -> bool
 }
 
 /// Whether flags of a method stand together that may not (JVMS 4.6): `init` and `clinit` say that it is an instance
-/// or a class initialization method.
+/// or a class initialization method. The rows are chosen first, so that their masks are known where they are compared.
 #[tactic(auto, unfolding(crate::specs::Flags::are_bad_method_flags))]
 pub(crate) fn are_bad_method_flags(init: bool, clinit: bool, flags: u16) -> bool
     ensures { result ≡ are_bad_method_flags init clinit flags }
 {
-    break_one(flags, method_flags(init, clinit))
+    if clinit {
+        break_one(flags, method_flags(init, true))
+    } else if init {
+        break_one(flags, method_flags(true, false))
+    } else {
+        break_one(flags, method_flags(false, false))
+    }
 }

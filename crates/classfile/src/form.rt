@@ -70,7 +70,7 @@ fn fields_form(alloc: Global, class: &ClassFile<'_>, forms: &mut TextForms) -> R
     let pool = &class.constant_pool;
     let mut seen = Earlier::new(alloc, pool, class.fields.len())?;
     for (n, field) in class.fields.iter().enumerate() {
-        let repeated = seen.meet(pool, field)?;
+        let repeated = seen.meet(pool, &class.fields[..n], field)?;
         if let Some(rule) = field_rule(pool, forms, repeated, field) {
             return Err(FormFault::Broken {
                 rule,
@@ -93,7 +93,7 @@ fn methods_form(
     let interface = has(class.access_flags, INTERFACE);
     let mut seen = Earlier::new(alloc, pool, class.methods.len())?;
     for (n, method) in class.methods.iter().enumerate() {
-        let repeated = seen.meet(pool, method)?;
+        let repeated = seen.meet(pool, &class.methods[..n], method)?;
         if let Some(rule) = method_rule(pool, forms, interface, repeated, method) {
             return Err(FormFault::Broken {
                 rule,
