@@ -125,14 +125,14 @@ module _ (links : List Link) where
 
 -- ---- locals of a frame that shares a place
 
-both_left : (a b : Outcome) → both a b ≡ yes → a ≡ yes
+pub both_left : (a b : Outcome) → both a b ≡ yes → a ≡ yes
 both_left yes b e = refl
 both_left no b e = e
 both_left (missing name) yes e = e
 both_left (missing name) no e = cc
 both_left (missing name) (missing _) e = e
 
-both_right : (a b : Outcome) → both a b ≡ yes → b ≡ yes
+pub both_right : (a b : Outcome) → both a b ≡ yes → b ≡ yes
 both_right yes b e = e
 both_right no b e = cc
 both_right (missing name) yes e = refl

@@ -21,7 +21,7 @@ not_empty (array component) = omega arith
 not_empty uninit_this = omega arith
 not_empty (uninit offset) = omega arith
 
-at_start : (t : VerificationType) (ts : List VerificationType) (unit : ℕ) → units_of ts ≡ unit → type_at_unit unit (t ∷ ts) ≡ Some t
+pub at_start : (t : VerificationType) (ts : List VerificationType) (unit : ℕ) → units_of ts ≡ unit → type_at_unit unit (t ∷ ts) ≡ Some t
 at_start t ts unit e =
     let test : eqb (units_of ts) unit ≡ true = grind (arith, nat_tests, e) in
     ap (λ b. if b then Some t else type_at_unit unit ts) test
