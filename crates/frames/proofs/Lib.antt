@@ -16,3 +16,5 @@ pub mod Marking
 pub mod Whole
 pub mod Forms
 pub mod Sharing
+pub mod Units
+pub mod Fits

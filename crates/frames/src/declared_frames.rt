@@ -29,9 +29,9 @@ pub struct DeclaredFrames<'a> {
 /// A declared frame.
 #[derive(Clone, Copy)]
 pub struct Declared<'n, 'a> {
-    chains: &'n Chains<'a>,
-    tops: FrameTops,
-    max_locals: u16,
+    pub(crate) chains: &'n Chains<'a>,
+    pub(crate) tops: FrameTops,
+    pub(crate) max_locals: u16,
     ghost inside: { IsInside chains.now.links.items max_locals tops },
 }
 
@@ -67,6 +67,11 @@ impl<'a> DeclaredFrames<'a> {
         let chains = Chains::new(alloc);
         let frames = Vec::new(alloc);
         DeclaredFrames::new(chains, frames, max_locals)
+    }
+
+    /// How many links its chains have.
+    pub(crate) fn links(&self) -> usize {
+        self.chains.len()
     }
 
     /// How many frames there are.
