@@ -16,3 +16,4 @@ pub mod Marking
 pub mod Whole
 pub mod Forms
 pub mod Sharing
+pub mod Fits

@@ -19,3 +19,4 @@ pub mod DeclaredTables
 pub mod Marks
 pub mod MarkedCode
 pub mod DeclaredForms
+pub mod Fitting

@@ -69,6 +69,11 @@ impl<'a> DeclaredFrames<'a> {
         DeclaredFrames::new(chains, frames, max_locals)
     }
 
+    /// How many links its chains have.
+    pub(crate) fn links(&self) -> usize {
+        self.chains.len()
+    }
+
     /// How many frames there are.
     pub fn len(&self) -> usize
         ensures { result ≡ length (frames_in self.now) }

@@ -10,6 +10,7 @@
 //! - `constants`: the classes that entries name by the constant pool.
 //! - `declared_frames`: the frames that a stack map declares.
 //! - `declaring`: these frames made from the entries.
+//! - `fitting`: which declared frames running locals are known to fit.
 //! - `frame`: frames.
 //! - `frame_fault`: why an entry is refused.
 //! - `laws`: what the answers mean, by chains of superclasses and place by place.
@@ -31,6 +32,7 @@ mod compare_frames;
 mod constants;
 mod declared_frames;
 mod declaring;
+mod fitting;
 mod frame;
 mod frame_fault;
 pub mod laws;
@@ -49,6 +51,7 @@ pub use compare::assignable;
 pub use compare_frames::{both, frame_assignable, width};
 pub use declared_frames::{Declared, DeclaredFrames};
 pub use declaring::declare;
+pub use fitting::Fitting;
 pub use frame::Frame;
 pub use frame_fault::FrameFault;
 pub use naming::{array_of, held_by, number_type, reference_to};

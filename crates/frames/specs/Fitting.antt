@@ -1,0 +1,47 @@
+-- Which chains of declared frames locals that change are known to fit.
+use Rattle.std.specs.Prelude.{◌≡◌, ◌≢◌, ◌≤◌, ◌⊎◌, ℕ, suc, List, [], ◌∷◌, length, get_or, Some, slice_get}
+use Rattle.hierarchy.specs.Class.{ClassFact}
+use Rattle.hierarchy.specs.Answer.{yes}
+use Rattle.frames.specs.VerificationType.{VerificationType, top}
+use Rattle.frames.specs.Slots.{units_of}
+use Rattle.frames.specs.Assignable.{type_answer}
+use Rattle.frames.specs.Chains.{types_at}
+use Rattle.frames.specs.DeclaredTables.{IsOf}
+use Rattle.frames.specs.declared.declared_frames.DeclaredFrames.{DeclaredFrames}
+use Rattle.frames.specs.declared.declared_frames.Declared.{Declared}
+use Rattle.frames.specs.declared.fitting.Fitting.{Fitting}
+
+-- ---- moments: each is the number of changes in front of it
+
+-- locals were seen at a moment to fit the chain from a link down, and since then not all were forgotten
+pub record IsMarked (x : Fitting) (link moment : ℕ) : Type 0 where
+  pub mark : slice_get x.marks.items link ≡ Some (Some moment)
+  pub known : x.known_from ≤ moment
+
+-- the local of a place changed since a moment
+pub record HasChanged (x : Fitting) (moment place : ℕ) : Type 0 where
+  pub change : ℕ
+  pub since : moment ≤ change
+  pub is : slice_get x.changes.items change ≡ Some place
+
+-- ---- what is known
+
+-- Where each type of a chain begins, the local may stand for it or has changed.
+abbrev pub AreFitBut : (ℕ → Type 0) → List ClassFact → List VerificationType → List VerificationType → Type 0
+AreFitBut changed classes locals [] = Unit {0}
+AreFitBut changed classes locals (t ∷ ts) = AreFitBut changed classes locals ts × (changed (units_of ts) ⊎ (type_answer classes (get_or locals (units_of ts) top) t ≡ yes))
+
+-- Locals fit each marked chain of a table but for those that changed since its mark, and no mark is of a moment to come.
+pub record AreFitting (classes : List ClassFact) (t : DeclaredFrames) (locals : List VerificationType) (x : Fitting) : Type 0 where
+  pub early : (link moment : ℕ) → slice_get x.marks.items link ≡ Some (Some moment) → moment ≤ length x.changes.items
+  pub fit : (link moment : ℕ) → IsMarked x link moment → AreFitBut (HasChanged x moment) classes locals (types_at t.chains.links.items (suc link))
+
+-- the same of the table that a declared frame is of
+pub record AreFittingFor (classes : List ClassFact) (d : Declared) (locals : List VerificationType) (x : Fitting) : Type 0 where
+  pub table : DeclaredFrames
+  pub own : IsOf table d
+  pub fitting : AreFitting classes table locals x
+
+-- locals of which no other than that of a place differ, all beyond them being top
+abbrev pub AreSameBut : ℕ → List VerificationType → List VerificationType → Type 0
+AreSameBut place old new = (i : ℕ) → i ≢ place → get_or new i top ≡ get_or old i top
