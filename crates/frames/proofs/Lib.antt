@@ -17,3 +17,4 @@ pub mod Whole
 pub mod Forms
 pub mod Sharing
 pub mod Fits
+pub mod Passing
