@@ -1,18 +1,30 @@
 -- What is known of the chains that locals fit, as the locals change.
-use Rattle.std.proofs.Common.{◌≡◌, ◌≢◌, ◌∙◌, ℕ, zero, suc, ◌≤◌, ◌⊎◌, inl, inr, true, false, eqb, List, [], ◌∷◌, ◌++◌, length, get_or, Some, slice_get, refl, sym, ap, subst, arith}
+use Rattle.std.proofs.Common.{◌≡◌, ◌≢◌, ◌∙◌, ℕ, zero, suc, ◌≤◌, ◌<◌, ◌-◌, ◌⊎◌, inl, inr, true, false, eqb, List, [], ◌∷◌, ◌++◌, length, map, get_or, set, Some, IfSome, slice_get, refl, sym, ap, subst, arith}
 use Rattle.std.proofs.lemmas.List.{length-append}
+use Rattle.std.proofs.lemmas.Option.{same_Some}
 use Rattle.std.proofs.lemmas.Bool.Decides.{eqb_tells}
 use Rattle.hierarchy.specs.Class.{ClassFact}
-use Rattle.hierarchy.specs.Answer.{yes}
-use Rattle.frames.specs.VerificationType.{VerificationType, top}
+use Rattle.hierarchy.specs.Answer.{Outcome, yes}
+use Rattle.frames.specs.declared.vtype.VType.{VType}
+use Rattle.frames.specs.VerificationType.{VerificationType, type_of, top}
 use Rattle.frames.specs.Slots.{units_of}
 use Rattle.frames.specs.Assignable.{type_answer}
-use Rattle.frames.specs.Chains.{types_at}
+use Rattle.frames.specs.FrameAssignable.{both, slot_answer, list_answer}
+use Rattle.frames.specs.HeldFrames.{held_locals}
+use Rattle.frames.specs.Chains.{link_at, types_at, AreLinked, FitsAt, chain_answer, place}
+use Rattle.frames.specs.DeclaredViews.{locals_at, fact_of}
+use Rattle.frames.specs.DeclaredTables.{declared_view, IsOf}
+use Rattle.frames.specs.declared.chain.Link.{Link}
 use Rattle.frames.specs.declared.declared_frames.DeclaredFrames.{DeclaredFrames}
 use Rattle.frames.specs.declared.declared_frames.Declared.{Declared}
 use Rattle.frames.specs.declared.fitting.Fitting.{Fitting}
-use Rattle.frames.specs.DeclaredTables.{IsOf}
-use Rattle.frames.specs.Fitting.{IsMarked, HasChanged, AreFitBut, AreFitting, AreFittingFor, AreSameBut}
+use Rattle.frames.specs.Fitting.{IsMarked, IsSeen, HasChanged, AreFitBut, FitAll, AreFitting, AreFittingFor, AreSameBut}
+use Rattle.frames.proofs.Chains.{types_step, types_bottom}
+use Rattle.frames.proofs.Walks.{locals_walked}
+use Rattle.frames.proofs.Finding.{locals_filled}
+use Rattle.frames.proofs.Comparison.{get_padded, padded, held_length}
+use Rattle.frames.proofs.Sharing.{both_left, both_right}
+use Rattle.frames.proofs.Units.{not_empty, at_start, at_lower}
 
 -- ---- other locals, and more changes
 
@@ -60,3 +72,112 @@ fitting_by_links classes t u locals x e a = record { early = a.early; fit = λ l
 pub known_for : {classes : List ClassFact} {d : Declared} {locals : List VerificationType} {x : Fitting} → AreFittingFor classes d locals x → (t : DeclaredFrames) → IsOf t d → AreFitting classes t locals x
 unfolding IsOf
 known_for {classes} {d} {locals} {x} f t own = fitting_by_links classes f.table t locals x (sym f.own.0 ∙ own.0) f.fitting
+
+-- ---- the same locals told otherwise
+
+pub fitting_same : (classes : List ClassFact) (t : DeclaredFrames) (old new : List VerificationType) (x : Fitting) → ((i : ℕ) → get_or new i top ≡ get_or old i top) → AreFitting classes t old x → AreFitting classes t new x
+fitting_same classes t old new x same a = record {
+  early = a.early;
+  fit = λ link moment q. fit_kept (HasChanged x moment) (HasChanged x moment) classes old new (λ p h. h) (λ p. inr (same p)) (types_at t.chains.links.items (suc link)) (a.fit link moment q);
+}
+
+-- ---- a chain that fits
+
+module _ (classes : List ClassFact) (locals : List VerificationType) where
+  -- what changed fits now
+  one_settled : (changed : ℕ → Type 0) (t : VerificationType) (ts : List VerificationType) → (changed (units_of ts) → FitsAt classes locals (t ∷ ts) (units_of ts)) → changed (units_of ts) ⊎ (type_answer classes (get_or locals (units_of ts) top) t ≡ yes)
+      → ⊥ ⊎ (type_answer classes (get_or locals (units_of ts) top) t ≡ yes)
+  one_settled changed t ts f (inl h) = inr (subst (λ o. IfSome o (λ s. type_answer classes (get_or locals (units_of ts) top) s ≡ yes)) (at_start t ts (units_of ts) refl) (f h))
+  one_settled changed t ts f (inr e) = inr e
+
+  pub settled : (changed : ℕ → Type 0) (ts : List VerificationType) → AreFitBut changed classes locals ts → ((u : ℕ) → u < units_of ts → changed u → FitsAt classes locals ts u) → FitAll classes locals ts
+  settled changed [] h f = tt
+  settled changed (t ∷ ts) h f =
+      (settled changed ts h.0 (λ u lt q. subst (λ o. IfSome o (λ s. type_answer classes (get_or locals u top) s ≡ yes)) (at_lower t ts u (λ e. omega (arith, e, lt))) (f u (omega (arith, lt)) q)), one_settled changed t ts (f (units_of ts) (omega (arith, not_empty t))) h.1)
+
+  abbrev chain : List VerificationType → Outcome
+  chain ts = chain_answer (slot_answer classes false) (place false) locals ts
+
+  one_yes : (t : VerificationType) (u : ℕ) → ⊥ ⊎ (type_answer classes (get_or locals u top) t ≡ yes) → type_answer classes (get_or locals u top) t ≡ yes
+  one_yes t u (inl h) = absurd h
+  one_yes t u (inr e) = e
+
+  pub all_yes : (ts : List VerificationType) → FitAll classes locals ts → chain_answer (slot_answer classes false) (place false) locals ts ≡ yes
+  all_yes [] h = refl
+  all_yes (t ∷ ts) h = ap (λ r. both r (type_answer classes (get_or locals (units_of ts) top) t)) (all_yes ts h.0) ∙ one_yes t (units_of ts) h.1
+
+  pub yes_all : (ts : List VerificationType) → chain_answer (slot_answer classes false) (place false) locals ts ≡ yes → FitAll classes locals ts
+  yes_all [] e = tt
+  yes_all (t ∷ ts) e = (yes_all ts (both_left (chain ts) (type_answer classes (get_or locals (units_of ts) top) t) e), inr (both_right (chain ts) (type_answer classes (get_or locals (units_of ts) top) t) e))
+
+  -- so does each that begins on it
+  pub lower_all : (links : List Link) → AreLinked links → (here : ℕ) (l : Link) → link_at links here ≡ Some l → FitAll classes locals (types_at links here) → FitAll classes locals (types_at links l.below)
+  lower_all links k here l e h = (subst (FitAll classes locals) (types_step links k here l e) h).0
+
+-- ---- one more mark
+
+get_set : {A : Type 0} (xs : List A) (i j : ℕ) (v w : A) → slice_get (set xs i v) j ≡ Some w → ((j ≡ i) × (v ≡ w)) ⊎ (slice_get xs j ≡ Some w)
+get_set [] i j v w e = inr e
+get_set (x ∷ xs) zero zero v w e = inl (refl, same_Some v w e)
+get_set (x ∷ xs) zero (suc j) v w e = inr e
+get_set (x ∷ xs) (suc i) zero v w e = inr e
+get_set (x ∷ xs) (suc i) (suc j) v w e = next (get_set xs i j v w e)
+  where
+    next : ((j ≡ i) × (v ≡ w)) ⊎ (slice_get xs j ≡ Some w) → ((suc j ≡ suc i) × (v ≡ w)) ⊎ (slice_get xs j ≡ Some w)
+    next (inl h) = inl (ap suc h.0, h.1)
+    next (inr h) = inr h
+
+module _ (classes : List ClassFact) (t : DeclaredFrames) (locals : List VerificationType) (x y : Fitting) (link now : ℕ) (c : y.changes.items ≡ x.changes.items) (k : y.known_from ≡ x.known_from) (m : y.marks.items ≡ set x.marks.items link (Some now)) (size : now ≡ length x.changes.items) (all : FitAll classes locals (types_at t.chains.links.items (suc link))) (a : AreFitting classes t locals x) where
+  mark_cases : (i moment : ℕ) → slice_get y.marks.items i ≡ Some (Some moment) → ((i ≡ link) × (Some now ≡ Some moment)) ⊎ (slice_get x.marks.items i ≡ Some (Some moment))
+  mark_cases i moment e = get_set x.marks.items link i (Some now) (Some moment) (sym (ap (λ l. slice_get l i) m) ∙ e)
+
+  early_by : (i moment : ℕ) → ((i ≡ link) × (Some now ≡ Some moment)) ⊎ (slice_get x.marks.items i ≡ Some (Some moment)) → moment ≤ length y.changes.items
+  early_by i moment (inl h) = omega (arith, same_Some now moment h.1, size, ap (λ (l : List ℕ). length l) c)
+  early_by i moment (inr e) = omega (arith, a.early i moment e, ap (λ (l : List ℕ). length l) c)
+
+  fit_by : (i moment : ℕ) → x.known_from ≤ moment → ((i ≡ link) × (Some now ≡ Some moment)) ⊎ (slice_get x.marks.items i ≡ Some (Some moment)) → AreFitBut (HasChanged y moment) classes locals (types_at t.chains.links.items (suc i))
+  fit_by i moment le (inl h) =
+      fit_kept (λ p. ⊥) (HasChanged y moment) classes locals locals (λ p z. absurd z) (λ p. inr refl) (types_at t.chains.links.items (suc i))
+      (subst (λ j. FitAll classes locals (types_at t.chains.links.items (suc j))) (sym h.0) all)
+  fit_by i moment le (inr e) =
+      fit_kept (HasChanged x moment) (HasChanged y moment) classes locals locals (λ p h. record { change = h.change; since = h.since; is = ap (λ l. slice_get l h.change) c ∙ h.is }) (λ p. inr refl) (types_at t.chains.links.items (suc i))
+      (a.fit i moment (record { mark = e; known = le }))
+
+  pub seen_one : AreFitting classes t locals y
+  seen_one = record { early = λ i moment e. early_by i moment (mark_cases i moment e); fit = λ i moment q. fit_by i moment (omega (arith, q.known, k)) (mark_cases i moment q.mark) }
+
+-- ---- a whole comparison
+
+module _ (classes : List ClassFact) (d : Declared) (locals : List VType) where
+  abbrev links : List Link
+  links = d.chains.now.links.items
+
+  abbrev pub held : List VerificationType
+  held = held_locals locals (length (declared_view d).locals)
+
+  -- locals in use, as they are known with all beyond them
+  pub in_use : (t : DeclaredFrames) (x : Fitting) → AreFitting classes t held x → AreFitting classes t (map type_of locals) x
+  in_use t x a = fitting_same classes t held (map type_of locals) x (λ i. sym (get_padded (map type_of locals) (length (declared_view d).locals - length locals) i)) a
+
+  pub with_all : (t : DeclaredFrames) (x : Fitting) → AreFitting classes t (map type_of locals) x → AreFitting classes t held x
+  with_all t x a = fitting_same classes t (map type_of locals) held x (get_padded (map type_of locals) (length (declared_view d).locals - length locals)) a
+
+  floor_fits : (t : DeclaredFrames) (x : Fitting) (here moment : ℕ) → AreFitting classes t (map type_of locals) x → (here ≡ 0) ⊎ IsSeen x here moment → AreFitBut (HasChanged x moment) classes (map type_of locals) (types_at t.chains.links.items here)
+  floor_fits t x here moment a (inl e) = subst (AreFitBut (HasChanged x moment) classes (map type_of locals)) (sym (ap (types_at t.chains.links.items) e ∙ types_bottom t.chains.links.items)) tt
+  floor_fits t x here moment a (inr s) = subst (λ h. AreFitBut (HasChanged x moment) classes (map type_of locals) (types_at t.chains.links.items h)) (sym s.place) (a.fit s.link moment s.marked)
+
+  pub floor_yes : (x : Fitting) (here moment : ℕ) → AreFittingFor classes d held x → (here ≡ 0) ⊎ IsSeen x here moment → ((u : ℕ) → HasChanged x moment u → FitsAt classes (map type_of locals) (types_at links here) u)
+      → chain_answer (slot_answer classes false) (place false) (map type_of locals) (types_at links here) ≡ yes
+  unfolding IsOf
+  floor_yes x here moment a s f =
+      let known = subst (λ l. AreFitBut (HasChanged x moment) classes (map type_of locals) (types_at l here)) (sym a.own.0) (floor_fits a.table x here moment (in_use a.table x a.fitting) s) in
+      all_yes classes (map type_of locals) (types_at links here) (settled classes (map type_of locals) (HasChanged x moment) (types_at links here) known (λ u lt q. f u q))
+
+  pub whole_fits : length locals ≤ d.max_locals → chain_answer (slot_answer classes false) (place false) (map type_of locals) (types_at links d.tops.locals) ≡ yes → list_answer (type_answer classes) held (declared_view d).locals ≡ yes
+  unfolding declared_view fact_of locals_at
+  whole_fits le e =
+      let n = d.max_locals in
+      let xs = held_locals locals n in
+      ap (λ k. list_answer (type_answer classes) (held_locals locals k) (declared_view d).locals) (locals_filled links n d.tops d.inside)
+      ∙ locals_walked classes xs (types_at links d.tops.locals) n (omega (arith, le, held_length locals n)) d.inside.units
+      ∙ padded (slot_answer classes false) (place false) (map type_of locals) (n - length locals) (types_at links d.tops.locals) ∙ e

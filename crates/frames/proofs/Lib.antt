@@ -16,5 +16,6 @@ pub mod Marking
 pub mod Whole
 pub mod Forms
 pub mod Sharing
+pub mod Units
 pub mod Fits
 pub mod Passing

@@ -12,14 +12,14 @@ use Rattle.frames.specs.Assignable.{type_answer}
 use Rattle.frames.specs.FrameAssignable.{both, slot_answer, item_answer, list_answer, stack_answer, flag_answer, frame_answer}
 use Rattle.frames.specs.FrameFact.{FrameFact}
 use Rattle.frames.specs.HeldFrames.{held_locals}
-use Rattle.frames.specs.Chains.{link_at, types_at, below_of, down, AreLinked, IsOn, chain_answer, place, slots_at}
+use Rattle.frames.specs.Chains.{link_at, types_at, below_of, down, AreLinked, IsOn, LeadsTo, chain_answer, place, slots_at}
 use Rattle.frames.specs.DeclaredViews.{locals_at, fact_of, IsInside}
 use Rattle.frames.specs.DeclaredTables.{declared_view, IsOf, AreOfOne, AreKept, AreFit}
 use Rattle.frames.specs.declared.chain.Link.{Link}
 use Rattle.frames.specs.declared.after.FrameTops.{FrameTops}
 use Rattle.frames.specs.declared.declared_frames.DeclaredFrames.{DeclaredFrames}
 use Rattle.frames.specs.declared.declared_frames.Declared.{Declared}
-use Rattle.frames.proofs.Chains.{linked_lower, types_step, types_none, types_bottom}
+use Rattle.frames.proofs.Chains.{linked_lower, linked_jump, link_nowhere, types_step, types_none, types_bottom}
 use Rattle.frames.proofs.Frames.{list_itself}
 use Rattle.frames.proofs.Walks.{in_append, units_in, locals_walked}
 use Rattle.frames.proofs.Finding.{locals_filled}
@@ -86,16 +86,53 @@ module _ (links : List Link) where
     pub types_on : (high here : ℕ) → IsOn links high here → (us : List VerificationType) × (types_at links high ≡ us ++ types_at links here)
     types_on high here g = types_down g.steps high here g.leads
 
+    on_trans : (n m high : ℕ) → down links (n + m) high ≡ down links m (down links n high)
+    on_trans zero m high = let e : zero + m ≡ m = omega arith in rw e refl
+    on_trans (suc n) m high = let e : suc n + m ≡ suc (n + m) = omega arith in rw e (on_trans n m (below_of (link_at links high)))
+
+    pub on_further : (high here floor : ℕ) → IsOn links high here → IsOn links here floor → IsOn links high floor
+    on_further high here floor g h = record { steps = g.steps + h.steps; leads = on_trans g.steps h.steps high ∙ ap (down links h.steps) g.leads ∙ h.leads }
+
+    -- a place on a chain is as many links down as there are types between
+    leads_down : (n high here : ℕ) → high ≤ length links → down links n high ≡ here → LeadsTo links high here
+    leads_down zero high here le e =
+        let none : length (types_at links high) - length (types_at links here) ≡ 0 = omega (arith, ap (λ h. length (types_at links h)) e) in
+        rw none e
+    leads_down (suc n) high here le e = by (link_at links high) refl (λ h low q. leads_down n h here low q)
+      where
+        by : (o : Option Link) → link_at links high ≡ o → ((h : ℕ) → h ≤ length links → down links n h ≡ here → LeadsTo links h here) → LeadsTo links high here
+        by None q rec =
+            let bottom : here ≡ 0 = sym e ∙ ap (λ o. down links n (below_of o)) q ∙ from_bottom n in
+            let none : length (types_at links high) - length (types_at links here) ≡ 0 = omega (arith, ap (λ (ts : List VerificationType). length ts) (types_none links high q)) in
+            ap (λ m. down links m high) none ∙ link_nowhere links high le q ∙ sym bottom
+        by (Some l) q rec =
+            let rest : down links n l.below ≡ here = sym (ap (λ o. down links n (below_of o)) q) ∙ e in
+            let lower = types_down n l.below here rest in
+            let m : ℕ = length (types_at links l.below) - length (types_at links here) in
+            let more : length (types_at links high) - length (types_at links here) ≡ suc m =
+            omega (arith, ap (λ (ts : List VerificationType). length ts) (types_step links k high l q), ap (λ (ts : List VerificationType). length ts) lower.1, length-append lower.0 (types_at links here)) in
+            ap (λ j. down links j high) more ∙ ap (λ o. down links m (below_of o)) q ∙ rec l.below (omega (arith, linked_lower links k high l q, le)) rest
+
+    pub leads_on : (high here : ℕ) → high ≤ length links → IsOn links high here → LeadsTo links high here
+    leads_on high here le g = leads_down g.steps high here le g.leads
+
+    pub on_leads : (high here : ℕ) → LeadsTo links high here → IsOn links high here
+    on_leads high here e = record { steps = length (types_at links high) - length (types_at links here); leads = e }
+
+    -- one jump down
+    pub on_jump : (here : ℕ) (l : Link) → link_at links here ≡ Some l → IsOn links here l.jump
+    on_jump here l e = on_further here l.below l.jump (on_below here here l.below (sym (ap below_of e)) (on_itself here)) (on_leads l.below l.jump (linked_jump links k here l e))
+
 -- ---- locals of a frame that shares a place
 
-both_left : (a b : Outcome) → both a b ≡ yes → a ≡ yes
+pub both_left : (a b : Outcome) → both a b ≡ yes → a ≡ yes
 both_left yes b e = refl
 both_left no b e = e
 both_left (missing name) yes e = e
 both_left (missing name) no e = cc
 both_left (missing name) (missing _) e = e
 
-both_right : (a b : Outcome) → both a b ≡ yes → b ≡ yes
+pub both_right : (a b : Outcome) → both a b ≡ yes → b ≡ yes
 both_right yes b e = e
 both_right no b e = cc
 both_right (missing name) yes e = refl

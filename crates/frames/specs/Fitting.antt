@@ -18,6 +18,12 @@ pub record IsMarked (x : Fitting) (link moment : ℕ) : Type 0 where
   pub mark : slice_get x.marks.items link ≡ Some (Some moment)
   pub known : x.known_from ≤ moment
 
+-- the same of the chain from a place down, places counting from 1
+pub record IsSeen (x : Fitting) (here moment : ℕ) : Type 0 where
+  pub link : ℕ
+  pub place : here ≡ suc link
+  pub marked : IsMarked x link moment
+
 -- the local of a place changed since a moment
 pub record HasChanged (x : Fitting) (moment place : ℕ) : Type 0 where
   pub change : ℕ
@@ -30,6 +36,10 @@ pub record HasChanged (x : Fitting) (moment place : ℕ) : Type 0 where
 abbrev pub AreFitBut : (ℕ → Type 0) → List ClassFact → List VerificationType → List VerificationType → Type 0
 AreFitBut changed classes locals [] = Unit {0}
 AreFitBut changed classes locals (t ∷ ts) = AreFitBut changed classes locals ts × (changed (units_of ts) ⊎ (type_answer classes (get_or locals (units_of ts) top) t ≡ yes))
+
+-- none has to have changed
+abbrev pub FitAll : List ClassFact → List VerificationType → List VerificationType → Type 0
+FitAll classes locals ts = AreFitBut (λ unit. ⊥) classes locals ts
 
 -- Locals fit each marked chain of a table but for those that changed since its mark, and no mark is of a moment to come.
 pub record AreFitting (classes : List ClassFact) (t : DeclaredFrames) (locals : List VerificationType) (x : Fitting) : Type 0 where

@@ -29,9 +29,9 @@ pub struct DeclaredFrames<'a> {
 /// A declared frame.
 #[derive(Clone, Copy)]
 pub struct Declared<'n, 'a> {
-    chains: &'n Chains<'a>,
-    tops: FrameTops,
-    max_locals: u16,
+    pub(crate) chains: &'n Chains<'a>,
+    pub(crate) tops: FrameTops,
+    pub(crate) max_locals: u16,
     ghost inside: { IsInside chains.now.links.items max_locals tops },
 }
 

@@ -1,9 +1,14 @@
 //! Which declared frames the locals of a running frame fit, as far as it is known.
-ghost use Rattle.std.specs.Prelude.{◌≡◌, length};
+ghost use Rattle.std.specs.Prelude.{◌≡◌, length, map, true, IfSome};
+ghost use Rattle.frames.specs.VerificationType.{type_of};
+ghost use Rattle.frames.specs.Chains.{types_at, FitsAt};
 
+use crate::chain::Chains;
+use crate::compare::assignable;
 use crate::declared_frames::{Declared, DeclaredFrames};
 use crate::vtype::VType;
-use hierarchy::Classes;
+use crate::walking::{at_or_top, chain_assignable};
+use hierarchy::{Answer, Classes};
 use std::alloc::{AllocError, Global};
 
 /// Which chains of declared frames locals that change are known to fit.
@@ -20,8 +25,36 @@ pub struct Fitting {
     known_from: usize,
 }
 
+/// A place of a chain, and a moment at which the locals fitted the chain from there down.
+#[derive(Clone, Copy)]
+struct Floor {
+    place: usize,
+    moment: usize,
+    /// How many types and changes are compared by it.
+    cost: usize,
+}
+
+// Whether the local of a unit may stand for the type of a chain that begins there, if one does.
+fn local_fits<'a, C: Classes>(
+    chains: &Chains<'a>,
+    place: usize,
+    unit: usize,
+    locals: &[VType<'a>],
+    classes: &C,
+) -> bool
+    ensures { result ≡ true → FitsAt (C.content classes.now) (map type_of locals.now) (types_at chains.now.links.items place) unit }
+{
+    match chains.type_at_unit(place, unit) {
+        Some(vtype) => {
+            let local = at_or_top(locals, unit);
+            matches!(assignable(&local, &vtype, classes), Answer::Yes)
+        }
+        None => true,
+    }
+}
+
 impl Fitting {
-    ghost use Rattle.std.specs.Prelude.{List, true, IfOk, OnOk};
+    ghost use Rattle.std.specs.Prelude.{◌⊎◌, ℕ, List, IfOk, OnOk};
     ghost use Rattle.hierarchy.specs.Class.{ClassFact};
     ghost use Rattle.hierarchy.specs.Answer.{yes};
     ghost use Rattle.frames.specs.VerificationType.{VerificationType};
@@ -30,7 +63,7 @@ impl Fitting {
     ghost use Rattle.frames.specs.HeldFrames.{held_locals};
     ghost use Rattle.frames.specs.DeclaredTables.{declared_view, IsOf, AreOfOne};
     ghost use Rattle.frames.specs.declared.declared_frames.DeclaredFrames.{DeclaredFrames};
-    ghost use Rattle.frames.specs.Fitting.{AreFitting, AreFittingFor, AreSameBut};
+    ghost use Rattle.frames.specs.Fitting.{HasChanged, IsSeen, FitAll, AreFitting, AreFittingFor, AreSameBut};
 
     /// Nothing is known yet of the frames of a table.
     pub fn new(alloc: Global, frames: &DeclaredFrames<'_>) -> Result<Fitting, AllocError>
@@ -79,6 +112,100 @@ impl Fitting {
         Ok(())
     }
 
+    // The moment at which the locals were last seen to fit the chain from a place down, if that is known.
+    fn moment(&self, place: usize) -> Option<usize>
+        ensures { IfSome result (IsSeen self.now place) }
+    {
+        if place == 0 || self.marks.len() < place {
+            return None;
+        }
+        match self.marks[place - 1] {
+            Some(moment) if self.known_from <= moment => Some(moment),
+            _ => None,
+        }
+    }
+
+    // The place of a chain by which the least is compared: each type above it, and each local that changed since its
+    // moment. At the bottom nothing is left.
+    fn floor(&self, chains: &Chains<'_>, high: usize) -> Floor
+        ensures { (result.place ≡ 0) ⊎ IsSeen self.now result.place result.moment }
+    {
+        let now = self.changes.len();
+        let mut floor = Floor {
+            place: 0,
+            moment: now,
+            cost: usize::MAX,
+        };
+        let mut at = high;
+        let mut above = 0;
+        while let Some(link) = chains.link(at) {
+            if floor.cost <= above {
+                return floor;
+            }
+            if let Some(moment) = self.moment(at) {
+                let cost = now.saturating_sub(moment).saturating_add(above);
+                if cost < floor.cost {
+                    floor = Floor {
+                        place: at,
+                        moment,
+                        cost,
+                    };
+                }
+            }
+            at = link.below;
+            above += 1;
+        }
+        Floor {
+            place: 0,
+            moment: now,
+            cost: above,
+        }
+    }
+
+    // Whether the locals that changed since a moment may stand for the types of the chain from a place down.
+    fn changes_fit<'a, C: Classes>(
+        &self,
+        moment: usize,
+        chains: &Chains<'a>,
+        place: usize,
+        locals: &[VType<'a>],
+        classes: &C,
+    ) -> bool
+        ensures { result ≡ true → (unit : ℕ) → HasChanged self.now moment unit → FitsAt (C.content classes.now) (map type_of locals.now) (types_at chains.now.links.items place) unit }
+    {
+        for change in moment..self.changes.len() {
+            let unit = usize::from(self.changes[change]);
+            if !local_fits(chains, place, unit, locals, classes) {
+                return false;
+            }
+        }
+        true
+    }
+
+    // The locals fit the chain from a place down now.
+    fn see(&mut self, place: usize)
+        ensures { (classes : List ClassFact) (t : DeclaredFrames) (locals : List VerificationType) → FitAll classes locals (types_at t.chains.links.items place) → AreFitting classes t locals self.old → AreFitting classes t locals self.new }
+    {
+        if place == 0 || self.marks.len() < place {
+            return;
+        }
+        self.marks[place - 1] = Some(self.changes.len());
+    }
+
+    // The locals fit a chain now, and so each chain that begins on it. Those down to a floor are marked.
+    fn see_down(&mut self, chains: &Chains<'_>, high: usize, floor: usize)
+        ensures { (classes : List ClassFact) (t : DeclaredFrames) (locals : List VerificationType) → t.chains.links.items ≡ chains.now.links.items → FitAll classes locals (types_at chains.now.links.items high) → AreFitting classes t locals self.old → AreFitting classes t locals self.new }
+    {
+        let mut at = high;
+        while let Some(link) = chains.link(at) {
+            self.see(at);
+            if at == floor {
+                return;
+            }
+            at = link.below;
+        }
+    }
+
     /// Whether locals, all beyond them being top, are seen to fit those of a declared frame. They may fit where the
     /// answer is no. Takes no memory.
     pub fn fits<'a, C: Classes>(
@@ -91,9 +218,21 @@ impl Fitting {
         ensures kept { (t : DeclaredFrames) → IsOf t declared.now → AreFitting (C.content classes.now) t (held_locals locals.now (length (declared_view declared.now).locals)) self.new }
         ensures fit { result ≡ true → list_answer (type_answer (C.content classes.now)) (held_locals locals.now (length (declared_view declared.now).locals)) (declared_view declared.now).locals ≡ yes }
     {
-        let _locals = locals;
-        let _declared = declared;
-        let _classes = classes;
-        false
+        if usize::from(declared.max_locals) < locals.len() {
+            return false;
+        }
+        let chains = declared.chains;
+        let high = declared.tops.locals;
+        let floor = self.floor(chains, high);
+        if !self.changes_fit(floor.moment, chains, floor.place, locals, classes) {
+            return false;
+        }
+        match chain_assignable(locals, chains, high, floor.place, false, classes) {
+            Answer::Yes => {
+                self.see_down(chains, high, floor.place);
+                true
+            }
+            _ => false,
+        }
     }
 }

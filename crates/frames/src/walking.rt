@@ -11,7 +11,8 @@ use crate::vtype::VType;
 use hierarchy::{Answer, Classes};
 use std::alloc::AllocError;
 
-fn at_or_top<'a>(from: &[VType<'a>], place: usize) -> VType<'a>
+/// The type of a local, all beyond them being top.
+pub fn at_or_top<'a>(from: &[VType<'a>], place: usize) -> VType<'a>
     ensures { type_of result ≡ get_or (map type_of from.now) place top }
 {
     if place >= from.len() {

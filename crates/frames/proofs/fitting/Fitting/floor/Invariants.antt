@@ -1,0 +1,12 @@
+use Rattle.std.proofs.Common.{◌≡◌, ◌≤◌, ◌+◌, ◌⊎◌}
+use Rattle.frames.specs.Fitting.{IsSeen}
+use Rattle.frames.proofs.fitting.Fitting.floor.Given as goal
+
+abbrev pub invariant-loop-link : goal.invariant-loop-link
+invariant-loop-link l = record {
+  few : l.above + l.at ≤ l.fn.high;
+  seen : (l.floor.place ≡ 0) ⊎ IsSeen l.self l.floor.place l.floor.moment;
+}
+
+abbrev pub decreases-loop-link : goal.decreases-loop-link
+decreases-loop-link l = l.at
