@@ -81,6 +81,13 @@ impl<'a> Working<'a> {
         Some(t)
     }
 
+    /// How many local variables it has.
+    pub fn max_locals(&self) -> u16
+        ensures { result ≡ length (held self.now).locals }
+    {
+        self.max_locals
+    }
+
     /// The local variable of this number, top where there is none.
     pub fn local(&self, place: usize) -> VType<'a>
         ensures { type_of result ≡ local_of place (held self.now) }

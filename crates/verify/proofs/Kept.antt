@@ -1,15 +1,14 @@
 -- Facts about the locals of the running frame.
-use Rattle.std.proofs.Common.{◌≡◌, ◌∙◌, ℕ, List, [], ◌∷◌, ◌++◌, get_or, set, length, Option, Some, None, IfSome, is_some, option_map, false, sym, ap, subst, refl}
+use Rattle.std.proofs.Common.{◌≡◌, ◌∙◌, ℕ, List, [], ◌∷◌, ◌++◌, get_or, set, length, Option, Some, None, IfSome, sym, ap, subst, refl}
 use Rattle.std.proofs.lemmas.List.{set-set, set-get_or, get_or-set_other, length-set}
 use Rattle.hierarchy.specs.Class.{ClassFact}
 use Rattle.frames.specs.FrameFact.{FrameFact}
-use Rattle.frames.specs.declared.vtype.VType.{VType}
 use Rattle.frames.specs.VerificationType.{VerificationType, type_of, top}
 use Rattle.frames.specs.Fitting.{AreFitting, AreSameBut}
-use Rattle.frames.specs.DeclaredTables.{declared_view, IsOf, AreKept, AreFit, AreOfOne}
+use Rattle.frames.specs.DeclaredTables.{declared_view, IsOf, AreKept}
 use Rattle.frames.specs.declared.declared_frames.DeclaredFrames.{DeclaredFrames}
 use Rattle.frames.specs.declared.declared_frames.Declared.{Declared}
-use Rattle.frames.proofs.Sharing.{are_of_one, own_fit}
+use Rattle.frames.proofs.Sharing.{are_of_one}
 use Rattle.verify.specs.declared.keeping.Known.{Known}
 use Rattle.verify.specs.declared.keeping.Replaced.{Replaced}
 use Rattle.verify.specs.Keeping.{Keeps, IsKept, IsKnown, restored}
@@ -50,9 +49,17 @@ module _ (t : DeclaredFrames) where
   kept_more f g (Some d) rs ms r x m w e k =
       (k.0, ap (λ l. restored l g.locals) m ∙ restored_more rs r g.locals ∙ ap (λ l. restored rs (set l r.place (type_of r.was))) e ∙ ap (restored rs) (written_back f.locals r.place x (type_of r.was) w) ∙ k.1)
 
-  pub kept_none : (g : FrameFact) (kept : Option Declared) (rs : List Replaced) → is_some kept ≡ false → IfSome kept (Keeps t g rs)
+  pub kept_none : (g : FrameFact) (kept : Option Declared) (rs : List Replaced) → kept ≡ None → IfSome kept (Keeps t g rs)
   kept_none g None rs e = tt
   kept_none g (Some d) rs e = cc
+
+  -- a declared frame that was taken on
+  pub taken : (cs : List ClassFact) (f : FrameFact) (d : Declared) (known : Known) → known.kept ≡ Some d → known.replaced.items ≡ [] → f ≡ declared_view d → IsOf t d → AreFitting cs t (declared_view d).locals known.fitting
+      → IsKnown cs t f known
+  taken cs f d known kept none e o a = record {
+    kept = subst (λ h. IfSome h (Keeps t f known.replaced.items)) (sym kept) (o, ap (λ rs. restored rs f.locals) none ∙ ap (λ (z : FrameFact). z.locals) e);
+    fitting = subst (λ ls. AreFitting cs t ls known.fitting) (sym (ap (λ (z : FrameFact). z.locals) e)) a;
+  }
 
   -- what calls may be told
   pub kept_at : (f : FrameFact) (known : Known) (d : Declared) → known.kept ≡ Some d → IsKept t f known → Keeps t f known.replaced.items d

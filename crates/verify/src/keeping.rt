@@ -41,17 +41,15 @@ impl<'n, 'a> Known<'n, 'a> {
     ghost use Rattle.frames.specs.Assignable.{type_answer};
     ghost use Rattle.frames.specs.FrameAssignable.{list_answer, frame_answer};
     ghost use Rattle.frames.specs.Fitting.{AreFitting};
-    ghost use Rattle.rules.specs.After.{after, stored};
+    ghost use Rattle.rules.specs.After.{after, stored, top_of};
     ghost use Rattle.rules.specs.Held.{held};
     ghost use Rattle.rules.specs.Table.{plan};
+    ghost use Rattle.rules.specs.Views.{with_half_free};
     ghost use Rattle.verify.specs.Verdict.{entered};
     ghost use Rattle.verify.specs.Keeping.{IsKnown, IsKept, IsSameBeneath, restored};
 
     /// Nothing of the locals and the frames of a table.
-    pub fn new(
-        alloc: Global,
-        frames: &'n DeclaredFrames<'a>,
-    ) -> Result<Known<'n, 'a>, AllocError>
+    pub fn new(alloc: Global, frames: &'n DeclaredFrames<'a>) -> Result<Known<'n, 'a>, AllocError>
         ensures { IfOk result (λ x. (cs : List ClassFact) (f : FrameFact) → IsKnown cs frames.now f x) }
     {
         Ok(Known {
@@ -114,12 +112,10 @@ impl<'n, 'a> Known<'n, 'a> {
         ensures known { IsKnown (C.content classes.now) frames.now (held frame.now) self.new }
         ensures told { outcome_of result ≡ frame_answer (C.content classes.now) (held frame.now) (declared_view declared.now) }
     {
-        let fits = if self.fits(declared, frames, frame, classes) {
-            Some(*declared)
-        } else {
-            None
-        };
-        frame.answer_for(declared, fits, classes)
+        if self.fits(declared, frames, frame, classes) {
+            return frame.answer_for(declared, Some(*declared), classes);
+        }
+        frame.answer_for(declared, None, classes)
     }
 
     // Puts what was replaced back, the latest first.
@@ -151,42 +147,78 @@ impl<'n, 'a> Known<'n, 'a> {
         ensures known { (cs : List ClassFact) → IsKnown cs frames.now (held frame.old) self.old → OnOk result (IsKnown cs frames.now (held frame.new) self.new) }
     {
         self.put_back(frame)?;
-        match self.kept {
-            Some(kept) => self.fitting.passes(&kept, declared)?,
-            None => self.fitting.forget()?,
-        }
-        frame.take_on(declared, self.kept)?;
+        let kept = self.kept;
+        frame.take_on(declared, kept)?;
         self.kept = Some(*declared);
+        match kept {
+            Some(kept) => self.fitting.passes(&kept, declared),
+            None => self.fitting.forget(),
+        }
+    }
+
+    // Puts a local of a frame on the list of what was replaced, where a frame is kept.
+    fn remember(&mut self, place: u16, frame: &Working<'a>) -> Result<(), AllocError>
+        ensures kept { (t : DeclaredFrames) (f g : FrameFact) (x : VerificationType)
+            → get_or f.locals place top ≡ get_or (held frame.now).locals place top → g.locals ≡ set f.locals place x
+            → IsKept t f self.old → OnOk result (IsKept t g self.new) }
+        ensures same { self.new.fitting ≡ self.old.fitting }
+    {
+        if let None = self.kept {
+            return Ok(());
+        }
+        let was = frame.local(usize::from(place));
+        self.replaced.push(Replaced { place, was })?;
         Ok(())
     }
 
     // A local of a frame is to be written.
-    fn replaces(&mut self, place: u16, frame: &Working<'a>) -> Result<(), AllocError>
+    fn replace(&mut self, place: u16, frame: &Working<'a>) -> Result<(), AllocError>
         ensures { (cs : List ClassFact) (t : DeclaredFrames) (f g : FrameFact) (x : VerificationType)
             → get_or f.locals place top ≡ get_or (held frame.now).locals place top → g.locals ≡ set f.locals place x
             → IsKnown cs t f self.old → OnOk result (IsKnown cs t g self.new) }
     {
-        if self.kept.is_some() {
-            let was = frame.local(usize::from(place));
-            self.replaced.push(Replaced { place, was })?;
-        }
+        self.remember(place, frame)?;
         self.fitting.changed(place)
+    }
+
+    // The local in front of one that is to be stored to becomes top, where it is a long or double.
+    fn free_half(&mut self, local: u16, frame: &Working<'a>) -> Result<(), AllocError>
+        ensures { (cs : List ClassFact) (t : DeclaredFrames) (g : FrameFact) → g.locals ≡ with_half_free local (held frame.now).locals
+            → IsKnown cs t (held frame.now) self.old → OnOk result (IsKnown cs t g self.new) }
+    {
+        if local == 0 {
+            return Ok(());
+        }
+        let before = local - 1;
+        if !frame.is_wide_at(usize::from(before)) {
+            return Ok(());
+        }
+        self.replace(before, frame)
+    }
+
+    // The local behind one that is to be stored to becomes top, where a long or double is stored.
+    fn fill_half(&mut self, local: u16, frame: &Working<'a>) -> Result<(), AllocError>
+        ensures { (cs : List ClassFact) (t : DeclaredFrames) (g : FrameFact) → let f = held frame.now in
+            g.locals ≡ set (with_half_free local f.locals) local (top_of f.stack) → IsKnown cs t g self.old → OnOk result (IsKnown cs t (stored local f) self.new) }
+    {
+        if !frame.has_wide_top() {
+            return Ok(());
+        }
+        let limit = frame.max_locals();
+        if limit <= local {
+            return Ok(());
+        }
+        self.replace(local + 1, frame)
     }
 
     // The top of a frame's stack is to be stored to a local.
     #[inline(never)]
-    fn stores(&mut self, local: u16, frame: &Working<'a>) -> Result<(), AllocError>
-        requires few { length (held frame.now).locals ≤ 65535 }
+    fn store(&mut self, local: u16, frame: &Working<'a>) -> Result<(), AllocError>
         ensures { (cs : List ClassFact) (t : DeclaredFrames) → IsKnown cs t (held frame.now) self.old → OnOk result (IsKnown cs t (stored local (held frame.now)) self.new) }
     {
-        if local > 0 && frame.is_wide_at(usize::from(local - 1)) {
-            self.replaces(local - 1, frame)?;
-        }
-        self.replaces(local, frame)?;
-        if local < u16::MAX && frame.has_wide_top() {
-            self.replaces(local + 1, frame)?;
-        }
-        Ok(())
+        self.free_half(local, frame)?;
+        self.replace(local, frame)?;
+        self.fill_half(local, frame)
     }
 
     // All locals are to be written.
@@ -200,7 +232,6 @@ impl<'n, 'a> Known<'n, 'a> {
 
     /// What is known of a frame becomes what is known of the one after an instruction that means this.
     pub fn behind(&mut self, act: &Act<'_>, frame: &Working<'a>) -> Result<(), AllocError>
-        requires few { length (held frame.now).locals ≤ 65535 }
         ensures { (cs : List ClassFact) (t : DeclaredFrames) (m : Method acts.Act) (at : ℕ) → let f = held frame.now in
             IsKnown cs t f self.old → OnOk result (IsKnown cs t (after m at (plan m (act_view act.now)) f) self.new) }
     {
@@ -208,7 +239,7 @@ impl<'n, 'a> Known<'n, 'a> {
             return Ok(());
         }
         match stored_to(act) {
-            Some(local) => self.stores(local, frame),
+            Some(local) => self.store(local, frame),
             None => self.forget(),
         }
     }
