@@ -18,3 +18,4 @@ pub mod Forms
 pub mod Sharing
 pub mod Units
 pub mod Fits
+pub mod Passing

@@ -136,9 +136,9 @@ fn may_have_flag(from: bool, to: bool) -> bool
 }
 
 impl<'n, 'a> Declared<'n, 'a> {
-    ghost use Rattle.std.specs.Prelude.{◌≤◌, true, length, map, reverse, OnOk, IfOk, IfSome, MatchOption};
+    ghost use Rattle.std.specs.Prelude.{◌≤◌, ◌-◌, ℕ, true, length, map, take, drop, replicate, reverse, OnOk, IfOk, IfSome, MatchOption};
     ghost use Rattle.hierarchy.specs.Answer.{outcome_of};
-    ghost use Rattle.frames.specs.VerificationType.{type_of};
+    ghost use Rattle.frames.specs.VerificationType.{type_of, top};
     ghost use Rattle.frames.specs.FrameAssignable.{frame_answer};
     ghost use Rattle.frames.specs.FrameFact.{frame_of};
     ghost use Rattle.frames.specs.HeldFrames.{held_locals, held_frame};
@@ -247,6 +247,24 @@ impl<'n, 'a> Declared<'n, 'a> {
         let shared = self.shared(kept);
         locals.resize(self.chains.units(shared), VType::Top)?;
         write_above(self.chains, self.tops.locals, shared, true, locals)
+    }
+
+    /// How many units of locals are in use: all beyond them are top.
+    pub fn units(&self) -> u16
+        ensures { let locals = (declared_view self.now).locals in (n : ℕ) → result ≤ n → drop n locals ≡ replicate (length locals - n) top }
+    {
+        self.chains
+            .units(self.tops.locals)
+            .min(usize::from(self.max_locals)) as u16
+    }
+
+    /// How many units of locals, from 0 up, are known to be those of another frame of the same stack map.
+    pub fn shared_units(&self, other: &Declared<'_, 'a>) -> u16
+        requires { AreOfOne other.now self.now }
+        ensures { take result (declared_view self.now).locals ≡ take result (declared_view other.now).locals }
+    {
+        let shared = self.shared(Some(*other));
+        self.chains.units(shared).min(usize::from(self.max_locals)) as u16
     }
 
     /// Writes the stack to a vector in place of what it holds, from the bottom up.

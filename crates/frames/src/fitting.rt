@@ -61,7 +61,7 @@ impl Fitting {
     ghost use Rattle.frames.specs.Assignable.{type_answer};
     ghost use Rattle.frames.specs.FrameAssignable.{list_answer};
     ghost use Rattle.frames.specs.HeldFrames.{held_locals};
-    ghost use Rattle.frames.specs.DeclaredTables.{declared_view, IsOf};
+    ghost use Rattle.frames.specs.DeclaredTables.{declared_view, IsOf, AreOfOne};
     ghost use Rattle.frames.specs.declared.declared_frames.DeclaredFrames.{DeclaredFrames};
     ghost use Rattle.frames.specs.Fitting.{HasChanged, IsSeen, FitAll, AreFitting, AreFittingFor, AreSameBut};
 
@@ -92,6 +92,23 @@ impl Fitting {
         ensures { (classes : List ClassFact) (t : DeclaredFrames) (before after : List VerificationType) → AreSameBut index before after → AreFitting classes t before self.old → OnOk result (AreFitting classes t after self.new) }
     {
         self.changes.push(index)?;
+        Ok(())
+    }
+
+    /// The locals were those of one declared frame, and become those of another of the same stack map.
+    pub fn passes<'a>(
+        &mut self,
+        from: &Declared<'_, 'a>,
+        to: &Declared<'_, 'a>,
+    ) -> Result<(), AllocError>
+        requires { AreOfOne from.now to.now }
+        ensures { (classes : List ClassFact) (t : DeclaredFrames) → AreFitting classes t (declared_view from.now).locals self.old
+            → OnOk result (AreFitting classes t (declared_view to.now).locals self.new) }
+    {
+        let end = from.units().max(to.units());
+        for place in to.shared_units(from)..end {
+            self.changed(place)?;
+        }
         Ok(())
     }
 

@@ -1,6 +1,6 @@
 -- The frame that instructions are run on.
-use Rattle.std.proofs.Common.{◌≡◌, ℕ, zero, suc, ◌+◌, ◌-◌, ◌<◌, ◌≤◌, Bool, true, false, List, [], ◌∷◌, ◌++◌, length, get_or, take, drop, map, replicate, refl, sym, ◌∙◌, ap, subst, arith, if◌then◌else◌}
-use Rattle.std.proofs.lemmas.List.{drop_more, drop_all, map-append, length-replicate, replicate-append-replicate, length-append, length-map, length-reverse, length-drop, length-take-le, take-append-drop, take_all, take_rest, append_assoc}
+use Rattle.std.proofs.Common.{◌≡◌, ℕ, zero, suc, ◌+◌, ◌-◌, ◌<◌, ◌≤◌, Bool, true, false, List, [], ◌∷◌, ◌++◌, length, get_or, set, take, drop, map, replicate, refl, sym, ◌∙◌, ap, subst, arith, if◌then◌else◌}
+use Rattle.std.proofs.lemmas.List.{drop_more, drop_all, map-append, length-replicate, replicate-append-replicate, length-append, length-map, length-reverse, length-drop, length-take-le, take-append-drop, take_all, take_rest, append_assoc, length-set, map-set, set-append_left}
 use Rattle.frames.specs.declared.vtype.VType.{VType}
 use Rattle.frames.specs.declared.vtype.VType.TheVariants.{Top}
 use Rattle.frames.specs.VerificationType.{VerificationType, type_of, top, int, float, long, double, null, class, array, uninit_this, uninit}
@@ -188,6 +188,17 @@ module _ (xs grown freed : List VType) (t : VerificationType) (n m : ℕ) (le : 
       ∙ ap (λ z. z ++ replicate (m - length grown) top) s
       ∙ sym (stored_beside t n (locals_of grown) (m - length grown) (omega (arith, grown_length, length-map grown type_of)))
       ∙ ap (stored_type t n) (ap (λ z. held_locals z m) g ∙ held_more xs (n + 1 - length xs) m (omega (arith, le, lt)))
+
+-- one local is written
+pub set_held : (xs grown : List VType) (t : VType) (n m : ℕ) → length xs ≤ m → n < m → grown ≡ xs ++ replicate (n + 1 - length xs) Top
+    → held_locals (set grown n t) m ≡ set (held_locals xs m) n (type_of t)
+set_held xs grown t n m le lt g =
+    let size : length grown ≡ length xs + (n + 1 - length xs) =
+    ap length g ∙ length-append xs (replicate (n + 1 - length xs) Top) ∙ ap (λ z. length xs + z) (length-replicate (n + 1 - length xs) Top) in
+    ap (λ z. locals_of (set grown n t) ++ replicate (m - z) top) (length-set grown n t)
+    ∙ ap (λ z. z ++ replicate (m - length grown) top) (map-set type_of grown n t)
+    ∙ sym (set-append_left (locals_of grown) (replicate (m - length grown) top) n (type_of t) (omega (arith, size, length-map grown type_of)))
+    ∙ ap (λ z. set z n (type_of t)) (ap (λ z. held_locals z m) g ∙ held_more xs (n + 1 - length xs) m (omega (arith, le, lt)))
 
 pub filled : (xs now : List VType) (m n len : ℕ) → length xs ≤ m → len ≡ length xs → n ≡ m → now ≡ take n xs ++ replicate (n - len) Top → locals_of now ≡ held_locals xs m
 filled xs now m n len le size limit is =

@@ -15,3 +15,4 @@ pub mod Constructors
 pub mod SpecialCalls
 pub mod Made
 pub mod Rising
+pub mod Written

@@ -2,7 +2,7 @@
 ghost use Rattle.std.specs.Prelude.{◌≡◌};
 ghost use Rattle.insn.specs.Meanings.{act};
 ghost use Rattle.insn.specs.Views.{view, act_view};
-ghost use Rattle.rules.specs.Ways.{goes_on, branch_offsets, keeps_locals, is_plain};
+ghost use Rattle.rules.specs.Ways.{goes_on, branch_offsets, keeps_locals, stored_to, is_plain};
 ghost use Rattle.insn.specs.Branching.{branches_view};
 
 use insn::{Act, Branches, Insn, act};
@@ -39,6 +39,16 @@ pub fn keeps_locals(act: &Act<'_>) -> bool
         act,
         Act::Store { .. } | Act::StoreReference { .. } | Act::InvokeSpecial { .. } | Act::New { .. }
     )
+}
+
+/// The local variable that an instruction that means this stores to, if it does.
+pub fn stored_to(act: &Act<'_>) -> Option<u16>
+    ensures { result ≡ stored_to (act_view act.now) }
+{
+    match *act {
+        Act::Store { local, .. } | Act::StoreReference { local } => Some(local),
+        _ => None,
+    }
 }
 
 /// Whether an instruction that means this goes on to the next one and nowhere else, is no `new`, and names no class, field or method that is

@@ -29,18 +29,18 @@ pub struct Working<'a> {
 }
 
 impl<'a> Working<'a> {
-    ghost use Rattle.std.specs.Prelude.{◌≡◌, ◌<◌, ◌≤◌, ◌↔◌, [], ◌∷◌, IsTrue, nat_lt, length, map, MatchOption, OnOk, IfOk, IfSome};
-    ghost use Rattle.frames.specs.Slots.{units_of};
+    ghost use Rattle.std.specs.Prelude.{◌≡◌, ◌<◌, ◌≤◌, ◌↔◌, [], ◌∷◌, IsTrue, nat_lt, length, map, set, MatchOption, OnOk, IfOk, IfSome};
+    ghost use Rattle.frames.specs.Slots.{units_of, is_wide};
     ghost use Rattle.frames.specs.VerificationType.{type_of};
     ghost use Rattle.insn.specs.Stacks.{rearranged};
     ghost use Rattle.insn.specs.Views.{stack_form_view};
     ghost use Rattle.frames.specs.FrameFact.{frame_of};
-    ghost use Rattle.rules.specs.After.{forgotten, local_of, stored_type, with_stack};
+    ghost use Rattle.rules.specs.After.{forgotten, local_of, top_of, stored_type, with_stack};
     ghost use Rattle.rules.specs.Replacing.{initialized_frame};
     ghost use Rattle.rules.specs.Rules.{is_on_stack};
     ghost use Rattle.rules.specs.Outcomes.{pushed};
     ghost use Rattle.rules.specs.Views.{stack_of};
-    ghost use Rattle.rules.specs.Working.{held_frame, empty_frame, with_locals};
+    ghost use Rattle.rules.specs.Working.{held_frame, held_locals, empty_frame, with_locals};
     ghost use Rattle.rules.specs.Held.{held};
     ghost use Rattle.hierarchy.specs.Answer.{outcome_of};
     ghost use Rattle.frames.specs.FrameAssignable.{frame_answer};
@@ -81,15 +81,38 @@ impl<'a> Working<'a> {
         Some(t)
     }
 
-    /// The local variable of this number.
+    /// How many local variables it has.
+    pub fn max_locals(&self) -> u16
+        ensures { result ≡ length (held self.now).locals }
+    {
+        self.max_locals
+    }
+
+    /// The local variable of this number, top where there is none.
     pub fn local(&self, place: usize) -> VType<'a>
-        requires { place < length (held self.now).locals }
         ensures { type_of result ≡ local_of place (held self.now) }
     {
         if place < self.locals.len() {
             self.locals[place]
         } else {
             VType::Top
+        }
+    }
+
+    /// Whether the local variable of this number is a long or a double.
+    pub fn is_wide_at(&self, place: usize) -> bool
+        ensures { result ≡ is_wide (local_of place (held self.now)) }
+    {
+        is_wide(&self.local(place))
+    }
+
+    /// Whether the top of the stack is a long or a double.
+    pub fn has_wide_top(&self) -> bool
+        ensures { result ≡ is_wide (top_of (held self.now).stack) }
+    {
+        match self.stack.last() {
+            Some(t) => is_wide(t),
+            None => false,
         }
     }
 
@@ -113,6 +136,13 @@ impl<'a> Working<'a> {
         ensures { result ≡ (held self.now).flag }
     {
         self.flag
+    }
+
+    /// Those of its locals that are in use, from 0 up: all beyond them are top.
+    pub fn locals(&self) -> &[VType<'a>]
+        ensures { let f = held self.now in held_locals result.now (length f.locals) ≡ f.locals }
+    {
+        &self.locals
     }
 
     /// The stack from the bottom up.
@@ -186,6 +216,19 @@ impl<'a> Working<'a> {
     {
         reach(place, usize::from(self.max_locals), &mut self.locals)?;
         store(t, place, &mut self.locals);
+        Ok(())
+    }
+
+    /// Gives a local variable the type that it had before it was changed, where there is such a local.
+    pub fn put_back(&mut self, t: VType<'a>, place: usize) -> Result<(), AllocError>
+        ensures { OnOk result (held self.new ≡ with_locals (held self.old) (set (held self.old).locals place (type_of t.entry))) }
+    {
+        let limit = usize::from(self.max_locals);
+        if limit <= place {
+            return Ok(());
+        }
+        reach(place, limit, &mut self.locals)?;
+        self.locals[place] = t;
         Ok(())
     }
 

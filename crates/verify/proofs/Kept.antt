@@ -1,71 +1,73 @@
 -- Facts about the locals of the running frame.
-use Rattle.std.proofs.Common.{◌≡◌, ◌∙◌, List, Option, Some, None, IfSome, option_map, sym, ap, subst, refl}
+use Rattle.std.proofs.Common.{◌≡◌, ◌∙◌, ℕ, List, [], ◌∷◌, ◌++◌, get_or, set, length, Option, Some, None, IfSome, sym, ap, subst, refl}
+use Rattle.std.proofs.lemmas.List.{set-set, set-get_or, get_or-set_other, length-set}
 use Rattle.hierarchy.specs.Class.{ClassFact}
 use Rattle.frames.specs.FrameFact.{FrameFact}
-use Rattle.frames.specs.VerificationType.{VerificationType}
-use Rattle.frames.specs.Assignable.{type_answer}
-use Rattle.frames.specs.FrameAssignable.{list_answer}
-use Rattle.frames.specs.DeclaredTables.{declared_view, IsOf, AreKept, AreFit}
+use Rattle.frames.specs.VerificationType.{VerificationType, type_of, top}
+use Rattle.frames.specs.Fitting.{AreFitting, AreSameBut}
+use Rattle.frames.specs.DeclaredTables.{declared_view, IsOf, AreKept}
 use Rattle.frames.specs.declared.declared_frames.DeclaredFrames.{DeclaredFrames}
 use Rattle.frames.specs.declared.declared_frames.Declared.{Declared}
-use Rattle.frames.proofs.Sharing.{are_of_one, own_fit}
+use Rattle.frames.proofs.Sharing.{are_of_one}
 use Rattle.verify.specs.declared.keeping.Known.{Known}
-use Rattle.verify.specs.Verdict.{entered}
-use Rattle.verify.specs.Keeping.{Keeps, Fits, IsKnown}
+use Rattle.verify.specs.declared.keeping.Replaced.{Replaced}
+use Rattle.verify.specs.Keeping.{Keeps, IsKept, IsKnown, restored}
 
-module _ (cs : List ClassFact) (t : DeclaredFrames) where
+-- ---- what is put back
+
+pub restored_more : (rs : List Replaced) (r : Replaced) (ls : List VerificationType) → restored (rs ++ r ∷ []) ls ≡ restored rs (set ls r.place (type_of r.was))
+restored_more [] r ls = refl
+restored_more (x ∷ rs) r ls = ap (λ z. set z x.place (type_of x.was)) (restored_more rs r ls)
+
+pub restored_length : (rs : List Replaced) (ls : List VerificationType) → length (restored rs ls) ≡ length ls
+restored_length [] ls = refl
+restored_length (r ∷ rs) ls = length-set (restored rs ls) r.place (type_of r.was) ∙ restored_length rs ls
+
+-- a local that is written, and put back
+written_back : (xs : List VerificationType) (p : ℕ) (x was : VerificationType) → was ≡ get_or xs p top → set (set xs p x) p was ≡ xs
+written_back xs p x was e = set-set xs p x was ∙ ap (set xs p) e ∙ set-get_or xs p top
+
+pub same_but : (old new : List VerificationType) (p : ℕ) (x : VerificationType) → new ≡ set old p x → AreSameBut p old new
+same_but old new p x e i ne = ap (λ (l : List VerificationType). get_or l i top) e ∙ get_or-set_other old p i x top ne
+
+module _ (t : DeclaredFrames) where
   -- what is known of locals is known of the same ones
-  kept_by : (f g : FrameFact) (kept : Option Declared) → f.locals ≡ g.locals → IfSome kept (Keeps t f) → IfSome kept (Keeps t g)
-  kept_by f g None e k = k
-  kept_by f g (Some d) e k = (k.0, sym e ∙ k.1)
+  kept_by : (f g : FrameFact) (rs : List Replaced) (kept : Option Declared) → f.locals ≡ g.locals → IfSome kept (Keeps t f rs) → IfSome kept (Keeps t g rs)
+  kept_by f g rs None e k = k
+  kept_by f g rs (Some d) e k = (k.0, ap (restored rs) (sym e) ∙ k.1)
 
-  fit_by : (f g : FrameFact) (fits : Option Declared) → f.locals ≡ g.locals → IfSome fits (Fits cs t f) → IfSome fits (Fits cs t g)
-  fit_by f g None e k = k
-  fit_by f g (Some d) e k = (k.0, ap (λ (ls : List VerificationType). list_answer (type_answer cs) ls (declared_view d).locals) (sym e) ∙ k.1)
+  pub known_by : (cs : List ClassFact) (f g : FrameFact) (known : Known) → f.locals ≡ g.locals → IsKnown cs t f known → IsKnown cs t g known
+  known_by cs f g known e k = record { kept = kept_by f g known.replaced.items known.kept e k.kept; fitting = subst (λ ls. AreFitting cs t ls known.fitting) e k.fitting }
 
-  pub known_by : (f g : FrameFact) (known : Known) → f.locals ≡ g.locals → IsKnown cs t f known → IsKnown cs t g known
-  known_by f g known e k = record { kept = kept_by f g known.kept e k.kept; fits = fit_by f g known.fits e k.fits }
+  pub known_same : (cs : List ClassFact) (f g : FrameFact) (known : Known) → f ≡ g → IsKnown cs t f known → IsKnown cs t g known
+  known_same cs f g known e k = known_by cs f g known (ap (λ (z : FrameFact). z.locals) e) k
 
-  pub known_same : (f g : FrameFact) (known : Known) → f ≡ g → IsKnown cs t f known → IsKnown cs t g known
-  known_same f g known e k = known_by f g known (ap (λ (z : FrameFact). z.locals) e) k
+  -- one local is written, which was put on the list
+  pub kept_more : (f g : FrameFact) (kept : Option Declared) (rs ms : List Replaced) (r : Replaced) (x : VerificationType) → ms ≡ rs ++ r ∷ [] → type_of r.was ≡ get_or f.locals r.place top
+      → g.locals ≡ set f.locals r.place x → IfSome kept (Keeps t f rs) → IfSome kept (Keeps t g ms)
+  kept_more f g None rs ms r x m w e k = k
+  kept_more f g (Some d) rs ms r x m w e k =
+      (k.0, ap (λ l. restored l g.locals) m ∙ restored_more rs r g.locals ∙ ap (λ l. restored rs (set l r.place (type_of r.was))) e ∙ ap (restored rs) (written_back f.locals r.place x (type_of r.was) w) ∙ k.1)
 
-  -- a declared frame that is taken on
-  pub known_here : (f : FrameFact) (declared : Option Declared) → IfSome declared (IsOf t) → IsKnown cs t (entered f (option_map declared_view declared)) (record { kept = declared; fits = declared })
-  known_here f None o = record { kept = tt; fits = tt }
-  known_here f (Some d) o = record { kept = (o, refl); fits = (o, own_fit cs (declared_view d).locals) }
+  pub kept_none : (g : FrameFact) (kept : Option Declared) (rs : List Replaced) → kept ≡ None → IfSome kept (Keeps t g rs)
+  kept_none g None rs e = tt
+  kept_none g (Some d) rs e = cc
 
-  -- what a call may be told
-  module _ (f : FrameFact) (d : Declared) (o : IsOf t d) where
-    pub are_kept : (kept : Option Declared) → IfSome kept (Keeps t f) → IfSome kept (AreKept d f.locals)
-    are_kept None k = k
-    are_kept (Some e) k = record { of_one = are_of_one t e d k.0 o; same = k.1 }
+  -- a declared frame that was taken on
+  pub taken : (cs : List ClassFact) (f : FrameFact) (d : Declared) (known : Known) → known.kept ≡ Some d → known.replaced.items ≡ [] → f ≡ declared_view d → IsOf t d → AreFitting cs t (declared_view d).locals known.fitting
+      → IsKnown cs t f known
+  taken cs f d known kept none e o a = record {
+    kept = subst (λ h. IfSome h (Keeps t f known.replaced.items)) (sym kept) (o, ap (λ rs. restored rs f.locals) none ∙ ap (λ (z : FrameFact). z.locals) e);
+    fitting = subst (λ ls. AreFitting cs t ls known.fitting) (sym (ap (λ (z : FrameFact). z.locals) e)) a;
+  }
 
-    pub are_fit : (fits : Option Declared) → IfSome fits (Fits cs t f) → IfSome fits (AreFit cs d f.locals)
-    are_fit None k = k
-    are_fit (Some e) k = record { of_one = are_of_one t e d k.0 o; answer = k.1 }
+  -- what calls may be told
+  pub kept_at : (f : FrameFact) (known : Known) (d : Declared) → known.kept ≡ Some d → IsKept t f known → Keeps t f known.replaced.items d
+  kept_at f known d e k = subst (λ o. IfSome o (Keeps t f known.replaced.items)) e k
 
-  pub kept_here : (f : FrameFact) (declared : Option Declared) (known : Known) → IfSome declared (IsOf t) → IsKnown cs t f known → IfSome declared (λ d. IfSome known.kept (AreKept d f.locals))
-  kept_here f None known o k = o
-  kept_here f (Some d) known o k = are_kept f d o known.kept k.kept
+  pub are_kept : (d : Declared) (rs : List Replaced) (f : FrameFact) (locals : List VerificationType) (kept : Option Declared) → IsOf t d → locals ≡ restored rs f.locals → IfSome kept (Keeps t f rs) → IfSome kept (AreKept d locals)
+  are_kept d rs f locals None o e k = tt
+  are_kept d rs f locals (Some h) o e k = record { of_one = are_of_one t h d k.0 o; same = e ∙ k.1 }
 
-  pub fit_here : (f : FrameFact) (declared fits : Option Declared) → IfSome declared (IsOf t) → IfSome fits (Fits cs t f) → IfSome declared (λ d. IfSome fits (AreFit cs d f.locals))
-  fit_here f None fits o k = o
-  fit_here f (Some d) fits o k = are_fit f d o fits k
-
-  -- locals fit the frame that they are of
-  kept_fits : (f : FrameFact) (kept : Option Declared) → IfSome kept (Keeps t f) → IfSome kept (Fits cs t f)
-  kept_fits f None k = k
-  kept_fits f (Some d) k = (k.0, ap (λ (ls : List VerificationType). list_answer (type_answer cs) ls (declared_view d).locals) k.1 ∙ own_fit cs (declared_view d).locals)
-
-  pub fitting : (f : FrameFact) (known : Known) → IsKnown cs t f known → IfSome known.kept (Fits cs t f)
-  fitting f known k = kept_fits f known.kept k.kept
-
-  pub kept_at : (f : FrameFact) (known : Known) (d : Declared) → known.kept ≡ Some d → IsKnown cs t f known → Keeps t f d
-  kept_at f known d e k = subst (λ o. IfSome o (Keeps t f)) e k.kept
-
-  -- a declared frame with the same locals is taken on
-  pub known_again : (f : FrameFact) (declared : Option Declared) (known : Known) (d : Declared) → declared ≡ Some d → IsOf t d → f.locals ≡ (declared_view d).locals → IsKnown cs t f known
-      → IsKnown cs t (entered f (option_map declared_view declared)) (record { kept = declared; fits = known.fits })
-  known_again f declared known d is o e k =
-      subst (λ z. IsKnown cs t (entered f (option_map declared_view z)) (record { kept = z; fits = known.fits })) (sym is)
-      (record { kept = (o, refl); fits = fit_by f (declared_view d) known.fits e k.fits })
+  pub same_frame : (f : FrameFact) (d h : Declared) (known : Known) → known.replaced.items ≡ [] → (declared_view d).locals ≡ (declared_view h).locals → Keeps t f known.replaced.items h → f.locals ≡ (declared_view d).locals
+  same_frame f d h known none e k = sym (ap (λ rs. restored rs f.locals) none) ∙ k.1 ∙ sym e

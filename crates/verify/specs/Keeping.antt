@@ -1,26 +1,30 @@
--- The declared frames that the locals of the running frame are compared with no more.
-use Rattle.std.specs.Prelude.{◌≡◌, List, IfSome}
+-- What is known of the locals of the running frame.
+use Rattle.std.specs.Prelude.{◌≡◌, List, [], ◌∷◌, set, IfSome}
 use Rattle.hierarchy.specs.Class.{ClassFact}
-use Rattle.hierarchy.specs.Answer.{yes}
 use Rattle.frames.specs.FrameFact.{FrameFact}
-use Rattle.frames.specs.Assignable.{type_answer}
-use Rattle.frames.specs.FrameAssignable.{list_answer}
+use Rattle.frames.specs.VerificationType.{VerificationType, type_of}
 use Rattle.frames.specs.DeclaredTables.{declared_view, IsOf}
+use Rattle.frames.specs.Fitting.{AreFitting}
 use Rattle.frames.specs.declared.declared_frames.DeclaredFrames.{DeclaredFrames}
 use Rattle.frames.specs.declared.declared_frames.Declared.{Declared}
 use Rattle.verify.specs.declared.keeping.Known.{Known}
+use Rattle.verify.specs.declared.keeping.Replaced.{Replaced}
 
--- the locals are those of this frame of the table
-abbrev pub Keeps : DeclaredFrames → FrameFact → Declared → Type 0
-Keeps t f k = IsOf t k × (f.locals ≡ (declared_view k).locals)
+-- locals once what was replaced is put back, the latest first
+abbrev pub restored : List Replaced → List VerificationType → List VerificationType
+restored [] locals = locals
+restored (r ∷ rs) locals = set (restored rs locals) r.place (type_of r.was)
 
--- the locals may stand where those of this frame of the table are declared
-abbrev pub Fits : List ClassFact → DeclaredFrames → FrameFact → Declared → Type 0
-Fits classes t f k = IsOf t k × (list_answer (type_answer classes) f.locals (declared_view k).locals ≡ yes)
+-- with what was replaced put back, the locals are those of this frame of the table
+abbrev pub Keeps : DeclaredFrames → FrameFact → List Replaced → Declared → Type 0
+Keeps t f replaced k = IsOf t k × (restored replaced f.locals ≡ (declared_view k).locals)
+
+abbrev pub IsKept : DeclaredFrames → FrameFact → Known → Type 0
+IsKept t f known = IfSome known.kept (Keeps t f known.replaced.items)
 
 pub record IsKnown (classes : List ClassFact) (t : DeclaredFrames) (f : FrameFact) (known : Known) : Type 0 where
-  pub kept : IfSome known.kept (Keeps t f)
-  pub fits : IfSome known.fits (Fits classes t f)
+  pub kept : IsKept t f known
+  pub fitting : AreFitting classes t f.locals known.fitting
 
 -- the same frame but for its stack
 pub record IsSameBeneath (f g : FrameFact) : Type 0 where

@@ -13,7 +13,7 @@ use crate::flow::{check_answer, together};
 use crate::keeping::Known;
 use crate::place_set::PlaceSet;
 use frames::{Declared, DeclaredFrames};
-use hierarchy::{Answer, Classes};
+use hierarchy::Classes;
 use insn::{BranchTargets, Branches};
 use rules::{Reason, Working};
 
@@ -74,10 +74,7 @@ fn check_target<'n, 'a, C: Classes>(
     if !seen.put(place) {
         return None;
     }
-    let answer = frame.answer_for(&declared, known.fits, classes);
-    if let Answer::Yes = answer {
-        known.fits = Some(declared);
-    }
+    let answer = known.answer(&declared, frames, frame, classes);
     Some(check_answer(answer, Reason::NotAssignableAtTarget))
 }
 

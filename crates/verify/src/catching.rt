@@ -62,25 +62,22 @@ fn locals_answer<'a, C: Classes>(
 fn declared_answer<'n, 'a, C: Classes>(
     frame: &Working<'a>,
     declared: &Declared<'n, 'a>,
+    frames: &'n DeclaredFrames<'a>,
     known: &mut Known<'n, 'a>,
     room: &mut Vec<VType<'a>>,
     classes: &C,
 ) -> Result<Answer<'a>, AllocError>
     requires size { length (declared_view declared.now).locals ≡ length (held frame.now).locals }
-    ensures told { (t : DeclaredFrames) → IsOf t declared.now → IsKnown (C.content classes.now) t (held frame.now) known.old
-        → IfOk result (λ a. outcome_of a ≡ list_answer (type_answer (C.content classes.now)) (held frame.now).locals (declared_view declared.now).locals) }
-    ensures known { (t : DeclaredFrames) → IsOf t declared.now → IsKnown (C.content classes.now) t (held frame.now) known.old
-        → IsKnown (C.content classes.now) t (held frame.now) known.new }
+    requires own { IsOf frames.now declared.now }
+    requires known { IsKnown (C.content classes.now) frames.now (held frame.now) known.old }
+    ensures told { IfOk result (λ a. outcome_of a ≡ list_answer (type_answer (C.content classes.now)) (held frame.now).locals (declared_view declared.now).locals) }
+    ensures known { IsKnown (C.content classes.now) frames.now (held frame.now) known.new }
 {
-    if known.is_fit_by(declared) {
+    if known.fits(declared, frames, frame, classes) {
         return Ok(Answer::Yes);
     }
     declared.write_locals(None, room)?;
-    let answer = locals_answer(frame, room, classes);
-    if let Answer::Yes = answer {
-        known.fits = Some(*declared);
-    }
-    Ok(answer)
+    Ok(locals_answer(frame, room, classes))
 }
 
 /// The frame with what is caught alone on its stack, to a declared frame.
@@ -88,15 +85,16 @@ fn frame_answer<'n, 'a, C: Classes>(
     caught: RefType<'a>,
     frame: &Working<'a>,
     declared: &Declared<'n, 'a>,
+    frames: &'n DeclaredFrames<'a>,
     known: &mut Known<'n, 'a>,
     room: &mut Vec<VType<'a>>,
     classes: &C,
 ) -> Result<Answer<'a>, AllocError>
     requires size { length (declared_view declared.now).locals ≡ length (held frame.now).locals }
-    ensures told { (t : DeclaredFrames) → IsOf t declared.now → IsKnown (C.content classes.now) t (held frame.now) known.old
-        → IfOk result (λ a. outcome_of a ≡ frame_answer (C.content classes.now) (with_stack (held frame.now) (to_reference (reference_view caught.entry) ∷ [])) (declared_view declared.now)) }
-    ensures known { (t : DeclaredFrames) → IsOf t declared.now → IsKnown (C.content classes.now) t (held frame.now) known.old
-        → IsKnown (C.content classes.now) t (held frame.now) known.new }
+    requires own { IsOf frames.now declared.now }
+    requires known { IsKnown (C.content classes.now) frames.now (held frame.now) known.old }
+    ensures told { IfOk result (λ a. outcome_of a ≡ frame_answer (C.content classes.now) (with_stack (held frame.now) (to_reference (reference_view caught.entry) ∷ [])) (declared_view declared.now)) }
+    ensures known { IsKnown (C.content classes.now) frames.now (held frame.now) known.new }
 {
     if frame.flag() && !declared.flag() {
         return Ok(Answer::No);
@@ -106,7 +104,7 @@ fn frame_answer<'n, 'a, C: Classes>(
     if let Answer::No = stack {
         return Ok(Answer::No);
     }
-    let locals = declared_answer(frame, declared, known, room, classes)?;
+    let locals = declared_answer(frame, declared, frames, known, room, classes)?;
     Ok(both(locals, stack))
 }
 
@@ -126,6 +124,8 @@ pub fn caught_answer<'n, 'a, C: Classes>(
 {
     match frames.find(u32::from(entry.handler)) {
         None => Ok(Answer::No),
-        Some(declared) => frame_answer(entry.caught, frame, &declared, known, room, classes),
+        Some(declared) => {
+            frame_answer(entry.caught, frame, &declared, frames, known, room, classes)
+        }
     }
 }

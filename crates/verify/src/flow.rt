@@ -2,13 +2,15 @@
 ghost use Rattle.std.specs.Prelude.{◌≡◌, ◌++◌, ◌&&◌, [], ◌∷◌, option_map, length, IfSome, OnOk, IsOk, Err};
 ghost use Rattle.hierarchy.specs.Answer.{outcome_of};
 ghost use Rattle.frames.specs.Conditions.{Conditions, reason};
-ghost use Rattle.frames.specs.DeclaredTables.{declared_view, AreKept, AreFit};
+ghost use Rattle.frames.specs.DeclaredTables.{declared_view, IsOf};
 ghost use Rattle.rules.specs.Held.{held};
 ghost use Rattle.rules.specs.Reasons.{reason_number, reason_view};
 ghost use Rattle.verify.specs.Verdict.{answer_conditions};
 ghost use Rattle.verify.specs.Steps.{Judges, Enters};
+ghost use Rattle.verify.specs.Keeping.{IsKnown};
 
-use frames::Declared;
+use crate::keeping::Known;
+use frames::{Declared, DeclaredFrames};
 use hierarchy::{Answer, Classes};
 use rules::{Reason, Working};
 
@@ -25,32 +27,32 @@ pub fn check_answer<'a>(answer: Answer<'a>, against: Reason<'a>) -> Result<(), R
 }
 
 /// The frame that comes to a start, where this one may be declared, becomes the one that goes on: 69 and 77 by their
-/// comparison, and 70 where none comes and none is declared. Where the locals are known to be those of a declared frame, or to fit one, what
-/// the two declared frames share is not written, or not compared.
-pub fn enter<'a, C: Classes>(
+/// comparison, and 70 where none comes and none is declared. What is known of locals is known of the frame that it becomes.
+pub fn enter<'n, 'a, C: Classes>(
     comes: bool,
-    declared: Option<Declared<'_, 'a>>,
-    kept: Option<Declared<'_, 'a>>,
-    fits: Option<Declared<'_, 'a>>,
+    declared: Option<Declared<'n, 'a>>,
+    frames: &'n DeclaredFrames<'a>,
+    known: &mut Known<'n, 'a>,
     frame: &mut Working<'a>,
     classes: &C,
 ) -> Result<(), Reason<'a>>
     requires size { IfSome declared (λ d. length (declared_view d).locals ≡ length (held frame.old).locals) }
-    requires kept { IfSome declared (λ d. IfSome kept (AreKept d (held frame.old).locals)) }
-    requires fits { IfSome declared (λ d. IfSome fits (AreFit (C.content classes.now) d (held frame.old).locals)) }
+    requires own { IfSome declared (IsOf frames.now) }
+    requires known { IsKnown (C.content classes.now) frames.now (held frame.old) known.old }
     ensures entered { Enters (C.content classes.now) comes (held frame.old) (option_map declared_view declared.entry) (held frame.new) result }
     ensures locals { OnOk result (length (held frame.new).locals ≡ length (held frame.old).locals) }
+    ensures known { OnOk result (IsKnown (C.content classes.now) frames.now (held frame.new) known.new) }
 {
     let Some(declared) = declared else {
         return if comes { Ok(()) } else { Err(Reason::NoFrame) };
     };
     if comes {
         check_answer(
-            frame.answer_for(&declared, fits, classes),
+            known.answer(&declared, frames, frame, classes),
             Reason::NotAssignable,
         )?;
     }
-    frame.take_on(&declared, kept)?;
+    known.take_on(&declared, frames, frame)?;
     Ok(())
 }
 

@@ -109,9 +109,8 @@ fn take_up<'n, 'a, C: Classes>(
 {
     let declared = frames.find(u32::from(at));
     let same = known.keeps(frame.flag(), declared);
-    enter(comes, declared, known.kept, known.fitting(), frame, classes)?;
+    enter(comes, declared, frames, known, frame, classes)?;
     handlers.behind(same)?;
-    *known = known.here(declared);
     Ok(())
 }
 
@@ -200,7 +199,7 @@ fn judge_wholly<'n, 'a, C: Classes>(
     let named = named_by(constants, fields, method, &act)?;
     let covered = covers_constructor(method, at, &act, &named, handlers, frame)?;
     let caught = handlers.catch(at, frame, frames, known, classes);
-    known.behind(&act);
+    known.behind(&act, frame)?;
     handlers.behind(keeps_locals(&act))?;
     judge_named(
         alloc,
@@ -255,7 +254,7 @@ fn judge<'n, 'a, C: Classes>(
     ensures handlers { let m = method_view method.now in OnOk result (Follows (C.content classes.now) (frames_in frames.now) m.exceptions at (held frame.new) handlers.new) }
 {
     if !last && is_plain(act) && handlers.are_idle(at) {
-        known.behind(act);
+        known.behind(act, frame)?;
         handlers.behind(keeps_locals(act))?;
         return run_plain(method, act, frame, classes);
     }
@@ -294,7 +293,7 @@ pub fn pass<'a, C: Classes>(
 {
     let mut code = Instructions::new(method.code.code);
     let mut comes = true;
-    let mut known = Known::nothing();
+    let mut known = Known::new(alloc, frames)?;
     while !code.is_at_end() {
         let at = code.at() as u16;
         let act = code.take_act();

@@ -1,112 +1,246 @@
-//! The declared frames that are known to fit the locals of the running frame, so that it is not compared with each declared frame local by local.
+//! What is known of the locals of the running frame, so that it is not compared with each declared frame local by local, nor written so.
+ghost use Rattle.std.specs.Prelude.{◌≡◌, ℕ, List, get_or, set, OnOk};
+ghost use Rattle.hierarchy.specs.Class.{ClassFact};
 ghost use Rattle.frames.specs.FrameFact.{FrameFact};
+ghost use Rattle.frames.specs.VerificationType.{VerificationType, top};
 ghost use Rattle.frames.specs.declared.declared_frames.DeclaredFrames.{DeclaredFrames};
 
-use frames::Declared;
+use frames::{Declared, DeclaredFrames, Fitting, VType};
+use hierarchy::{Answer, Classes};
 use insn::Act;
-use rules::keeps_locals;
+use rules::{Working, keeps_locals, stored_to};
+use std::alloc::{AllocError, Global};
 
-/// Declared frames whose locals the running frame has or fits, where some are known.
+/// A local variable that was changed.
 #[derive(Clone, Copy)]
+pub struct Replaced<'a> {
+    /// Its number.
+    pub place: u16,
+    /// The type that it had.
+    pub was: VType<'a>,
+}
+
+/// What is known of the running frame's locals.
+#[derive(Drop)]
 pub struct Known<'n, 'a> {
-    /// The locals are those of this frame.
+    /// The locals are those of this frame, if there is one, but for what was replaced since it was taken on.
     pub kept: Option<Declared<'n, 'a>>,
-    /// The locals may stand where this frame is declared.
-    pub fits: Option<Declared<'n, 'a>>,
+    /// The earliest first.
+    pub replaced: Vec<Replaced<'a>>,
+    /// Which declared frames they fit.
+    pub fitting: Fitting,
 }
 
 impl<'n, 'a> Known<'n, 'a> {
-    ghost use Rattle.std.specs.Prelude.{◌≡◌, true, ℕ, List, option_map, IfSome};
+    ghost use Rattle.std.specs.Prelude.{◌≤◌, [], true, length, option_map, IfSome, IfOk};
     ghost use Rattle.classfile.specs.Methods.{Method};
-    ghost use Rattle.hierarchy.specs.Class.{ClassFact};
+    ghost use Rattle.hierarchy.specs.Answer.{yes, outcome_of};
     ghost use Rattle.insn.specs.Meanings as acts;
     ghost use Rattle.insn.specs.Views.{act_view};
     ghost use Rattle.frames.specs.DeclaredTables.{declared_view, IsOf};
-    ghost use Rattle.rules.specs.After.{after};
-    ghost use Rattle.rules.specs.Table.{plan};
-    ghost use Rattle.verify.specs.Verdict.{entered};
-    ghost use Rattle.hierarchy.specs.Answer.{yes};
     ghost use Rattle.frames.specs.Assignable.{type_answer};
-    ghost use Rattle.frames.specs.FrameAssignable.{list_answer};
-    ghost use Rattle.verify.specs.Keeping.{IsKnown, Fits, IsSameBeneath};
+    ghost use Rattle.frames.specs.FrameAssignable.{list_answer, frame_answer};
+    ghost use Rattle.frames.specs.Fitting.{AreFitting};
+    ghost use Rattle.rules.specs.After.{after, stored, top_of};
+    ghost use Rattle.rules.specs.Held.{held};
+    ghost use Rattle.rules.specs.Table.{plan};
+    ghost use Rattle.rules.specs.Views.{with_half_free};
+    ghost use Rattle.verify.specs.Verdict.{entered};
+    ghost use Rattle.verify.specs.Keeping.{IsKnown, IsKept, IsSameBeneath, restored};
 
-    /// Nothing.
-    pub fn nothing() -> Known<'n, 'a>
-        ensures { (cs : List ClassFact) (t : DeclaredFrames) (f : FrameFact) → IsKnown cs t f result }
+    /// Nothing of the locals and the frames of a table.
+    pub fn new(alloc: Global, frames: &'n DeclaredFrames<'a>) -> Result<Known<'n, 'a>, AllocError>
+        ensures { IfOk result (λ x. (cs : List ClassFact) (f : FrameFact) → IsKnown cs frames.now f x) }
     {
-        Known {
+        Ok(Known {
             kept: None,
-            fits: None,
-        }
+            replaced: Vec::new(alloc),
+            fitting: Fitting::new(alloc, frames)?,
+        })
     }
 
-    /// A frame that the locals fit, if one is known: rather the one that they are of.
-    pub fn fitting(self) -> Option<Declared<'n, 'a>>
-        ensures { (cs : List ClassFact) (t : DeclaredFrames) (f : FrameFact) → IsKnown cs t f self.entry → IfSome result (Fits cs t f) }
+    /// Whether a declared frame has the locals that the running one is known to have.
+    fn are_those_of(&self, declared: &Declared<'n, 'a>) -> bool
+        ensures { (t : DeclaredFrames) (f : FrameFact) → result ≡ true → IsOf t declared.now → IsKept t f self.now → f.locals ≡ (declared_view declared.now).locals }
     {
         match self.kept {
-            Some(_) => self.kept,
-            None => self.fits,
-        }
-    }
-
-    // Whether a declared frame has the locals that the running one is known to have.
-    fn is_kept_by(self, declared: &Declared<'n, 'a>) -> bool
-        ensures { (cs : List ClassFact) (t : DeclaredFrames) (f : FrameFact) → result ≡ true → IsOf t declared.now → IsKnown cs t f self.entry → f.locals ≡ (declared_view declared.now).locals }
-    {
-        match self.kept {
-            Some(kept) => declared.keeps_locals_of(&kept),
-            None => false,
-        }
-    }
-
-    /// Whether the locals are known to fit those of a declared frame.
-    pub fn is_fit_by(self, declared: &Declared<'n, 'a>) -> bool
-        ensures { (cs : List ClassFact) (t : DeclaredFrames) (f : FrameFact) → result ≡ true → IsOf t declared.now → IsKnown cs t f self.entry
-            → list_answer (type_answer cs) f.locals (declared_view declared.now).locals ≡ yes }
-    {
-        match self.fitting() {
-            Some(fits) => declared.keeps_locals_of(&fits),
+            Some(kept) => self.replaced.is_empty() && declared.keeps_locals_of(&kept),
             None => false,
         }
     }
 
     /// Whether a frame with this flag keeps its locals and the flag where a frame is declared and taken on, or none is.
-    pub fn keeps(self, flag: bool, declared: Option<Declared<'n, 'a>>) -> bool
-        ensures { (cs : List ClassFact) (t : DeclaredFrames) (f : FrameFact) → result ≡ true → f.flag ≡ flag → IfSome declared.entry (IsOf t) → IsKnown cs t f self.entry
+    pub fn keeps(&self, flag: bool, declared: Option<Declared<'n, 'a>>) -> bool
+        ensures { (t : DeclaredFrames) (f : FrameFact) → result ≡ true → f.flag ≡ flag → IfSome declared.entry (IsOf t) → IsKept t f self.now
             → IsSameBeneath f (entered f (option_map declared_view declared.entry)) }
     {
         match declared {
-            Some(frame) => self.is_kept_by(&frame) && frame.flag() == flag,
+            Some(frame) => self.are_those_of(&frame) && frame.flag() == flag,
             None => true,
         }
     }
 
-    /// The same where this frame is declared and taken on, or none is.
-    pub fn here(self, declared: Option<Declared<'n, 'a>>) -> Known<'n, 'a>
-        ensures { (cs : List ClassFact) (t : DeclaredFrames) (f : FrameFact) → IfSome declared.entry (IsOf t) → IsKnown cs t f self.entry → IsKnown cs t (entered f (option_map declared_view declared.entry)) result }
+    /// Whether the locals of a frame are seen to fit those of a declared one. They may fit where the answer is no.
+    pub fn fits<C: Classes>(
+        &mut self,
+        declared: &Declared<'n, 'a>,
+        frames: &DeclaredFrames<'a>,
+        frame: &Working<'a>,
+        classes: &C,
+    ) -> bool
+        requires size { length (declared_view declared.now).locals ≡ length (held frame.now).locals }
+        requires own { IsOf frames.now declared.now }
+        requires known { IsKnown (C.content classes.now) frames.now (held frame.now) self.old }
+        ensures known { IsKnown (C.content classes.now) frames.now (held frame.now) self.new }
+        ensures fit { result ≡ true → list_answer (type_answer (C.content classes.now)) (held frame.now).locals (declared_view declared.now).locals ≡ yes }
     {
-        let Some(frame) = declared else {
-            return self;
-        };
-        if self.is_kept_by(&frame) {
-            return Known {
-                kept: declared,
-                fits: self.fits,
-            };
+        let _frames = frames;
+        self.fitting.fits(declared, frame.locals(), classes)
+    }
+
+    /// Whether a frame may stand where one is declared (JVMS 4.10.1.4).
+    pub fn answer<C: Classes>(
+        &mut self,
+        declared: &Declared<'n, 'a>,
+        frames: &DeclaredFrames<'a>,
+        frame: &Working<'a>,
+        classes: &C,
+    ) -> Answer<'a>
+        requires size { length (declared_view declared.now).locals ≡ length (held frame.now).locals }
+        requires own { IsOf frames.now declared.now }
+        requires known { IsKnown (C.content classes.now) frames.now (held frame.now) self.old }
+        ensures known { IsKnown (C.content classes.now) frames.now (held frame.now) self.new }
+        ensures told { outcome_of result ≡ frame_answer (C.content classes.now) (held frame.now) (declared_view declared.now) }
+    {
+        if self.fits(declared, frames, frame, classes) {
+            return frame.answer_for(declared, Some(*declared), classes);
         }
-        Known {
-            kept: declared,
-            fits: declared,
+        frame.answer_for(declared, None, classes)
+    }
+
+    // Puts what was replaced back, the latest first.
+    fn put_back(&mut self, frame: &mut Working<'a>) -> Result<(), AllocError>
+        ensures kept { self.new.kept ≡ self.old.kept }
+        ensures locals { OnOk result ((held frame.new).locals ≡ restored self.old.replaced.items (held frame.old).locals) }
+        ensures none { OnOk result (self.new.replaced.items ≡ []) }
+        ensures fitting { (cs : List ClassFact) (t : DeclaredFrames) → AreFitting cs t (held frame.old).locals self.old.fitting → OnOk result (AreFitting cs t (held frame.new).locals self.new.fitting) }
+    {
+        while let Some(replaced) = self.replaced.pop() {
+            frame.put_back(replaced.was, usize::from(replaced.place))?;
+            self.fitting.changed(replaced.place)?;
+        }
+        Ok(())
+    }
+
+    /// A frame becomes a declared one of a table: where it had the locals of another one, only those are written that were replaced since, or
+    /// that the two declared frames do not share.
+    pub fn take_on(
+        &mut self,
+        declared: &Declared<'n, 'a>,
+        frames: &DeclaredFrames<'a>,
+        frame: &mut Working<'a>,
+    ) -> Result<(), AllocError>
+        requires size { length (declared_view declared.now).locals ≡ length (held frame.old).locals }
+        requires own { IsOf frames.now declared.now }
+        requires kept { IsKept frames.now (held frame.old) self.old }
+        ensures taken { OnOk result (held frame.new ≡ declared_view declared.now) }
+        ensures known { (cs : List ClassFact) → IsKnown cs frames.now (held frame.old) self.old → OnOk result (IsKnown cs frames.now (held frame.new) self.new) }
+    {
+        self.put_back(frame)?;
+        let kept = self.kept;
+        frame.take_on(declared, kept)?;
+        self.kept = Some(*declared);
+        match kept {
+            Some(kept) => self.fitting.passes(&kept, declared),
+            None => self.fitting.forget(),
         }
     }
 
-    /// The same behind an instruction that means this.
-    pub fn behind(&mut self, act: &Act<'_>)
-        ensures { (cs : List ClassFact) (t : DeclaredFrames) (m : Method acts.Act) (at : ℕ) (f : FrameFact) → IsKnown cs t f self.old → IsKnown cs t (after m at (plan m (act_view act.now)) f) self.new }
+    // Puts a local of a frame on the list of what was replaced, where a frame is kept.
+    fn remember(&mut self, place: u16, frame: &Working<'a>) -> Result<(), AllocError>
+        ensures kept { (t : DeclaredFrames) (f g : FrameFact) (x : VerificationType)
+            → get_or f.locals place top ≡ get_or (held frame.now).locals place top → g.locals ≡ set f.locals place x
+            → IsKept t f self.old → OnOk result (IsKept t g self.new) }
+        ensures same { self.new.fitting ≡ self.old.fitting }
     {
-        if !keeps_locals(act) {
-            *self = Known::nothing();
+        if let None = self.kept {
+            return Ok(());
+        }
+        let was = frame.local(usize::from(place));
+        self.replaced.push(Replaced { place, was })?;
+        Ok(())
+    }
+
+    // A local of a frame is to be written.
+    fn replace(&mut self, place: u16, frame: &Working<'a>) -> Result<(), AllocError>
+        ensures { (cs : List ClassFact) (t : DeclaredFrames) (f g : FrameFact) (x : VerificationType)
+            → get_or f.locals place top ≡ get_or (held frame.now).locals place top → g.locals ≡ set f.locals place x
+            → IsKnown cs t f self.old → OnOk result (IsKnown cs t g self.new) }
+    {
+        self.remember(place, frame)?;
+        self.fitting.changed(place)
+    }
+
+    // The local in front of one that is to be stored to becomes top, where it is a long or double.
+    fn free_half(&mut self, local: u16, frame: &Working<'a>) -> Result<(), AllocError>
+        ensures { (cs : List ClassFact) (t : DeclaredFrames) (g : FrameFact) → g.locals ≡ with_half_free local (held frame.now).locals
+            → IsKnown cs t (held frame.now) self.old → OnOk result (IsKnown cs t g self.new) }
+    {
+        if local == 0 {
+            return Ok(());
+        }
+        let before = local - 1;
+        if !frame.is_wide_at(usize::from(before)) {
+            return Ok(());
+        }
+        self.replace(before, frame)
+    }
+
+    // The local behind one that is to be stored to becomes top, where a long or double is stored.
+    fn fill_half(&mut self, local: u16, frame: &Working<'a>) -> Result<(), AllocError>
+        ensures { (cs : List ClassFact) (t : DeclaredFrames) (g : FrameFact) → let f = held frame.now in
+            g.locals ≡ set (with_half_free local f.locals) local (top_of f.stack) → IsKnown cs t g self.old → OnOk result (IsKnown cs t (stored local f) self.new) }
+    {
+        if !frame.has_wide_top() {
+            return Ok(());
+        }
+        let limit = frame.max_locals();
+        if limit <= local {
+            return Ok(());
+        }
+        self.replace(local + 1, frame)
+    }
+
+    // The top of a frame's stack is to be stored to a local.
+    #[inline(never)]
+    fn store(&mut self, local: u16, frame: &Working<'a>) -> Result<(), AllocError>
+        ensures { (cs : List ClassFact) (t : DeclaredFrames) → IsKnown cs t (held frame.now) self.old → OnOk result (IsKnown cs t (stored local (held frame.now)) self.new) }
+    {
+        self.free_half(local, frame)?;
+        self.replace(local, frame)?;
+        self.fill_half(local, frame)
+    }
+
+    // All locals are to be written.
+    fn forget(&mut self) -> Result<(), AllocError>
+        ensures { (cs : List ClassFact) (t : DeclaredFrames) (f g : FrameFact) → IsKnown cs t f self.old → OnOk result (IsKnown cs t g self.new) }
+    {
+        self.kept = None;
+        self.replaced.clear();
+        self.fitting.forget()
+    }
+
+    /// What is known of a frame becomes what is known of the one after an instruction that means this.
+    pub fn behind(&mut self, act: &Act<'_>, frame: &Working<'a>) -> Result<(), AllocError>
+        ensures { (cs : List ClassFact) (t : DeclaredFrames) (m : Method acts.Act) (at : ℕ) → let f = held frame.now in
+            IsKnown cs t f self.old → OnOk result (IsKnown cs t (after m at (plan m (act_view act.now)) f) self.new) }
+    {
+        if keeps_locals(act) {
+            return Ok(());
+        }
+        match stored_to(act) {
+            Some(local) => self.store(local, frame),
+            None => self.forget(),
         }
     }
 }

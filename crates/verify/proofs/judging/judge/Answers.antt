@@ -32,7 +32,7 @@ returns-then-are_idle-clause-known g c =
     let now = held c.run_plain.new.frame in
     on_ok c.run_plain.result (λ u is.
     let done = subst (Done (conditions classes m c.args.at p f) (after m c.args.at p f) now) is (c.run_plain.ensures c.args.at) in
-    subst (λ x. IsKnown classes c.args.frames.now x c.behind.new.self) (sym done.outcome.1) (c.behind.ensures classes c.args.frames.now m c.args.at f c.requires.known))
+    subst (λ x. IsKnown classes c.args.frames.now x c.behind.new.self) (sym done.outcome.1) (c.in_ok-behind.ensures classes c.args.frames.now m c.args.at c.requires.known))
 
 pub returns-then-are_idle-clause-handlers : goal.returns-then-are_idle-clause-handlers
 returns-then-are_idle-clause-handlers g c =
@@ -45,4 +45,4 @@ returns-then-are_idle-clause-handlers g c =
     on_ok c.run_plain.result (λ u is.
     let done = subst (Done (conditions classes m c.args.at p f) (after m c.args.at p f) now) is (c.run_plain.ensures c.args.at) in
     let same = λ (e : c.keeps_locals.result ≡ true). same_behind m c.args.at (act_view c.args.act.now) f now (sym c.keeps_locals.ensures ∙ e) done.outcome.1 in
-    c.in_ok-behind.ensures classes frames m.exceptions c.args.at f now same c.requires.handlers)
+    c.in_ok-behind-2.ensures classes frames m.exceptions c.args.at f now same c.requires.handlers)

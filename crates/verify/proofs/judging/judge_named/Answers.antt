@@ -36,7 +36,7 @@ check_targets-requires-clause-known g c =
     let f = held c.args.frame.now in
     let now = held c.run.new.frame in
     let ran = (subst (Done (conditions classes m c.args.at p f) (after m c.args.at p f) now) c.in-Ok.is c.run.ensures).outcome in
-    known_same classes c.args.frames.now (after m c.args.at p f) now c.args.known.now (sym ran.1) c.requires.known
+    known_same c.args.frames.now classes (after m c.args.at p f) now c.args.known.now (sym ran.1) c.requires.known
 
 pub returns-in-Ok-clause-judged : goal.returns-in-Ok-clause-judged
 returns-in-Ok-clause-judged g c = λ next e.

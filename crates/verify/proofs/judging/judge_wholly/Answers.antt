@@ -53,4 +53,4 @@ returns-clause-handlers g c =
     let ok = subst (λ (r : Result Unit _). OnOk r (IsOk c.catch-caught.result)) is c.judge_named.ensures.caught in
     let caught = when_ok (Follows classes frames m.exceptions c.args.at f c.catch-caught.new.self) c.catch-caught.result ok (c.catch-caught.ensures.caught m.exceptions looked.1 looked.2).followed in
     let same = λ (e : c.keeps_locals.result ≡ true). same_behind m c.args.at (act_view c.args.act) f now (sym c.keeps_locals.ensures ∙ e) done.outcome.1 in
-    c.in_ok-behind.ensures classes frames m.exceptions c.args.at f now same caught)
+    c.in_ok-behind-2.ensures classes frames m.exceptions c.args.at f now same caught)

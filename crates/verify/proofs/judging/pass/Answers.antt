@@ -36,7 +36,7 @@ loop-code-init g c =
       locals = c.requires.locals;
       constants = refl;
       fields = refl;
-      known = c.nothing-known.ensures (g.C.Classes.content c.args.classes.now) c.args.frames.now (held c.args.frame.now);
+      known = c.in_ok-known.ensures (g.C.Classes.content c.args.classes.now) (held c.args.frame.now);
       handlers = subst (λ n. Follows classes frames m.exceptions n (held c.args.frame.now) c.args.handlers.now) (sym (ap (λ (p : Place). p.at) c.new-code.ensures)) c.requires.handlers;
     }
 
