@@ -1,5 +1,5 @@
 -- Facts about the locals of the running frame.
-use Rattle.std.proofs.Common.{◌≡◌, ◌∙◌, ℕ, List, [], ◌∷◌, ◌++◌, get_or, set, length, Option, Some, None, IfSome, sym, ap, subst, refl}
+use Rattle.std.proofs.Common.{◌≡◌, ◌∙◌, ℕ, List, [], ◌∷◌, ◌++◌, get_or, set, length, Option, Some, None, IfSome, sym, ap, subst, refl, arith}
 use Rattle.std.proofs.lemmas.List.{set-set, set-get_or, get_or-set_other, length-set}
 use Rattle.hierarchy.specs.Class.{ClassFact}
 use Rattle.frames.specs.FrameFact.{FrameFact}
@@ -22,6 +22,10 @@ restored_more (x ∷ rs) r ls = ap (λ z. set z x.place (type_of x.was)) (restor
 pub restored_length : (rs : List Replaced) (ls : List VerificationType) → length (restored rs ls) ≡ length ls
 restored_length [] ls = refl
 restored_length (r ∷ rs) ls = length-set (restored rs ls) r.place (type_of r.was) ∙ restored_length rs ls
+
+pub no_more : (rs : List Replaced) (n : ℕ) → n ≡ length rs → n ≡ 0 → rs ≡ []
+no_more [] n e z = refl
+no_more (r ∷ rs) n e z = absurd (omega (arith, e, z))
 
 -- a local that is written, and put back
 written_back : (xs : List VerificationType) (p : ℕ) (x was : VerificationType) → was ≡ get_or xs p top → set (set xs p x) p was ≡ xs
