@@ -1,5 +1,5 @@
 -- What is known of the chains that locals fit, as the locals change.
-use Rattle.std.proofs.Common.{◌≡◌, ◌≢◌, ◌∙◌, ℕ, zero, suc, ◌≤◌, ◌<◌, ◌-◌, ◌⊎◌, inl, inr, true, false, eqb, List, [], ◌∷◌, ◌++◌, length, map, get_or, set, Some, IfSome, slice_get, refl, sym, ap, subst, arith}
+use Rattle.std.proofs.Common.{◌≡◌, ◌≢◌, ◌∙◌, ℕ, zero, suc, ◌≤◌, ◌<◌, ◌-◌, ◌⊎◌, inl, inr, true, false, eqb, List, [], ◌∷◌, ◌++◌, length, map, get_or, set, Option, Some, IfSome, slice_get, refl, sym, ap, subst, arith}
 use Rattle.std.proofs.lemmas.List.{length-append}
 use Rattle.std.proofs.lemmas.Option.{same_Some}
 use Rattle.std.proofs.lemmas.Bool.Decides.{eqb_tells}
@@ -127,15 +127,15 @@ get_set (x ∷ xs) (suc i) (suc j) v w e = next (get_set xs i j v w e)
     next (inl h) = inl (ap suc h.0, h.1)
     next (inr h) = inr h
 
-module _ (classes : List ClassFact) (t : DeclaredFrames) (locals : List VerificationType) (x y : Fitting) (link now : ℕ) (c : y.changes.items ≡ x.changes.items) (k : y.known_from ≡ x.known_from) (m : y.marks.items ≡ set x.marks.items link (Some now)) (size : now ≡ length x.changes.items) (all : FitAll classes locals (types_at t.chains.links.items (suc link))) (a : AreFitting classes t locals x) where
-  mark_cases : (i moment : ℕ) → slice_get y.marks.items i ≡ Some (Some moment) → ((i ≡ link) × (Some now ≡ Some moment)) ⊎ (slice_get x.marks.items i ≡ Some (Some moment))
-  mark_cases i moment e = get_set x.marks.items link i (Some now) (Some moment) (sym (ap (λ l. slice_get l i) m) ∙ e)
+module _ (classes : List ClassFact) (t : DeclaredFrames) (locals : List VerificationType) (x y : Fitting) (link : ℕ) (now : Option ℕ) (c : y.changes.items ≡ x.changes.items) (k : y.known_from ≡ x.known_from) (m : y.marks.items ≡ set x.marks.items link now) (size : (moment : ℕ) → now ≡ Some moment → moment ≡ length x.changes.items) (all : FitAll classes locals (types_at t.chains.links.items (suc link))) (a : AreFitting classes t locals x) where
+  mark_cases : (i moment : ℕ) → slice_get y.marks.items i ≡ Some (Some moment) → ((i ≡ link) × (now ≡ Some moment)) ⊎ (slice_get x.marks.items i ≡ Some (Some moment))
+  mark_cases i moment e = get_set x.marks.items link i now (Some moment) (sym (ap (λ l. slice_get l i) m) ∙ e)
 
-  early_by : (i moment : ℕ) → ((i ≡ link) × (Some now ≡ Some moment)) ⊎ (slice_get x.marks.items i ≡ Some (Some moment)) → moment ≤ length y.changes.items
-  early_by i moment (inl h) = omega (arith, same_Some now moment h.1, size, ap (λ (l : List ℕ). length l) c)
+  early_by : (i moment : ℕ) → ((i ≡ link) × (now ≡ Some moment)) ⊎ (slice_get x.marks.items i ≡ Some (Some moment)) → moment ≤ length y.changes.items
+  early_by i moment (inl h) = omega (arith, size moment h.1, ap (λ (l : List ℕ). length l) c)
   early_by i moment (inr e) = omega (arith, a.early i moment e, ap (λ (l : List ℕ). length l) c)
 
-  fit_by : (i moment : ℕ) → x.known_from ≤ moment → ((i ≡ link) × (Some now ≡ Some moment)) ⊎ (slice_get x.marks.items i ≡ Some (Some moment)) → AreFitBut (HasChanged y moment) classes locals (types_at t.chains.links.items (suc i))
+  fit_by : (i moment : ℕ) → x.known_from ≤ moment → ((i ≡ link) × (now ≡ Some moment)) ⊎ (slice_get x.marks.items i ≡ Some (Some moment)) → AreFitBut (HasChanged y moment) classes locals (types_at t.chains.links.items (suc i))
   fit_by i moment le (inl h) =
       fit_kept (λ p. ⊥) (HasChanged y moment) classes locals locals (λ p z. absurd z) (λ p. inr refl) (types_at t.chains.links.items (suc i))
       (subst (λ j. FitAll classes locals (types_at t.chains.links.items (suc j))) (sym h.0) all)

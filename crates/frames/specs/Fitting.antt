@@ -24,11 +24,11 @@ pub record IsSeen (x : Fitting) (here moment : ℕ) : Type 0 where
   pub place : here ≡ suc link
   pub marked : IsMarked x link moment
 
--- the local of a place changed since a moment
-pub record HasChanged (x : Fitting) (moment place : ℕ) : Type 0 where
+-- the local of an index changed since a moment
+pub record HasChanged (x : Fitting) (moment index : ℕ) : Type 0 where
   pub change : ℕ
   pub since : moment ≤ change
-  pub is : slice_get x.changes.items change ≡ Some place
+  pub is : slice_get x.changes.items change ≡ Some index
 
 -- ---- what is known
 
@@ -37,9 +37,9 @@ abbrev pub AreFitBut : (ℕ → Type 0) → List ClassFact → List Verification
 AreFitBut changed classes locals [] = Unit {0}
 AreFitBut changed classes locals (t ∷ ts) = AreFitBut changed classes locals ts × (changed (units_of ts) ⊎ (type_answer classes (get_or locals (units_of ts) top) t ≡ yes))
 
--- none has to have changed
+-- it may stand for each
 abbrev pub FitAll : List ClassFact → List VerificationType → List VerificationType → Type 0
-FitAll classes locals ts = AreFitBut (λ unit. ⊥) classes locals ts
+FitAll classes locals ts = AreFitBut (λ index. ⊥) classes locals ts
 
 -- Locals fit each marked chain of a table but for those that changed since its mark, and no mark is of a moment to come.
 pub record AreFitting (classes : List ClassFact) (t : DeclaredFrames) (locals : List VerificationType) (x : Fitting) : Type 0 where
@@ -52,6 +52,6 @@ pub record AreFittingFor (classes : List ClassFact) (d : Declared) (locals : Lis
   pub own : IsOf table d
   pub fitting : AreFitting classes table locals x
 
--- locals of which no other than that of a place differ, all beyond them being top
+-- locals of which no other than that of an index differ, all beyond them being top
 abbrev pub AreSameBut : ℕ → List VerificationType → List VerificationType → Type 0
-AreSameBut place old new = (i : ℕ) → i ≢ place → get_or new i top ≡ get_or old i top
+AreSameBut index old new = (i : ℕ) → i ≢ index → get_or new i top ≡ get_or old i top

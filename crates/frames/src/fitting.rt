@@ -17,9 +17,9 @@ use std::alloc::{AllocError, Global};
 /// last seen to fit the chain from there down: since then they do, but for those that changed.
 #[derive(Drop)]
 pub struct Fitting {
-    /// One for each link of the table's chains.
-    marks: Vec<Option<usize>>,
-    /// The places of the locals that changed, the latest last.
+    /// One for each link of the table's chains; none where it has no room in four bytes.
+    marks: Vec<Option<u32>>,
+    /// The indices of the locals that changed, the latest last.
     changes: Vec<u16>,
     /// Marks of moments before this one say nothing any more.
     known_from: usize,
@@ -34,19 +34,19 @@ struct Floor {
     cost: usize,
 }
 
-// Whether the local of a unit may stand for the type of a chain that begins there, if one does.
+// Whether the local of an index may stand for the type of a chain that begins there, if one does.
 fn local_fits<'a, C: Classes>(
     chains: &Chains<'a>,
     place: usize,
-    unit: usize,
+    index: usize,
     locals: &[VType<'a>],
     classes: &C,
 ) -> bool
-    ensures { result ≡ true → FitsAt (C.content classes.now) (map type_of locals.now) (types_at chains.now.links.items place) unit }
+    ensures { result ≡ true → FitsAt (C.content classes.now) (map type_of locals.now) (types_at chains.now.links.items place) index }
 {
-    match chains.type_at_unit(place, unit) {
+    match chains.type_at_unit(place, index) {
         Some(vtype) => {
-            let local = at_or_top(locals, unit);
+            let local = at_or_top(locals, index);
             matches!(assignable(&local, &vtype, classes), Answer::Yes)
         }
         None => true,
@@ -69,7 +69,7 @@ impl Fitting {
     pub fn new(alloc: Global, frames: &DeclaredFrames<'_>) -> Result<Fitting, AllocError>
         ensures { IfOk result (λ x. (classes : List ClassFact) (locals : List VerificationType) → AreFitting classes frames.now locals x) }
     {
-        let mut marks: Vec<Option<usize>> = Vec::new(alloc);
+        let mut marks: Vec<Option<u32>> = Vec::new(alloc);
         marks.resize(frames.links(), None)?;
         Ok(Fitting {
             marks,
@@ -87,11 +87,11 @@ impl Fitting {
         Ok(())
     }
 
-    /// The local of this place may have changed, and no other.
-    pub fn changed(&mut self, place: u16) -> Result<(), AllocError>
-        ensures { (classes : List ClassFact) (t : DeclaredFrames) (before after : List VerificationType) → AreSameBut place before after → AreFitting classes t before self.old → OnOk result (AreFitting classes t after self.new) }
+    /// The local of this index may have changed, and no other.
+    pub fn changed(&mut self, index: u16) -> Result<(), AllocError>
+        ensures { (classes : List ClassFact) (t : DeclaredFrames) (before after : List VerificationType) → AreSameBut index before after → AreFitting classes t before self.old → OnOk result (AreFitting classes t after self.new) }
     {
-        self.changes.push(place)?;
+        self.changes.push(index)?;
         Ok(())
     }
 
@@ -119,10 +119,11 @@ impl Fitting {
         if place == 0 || self.marks.len() < place {
             return None;
         }
-        match self.marks[place - 1] {
-            Some(moment) if self.known_from <= moment => Some(moment),
-            _ => None,
+        let moment = self.marks[place - 1]? as usize;
+        if moment < self.known_from {
+            return None;
         }
+        Some(moment)
     }
 
     // The place of a chain by which the least is compared: each type above it, and each local that changed since its
@@ -171,11 +172,11 @@ impl Fitting {
         locals: &[VType<'a>],
         classes: &C,
     ) -> bool
-        ensures { result ≡ true → (unit : ℕ) → HasChanged self.now moment unit → FitsAt (C.content classes.now) (map type_of locals.now) (types_at chains.now.links.items place) unit }
+        ensures { result ≡ true → (index : ℕ) → HasChanged self.now moment index → FitsAt (C.content classes.now) (map type_of locals.now) (types_at chains.now.links.items place) index }
     {
         for change in moment..self.changes.len() {
-            let unit = usize::from(self.changes[change]);
-            if !local_fits(chains, place, unit, locals, classes) {
+            let index = usize::from(self.changes[change]);
+            if !local_fits(chains, place, index, locals, classes) {
                 return false;
             }
         }
@@ -189,7 +190,7 @@ impl Fitting {
         if place == 0 || self.marks.len() < place {
             return;
         }
-        self.marks[place - 1] = Some(self.changes.len());
+        self.marks[place - 1] = u32::try_from(self.changes.len()).ok();
     }
 
     // The locals fit a chain now, and so each chain that begins on it. Those down to a floor are marked.

@@ -18,7 +18,7 @@ pub loop-change-preserved : goal.loop-change-preserved
 loop-change-preserved g c =
     let P = λ (u : ℕ). FitsAt (g.C.Classes.content c.args.classes.now) (map type_of c.args.locals.now) (types_at c.args.chains.now.links.items c.args.place) u in
     let u = c.index.result.now in
-    one_more P c.args.self.now.changes.items c.args.moment c.loop-change.change u c.loop-change.invariant c.index.ensures (subst P c.from-unit.ensures (c.local_fits.ensures c.if-not-local_fits.false))
+    one_more P c.args.self.now.changes.items c.args.moment c.loop-change.change u c.loop-change.invariant c.index.ensures (subst P c.from-index.ensures (c.local_fits.ensures c.if-not-local_fits.false))
 
 pub returns : goal.returns
 returns g c = λ e unit h.
