@@ -1,9 +1,8 @@
-use crate::making::{K, hasher, setting};
+use crate::making::K;
 use classfile::{ClassFile, decode};
 use frames::{
-    CodeStarts, Declared, Fitting, Frame, FrameFault, MapEntry, TypeInfo, VType, declare, declared,
+    CodeStarts, Declared, Frame, FrameFault, MapEntry, TypeInfo, VType, declare, declared,
 };
-use hierarchy::Rows;
 use insn::decode_code;
 use pool::Descriptors;
 use std::alloc::{AllocError, Global};
@@ -104,36 +103,4 @@ fn of_entries(rt: HostRuntime) {
     assert!(rt; are_found(rt.alloc(), &class) == Ok(true));
     assert!(rt; are_whole(rt.alloc(), &class, 2) == Ok(true));
     assert!(rt; are_whole(rt.alloc(), &class, 1) == Ok(true));
-}
-
-/// Whether local variables are seen to fit the first of these frames as long as none that does not fit is known to have changed.
-fn are_seen_to_fit(alloc: Global, class: &ClassFile<'_>) -> Result<bool, AllocError> {
-    let Ok(starts) = CodeStarts::new(alloc, &CODE) else {
-        return Ok(false);
-    };
-    let entries = entries(alloc)?;
-    let pool = &class.constant_pool;
-    let mut constants = Descriptors::new(alloc, pool);
-    let Ok(frames) = declare(alloc, &entries, pool, &mut constants, &starts, &[], 5, 2)? else {
-        return Ok(false);
-    };
-    let list = setting(alloc);
-    let Ok(classes) = Rows::new(alloc, &list, hasher()) else {
-        return Ok(false);
-    };
-    let Some(first) = frames.find(0) else {
-        return Ok(false);
-    };
-    let mut fitting = Fitting::new(alloc, &frames)?;
-    let are_fit = fitting.fits(&first, &LOCALS, &classes);
-    fitting.forget()?;
-    let others = [VType::Float, VType::Long, VType::Top, VType::Null];
-    let others_are_fit = fitting.fits(&first, &others, &classes);
-    Ok(are_fit && !others_are_fit)
-}
-
-#[test]
-fn seen_to_fit(rt: HostRuntime) {
-    let class = decode(rt.alloc(), &K).expect(&rt, "a class file");
-    assert!(rt; are_seen_to_fit(rt.alloc(), &class) == Ok(true));
 }
