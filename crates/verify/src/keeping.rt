@@ -1,4 +1,4 @@
-//! What is known of the locals of the running frame, so that it is not compared with each declared frame local by local, nor written so.
+//! Facts about the locals of the running frame, so that it is not compared with each declared frame local by local, nor written so.
 ghost use Rattle.std.specs.Prelude.{◌≡◌, ℕ, List, get_or, set, OnOk};
 ghost use Rattle.hierarchy.specs.Class.{ClassFact};
 ghost use Rattle.frames.specs.FrameFact.{FrameFact};
@@ -20,7 +20,7 @@ pub struct Replaced<'a> {
     pub was: VType<'a>,
 }
 
-/// What is known of the running frame's locals.
+/// Facts about the locals of the running frame.
 #[derive(Drop)]
 pub struct Known<'n, 'a> {
     /// The locals are those of this frame, if there is one, but for what was replaced since it was taken on.
@@ -230,7 +230,7 @@ impl<'n, 'a> Known<'n, 'a> {
         self.fitting.forget()
     }
 
-    /// What is known of a frame becomes what is known of the one after an instruction that means this.
+    /// The facts about a frame become those about the one after an instruction that means this.
     pub fn behind(&mut self, act: &Act<'_>, frame: &Working<'a>) -> Result<(), AllocError>
         ensures { (cs : List ClassFact) (t : DeclaredFrames) (m : Method acts.Act) (at : ℕ) → let f = held frame.now in
             IsKnown cs t f self.old → OnOk result (IsKnown cs t (after m at (plan m (act_view act.now)) f) self.new) }
