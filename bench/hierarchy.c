@@ -46,7 +46,6 @@ void rattle_dealloc(void *p) { free(taken_back(p)); }
 
 uint32_t in_process_rows(uint16_t depth, uint32_t rounds);
 uint32_t in_process_flat(uint16_t count, uint32_t rounds);
-uint32_t in_process_one_hash(uint16_t depth, uint32_t rounds);
 uint32_t in_process_chains(uint16_t depth, uint32_t rounds);
 
 static double seconds(uint32_t (*line)(uint16_t, uint32_t), uint16_t depth, uint32_t rounds) {
@@ -85,7 +84,5 @@ int main(void) {
     }
     const uint16_t counts[] = {1153, 9217, 36865, 65534};
     for (size_t i = 0; i < sizeof counts / sizeof *counts; i++) tell("flat", in_process_flat, counts[i], 1 << 20);
-    tell("one hash", in_process_one_hash, 1000, 1 << 20);
-    tell("one hash", in_process_one_hash, 60000, 1 << 20);
     return 0;
 }

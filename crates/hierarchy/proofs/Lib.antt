@@ -10,5 +10,4 @@ pub mod Doubling
 pub mod RowLists
 pub mod RowsKept
 pub mod Summaries
-pub mod Slots
-pub mod Twice
+pub mod Table

@@ -9,4 +9,3 @@ pub mod Extends
 pub mod Ancestors
 pub mod Rows
 pub mod Jumps
-pub mod NameOrder

@@ -45,7 +45,7 @@ fn check_rules<'s, 'a, S: BuildHasher>(
     Ok(())
 }
 
-/// The classes of a list that is a hierarchy, each found by its name, in time n log n for n classes.
+/// The classes of a list that is a hierarchy, each found by its name.
 ///
 /// Refused by the least number that holds, with the name of the first class in the list's order: 40 to 46; and 1 where
 /// there was no memory left.

@@ -1,86 +1,82 @@
 //! A list of classes, each found by its name.
-ghost use Rattle.std.specs.Prelude.{◌≡◌, ◌↔◌, length, IsTrue, IfOk, IfErr, MatchOption, option_map, position};
+ghost use Rattle.std.specs.List.{IsDistinct, list_any};
+ghost use Rattle.std.specs.Prelude.{◌≡◌, ◌↔◌, true, map, take, drop, length, Some, IsTrue, IfOk, IfErr, option_map, position, slice_get};
 ghost use Rattle.std.specs.Option.{option_copied};
 ghost use Rattle.std.specs.Str.{bytes_eq};
-ghost use Rattle.hierarchy.specs.Class.{class_of, interface_of, superclass_of, IsSubclass};
+ghost use Rattle.hierarchy.specs.Class.{ClassFact, class_of, interface_of, superclass_of, IsSubclass};
 ghost use Rattle.hierarchy.specs.Summary.{fact_of, facts_of};
 ghost use Rattle.hierarchy.specs.Rules.{IsTwice, NoClass, IsFirst};
-ghost use Rattle.hierarchy.specs.NameOrder.{earlier_place, AreEarlier};
 ghost use Rattle.hierarchy.specs.Faults.{FaultOf};
 
 use crate::fault::HierarchyFault;
-use crate::name_order::{Slot, name_hash, place_of, slots_of};
 use crate::places::{lowest, name_at};
 use crate::summary::Summary;
+use indexmap::IndexSet;
 use std::alloc::{AllocError, Global};
 use std::hash::BuildHasher;
 use std::marker::Model;
 
-/// A list of classes and the order of their names. Of each class it keeps 16 bytes beyond the list.
+// The place of the name of a class in a table.
+fn place_in<'a, S: BuildHasher>(class: &Summary<'a>, names: &IndexSet<&'a [u8], S>) -> Option<usize>
+    ensures { result ≡ position (λ k. bytes_eq class.now.name.now k.now) names.now.keys }
+{
+    names.get_index_of(class.name)
+}
+
+// The places in a table of the names of all classes from a place on.
+fn repeats<'a, S: BuildHasher>(
+    alloc: Global,
+    classes: &[Summary<'a>],
+    names: &IndexSet<&'a [u8], S>,
+    from: usize,
+) -> Result<Vec<Option<usize>>, AllocError>
+    ensures { IfOk result (λ places. places.items ≡ map (λ c. position (λ k. bytes_eq c.name.now k.now) names.now.keys) (drop from classes.now)) }
+{
+    classes
+        .iter()
+        .skip(from)
+        .map(|class| place_in(class, names))
+        .collect(alloc)
+}
+
+// The name of the first class whose name stands twice, where a table has the names up to a place, and the class there
+// has one of them.
+fn first_twice<'a, S: BuildHasher>(
+    alloc: Global,
+    classes: &[Summary<'a>],
+    names: &IndexSet<&'a [u8], S>,
+    place: usize,
+) -> Result<&'a [u8], AllocError>
+    requires named { map (λ k. k.now) names.now.keys ≡ take place (map (λ c. c.name) (facts_of classes.now)) }
+    requires distinct { IsDistinct (λ a b. bytes_eq a.now b.now) names.now.keys }
+    requires repeated { (c : ClassFact) × (slice_get (facts_of classes.now) place ≡ Some c) × (list_any (λ k. bytes_eq c.name k.now) names.now.keys ≡ true) }
+    ensures { IfOk result (λ name. IsFirst (IsTwice (facts_of classes.now)) (facts_of classes.now) name.now) }
+{
+    let places = repeats(alloc, classes, names, place)?;
+    match lowest(&places) {
+        Some(i) => Ok(name_at(classes, i)),
+        None => unreachable!(),
+    }
+}
+
+/// Classes of different names, each found by its name. Of each class it keeps the place of its name in memory and its
+/// number in a hash table.
 #[derive(Drop)]
 pub struct Index<'s, 'a, S: BuildHasher> {
     classes: &'s [Summary<'a>],
-    slots: Vec<Slot>,
-    hasher: S,
+    names: IndexSet<&'a [u8], S>,
 }
 
 impl<'s, 'a, S: BuildHasher> Model for Index<'s, 'a, S> {
-    ghost use Rattle.std.specs.Prelude.{List};
+    ghost use Rattle.std.specs.Prelude.{◌≡◌, List, map};
     ghost use Rattle.hierarchy.specs.Class.{ClassFact};
     ghost use Rattle.hierarchy.specs.Summary.{facts_of};
-    ghost use Rattle.hierarchy.specs.NameOrder.{name_hash, AreSlots};
 
     ghost Value = { List ClassFact };
 
     ghost view = { λ t. facts_of t.classes.now };
 
-    ghost invariant = { λ t. AreSlots (name_hash S.BuildHasher S.Hasher.Hasher t.hasher) (facts_of t.classes.now) t.slots.items };
-}
-
-// The place of an earlier class of the same name.
-fn earlier_place<'s, 'a, S: BuildHasher>(
-    place: usize,
-    class: &Summary<'a>,
-    index: &Index<'s, 'a, S>,
-) -> Option<usize>
-    ensures { result ≡ earlier_place index.now place (fact_of class.now) }
-{
-    let first = index.place(class.name)?;
-    if first < place { Some(first) } else { None }
-}
-
-// Of each class the place of the first of its name, where that stands before it.
-fn earlier_places<'s, 'a, S: BuildHasher>(
-    alloc: Global,
-    classes: &[Summary<'a>],
-    index: &Index<'s, 'a, S>,
-) -> Result<Vec<Option<usize>>, AllocError>
-    requires { index.now ≡ facts_of classes.now }
-    ensures { IfOk result (λ places. AreEarlier index.now places.items) }
-{
-    let mut places = Vec::with_capacity(alloc, classes.len())?;
-    for (place, class) in classes.iter().enumerate() {
-        places.push(earlier_place(place, class, index))?;
-    }
-    Ok(places)
-}
-
-// The name of the first class in the list whose name stands twice.
-fn first_twice<'s, 'a, S: BuildHasher>(
-    alloc: Global,
-    classes: &[Summary<'a>],
-    index: &Index<'s, 'a, S>,
-) -> Result<Option<&'a [u8]>, AllocError>
-    requires { index.now ≡ facts_of classes.now }
-    ensures { IfOk result
-        (λ first. MatchOption first (NoClass (IsTwice (facts_of classes.now)) (facts_of classes.now))
-        (λ name. IsFirst (IsTwice (facts_of classes.now)) (facts_of classes.now) name.now)) }
-{
-    let places = earlier_places(alloc, classes, index)?;
-    match lowest(&places) {
-        None => Ok(None),
-        Some(place) => Ok(Some(name_at(classes, place))),
-    }
+    ghost invariant = { λ t. map (λ k. k.now) t.names.keys ≡ map (λ c. c.name) (facts_of t.classes.now) };
 }
 
 impl<'s, 'a, S: BuildHasher> Index<'s, 'a, S> {
@@ -95,28 +91,22 @@ impl<'s, 'a, S: BuildHasher> Index<'s, 'a, S> {
         ensures ok { IfOk result (λ t. (t ≡ facts_of classes.now) × NoClass (IsTwice (facts_of classes.now)) (facts_of classes.now)) }
         ensures err { IfErr result (FaultOf (facts_of classes.now)) }
     {
-        let slots = slots_of(alloc, classes, &hasher)?;
-        let index = Index {
-            classes,
-            slots,
-            hasher,
-        };
-        match first_twice(alloc, classes, &index)? {
-            None => Ok(index),
-            Some(name) => Err(HierarchyFault::ClassTwice { name }),
+        let mut names = IndexSet::with_capacity_and_hasher(alloc, classes.len(), hasher)?;
+        for (i, class) in classes.iter().enumerate() {
+            let (_, added) = names.insert_full(class.name)?;
+            if !added {
+                let name = first_twice(alloc, classes, &names, i)?;
+                return Err(HierarchyFault::ClassTwice { name });
+            }
         }
+        Ok(Index { classes, names })
     }
 
-    /// The place of the first class of this name.
+    /// The place of the class of this name.
     pub fn place(&self, name: &[u8]) -> Option<usize>
         ensures { result ≡ position (λ c. bytes_eq name.now c.name) self.now }
     {
-        place_of(
-            self.classes,
-            &self.slots,
-            name_hash(&self.hasher, name),
-            name,
-        )
+        self.names.get_index_of(name)
     }
 
     /// The class of this name.

@@ -7,7 +7,6 @@
 //! - `answer`: yes, no, or a class that would be needed and is absent.
 //! - `classes`: the questions, whatever keeps the classes.
 //! - `fault`: why a list of classes is refused.
-//! - `name_order`: the names of a list of classes in the order of their hashes.
 //! - `index`: a list of classes, each found by its name.
 //! - `places`: places in a list of classes.
 //! - `rules`: the rules that a single class may break, and the first class that does.
@@ -30,7 +29,6 @@ mod fault;
 mod index;
 mod jumps;
 pub mod laws;
-mod name_order;
 mod places;
 mod row_table;
 mod rows;

@@ -21,7 +21,7 @@ use std::hash::BuildHasher;
 use std::marker::Model;
 
 /// A hierarchy that answers by the depths of its classes and by rows of ancestors. It borrows the list that it is made
-/// from, and copies no name. Beyond the list it keeps 22 bytes a class and 2 for each entry of a row.
+/// from, and copies no name.
 #[derive(Drop)]
 pub struct Rows<'s, 'a, S: BuildHasher> {
     index: Index<'s, 'a, S>,
@@ -63,8 +63,11 @@ fn rows_in<'s, 'a, S: BuildHasher>(
 }
 
 impl<'s, 'a, S: BuildHasher + Drop> Rows<'s, 'a, S> {
-    /// The classes of a list, in time n log n for n classes. A class of depth d has a row of as many entries as d has
-    /// binary digits, which are 16 at most.
+    /// The classes of a list. A class of depth d has a row of as many entries as d has binary digits, which are 16 at most.
+    ///
+    /// Names are found by their hashes: n classes take time n log n, unless the hasher gives most of their names one hash,
+    /// as each hasher does for some names that are known beforehand, and then n². Which one is handed in is the caller's
+    /// choice; `RandomState` keeps its hashes from those who make class files.
     ///
     /// Refused as by [`Chains::new`](crate::Chains::new): 40 to 46, and 1 where there was no memory left.
     pub fn new(

@@ -3,7 +3,7 @@
 use hierarchy::{Answer, Chains, Classes, Rows, Summary};
 use names::OBJECT;
 use std::alloc::{AllocError, Global};
-use std::hash::{BuildHasher, BuildHasherDefault, FoldHasher, Hasher};
+use std::hash::{BuildHasherDefault, FoldHasher};
 
 /// The names of as many classes: numbers of two bytes.
 fn numbers(alloc: Global, count: u16) -> Result<Vec<[u8; 2]>, AllocError> {
@@ -59,13 +59,8 @@ fn count_below<C: Classes>(classes: &C, names: &[[u8; 2]], rounds: u32) -> u32 {
 }
 
 /// Rows of so many classes and Object, with a mark before they are made and one behind, and their answers.
-fn rows_of<S: BuildHasher + Drop>(
-    alloc: Global,
-    count: u16,
-    in_line: bool,
-    hasher: S,
-    rounds: u32,
-) -> Option<u32> {
+fn rows_of(alloc: Global, count: u16, in_line: bool, rounds: u32) -> Option<u32> {
+    let hasher: BuildHasherDefault<FoldHasher> = BuildHasherDefault::new();
     let names = numbers(alloc, count).ok()?;
     let list = list_of(alloc, &names, in_line).ok()?;
     mark(alloc);
@@ -77,38 +72,13 @@ fn rows_of<S: BuildHasher + Drop>(
 /// The answers of a line of so many classes that is kept in rows; 0 where memory runs out.
 #[unsafe(no_mangle)]
 pub extern "C" fn in_process_rows(alloc: Global, depth: u16, rounds: u32) -> u32 {
-    let hasher: BuildHasherDefault<FoldHasher> = BuildHasherDefault::new();
-    rows_of(alloc, depth, true, hasher, rounds).unwrap_or(0)
+    rows_of(alloc, depth, true, rounds).unwrap_or(0)
 }
 
 /// The same of so many classes that are all below Object.
 #[unsafe(no_mangle)]
 pub extern "C" fn in_process_flat(alloc: Global, count: u16, rounds: u32) -> u32 {
-    let hasher: BuildHasherDefault<FoldHasher> = BuildHasherDefault::new();
-    rows_of(alloc, count, false, hasher, rounds).unwrap_or(0)
-}
-
-/// A hasher that gives every name one hash.
-#[derive(Clone, Copy, Default, Drop)]
-struct OneHash;
-
-impl Hasher for OneHash {
-    ghost write = { λ s _. s };
-
-    ghost finish = { λ _. 0 };
-
-    fn finish(&self) -> u64 {
-        0
-    }
-
-    fn write(&mut self, _bytes: &[u8]) {}
-}
-
-/// The same of a line with one hash for all names.
-#[unsafe(no_mangle)]
-pub extern "C" fn in_process_one_hash(alloc: Global, depth: u16, rounds: u32) -> u32 {
-    let hasher: BuildHasherDefault<OneHash> = BuildHasherDefault::new();
-    rows_of(alloc, depth, true, hasher, rounds).unwrap_or(0)
+    rows_of(alloc, count, false, rounds).unwrap_or(0)
 }
 
 /// The answers of a line of so many classes by a walk along the superclasses.
