@@ -12,8 +12,10 @@ import subprocess
 import sys
 import threading
 
-TOP = pathlib.Path(__file__).resolve().parent.parent
-PROGRAM = TOP / "crates/classck/out/classck"
+HERE = pathlib.Path(__file__).resolve().parent
+# In the repository, and where `.ci/install` puts it.
+WRAPPER, BUILT, INSTALLED = HERE.parent / "classck", HERE.parent / "crates/classck/out/classck", HERE.parent.parent / "bin/classck"
+PROGRAM = BUILT if WRAPPER.is_file() else INSTALLED
 HEAD = re.compile(r"class (.*) major \d+ minor \d+ flags [0-9a-f]{4}")
 MISSING = re.compile(r" refused 77 at \d+ missing (.*)$")
 REFUSED = re.compile(r"method .* refused (\d+) at \d+(?: missing .*| fault \d+)?$")
@@ -22,9 +24,9 @@ WITHOUT_RULE = 3
 
 
 def build():
-    """Has the program built where it is not, or a source is newer. Ends with status 3 where that cannot be done."""
-    words = [TOP / "classck", "check", TOP / "examples/classes/Hello.class"]
-    if subprocess.run(words, stdout=subprocess.DEVNULL, check=False).returncode == 3:
+    """Has the program built where it is not, or a source is newer. Ends with status 3 where that cannot be done. One that is installed is there."""
+    words = [WRAPPER, "check", HERE / "classes/Hello.class"]
+    if WRAPPER.is_file() and subprocess.run(words, stdout=subprocess.DEVNULL, check=False).returncode == 3:
         sys.exit(3)
 
 
