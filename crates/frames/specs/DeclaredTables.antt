@@ -1,5 +1,5 @@
 -- The frames that a table of declared frames holds.
-use Rattle.std.specs.Prelude.{◌≡◌, ℕ, List, map, Result, Ok, Err, Vec, Unit}
+use Rattle.std.specs.Prelude.{◌≡◌, ℕ, List, map, Result, Ok, Err, Vec}
 use Rattle.std.specs.Global.{Global}
 use Rattle.insn.specs.Offsets.{StartsRise}
 use Rattle.hierarchy.specs.Class.{ClassFact}

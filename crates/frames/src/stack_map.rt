@@ -84,7 +84,7 @@ impl<'a> StackMap<'a> {
 
     /// The entries, to be changed and made into another stack map.
     pub fn into_entries(self) -> Vec<MapEntry>
-        ensures { map entry_of result.items ≡ self }
+        ensures { map entry_of result.items ≡ self.entry }
     {
         self.entries
     }

@@ -42,26 +42,28 @@ fn to_frames<'a>(
 /// [`declare`] makes the same frames in less memory.
 pub fn declared<'a>(
     alloc: Global,
-    map: &StackMap<'_>,
+    stack_map: &StackMap<'_>,
     pool: &Pool<'a>,
     code: &[(u16, Insn<'_>)],
     initial: &[VType<'a>],
     max_locals: u16,
     max_stack: u16,
 ) -> Result<Vec<(u16, Frame<'a>)>, FrameFault>
-    ensures { AreTold (declared_frames pool.now (acts (views code.now)) max_locals max_stack (map type_of initial.now) map.now) result }
+    ensures { AreTold (declared_frames pool.now (acts (views code.now)) max_locals max_stack (map type_of initial.now) stack_map.now) result }
 {
     let starts = ListStarts::new(alloc, code)?;
     let mut constants = Descriptors::new(alloc, pool);
-    let table = declare(
+    match declare(
         alloc,
-        map.entries(),
+        stack_map.entries(),
         pool,
         &mut constants,
         &starts,
         initial,
         max_locals,
         max_stack,
-    )??;
-    Ok(to_frames(alloc, &table)?)
+    )? {
+        Err(fault) => Err(fault),
+        Ok(table) => Ok(to_frames(alloc, &table)?),
+    }
 }
