@@ -9,7 +9,7 @@ from class_k import K, OBJECT_CLASS
 # The files that stand in the folder in which the program runs.
 FILES = {"K": K.data(), "O": OBJECT_CLASS, "A": named("A").data(), "-a": K.data()}
 # The toolchain by which the README says that all is proved.
-TOOLCHAIN = re.search(r"`(rattle-kit\S+ logic \w+)`", (pathlib.Path(__file__).resolve().parent.parent / "README.md").read_text()).group(1)
+TOOLCHAIN = re.search(r"`(logic \w+ \(rattle-kit[^)]*\))`", (pathlib.Path(__file__).resolve().parent.parent / "README.md").read_text()).group(1)
 MISSING = "error: the following required arguments were not provided:"
 
 # The words behind the program's name, the first line that is printed, and the status.

@@ -4,6 +4,7 @@ ghost use Rattle.command_line.specs.declared.line.LineFault.TheVariants.{OutOfMe
 
 use answers::Command;
 use std::alloc::{AllocError, AllocFailed};
+use thiserror::Error;
 
 /// A command and the files that it is to judge.
 #[derive(Debug, Drop)]
@@ -15,11 +16,13 @@ pub struct Request {
 }
 
 /// Why a command line asks for nothing.
-#[derive(Debug, Drop)]
+#[derive(Debug, Drop, Error)]
 pub enum LineFault {
     /// 1: memory ran out.
+    #[error("refused 1")]
     OutOfMemory,
     /// 36: the line is wrong, or asks for help; `clap` says which, in its own words.
+    #[error("{0}")]
     NoRequest(clap::Error),
 }
 

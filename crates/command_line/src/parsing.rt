@@ -16,7 +16,7 @@ const STATUSES: &str =
 docs/REFUSALS.md explains each number that is printed, and docs/classck.1 is the man page.";
 
 /// The product's version, and the toolchain that proved it.
-const VERSION: &str = "0.9, proved with rattle-kit-13b logic dac8208d650f15bf";
+const VERSION: &str = "0.9, proved with logic dac8208d650f15bf (rattle-kit-13b, rattle-kit-13f)";
 
 /// The end of the help on `check`.
 const CHECK_EXAMPLE: &str = "Example:

@@ -7,10 +7,12 @@ use Rattle.frames.specs.FrameReasons.{frame_fault_number}
 use Rattle.frames.specs.DeclaredTables.{frames_in, whole_frames, IsDeclared, AreTold}
 use Rattle.frames.specs.declared.frame.Frame.{Frame}
 use Rattle.frames.specs.declared.frame_fault.FrameFault.{FrameFault}
+use Rattle.frames.specs.declared.frame_fault.FrameFault.TheVariants.{OutOfMemory}
 use Rattle.frames.specs.declared.declared_frames.DeclaredFrames.{DeclaredFrames}
 
--- the same frames at the same offsets, or faults of one number
+-- the same frames at the same offsets, or faults of one number; where memory ran out, whole frames tell nothing
 abbrev pub AreAlike : Result DeclaredFrames FrameFault → Result (Vec (ℕ × Frame) Global) FrameFault → Type 0
+AreAlike r (Err OutOfMemory) = Unit {0}
 AreAlike (Ok t) (Ok frames) = frames_in t ≡ whole_frames frames.items
 AreAlike (Err f) (Err g) = frame_fault_number f ≡ frame_fault_number g
 AreAlike _ _ = ⊥

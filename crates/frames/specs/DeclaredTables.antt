@@ -13,6 +13,7 @@ use Rattle.frames.specs.FrameReasons.{frame_fault_number}
 use Rattle.frames.specs.DeclaredViews.{fact_of, facts_of}
 use Rattle.frames.specs.declared.frame.Frame.{Frame}
 use Rattle.frames.specs.declared.frame_fault.FrameFault.{FrameFault}
+use Rattle.frames.specs.declared.frame_fault.FrameFault.TheVariants.{OutOfMemory}
 use Rattle.frames.specs.declared.declared_frames.DeclaredFrames.{DeclaredFrames}
 use Rattle.frames.specs.declared.declared_frames.Declared.{Declared}
 
@@ -54,9 +55,10 @@ abbrev pub IsDeclared : Result (List (ℕ × FrameFact)) Reason → Result Decla
 IsDeclared answer (Ok t) = answer ≡ Ok (frames_in t)
 IsDeclared answer (Err fault) = answer ≡ Err (reason (frame_fault_number fault))
 
--- the same of whole frames
+-- whole frames are told, or the reason against the first that is refused, unless memory ran out
 abbrev pub AreTold : Result (List (ℕ × FrameFact)) Reason → Result (Vec (ℕ × Frame) Global) FrameFault → Type 0
 AreTold answer (Ok frames) = answer ≡ Ok (whole_frames frames.items)
+AreTold answer (Err OutOfMemory) = Unit {0}
 AreTold answer (Err fault) = answer ≡ Err (reason (frame_fault_number fault))
 
 -- their offsets rise

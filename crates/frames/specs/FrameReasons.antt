@@ -2,7 +2,11 @@
 -- is told.
 use Rattle.std.specs.Prelude.{ℕ}
 use Rattle.frames.specs.declared.frame_fault.FrameFault.{FrameFault}
-use Rattle.frames.specs.declared.frame_fault.FrameFault.TheVariants.{BadIndex, WrongKind, LocalsOver, StackOver, ChopTooMany, NotAStart, NotANew}
+use Rattle.frames.specs.declared.frame_fault.FrameFault.TheVariants.{OutOfMemory, BadIndex, WrongKind, LocalsOver, StackOver, ChopTooMany, NotAStart, NotANew}
+
+-- memory ran out
+abbrev pub out_of_memory : ℕ
+out_of_memory = 1
 
 -- the index of a class names nothing
 abbrev pub bad_index : ℕ
@@ -34,6 +38,7 @@ not_a_new = 53
 
 -- the number of each fault
 abbrev pub frame_fault_number : FrameFault → ℕ
+frame_fault_number OutOfMemory = out_of_memory
 frame_fault_number BadIndex = bad_index
 frame_fault_number WrongKind = wrong_kind
 frame_fault_number LocalsOver = locals_over

@@ -2,11 +2,15 @@
 ghost use Rattle.std.specs.Prelude.{◌≡◌};
 ghost use Rattle.frames.specs.FrameReasons.{frame_fault_number};
 
+use std::alloc::AllocError;
 use thiserror::Error;
 
 /// Why an entry of a stack map is refused (JVMS 4.7.4, 4.10.1): of the first such entry the fault of the least number.
 #[derive(Clone, Copy, Debug, PartialEq, Eq, Error)]
 pub enum FrameFault {
+    /// 1: memory ran out.
+    #[error("refused 1")]
+    OutOfMemory,
     /// 8: the index of a class is 0, past the pool's end, or the second index of a Long or Double.
     #[error("refused 8")]
     BadIndex,
@@ -36,6 +40,7 @@ impl FrameFault {
         ensures { result ≡ frame_fault_number self.now }
     {
         match self {
+            FrameFault::OutOfMemory => 1,
             FrameFault::BadIndex => 8,
             FrameFault::WrongKind => 9,
             FrameFault::LocalsOver => 49,
@@ -44,5 +49,16 @@ impl FrameFault {
             FrameFault::NotAStart => 52,
             FrameFault::NotANew => 53,
         }
+    }
+}
+
+impl From<AllocError> for FrameFault {
+    ghost use Rattle.std.specs.Prelude.{◌≡◌};
+    ghost use Rattle.frames.specs.declared.frame_fault.FrameFault.TheVariants.{OutOfMemory};
+
+    ghost from_gives = { λ _ e. e ≡ OutOfMemory };
+
+    fn from(_error: AllocError) -> FrameFault {
+        FrameFault::OutOfMemory
     }
 }

@@ -178,7 +178,7 @@ fn put_counted_entries(
     put_entries(out, entries)
 }
 
-fn put_map(out: &mut Output, map: &StackMap) -> Result<(), WriteFault>
+fn put_map(out: &mut Output, map: &StackMap<'_>) -> Result<(), WriteFault>
     ensures { Goes (map_pieces map.now) out.old out.new result }
 {
     let entries = map.entries();
@@ -204,7 +204,7 @@ pub fn written_entry(alloc: Global, entry: &MapEntry) -> Result<Vec<u8>, WriteFa
 }
 
 /// The bytes of a stack map.
-pub fn written_map(alloc: Global, map: &StackMap) -> Result<Vec<u8>, WriteFault>
+pub fn written_map(alloc: Global, map: &StackMap<'_>) -> Result<Vec<u8>, WriteFault>
     ensures { Delivers (map_pieces map.now) (λ v. v.items) result }
 {
     let mut out = Output::new(alloc);

@@ -10,7 +10,7 @@ use crate::map_reading::{read_entries, read_entry, read_type};
 use crate::map_writing::{written_entry, written_map, written_type};
 use layout::{Cursor, Part, ReadFault, WriteFault};
 use std::alloc::Global;
-use std::marker::Model;
+use std::marker::{Model, PhantomData};
 
 /// A verification type as an entry gives it.
 #[derive(Clone, Copy, Debug, PartialEq, Eq)]
@@ -47,13 +47,14 @@ pub enum MapEntry {
     Full(u16, Vec<TypeInfo>, Vec<TypeInfo>),
 }
 
-/// The body of a StackMapTable: its entries in order.
+/// The body of a StackMapTable: its entries in order. The lifetime is that of the body; an entry keeps nothing of it.
 #[derive(Debug, Drop)]
-pub struct StackMap {
+pub struct StackMap<'a> {
     entries: Vec<MapEntry>,
+    body: PhantomData<&'a [u8]>,
 }
 
-impl Model for StackMap {
+impl<'a> Model for StackMap<'a> {
     ghost use Rattle.std.specs.Prelude.{List, map};
     ghost use Rattle.frames.specs.StackMaps as maps;
     ghost use Rattle.frames.specs.MapViews.{entry_of};
@@ -63,12 +64,15 @@ impl Model for StackMap {
     ghost view = { λ m. map entry_of m.entries.items };
 }
 
-impl StackMap {
+impl<'a> StackMap<'a> {
     /// The stack map of these entries. Whether bytes spell it shows when it is written.
-    pub fn new(entries: Vec<MapEntry>) -> StackMap
+    pub fn new(entries: Vec<MapEntry>) -> StackMap<'a>
         ensures { result ≡ map entry_of entries.items }
     {
-        StackMap { entries }
+        StackMap {
+            entries,
+            body: PhantomData,
+        }
     }
 
     /// The entries in order.
@@ -80,7 +84,7 @@ impl StackMap {
 
     /// The entries, to be changed and made into another stack map.
     pub fn into_entries(self) -> Vec<MapEntry>
-        ensures { map entry_of result.items ≡ self }
+        ensures { map entry_of result.items ≡ self.entry }
     {
         self.entries
     }
@@ -152,7 +156,7 @@ impl<'a> Part<'a> for MapEntry {
 
 /// A count of two bytes, and so many entries. Refused are the first fault of an entry, in the order of the bytes, and 2 `EndsEarly`
 /// at a count that is not whole. 17 is more than 65,535 entries; an entry that is too large or has no spelling is as it is alone.
-impl<'a> Part<'a> for StackMap {
+impl<'a> Part<'a> for StackMap<'a> {
     ghost use Rattle.std.specs.Prelude.{List};
     ghost use Rattle.frames.specs.StackMaps as maps;
     ghost use Rattle.frames.specs.MapLaws.{writes_map};
@@ -167,7 +171,7 @@ impl<'a> Part<'a> for StackMap {
 
     ghost written = { writes_map };
 
-    fn take(alloc: Global, cursor: &mut Cursor<'a>) -> Result<StackMap, ReadFault> {
+    fn take(alloc: Global, cursor: &mut Cursor<'a>) -> Result<StackMap<'a>, ReadFault> {
         let mut step = cursor.fork();
         let entries = read_entries(alloc, &mut step)?;
         *cursor = step;
@@ -185,7 +189,7 @@ impl<'a> Part<'a> for StackMap {
 ///
 /// Otherwise the first fault in the order of the bytes: 2 where a part passes the end, 47 for a frame type, 48 for a type's tag, and
 /// 12 at the first byte left over; or 1 where memory runs out. Places count bytes from the body's first.
-pub fn read_map(alloc: Global, body: &[u8]) -> Result<StackMap, ReadFault>
+pub fn read_map<'a>(alloc: Global, body: &'a [u8]) -> Result<StackMap<'a>, ReadFault>
     // The answer is spelled by the body.
     ensures found { IfOk result (λ m. IsMap body.now m) }
     // The map that the body spells is answered, unless memory runs out.

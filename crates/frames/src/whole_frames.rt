@@ -3,7 +3,6 @@ ghost use Rattle.std.specs.Prelude.{◌≡◌, map, IfOk};
 ghost use Rattle.insn.specs.Offsets.{acts};
 ghost use Rattle.insn.specs.Views.{views};
 ghost use Rattle.frames.specs.VerificationType.{type_of};
-ghost use Rattle.frames.specs.MapViews.{entry_of};
 ghost use Rattle.frames.specs.DeclaredFrames.{declared_frames};
 ghost use Rattle.frames.specs.DeclaredTables.{frames_in, whole_frames, AreTold};
 
@@ -12,7 +11,7 @@ use crate::declared_frames::DeclaredFrames;
 use crate::declaring::declare;
 use crate::frame::Frame;
 use crate::frame_fault::FrameFault;
-use crate::stack_map::MapEntry;
+use crate::stack_map::StackMap;
 use crate::vtype::VType;
 use insn::Insn;
 use pool::{Descriptors, Pool};
@@ -33,28 +32,30 @@ fn to_frames<'a>(
     Ok(frames)
 }
 
-/// The frames that the entries of a stack map declare, each with its offset in bytes (JVMS 4.7.4); or, of the first entry
-/// that is refused, the fault of the least number.
+/// The frames that a stack map declares, each with its offset in bytes (JVMS 4.7.4).
+///
+/// Otherwise the first entry that is refused gives the fault, by the least number of those that hold of it: 8, 9 or 49 to 53. 1
+/// where memory runs out.
 ///
 /// `code` has the instructions of the method with their offsets, of which the first at an offset counts. `initial` has the
 /// types of the receiver and of the parameters, a long or double being one of them. Each frame has all its locals:
 /// [`declare`] makes the same frames in less memory.
 pub fn declared<'a>(
     alloc: Global,
-    entries: &[MapEntry],
+    stack_map: &StackMap<'_>,
     pool: &Pool<'a>,
     code: &[(u16, Insn<'_>)],
     initial: &[VType<'a>],
     max_locals: u16,
     max_stack: u16,
-) -> Result<Result<Vec<(u16, Frame<'a>)>, FrameFault>, AllocError>
-    ensures { IfOk result (AreTold (declared_frames pool.now (acts (views code.now)) max_locals max_stack (map type_of initial.now) (map entry_of entries.now))) }
+) -> Result<Vec<(u16, Frame<'a>)>, FrameFault>
+    ensures { AreTold (declared_frames pool.now (acts (views code.now)) max_locals max_stack (map type_of initial.now) stack_map.now) result }
 {
     let starts = ListStarts::new(alloc, code)?;
     let mut constants = Descriptors::new(alloc, pool);
     match declare(
         alloc,
-        entries,
+        stack_map.entries(),
         pool,
         &mut constants,
         &starts,
@@ -62,7 +63,7 @@ pub fn declared<'a>(
         max_locals,
         max_stack,
     )? {
-        Err(fault) => Ok(Err(fault)),
-        Ok(table) => Ok(Ok(to_frames(alloc, &table)?)),
+        Err(fault) => Err(fault),
+        Ok(table) => Ok(to_frames(alloc, &table)?),
     }
 }

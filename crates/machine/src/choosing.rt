@@ -6,6 +6,7 @@ use crate::items::Value;
 use crate::objects::RunType;
 use crate::snapshot::State;
 use std::alloc::{AllocError, AllocFailed};
+use thiserror::Error;
 
 /// A choice for whatever an instruction leaves open (JVMS 6.5). In each choice `fresh` has the objects that come into being first:
 /// ready, each at an address that is unused.
@@ -41,11 +42,13 @@ pub enum Outcome<'a> {
 }
 
 /// Why a step was not taken.
-#[derive(Clone, Copy, Debug, PartialEq, Eq)]
+#[derive(Clone, Copy, Debug, PartialEq, Eq, Error)]
 pub enum StepFault {
     /// 1: memory ran out.
+    #[error("refused 1")]
     OutOfMemory,
     /// 54: the state is no fault, and nothing comes of this choice there.
+    #[error("refused 54")]
     NotAChoice,
 }
 

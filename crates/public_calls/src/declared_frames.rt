@@ -1,7 +1,7 @@
 use crate::making::K;
 use classfile::{ClassFile, decode};
 use frames::{
-    CodeStarts, Declared, Frame, FrameFault, MapEntry, TypeInfo, VType, declare, declared,
+    CodeStarts, Declared, Frame, FrameFault, MapEntry, StackMap, TypeInfo, VType, declare, declared,
 };
 use insn::decode_code;
 use pool::Descriptors;
@@ -14,14 +14,15 @@ const CODE: [u8; 4] = [0, 0, 0, 0xB1];
 /// Three local variables in five units, the last of the class at index 1, which is K.
 const LOCALS: [VType<'static>; 4] = [VType::Int, VType::Long, VType::Top, VType::Class(b"K")];
 
-/// Entries with these locals, with the same and a stack, and with all of them but the last.
-fn entries(alloc: Global) -> Result<[MapEntry; 3], AllocError> {
+/// A stack map whose entries have these locals, the same and a stack, and all of them but the last.
+fn stack_map<'a>(alloc: Global) -> Result<StackMap<'a>, AllocError> {
     let locals = [TypeInfo::Integer, TypeInfo::Long, TypeInfo::Object(1)];
-    Ok([
+    let entries = [
         MapEntry::Append(0, locals.to_vec(alloc)?),
         MapEntry::SameWithItem(0, TypeInfo::Double),
         MapEntry::Chop(1, 0),
-    ])
+    ];
+    Ok(StackMap::new(Vec::from_array(alloc, entries)?))
 }
 
 /// Whether a frame has these locals, by units, and this stack.
@@ -43,10 +44,20 @@ fn are_found(alloc: Global, class: &ClassFile<'_>) -> Result<bool, AllocError> {
     let Ok(starts) = CodeStarts::new(alloc, &CODE) else {
         return Ok(false);
     };
-    let entries = entries(alloc)?;
+    let map = stack_map(alloc)?;
     let pool = &class.constant_pool;
     let mut constants = Descriptors::new(alloc, pool);
-    let Ok(frames) = declare(alloc, &entries, pool, &mut constants, &starts, &[], 5, 2)? else {
+    let found = declare(
+        alloc,
+        map.entries(),
+        pool,
+        &mut constants,
+        &starts,
+        &[],
+        5,
+        2,
+    )?;
+    let Ok(frames) = found else {
         return Ok(false);
     };
     match (
@@ -72,21 +83,21 @@ fn is_whole(found: &(u16, Frame<'_>), at: u16, locals: &[VType<'_>], stack: &[VT
         && found.1.stack.as_slice() == stack
 }
 
-/// Whether the same frames are told with all their locals; or the fault, where the stack has room for one unit.
+/// Whether these frames are told with all their locals; or the fault, where the stack has room for one unit.
 fn are_whole(alloc: Global, class: &ClassFile<'_>, max_stack: u16) -> Result<bool, AllocError> {
     let Ok(code) = decode_code(alloc, &CODE) else {
         return Ok(false);
     };
-    let entries = entries(alloc)?;
+    let map = stack_map(alloc)?;
     match declared(
         alloc,
-        &entries,
+        &map,
         &class.constant_pool,
         &code,
         &[],
         5,
         max_stack,
-    )? {
+    ) {
         Ok(frames) => Ok(
             frames.len() == 3
                 && is_whole(&frames[0], 0, &LOCALS, &[])

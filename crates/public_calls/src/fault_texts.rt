@@ -1,15 +1,17 @@
 use crate::making::is_shown;
 use answers::AnswerFault;
 use classfile::{FormFault, FormRule, Place};
+use command_line::{LineFault, MainFault};
 use frames::FrameFault;
 use hierarchy::HierarchyFault;
 use insn::CodeFault;
 use layout::{ReadFault, StreamFault, WriteFault};
+use machine::StepFault;
 use names::NameFault;
 use pool::PoolFault;
 use std::alloc::Global;
 use std::fmt::Display;
-use verify::VerifyFault;
+use verify::{AmongFault, ClassFault, FileFault, VerifyFault};
 
 /// Whether each fault is displayed as the text beside it.
 fn are_shown<T: Display>(alloc: Global, rows: &[(T, &str)]) -> bool {
@@ -146,6 +148,7 @@ fn faults_of_code(rt: HostRuntime) {
 #[test]
 fn faults_of_frames(rt: HostRuntime) {
     let rows = [
+        (FrameFault::OutOfMemory, "refused 1"),
         (FrameFault::BadIndex, "refused 8"),
         (FrameFault::WrongKind, "refused 9"),
         (FrameFault::LocalsOver, "refused 49"),
@@ -200,4 +203,87 @@ fn faults_of_verdicts_and_answers(rt: HostRuntime) {
         (AnswerFault::WriteFailed, "refused 19"),
     ];
     assert!(rt; are_shown(rt.alloc(), &rows));
+}
+
+#[test]
+fn faults_of_steps(rt: HostRuntime) {
+    let rows = [
+        (StepFault::OutOfMemory, "refused 1"),
+        (StepFault::NotAChoice, "refused 54"),
+    ];
+    assert!(rt; are_shown(rt.alloc(), &rows));
+}
+
+/// A file that is cut.
+const CUT: FileFault = FileFault::NoClass(ReadFault::EndsEarly { at: 95 });
+
+/// A class that is not well formed.
+const MALFORMED: FileFault = FileFault::Malformed {
+    rule: FormRule::BadName,
+    place: Place::Class,
+};
+
+#[test]
+fn faults_of_files(rt: HostRuntime) {
+    let rows = [
+        (FileFault::OutOfMemory, "refused 1"),
+        (
+            FileFault::Unread(ReadFault::ReadFailed { at: 8 }),
+            "refused 15 at 8",
+        ),
+        (CUT, "refused 2 at 95"),
+        (MALFORMED, "refused 22"),
+    ];
+    assert!(rt; are_shown(rt.alloc(), &rows));
+}
+
+#[test]
+fn faults_of_classes(rt: HostRuntime) {
+    let rows = [
+        (ClassFault::OutOfMemory, "refused 1"),
+        (ClassFault::NoClass(ReadFault::BadMagic), "refused 10"),
+        (
+            ClassFault::Malformed {
+                rule: FormRule::BadFlags,
+                place: Place::Class,
+            },
+            "refused 24",
+        ),
+        (ClassFault::NotInHierarchy, "refused 80"),
+        (ClassFault::FinalSuper, "refused 81"),
+    ];
+    assert!(rt; are_shown(rt.alloc(), &rows));
+}
+
+#[test]
+fn faults_among_classes(rt: HostRuntime) {
+    let rows = [
+        (AmongFault::OutOfMemory, "refused 1"),
+        (AmongFault::Refused(CUT), "class refused 2 at 95"),
+        (
+            AmongFault::KnownRefused {
+                number: 2,
+                fault: MALFORMED,
+            },
+            "known 2 refused 22",
+        ),
+        (
+            AmongFault::NoHierarchy(HierarchyFault::NoObject),
+            "hierarchy refused 43",
+        ),
+        (AmongFault::FinalSuper, "class refused 81"),
+    ];
+    assert!(rt; are_shown(rt.alloc(), &rows));
+}
+
+#[test]
+fn faults_of_the_program(rt: HostRuntime) {
+    let rows = [
+        (MainFault::NoRandom, "no random words"),
+        (MainFault::CannotOpen(2), "file 2 cannot be opened"),
+        (MainFault::Memory, "refused 1"),
+        (MainFault::NotWritten, "refused 19"),
+    ];
+    assert!(rt; are_shown(rt.alloc(), &rows));
+    assert!(rt; is_shown(rt.alloc(), &LineFault::OutOfMemory, "refused 1"));
 }

@@ -155,12 +155,13 @@ fn constructors(rt: HostRuntime) {
     assert!(rt; matches!(judge(alloc, &CONSTRUCTING, &[], true), Err(61)));
 }
 
-/// Whether a `goto` and a `nop` go the right ways.
+/// Whether a `goto`, a `nop` and a `jsr` go the right ways. Behind `jsr`, which has no rule, code may go on.
 fn are_ways(list: &[(u16, Insn<'_>)]) -> bool {
     match list {
-        [(_, goto), (_, nop)] => {
+        [(_, goto), (_, nop), (_, jsr)] => {
             !falls(goto)
                 && falls(nop)
+                && falls(jsr)
                 && matches!(branches(goto), Branches::One(3))
                 && matches!(branches(nop), Branches::Nowhere)
         }
@@ -169,7 +170,7 @@ fn are_ways(list: &[(u16, Insn<'_>)]) -> bool {
 }
 
 fn has_ways(alloc: Global) -> bool {
-    match decode_code(alloc, &[0xA7, 0, 3, 0x00]) {
+    match decode_code(alloc, &[0xA7, 0, 3, 0x00, 0xA8, 0, 3]) {
         Ok(list) => are_ways(&list),
         Err(_) => false,
     }

@@ -1,5 +1,4 @@
--- Where the plan of an instruction goes: as its act says, whatever the method; or there is no rule, for a reason that goes before all that is not
--- the rule's.
+-- Where the plan of an instruction goes: as its act says, whatever the method.
 use Rattle.std.proofs.Common.{◌≡◌, ◌⊎◌, ◌∙◌, ℕ, ◌<◌, Bool, true, false, List, [], ◌∷◌, Option, Some, None, refl, sym, arith, inl, inr, if◌then◌else◌}
 use Rattle.names.specs.declared.base.Primitive.{Primitive}
 use Rattle.names.specs.Descriptors.{FieldDescriptor, primitive, class as class_descriptor, array as array_descriptor}
@@ -26,87 +25,80 @@ pub record GoesOn (p : Plan) : Type 0 where
   pub falls_on : falls p ≡ true
   pub nowhere : offsets_of p ≡ []
 
--- that, or no rule
-abbrev MayGoOn : Plan → Type 0
-MayGoOn p = GoesOn p ⊎ ((n : ℕ) × (p ≡ refuses n) × (n < 67))
-
--- what is known of the plan of an act
+-- the plan of an act goes on and branches as the act does
 pub record WayOf (a : Act) (p : Plan) : Type 0 where
-  pub early : ((goes_on a ≡ falls p) × (branch_offsets a ≡ offsets_of p)) ⊎ ((n : ℕ) × (p ≡ refuses n) × (n < 67))
+  pub falls_on : goes_on a ≡ falls p
+  pub branches : branch_offsets a ≡ offsets_of p
 
-on : (p : Plan) → falls p ≡ true → offsets_of p ≡ [] → MayGoOn p
-on p e n = inl (record { falls_on = e; nowhere = n })
+on : (p : Plan) → falls p ≡ true → offsets_of p ≡ [] → GoesOn p
+on p e n = record { falls_on = e; nowhere = n }
 
-none : (p : Plan) (n : ℕ) → p ≡ refuses n → n < 67 → MayGoOn p
-none p n e lt = inr (n, e, lt)
-
-plain : (a : Act) (p : Plan) → goes_on a ≡ true → branch_offsets a ≡ [] → MayGoOn p → WayOf a p
-plain a p e b (inl g) = record { early = inl (e ∙ sym g.falls_on, b ∙ sym g.nowhere) }
-plain a p e b (inr x) = record { early = inr x }
+plain : (a : Act) (p : Plan) → goes_on a ≡ true → branch_offsets a ≡ [] → GoesOn p → WayOf a p
+plain a p e b g = record { falls_on = e ∙ sym g.falls_on; branches = b ∙ sym g.nowhere }
 
 direct : (a : Act) (p : Plan) → goes_on a ≡ falls p → branch_offsets a ≡ offsets_of p → WayOf a p
-direct a p e b = record { early = inl (e, b) }
+direct a p e b = record { falls_on = e; branches = b }
 
 -- ---- constants
 
-loaded : (c : Option Entry) → MayGoOn (load_constant c)
-loaded None = none (load_constant None) 66 refl (omega arith)
-loaded (Some (entries.Utf8 text)) = none (load_constant (Some (entries.Utf8 text))) 66 refl (omega arith)
+loaded : (c : Option Entry) → GoesOn (load_constant c)
+loaded None = on (load_constant None) refl refl
+loaded (Some (entries.Utf8 text)) = on (load_constant (Some (entries.Utf8 text))) refl refl
 loaded (Some (entries.Integer bits)) = on (load_constant (Some (entries.Integer bits))) refl refl
 loaded (Some (entries.Float bits)) = on (load_constant (Some (entries.Float bits))) refl refl
-loaded (Some (entries.Long high low)) = none (load_constant (Some (entries.Long high low))) 66 refl (omega arith)
-loaded (Some (entries.Double high low)) = none (load_constant (Some (entries.Double high low))) 66 refl (omega arith)
+loaded (Some (entries.Long high low)) = on (load_constant (Some (entries.Long high low))) refl refl
+loaded (Some (entries.Double high low)) = on (load_constant (Some (entries.Double high low))) refl refl
 loaded (Some (entries.Class name)) = on (load_constant (Some (entries.Class name))) refl refl
 loaded (Some (entries.String text)) = on (load_constant (Some (entries.String text))) refl refl
-loaded (Some (entries.Fieldref class name_and_type)) = none (load_constant (Some (entries.Fieldref class name_and_type))) 66 refl (omega arith)
-loaded (Some (entries.Methodref class name_and_type)) = none (load_constant (Some (entries.Methodref class name_and_type))) 66 refl (omega arith)
-loaded (Some (entries.InterfaceMethodref class name_and_type)) = none (load_constant (Some (entries.InterfaceMethodref class name_and_type))) 66 refl (omega arith)
-loaded (Some (entries.NameAndType name descriptor)) = none (load_constant (Some (entries.NameAndType name descriptor))) 66 refl (omega arith)
+loaded (Some (entries.Fieldref class name_and_type)) = on (load_constant (Some (entries.Fieldref class name_and_type))) refl refl
+loaded (Some (entries.Methodref class name_and_type)) = on (load_constant (Some (entries.Methodref class name_and_type))) refl refl
+loaded (Some (entries.InterfaceMethodref class name_and_type)) = on (load_constant (Some (entries.InterfaceMethodref class name_and_type))) refl refl
+loaded (Some (entries.NameAndType name descriptor)) = on (load_constant (Some (entries.NameAndType name descriptor))) refl refl
 loaded (Some (entries.MethodHandle kind reference)) = on (load_constant (Some (entries.MethodHandle kind reference))) refl refl
 loaded (Some (entries.MethodType descriptor)) = on (load_constant (Some (entries.MethodType descriptor))) refl refl
-loaded (Some (entries.Dynamic bootstrap name)) = none (load_constant (Some (entries.Dynamic bootstrap name))) 60 refl (omega arith)
-loaded (Some (entries.InvokeDynamic bootstrap name)) = none (load_constant (Some (entries.InvokeDynamic bootstrap name))) 66 refl (omega arith)
-loaded (Some entries.Unusable) = none (load_constant (Some entries.Unusable)) 66 refl (omega arith)
+loaded (Some (entries.Dynamic bootstrap name)) = on (load_constant (Some (entries.Dynamic bootstrap name))) refl refl
+loaded (Some (entries.InvokeDynamic bootstrap name)) = on (load_constant (Some (entries.InvokeDynamic bootstrap name))) refl refl
+loaded (Some entries.Unusable) = on (load_constant (Some entries.Unusable)) refl refl
 
-loaded_wide : (c : Option Entry) → MayGoOn (load_wide_constant c)
-loaded_wide None = none (load_wide_constant None) 66 refl (omega arith)
-loaded_wide (Some (entries.Utf8 text)) = none (load_wide_constant (Some (entries.Utf8 text))) 66 refl (omega arith)
-loaded_wide (Some (entries.Integer bits)) = none (load_wide_constant (Some (entries.Integer bits))) 66 refl (omega arith)
-loaded_wide (Some (entries.Float bits)) = none (load_wide_constant (Some (entries.Float bits))) 66 refl (omega arith)
+loaded_wide : (c : Option Entry) → GoesOn (load_wide_constant c)
+loaded_wide None = on (load_wide_constant None) refl refl
+loaded_wide (Some (entries.Utf8 text)) = on (load_wide_constant (Some (entries.Utf8 text))) refl refl
+loaded_wide (Some (entries.Integer bits)) = on (load_wide_constant (Some (entries.Integer bits))) refl refl
+loaded_wide (Some (entries.Float bits)) = on (load_wide_constant (Some (entries.Float bits))) refl refl
 loaded_wide (Some (entries.Long high low)) = on (load_wide_constant (Some (entries.Long high low))) refl refl
 loaded_wide (Some (entries.Double high low)) = on (load_wide_constant (Some (entries.Double high low))) refl refl
-loaded_wide (Some (entries.Class name)) = none (load_wide_constant (Some (entries.Class name))) 66 refl (omega arith)
-loaded_wide (Some (entries.String text)) = none (load_wide_constant (Some (entries.String text))) 66 refl (omega arith)
-loaded_wide (Some (entries.Fieldref class name_and_type)) = none (load_wide_constant (Some (entries.Fieldref class name_and_type))) 66 refl (omega arith)
-loaded_wide (Some (entries.Methodref class name_and_type)) = none (load_wide_constant (Some (entries.Methodref class name_and_type))) 66 refl (omega arith)
-loaded_wide (Some (entries.InterfaceMethodref class name_and_type)) = none (load_wide_constant (Some (entries.InterfaceMethodref class name_and_type))) 66 refl (omega arith)
-loaded_wide (Some (entries.NameAndType name descriptor)) = none (load_wide_constant (Some (entries.NameAndType name descriptor))) 66 refl (omega arith)
-loaded_wide (Some (entries.MethodHandle kind reference)) = none (load_wide_constant (Some (entries.MethodHandle kind reference))) 66 refl (omega arith)
-loaded_wide (Some (entries.MethodType descriptor)) = none (load_wide_constant (Some (entries.MethodType descriptor))) 66 refl (omega arith)
-loaded_wide (Some (entries.Dynamic bootstrap name)) = none (load_wide_constant (Some (entries.Dynamic bootstrap name))) 60 refl (omega arith)
-loaded_wide (Some (entries.InvokeDynamic bootstrap name)) = none (load_wide_constant (Some (entries.InvokeDynamic bootstrap name))) 66 refl (omega arith)
-loaded_wide (Some entries.Unusable) = none (load_wide_constant (Some entries.Unusable)) 66 refl (omega arith)
+loaded_wide (Some (entries.Class name)) = on (load_wide_constant (Some (entries.Class name))) refl refl
+loaded_wide (Some (entries.String text)) = on (load_wide_constant (Some (entries.String text))) refl refl
+loaded_wide (Some (entries.Fieldref class name_and_type)) = on (load_wide_constant (Some (entries.Fieldref class name_and_type))) refl refl
+loaded_wide (Some (entries.Methodref class name_and_type)) = on (load_wide_constant (Some (entries.Methodref class name_and_type))) refl refl
+loaded_wide (Some (entries.InterfaceMethodref class name_and_type)) = on (load_wide_constant (Some (entries.InterfaceMethodref class name_and_type))) refl refl
+loaded_wide (Some (entries.NameAndType name descriptor)) = on (load_wide_constant (Some (entries.NameAndType name descriptor))) refl refl
+loaded_wide (Some (entries.MethodHandle kind reference)) = on (load_wide_constant (Some (entries.MethodHandle kind reference))) refl refl
+loaded_wide (Some (entries.MethodType descriptor)) = on (load_wide_constant (Some (entries.MethodType descriptor))) refl refl
+loaded_wide (Some (entries.Dynamic bootstrap name)) = on (load_wide_constant (Some (entries.Dynamic bootstrap name))) refl refl
+loaded_wide (Some (entries.InvokeDynamic bootstrap name)) = on (load_wide_constant (Some (entries.InvokeDynamic bootstrap name))) refl refl
+loaded_wide (Some entries.Unusable) = on (load_wide_constant (Some entries.Unusable)) refl refl
 
-allowed : (b : Bool) (p : Plan) → GoesOn p → MayGoOn (where_allowed b p)
-allowed true p g = inl g
-allowed false p g = none (refuses 66) 66 refl (omega arith)
+allowed : (b : Bool) (p : Plan) → GoesOn p → GoesOn (where_allowed b p)
+allowed true p g = g
+allowed false p g = on (refuses 66) refl refl
 
 -- ---- fields
 
-get_static_on : (o : Option FieldConstant) → MayGoOn (get_static o)
-get_static_on None = none (get_static None) 66 refl (omega arith)
+get_static_on : (o : Option FieldConstant) → GoesOn (get_static o)
+get_static_on None = on (get_static None) refl refl
 get_static_on (Some c) = on (get_static (Some c)) refl refl
 
-put_static_on : (o : Option FieldConstant) → MayGoOn (put_static o)
-put_static_on None = none (put_static None) 66 refl (omega arith)
+put_static_on : (o : Option FieldConstant) → GoesOn (put_static o)
+put_static_on None = on (put_static None) refl refl
 put_static_on (Some c) = on (put_static (Some c)) refl refl
 
-get_field_on : (o : Option FieldConstant) → MayGoOn (get_field o)
-get_field_on None = none (get_field None) 66 refl (omega arith)
+get_field_on : (o : Option FieldConstant) → GoesOn (get_field o)
+get_field_on None = on (get_field None) refl refl
 get_field_on (Some c) = on (get_field (Some c)) refl refl
 
-put_field_on : (m : Method Act) (o : Option FieldConstant) → MayGoOn (put_field m o)
-put_field_on m None = none (put_field m None) 66 refl (omega arith)
+put_field_on : (m : Method Act) (o : Option FieldConstant) → GoesOn (put_field m o)
+put_field_on m None = on (put_field m None) refl refl
 put_field_on m (Some c) = on (put_field m (Some c)) refl refl
 
 -- ---- calls
@@ -117,59 +109,59 @@ call_goes t c = record { falls_on = refl; nowhere = refl }
 static_goes : (c : MethodConstant) → GoesOn (static_call c)
 static_goes c = record { falls_on = refl; nowhere = refl }
 
-static_on : (major : ℕ) (o : Option MethodConstant) → MayGoOn (invoke_static major o)
-static_on major None = none (invoke_static major None) 66 refl (omega arith)
+static_on : (major : ℕ) (o : Option MethodConstant) → GoesOn (invoke_static major o)
+static_on major None = on (invoke_static major None) refl refl
 static_on major (Some c) = allowed _ (static_call c) (static_goes c)
 
-virtual_on : (o : Option MethodConstant) → MayGoOn (invoke_virtual o)
-virtual_on None = none (invoke_virtual None) 66 refl (omega arith)
+virtual_on : (o : Option MethodConstant) → GoesOn (invoke_virtual o)
+virtual_on None = on (invoke_virtual None) refl refl
 virtual_on (Some c) = allowed _ (call_on c.class c) (call_goes c.class c)
 
-interface_on : (count : ℕ) (o : Option MethodConstant) → MayGoOn (invoke_interface count o)
-interface_on count None = none (invoke_interface count None) 66 refl (omega arith)
+interface_on : (count : ℕ) (o : Option MethodConstant) → GoesOn (invoke_interface count o)
+interface_on count None = on (invoke_interface count None) refl refl
 interface_on count (Some c) = allowed (may_invoke_interface count c) (call_on c.class c) (call_goes c.class c)
 
-either : (b : Bool) (p q : Plan) → MayGoOn p → MayGoOn q → MayGoOn (if b then p else q)
+either : (b : Bool) (p q : Plan) → GoesOn p → GoesOn q → GoesOn (if b then p else q)
 either true p q x y = x
 either false p q x y = y
 
-constructor_on : (c : MethodConstant) (t : ReferenceType) → MayGoOn (constructor_call c t)
+constructor_on : (c : MethodConstant) (t : ReferenceType) → GoesOn (constructor_call c t)
 constructor_on c (class_type name) = allowed _ (constructs name (arguments_on c.type.params [])) (record { falls_on = refl; nowhere = refl })
-constructor_on c (array_type component) = none (refuses 66) 66 refl (omega arith)
+constructor_on c (array_type component) = on (refuses 66) refl refl
 
-special_on : (major : ℕ) (me : List ℕ) (o : Option MethodConstant) → MayGoOn (invoke_special major me o)
-special_on major me None = none (refuses 66) 66 refl (omega arith)
+special_on : (major : ℕ) (me : List ℕ) (o : Option MethodConstant) → GoesOn (invoke_special major me o)
+special_on major me None = on (refuses 66) refl refl
 special_on major me (Some c) =
     either (is_init_name c) (constructor_call c c.class) (special_call major me c) (constructor_on c c.class)
     (allowed _ (calls_special c.class (arguments_on c.type.params (class_want me ∷ [])) (result_types c.type.result)) (record { falls_on = refl; nowhere = refl }))
 
 -- ---- objects, arrays and casts
 
-new_on : (o : Option ReferenceType) → MayGoOn (new_object o)
-new_on None = none (refuses 66) 66 refl (omega arith)
+new_on : (o : Option ReferenceType) → GoesOn (new_object o)
+new_on None = on (refuses 66) refl refl
 new_on (Some (class_type name)) = on (makes name) refl refl
-new_on (Some (array_type component)) = none (refuses 66) 66 refl (omega arith)
+new_on (Some (array_type component)) = on (refuses 66) refl refl
 
-array_on : (o : Option Primitive) → MayGoOn (new_array o)
-array_on None = none (new_array None) 66 refl (omega arith)
+array_on : (o : Option Primitive) → GoesOn (new_array o)
+array_on None = on (new_array None) refl refl
 array_on (Some p) = on (new_array (Some p)) refl refl
 
-references_on : (o : Option ReferenceType) → MayGoOn (new_reference_array o)
-references_on None = none (new_reference_array None) 66 refl (omega arith)
+references_on : (o : Option ReferenceType) → GoesOn (new_reference_array o)
+references_on None = on (new_reference_array None) refl refl
 references_on (Some t) =
     allowed (nat_lt (dimensions_of t) 255) (pops (number Int ∷ []) (array (descriptor_of t) ∷ []) [] true) (record { falls_on = refl; nowhere = refl })
 
-multi_on : (n : ℕ) (o : Option ReferenceType) → MayGoOn (new_multi_array n o)
-multi_on n None = none (new_multi_array n None) 66 refl (omega arith)
+multi_on : (n : ℕ) (o : Option ReferenceType) → GoesOn (new_multi_array n o)
+multi_on n None = on (new_multi_array n None) refl refl
 multi_on n (Some t) =
     allowed (nat_lt 0 n && not (nat_lt (dimensions_of t) n)) (pops (sizes n) (to_reference t ∷ []) [] true) (record { falls_on = refl; nowhere = refl })
 
-cast_on : (o : Option ReferenceType) → MayGoOn (check_cast o)
-cast_on None = none (check_cast None) 66 refl (omega arith)
+cast_on : (o : Option ReferenceType) → GoesOn (check_cast o)
+cast_on None = on (check_cast None) refl refl
 cast_on (Some t) = on (check_cast (Some t)) refl refl
 
-instance_on : (o : Option ReferenceType) → MayGoOn (instance_of o)
-instance_on None = none (instance_of None) 66 refl (omega arith)
+instance_on : (o : Option ReferenceType) → GoesOn (instance_of o)
+instance_on None = on (instance_of None) refl refl
 instance_on (Some t) = on (instance_of (Some t)) refl refl
 
 -- ---- returns

@@ -20,20 +20,6 @@ use Rattle.insn.specs.Branching.{targets_of}
 use Rattle.insn.specs.declared.branching.BranchTargets.{BranchTargets}
 use Rattle.insn.specs.Offsets.{led_to}
 
--- the plan goes where the act says
-pub record Goes (a : Act) (p : Plan) : Type 0 where
-  pub branches_are : branch_offsets a ≡ offsets_of p
-  pub falls_is : goes_on a ≡ falls p
-
-no_rule : (cs : List ClassFact) (m : Method Act) (at : ℕ) (f : FrameFact) (p : Plan) (n : ℕ) → p ≡ refuses n → least (conditions cs m at p f) ≡ None → ⊥
-no_rule cs m at f p n e none = let x : least (conditions cs m at (refuses n) f) ≡ None = subst (λ z. least (conditions cs m at z f) ≡ None) e none in cc
-
-goes : (cs : List ClassFact) (m : Method Act) (at : ℕ) (f : FrameFact) (a : Act) → least (conditions cs m at (plan m a) f) ≡ None → Goes a (plan m a)
-goes cs m at f a e = elim (way_of m a).early [
-  | inl way ↦ record { branches_are = way.1; falls_is = way.0 }
-  | inr r ↦ absurd (no_rule cs m at f (plan m a) r.0 r.1 e)
-]
-
 -- ---- what is applied
 
 same_own : (m : Method Act) (f w : FrameFact) (a b : Act) (own : Bool) → b ≡ a → w ≡ f → own ≡ constructs_own (plan m b) w → own ≡ constructs_own (plan m a) f
@@ -48,14 +34,14 @@ applied cs m at f w new a b frame t on own act_is frame_is own_is done held_is t
     let none : least (conditions cs m at (plan m a) f) ≡ None =
     subst (λ x. least (conditions cs m at (plan m x) f) ≡ None) act_is
     (subst (λ x. least (conditions cs m at (plan m b) x) ≡ None) frame_is done.0) in
-    let way = goes cs m at f a none in
+    let way = way_of m a in
     record {
       outcome = (
         none,
         record {
           frame_is = held_is ∙ done.1 ∙ ap (after m at (plan m b)) frame_is ∙ ap (λ x. after m at (plan m x) f) act_is;
-          targets_are = to ∙ ap (led_to at) way.branches_are;
-          falls_is = goes_is ∙ way.falls_is;
+          targets_are = to ∙ ap (led_to at) way.branches;
+          falls_is = goes_is ∙ way.falls_on;
           own_is = same_own m f w a b own act_is frame_is own_is;
         },
       );

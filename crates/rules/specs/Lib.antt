@@ -6,6 +6,7 @@ pub mod After
 pub mod Rules
 pub mod Replacing
 pub mod Ways
+pub mod WayLaws
 pub mod Working
 pub mod Held
 pub mod Reasons

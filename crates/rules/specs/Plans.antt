@@ -1,5 +1,5 @@
 -- The plan of an instruction: what its rule asks of the frame before it and does to it, family by family (JVMS 4.10.1.9).
-use Rattle.std.specs.Prelude.{ℕ, zero, suc, ℤ, Bool, true, false, if◌then◌else◌, List, [], ◌∷◌, map, Option, Some, None}
+use Rattle.std.specs.Prelude.{ℕ, zero, suc, ℤ, Bool, true, false, if◌then◌else◌, List, [], ◌∷◌, map, Option, Some, None, nat_eq, not}
 use Rattle.names.specs.declared.base.Primitive.{Primitive}
 use Rattle.names.specs.Descriptors.{FieldDescriptor, primitive, class as class_descriptor, array as array_descriptor}
 use Rattle.names.specs.ReferenceTypes.{ReferenceType, class_type, array_type}
@@ -10,7 +10,7 @@ use Rattle.insn.specs.Stacks.{computed_as}
 use Rattle.insn.specs.Offsets.{led_to}
 use Rattle.frames.specs.VerificationType.{VerificationType}
 use Rattle.frames.specs.Slots.{descriptor_type}
-use Rattle.rules.specs.ReasonNumbers.{wrong_constant}
+use Rattle.rules.specs.ReasonNumbers.{wrong_constant, wrong_return}
 
 -- what is asked of the type of an operand or local variable
 pub data Want : Type 0 where
@@ -86,7 +86,8 @@ where_allowed allowed plan = if allowed then plan else refuses wrong_constant
 abbrev pub falls : Plan → Bool
 falls (pops wants types offsets on) = on
 falls returns = false
-falls (refuses n) = false
+-- of those that are refused, a return of another kind than the method's result would not go on
+falls (refuses n) = not (nat_eq n wrong_return)
 falls _ = true
 
 abbrev pub offsets_of : Plan → List ℤ

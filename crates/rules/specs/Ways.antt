@@ -12,7 +12,6 @@ goes_on (acts.Return kind) = false
 goes_on acts.ReturnReference = false
 goes_on acts.ReturnVoid = false
 goes_on acts.Throw = false
-goes_on acts.Unsupported = false
 goes_on _ = true
 
 -- where an instruction branches to, by offsets from its own start, the default of a switch first

@@ -69,5 +69,7 @@ pub use naming::{Named, named_by};
 pub use own_object::constructs_own;
 pub use reason::Reason;
 pub use running::{run, run_plain};
-pub use ways::{branches, branches_by, falls, goes_on, is_plain, keeps_locals, stored_to};
+pub use ways::{
+    branches, branches_by, falls, goes_on, is_plain, keeps_locals, plans_go_as_acts, stored_to,
+};
 pub use working::Working;

@@ -88,7 +88,6 @@ pub fn run<'a, S: Starts, C: Classes>(
         Act::CheckCast { .. } => check_cast(method, named.class(), frame, classes),
         Act::InstanceOf { .. } => instance_of(method, named.class(), frame, classes),
         Act::New { index } => new_object(method, at, index, frame),
-        Act::Unsupported => Err(Reason::NotSupported),
         _ => run_plain(method, &act, frame, classes),
     }
 }
@@ -126,6 +125,7 @@ pub fn run_plain<'a, C: Classes>(
         Act::ArrayLength => array_length(method, frame, classes),
         Act::NewArray(element) => new_array(method, element, frame, classes),
         Act::Monitor => takes_reference(method, frame, classes),
+        Act::Unsupported => Err(Reason::NotSupported),
         _ => unreachable!(),
     }
 }

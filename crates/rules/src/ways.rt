@@ -2,12 +2,14 @@
 ghost use Rattle.std.specs.Prelude.{◌≡◌};
 ghost use Rattle.insn.specs.Meanings.{act};
 ghost use Rattle.insn.specs.Views.{view, act_view};
+ghost use Rattle.rules.specs.WayLaws.{PlansGoAsActs};
 ghost use Rattle.rules.specs.Ways.{goes_on, branch_offsets, keeps_locals, stored_to, is_plain};
 ghost use Rattle.insn.specs.Branching.{branches_view};
 
 use insn::{Act, Branches, Insn, act};
 
-/// Whether an instruction goes on to the next one, where it is not refused (JVMS 4.10.1.6). Takes no memory.
+/// Whether an instruction goes on to the next one, where it is not refused (JVMS 4.10.1.6): all but those that always jump, return or
+/// throw. Takes no memory.
 pub fn falls(insn: &Insn<'_>) -> bool
     ensures { result ≡ goes_on (act (view insn.now)) }
 {
@@ -26,7 +28,6 @@ pub fn goes_on(act: &Act<'_>) -> bool
             | Act::ReturnReference
             | Act::ReturnVoid
             | Act::Throw
-            | Act::Unsupported
     )
 }
 
@@ -77,6 +78,7 @@ pub fn is_plain(act: &Act<'_>) -> bool
             | Act::ArrayLength
             | Act::NewArray(_)
             | Act::Monitor
+            | Act::Unsupported
     )
 }
 
@@ -101,3 +103,8 @@ pub fn branches_by<'a>(act: &Act<'a>) -> Branches<'a>
         _ => Branches::Nowhere,
     }
 }
+
+/// A law: where an instruction goes hangs on its act alone. Its plan goes on and branches so in each method, whatever constant it names.
+pub fn plans_go_as_acts()
+    ensures { PlansGoAsActs }
+{}

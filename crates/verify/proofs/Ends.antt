@@ -97,25 +97,7 @@ no_zero : (e : RuleReason) → Some (reason 0) ≡ Some (reason_view e) → ⊥
 no_zero e q = let same : reason 0 ≡ reason_view e = cc in
     let zero : 0 ≡ reason_number e = ap number_of same ∙ view_number e in absurd (omega (arith, zero, number_some e))
 
-refused_least : (classes : List ClassFact) (m : Method Act) (at n : ℕ) (f : FrameFact)
-    → least (conditions classes m at (refuses n) f) ≡ Some (reason n)
-refused_least classes m at n f = refl
-
 module _ (classes : List ClassFact) (m : Method Act) (frames : Frames) (at : ℕ) (f : FrameFact) where
-  -- where nothing refuses the instruction, it goes on and branches as its act says
-  as_act : (a : Act) (p : Plan) → IsWay a p → least (conditions classes m at p f) ≡ None
-      → (goes_on a ≡ falls p) × (branch_offsets a ≡ offsets_of p)
-  as_act a p x e = by x.early
-    where
-      by : ((goes_on a ≡ falls p) × (branch_offsets a ≡ offsets_of p)) ⊎ ((n : ℕ) × (p ≡ refuses n) × (n < 67))
-          → (goes_on a ≡ falls p) × (branch_offsets a ≡ offsets_of p)
-      by (inl q) = q
-      by (inr r) = let clash : Some (reason r.0) ≡ None =
-          sym (refused_least classes m at r.0 f) ∙ ap (λ z. least (conditions classes m at z f)) (sym r.1) ∙ e in cc
-
-  pub goes_right : (a : Act) (p : Plan) → IsWay a p → least (conditions classes m at p f) ≡ None → goes_on a ≡ falls p
-  goes_right a p x e = (as_act a p x e).0
-
   -- ---- the parts of all that is asked
 
   abbrev ways_of : Plan → List ℤ → Conditions
@@ -162,19 +144,17 @@ module _ (classes : List ClassFact) (m : Method Act) (frames : Frames) (at : ℕ
 
     refused_alike : (least (conditions classes m at p f) ≡ None → ⊥)
         → least (conditions classes m at p f ++ end p (goes_on a && last)) ≡ least (at_conditions classes m frames at p next f)
-    refused_alike some = by x.early x.calm
+    refused_alike some = by x.calm
       where
         calmly : IsEarly (least (conditions classes m at p f))
             → least (conditions classes m at p f ++ end p (goes_on a && last)) ≡ least (at_conditions classes m frames at p next f)
         calmly (inl e) = absurd (some e)
         calmly (inr r) = by_early r.0 r.1 r.2
 
-        by : ((goes_on a ≡ falls p) × (branch_offsets a ≡ offsets_of p)) ⊎ ((n : ℕ) × (p ≡ refuses n) × (n < 67))
-            → (offsets_of p ≡ []) ⊎ ((classes : List ClassFact) (m : Method Act) (at : ℕ) (f : FrameFact) → IsEarly (least (conditions classes m at p f)))
+        by : (offsets_of p ≡ []) ⊎ ((classes : List ClassFact) (m : Method Act) (at : ℕ) (f : FrameFact) → IsEarly (least (conditions classes m at p f)))
             → least (conditions classes m at p f ++ end p (goes_on a && last)) ≡ least (at_conditions classes m frames at p next f)
-        by (inr r) calm = by_early r.0 (ap (λ z. least (conditions classes m at z f)) r.1 ∙ refused_least classes m at r.0 f) r.2
-        by (inl q) (inl o) = straight o q.0
-        by (inl q) (inr calm) = calmly (calm classes m at f)
+        by (inl o) = straight o x.way.falls_on
+        by (inr calm) = calmly (calm classes m at f)
 
     -- the reason that goes before, of the rule's and the end's
     pub refused_end : (g : FrameFact) (e y : RuleReason) → (e ≡ OutOfMemory) ⊎ (least (conditions classes m at p f) ≡ Some (reason_view e))
@@ -209,15 +189,12 @@ module _ (classes : List ClassFact) (m : Method Act) (frames : Frames) (at : ℕ
         → Done (at_conditions classes m frames at p next f) (after m at p f) g r
     done_ways g r e q j = by r j
       where
-        way : (goes_on a ≡ falls p) × (branch_offsets a ≡ offsets_of p)
-        way = as_act a p x e
-
         same : least (target_conditions classes frames g (led_to at (branch_offsets a)) ++ end p (goes_on a && last))
             ≡ least (at_conditions classes m frames at p next f)
         same =
             ap (λ (z : FrameFact). least (target_conditions classes frames z (led_to at (branch_offsets a)) ++ end p (goes_on a && last))) q
-            ∙ ap (λ (z : List ℤ). least (ways_of p (led_to at z) ++ end p (goes_on a && last))) way.1
-            ∙ ap (λ (z : Bool). least (ways_of p (targets at p) ++ end p (z && last))) way.0
+            ∙ ap (λ (z : List ℤ). least (ways_of p (led_to at z) ++ end p (goes_on a && last))) x.way.branches
+            ∙ ap (λ (z : Bool). least (ways_of p (targets at p) ++ end p (z && last))) x.way.falls_on
             ∙ ap (λ (z : Bool). least (ways_of p (targets at p) ++ end p (falls p && z))) (sym is)
             ∙ sym (both_least (conditions classes m at p f) (ways_of p (targets at p) ++ end p (falls p && is_none next)) None
             (least (ways_of p (targets at p) ++ end p (falls p && is_none next))) e refl)

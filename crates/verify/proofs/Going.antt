@@ -1,4 +1,4 @@
--- Where each instruction goes, by its plan: as its act says, or there is no rule, for a reason that goes before all that is not the rule's.
+-- Where each instruction goes, by its plan: as its act says; and where it branches, its rule needs no class.
 use Rattle.std.proofs.Common.{◌≡◌, ◌⊎◌, ℕ, ◌<◌, Bool, true, false, ◌&&◌, ℤ, List, [], ◌∷◌, Option, Some, None, refl, sym, ◌∙◌, ap, arith, inl, inr}
 use Rattle.classfile.specs.Methods.{Method}
 use Rattle.hierarchy.specs.Class.{ClassFact}
@@ -12,7 +12,7 @@ use Rattle.frames.specs.FrameFact.{FrameFact}
 use Rattle.frames.specs.Conditions.{Reason, reason, Conditions, least, is_no, missing_if}
 use Rattle.rules.specs.Plans.{Want, number, any_reference, Plan, pops, refuses, falls, offsets_of}
 use Rattle.rules.specs.Table.{plan}
-use Rattle.rules.proofs.Directions.{way_of}
+use Rattle.rules.proofs.Directions.{WayOf, way_of}
 use Rattle.rules.specs.After.{after}
 use Rattle.rules.specs.Rules.{accepts, is_short, operands, gives_frame, is_too_wide, conditions}
 use Rattle.rules.specs.Ways.{goes_on, branch_offsets}
@@ -25,9 +25,9 @@ IsEarly o = (o ≡ None) ⊎ ((n : ℕ) × (o ≡ Some (reason n)) × (n < 67))
 abbrev pub IsCalm : Plan → Type 0
 IsCalm p = (classes : List ClassFact) (m : Method Act) (at : ℕ) (f : FrameFact) → IsEarly (least (conditions classes m at p f))
 
--- the plan goes where the act says, or there is no rule; where it branches, it needs no class
+-- the plan goes where the act says; where it branches, it needs no class
 pub record IsWay (a : Act) (p : Plan) : Type 0 where
-  pub early : ((goes_on a ≡ falls p) × (branch_offsets a ≡ offsets_of p)) ⊎ ((n : ℕ) × (p ≡ refuses n) × (n < 67))
+  pub way : WayOf a p
   pub calm : (offsets_of p ≡ []) ⊎ IsCalm p
 
 -- ---- plans that branch
@@ -89,14 +89,14 @@ branch_calm ws offsets on d = λ classes m at f.
     parts_early (is_short ws f.stack) (is_too_wide m (after m at (pops ws [] offsets on) f)) (operands classes ws f.stack) (operands_decided classes ws f.stack d)
 
 branches : (a : Act) (ws : List Want) (offsets : List ℤ) (on : Bool) → goes_on a ≡ on → branch_offsets a ≡ offsets → AreDecided ws → IsWay a (pops ws [] offsets on)
-branches a ws offsets on e o d = record { early = inl (e, o); calm = inr (branch_calm ws offsets on d) }
+branches a ws offsets on e o d = record { way = record { falls_on = e; branches = o }; calm = inr (branch_calm ws offsets on d) }
 
 -- ---- plans that do not
 
 nowhere : (m : Method Act) (a : Act) → branch_offsets a ≡ [] → IsWay a (plan m a)
 nowhere m a none = record {
-  early = (way_of m a).early;
-  calm = inl (elim (way_of m a).early [ inl way ↦ sym way.1 ∙ none | inr r ↦ ap offsets_of r.1 ]);
+  way = way_of m a;
+  calm = inl (sym (way_of m a).branches ∙ none);
 }
 
 -- ---- all acts

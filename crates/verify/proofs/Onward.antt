@@ -32,7 +32,6 @@ use Rattle.verify.specs.Verdict.{Verdict, refused, told_of, refused_or, at_condi
 use Rattle.verify.specs.Steps.{Enters}
 use Rattle.verify.proofs.Merging.{rule_none}
 use Rattle.verify.proofs.Going.{ways}
-use Rattle.verify.proofs.Ends.{goes_right}
 
 -- ---- the number of locals stays
 
@@ -119,8 +118,7 @@ module _ (classes : List ClassFact) (m : Method Act) (frames : Frames) where
       goes_done now r u goes q x k =
           let done = (subst (Done at_here after_here now) q x).outcome in
           let falls_as : goes ≡ falls (plan m c.1) =
-          k ∙ goes_right classes m frames c.0 g c.1 (plan m c.1) (ways m c.1)
-          (rule_none (conditions classes m c.0 (plan m c.1) g) _ done.0) in
+          k ∙ (ways m c.1).way.falls_on in
           opened ∙ ap (λ z. refused_or z c.0 on) done.0 ∙ ap (λ z. left cs z after_here) (sym falls_as) ∙ ap (left cs goes) (sym done.1)
 
 -- ---- the bytes that are left

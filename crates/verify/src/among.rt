@@ -15,19 +15,25 @@ use classfile::Formed;
 use hierarchy::{HierarchyFault, Rows, Summary, summary_of};
 use std::alloc::{AllocError, AllocFailed, Global};
 use std::hash::BuildHasher;
+use thiserror::Error;
 
 /// Why there are no verdicts on the methods of a class among the classes that it may refer to.
-#[derive(Clone, Copy, Debug)]
+#[derive(Clone, Copy, Debug, Error)]
 pub enum AmongFault<'a> {
     /// 1: memory ran out.
+    #[error("refused 1")]
     OutOfMemory,
     /// The class is none that is well formed.
+    #[error("class {0}")]
     Refused(FileFault),
     /// The known class of this number, which counts from 1, is none that is well formed; those before it are.
+    #[error("known {number} {fault}")]
     KnownRefused { number: usize, fault: FileFault },
     /// The class and the known ones are no hierarchy: 40 to 46.
+    #[error("hierarchy refused {}", .0.number())]
     NoHierarchy(HierarchyFault<'a>),
     /// 81: the superclass of the class is final.
+    #[error("class refused 81")]
     FinalSuper,
 }
 

@@ -8,6 +8,7 @@ use classfile::{ClassFile, FormFault, FormRule, Formed, Place, decode, form_chec
 use hierarchy::{Summary, summary_of};
 use layout::ReadFault;
 use std::alloc::{AllocError, Global};
+use thiserror::Error;
 
 /// The bytes that were read of a file, or why there are none.
 #[derive(Clone, Copy, Debug)]
@@ -19,15 +20,19 @@ pub enum FileRead<'a> {
 }
 
 /// Why a file is no class that is well formed.
-#[derive(Clone, Copy, Debug)]
+#[derive(Clone, Copy, Debug, Error)]
 pub enum FileFault {
     /// 1: memory ran out.
+    #[error("refused 1")]
     OutOfMemory,
     /// The file could not be read: 15, or what else is said of its reading.
+    #[error(transparent)]
     Unread(ReadFault),
     /// The bytes are no class file: 2, 3, 7, 10 to 14 or 16.
+    #[error(transparent)]
     NoClass(ReadFault),
     /// The class file is not well formed: 20 to 30, by the first rule that is broken and where.
+    #[error("refused {}", rule.number())]
     Malformed { rule: FormRule, place: Place },
 }
 

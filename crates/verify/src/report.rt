@@ -18,6 +18,7 @@ use names::Text;
 use pool::Descriptors;
 use rules::Working;
 use std::alloc::{AllocError, Global};
+use thiserror::Error;
 
 /// A method and the verdict on it.
 #[derive(Clone, Copy, Debug)]
@@ -38,17 +39,22 @@ pub struct Report<'a> {
 }
 
 /// Why there are no verdicts on the methods of a class.
-#[derive(Clone, Copy, Debug)]
+#[derive(Clone, Copy, Debug, Error)]
 pub enum ClassFault {
     /// 1: memory ran out.
+    #[error("refused 1")]
     OutOfMemory,
     /// The bytes are no class file: 2, 3, 7, 10 to 14 or 16.
+    #[error(transparent)]
     NoClass(ReadFault),
     /// The class file is not well formed: 20 to 30.
+    #[error("refused {}", rule.number())]
     Malformed { rule: FormRule, place: Place },
     /// 80: the hierarchy has no class with exactly the summary of this one.
+    #[error("refused 80")]
     NotInHierarchy,
     /// 81: the superclass is final in the hierarchy.
+    #[error("refused 81")]
     FinalSuper,
 }
 

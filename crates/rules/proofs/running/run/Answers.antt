@@ -126,7 +126,7 @@ returns-in-New g c =
     (ap (λ a. plan m (act_view a)) c.in-New.is) (c.new_object.ensures (g.C.Classes.content c.args.classes.now))
 
 pub run_plain-requires-clause-plain : goal.run_plain-requires-clause-plain
-run_plain-requires-clause-plain g c = plain_else c.args.act c.in_default.not-Goto c.in_default.not-IfInt c.in_default.not-Switch c.in_default.not-IfInts c.in_default.not-IfReferences c.in_default.not-IfNull c.in_default.not-Return c.in_default.not-ReturnReference c.in_default.not-ReturnVoid c.in_default.not-Throw c.in_default.not-GetStatic c.in_default.not-PutStatic c.in_default.not-GetField c.in_default.not-PutField c.in_default.not-InvokeVirtual c.in_default.not-InvokeSpecial c.in_default.not-InvokeStatic c.in_default.not-InvokeInterface c.in_default.not-NewReferenceArray c.in_default.not-NewMultiArray c.in_default.not-CheckCast c.in_default.not-InstanceOf c.in_default.not-New c.in_default.not-Unsupported
+run_plain-requires-clause-plain g c = plain_else c.args.act c.in_default.not-Goto c.in_default.not-IfInt c.in_default.not-Switch c.in_default.not-IfInts c.in_default.not-IfReferences c.in_default.not-IfNull c.in_default.not-Return c.in_default.not-ReturnReference c.in_default.not-ReturnVoid c.in_default.not-Throw c.in_default.not-GetStatic c.in_default.not-PutStatic c.in_default.not-GetField c.in_default.not-PutField c.in_default.not-InvokeVirtual c.in_default.not-InvokeSpecial c.in_default.not-InvokeStatic c.in_default.not-InvokeInterface c.in_default.not-NewReferenceArray c.in_default.not-NewMultiArray c.in_default.not-CheckCast c.in_default.not-InstanceOf c.in_default.not-New
 
 pub returns-in_default : goal.returns-in_default
 returns-in_default g c = c.run_plain.ensures c.args.at
