@@ -24,10 +24,10 @@ WITHOUT_RULE = 3
 
 
 def build():
-    """Has the program built where it is not, or a source is newer. Ends with status 3 where that cannot be done. One that is installed is there."""
+    """Has the program built where it is not, or a source is newer. Ends with status 2 where that cannot be done. One that is installed is there."""
     words = [WRAPPER, "check", HERE / "classes/Hello.class"]
     if WRAPPER.is_file() and subprocess.run(words, stdout=subprocess.DEVNULL, check=False).returncode == 3:
-        sys.exit(3)
+        sys.exit(2)
 
 
 class Folder:
