@@ -12,7 +12,6 @@ pub mod FormKinds
 pub mod FormedMethods
 pub mod FormedNames
 pub mod FormedOrFaulty
-pub mod IndexRows
 pub mod Judged
 pub mod LeastRules
 pub mod Marks
