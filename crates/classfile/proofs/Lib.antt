@@ -2,6 +2,7 @@ pub mod Bodies
 pub mod ClassMeasure
 pub mod ClassOutlines
 pub mod Classes
+pub mod Columns
 pub mod DeclaredFieldLaws
 pub mod Encodings
 pub mod FewAttributes
@@ -19,6 +20,7 @@ pub mod Measures
 pub mod MethodLaws
 pub mod NamingLaws
 pub mod OutlineFaults
+pub mod NumberRows
 pub mod Outlines
 pub mod Places
 pub mod Receivers

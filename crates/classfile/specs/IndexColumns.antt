@@ -1,12 +1,24 @@
--- Attributes by which the code looks for two of a kind, and the columns of which it reads the indices alone. Words of the code's own steps.
-use Rattle.std.specs.Prelude.{Bool, true, false, ◌&&◌, List, [], ◌∷◌, nat_lt, count_by, Option, Some, None}
+-- How the code finds a number among bytes, the columns of which it reads the indices alone, and how it looks for two attributes of a kind.
+-- Words of the code's own steps.
+use Rattle.std.specs.Prelude.{ℕ, ◌+◌, ◌*◌, Bool, true, false, ◌&&◌, if◌then◌else◌, List, [], ◌∷◌, drop, nat_lt, count_by, Option, Some, None}
 use Rattle.classfile.specs.declared.layouts.Column.{Column}
 use Rattle.classfile.specs.declared.layouts.Column.TheVariants.{Plain, Text}
 use Rattle.classfile.specs.Layouts.{AttributeLayout}
-use Rattle.classfile.specs.Numbers.{is_same_column}
+use Rattle.classfile.specs.Numbers.{Numbers, is_same_column}
 use Rattle.classfile.specs.NumberForm.{on_numbers}
 use Rattle.classfile.specs.Values.{AttributeOf, of_parts, of_numbers, raw}
 use lib.Pointwise.{pointwise}
+
+-- the number in front, if there are two bytes
+abbrev pub first_number : List ℕ → Option ℕ
+first_number (high ∷ low ∷ bytes) = Some (high * 256 + low)
+first_number bytes = None
+
+-- the bytes of the rows
+abbrev pub behind_count : Numbers → List ℕ
+behind_count n = if n.layout.counted then drop 2 n.body else n.body
+
+-- ---- columns
 
 -- no number of a row is an index
 abbrev pub is_plain : Column → Bool
@@ -23,6 +35,8 @@ variable = Plain ∷ Plain ∷ Text ∷ Text ∷ Plain ∷ []
 
 abbrev pub are_variable : List Column → Bool
 are_variable columns = pointwise is_same_column columns variable
+
+-- ---- attributes
 
 -- the bodies of two attributes are numbers
 abbrev pub has_numbers : {A : Type 0} → AttributeOf A → Bool

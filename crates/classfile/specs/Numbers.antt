@@ -1,5 +1,5 @@
 -- The numbers in the body of an attribute (JVMS 4.7.2 to 4.7.31), row by row as its layout says, each of two bytes, the high one first.
-use Rattle.std.specs.Prelude.{ℕ, zero, suc, ◌+◌, ◌*◌, Bool, true, false, not, nat_eq, ◌&&◌, if◌then◌else◌, List, [], ◌∷◌, slice_get, Option, Some, None}
+use Rattle.std.specs.Prelude.{ℕ, zero, suc, ◌+◌, ◌*◌, Bool, true, false, nat_eq, ◌&&◌, if◌then◌else◌, List, [], ◌∷◌, slice_get, Option, Some, None}
 use Rattle.std.specs.List.{flat_map}
 use Rattle.std.specs.Option.{option_and_then}
 use Rattle.std.specs.Str.{bytes_eq}
@@ -7,6 +7,7 @@ use Rattle.classfile.specs.declared.layouts.Column.{Column}
 use Rattle.classfile.specs.declared.layouts.Column.TheVariants.{Plain, Text, TextOrZero, Class, ClassOrZero, Value}
 use Rattle.classfile.specs.Layouts.{AttributeLayout, has_layout}
 use lib.Pointwise.{pointwise}
+use mathlib.Core.Bool.{beq}
 
 -- a body, and how it is laid out
 pub record Numbers : Type 0 where
@@ -42,11 +43,6 @@ rows_of n = if n.layout.counted then counted_rows n.layout.columns n.body else r
 abbrev pub number_at : Numbers → (row column : ℕ) → Option ℕ
 number_at n row column = option_and_then (λ numbers. slice_get numbers column) (slice_get (rows_of n) row)
 
--- the number in front, if there are two bytes
-abbrev pub first_number : List ℕ → Option ℕ
-first_number (high ∷ low ∷ bytes) = Some (high * 256 + low)
-first_number bytes = None
-
 -- the first number of a row
 abbrev pub first_of : List ℕ → List ℕ
 first_of [] = []
@@ -67,13 +63,10 @@ is_same_column ClassOrZero ClassOrZero = true
 is_same_column Value Value = true
 is_same_column a b = false
 
-abbrev pub is_same_flag : Bool → Bool → Bool
-is_same_flag a b = if a then b else not b
-
 abbrev pub is_same_layout : AttributeLayout → AttributeLayout → Bool
 is_same_layout a b =
-    bytes_eq a.name b.name && (nat_eq a.first_major b.first_major && (is_same_flag a.once b.once
-    && (is_same_flag a.counted b.counted && pointwise is_same_column a.columns b.columns)))
+    bytes_eq a.name b.name && (nat_eq a.first_major b.first_major && (beq a.once b.once
+    && (beq a.counted b.counted && pointwise is_same_column a.columns b.columns)))
 
 -- the numbers have the layout that attributes of their name have here, and their body is laid out so
 abbrev pub is_laid_out : Option AttributeLayout → Numbers → Bool

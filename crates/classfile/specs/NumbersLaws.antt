@@ -5,8 +5,9 @@ use Rattle.std.specs.Str.{bytes_eq}
 use Rattle.classfile.specs.declared.layouts.Column.{Column}
 use Rattle.classfile.specs.declared.layouts.Column.TheVariants.{Plain, Text, TextOrZero, Class, ClassOrZero, Value}
 use Rattle.classfile.specs.Layouts.{AttributeLayout, has_layout}
-use Rattle.classfile.specs.Numbers.{Numbers, is_same_column, is_same_flag, is_same_layout, is_laid_out}
+use Rattle.classfile.specs.Numbers.{Numbers, is_same_column, is_same_layout, is_laid_out}
 use lib.Pointwise.{pointwise, pointwise_decides, bytes_decides}
+use mathlib.Core.Bool.{beq}
 
 same_column : (a b : Column) → is_same_column a b ≡ true → a ≡ b
 same_column Plain Plain h = refl
@@ -31,11 +32,11 @@ column_decides a b = (same_column a b, λ e. subst (λ (c : Column). is_same_col
 pub columns_decide : (xs ys : List Column) → (pointwise is_same_column xs ys ≡ true → xs ≡ ys) × (xs ≡ ys → pointwise is_same_column xs ys ≡ true)
 columns_decide = pointwise_decides column_decides
 
-same_flag : (a b : Bool) → is_same_flag a b ≡ true → a ≡ b
+same_flag : (a b : Bool) → beq a b ≡ true → a ≡ b
 same_flag true b h = sym h
 same_flag false b h = sym (not-true b h)
 
-own_flag : (a : Bool) → is_same_flag a a ≡ true
+own_flag : (a : Bool) → beq a a ≡ true
 own_flag true = refl
 own_flag false = refl
 
@@ -43,8 +44,8 @@ same_layout : (a b : AttributeLayout) → is_same_layout a b ≡ true → a ≡ 
 same_layout a b h =
     let p = and_parts (bytes_eq a.name b.name) _ h in
     let q = and_parts (nat_eq a.first_major b.first_major) _ p.1 in
-    let r = and_parts (is_same_flag a.once b.once) _ q.1 in
-    let s = and_parts (is_same_flag a.counted b.counted) _ r.1 in
+    let r = and_parts (beq a.once b.once) _ q.1 in
+    let s = and_parts (beq a.counted b.counted) _ r.1 in
     let name = (bytes_decides a.name b.name).0 p.0 in
     let major = eqb-true a.first_major b.first_major q.0 in
     let once = same_flag a.once b.once r.0 in
@@ -56,8 +57,8 @@ pub own_layout : (a : AttributeLayout) → is_same_layout a a ≡ true
 own_layout a =
     and_from (bytes_eq a.name a.name) _ ((bytes_decides a.name a.name).1 refl)
     (and_from (nat_eq a.first_major a.first_major) _ (eq-eqb a.first_major a.first_major refl)
-    (and_from (is_same_flag a.once a.once) _ (own_flag a.once)
-    (and_from (is_same_flag a.counted a.counted) _ (own_flag a.counted) ((columns_decide a.columns a.columns).1 refl))))
+    (and_from (beq a.once a.once) _ (own_flag a.once)
+    (and_from (beq a.counted a.counted) _ (own_flag a.counted) ((columns_decide a.columns a.columns).1 refl))))
 
 pub laid_out_parts : (o : Option AttributeLayout) (n : Numbers) → is_laid_out o n ≡ true → (o ≡ Some n.layout) × (has_layout n.layout n.body ≡ true)
 laid_out_parts None n h = absurd (let x : false ≡ true = h in cc)

@@ -1,8 +1,9 @@
 //! The numbers of an attribute, row by row as its layout says (JVMS 4.7).
-ghost use Rattle.std.specs.Prelude.{◌≡◌, ◌+◌, ◌*◌, length, option_map};
+ghost use Rattle.std.specs.Prelude.{◌≡◌, ◌+◌, ◌*◌, length, drop};
 ghost use Rattle.classfile.specs.Layouts.{layout_at};
-ghost use Rattle.classfile.specs.LayoutViews.{layout_view, numbers_view};
-ghost use Rattle.classfile.specs.Numbers.{rows_of, number_at, first_number, is_same_layout, is_laid_out};
+ghost use Rattle.classfile.specs.LayoutViews.{numbers_view};
+ghost use Rattle.classfile.specs.IndexColumns.{first_number, behind_count};
+ghost use Rattle.classfile.specs.Numbers.{rows_of, number_at, is_laid_out};
 
 use crate::layouts::{AttributeLayout, has_layout, layout_at};
 use crate::location::Location;
@@ -36,6 +37,14 @@ fn first_number(bytes: &[u8]) -> Option<u16>
     }
 }
 
+/// The bytes behind so many of this width, or none.
+fn behind(bytes: &[u8], count: usize, width: usize) -> &[u8]
+    ensures { result.now ≡ drop (count * width) bytes.entry.now }
+{
+    let start = count.saturating_mul(width).min(bytes.len());
+    &bytes[start..]
+}
+
 impl<'a> Numbers<'a> {
     /// How many rows there are. An attribute whose layout has no count has one.
     pub fn rows(&self) -> u16
@@ -49,10 +58,13 @@ impl<'a> Numbers<'a> {
     }
 
     /// The bytes of the rows.
-    fn behind_count(&self) -> &'a [u8] {
-        match self.body {
-            [_, _, rows @ ..] if self.layout.counted => rows,
-            body => body,
+    fn behind_count(&self) -> &[u8]
+        ensures { result.now ≡ behind_count (numbers_view self.now) }
+    {
+        if self.layout.counted {
+            behind(self.body, 1, 2)
+        } else {
+            self.body
         }
     }
 
@@ -64,9 +76,8 @@ impl<'a> Numbers<'a> {
         if row >= self.rows() || column >= columns {
             return None;
         }
-        let start = usize::from(row).checked_mul(2 * columns)?;
-        let bytes = self.behind_count().get(start..)?;
-        first_number(bytes.get(2 * column..)?)
+        let rows = behind(self.behind_count(), usize::from(row), 2 * columns);
+        first_number(behind(rows, column, 2))
     }
 }
 
