@@ -8,7 +8,7 @@ use Rattle.classfile.specs.declared.location.Location.{Location}
 use Rattle.classfile.specs.Layouts.{AttributeLayout, layouts_in}
 use Rattle.classfile.specs.IndexColumns.{has_numbers, two_have_numbers}
 use Rattle.classfile.specs.Numbers.{is_same_layout}
-use Rattle.classfile.specs.NumberForm.{is_of, layout_stands_twice, numbers_stand_twice}
+use Rattle.classfile.specs.NumberForm.{has_this_layout, layout_stands_twice, numbers_stand_twice}
 use Rattle.classfile.specs.Values.{AttributeOf, of_parts, of_numbers, raw}
 
 at_most_one : (n : ℕ) → n < 2 → nat_lt 1 n ≡ false
@@ -24,22 +24,22 @@ at_most : (b : Bool) → cond b 1 0 ≤ 1
 at_most true = omega arith
 at_most false = omega arith
 
-no_more : {A : Type 0} (layout : AttributeLayout) (attributes : List (AttributeOf A)) → count_by (is_of layout) attributes ≤ count_by has_numbers attributes
-unfolding is_of
+no_more : {A : Type 0} (layout : AttributeLayout) (attributes : List (AttributeOf A)) → count_by (has_this_layout layout) attributes ≤ count_by has_numbers attributes
+unfolding has_this_layout
 no_more layout [] = omega arith
 no_more {A} layout (of_parts name value ∷ others) =
     let x : AttributeOf A = of_parts name value in
-    let first = sum_by-cons (λ y. cond (is_of layout y) 1 0) x others in
+    let first = sum_by-cons (λ y. cond (has_this_layout layout y) 1 0) x others in
     let second = sum_by-cons (λ (y : AttributeOf A). cond (has_numbers y) 1 0) x others in
     omega (arith, first, second, no_more layout others)
 no_more {A} layout (of_numbers name numbers ∷ others) =
     let x : AttributeOf A = of_numbers name numbers in
-    let first = sum_by-cons (λ y. cond (is_of layout y) 1 0) x others in
+    let first = sum_by-cons (λ y. cond (has_this_layout layout y) 1 0) x others in
     let second = sum_by-cons (λ (y : AttributeOf A). cond (has_numbers y) 1 0) x others in
     omega (arith, first, second, at_most (is_same_layout layout numbers.layout), no_more layout others)
 no_more {A} layout (raw name body ∷ others) =
     let x : AttributeOf A = raw name body in
-    let first = sum_by-cons (λ y. cond (is_of layout y) 1 0) x others in
+    let first = sum_by-cons (λ y. cond (has_this_layout layout y) 1 0) x others in
     let second = sum_by-cons (λ (y : AttributeOf A). cond (has_numbers y) 1 0) x others in
     omega (arith, first, second, no_more layout others)
 
@@ -51,8 +51,8 @@ not_over m n less few =
 no_layout : {A : Type 0} (attributes : List (AttributeOf A)) (layout : AttributeLayout) → two_have_numbers attributes ≡ false → layout_stands_twice attributes layout ≡ false
 unfolding layout_stands_twice
 no_layout attributes layout few =
-    neither layout.once (nat_lt 1 (count_by (is_of layout) attributes))
-    (not_over (count_by (is_of layout) attributes) (count_by has_numbers attributes) (no_more layout attributes) few)
+    neither layout.once (nat_lt 1 (count_by (has_this_layout layout) attributes))
+    (not_over (count_by (has_this_layout layout) attributes) (count_by has_numbers attributes) (no_more layout attributes) few)
 
 no_layouts : {A : Type 0} (attributes : List (AttributeOf A)) (layouts : List AttributeLayout) → two_have_numbers attributes ≡ false
     → list_any (layout_stands_twice attributes) layouts ≡ false

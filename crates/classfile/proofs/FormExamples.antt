@@ -14,7 +14,7 @@ use Rattle.classfile.specs.Naming.{begins_with, is_array_name, is_class_name, is
 use Rattle.classfile.specs.Locations.{is_named, is_code, is_stack_map, is_record}
 use Rattle.classfile.specs.Flags.{has, are_bad_class_flags, are_bad_field_flags, are_bad_method_flags}
 use Rattle.classfile.specs.ConstantForm.{names_class, is_no_class_name, is_array_class, is_no_unqualified_name, is_no_descriptor, is_no_field_descriptor, is_no_method_descriptor, is_no_field, is_no_method, is_no_method_of_class, is_special, is_no_method_name, has_bad, has_other, texts_have_bad, texts_have_other}
-use Rattle.classfile.specs.NumberForm.{numbers_break, is_of, layout_stands_twice, numbers_stand_twice}
+use Rattle.classfile.specs.NumberForm.{numbers_break, has_this_layout, layout_stands_twice, numbers_stand_twice}
 use Rattle.classfile.specs.AttributeForm.{handlers_have_bad, handlers_have_other, nested_have_bad, nested_have_other, head_has_bad, head_has_other, code_has_bad, code_has_other, attribute_has_bad, attribute_has_other, attributes_have_bad, attributes_have_other, have_bad_length, has_two_stack_maps, code_stands_twice, stack_map_stands_twice, have_twice}
 use Rattle.classfile.specs.RecordForm.{component_has_bad, component_has_other, component_has_twice, components_have_bad, components_have_other, components_have_twice, class_attribute_has_bad, class_attribute_has_other, class_attributes_have_bad, class_attributes_have_other, record_stands_twice, records_have_twice, class_attributes_have_twice}
 use Rattle.classfile.specs.MemberForm.{member_has_bad, member_has_other, may_name_method, is_bad_method_name, is_badly_described, is_instance_initializer, is_class_initializer, is_badly_flagged, has_body, has_code}
@@ -154,7 +154,7 @@ attributes :
     ∷ (stack_map_stands_twice (code 16 [] (stack_map 17 ∷ stack_map 17 ∷ []) ∷ []), stack_map_stands_twice (code 16 [] (stack_map 17 ∷ []) ∷ []))
     ∷ (have_twice (code 16 [] [] ∷ code 16 [] [] ∷ []), have_twice (code 16 [] [] ∷ raw 16 [] ∷ []))
     ∷ []) ≡ told 15
-unfolding handlers_have_bad handlers_have_other nested_have_bad nested_have_other code_has_bad code_has_other attribute_has_bad attribute_has_other attributes_have_bad attributes_have_other has_code have_bad_length has_two_stack_maps stack_map_stands_twice code_stands_twice have_twice head_has_bad head_has_other numbers_break is_of layout_stands_twice numbers_stand_twice is_bad is_other entry_at text_at
+unfolding handlers_have_bad handlers_have_other nested_have_bad nested_have_other code_has_bad code_has_other attribute_has_bad attribute_has_other attributes_have_bad attributes_have_other has_code have_bad_length has_two_stack_maps stack_map_stands_twice code_stands_twice have_twice head_has_bad head_has_other numbers_break has_this_layout layout_stands_twice numbers_stand_twice is_bad is_other entry_at text_at
 attributes = refl
 
 -- ---- members
@@ -214,7 +214,7 @@ records :
     ∷ (class_attributes_have_twice (locations.Class 60) (recorded (component 2 (signed 3 ∷ signed 3 ∷ []) ∷ []) ∷ []), class_attributes_have_twice (locations.Class 60) (recorded [] ∷ permitting 5 ∷ []))
     ∷ (class_attributes_have_twice (locations.Class 61) (permitting 5 ∷ permitting 5 ∷ []), class_attributes_have_twice (locations.Class 60) (raw 6 [] ∷ raw 6 [] ∷ []))
     ∷ []) ≡ told 13
-unfolding component_has_bad component_has_other component_has_twice components_have_bad components_have_other components_have_twice class_attribute_has_bad class_attribute_has_other class_attributes_have_bad class_attributes_have_other record_stands_twice records_have_twice class_attributes_have_twice texts_have_bad texts_have_other attribute_has_bad attribute_has_other attributes_have_bad attributes_have_other head_has_bad head_has_other numbers_break is_of layout_stands_twice numbers_stand_twice is_bad is_other entry_at text_at
+unfolding component_has_bad component_has_other component_has_twice components_have_bad components_have_other components_have_twice class_attribute_has_bad class_attribute_has_other class_attributes_have_bad class_attributes_have_other record_stands_twice records_have_twice class_attributes_have_twice texts_have_bad texts_have_other attribute_has_bad attribute_has_other attributes_have_bad attributes_have_other head_has_bad head_has_other numbers_break has_this_layout layout_stands_twice numbers_stand_twice is_bad is_other entry_at text_at
 records = refl
 
 -- ---- the class itself

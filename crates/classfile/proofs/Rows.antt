@@ -80,5 +80,12 @@ either_numbers pool n = either_rows (breaks pool BadIndex) (breaks pool WrongKin
 
 -- ---- local variables
 
-pub variables_are : (columns : List Column) → are_variable columns ≡ true → columns ≡ variable
-variables_are columns e = (columns_decide columns variable).0 e
+pub variables_break : (pool : List Entry) (n : Numbers) → n.layout.counted ≡ true → are_variable n.layout.columns ≡ true
+    → list_any (row_breaks (breaks pool Both) variable) (counted_rows variable n.body) ≡ numbers_break pool BadIndex n || numbers_break pool WrongKind n
+unfolding numbers_break
+variables_break pool n counted variables =
+    let cs = n.layout.columns in
+    let test = breaks pool Both in
+    ap (λ (cs : List Column). list_any (row_breaks test cs) (counted_rows cs n.body)) (sym ((columns_decide cs variable).0 variables))
+    ∙ ap (λ (b : Bool). list_any (row_breaks test cs) (cond b (counted_rows cs n.body) (rows_in cs 1 n.body))) (sym counted)
+    ∙ either_numbers pool n

@@ -9,7 +9,7 @@ use Rattle.pool.specs.Entries.{Entry}
 use Rattle.pool.specs.Lookups.{Named, text_at}
 use Rattle.pool.specs.Members.{found, class_at, FieldConstant}
 use Rattle.classfile.specs.Flags.{has, STATIC}
-use Rattle.classfile.specs.Values.{Handler, Nested, CodeBody, Attribute, Member, Class}
+use Rattle.classfile.specs.Values.{of_parts, of_numbers, raw, Handler, Nested, CodeBody, Attribute, Member, Class}
 
 -- an entry of the exception table (4.7.3): what is caught from one offset on up to another, and where it is handled
 pub record ExceptionEntry : Type 0 where

@@ -54,11 +54,11 @@ on_numbers test (raw name body) = false
 -- ---- attributes that may stand once
 
 -- the attribute has the layout
-unfoldable pub is_of : {A : Type 0} → AttributeLayout → AttributeOf A → Bool
-is_of layout attribute = on_numbers (λ n. is_same_layout layout n.layout) attribute
+unfoldable pub has_this_layout : {A : Type 0} → AttributeLayout → AttributeOf A → Bool
+has_this_layout layout attribute = on_numbers (λ n. is_same_layout layout n.layout) attribute
 
 unfoldable pub layout_stands_twice : {A : Type 0} → List (AttributeOf A) → AttributeLayout → Bool
-layout_stands_twice attributes layout = layout.once && nat_lt 1 (count_by (is_of layout) attributes)
+layout_stands_twice attributes layout = layout.once && nat_lt 1 (count_by (has_this_layout layout) attributes)
 
 unfoldable pub numbers_stand_twice : {A : Type 0} → Location → List (AttributeOf A) → Bool
 numbers_stand_twice place attributes = list_any (layout_stands_twice attributes) (layouts_in place)

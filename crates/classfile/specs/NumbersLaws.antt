@@ -1,6 +1,6 @@
 -- Numbers are laid out as attributes of their name are exactly where they have that layout, and their body fits it.
-use Rattle.std.proofs.Common.{◌≡◌, ℕ, Bool, true, false, not, cond, nat_eq, ◌&&◌, List, Option, Some, None, refl, sym, ap, subst, ◌∙◌}
-use Rattle.std.proofs.lemmas.Bool.{and_parts, and_from, not-true, eqb-true, eq-eqb}
+use Rattle.std.proofs.Common.{◌≡◌, ℕ, Bool, true, false, nat_eq, ◌&&◌, List, Option, Some, None, refl, sym, ap, subst, ◌∙◌}
+use Rattle.std.proofs.lemmas.Bool.{and_parts, and_from, eqb-true, eq-eqb}
 use Rattle.std.specs.Str.{bytes_eq}
 use Rattle.classfile.specs.declared.layouts.Column.{Column}
 use Rattle.classfile.specs.declared.layouts.Column.TheVariants.{Plain, Text, TextOrZero, Class, ClassOrZero, Value}
@@ -33,8 +33,10 @@ pub columns_decide : (xs ys : List Column) → (pointwise is_same_column xs ys �
 columns_decide = pointwise_decides column_decides
 
 same_flag : (a b : Bool) → beq a b ≡ true → a ≡ b
-same_flag true b h = sym h
-same_flag false b h = sym (not-true b h)
+same_flag true true h = refl
+same_flag true false h = absurd (let x : false ≡ true = h in cc)
+same_flag false true h = absurd (let x : false ≡ true = h in cc)
+same_flag false false h = refl
 
 own_flag : (a : Bool) → beq a a ≡ true
 own_flag true = refl

@@ -127,11 +127,11 @@ none_there None e = refl
 none_there (Some layout) e = absurd (let x : false ≡ true = e in cc)
 
 -- numbers that are laid out as attributes of their name are here
-kept_numbers : {A : Type 0} (o : Option AttributeLayout) (name : ℕ) (n : Numbers) → is_laid_out o n ≡ true
+kept_numbers : (A : Type 0) (o : Option AttributeLayout) (name : ℕ) (n : Numbers) → is_laid_out o n ≡ true
     → Spells (kept {A = A} o name (length n.body) n.body) [] (of_numbers name n)
-kept_numbers o name n e =
+kept_numbers A o name n e =
     let so = laid_out_parts o n e in
-    subst (λ (o : Option AttributeLayout). Spells (kept o name (length n.body) n.body) [] (of_numbers name n)) (sym so.0)
+    subst (λ (o : Option AttributeLayout). Spells (kept {A = A} o name (length n.body) n.body) [] (of_numbers name n)) (sym so.0)
     (subst (λ (b : Bool). Spells (cond b (done (of_numbers name n)) (refuse (λ at. AttributeLength (at - length n.body - 6)))) [] (of_numbers name n)) (sym so.1) (refl, refl))
 
 bodies_of : {A : Type 0} (test : ℕ → Bool) (layout_of : ℕ → Option AttributeLayout) {f : ℕ → ℕ → List ℕ → Format (AttributeOf A)} {p : A → List Piece} → OfParts f p
@@ -152,7 +152,7 @@ bodies_of {A = A} test layout_of {f = f} {p = p} m = record { has = has; only = 
         let is : text (marked (not (test name) && is_laid_out (layout_of name) n) (plain n.body ∷ [])) ≡ n.body = ap text r.1 ∙ append-nil n.body in
         subst (λ (t : List ℕ). Spells (body_of test layout_of f name (length t) t) [] (of_numbers name n)) (sym is)
         (subst (λ (b : Bool). Spells (cond b (f name (length n.body) n.body) (kept (layout_of name) name (length n.body) n.body)) [] (of_numbers name n)) (sym so.0)
-        (kept_numbers (layout_of name) name n so.1))
+        (kept_numbers A (layout_of name) name n so.1))
     has (raw name body) h =
         let r = marked_parts (not (test name) && has_none (layout_of name)) (plain body ∷ []) h in
         let so = both_true (test name) (has_none (layout_of name)) r.0 in

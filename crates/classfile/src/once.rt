@@ -2,7 +2,7 @@
 ghost use Rattle.std.specs.Prelude.{◌≡◌, map, option_map};
 ghost use Rattle.classfile.specs.LayoutViews.{layout_view};
 ghost use Rattle.classfile.specs.IndexColumns.{layout_of, has_numbers, two_have_numbers};
-ghost use Rattle.classfile.specs.NumberForm.{is_of, layout_stands_twice, numbers_stand_twice};
+ghost use Rattle.classfile.specs.NumberForm.{has_this_layout, layout_stands_twice, numbers_stand_twice};
 ghost use Rattle.classfile.specs.Values.{AttributeOf};
 
 use crate::attribute::Attribute;
@@ -64,9 +64,9 @@ fn has_numbers<A: Tabled>(attribute: &A) -> bool
 }
 
 /// Whether the attribute has this layout.
-#[tactic(auto, unfolding(crate::specs::NumberForm::is_of))]
-fn is_of<A: Tabled>(layout: &AttributeLayout, attribute: &A) -> bool
-    ensures { result ≡ is_of (layout_view layout.now) (A.attribute attribute.now) }
+#[tactic(auto, unfolding(crate::specs::NumberForm::has_this_layout))]
+fn has_this_layout<A: Tabled>(layout: &AttributeLayout, attribute: &A) -> bool
+    ensures { result ≡ has_this_layout (layout_view layout.now) (A.attribute attribute.now) }
 {
     match attribute.layout() {
         Some(own) => layout == own,
@@ -78,7 +78,7 @@ fn is_of<A: Tabled>(layout: &AttributeLayout, attribute: &A) -> bool
 fn layout_stands_twice<A: Tabled>(attributes: &[A], layout: &AttributeLayout) -> bool
     ensures { result ≡ layout_stands_twice (map A.attribute attributes.now) (layout_view layout.now) }
 {
-    layout.once && attributes.iter().filter(|a| is_of(layout, *a)).count() > 1
+    layout.once && attributes.iter().filter(|a| has_this_layout(layout, *a)).count() > 1
 }
 
 #[tactic(auto, unfolding(crate::specs::NumberForm::numbers_stand_twice))]
