@@ -16,7 +16,7 @@ use Rattle.pool.specs.declared.kind.ReferenceKind.{ReferenceKind}
 use Rattle.pool.specs.Entries.{Entry, one, two, utf8, text_or, kind_or, method_handle, wide as wide_entry, body, entry, indexed as indexed_entry, entries, is_wide as takes_two, pool as pool_entries}
 use Rattle.pool.specs.Entries.{Integer, Float, Long, Double, Class, String, Fieldref, Methodref, InterfaceMethodref, NameAndType, MethodType, Dynamic, InvokeDynamic}
 use Rattle.classfile.specs.declared.location.Location.{Location}
-use Rattle.classfile.specs.Values.{AttributeOf, of_parts, Class as Value}
+use Rattle.classfile.specs.Values.{of_parts, Class as Value}
 use Rattle.classfile.specs.ClassFile as layouts
 use Rattle.classfile.specs.Outline.{end, bytes, repeated, counted, text, both, wide, constant, is_wide, tagged, indexed, constants, pool, attribute, attributes, numbers, member, members, interfaces, behind_pool, head, outline}
 

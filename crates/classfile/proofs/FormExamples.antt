@@ -6,8 +6,7 @@ use Rattle.pool.specs.Entries as entries
 use Rattle.pool.specs.Lookups.{entry_at, text_at, class_name_at, named, name_and_type_at}
 use Rattle.classfile.specs.declared.indices.ConstantKind.TheVariants as kinds
 use Rattle.classfile.specs.declared.location.Location.TheVariants as locations
-use Rattle.classfile.specs.Layouts.{AttributeLayout, signature, permitted_subclasses}
-use Rattle.classfile.specs.Numbers.{Numbers}
+use Rattle.classfile.specs.Layouts.{signature, permitted_subclasses}
 use Rattle.classfile.specs.Values.{of_parts, of_numbers, raw, Handler, Nested, CodeBody, Attribute, Member, Component, ClassAttribute, Class}
 use Rattle.classfile.specs.Indices.{is_of, is_bad, is_bad_unless_zero, is_other}
 use Rattle.classfile.specs.Naming.{begins_with, is_array_name, is_class_name, is_unqualified_name, is_method_name, is_init, is_clinit, is_field_descriptor, is_method_descriptor, is_void_descriptor}

@@ -1,5 +1,5 @@
 -- The faults that the numbers of an attribute may have (JVMS 4.7): the indices among them, column by column.
-use Rattle.std.specs.Prelude.{ℕ, Bool, true, false, ◌||◌, ◌&&◌, List, [], ◌∷◌, nat_lt, count_by, Option, Some, None}
+use Rattle.std.specs.Prelude.{ℕ, Bool, false, ◌||◌, ◌&&◌, List, ◌∷◌, nat_lt, count_by}
 use Rattle.std.specs.List.{list_any}
 use Rattle.pool.specs.Entries.{Entry}
 use Rattle.classfile.specs.declared.indices.ConstantKind.TheVariants as kinds

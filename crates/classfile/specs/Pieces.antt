@@ -131,8 +131,9 @@ kept_numbers : (A : Type 0) (o : Option AttributeLayout) (name : ℕ) (n : Numbe
     → Spells (kept {A = A} o name (length n.body) n.body) [] (of_numbers name n)
 kept_numbers A o name n e =
     let so = laid_out_parts o n e in
-    subst (λ (o : Option AttributeLayout). Spells (kept {A = A} o name (length n.body) n.body) [] (of_numbers name n)) (sym so.0)
-    (subst (λ (b : Bool). Spells (cond b (done (of_numbers name n)) (refuse (λ at. AttributeLength (at - length n.body - 6)))) [] (of_numbers name n)) (sym so.1) (refl, refl))
+    let x : AttributeOf A = of_numbers name n in
+    subst (λ (o : Option AttributeLayout). Spells (kept {A = A} o name (length n.body) n.body) [] x) (sym so.0)
+    (subst (λ (b : Bool). Spells (cond b (done x) (refuse (λ at. AttributeLength (at - length n.body - 6)))) [] x) (sym so.1) (refl, refl))
 
 bodies_of : {A : Type 0} (test : ℕ → Bool) (layout_of : ℕ → Option AttributeLayout) {f : ℕ → ℕ → List ℕ → Format (AttributeOf A)} {p : A → List Piece} → OfParts f p
     → Bodies (body_of test layout_of f) name_of (λ x. x) (body_pieces test layout_of p)

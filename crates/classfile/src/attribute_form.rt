@@ -162,9 +162,7 @@ fn code_has_two_stack_maps(attribute: &Attribute<'_>) -> bool
 pub fn attributes_have_bad(pool: &Pool<'_>, attributes: &[Attribute<'_>]) -> bool
     ensures { result ≡ attributes_have_bad pool.now (map attribute_view attributes.now) }
 {
-    attributes
-        .iter()
-        .any(|a| attribute_has_bad(pool, a))
+    attributes.iter().any(|a| attribute_has_bad(pool, a))
 }
 
 /// Whether an index in the attributes may not be looked up, or leads to another kind.
@@ -172,9 +170,7 @@ pub fn attributes_have_bad(pool: &Pool<'_>, attributes: &[Attribute<'_>]) -> boo
 pub fn attributes_have_fault(pool: &Pool<'_>, attributes: &[Attribute<'_>]) -> bool
     ensures { result ≡ (attributes_have_bad pool.now (map attribute_view attributes.now) || attributes_have_other pool.now (map attribute_view attributes.now)) }
 {
-    attributes
-        .iter()
-        .any(|a| attribute_has_fault(pool, a))
+    attributes.iter().any(|a| attribute_has_fault(pool, a))
 }
 
 /// Whether a Code attribute is among them.

@@ -146,8 +146,8 @@ impl<'a> ClassAttribute<'a> {
         ensures { option_map numbers_view result ≡ permitted_in (class_attribute_view self.now) }
     {
         match self {
-            ClassAttribute::Numbers { numbers, .. } if numbers.layout.name == "PermittedSubclasses" =>
-                Some(*numbers),
+            ClassAttribute::Numbers { numbers, .. }
+                if numbers.layout.name == "PermittedSubclasses" => Some(*numbers),
             _ => None,
         }
     }

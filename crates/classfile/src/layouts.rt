@@ -133,11 +133,7 @@ fn major_at(location: Location) -> u16
 }
 
 /// The layout of an attribute by the index of its name.
-pub fn layout_at(
-    pool: &Pool<'_>,
-    location: Location,
-    name: u16,
-) -> Option<&'static AttributeLayout>
+pub fn layout_at(pool: &Pool<'_>, location: Location, name: u16) -> Option<&'static AttributeLayout>
     ensures { option_map (λ l. layout_view l.now) result ≡ layout_at pool.now location name }
 {
     match pool.text(name) {

@@ -87,11 +87,11 @@ pub use form_laws::{
     formed_has_names, formed_or_faulty, least_rule_is_told, method_is_told, no_fault_in_formed,
     one_first_fault, tests_are_forms,
 };
-pub use layouts::{AttributeLayout, Column};
 pub use laws::{
     class_is_outline, class_or_fault, no_fault_in_class, one_class, one_fault, one_outline,
     one_spelling, outline_or_fault,
 };
+pub use layouts::{AttributeLayout, Column};
 pub use member::Member;
 pub use nested::NestedAttribute;
 pub use numbers::Numbers;

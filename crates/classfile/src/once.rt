@@ -78,7 +78,12 @@ fn has_this_layout<A: Tabled>(layout: &AttributeLayout, attribute: &A) -> bool
 fn layout_stands_twice<A: Tabled>(attributes: &[A], layout: &AttributeLayout) -> bool
     ensures { result ≡ layout_stands_twice (map A.attribute attributes.now) (layout_view layout.now) }
 {
-    layout.once && attributes.iter().filter(|a| has_this_layout(layout, *a)).count() > 1
+    layout.once
+        && attributes
+            .iter()
+            .filter(|a| has_this_layout(layout, *a))
+            .count()
+            > 1
 }
 
 #[tactic(auto, unfolding(crate::specs::NumberForm::numbers_stand_twice))]

@@ -94,9 +94,7 @@ fn class_attribute_has_fault(pool: &Pool<'_>, attribute: &ClassAttribute<'_>) ->
 pub fn class_attributes_have_bad(pool: &Pool<'_>, attributes: &[ClassAttribute<'_>]) -> bool
     ensures { result ≡ class_attributes_have_bad pool.now (map class_attribute_view attributes.now) }
 {
-    attributes
-        .iter()
-        .any(|a| class_attribute_has_bad(pool, a))
+    attributes.iter().any(|a| class_attribute_has_bad(pool, a))
 }
 
 /// Whether an index in the attributes of a class may not be looked up, or leads to another kind.

@@ -1,4 +1,4 @@
-use Rattle.std.proofs.Common.{◌≡◌, ◌∙◌, ◌<◌, ◌≤◌, ◌*◌, ℕ, List, length, drop, sym, ap, arith}
+use Rattle.std.proofs.Common.{◌∙◌, ◌<◌, ◌*◌, ℕ, List, length, drop, sym, ap, arith}
 use Rattle.classfile.specs.LayoutViews.{numbers_view}
 use Rattle.classfile.specs.IndexColumns.{first_number, behind_count}
 use Rattle.classfile.specs.Numbers.{rows_of}
