@@ -2,7 +2,7 @@
 use Rattle.std.proofs.Common.{◌≡◌, ℕ, ◌+◌, Bool, true, false, eqb, not, ◌&&◌, Option, Some, None, List, [], ◌∷◌, ◌++◌, length, refl, ap, subst}
 use Rattle.std.specs.List.{list_all}
 use Rattle.layout.specs.Pieces.{Piece, plain, field, lengthened, marked}
-use Rattle.layout.specs.PieceLaws.{fields as by_field, raw, not as unlike}
+use Rattle.layout.specs.PieceLaws.{not as unlike}
 use Rattle.names.specs.Units.{bad_text}
 use Rattle.pool.specs.declared.kind.ReferenceKind.{ReferenceKind}
 use Rattle.pool.specs.declared.kind.ReferenceKind.TheVariants as kinds
@@ -11,10 +11,11 @@ use Rattle.pool.specs.Entries.{Entry, Utf8, Integer, Float, Long, Double, Class 
 use Rattle.classfile.specs.declared.location.Location.{Location}
 use Rattle.classfile.specs.declared.location.Location.TheVariants as location
 use Rattle.classfile.specs.Locations.{is_code, is_stack_map, is_record}
-use Rattle.classfile.specs.Layouts.{is_laid_out}
-use Rattle.classfile.specs.Values.{Handler, Nested, CodeBody, Attribute, Member, Component, ClassAttribute, Class}
+use Rattle.classfile.specs.Layouts.{layout_at}
+use Rattle.classfile.specs.Numbers.{is_laid_out}
+use Rattle.classfile.specs.Values.{of_parts, of_numbers, raw, Handler, Nested, CodeBody, Attribute, Member, Component, ClassAttribute, Class}
 use Rattle.classfile.specs.ClassFile.{is_version}
-use Rattle.classfile.specs.Pieces.{handler_pieces, nested_pieces, code_pieces, attribute_pieces, member_pieces, component_pieces, class_attribute_pieces, class_pieces}
+use Rattle.classfile.specs.Pieces.{has_none, handler_pieces, nested_pieces, code_pieces, attribute_pieces, member_pieces, component_pieces, class_attribute_pieces, class_pieces}
 use Rattle.classfile.specs.Sizes.{is_u2, total, entry_fits, entry_size, pool_fits, pool_size, handler_fits, nested_fits, nested_size, code_fits, code_size, attribute_fits, attribute_size, member_fits, member_size, component_fits, component_size, class_attribute_fits, class_attribute_size, class_fits, class_size}
 use Rattle.classfile.proofs.Measures.{Measured, measured_append, measured_none, measured_plain, measured_unspelled, measured_marked, measured_1, measured_2, measured_4, measured_lengthened, measured_table}
 
@@ -102,8 +103,9 @@ kept_measure : (name : ℕ) (b : Bool) (body : List ℕ) → Measured (field 2 n
 kept_measure name b body = fits_so (and_true _) (measured_append (measured_2 name) (measured_lengthened (measured_marked b (measured_plain body))))
 
 nested_measure : (pool : List Entry) (x : Nested) → Measured (nested_pieces pool x) (nested_fits x) (nested_size x)
-nested_measure pool (by_field name body) = kept_measure name (is_stack_map pool location.Code name) body
-nested_measure pool (raw name body) = kept_measure name (unlike (is_stack_map pool location.Code name) && is_laid_out pool location.Code name body) body
+nested_measure pool (of_parts name body) = kept_measure name (is_stack_map pool location.Code name) body
+nested_measure pool (of_numbers name n) = kept_measure name (unlike (is_stack_map pool location.Code name) && is_laid_out (layout_at pool location.Code name) n) n.body
+nested_measure pool (raw name body) = kept_measure name (unlike (is_stack_map pool location.Code name) && has_none (layout_at pool location.Code name)) body
 
 code_measure : (pool : List Entry) (c : CodeBody) → Measured (code_pieces pool c) (code_fits c) (code_size c)
 code_measure pool c =
@@ -111,8 +113,9 @@ code_measure pool c =
     (measured_append (measured_table handler_measure c.exception_table) (measured_table (nested_measure pool) c.attributes))
 
 attribute_measure : (pool : List Entry) (place : Location) (x : Attribute) → Measured (attribute_pieces pool place x) (attribute_fits x) (attribute_size x)
-attribute_measure pool place (by_field name code) = measured_append (measured_2 name) (measured_lengthened (measured_marked (is_code pool place name) (code_measure pool code)))
-attribute_measure pool place (raw name body) = kept_measure name (unlike (is_code pool place name) && is_laid_out pool place name body) body
+attribute_measure pool place (of_parts name code) = measured_append (measured_2 name) (measured_lengthened (measured_marked (is_code pool place name) (code_measure pool code)))
+attribute_measure pool place (of_numbers name n) = kept_measure name (unlike (is_code pool place name) && is_laid_out (layout_at pool place name) n) n.body
+attribute_measure pool place (raw name body) = kept_measure name (unlike (is_code pool place name) && has_none (layout_at pool place name)) body
 
 -- ---- members and the class
 
@@ -126,9 +129,10 @@ component_measure : (pool : List Entry) (c : Component) → Measured (component_
 component_measure pool c = measured_append (measured_append (measured_2 c.name) (measured_2 c.descriptor)) (measured_table (attribute_measure pool location.RecordComponent) c.attributes)
 
 class_attribute_measure : (pool : List Entry) (place : Location) (x : ClassAttribute) → Measured (class_attribute_pieces pool place x) (class_attribute_fits x) (class_attribute_size x)
-class_attribute_measure pool place (by_field name components) =
+class_attribute_measure pool place (of_parts name components) =
     measured_append (measured_2 name) (measured_lengthened (measured_marked (is_record pool place name) (measured_table (component_measure pool) components)))
-class_attribute_measure pool place (raw name body) = kept_measure name (unlike (is_record pool place name) && is_laid_out pool place name body) body
+class_attribute_measure pool place (of_numbers name n) = kept_measure name (unlike (is_record pool place name) && is_laid_out (layout_at pool place name) n) n.body
+class_attribute_measure pool place (raw name body) = kept_measure name (unlike (is_record pool place name) && has_none (layout_at pool place name)) body
 
 pub class_measure : (c : Class) → Measured (class_pieces c) (class_fits c) (class_size c)
 unfolding class_pieces

@@ -5,10 +5,10 @@ use Rattle.std.proofs.lemmas.List.{append-nil}
 use Rattle.std.specs.Prelude.{nat_eq, if◌then◌else◌}
 use Rattle.layout.specs.Format.{Format, done, part, refuse, Spells, andthen, number, times, inside}
 use Rattle.layout.specs.FormatLaws.{andthen_parts, andthen_spelled}
-use Rattle.layout.specs.PieceLaws.{inside_spells, fields as by_field, raw}
+use Rattle.layout.specs.PieceLaws.{inside_spells}
 use Rattle.layout.specs.declared.fault.ReadFault.TheVariants.{BadPoolCount}
 use Rattle.classfile.specs.Locations.{is_code, is_record}
-use Rattle.classfile.specs.Layouts.{is_laid_out}
+use Rattle.classfile.specs.Layouts.{AttributeLayout, layout_at}
 use Rattle.layout.specs.declared.fault.ReadFault.{ReadFault}
 use Rattle.classfile.specs.declared.location.Location.TheVariants as location
 use Rattle.names.specs.Units.{bad_text}
@@ -16,7 +16,7 @@ use Rattle.pool.specs.declared.kind.ReferenceKind.{ReferenceKind}
 use Rattle.pool.specs.Entries.{Entry, one, two, utf8, text_or, kind_or, method_handle, wide as wide_entry, body, entry, indexed as indexed_entry, entries, is_wide as takes_two, pool as pool_entries}
 use Rattle.pool.specs.Entries.{Integer, Float, Long, Double, Class, String, Fieldref, Methodref, InterfaceMethodref, NameAndType, MethodType, Dynamic, InvokeDynamic}
 use Rattle.classfile.specs.declared.location.Location.{Location}
-use Rattle.classfile.specs.Values.{Class as Value}
+use Rattle.classfile.specs.Values.{of_parts, Class as Value}
 use Rattle.classfile.specs.ClassFile as layouts
 use Rattle.classfile.specs.Outline.{end, bytes, repeated, counted, text, both, wide, constant, is_wide, tagged, indexed, constants, pool, attribute, attributes, numbers, member, members, interfaces, behind_pool, head, outline}
 
@@ -206,17 +206,21 @@ covers_body_of : {V : Type 0} (pick : ℕ → ℕ → List ℕ → Format V) →
 unfolding attribute
 covers_body_of pick h = covers_part Any 2 _ _ (λ first. covers_part Any 4 _ _ (λ second. covers_part Any _ _ _ (λ body. covers_end _ (h _ _ body))))
 
+ends_kept : {A : Type 0} (o : Option AttributeLayout) (name n : ℕ) (body : List ℕ) → Ends (layouts.kept {A = A} o name n body)
+ends_kept None name n body = ends_done _
+ends_kept (Some layout) name n body = ends_if _ _ _ (ends_done _) (ends_refuse _)
+
 covers_attribute : (entries_of : List Entry) (place : Location) → Covers (layouts.attribute entries_of place) attribute Any
 unfolding layouts.attribute
 covers_attribute entries_of place = covers_body_of
-    (λ name n body. if is_code entries_of place name then inside n body (layouts.code entries_of) (λ c. done (by_field name c)) else layouts.kept (is_laid_out entries_of place name body) n (raw name body))
-    (λ name n body. ends_if _ _ _ (ends_inside n body (layouts.code entries_of) _) (ends_if _ _ _ (ends_done _) (ends_refuse _)))
+    (λ name n body. if is_code entries_of place name then inside n body (layouts.code entries_of) (λ c. done (of_parts name c)) else layouts.kept (layout_at entries_of place name) name n body)
+    (λ name n body. ends_if _ _ _ (ends_inside n body (layouts.code entries_of) _) (ends_kept (layout_at entries_of place name) name n body))
 
 covers_class_attribute : (entries_of : List Entry) (place : Location) → Covers (layouts.class_attribute entries_of place) attribute Any
 unfolding layouts.class_attribute
 covers_class_attribute entries_of place = covers_body_of
-    (λ name n body. if is_record entries_of place name then inside n body (layouts.components entries_of) (λ c. done (by_field name c)) else layouts.kept (is_laid_out entries_of place name body) n (raw name body))
-    (λ name n body. ends_if _ _ _ (ends_inside n body (layouts.components entries_of) _) (ends_if _ _ _ (ends_done _) (ends_refuse _)))
+    (λ name n body. if is_record entries_of place name then inside n body (layouts.components entries_of) (λ c. done (of_parts name c)) else layouts.kept (layout_at entries_of place name) name n body)
+    (λ name n body. ends_if _ _ _ (ends_inside n body (layouts.components entries_of) _) (ends_kept (layout_at entries_of place name) name n body))
 
 covers_three : Covers layouts.three (numbers 3) Any
 unfolding layouts.three numbers repeated

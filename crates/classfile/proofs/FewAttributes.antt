@@ -4,12 +4,12 @@ use Rattle.std.specs.Prelude.{nat_lt, count_by}
 use Rattle.std.specs.List.{list_any}
 use Rattle.std.proofs.lemmas.Bool.Decides.{nat_tests}
 use Rattle.std.proofs.lemmas.List.Sums.{sum_by-cons}
-use Rattle.layout.specs.PieceLaws.{Either, fields as by_field, raw}
-use Rattle.pool.specs.Entries.{Entry}
 use Rattle.classfile.specs.declared.location.Location.{Location}
-use Rattle.classfile.specs.Layouts.{Row, rows}
-use Rattle.classfile.specs.IndexRows.{is_kept, two_are_kept}
-use Rattle.classfile.specs.NumberForm.{is_row_named, is_of_row, row_stands_twice, numbers_stand_twice}
+use Rattle.classfile.specs.Layouts.{AttributeLayout, layouts_in}
+use Rattle.classfile.specs.IndexColumns.{has_numbers, two_have_numbers}
+use Rattle.classfile.specs.Numbers.{is_same_layout}
+use Rattle.classfile.specs.NumberForm.{has_this_layout, layout_stands_twice, numbers_stand_twice}
+use Rattle.classfile.specs.Values.{AttributeOf, of_parts, of_numbers, raw}
 
 at_most_one : (n : ℕ) → n < 2 → nat_lt 1 n ≡ false
 at_most_one zero few = refl
@@ -24,40 +24,42 @@ at_most : (b : Bool) → cond b 1 0 ≤ 1
 at_most true = omega arith
 at_most false = omega arith
 
-no_more : {A : Type 0} (pool : List Entry) (place : Location) (row : Row) (attributes : List (Either A))
-    → count_by (is_of_row pool place row) attributes ≤ count_by is_kept attributes
-unfolding is_of_row
-no_more pool place row [] = omega arith
-no_more {A} pool place row (by_field name value ∷ others) =
-    let x : Either A = by_field name value in
-    let first = sum_by-cons (λ y. cond (is_of_row pool place row y) 1 0) x others in
-    let second = sum_by-cons (λ (y : Either A). cond (is_kept y) 1 0) x others in
-    omega (arith, first, second, no_more pool place row others)
-no_more {A} pool place row (raw name body ∷ others) =
-    let x : Either A = raw name body in
-    let first = sum_by-cons (λ y. cond (is_of_row pool place row y) 1 0) x others in
-    let second = sum_by-cons (λ (y : Either A). cond (is_kept y) 1 0) x others in
-    omega (arith, first, second, at_most (is_row_named pool place row name), no_more pool place row others)
+no_more : {A : Type 0} (layout : AttributeLayout) (attributes : List (AttributeOf A)) → count_by (has_this_layout layout) attributes ≤ count_by has_numbers attributes
+unfolding has_this_layout
+no_more layout [] = omega arith
+no_more {A} layout (of_parts name value ∷ others) =
+    let x : AttributeOf A = of_parts name value in
+    let first = sum_by-cons (λ y. cond (has_this_layout layout y) 1 0) x others in
+    let second = sum_by-cons (λ (y : AttributeOf A). cond (has_numbers y) 1 0) x others in
+    omega (arith, first, second, no_more layout others)
+no_more {A} layout (of_numbers name numbers ∷ others) =
+    let x : AttributeOf A = of_numbers name numbers in
+    let first = sum_by-cons (λ y. cond (has_this_layout layout y) 1 0) x others in
+    let second = sum_by-cons (λ (y : AttributeOf A). cond (has_numbers y) 1 0) x others in
+    omega (arith, first, second, at_most (is_same_layout layout numbers.layout), no_more layout others)
+no_more {A} layout (raw name body ∷ others) =
+    let x : AttributeOf A = raw name body in
+    let first = sum_by-cons (λ y. cond (has_this_layout layout y) 1 0) x others in
+    let second = sum_by-cons (λ (y : AttributeOf A). cond (has_numbers y) 1 0) x others in
+    omega (arith, first, second, no_more layout others)
 
 not_over : (m n : ℕ) → m ≤ n → nat_lt 1 n ≡ false → nat_lt 1 m ≡ false
 not_over m n less few =
     let under : n < 2 = grind (arith, nat_tests) in
     at_most_one m (omega (arith, less, under))
 
-kept_row : {A : Type 0} (pool : List Entry) (place : Location) (attributes : List (Either A)) (row : Row) → two_are_kept attributes ≡ false
-    → row_stands_twice pool place attributes row ≡ false
-unfolding row_stands_twice
-kept_row pool place attributes row few =
-    neither row.once (nat_lt 1 (count_by (is_of_row pool place row) attributes))
-    (not_over (count_by (is_of_row pool place row) attributes) (count_by is_kept attributes) (no_more pool place row attributes) few)
+no_layout : {A : Type 0} (attributes : List (AttributeOf A)) (layout : AttributeLayout) → two_have_numbers attributes ≡ false → layout_stands_twice attributes layout ≡ false
+unfolding layout_stands_twice
+no_layout attributes layout few =
+    neither layout.once (nat_lt 1 (count_by (has_this_layout layout) attributes))
+    (not_over (count_by (has_this_layout layout) attributes) (count_by has_numbers attributes) (no_more layout attributes) few)
 
-kept_rows : {A : Type 0} (pool : List Entry) (place : Location) (attributes : List (Either A)) (rows : List Row) → two_are_kept attributes ≡ false
-    → list_any (row_stands_twice pool place attributes) rows ≡ false
-kept_rows pool place attributes [] few = refl
-kept_rows pool place attributes (row ∷ others) few =
-    ap (λ (b : Bool). b || list_any (row_stands_twice pool place attributes) others) (kept_row pool place attributes row few) ∙ kept_rows pool place attributes others few
+no_layouts : {A : Type 0} (attributes : List (AttributeOf A)) (layouts : List AttributeLayout) → two_have_numbers attributes ≡ false
+    → list_any (layout_stands_twice attributes) layouts ≡ false
+no_layouts attributes [] few = refl
+no_layouts attributes (layout ∷ others) few =
+    ap (λ (b : Bool). b || list_any (layout_stands_twice attributes) others) (no_layout attributes layout few) ∙ no_layouts attributes others few
 
-pub kept_stand_once : {A : Type 0} (pool : List Entry) (place : Location) (attributes : List (Either A)) → two_are_kept attributes ≡ false
-    → numbers_stand_twice pool place attributes ≡ false
+pub stand_once : {A : Type 0} (place : Location) (attributes : List (AttributeOf A)) → two_have_numbers attributes ≡ false → numbers_stand_twice place attributes ≡ false
 unfolding numbers_stand_twice
-kept_stand_once pool place attributes few = kept_rows pool place attributes (rows place) few
+stand_once place attributes few = no_layouts attributes (layouts_in place) few

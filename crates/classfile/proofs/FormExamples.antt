@@ -1,19 +1,19 @@
 -- Worked examples of the tests of the form check, for the eye: of each a case that holds and one that does not. Each is checked,
 -- and nothing stands on them.
 use Rattle.std.proofs.Common.{◌≡◌, ℕ, Bool, true, false, List, [], ◌∷◌, replicate, codes, refl}
-use Rattle.layout.specs.PieceLaws.{fields as by_field, raw}
 use Rattle.names.specs.Reading.{read_class, read_base, read_field, read_params, read_result, read_method, ends_class_name, field_answer, method_answer}
 use Rattle.pool.specs.Entries as entries
 use Rattle.pool.specs.Lookups.{entry_at, text_at, class_name_at, named, name_and_type_at}
 use Rattle.classfile.specs.declared.indices.ConstantKind.TheVariants as kinds
 use Rattle.classfile.specs.declared.location.Location.TheVariants as locations
-use Rattle.classfile.specs.Values.{Handler, Nested, CodeBody, Attribute, Member, Component, ClassAttribute, Class}
+use Rattle.classfile.specs.Layouts.{signature, permitted_subclasses}
+use Rattle.classfile.specs.Values.{of_parts, of_numbers, raw, Handler, Nested, CodeBody, Attribute, Member, Component, ClassAttribute, Class}
 use Rattle.classfile.specs.Indices.{is_of, is_bad, is_bad_unless_zero, is_other}
 use Rattle.classfile.specs.Naming.{begins_with, is_array_name, is_class_name, is_unqualified_name, is_method_name, is_init, is_clinit, is_field_descriptor, is_method_descriptor, is_void_descriptor}
-use Rattle.classfile.specs.Locations.{is_named, is_code, is_stack_map, is_record, is_permitted_subclasses}
+use Rattle.classfile.specs.Locations.{is_named, is_code, is_stack_map, is_record}
 use Rattle.classfile.specs.Flags.{has, are_bad_class_flags, are_bad_field_flags, are_bad_method_flags}
 use Rattle.classfile.specs.ConstantForm.{names_class, is_no_class_name, is_array_class, is_no_unqualified_name, is_no_descriptor, is_no_field_descriptor, is_no_method_descriptor, is_no_field, is_no_method, is_no_method_of_class, is_special, is_no_method_name, has_bad, has_other, texts_have_bad, texts_have_other}
-use Rattle.classfile.specs.NumberForm.{numbers_break, is_of_row, row_stands_twice, numbers_stand_twice}
+use Rattle.classfile.specs.NumberForm.{numbers_break, has_this_layout, layout_stands_twice, numbers_stand_twice}
 use Rattle.classfile.specs.AttributeForm.{handlers_have_bad, handlers_have_other, nested_have_bad, nested_have_other, head_has_bad, head_has_other, code_has_bad, code_has_other, attribute_has_bad, attribute_has_other, attributes_have_bad, attributes_have_other, have_bad_length, has_two_stack_maps, code_stands_twice, stack_map_stands_twice, have_twice}
 use Rattle.classfile.specs.RecordForm.{component_has_bad, component_has_other, component_has_twice, components_have_bad, components_have_other, components_have_twice, class_attribute_has_bad, class_attribute_has_other, class_attributes_have_bad, class_attributes_have_other, record_stands_twice, records_have_twice, class_attributes_have_twice}
 use Rattle.classfile.specs.MemberForm.{member_has_bad, member_has_other, may_name_method, is_bad_method_name, is_badly_described, is_instance_initializer, is_class_initializer, is_badly_flagged, has_body, has_code}
@@ -131,10 +131,10 @@ abbrev body : List Handler → List Nested → CodeBody
 body = body_with (177 ∷ [])
 
 abbrev code : ℕ → List Handler → List Nested → Attribute
-code name handlers attributes = by_field name (body handlers attributes)
+code name handlers attributes = of_parts name (body handlers attributes)
 
 abbrev stack_map : ℕ → Nested
-stack_map name = by_field name []
+stack_map name = of_parts name []
 
 attributes :
     ((handlers_have_bad pool (catching 19), handlers_have_bad pool (catching 0))
@@ -143,17 +143,17 @@ attributes :
     ∷ (nested_have_other pool (stack_map 1 ∷ []), nested_have_other pool (stack_map 17 ∷ []))
     ∷ (code_has_bad pool (body (catching 19) []), code_has_bad pool (body (catching 1) []))
     ∷ (code_has_other pool (body (catching 2) []), code_has_other pool (body (catching 1) []))
-    ∷ (attribute_has_bad pool locations.Method (raw 0 []), attribute_has_bad pool locations.Method (raw 2 []))
-    ∷ (attribute_has_other pool locations.Method (raw 1 []), attribute_has_other pool locations.Method (raw 2 []))
-    ∷ (attributes_have_bad pool locations.Method (code 16 (catching 19) [] ∷ []), attributes_have_bad pool locations.Method (code 16 [] [] ∷ []))
-    ∷ (attributes_have_other pool locations.Method (code 16 (catching 2) [] ∷ []), attributes_have_other pool locations.Method (code 16 [] [] ∷ []))
+    ∷ (attribute_has_bad pool (raw 0 []), attribute_has_bad pool (raw 2 []))
+    ∷ (attribute_has_other pool (raw 1 []), attribute_has_other pool (raw 2 []))
+    ∷ (attributes_have_bad pool (code 16 (catching 19) [] ∷ []), attributes_have_bad pool (code 16 [] [] ∷ []))
+    ∷ (attributes_have_other pool (code 16 (catching 2) [] ∷ []), attributes_have_other pool (code 16 [] [] ∷ []))
     ∷ (has_code (raw 2 [] ∷ code 16 [] [] ∷ []), has_code (raw 16 [] ∷ []))
-    ∷ (have_bad_length (by_field 16 (body_with [] [] []) ∷ []), have_bad_length (code 16 [] [] ∷ []))
+    ∷ (have_bad_length (of_parts 16 (body_with [] [] []) ∷ []), have_bad_length (code 16 [] [] ∷ []))
     ∷ (has_two_stack_maps (body [] (stack_map 17 ∷ stack_map 17 ∷ [])), has_two_stack_maps (body [] (stack_map 17 ∷ raw 2 [] ∷ [])))
     ∷ (stack_map_stands_twice (code 16 [] (stack_map 17 ∷ stack_map 17 ∷ []) ∷ []), stack_map_stands_twice (code 16 [] (stack_map 17 ∷ []) ∷ []))
-    ∷ (have_twice pool (code 16 [] [] ∷ code 16 [] [] ∷ []), have_twice pool (code 16 [] [] ∷ raw 16 [] ∷ []))
+    ∷ (have_twice (code 16 [] [] ∷ code 16 [] [] ∷ []), have_twice (code 16 [] [] ∷ raw 16 [] ∷ []))
     ∷ []) ≡ told 15
-unfolding handlers_have_bad handlers_have_other nested_have_bad nested_have_other code_has_bad code_has_other attribute_has_bad attribute_has_other attributes_have_bad attributes_have_other has_code have_bad_length has_two_stack_maps stack_map_stands_twice code_stands_twice have_twice head_has_bad head_has_other numbers_break is_of_row row_stands_twice numbers_stand_twice is_bad is_other entry_at text_at
+unfolding handlers_have_bad handlers_have_other nested_have_bad nested_have_other code_has_bad code_has_other attribute_has_bad attribute_has_other attributes_have_bad attributes_have_other has_code have_bad_length has_two_stack_maps stack_map_stands_twice code_stands_twice have_twice head_has_bad head_has_other numbers_break has_this_layout layout_stands_twice numbers_stand_twice is_bad is_other entry_at text_at
 attributes = refl
 
 -- ---- members
@@ -162,8 +162,8 @@ abbrev member : (access_flags name descriptor : ℕ) → Member
 member access_flags name descriptor = record { access_flags = access_flags; name = name; descriptor = descriptor; attributes = [] }
 
 members :
-    ((member_has_bad pool locations.Field (member 0 0 8), member_has_bad pool locations.Field (member 0 2 8))
-    ∷ (member_has_other pool locations.Field (member 0 1 8), member_has_other pool locations.Field (member 0 2 8))
+    ((member_has_bad pool (member 0 0 8), member_has_bad pool (member 0 2 8))
+    ∷ (member_has_other pool (member 0 1 8), member_has_other pool (member 0 2 8))
     ∷ (may_name_method false (codes "<init>"), may_name_method true (codes "<init>"))
     ∷ (may_name_method true (codes "<clinit>"), may_name_method true (codes "<a>"))
     ∷ (is_bad_method_name pool true 10, is_bad_method_name pool false 10)
@@ -190,31 +190,30 @@ abbrev component : (name : ℕ) → List Attribute → Component
 component name attributes = record { name = name; descriptor = 3; attributes = attributes }
 
 abbrev recorded : List Component → ClassAttribute
-recorded components = by_field 1 components
+recorded components = of_parts 1 components
 
 abbrev signed : (text : ℕ) → Attribute
-signed text = raw 4 (0 ∷ text ∷ [])
+signed text = of_numbers 4 (record { layout = signature; body = 0 ∷ text ∷ [] })
 
 abbrev permitting : (class : ℕ) → ClassAttribute
-permitting class = raw 6 (0 ∷ 1 ∷ 0 ∷ class ∷ [])
+permitting class = of_numbers 6 (record { layout = permitted_subclasses; body = 0 ∷ 1 ∷ 0 ∷ class ∷ [] })
 
 records :
     ((is_record names_of_attributes (locations.Class 60) 1, is_record names_of_attributes (locations.Class 59) 1)
     ∷ (is_record names_of_attributes (locations.Class 61) 1, is_record names_of_attributes locations.Method 1)
-    ∷ (is_permitted_subclasses names_of_attributes (locations.Class 61) 6, is_permitted_subclasses names_of_attributes (locations.Class 60) 6)
     ∷ (component_has_bad names_of_attributes (component 0 []), component_has_bad names_of_attributes (component 2 []))
     ∷ (component_has_bad names_of_attributes (component 2 (signed 9 ∷ [])), component_has_bad names_of_attributes (component 2 (signed 3 ∷ [])))
     ∷ (component_has_other names_of_attributes (component 5 []), component_has_other names_of_attributes (component 2 []))
-    ∷ (component_has_twice names_of_attributes (component 2 (signed 3 ∷ signed 3 ∷ [])), component_has_twice names_of_attributes (component 2 (signed 3 ∷ [])))
-    ∷ (class_attributes_have_bad names_of_attributes (locations.Class 60) (recorded (component 0 [] ∷ []) ∷ []), class_attributes_have_bad names_of_attributes (locations.Class 60) (recorded [] ∷ []))
-    ∷ (class_attributes_have_bad names_of_attributes (locations.Class 61) (permitting 0 ∷ []), class_attributes_have_bad names_of_attributes (locations.Class 60) (permitting 0 ∷ []))
-    ∷ (class_attributes_have_other names_of_attributes (locations.Class 60) (recorded (component 5 [] ∷ []) ∷ []), class_attributes_have_other names_of_attributes (locations.Class 60) (recorded [] ∷ []))
-    ∷ (class_attributes_have_other names_of_attributes (locations.Class 61) (permitting 2 ∷ []), class_attributes_have_other names_of_attributes (locations.Class 61) (permitting 5 ∷ []))
-    ∷ (class_attributes_have_twice names_of_attributes (locations.Class 60) (recorded [] ∷ recorded [] ∷ []), class_attributes_have_twice names_of_attributes (locations.Class 60) (recorded (component 2 (signed 3 ∷ []) ∷ component 2 (signed 3 ∷ []) ∷ []) ∷ []))
-    ∷ (class_attributes_have_twice names_of_attributes (locations.Class 60) (recorded (component 2 (signed 3 ∷ signed 3 ∷ []) ∷ []) ∷ []), class_attributes_have_twice names_of_attributes (locations.Class 60) (recorded [] ∷ permitting 5 ∷ []))
-    ∷ (class_attributes_have_twice names_of_attributes (locations.Class 61) (permitting 5 ∷ permitting 5 ∷ []), class_attributes_have_twice names_of_attributes (locations.Class 60) (permitting 5 ∷ permitting 5 ∷ []))
-    ∷ []) ≡ told 14
-unfolding component_has_bad component_has_other component_has_twice components_have_bad components_have_other components_have_twice class_attribute_has_bad class_attribute_has_other class_attributes_have_bad class_attributes_have_other record_stands_twice records_have_twice class_attributes_have_twice texts_have_bad texts_have_other attribute_has_bad attribute_has_other attributes_have_bad attributes_have_other head_has_bad head_has_other numbers_break is_of_row row_stands_twice numbers_stand_twice is_bad is_other entry_at text_at
+    ∷ (component_has_twice (component 2 (signed 3 ∷ signed 3 ∷ [])), component_has_twice (component 2 (signed 3 ∷ [])))
+    ∷ (class_attributes_have_bad names_of_attributes (recorded (component 0 [] ∷ []) ∷ []), class_attributes_have_bad names_of_attributes (recorded [] ∷ []))
+    ∷ (class_attributes_have_bad names_of_attributes (permitting 0 ∷ []), class_attributes_have_bad names_of_attributes (raw 6 (0 ∷ 1 ∷ 0 ∷ 0 ∷ []) ∷ []))
+    ∷ (class_attributes_have_other names_of_attributes (recorded (component 5 [] ∷ []) ∷ []), class_attributes_have_other names_of_attributes (recorded [] ∷ []))
+    ∷ (class_attributes_have_other names_of_attributes (permitting 2 ∷ []), class_attributes_have_other names_of_attributes (permitting 5 ∷ []))
+    ∷ (class_attributes_have_twice (locations.Class 60) (recorded [] ∷ recorded [] ∷ []), class_attributes_have_twice (locations.Class 60) (recorded (component 2 (signed 3 ∷ []) ∷ component 2 (signed 3 ∷ []) ∷ []) ∷ []))
+    ∷ (class_attributes_have_twice (locations.Class 60) (recorded (component 2 (signed 3 ∷ signed 3 ∷ []) ∷ []) ∷ []), class_attributes_have_twice (locations.Class 60) (recorded [] ∷ permitting 5 ∷ []))
+    ∷ (class_attributes_have_twice (locations.Class 61) (permitting 5 ∷ permitting 5 ∷ []), class_attributes_have_twice (locations.Class 60) (raw 6 [] ∷ raw 6 [] ∷ []))
+    ∷ []) ≡ told 13
+unfolding component_has_bad component_has_other component_has_twice components_have_bad components_have_other components_have_twice class_attribute_has_bad class_attribute_has_other class_attributes_have_bad class_attributes_have_other record_stands_twice records_have_twice class_attributes_have_twice texts_have_bad texts_have_other attribute_has_bad attribute_has_other attributes_have_bad attributes_have_other head_has_bad head_has_other numbers_break has_this_layout layout_stands_twice numbers_stand_twice is_bad is_other entry_at text_at
 records = refl
 
 -- ---- the class itself

@@ -18,18 +18,15 @@ use Rattle.pool.specs.Entries.{Entry}
 use Rattle.pool.specs.Lookups as lookups
 use Rattle.pool.specs.Lookups.{named, text_at}
 use Rattle.pool.specs.Members.{found, class_at}
-use Rattle.layout.specs.PieceLaws.{fields as by_field, raw}
 use Rattle.classfile.specs.declared.form_fault.Place.TheVariants as places
 use Rattle.classfile.specs.declared.indices.ConstantKind.TheVariants as kinds
-use Rattle.classfile.specs.Values.{Handler, CodeBody, Attribute, Member, Class}
+use Rattle.classfile.specs.Values.{of_parts, of_numbers, raw, Handler, CodeBody, Attribute, Member, Class}
 use Rattle.classfile.specs.Indices.{on_found, is_bad, is_bad_unless_zero, is_other}
 use Rattle.classfile.specs.Naming.{is_array_name, is_class_name, is_clinit, is_init, is_field_descriptor, is_method_descriptor, is_void_descriptor, fits_method}
 use Rattle.classfile.specs.ConstantForm.{names_class, is_array_class}
 use Rattle.classfile.specs.ClassForm.{class_conditions, class_has_array}
 use Rattle.classfile.specs.Flags.{has, STATIC}
 use Rattle.classfile.specs.AttributeForm.{on_body, head_has_bad, head_has_other, attribute_has_bad, attribute_has_other, attributes_have_bad, attributes_have_other, code_has_bad, code_has_other, handlers_have_bad, handlers_have_other}
-use Rattle.classfile.specs.declared.location.Location.{Location}
-use Rattle.classfile.specs.declared.location.Location.TheVariants as location
 use Rattle.classfile.specs.MemberForm.{member_has_bad, member_has_other, may_describe_method, is_badly_described}
 use Rattle.classfile.specs.WellFormed.{WellFormed, conditions_of_method}
 use Rattle.classfile.specs.Methods.{ExceptionEntry, code_of, class_named, caught_type, entry_with, exception_entries}
@@ -150,18 +147,19 @@ code_passes : (first : Attribute → Bool) (test : CodeBody → Bool) (attribute
     → code_of attributes ≡ Some body
     → list_any (λ a. first a || on_body test a) attributes ≡ false → test body ≡ false
 code_passes first test [] body is h = absurd cc
-code_passes first test (by_field name code ∷ attributes) body is h =
+code_passes first test (of_parts name code ∷ attributes) body is h =
     let same : code ≡ body = cc in
-    sym (ap test same) ∙ right_not (first (by_field name code)) (test code) (left_not _ _ h)
+    sym (ap test same) ∙ right_not (first (of_parts name code)) (test code) (left_not _ _ h)
+code_passes first test (of_numbers name numbers ∷ attributes) body is h = code_passes first test attributes body is (right_not _ _ h)
 code_passes first test (raw name bytes ∷ attributes) body is h = code_passes first test attributes body is (right_not _ _ h)
 
-handlers_fit : (pool : List Entry) (place : Location) (attributes : List Attribute) (body : CodeBody) → code_of attributes ≡ Some body
-    → attributes_have_bad pool place attributes ≡ false → attributes_have_other pool place attributes ≡ false
+handlers_fit : (pool : List Entry) (attributes : List Attribute) (body : CodeBody) → code_of attributes ≡ Some body
+    → attributes_have_bad pool attributes ≡ false → attributes_have_other pool attributes ≡ false
     → (handlers_have_bad pool body.exception_table ≡ false) × (handlers_have_other pool body.exception_table ≡ false)
 unfolding attributes_have_bad attribute_has_bad code_has_bad attributes_have_other attribute_has_other code_has_other
-handlers_fit pool place attributes body is bad other = (
-  left_not _ _ (code_passes (head_has_bad pool place) (code_has_bad pool) attributes body is bad),
-  left_not _ _ (code_passes (head_has_other pool place) (code_has_other pool) attributes body is other),
+handlers_fit pool attributes body is bad other = (
+  left_not _ _ (code_passes (head_has_bad pool) (code_has_bad pool) attributes body is bad),
+  left_not _ _ (code_passes (head_has_other pool) (code_has_other pool) attributes body is other),
 )
 
 -- ---- descriptors
@@ -208,8 +206,8 @@ formed_method c formed n m body here coded =
     let pool = c.constant_pool in
     let none = none_holds (conditions_of_method c n m) (sym (method_is c n m here) ∙ formed.everywhere (places.Method n)) in
     let class = this_named c formed in
-    let texts = texts_there pool location.Method m none.0 none.1.0 in
-    let fit = handlers_fit pool location.Method m.attributes body coded (right_not _ _ none.0) (right_not _ _ none.1.0) in
+    let texts = texts_there pool m none.0 none.1.0 in
+    let fit = handlers_fit pool m.attributes body coded (right_not _ _ none.0) (right_not _ _ none.1.0) in
     let entries = entries_there c formed body.exception_table fit.0 fit.1 in
     let x : lookups.Named = record { name = texts.name; descriptor = texts.descriptor } in
     let receiver = not (has m.access_flags STATIC) in

@@ -17,8 +17,6 @@ use Rattle.classfile.specs.Indices.{on_found, is_of, is_bad, is_bad_unless_zero,
 use Rattle.classfile.specs.ConstantForm.{names_class, is_no_class_name, constant_conditions, class_conditions, texts_have_bad, texts_have_other}
 use Rattle.classfile.specs.ClassForm as forms
 use Rattle.classfile.specs.ClassForm.{class_has_bad, class_has_other}
-use Rattle.classfile.specs.declared.location.Location.{Location}
-use Rattle.classfile.specs.declared.location.Location.TheVariants as location
 use Rattle.classfile.specs.MemberForm.{member_has_bad, member_has_other}
 use Rattle.classfile.specs.WellFormed.{WellFormed, conditions_of_field, conditions_of_method}
 use Rattle.classfile.specs.FormLaws.{FormedHasNames}
@@ -138,19 +136,19 @@ pub record Texts (pool : List Entry) (m : values.Member) : Type 0 where
   pub descriptor : List ℕ
   pub descriptor_is : text_at pool m.descriptor ≡ Ok descriptor
 
-pub texts_there : (pool : List Entry) (place : Location) (m : values.Member) → member_has_bad pool place m ≡ false → member_has_other pool place m ≡ false → Texts pool m
+pub texts_there : (pool : List Entry) (m : values.Member) → member_has_bad pool m ≡ false → member_has_other pool m ≡ false → Texts pool m
 unfolding member_has_bad member_has_other texts_have_bad texts_have_other
-texts_there pool place m bad other =
+texts_there pool m bad other =
     let texts_bad = left_not _ _ bad in
     let texts_other = left_not _ _ other in
     let name = text_found pool m.name (left_not _ _ texts_bad) (left_not _ _ texts_other) in
     let descriptor = text_found pool m.descriptor (right_not _ _ texts_bad) (right_not _ _ texts_other) in
     record { name = name.0; name_is = name.1; descriptor = descriptor.0; descriptor_is = descriptor.1 }
 
-named_found : (pool : List Entry) (place : Location) (m : values.Member) → member_has_bad pool place m ≡ false → member_has_other pool place m ≡ false
+named_found : (pool : List Entry) (m : values.Member) → member_has_bad pool m ≡ false → member_has_other pool m ≡ false
     → (x : lookups.Named) × (named pool m.name m.descriptor ≡ Ok x)
-named_found pool place m bad other =
-    let t = texts_there pool place m bad other in
+named_found pool m bad other =
+    let t = texts_there pool m bad other in
     (record { name = t.name; descriptor = t.descriptor }, both_named pool m.name m.descriptor t.name t.descriptor t.name_is t.descriptor_is)
 
 -- an index that may be 0, and is not
@@ -167,16 +165,16 @@ unfolding behind_two
 class_fits c none = indices_fit (BadIndex, class_has_bad c) (WrongKind, class_has_other c) (behind_two (forms.class_conditions c)) none
 
 field_fits : (c : values.Class) (n : ℕ) (m : values.Member) → broken_rule (conditions_of_field c n m) ≡ None
-    → (member_has_bad c.constant_pool location.Field m ≡ false) × (member_has_other c.constant_pool location.Field m ≡ false)
+    → (member_has_bad c.constant_pool m ≡ false) × (member_has_other c.constant_pool m ≡ false)
 unfolding behind_two
 field_fits c n m none =
-    indices_fit (BadIndex, member_has_bad c.constant_pool location.Field m) (WrongKind, member_has_other c.constant_pool location.Field m) (behind_two (conditions_of_field c n m)) none
+    indices_fit (BadIndex, member_has_bad c.constant_pool m) (WrongKind, member_has_other c.constant_pool m) (behind_two (conditions_of_field c n m)) none
 
 method_fits : (c : values.Class) (n : ℕ) (m : values.Member) → broken_rule (conditions_of_method c n m) ≡ None
-    → (member_has_bad c.constant_pool location.Method m ≡ false) × (member_has_other c.constant_pool location.Method m ≡ false)
+    → (member_has_bad c.constant_pool m ≡ false) × (member_has_other c.constant_pool m ≡ false)
 unfolding behind_two
 method_fits c n m none =
-    indices_fit (BadIndex, member_has_bad c.constant_pool location.Method m) (WrongKind, member_has_other c.constant_pool location.Method m) (behind_two (conditions_of_method c n m)) none
+    indices_fit (BadIndex, member_has_bad c.constant_pool m) (WrongKind, member_has_other c.constant_pool m) (behind_two (conditions_of_method c n m)) none
 
 pub this_fits : (c : values.Class) → class_has_bad c ≡ false → class_has_other c ≡ false
     → (is_bad c.constant_pool c.this_class ≡ false) × (is_other c.constant_pool kinds.Class c.this_class ≡ false)
@@ -198,8 +196,8 @@ formed_has_names c formed =
       above = λ some. class_found c formed c.super_class (not_zero c.constant_pool c.super_class some above.0) above.1;
       field = λ n m here.
           let fit = field_fits c n m (sym (field_is c n m here) ∙ formed.everywhere (places.Field n)) in
-          named_found c.constant_pool location.Field m fit.0 fit.1;
+          named_found c.constant_pool m fit.0 fit.1;
       method = λ n m here.
           let fit = method_fits c n m (sym (method_is c n m here) ∙ formed.everywhere (places.Method n)) in
-          named_found c.constant_pool location.Method m fit.0 fit.1;
+          named_found c.constant_pool m fit.0 fit.1;
     }

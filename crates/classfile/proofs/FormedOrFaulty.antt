@@ -41,14 +41,14 @@ by_methods c pool class fields (inl none) = inl (all_told c pool (λ k. class) f
 by_methods c pool class fields (inr (rule, n, here, below)) =
     inr (rule, places.Method n, all_told c pool (λ k. class) fields (Err (Broken rule (places.Method n))) (n, refl, here, below))
 
-by_fields : (c : Class) → HasNone c (λ n. places.Pool n) → fault_at c places.Class ≡ None
+of_partss : (c : Class) → HasNone c (λ n. places.Pool n) → fault_at c places.Class ≡ None
     → HasNone c (λ n. places.Field n) ⊎ Found c (λ n. places.Field n) → Answer c
-by_fields c pool class (inl fields) = by_methods c pool class fields (in_table c (λ n. places.Method n) c.methods (method_past c))
-by_fields c pool class (inr (rule, n, here, below)) =
+of_partss c pool class (inl fields) = by_methods c pool class fields (in_table c (λ n. places.Method n) c.methods (method_past c))
+of_partss c pool class (inr (rule, n, here, below)) =
     inr (rule, places.Field n, fields_told c pool (λ k. class) (Broken rule (places.Field n)) (n, refl, here, below))
 
 by_class : (c : Class) → HasNone c (λ n. places.Pool n) → (o : Option FormRule) → fault_at c places.Class ≡ o → Answer c
-by_class c pool None class = by_fields c pool class (in_table c (λ n. places.Field n) c.fields (field_past c))
+by_class c pool None class = of_partss c pool class (in_table c (λ n. places.Field n) c.fields (field_past c))
 by_class c pool (Some rule) here =
     inr (rule, places.Class, class_told c pool (Broken rule places.Class) (0, refl, here, λ k lt. absurd (omega (arith, lt))))
 

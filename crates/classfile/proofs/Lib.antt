@@ -2,6 +2,7 @@ pub mod Bodies
 pub mod ClassMeasure
 pub mod ClassOutlines
 pub mod Classes
+pub mod Columns
 pub mod DeclaredFieldLaws
 pub mod Encodings
 pub mod FewAttributes
@@ -12,7 +13,6 @@ pub mod FormKinds
 pub mod FormedMethods
 pub mod FormedNames
 pub mod FormedOrFaulty
-pub mod IndexRows
 pub mod Judged
 pub mod LeastRules
 pub mod Marks
@@ -20,6 +20,7 @@ pub mod Measures
 pub mod MethodLaws
 pub mod NamingLaws
 pub mod OutlineFaults
+pub mod NumberRows
 pub mod Outlines
 pub mod Places
 pub mod Receivers

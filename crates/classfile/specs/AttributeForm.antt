@@ -1,38 +1,38 @@
 -- The faults that attributes may have (JVMS 4.7, 4.7.3, 4.7.4): their names, and what Code attributes hold.
 use Rattle.std.specs.Prelude.{Bool, true, false, ◌||◌, List, length, nat_eq, nat_lt, count_by}
 use Rattle.std.specs.List.{list_any}
-use Rattle.layout.specs.PieceLaws.{Either, fields as by_field, raw, name_of}
 use Rattle.pool.specs.Entries.{Entry}
 use Rattle.classfile.specs.declared.indices.ConstantKind.TheVariants as kinds
-use Rattle.classfile.specs.Values.{Handler, Nested, CodeBody, Attribute}
+use Rattle.classfile.specs.Values.{AttributeOf, of_parts, of_numbers, raw, name_of, Handler, Nested, CodeBody, Attribute}
 use Rattle.classfile.specs.Indices.{is_bad, is_bad_unless_zero, is_other}
-use Rattle.classfile.specs.declared.location.Location.{Location}
 use Rattle.classfile.specs.declared.location.Location.TheVariants as location
 use Rattle.classfile.specs.declared.number_form.IndexRule.TheVariants as rules
-use Rattle.classfile.specs.NumberForm.{on_kept, numbers_break, numbers_stand_twice}
+use Rattle.classfile.specs.NumberForm.{on_numbers, numbers_break, numbers_stand_twice}
 
--- the body is read by field
-abbrev pub is_by_field : {A : Type 0} → Either A → Bool
-is_by_field (by_field name body) = true
-is_by_field (raw name body) = false
+-- the body is read by its parts
+abbrev pub is_of_parts : {A : Type 0} → AttributeOf A → Bool
+is_of_parts (of_parts name body) = true
+is_of_parts (of_numbers name numbers) = false
+is_of_parts (raw name body) = false
 
--- the body is read by field, and passes the test
-abbrev pub on_body : {A : Type 0} → (A → Bool) → Either A → Bool
-on_body test (by_field name body) = test body
+-- the body is read by its parts, and these pass the test
+abbrev pub on_body : {A : Type 0} → (A → Bool) → AttributeOf A → Bool
+on_body test (of_parts name body) = test body
+on_body test (of_numbers name numbers) = false
 on_body test (raw name body) = false
 
--- more than one attribute is read by field: of the only kind that is, in this table
-abbrev pub has_two : {A : Type 0} → List (Either A) → Bool
-has_two attributes = nat_lt 1 (count_by is_by_field attributes)
+-- more than one attribute is read by its parts: of the only kind that is, in this table
+abbrev pub has_two : {A : Type 0} → List (AttributeOf A) → Bool
+has_two attributes = nat_lt 1 (count_by is_of_parts attributes)
 
 -- ---- any attribute
 
--- the index of its name breaks the rule, or one among the numbers of its body does
-unfoldable pub head_has_bad : {A : Type 0} → List Entry → Location → Either A → Bool
-head_has_bad pool place attribute = is_bad pool (name_of attribute) || on_kept (numbers_break pool place rules.BadIndex) attribute
+-- the index of its name breaks the rule, or one among its numbers does
+unfoldable pub head_has_bad : {A : Type 0} → List Entry → AttributeOf A → Bool
+head_has_bad pool attribute = is_bad pool (name_of attribute) || on_numbers (numbers_break pool rules.BadIndex) attribute
 
-unfoldable pub head_has_other : {A : Type 0} → List Entry → Location → Either A → Bool
-head_has_other pool place attribute = is_other pool kinds.Utf8 (name_of attribute) || on_kept (numbers_break pool place rules.WrongKind) attribute
+unfoldable pub head_has_other : {A : Type 0} → List Entry → AttributeOf A → Bool
+head_has_other pool attribute = is_other pool kinds.Utf8 (name_of attribute) || on_numbers (numbers_break pool rules.WrongKind) attribute
 
 -- ---- a Code attribute
 
@@ -44,10 +44,10 @@ unfoldable pub handlers_have_other : List Entry → List Handler → Bool
 handlers_have_other pool handlers = list_any (λ h. is_other pool kinds.Class h.catch_type) handlers
 
 unfoldable pub nested_have_bad : List Entry → List Nested → Bool
-nested_have_bad pool attributes = list_any (head_has_bad pool location.Code) attributes
+nested_have_bad pool attributes = list_any (head_has_bad pool) attributes
 
 unfoldable pub nested_have_other : List Entry → List Nested → Bool
-nested_have_other pool attributes = list_any (head_has_other pool location.Code) attributes
+nested_have_other pool attributes = list_any (head_has_other pool) attributes
 
 unfoldable pub code_has_bad : List Entry → CodeBody → Bool
 code_has_bad pool code = handlers_have_bad pool code.exception_table || nested_have_bad pool code.attributes
@@ -65,17 +65,17 @@ has_two_stack_maps code = has_two code.attributes
 
 -- ---- the attributes of a class, field or method, and which rules they break there
 
-unfoldable pub attribute_has_bad : List Entry → Location → Attribute → Bool
-attribute_has_bad pool place attribute = head_has_bad pool place attribute || on_body (code_has_bad pool) attribute
+unfoldable pub attribute_has_bad : List Entry → Attribute → Bool
+attribute_has_bad pool attribute = head_has_bad pool attribute || on_body (code_has_bad pool) attribute
 
-unfoldable pub attribute_has_other : List Entry → Location → Attribute → Bool
-attribute_has_other pool place attribute = head_has_other pool place attribute || on_body (code_has_other pool) attribute
+unfoldable pub attribute_has_other : List Entry → Attribute → Bool
+attribute_has_other pool attribute = head_has_other pool attribute || on_body (code_has_other pool) attribute
 
-unfoldable pub attributes_have_bad : List Entry → Location → List Attribute → Bool
-attributes_have_bad pool place attributes = list_any (attribute_has_bad pool place) attributes
+unfoldable pub attributes_have_bad : List Entry → List Attribute → Bool
+attributes_have_bad pool attributes = list_any (attribute_has_bad pool) attributes
 
-unfoldable pub attributes_have_other : List Entry → Location → List Attribute → Bool
-attributes_have_other pool place attributes = list_any (attribute_has_other pool place) attributes
+unfoldable pub attributes_have_other : List Entry → List Attribute → Bool
+attributes_have_other pool attributes = list_any (attribute_has_other pool) attributes
 
 unfoldable pub have_bad_length : List Attribute → Bool
 have_bad_length attributes = list_any (on_body has_bad_length) attributes
@@ -88,6 +88,5 @@ unfoldable pub stack_map_stands_twice : List Attribute → Bool
 stack_map_stands_twice attributes = list_any (on_body has_two_stack_maps) attributes
 
 -- and at most one of each other kind of which there may be one
-unfoldable pub have_twice : List Entry → List Attribute → Bool
-have_twice pool attributes =
-    code_stands_twice attributes || stack_map_stands_twice attributes || numbers_stand_twice pool location.Method attributes
+unfoldable pub have_twice : List Attribute → Bool
+have_twice attributes = code_stands_twice attributes || stack_map_stands_twice attributes || numbers_stand_twice location.Method attributes

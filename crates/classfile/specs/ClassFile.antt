@@ -1,9 +1,8 @@
 -- The layout of class files (JVMS 4.1, 4.5 to 4.7): which bytes spell which class, and which fault comes first.
 -- Each layout is the parts that stand one behind the other, in the order of the file.
-use Rattle.std.specs.Prelude.{◌≡◌, ℕ, ◌-◌, ◌≤◌, ◌<◌, Bool, List, length, nat_le, nat_eq, ◌&&◌, ◌||◌, if◌then◌else◌, ◌⊎◌}
+use Rattle.std.specs.Prelude.{◌≡◌, ℕ, ◌-◌, ◌≤◌, ◌<◌, Bool, List, Option, Some, None, length, nat_le, nat_eq, ◌&&◌, ◌||◌, if◌then◌else◌, ◌⊎◌}
 use Rattle.layout.specs.Format.{Format, Spells, done, part, refuse, andthen, number, times, inside}
 use Rattle.layout.specs.Whole.{WholeFault}
-use Rattle.layout.specs.PieceLaws.{fields as by_field, raw}
 use Rattle.layout.specs.declared.limits.TheConstants.{MAX_CLASS_BYTES}
 use Rattle.layout.specs.declared.fault.ReadFault.{ReadFault}
 use Rattle.layout.specs.declared.fault.ReadFault.TheVariants.{AttributeLength, BadMagic, BadVersion, BytesAfter, TooLong}
@@ -11,8 +10,8 @@ use Rattle.pool.specs.Entries.{Entry, pool}
 use Rattle.classfile.specs.declared.location.Location.{Location}
 use Rattle.classfile.specs.declared.location.Location.TheVariants as location
 use Rattle.classfile.specs.Locations.{is_code, is_stack_map, is_record}
-use Rattle.classfile.specs.Layouts.{is_laid_out}
-use Rattle.classfile.specs.Values.{Handler, Nested, CodeBody, Attribute, Member, Component, ClassAttribute, Class}
+use Rattle.classfile.specs.Layouts.{AttributeLayout, has_layout, layout_at}
+use Rattle.classfile.specs.Values.{AttributeOf, of_parts, of_numbers, raw, Handler, Nested, CodeBody, Attribute, Member, Component, ClassAttribute, Class}
 
 -- a table: a count of two bytes, and so many items
 abbrev pub table : {V : Type 0} → Format V → Format (List V)
@@ -23,15 +22,18 @@ unfoldable pub handler : Format Handler
 handler = andthen (number 2) (λ start. andthen (number 2) (λ end. andthen (number 2) (λ handler. andthen (number 2) (λ catch.
     done (record { start_pc = start; end_pc = end; handler_pc = handler; catch_type = catch })))))
 
--- a body of n bytes was taken, and is kept where it is laid out as its attribute asks; otherwise it does not use exactly its length
-abbrev pub kept : {V : Type 0} → Bool → ℕ → V → Format V
-kept laid_out n value = if laid_out then done value else refuse (λ at. AttributeLength (at - n - 6))
+-- A body of n bytes was taken. Where attributes of its name have a layout here, it is numbers, if it is laid out so, and otherwise does not
+-- use exactly its length. Where they have none, it is kept as it is.
+abbrev pub kept : {A : Type 0} → Option AttributeLayout → (name n : ℕ) → List ℕ → Format (AttributeOf A)
+kept None name n body = done (raw name body)
+kept (Some layout) name n body =
+    if has_layout layout body then done (of_numbers name (record { layout = layout; body = body })) else refuse (λ at. AttributeLength (at - n - 6))
 
--- an attribute of a Code attribute: its name's index, the length of its body, and the body as it is
+-- an attribute of a Code attribute: its name's index, the length of its body, and the body, as it is or as numbers
 unfoldable pub nested : List Entry → Format Nested
 nested pool = andthen (number 2) (λ name. andthen (number 4) (λ n. part n (λ body.
-    if is_stack_map pool location.Code name then done (by_field name body)
-    else kept (is_laid_out pool location.Code name body) n (raw name body))))
+    if is_stack_map pool location.Code name then done (of_parts name body)
+    else kept (layout_at pool location.Code name) name n body)))
 
 -- what stands before the exception table of a Code attribute
 pub record Sizes : Type 0 where
@@ -57,8 +59,8 @@ code pool = andthen sizes (λ s. andthen handlers (λ handlers. andthen (nested_
 -- an attribute: its name's index, the length of its body, and the body, whose parts are read where it is a Code attribute
 unfoldable pub attribute : List Entry → Location → Format Attribute
 attribute pool place = andthen (number 2) (λ name. andthen (number 4) (λ n. part n (λ body.
-    if is_code pool place name then inside n body (code pool) (λ c. done (by_field name c))
-    else kept (is_laid_out pool place name body) n (raw name body))))
+    if is_code pool place name then inside n body (code pool) (λ c. done (of_parts name c))
+    else kept (layout_at pool place name) name n body)))
 
 unfoldable pub attributes : List Entry → Location → Format (List Attribute)
 attributes pool place = table (attribute pool place)
@@ -89,8 +91,8 @@ components pool = table (component pool)
 -- an attribute of a class: its name's index, the length of its body, and the body, whose parts are read where it is a Record attribute
 unfoldable pub class_attribute : List Entry → Location → Format ClassAttribute
 class_attribute pool place = andthen (number 2) (λ name. andthen (number 4) (λ n. part n (λ body.
-    if is_record pool place name then inside n body (components pool) (λ c. done (by_field name c))
-    else kept (is_laid_out pool place name body) n (raw name body))))
+    if is_record pool place name then inside n body (components pool) (λ c. done (of_parts name c))
+    else kept (layout_at pool place name) name n body)))
 
 unfoldable pub class_attributes : List Entry → Location → Format (List ClassAttribute)
 class_attributes pool place = table (class_attribute pool place)

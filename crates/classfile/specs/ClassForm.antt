@@ -39,12 +39,12 @@ interfaces_have_array pool interfaces = list_any (is_array_class pool) interface
 unfoldable pub class_has_bad : Class → Bool
 class_has_bad c =
     is_bad c.constant_pool c.this_class || is_bad_unless_zero c.constant_pool c.super_class
-    || interfaces_have_bad c.constant_pool c.interfaces || class_attributes_have_bad c.constant_pool (location.Class c.major_version) c.attributes
+    || interfaces_have_bad c.constant_pool c.interfaces || class_attributes_have_bad c.constant_pool c.attributes
 
 unfoldable pub class_has_other : Class → Bool
 class_has_other c =
     is_other c.constant_pool kinds.Class c.this_class || is_other c.constant_pool kinds.Class c.super_class
-    || interfaces_have_other c.constant_pool c.interfaces || class_attributes_have_other c.constant_pool (location.Class c.major_version) c.attributes
+    || interfaces_have_other c.constant_pool c.interfaces || class_attributes_have_other c.constant_pool c.attributes
 
 -- the class, its superclass or one of its interfaces is an array
 unfoldable pub class_has_array : Class → Bool
@@ -76,5 +76,5 @@ class_conditions c =
     ∷ (BadName, class_has_array c)
     ∷ (BadFlags, are_bad_class_flags c.access_flags)
     ∷ (BadSuper, has_bad_super c)
-    ∷ (AttributeTwice, class_attributes_have_twice c.constant_pool (location.Class c.major_version) c.attributes)
+    ∷ (AttributeTwice, class_attributes_have_twice (location.Class c.major_version) c.attributes)
     ∷ []

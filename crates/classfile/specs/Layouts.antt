@@ -12,7 +12,7 @@ use lib.Pointwise.{pointwise}
 
 -- An attribute whose body is numbers of two bytes each: a row of such numbers, or a count and as many rows. It is read so from a major
 -- version on. What the numbers of a row are is told column by column.
-pub record Row : Type 0 where
+pub record AttributeLayout : Type 0 where
   pub name : List ℕ
   pub first_major : ℕ
   pub once : Bool
@@ -20,50 +20,50 @@ pub record Row : Type 0 where
   pub columns : List Column
 
 -- one row of numbers, in an attribute that may stand once
-abbrev one : ℕ → List ℕ → List Column → Row
+abbrev one : ℕ → List ℕ → List Column → AttributeLayout
 one major name columns = record { name = name; first_major = major; once = true; counted = false; columns = columns }
 
 -- a count and as many rows, in an attribute that may stand once
-abbrev counted : ℕ → List ℕ → List Column → Row
+abbrev counted : ℕ → List ℕ → List Column → AttributeLayout
 counted major name columns = record { name = name; first_major = major; once = true; counted = true; columns = columns }
 
 -- the same in one that may stand often
-abbrev often : List ℕ → List Column → Row
+abbrev often : List ℕ → List Column → AttributeLayout
 often name columns = record { name = name; first_major = 51; once = false; counted = true; columns = columns }
 
 -- an attribute that says all by its name, and may stand often
-abbrev mark : List ℕ → Row
+abbrev mark : List ℕ → AttributeLayout
 mark name = record { name = name; first_major = 51; once = false; counted = false; columns = [] }
 
 -- one row of a text, in each of the tables that may have a generic signature (4.7.9)
-abbrev pub signature : Row
+abbrev pub signature : AttributeLayout
 signature = one 51 (codes "Signature") (Text ∷ [])
 
 -- those of classes, fields and methods alike (4.7.9, 4.7.15, 4.7.8)
-abbrev pub shared : List Row
+abbrev pub shared : List AttributeLayout
 shared = signature ∷ mark (codes "Deprecated") ∷ mark (codes "Synthetic") ∷ []
 
 -- the classes that may extend a sealed one (4.7.31)
-abbrev pub permitted_subclasses : Row
+abbrev pub permitted_subclasses : AttributeLayout
 permitted_subclasses = counted 61 (codes "PermittedSubclasses") (columns.Class ∷ [])
 
 -- those of classes (4.7.10, 4.7.6, 4.7.28, 4.7.29, 4.7.31), fields (4.7.2), methods (4.7.5), Code attributes (4.7.12, 4.7.13) and record
 -- components (4.7.30)
-abbrev pub rows : Location → List Row
-rows (Class major) =
+abbrev pub layouts_in : Location → List AttributeLayout
+layouts_in (Class major) =
     one 51 (codes "SourceFile") (Text ∷ [])
     ∷ counted 51 (codes "InnerClasses") (columns.Class ∷ ClassOrZero ∷ TextOrZero ∷ Plain ∷ [])
     ∷ one 55 (codes "NestHost") (columns.Class ∷ [])
     ∷ counted 55 (codes "NestMembers") (columns.Class ∷ [])
     ∷ permitted_subclasses
     ∷ shared
-rows Field = one 51 (codes "ConstantValue") (Value ∷ []) ∷ shared
-rows Method = counted 51 (codes "Exceptions") (columns.Class ∷ []) ∷ shared
-rows Code =
+layouts_in Field = one 51 (codes "ConstantValue") (Value ∷ []) ∷ shared
+layouts_in Method = counted 51 (codes "Exceptions") (columns.Class ∷ []) ∷ shared
+layouts_in Code =
     often (codes "LineNumberTable") (Plain ∷ Plain ∷ [])
     ∷ often (codes "LocalVariableTable") (Plain ∷ Plain ∷ Text ∷ Text ∷ Plain ∷ [])
     ∷ []
-rows RecordComponent = signature ∷ []
+layouts_in RecordComponent = signature ∷ []
 
 -- the version on which it hangs what stands there; it does so in the attributes of classes alone
 abbrev pub major_at : Location → ℕ
@@ -73,22 +73,22 @@ major_at Method = 51
 major_at Code = 51
 major_at RecordComponent = 51
 
--- the row of this name in class files of this version
-abbrev pub is_row : ℕ → List ℕ → Row → Bool
-is_row major name row = nat_le row.first_major major && pointwise nat_eq name row.name
+-- the layout is that of this name in class files of this version
+abbrev pub is_layout : ℕ → List ℕ → AttributeLayout → Bool
+is_layout major name layout = nat_le layout.first_major major && pointwise nat_eq name layout.name
 
-abbrev pub row_in : ℕ → List ℕ → List Row → Option Row
-row_in major name [] = None
-row_in major name (row ∷ others) = if is_row major name row then Some row else row_in major name others
+abbrev pub layout_in : ℕ → List ℕ → List AttributeLayout → Option AttributeLayout
+layout_in major name [] = None
+layout_in major name (layout ∷ others) = if is_layout major name layout then Some layout else layout_in major name others
 
--- the row of an attribute whose name was looked up
-abbrev pub row_named : Location → Result (List ℕ) PoolFault → Option Row
-row_named place (Ok name) = row_in (major_at place) name (rows place)
-row_named place (Err e) = None
+-- the layout of an attribute whose name was looked up
+abbrev pub layout_named : Location → Result (List ℕ) PoolFault → Option AttributeLayout
+layout_named place (Ok name) = layout_in (major_at place) name (layouts_in place)
+layout_named place (Err e) = None
 
--- the row of an attribute by the index of its name
-abbrev pub row_at : List Entry → Location → ℕ → Option Row
-row_at pool place name = row_named place (text_at pool name)
+-- the layout of an attribute by the index of its name
+abbrev pub layout_at : List Entry → Location → ℕ → Option AttributeLayout
+layout_at pool place name = layout_named place (text_at pool name)
 
 -- a count of two bytes, and as many rows of so many bytes
 abbrev pub has_count : ℕ → List ℕ → Bool
@@ -96,13 +96,6 @@ has_count width [] = false
 has_count width (high ∷ []) = false
 has_count width (high ∷ low ∷ behind) = nat_eq (length behind) ((high * 256 + low) * width)
 
-abbrev pub has_layout : Row → List ℕ → Bool
-has_layout row body = if row.counted then has_count (2 * length row.columns) body else nat_eq (length body) (2 * length row.columns)
-
-abbrev pub has_layout_if : Option Row → List ℕ → Bool
-has_layout_if None body = true
-has_layout_if (Some row) body = has_layout row body
-
--- the body is laid out as an attribute of this name is here; of other names any body is
-abbrev pub is_laid_out : List Entry → Location → ℕ → List ℕ → Bool
-is_laid_out pool place name body = has_layout_if (row_at pool place name) body
+abbrev pub has_layout : AttributeLayout → List ℕ → Bool
+has_layout layout body =
+    if layout.counted then has_count (2 * length layout.columns) body else nat_eq (length body) (2 * length layout.columns)

@@ -10,7 +10,7 @@ pub mod Earlier
 pub mod Encoding
 pub mod Flags
 pub mod FormLaws
-pub mod IndexRows
+pub mod IndexColumns
 pub mod Indices
 pub mod Laws
 pub mod LayoutViews
@@ -23,6 +23,8 @@ pub mod Methods
 pub mod NamedAt
 pub mod Naming
 pub mod NumberForm
+pub mod Numbers
+pub mod NumbersLaws
 pub mod Outline
 pub mod OutlineLaws
 pub mod Pieces

@@ -39,11 +39,3 @@ is_record pool Field name = false
 is_record pool Method name = false
 is_record pool Code name = false
 is_record pool RecordComponent name = false
-
--- a PermittedSubclasses stands in a class, of major version 61 or above (4.7.31)
-abbrev pub is_permitted_subclasses : List Entry → Location → ℕ → Bool
-is_permitted_subclasses pool (Class major) name = nat_le 61 major && is_named pool name (codes "PermittedSubclasses")
-is_permitted_subclasses pool Field name = false
-is_permitted_subclasses pool Method name = false
-is_permitted_subclasses pool Code name = false
-is_permitted_subclasses pool RecordComponent name = false

@@ -11,10 +11,9 @@ use Rattle.classfile.specs.Indices.{on_found, on_text}
 use Rattle.classfile.specs.Naming.{is_method_name, is_init, is_clinit, fits_method}
 use Rattle.classfile.specs.ConstantForm.{texts_have_bad, texts_have_other, is_no_unqualified_name, is_no_field_descriptor}
 use Rattle.classfile.specs.Flags.{has, STATIC, NATIVE, ABSTRACT, are_bad_field_flags, are_bad_method_flags}
-use Rattle.classfile.specs.declared.location.Location.{Location}
 use Rattle.classfile.specs.declared.location.Location.TheVariants as location
 use Rattle.classfile.specs.NumberForm.{numbers_stand_twice}
-use Rattle.classfile.specs.AttributeForm.{attributes_have_bad, attributes_have_other, is_by_field, have_bad_length, have_twice}
+use Rattle.classfile.specs.AttributeForm.{attributes_have_bad, attributes_have_other, is_of_parts, have_bad_length, have_twice}
 
 -- the name and the descriptor of a member are texts, which pass the test
 abbrev pub on_member : List Entry → Member → (Named → Bool) → Bool
@@ -31,23 +30,23 @@ is_among pool members x = list_any (λ m. on_member pool m (are_same x)) members
 unfoldable pub is_repeated : List Entry → List Member → Member → Bool
 is_repeated pool earlier m = on_member pool m (is_among pool earlier)
 
-unfoldable pub member_has_bad : List Entry → Location → Member → Bool
-member_has_bad pool place m = texts_have_bad pool m.name m.descriptor || attributes_have_bad pool place m.attributes
+unfoldable pub member_has_bad : List Entry → Member → Bool
+member_has_bad pool m = texts_have_bad pool m.name m.descriptor || attributes_have_bad pool m.attributes
 
-unfoldable pub member_has_other : List Entry → Location → Member → Bool
-member_has_other pool place m = texts_have_other pool m.name m.descriptor || attributes_have_other pool place m.attributes
+unfoldable pub member_has_other : List Entry → Member → Bool
+member_has_other pool m = texts_have_other pool m.name m.descriptor || attributes_have_other pool m.attributes
 
 -- ---- fields; `repeated` where an earlier field has the name and the descriptor
 
 abbrev pub field_conditions : List Entry → Bool → Member → List Condition
 field_conditions pool repeated m =
-    (BadIndex, member_has_bad pool location.Field m)
-    ∷ (WrongKind, member_has_other pool location.Field m)
+    (BadIndex, member_has_bad pool m)
+    ∷ (WrongKind, member_has_other pool m)
     ∷ (BadName, is_no_unqualified_name pool m.name)
     ∷ (BadDescriptor, is_no_field_descriptor pool m.descriptor)
     ∷ (BadFlags, are_bad_field_flags m.access_flags)
     ∷ (Twice, repeated)
-    ∷ (AttributeTwice, numbers_stand_twice pool location.Field m.attributes)
+    ∷ (AttributeTwice, numbers_stand_twice location.Field m.attributes)
     ∷ []
 
 -- ---- methods
@@ -82,7 +81,7 @@ unfoldable pub has_body : List Entry → Member → Bool
 has_body pool m = is_class_initializer pool m || not (has m.access_flags NATIVE || has m.access_flags ABSTRACT)
 
 unfoldable pub has_code : List Attribute → Bool
-has_code attributes = list_any is_by_field attributes
+has_code attributes = list_any is_of_parts attributes
 
 -- what may be wrong with its attributes
 abbrev pub body_conditions : List Entry → Member → List Condition
@@ -90,13 +89,13 @@ body_conditions pool m =
     (CodeMissing, has_body pool m && not (has_code m.attributes))
     ∷ (CodeNotAllowed, not (has_body pool m) && has_code m.attributes)
     ∷ (BadCodeLength, have_bad_length m.attributes)
-    ∷ (AttributeTwice, have_twice pool m.attributes)
+    ∷ (AttributeTwice, have_twice m.attributes)
     ∷ []
 
 abbrev pub method_conditions : List Entry → Bool → Bool → Member → List Condition
 method_conditions pool interface repeated m =
-    (BadIndex, member_has_bad pool location.Method m)
-    ∷ (WrongKind, member_has_other pool location.Method m)
+    (BadIndex, member_has_bad pool m)
+    ∷ (WrongKind, member_has_other pool m)
     ∷ (BadName, is_bad_method_name pool interface m.name)
     ∷ (BadDescriptor, is_badly_described pool m)
     ∷ (BadFlags, is_badly_flagged pool m)

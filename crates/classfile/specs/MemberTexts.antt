@@ -4,7 +4,6 @@ use Rattle.pool.specs.declared.reference.NameAndType.{NameAndType}
 use Rattle.pool.specs.Entries.{Entry}
 use Rattle.pool.specs.Lookups.{text_at}
 use Rattle.classfile.specs.declared.form_fault.FormRule.TheVariants.{BadName, BadDescriptor, BadFlags, Twice}
-use Rattle.classfile.specs.declared.location.Location.{Location}
 use Rattle.classfile.specs.Conditions.{Condition}
 use Rattle.classfile.specs.MemberForm.{member_has_bad, member_has_other, is_bad_method_name, is_badly_described, is_badly_flagged, body_conditions}
 use Rattle.classfile.specs.Values.{Member}
@@ -15,9 +14,9 @@ pub record HasTexts (pool : List Entry) (m : Member) (x : NameAndType) : Type 0 
   pub descriptor : text_at pool m.descriptor ≡ Ok x.descriptor.bytes.now
 
 -- the texts of a member none of whose indices breaks a rule
-abbrev pub AreSoundTexts : List Entry → Location → Member → Option NameAndType → Type 0
-AreSoundTexts pool place m None = member_has_bad pool place m || member_has_other pool place m ≡ true
-AreSoundTexts pool place m (Some x) = (member_has_bad pool place m || member_has_other pool place m ≡ false) × HasTexts pool m x
+abbrev pub AreSoundTexts : List Entry → Member → Option NameAndType → Type 0
+AreSoundTexts pool m None = member_has_bad pool m || member_has_other pool m ≡ true
+AreSoundTexts pool m (Some x) = (member_has_bad pool m || member_has_other pool m ≡ false) × HasTexts pool m x
 
 -- the conditions of a method that come behind those of its indices
 abbrev pub named_method_conditions : List Entry → Bool → Bool → Member → List Condition

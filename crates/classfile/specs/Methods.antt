@@ -1,7 +1,6 @@
 -- A method with code as its instructions see it (JVMS 4.6, 4.7.3): what its class file says, constants looked up.
 use Rattle.std.specs.Prelude.{ℕ, Bool, false, not, ◌&&◌, ◌||◌, nat_eq, nat_le, nat_lt, bytes_eq, List, [], ◌∷◌, Option, Some, None, if◌then◌else◌, slice_get, length}
 use Rattle.std.specs.Option.{option_and_then}
-use Rattle.layout.specs.PieceLaws.{fields as by_field, raw}
 use Rattle.names.specs.Descriptors.{MethodDescriptor}
 use Rattle.names.specs.ReferenceTypes.{ReferenceType, class_type}
 use Rattle.names.specs.StandardNames.{init_name, object_name, throwable_name}
@@ -10,7 +9,7 @@ use Rattle.pool.specs.Entries.{Entry}
 use Rattle.pool.specs.Lookups.{Named, text_at}
 use Rattle.pool.specs.Members.{found, class_at, FieldConstant}
 use Rattle.classfile.specs.Flags.{has, STATIC}
-use Rattle.classfile.specs.Values.{Handler, Nested, CodeBody, Attribute, Member, Class}
+use Rattle.classfile.specs.Values.{of_parts, of_numbers, raw, Handler, Nested, CodeBody, Attribute, Member, Class}
 
 -- an entry of the exception table (4.7.3): what is caught from one offset on up to another, and where it is handled
 pub record ExceptionEntry : Type 0 where
@@ -80,12 +79,14 @@ covers e at = nat_le e.from at && nat_lt at e.to
 
 abbrev pub code_of : List Attribute → Option CodeBody
 code_of [] = None
-code_of (by_field name code ∷ attributes) = Some code
+code_of (of_parts name code ∷ attributes) = Some code
+code_of (of_numbers name numbers ∷ attributes) = code_of attributes
 code_of (raw name body ∷ attributes) = code_of attributes
 
 abbrev pub stack_map_of : List Nested → Option (List ℕ)
 stack_map_of [] = None
-stack_map_of (by_field name body ∷ attributes) = Some body
+stack_map_of (of_parts name body ∷ attributes) = Some body
+stack_map_of (of_numbers name numbers ∷ attributes) = stack_map_of attributes
 stack_map_of (raw name body ∷ attributes) = stack_map_of attributes
 
 -- a class, and no array

@@ -1,20 +1,22 @@
 -- The pieces that a class file is written as, part by part in the order of the file; its layout spells exactly these.
-use Rattle.std.proofs.Common.{◌≡◌, ℕ, Bool, true, false, cond, List, [], ◌∷◌, ◌++◌, length, refl, sym, ap, subst, ◌∙◌}
-use Rattle.std.specs.Prelude.{nat_eq, ◌&&◌}
+use Rattle.std.proofs.Common.{◌≡◌, ℕ, Bool, true, false, cond, Option, Some, None, List, [], ◌∷◌, ◌++◌, length, refl, sym, ap, subst, ◌∙◌}
+use Rattle.std.specs.Prelude.{nat_eq, ◌&&◌, ◌-◌}
 use Rattle.std.proofs.lemmas.Bool.{eqb-true}
 use Rattle.std.proofs.lemmas.List.{append-nil}
-use Rattle.layout.specs.declared.fault.ReadFault.TheVariants.{BadMagic, BadVersion}
+use Rattle.layout.specs.declared.fault.ReadFault.TheVariants.{AttributeLength, BadMagic, BadVersion}
 use Rattle.layout.specs.Format.{AreBytes, Format, done, refuse, Spells, andthen, number, inside}
 use Rattle.layout.specs.FormatLaws.{AreBytes-parts, andthen_spelled, andthen_parts, number_2, number_4}
 use Rattle.layout.specs.Pieces.{Piece, plain, field, text, ArePlain, lengthened, marked}
-use Rattle.layout.specs.PieceLaws.{Made, Writes, Bodies, Either, fields as by_field, raw, name_of, not, inside_spells, spells_inside, made_headed, made_then, made_last, made_number, made_counted, made_held, made_whole, counted, text_append, plain_parts, plain_append}
+use Rattle.layout.specs.PieceLaws.{Made, Writes, Bodies, not, inside_spells, spells_inside, made_headed, made_then, made_last, made_number, made_counted, made_held, made_whole, counted, text_append, plain_parts, plain_append}
 use Rattle.pool.specs.Entries.{Entry, pool_pieces}
 use Rattle.pool.specs.EntryLaws.{writes_pool}
 use Rattle.classfile.specs.declared.location.Location.{Location}
 use Rattle.classfile.specs.declared.location.Location.TheVariants as location
 use Rattle.classfile.specs.Locations.{is_code, is_stack_map, is_record}
-use Rattle.classfile.specs.Layouts.{is_laid_out}
-use Rattle.classfile.specs.Values.{Handler, Nested, CodeBody, Attribute, Member, Component, ClassAttribute, Class}
+use Rattle.classfile.specs.Layouts.{AttributeLayout, has_layout, layout_at}
+use Rattle.classfile.specs.Numbers.{Numbers, is_laid_out}
+use Rattle.classfile.specs.NumbersLaws.{laid_out_parts, laid_out_as_it_is}
+use Rattle.classfile.specs.Values.{AttributeOf, of_parts, of_numbers, raw, name_of, Handler, Nested, CodeBody, Attribute, Member, Component, ClassAttribute, Class}
 use Rattle.classfile.specs.ClassFile.{Sizes, kept, handler, nested, sizes, handlers, nested_attributes, code, attribute, attributes, three, member, members, two, component, components, class_attribute, class_attributes, is_version, version, interfaces, class}
 
 -- ---- what each part is written as
@@ -22,17 +24,24 @@ use Rattle.classfile.specs.ClassFile.{Sizes, kept, handler, nested, sizes, handl
 abbrev pub handler_pieces : Handler → List Piece
 handler_pieces h = field 2 h.start_pc ++ (field 2 h.end_pc ++ (field 2 h.handler_pc ++ field 2 h.catch_type))
 
--- an attribute that holds something that is read by field where the test holds for its name, and is kept as it is elsewhere, if it is
--- laid out as its name asks: its name index, and its body behind a length
-abbrev pub body_pieces : {A : Type 0} → (ℕ → Bool) → (ℕ → List ℕ → Bool) → (A → List Piece) → Either A → List Piece
-body_pieces test laid_out p (by_field name value) = marked (test name) (p value)
-body_pieces test laid_out p (raw name body) = marked (not (test name) && laid_out name body) (plain body ∷ [])
+-- attributes of this name have no layout here
+abbrev pub has_none : Option AttributeLayout → Bool
+has_none None = true
+has_none (Some layout) = false
 
-abbrev pub headed_pieces : {A : Type 0} → (ℕ → Bool) → (ℕ → List ℕ → Bool) → (A → List Piece) → Either A → List Piece
-headed_pieces test laid_out p x = field 2 (name_of x) ++ lengthened (body_pieces test laid_out p x)
+-- The body of an attribute: parts where the test holds for its name; numbers where it does not, and attributes of its name have this
+-- layout; and as it is where they have none.
+abbrev pub body_pieces : {A : Type 0} → (ℕ → Bool) → (ℕ → Option AttributeLayout) → (A → List Piece) → AttributeOf A → List Piece
+body_pieces test layout_of p (of_parts name value) = marked (test name) (p value)
+body_pieces test layout_of p (of_numbers name n) = marked (not (test name) && is_laid_out (layout_of name) n) (plain n.body ∷ [])
+body_pieces test layout_of p (raw name body) = marked (not (test name) && has_none (layout_of name)) (plain body ∷ [])
+
+-- an attribute: its name index, and its body behind a length
+abbrev pub headed_pieces : {A : Type 0} → (ℕ → Bool) → (ℕ → Option AttributeLayout) → (A → List Piece) → AttributeOf A → List Piece
+headed_pieces test layout_of p x = field 2 (name_of x) ++ lengthened (body_pieces test layout_of p x)
 
 abbrev pub nested_pieces : List Entry → Nested → List Piece
-nested_pieces pool = headed_pieces (is_stack_map pool location.Code) (is_laid_out pool location.Code) (λ body. plain body ∷ [])
+nested_pieces pool = headed_pieces (is_stack_map pool location.Code) (layout_at pool location.Code) (λ body. plain body ∷ [])
 
 abbrev pub sizes_pieces : Sizes → List Piece
 sizes_pieces s = field 2 s.max_stack ++ (field 2 s.max_locals ++ lengthened (plain s.code ∷ []))
@@ -43,7 +52,7 @@ code_pieces pool c =
     ++ (counted handler_pieces c.exception_table ++ counted (nested_pieces pool) c.attributes)
 
 abbrev pub attribute_pieces : List Entry → Location → Attribute → List Piece
-attribute_pieces pool place = headed_pieces (is_code pool place) (is_laid_out pool place) (code_pieces pool)
+attribute_pieces pool place = headed_pieces (is_code pool place) (layout_at pool place) (code_pieces pool)
 
 abbrev pub three_pieces : ℕ × ℕ × ℕ → List Piece
 three_pieces x = field 2 x.0 ++ (field 2 x.1 ++ field 2 x.2)
@@ -58,7 +67,7 @@ abbrev pub component_pieces : List Entry → Component → List Piece
 component_pieces pool c = two_pieces (c.name, c.descriptor) ++ counted (attribute_pieces pool location.RecordComponent) c.attributes
 
 abbrev pub class_attribute_pieces : List Entry → Location → ClassAttribute → List Piece
-class_attribute_pieces pool place = headed_pieces (is_record pool place) (is_laid_out pool place) (counted (component_pieces pool))
+class_attribute_pieces pool place = headed_pieces (is_record pool place) (layout_at pool place) (counted (component_pieces pool))
 
 -- the magic number, the minor and the major version
 abbrev pub version_pieces : ℕ × ℕ → List Piece
@@ -94,15 +103,15 @@ pub writes_handlers : Writes handlers (counted handler_pieces)
 unfolding handlers
 writes_handlers = made_counted number_2 writes_handler
 
--- The body of an attribute, where that of one which is read by field has this format.
-abbrev body_of : {A : Type 0} → (ℕ → Bool) → (ℕ → List ℕ → Bool) → (ℕ → ℕ → List ℕ → Format (Either A)) → ℕ → ℕ → List ℕ → Format (Either A)
-body_of test laid_out f name n body = cond (test name) (f name n body) (kept (laid_out name body) n (raw name body))
+-- The body of an attribute, where that of one which is read by its parts has this format.
+abbrev body_of : {A : Type 0} → (ℕ → Bool) → (ℕ → Option AttributeLayout) → (ℕ → ℕ → List ℕ → Format (AttributeOf A)) → ℕ → ℕ → List ℕ → Format (AttributeOf A)
+body_of test layout_of f name n body = cond (test name) (f name n body) (kept (layout_of name) name n body)
 
--- that format spells exactly the values that are read by field, each by its pieces
-record ByField {A : Type 0} (f : ℕ → ℕ → List ℕ → Format (Either A)) (p : A → List Piece) : Type 0 where
-  has : (name : ℕ) (value : A) → ArePlain (p value) → Spells (f name (length (text (p value))) (text (p value))) [] (by_field name value)
-  only : (name : ℕ) (body bytes : List ℕ) (v : Either A) → AreBytes body → Spells (f name (length body) body) bytes v
-      → (bytes ≡ []) × (value : A) × (by_field name value ≡ v) × (body ≡ text (p value)) × ArePlain (p value)
+-- that format spells exactly the values that are read by their parts, each by its pieces
+record OfParts {A : Type 0} (f : ℕ → ℕ → List ℕ → Format (AttributeOf A)) (p : A → List Piece) : Type 0 where
+  has : (name : ℕ) (value : A) → ArePlain (p value) → Spells (f name (length (text (p value))) (text (p value))) [] (of_parts name value)
+  only : (name : ℕ) (body bytes : List ℕ) (v : AttributeOf A) → AreBytes body → Spells (f name (length body) body) bytes v
+      → (bytes ≡ []) × (value : A) × (of_parts name value ≡ v) × (body ≡ text (p value)) × ArePlain (p value)
 
 marked_parts : (b : Bool) (p : List Piece) → ArePlain (marked b p) → (b ≡ true) × (marked b p ≡ p)
 marked_parts true p h = (refl, refl)
@@ -113,57 +122,88 @@ both_true false true e = (refl, refl)
 both_true false false e = absurd (let x : false ≡ true = e in cc)
 both_true true b e = absurd (let x : false ≡ true = e in cc)
 
-bodies_of : {A : Type 0} (test : ℕ → Bool) (laid_out : ℕ → List ℕ → Bool) {f : ℕ → ℕ → List ℕ → Format (Either A)} {p : A → List Piece} → ByField f p
-    → Bodies (body_of test laid_out f) name_of (λ x. x) (body_pieces test laid_out p)
-bodies_of {A = A} test laid_out {f = f} {p = p} m = record { has = has; only = λ name body bytes v fit s. only name body bytes v (test name) (laid_out name body) refl refl fit s }
+none_there : (o : Option AttributeLayout) → has_none o ≡ true → o ≡ None
+none_there None e = refl
+none_there (Some layout) e = absurd (let x : false ≡ true = e in cc)
+
+-- numbers that are laid out as attributes of their name are here
+kept_numbers : (A : Type 0) (o : Option AttributeLayout) (name : ℕ) (n : Numbers) → is_laid_out o n ≡ true
+    → Spells (kept {A = A} o name (length n.body) n.body) [] (of_numbers name n)
+kept_numbers A o name n e =
+    let so = laid_out_parts o n e in
+    let x : AttributeOf A = of_numbers name n in
+    subst (λ (o : Option AttributeLayout). Spells (kept {A = A} o name (length n.body) n.body) [] x) (sym so.0)
+    (subst (λ (b : Bool). Spells (cond b (done x) (refuse (λ at. AttributeLength (at - length n.body - 6)))) [] x) (sym so.1) (refl, refl))
+
+bodies_of : {A : Type 0} (test : ℕ → Bool) (layout_of : ℕ → Option AttributeLayout) {f : ℕ → ℕ → List ℕ → Format (AttributeOf A)} {p : A → List Piece} → OfParts f p
+    → Bodies (body_of test layout_of f) name_of (λ x. x) (body_pieces test layout_of p)
+bodies_of {A = A} test layout_of {f = f} {p = p} m = record { has = has; only = λ name body bytes v fit s. only name body bytes v (test name) (layout_of name) refl refl fit s }
   where
-    has : (x : Either A) → ArePlain (body_pieces test laid_out p x)
-        → Spells (body_of test laid_out f (name_of x) (length (text (body_pieces test laid_out p x))) (text (body_pieces test laid_out p x))) [] x
-    has (by_field name value) h =
+    has : (x : AttributeOf A) → ArePlain (body_pieces test layout_of p x)
+        → Spells (body_of test layout_of f (name_of x) (length (text (body_pieces test layout_of p x))) (text (body_pieces test layout_of p x))) [] x
+    has (of_parts name value) h =
         let r = marked_parts (test name) (p value) h in
         let plainly : ArePlain (p value) = subst ArePlain r.1 h in
-        subst (λ (q : List Piece). Spells (body_of test laid_out f name (length (text q)) (text q)) [] (by_field name value)) (sym r.1)
-        (subst (λ (b : Bool). Spells (cond b (f name (length (text (p value))) (text (p value))) (kept (laid_out name (text (p value))) (length (text (p value))) (raw name (text (p value))))) [] (by_field name value)) (sym r.0)
+        subst (λ (q : List Piece). Spells (body_of test layout_of f name (length (text q)) (text q)) [] (of_parts name value)) (sym r.1)
+        (subst (λ (b : Bool). Spells (cond b (f name (length (text (p value))) (text (p value))) (kept (layout_of name) name (length (text (p value))) (text (p value)))) [] (of_parts name value)) (sym r.0)
         (m.has name value plainly))
+    has (of_numbers name n) h =
+        let r = marked_parts (not (test name) && is_laid_out (layout_of name) n) (plain n.body ∷ []) h in
+        let so = both_true (test name) (is_laid_out (layout_of name) n) r.0 in
+        let is : text (marked (not (test name) && is_laid_out (layout_of name) n) (plain n.body ∷ [])) ≡ n.body = ap text r.1 ∙ append-nil n.body in
+        subst (λ (t : List ℕ). Spells (body_of test layout_of f name (length t) t) [] (of_numbers name n)) (sym is)
+        (subst (λ (b : Bool). Spells (cond b (f name (length n.body) n.body) (kept (layout_of name) name (length n.body) n.body)) [] (of_numbers name n)) (sym so.0)
+        (kept_numbers A (layout_of name) name n so.1))
     has (raw name body) h =
-        let r = marked_parts (not (test name) && laid_out name body) (plain body ∷ []) h in
-        let so = both_true (test name) (laid_out name body) r.0 in
-        let is : text (marked (not (test name) && laid_out name body) (plain body ∷ [])) ≡ body = ap text r.1 ∙ append-nil body in
-        subst (λ (t : List ℕ). Spells (body_of test laid_out f name (length t) t) [] (raw name body)) (sym is)
-        (subst (λ (b : Bool). Spells (cond b (f name (length body) body) (kept (laid_out name body) (length body) (raw name body))) [] (raw name body)) (sym so.0)
-        (subst (λ (b : Bool). Spells (kept {V = Either A} b (length body) (raw name body)) [] (raw name body)) (sym so.1) (refl, refl)))
+        let r = marked_parts (not (test name) && has_none (layout_of name)) (plain body ∷ []) h in
+        let so = both_true (test name) (has_none (layout_of name)) r.0 in
+        let is : text (marked (not (test name) && has_none (layout_of name)) (plain body ∷ [])) ≡ body = ap text r.1 ∙ append-nil body in
+        subst (λ (t : List ℕ). Spells (body_of test layout_of f name (length t) t) [] (raw name body)) (sym is)
+        (subst (λ (b : Bool). Spells (cond b (f name (length body) body) (kept (layout_of name) name (length body) body)) [] (raw name body)) (sym so.0)
+        (subst (λ (o : Option AttributeLayout). Spells (kept {A = A} o name (length body) body) [] (raw name body)) (sym (none_there (layout_of name) so.1)) (refl, refl)))
 
-    only : (name : ℕ) (body bytes : List ℕ) (v : Either A) (b l : Bool) → test name ≡ b → laid_out name body ≡ l → AreBytes body
-        → Spells (cond b (f name (length body) body) (kept l (length body) (raw name body))) bytes v
-        → (bytes ≡ []) × (x : Either A) × (x ≡ v) × (name_of x ≡ name) × (body ≡ text (body_pieces test laid_out p x)) × ArePlain (body_pieces test laid_out p x)
-    only name body bytes v true l e k fit s =
+    by_layout : (name : ℕ) (body bytes : List ℕ) (v : AttributeOf A) (layout : AttributeLayout) (l : Bool) → test name ≡ false → layout_of name ≡ Some layout → has_layout layout body ≡ l
+        → Spells (cond l (done (of_numbers name (record { layout = layout; body = body }))) (refuse (λ at. AttributeLength (at - length body - 6)))) bytes v
+        → (bytes ≡ []) × (x : AttributeOf A) × (x ≡ v) × (name_of x ≡ name) × (body ≡ text (body_pieces test layout_of p x)) × ArePlain (body_pieces test layout_of p x)
+    by_layout name body bytes v layout true e o l s =
+        let n : Numbers = record { layout = layout; body = body } in
+        let so : is_laid_out (layout_of name) n ≡ true = ap (λ (o : Option AttributeLayout). is_laid_out o n) o ∙ laid_out_as_it_is layout body l in
+        let same : plain body ∷ [] ≡ marked (not (test name) && is_laid_out (layout_of name) n) (plain body ∷ []) =
+        ap (λ (b : Bool). marked (not b && true) (plain body ∷ [])) (sym e) ∙ ap (λ (b : Bool). marked (not (test name) && b) (plain body ∷ [])) (sym so) in
+        (s.0, of_numbers name n, s.1, refl, sym (append-nil body) ∙ ap text same, subst ArePlain same tt)
+    by_layout name body bytes v layout false e o l s = absurd s
+
+    only : (name : ℕ) (body bytes : List ℕ) (v : AttributeOf A) (b : Bool) (o : Option AttributeLayout) → test name ≡ b → layout_of name ≡ o → AreBytes body
+        → Spells (cond b (f name (length body) body) (kept o name (length body) body)) bytes v
+        → (bytes ≡ []) × (x : AttributeOf A) × (x ≡ v) × (name_of x ≡ name) × (body ≡ text (body_pieces test layout_of p x)) × ArePlain (body_pieces test layout_of p x)
+    only name body bytes v true o e k fit s =
         let i = m.only name body bytes v fit s in
         let same : p i.1 ≡ marked (test name) (p i.1) = ap (λ (b : Bool). marked b (p i.1)) (sym e) in
-        (i.0, by_field name i.1, i.2, refl, i.3 ∙ ap text same, subst ArePlain same i.4)
-    only name body bytes v false true e k fit s =
-        let same : plain body ∷ [] ≡ marked (not (test name) && laid_out name body) (plain body ∷ []) =
-        ap (λ (b : Bool). marked (not b && true) (plain body ∷ [])) (sym e) ∙ ap (λ (b : Bool). marked (not (test name) && b) (plain body ∷ [])) (sym k) in
+        (i.0, of_parts name i.1, i.2, refl, i.3 ∙ ap text same, subst ArePlain same i.4)
+    only name body bytes v false None e k fit s =
+        let same : plain body ∷ [] ≡ marked (not (test name) && has_none (layout_of name)) (plain body ∷ []) =
+        ap (λ (b : Bool). marked (not b && true) (plain body ∷ [])) (sym e) ∙ ap (λ (o : Option AttributeLayout). marked (not (test name) && has_none o) (plain body ∷ [])) (sym k) in
         (s.0, raw name body, s.1, refl, sym (append-nil body) ∙ ap text same, subst ArePlain same tt)
-    only name body bytes v false false e k fit s = absurd s
+    only name body bytes v false (Some layout) e k fit s = by_layout name body bytes v layout (has_layout layout body) e k refl s
 
-kept_by_field : ByField (λ name n body. done (by_field name body)) (λ body. plain body ∷ [])
-kept_by_field = record {
-  has = λ name value h. (refl, ap (by_field name) (append-nil value));
+kept_of_parts : OfParts (λ name n body. done (of_parts name body)) (λ body. plain body ∷ [])
+kept_of_parts = record {
+  has = λ name value h. (refl, ap (of_parts name) (append-nil value));
   only = λ name body bytes v fit s. (s.0, body, s.1, sym (append-nil body), tt);
 }
 
-inside_by_field : {A : Type 0} {f : Format A} {p : A → List Piece} → Writes f p → ByField (λ name n body. inside n body f (λ v. done (by_field name v))) p
-inside_by_field {A = A} {f = f} {p = p} m = record {
-  has = λ name value h. spells_inside (length (text (p value))) (text (p value)) f (by_field name) value (m.has value h);
+inside_of_parts : {A : Type 0} {f : Format A} {p : A → List Piece} → Writes f p → OfParts (λ name n body. inside n body f (λ v. done (of_parts name v))) p
+inside_of_parts {A = A} {f = f} {p = p} m = record {
+  has = λ name value h. spells_inside (length (text (p value))) (text (p value)) f (of_parts name) value (m.has value h);
   only = λ name body bytes v fit s.
-      let i = inside_spells (length body) body f (by_field name) bytes v s in
+      let i = inside_spells (length body) body f (of_parts name) bytes v s in
       let x = m.only i.0 body fit i.1 in
       (i.2, i.0, i.3, x.2 ∙ ap (λ (w : A). text (p w)) x.1, subst (λ (w : A). ArePlain (p w)) x.1 x.3);
 }
 
 pub writes_nested : (pool : List Entry) → Writes (nested pool) (nested_pieces pool)
 unfolding nested
-writes_nested pool = made_headed number_2 number_4 (bodies_of (is_stack_map pool location.Code) (is_laid_out pool location.Code) kept_by_field)
+writes_nested pool = made_headed number_2 number_4 (bodies_of (is_stack_map pool location.Code) (layout_at pool location.Code) kept_of_parts)
 
 pub writes_nested_attributes : (pool : List Entry) → Writes (nested_attributes pool) (counted (nested_pieces pool))
 unfolding nested_attributes
@@ -184,7 +224,7 @@ writes_code pool = made_whole {A = Sizes × (List Handler × List Nested)} (λ c
 
 pub writes_of : (pool : List Entry) (place : Location) → Writes (attribute pool place) (attribute_pieces pool place)
 unfolding attribute
-writes_of pool place = made_headed number_2 number_4 (bodies_of (is_code pool place) (is_laid_out pool place) (inside_by_field (writes_code pool)))
+writes_of pool place = made_headed number_2 number_4 (bodies_of (is_code pool place) (layout_at pool place) (inside_of_parts (writes_code pool)))
 
 pub writes_attributes : (pool : List Entry) (place : Location) → Writes (attributes pool place) (counted (attribute_pieces pool place))
 unfolding attributes
@@ -225,7 +265,7 @@ writes_components pool = made_counted number_2 (writes_component pool)
 
 pub writes_class_attribute : (pool : List Entry) (place : Location) → Writes (class_attribute pool place) (class_attribute_pieces pool place)
 unfolding class_attribute
-writes_class_attribute pool place = made_headed number_2 number_4 (bodies_of (is_record pool place) (is_laid_out pool place) (inside_by_field (writes_components pool)))
+writes_class_attribute pool place = made_headed number_2 number_4 (bodies_of (is_record pool place) (layout_at pool place) (inside_of_parts (writes_components pool)))
 
 pub writes_class_attributes : (pool : List Entry) (place : Location) → Writes (class_attributes pool place) (counted (class_attribute_pieces pool place))
 unfolding class_attributes

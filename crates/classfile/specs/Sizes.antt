@@ -2,9 +2,8 @@
 -- (JVMS 4.1, 4.4 to 4.7): what must hold before it matters whether bytes spell the class.
 use Rattle.std.specs.Prelude.{ℕ, ◌+◌, Bool, true, ◌&&◌, List, [], ◌∷◌, length, nat_lt}
 use Rattle.std.specs.List.{list_all}
-use Rattle.layout.specs.PieceLaws.{fields as by_field, raw}
 use Rattle.pool.specs.Entries.{Entry, Utf8, Integer, Float, Long, Double, Class as ClassEntry, String, Fieldref, Methodref, InterfaceMethodref, NameAndType, MethodHandle, MethodType, Dynamic, InvokeDynamic, Unusable}
-use Rattle.classfile.specs.Values.{Handler, Nested, CodeBody, Attribute, Member, Component, ClassAttribute, Class}
+use Rattle.classfile.specs.Values.{of_parts, of_numbers, raw, Handler, Nested, CodeBody, Attribute, Member, Component, ClassAttribute, Class}
 
 -- numbers of two and of four bytes
 abbrev pub is_u2 : ℕ → Bool
@@ -75,11 +74,13 @@ abbrev pub handler_fits : Handler → Bool
 handler_fits h = is_u2 h.start_pc && (is_u2 h.end_pc && (is_u2 h.handler_pc && is_u2 h.catch_type))
 
 abbrev pub nested_fits : Nested → Bool
-nested_fits (by_field name body) = is_u2 name
+nested_fits (of_parts name body) = is_u2 name
+nested_fits (of_numbers name numbers) = is_u2 name
 nested_fits (raw name body) = is_u2 name
 
 abbrev pub nested_size : Nested → ℕ
-nested_size (by_field name body) = 2 + (4 + length body)
+nested_size (of_parts name body) = 2 + (4 + length body)
+nested_size (of_numbers name numbers) = 2 + (4 + length numbers.body)
 nested_size (raw name body) = 2 + (4 + length body)
 
 abbrev pub code_fits : CodeBody → Bool
@@ -89,11 +90,13 @@ abbrev pub code_size : CodeBody → ℕ
 code_size c = (2 + (2 + (4 + length c.code))) + (table_size (λ h. 8) c.exception_table + table_size nested_size c.attributes)
 
 abbrev pub attribute_fits : Attribute → Bool
-attribute_fits (by_field name code) = is_u2 name && code_fits code
+attribute_fits (of_parts name code) = is_u2 name && code_fits code
+attribute_fits (of_numbers name numbers) = is_u2 name
 attribute_fits (raw name body) = is_u2 name
 
 abbrev pub attribute_size : Attribute → ℕ
-attribute_size (by_field name code) = 2 + (4 + code_size code)
+attribute_size (of_parts name code) = 2 + (4 + code_size code)
+attribute_size (of_numbers name numbers) = 2 + (4 + length numbers.body)
 attribute_size (raw name body) = 2 + (4 + length body)
 
 -- ---- members and the class
@@ -111,11 +114,13 @@ abbrev pub component_size : Component → ℕ
 component_size c = 4 + table_size attribute_size c.attributes
 
 abbrev pub class_attribute_fits : ClassAttribute → Bool
-class_attribute_fits (by_field name components) = is_u2 name && table_fits component_fits components
+class_attribute_fits (of_parts name components) = is_u2 name && table_fits component_fits components
+class_attribute_fits (of_numbers name numbers) = is_u2 name
 class_attribute_fits (raw name body) = is_u2 name
 
 abbrev pub class_attribute_size : ClassAttribute → ℕ
-class_attribute_size (by_field name components) = 2 + (4 + table_size component_size components)
+class_attribute_size (of_parts name components) = 2 + (4 + table_size component_size components)
+class_attribute_size (of_numbers name numbers) = 2 + (4 + length numbers.body)
 class_attribute_size (raw name body) = 2 + (4 + length body)
 
 abbrev pub class_fits : Class → Bool

@@ -1,8 +1,8 @@
 -- The values that a class file holds (JVMS 4.1, 4.5 to 4.7): its numbers and tables in the order of the file.
 -- Names, descriptors and other constants stand as their indices into the constant pool.
 use Rattle.std.specs.Prelude.{ℕ, List}
-use Rattle.layout.specs.PieceLaws.{Either}
 use Rattle.pool.specs.Entries.{Entry}
+use Rattle.classfile.specs.Numbers.{Numbers}
 
 -- an item of the exception table of a Code attribute (4.7.3)
 pub record Handler : Type 0 where
@@ -11,9 +11,21 @@ pub record Handler : Type 0 where
   pub handler_pc : ℕ
   pub catch_type : ℕ
 
+-- An attribute (4.7) by the index of its name: one whose body is read by its parts, one whose body is numbers, or one of which nothing but
+-- the body is known.
+pub data AttributeOf (A : Type 0) : Type 0 where
+  of_parts : (name : ℕ) (value : A) → AttributeOf A
+  of_numbers : (name : ℕ) (numbers : Numbers) → AttributeOf A
+  raw : (name : ℕ) (body : List ℕ) → AttributeOf A
+
+abbrev pub name_of : {A : Type 0} → AttributeOf A → ℕ
+name_of (of_parts name value) = name
+name_of (of_numbers name numbers) = name
+name_of (raw name body) = name
+
 -- an attribute of a Code attribute: a StackMapTable by its body, or another
 abbrev pub Nested : Type 0
-Nested = Either (List ℕ)
+Nested = AttributeOf (List ℕ)
 
 -- the body of a Code attribute (4.7.3)
 pub record CodeBody : Type 0 where
@@ -25,7 +37,7 @@ pub record CodeBody : Type 0 where
 
 -- an attribute of a field, a method or a record component: Code, or another (4.7)
 abbrev pub Attribute : Type 0
-Attribute = Either CodeBody
+Attribute = AttributeOf CodeBody
 
 -- a field or a method (4.5, 4.6)
 pub record Member : Type 0 where
@@ -42,7 +54,7 @@ pub record Component : Type 0 where
 
 -- an attribute of a class: Record by its components, or another (4.7)
 abbrev pub ClassAttribute : Type 0
-ClassAttribute = Either (List Component)
+ClassAttribute = AttributeOf (List Component)
 
 -- a class file (4.1)
 pub record Class : Type 0 where

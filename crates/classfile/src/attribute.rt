@@ -5,9 +5,10 @@ ghost use Rattle.classfile.specs.Pieces.{code_pieces};
 ghost use Rattle.classfile.specs.Views.{code_view};
 
 use crate::code::{CodeAttr, put_code, whole_code};
-use crate::layouts::is_laid_out;
+use crate::layouts::{has_layout, layout_at};
 use crate::location::{Location, is_code};
 use crate::nested::put_kept;
+use crate::numbers::{Numbers, is_laid_out};
 use crate::table::Item;
 use layout::{Cursor, Output, ReadFault, WriteFault};
 use pool::Pool;
@@ -18,7 +19,9 @@ use std::alloc::Global;
 pub enum Attribute<'a> {
     /// A Code attribute (4.7.3), which stands in a method alone.
     Code { name: u16, code: Box<CodeAttr<'a>> },
-    /// An attribute of another name or place, whose body is kept as it is. One of numbers has the length that its layout asks for.
+    /// An attribute whose body is numbers.
+    Numbers { name: u16, numbers: Numbers<'a> },
+    /// An attribute of another name or place, whose body is kept as it is.
     Raw { name: u16, body: &'a [u8] },
 }
 
@@ -83,10 +86,15 @@ impl<'a> Item<'a> for Attribute<'a> {
                 name,
                 code: Box::new(alloc, code)?,
             })
-        } else if is_laid_out(pool, location, name, body) {
-            Ok(Attribute::Raw { name, body })
         } else {
-            Err(ReadFault::AttributeLength { at: name_at })
+            match layout_at(pool, location, name) {
+                None => Ok(Attribute::Raw { name, body }),
+                Some(layout) if has_layout(layout, body) => Ok(Attribute::Numbers {
+                    name,
+                    numbers: Numbers { layout, body },
+                }),
+                Some(_) => Err(ReadFault::AttributeLength { at: name_at }),
+            }
         }
     }
 
@@ -95,9 +103,14 @@ impl<'a> Item<'a> for Attribute<'a> {
             Attribute::Code { name, code } => {
                 put_code_attribute(out, pool, *name, is_code(pool, location, *name), code)
             }
+            Attribute::Numbers { name, numbers } => {
+                let fine = !is_code(pool, location, *name)
+                    && is_laid_out(pool, location, *name, numbers);
+                put_kept(out, *name, fine, numbers.body)
+            }
             Attribute::Raw { name, body } => {
                 let fine = !is_code(pool, location, *name)
-                    && is_laid_out(pool, location, *name, body);
+                    && layout_at(pool, location, *name).is_none();
                 put_kept(out, *name, fine, body)
             }
         }

@@ -1,8 +1,7 @@
 //! The faults that attributes may have: in their names, and in what Code attributes hold (JVMS 4.7, 4.7.3).
 ghost use Rattle.std.specs.Prelude.{◌≡◌, ◌||◌, map};
-ghost use Rattle.classfile.specs.AttributeForm.{is_by_field, on_body, head_has_bad, head_has_other, handlers_have_bad, handlers_have_other, nested_have_bad, nested_have_other, code_has_bad, code_has_other, has_bad_length, has_two_stack_maps, attribute_has_bad, attribute_has_other, attributes_have_bad, attributes_have_other, have_bad_length, code_stands_twice, stack_map_stands_twice, have_twice};
+ghost use Rattle.classfile.specs.AttributeForm.{is_of_parts, on_body, head_has_bad, head_has_other, handlers_have_bad, handlers_have_other, nested_have_bad, nested_have_other, code_has_bad, code_has_other, has_bad_length, has_two_stack_maps, attribute_has_bad, attribute_has_other, attributes_have_bad, attributes_have_other, have_bad_length, code_stands_twice, stack_map_stands_twice, have_twice};
 ghost use Rattle.classfile.specs.MemberForm.{has_code};
-ghost use Rattle.classfile.specs.declared.location.Location.TheVariants as location;
 ghost use Rattle.classfile.specs.Views.{attribute_view, handler_view, nested_view, code_view};
 
 use crate::attribute::Attribute;
@@ -10,19 +9,20 @@ use crate::code::{CodeAttr, ExceptionHandler};
 use crate::indices::{ConstantKind, is_bad, is_bad_unless_zero, lacks, lacks_unless_zero};
 use crate::location::Location;
 use crate::nested::NestedAttribute;
-use crate::number_form::{IndexRule, code_head_has_fault, head_has_fault, numbers_break};
+use crate::number_form::{IndexRule, numbers_break, numbers_have_fault};
 use crate::once::numbers_stand_twice;
 use pool::Pool;
 
 #[tactic(auto, unfolding(crate::specs::AttributeForm::head_has_bad))]
 fn nested_has_bad(pool: &Pool<'_>, attribute: &NestedAttribute<'_>) -> bool
-    ensures { result ≡ head_has_bad pool.now location.Code (nested_view attribute.now) }
+    ensures { result ≡ head_has_bad pool.now (nested_view attribute.now) }
 {
     match attribute {
-        NestedAttribute::StackMapTable { name, .. } => is_bad(pool, *name),
-        NestedAttribute::Raw { name, body } => {
+        NestedAttribute::Numbers { name, numbers } => {
+            is_bad(pool, *name) || numbers_break(pool, IndexRule::BadIndex, numbers)
+        }
+        NestedAttribute::StackMapTable { name, .. } | NestedAttribute::Raw { name, .. } => {
             is_bad(pool, *name)
-                || numbers_break(pool, Location::Code, IndexRule::BadIndex, *name, body)
         }
     }
 }
@@ -30,22 +30,26 @@ fn nested_has_bad(pool: &Pool<'_>, attribute: &NestedAttribute<'_>) -> bool
 /// Whether one of its indices breaks a rule, 20 or 21; each is looked up once for both, here and in what follows.
 #[tactic(auto, unfolding(crate::specs::AttributeForm::head_has_bad, crate::specs::AttributeForm::head_has_other))]
 fn nested_has_fault(pool: &Pool<'_>, attribute: &NestedAttribute<'_>) -> bool
-    ensures { result ≡ (head_has_bad pool.now location.Code (nested_view attribute.now) || head_has_other pool.now location.Code (nested_view attribute.now)) }
+    ensures { result ≡ (head_has_bad pool.now (nested_view attribute.now) || head_has_other pool.now (nested_view attribute.now)) }
 {
     match attribute {
-        NestedAttribute::StackMapTable { name, .. } => lacks(pool, ConstantKind::Utf8, *name),
-        NestedAttribute::Raw { name, body } => code_head_has_fault(pool, *name, body),
+        NestedAttribute::Numbers { name, numbers } => {
+            lacks(pool, ConstantKind::Utf8, *name) || numbers_have_fault(pool, numbers)
+        }
+        NestedAttribute::StackMapTable { name, .. } | NestedAttribute::Raw { name, .. } => {
+            lacks(pool, ConstantKind::Utf8, *name)
+        }
     }
 }
 
 fn is_stack_map(attribute: &NestedAttribute<'_>) -> bool
-    ensures { result ≡ is_by_field (nested_view attribute.now) }
+    ensures { result ≡ is_of_parts (nested_view attribute.now) }
 {
     matches!(attribute, NestedAttribute::StackMapTable { .. })
 }
 
 fn is_code(attribute: &Attribute<'_>) -> bool
-    ensures { result ≡ is_by_field (attribute_view attribute.now) }
+    ensures { result ≡ is_of_parts (attribute_view attribute.now) }
 {
     matches!(attribute, Attribute::Code { .. })
 }
@@ -108,26 +112,30 @@ fn has_two_stack_maps(code: &CodeAttr<'_>) -> bool
 }
 
 #[tactic(auto, unfolding(crate::specs::AttributeForm::attribute_has_bad, crate::specs::AttributeForm::head_has_bad))]
-fn attribute_has_bad(pool: &Pool<'_>, location: Location, attribute: &Attribute<'_>) -> bool
-    ensures { result ≡ attribute_has_bad pool.now location (attribute_view attribute.now) }
+fn attribute_has_bad(pool: &Pool<'_>, attribute: &Attribute<'_>) -> bool
+    ensures { result ≡ attribute_has_bad pool.now (attribute_view attribute.now) }
 {
     match attribute {
         Attribute::Code { name, code } => is_bad(pool, *name) || code_has_bad(pool, code),
-        Attribute::Raw { name, body } => {
-            is_bad(pool, *name) || numbers_break(pool, location, IndexRule::BadIndex, *name, body)
+        Attribute::Numbers { name, numbers } => {
+            is_bad(pool, *name) || numbers_break(pool, IndexRule::BadIndex, numbers)
         }
+        Attribute::Raw { name, .. } => is_bad(pool, *name),
     }
 }
 
 #[tactic(auto, unfolding(crate::specs::AttributeForm::attribute_has_bad, crate::specs::AttributeForm::attribute_has_other, crate::specs::AttributeForm::head_has_bad, crate::specs::AttributeForm::head_has_other))]
-fn attribute_has_fault(pool: &Pool<'_>, location: Location, attribute: &Attribute<'_>) -> bool
-    ensures { result ≡ (attribute_has_bad pool.now location (attribute_view attribute.now) || attribute_has_other pool.now location (attribute_view attribute.now)) }
+fn attribute_has_fault(pool: &Pool<'_>, attribute: &Attribute<'_>) -> bool
+    ensures { result ≡ (attribute_has_bad pool.now (attribute_view attribute.now) || attribute_has_other pool.now (attribute_view attribute.now)) }
 {
     match attribute {
         Attribute::Code { name, code } => {
             lacks(pool, ConstantKind::Utf8, *name) || code_has_fault(pool, code)
         }
-        Attribute::Raw { name, body } => { head_has_fault(pool, location, *name, body) }
+        Attribute::Numbers { name, numbers } => {
+            lacks(pool, ConstantKind::Utf8, *name) || numbers_have_fault(pool, numbers)
+        }
+        Attribute::Raw { name, .. } => lacks(pool, ConstantKind::Utf8, *name),
     }
 }
 
@@ -136,7 +144,7 @@ fn code_is_badly_long(attribute: &Attribute<'_>) -> bool
 {
     match attribute {
         Attribute::Code { code, .. } => has_bad_length(code),
-        Attribute::Raw { .. } => false,
+        Attribute::Numbers { .. } | Attribute::Raw { .. } => false,
     }
 }
 
@@ -145,36 +153,24 @@ fn code_has_two_stack_maps(attribute: &Attribute<'_>) -> bool
 {
     match attribute {
         Attribute::Code { code, .. } => has_two_stack_maps(code),
-        Attribute::Raw { .. } => false,
+        Attribute::Numbers { .. } | Attribute::Raw { .. } => false,
     }
 }
 
 /// Whether an index in the attributes may not be looked up.
 #[tactic(auto, unfolding(crate::specs::AttributeForm::attributes_have_bad))]
-pub fn attributes_have_bad(
-    pool: &Pool<'_>,
-    location: Location,
-    attributes: &[Attribute<'_>],
-) -> bool
-    ensures { result ≡ attributes_have_bad pool.now location (map attribute_view attributes.now) }
+pub fn attributes_have_bad(pool: &Pool<'_>, attributes: &[Attribute<'_>]) -> bool
+    ensures { result ≡ attributes_have_bad pool.now (map attribute_view attributes.now) }
 {
-    attributes
-        .iter()
-        .any(|a| attribute_has_bad(pool, location, a))
+    attributes.iter().any(|a| attribute_has_bad(pool, a))
 }
 
 /// Whether an index in the attributes may not be looked up, or leads to another kind.
 #[tactic(auto, unfolding(crate::specs::AttributeForm::attributes_have_bad, crate::specs::AttributeForm::attributes_have_other))]
-pub fn attributes_have_fault(
-    pool: &Pool<'_>,
-    location: Location,
-    attributes: &[Attribute<'_>],
-) -> bool
-    ensures { result ≡ (attributes_have_bad pool.now location (map attribute_view attributes.now) || attributes_have_other pool.now location (map attribute_view attributes.now)) }
+pub fn attributes_have_fault(pool: &Pool<'_>, attributes: &[Attribute<'_>]) -> bool
+    ensures { result ≡ (attributes_have_bad pool.now (map attribute_view attributes.now) || attributes_have_other pool.now (map attribute_view attributes.now)) }
 {
-    attributes
-        .iter()
-        .any(|a| attribute_has_fault(pool, location, a))
+    attributes.iter().any(|a| attribute_has_fault(pool, a))
 }
 
 /// Whether a Code attribute is among them.
@@ -209,10 +205,10 @@ fn stack_map_stands_twice(attributes: &[Attribute<'_>]) -> bool
 
 /// Whether two attributes of a method are among them of which there may be one, or in a Code attribute two StackMapTables.
 #[tactic(auto, unfolding(crate::specs::AttributeForm::have_twice))]
-pub fn have_twice(pool: &Pool<'_>, attributes: &[Attribute<'_>]) -> bool
-    ensures { result ≡ have_twice pool.now (map attribute_view attributes.now) }
+pub fn have_twice(attributes: &[Attribute<'_>]) -> bool
+    ensures { result ≡ have_twice (map attribute_view attributes.now) }
 {
     code_stands_twice(attributes)
         || stack_map_stands_twice(attributes)
-        || numbers_stand_twice(pool, Location::Method, attributes)
+        || numbers_stand_twice(Location::Method, attributes)
 }

@@ -6,9 +6,10 @@ ghost use Rattle.classfile.specs.Pieces.{component_pieces};
 ghost use Rattle.classfile.specs.Views.{component_view, class_attribute_view};
 
 use crate::component::{Component, put_components, whole_components};
-use crate::layouts::is_laid_out;
-use crate::location::{Location, is_permitted_subclasses, is_record};
+use crate::layouts::{has_layout, layout_at};
+use crate::location::{Location, is_record};
 use crate::nested::put_kept;
+use crate::numbers::{Numbers, is_laid_out};
 use crate::table::Item;
 use layout::{Cursor, Output, ReadFault, WriteFault};
 use pool::Pool;
@@ -22,7 +23,12 @@ pub enum ClassAttribute<'a> {
         name: u16,
         components: Vec<Component<'a>>,
     },
-    /// An attribute of another name, whose body is kept as it is. One of numbers has the length that its layout asks for.
+    /// An attribute whose body is numbers.
+    Numbers {
+        name: u16,
+        numbers: Numbers<'a>,
+    },
+    /// An attribute of another name, whose body is kept as it is.
     Raw {
         name: u16,
         body: &'a [u8],
@@ -87,10 +93,15 @@ impl<'a> Item<'a> for ClassAttribute<'a> {
         if is_record(pool, location, name) {
             let components = whole_components(alloc, pool, name_at, start, body)?;
             Ok(ClassAttribute::Record { name, components })
-        } else if is_laid_out(pool, location, name, body) {
-            Ok(ClassAttribute::Raw { name, body })
         } else {
-            Err(ReadFault::AttributeLength { at: name_at })
+            match layout_at(pool, location, name) {
+                None => Ok(ClassAttribute::Raw { name, body }),
+                Some(layout) if has_layout(layout, body) => Ok(ClassAttribute::Numbers {
+                    name,
+                    numbers: Numbers { layout, body },
+                }),
+                Some(_) => Err(ReadFault::AttributeLength { at: name_at }),
+            }
         }
     }
 
@@ -100,9 +111,14 @@ impl<'a> Item<'a> for ClassAttribute<'a> {
                 let fine = is_record(pool, location, *name);
                 put_record(out, pool, *name, fine, components)
             }
+            ClassAttribute::Numbers { name, numbers } => {
+                let fine = !is_record(pool, location, *name)
+                    && is_laid_out(pool, location, *name, numbers);
+                put_kept(out, *name, fine, numbers.body)
+            }
             ClassAttribute::Raw { name, body } => {
                 let fine = !is_record(pool, location, *name)
-                    && is_laid_out(pool, location, *name, body);
+                    && layout_at(pool, location, *name).is_none();
                 put_kept(out, *name, fine, body)
             }
         }
@@ -110,7 +126,9 @@ impl<'a> Item<'a> for ClassAttribute<'a> {
 }
 
 impl<'a> ClassAttribute<'a> {
-    ghost use Rattle.classfile.specs.ClassAttributes.{components_of, numbers_in, permitted_of};
+    ghost use Rattle.std.specs.Prelude.{option_map};
+    ghost use Rattle.classfile.specs.ClassAttributes.{components_of, permitted_in};
+    ghost use Rattle.classfile.specs.LayoutViews.{numbers_view};
 
     /// The components of a Record attribute (JVMS 4.7.30); none of another.
     pub fn components(&self) -> &[Component<'a>]
@@ -118,24 +136,19 @@ impl<'a> ClassAttribute<'a> {
     {
         match self {
             ClassAttribute::Record { components, .. } => components,
-            ClassAttribute::Raw { .. } => &[],
+            ClassAttribute::Numbers { .. } | ClassAttribute::Raw { .. } => &[],
         }
     }
 
-    /// The classes item of a PermittedSubclasses attribute (JVMS 4.7.31) in a class file of this pool and major version: in
-    /// each two bytes the index of a Class. Nothing of another attribute.
-    pub fn permitted_subclasses(&self, pool: &Pool<'_>, major: u16) -> &'a [u8]
-        ensures { numbers_in result.now ≡ permitted_of major pool.now (class_attribute_view self.now) }
+    /// The numbers of a PermittedSubclasses attribute (JVMS 4.7.31): rows of one number, the index of a Class. Nothing of another
+    /// attribute.
+    pub fn permitted_subclasses(&self) -> Option<Numbers<'a>>
+        ensures { option_map numbers_view result ≡ permitted_in (class_attribute_view self.now) }
     {
-        let ClassAttribute::Raw { name, body } = self else {
-            return &[];
-        };
-        if !is_permitted_subclasses(pool, Location::Class { major }, *name) {
-            return &[];
-        }
-        match body {
-            [_, _, classes @ ..] => classes,
-            _ => &[],
+        match self {
+            ClassAttribute::Numbers { numbers, .. }
+                if numbers.layout.name == "PermittedSubclasses" => Some(*numbers),
+            _ => None,
         }
     }
 }

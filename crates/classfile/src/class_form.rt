@@ -85,7 +85,7 @@ fn class_has_bad(class: &ClassFile<'_>) -> bool
     is_bad(pool, class.this_class)
         || is_bad_unless_zero(pool, class.super_class)
         || interfaces_have_bad(pool, &class.interfaces)
-        || class_attributes_have_bad(pool, location(class), &class.attributes)
+        || class_attributes_have_bad(pool, &class.attributes)
 }
 
 /// Whether one of its indices breaks a rule, 20 or 21; each is looked up once for both.
@@ -97,7 +97,7 @@ fn class_has_fault(class: &ClassFile<'_>) -> bool
     lacks(pool, ConstantKind::Class, class.this_class)
         || lacks_unless_zero(pool, ConstantKind::Class, class.super_class)
         || interfaces_have_fault(pool, &class.interfaces)
-        || class_attributes_have_fault(pool, location(class), &class.attributes)
+        || class_attributes_have_fault(pool, &class.attributes)
 }
 
 #[tactic(auto, unfolding(crate::specs::ClassForm::class_has_array))]
@@ -135,11 +135,7 @@ pub fn class_rule(class: &ClassFile<'_>) -> Option<FormRule>
         Some(FormRule::BadFlags)
     } else if has_bad_super(class) {
         Some(FormRule::BadSuper)
-    } else if class_attributes_have_twice(
-        &class.constant_pool,
-        location(class),
-        &class.attributes,
-    ) {
+    } else if class_attributes_have_twice(location(class), &class.attributes) {
         Some(FormRule::AttributeTwice)
     } else {
         None

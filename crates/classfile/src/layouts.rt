@@ -1,9 +1,10 @@
 //! Attributes of numbers: the table of them, by where they stand, and how their bodies are laid out (JVMS 4.7).
 ghost use Rattle.std.specs.Prelude.{◌≡◌, ◌*◌, map, length, option_map};
-ghost use Rattle.classfile.specs.Layouts.{is_row, row_in, rows, row_at, major_at, has_count, has_layout, is_laid_out};
-ghost use Rattle.classfile.specs.LayoutViews.{row_view};
+ghost use Rattle.classfile.specs.Layouts.{is_layout, layout_in, layouts_in, layout_at, major_at, has_count, has_layout};
+ghost use Rattle.classfile.specs.LayoutViews.{layout_view};
 
 use crate::location::Location;
+use crate::numbers::number;
 use pool::Pool;
 
 /// The meaning of a number in the body of an attribute.
@@ -23,9 +24,9 @@ pub enum Column {
     Value,
 }
 
-/// An attribute whose body is numbers of two bytes each: a row of such numbers, or a count and as many rows.
-#[derive(Clone, Copy)]
-pub struct Row {
+/// How the body of an attribute is laid out that is numbers of two bytes each: a row of such numbers, or a count and as many rows.
+#[derive(Clone, Copy, Debug, PartialEq, Eq)]
+pub struct AttributeLayout {
     /// The attribute's name.
     pub name: &'static str,
     /// The first major version of class files in which it is read so.
@@ -38,15 +39,15 @@ pub struct Row {
     pub columns: &'static [Column],
 }
 
-/// The rows of a table that is written as `NAME MAJOR ONCE COUNTED [COLUMN, COLUMN];`, one row a line.
+/// The layouts of a table that is written as `NAME MAJOR ONCE COUNTED [COLUMN, COLUMN];`, one a line.
 macro_rules! attributes {
     ($($name:literal $major:literal $once:literal $counted:literal [$($column:ident),*];)*) => {
-        [$(Row { name: $name, first_major: $major, once: $once, counted: $counted, columns: &[$(Column::$column),*] }),*]
+        [$(AttributeLayout { name: $name, first_major: $major, once: $once, counted: $counted, columns: &[$(Column::$column),*] }),*]
     };
 }
 
 /// Of classes.
-static CLASS_ROWS: [Row; 8] = attributes! {
+static CLASS_LAYOUTS: [AttributeLayout; 8] = attributes! {
     "SourceFile"          51 true  false [Text];
     "InnerClasses"        51 true  true  [Class, ClassOrZero, TextOrZero, Plain];
     "NestHost"            55 true  false [Class];
@@ -58,7 +59,7 @@ static CLASS_ROWS: [Row; 8] = attributes! {
 };
 
 /// Of fields.
-static FIELD_ROWS: [Row; 4] = attributes! {
+static FIELD_LAYOUTS: [AttributeLayout; 4] = attributes! {
     "ConstantValue" 51 true  false [Value];
     "Signature"     51 true  false [Text];
     "Deprecated"    51 false false [];
@@ -66,7 +67,7 @@ static FIELD_ROWS: [Row; 4] = attributes! {
 };
 
 /// Of methods.
-static METHOD_ROWS: [Row; 4] = attributes! {
+static METHOD_LAYOUTS: [AttributeLayout; 4] = attributes! {
     "Exceptions" 51 true  true  [Class];
     "Signature"  51 true  false [Text];
     "Deprecated" 51 false false [];
@@ -74,51 +75,55 @@ static METHOD_ROWS: [Row; 4] = attributes! {
 };
 
 /// Of Code attributes.
-static CODE_ROWS: [Row; 2] = attributes! {
+static CODE_LAYOUTS: [AttributeLayout; 2] = attributes! {
     "LineNumberTable"    51 false true [Plain, Plain];
     "LocalVariableTable" 51 false true [Plain, Plain, Text, Text, Plain];
 };
 
 /// Of components of records.
-static COMPONENT_ROWS: [Row; 1] = attributes! {
+static COMPONENT_LAYOUTS: [AttributeLayout; 1] = attributes! {
     "Signature" 51 true false [Text];
 };
 
-/// The attributes of numbers that may stand in a table.
-pub fn rows(location: Location) -> &'static [Row]
-    ensures { map row_view result.now ≡ rows location }
+/// The layouts of the attributes of numbers that may stand in a table.
+pub fn layouts_in(location: Location) -> &'static [AttributeLayout]
+    ensures { map layout_view result.now ≡ layouts_in location }
 {
     match location {
-        Location::Class { .. } => &CLASS_ROWS,
-        Location::Field => &FIELD_ROWS,
-        Location::Method => &METHOD_ROWS,
-        Location::Code => &CODE_ROWS,
-        Location::RecordComponent => &COMPONENT_ROWS,
+        Location::Class { .. } => &CLASS_LAYOUTS,
+        Location::Field => &FIELD_LAYOUTS,
+        Location::Method => &METHOD_LAYOUTS,
+        Location::Code => &CODE_LAYOUTS,
+        Location::RecordComponent => &COMPONENT_LAYOUTS,
     }
 }
 
-/// Whether the row is that of this name, and stands for class files of this version.
-pub fn is_row(row: &Row, major: u16, name: &[u8]) -> bool
-    ensures { result ≡ is_row major name.now (row_view row.now) }
+/// Whether the layout is that of this name, and stands for class files of this version.
+fn is_layout(layout: &AttributeLayout, major: u16, name: &[u8]) -> bool
+    ensures { result ≡ is_layout major name.now (layout_view layout.now) }
 {
-    let text = row.name.as_bytes();
-    row.first_major <= major && name.len() == text.len() && name == text
+    let text = layout.name.as_bytes();
+    layout.first_major <= major && name.len() == text.len() && name == text
 }
 
-/// The first row of this name.
-fn row_in(rows: &'static [Row], major: u16, name: &[u8]) -> Option<&'static Row>
-    ensures { option_map (λ r. row_view r.now) result ≡ row_in major name.now (map row_view rows.now) }
+/// The first layout of this name.
+fn layout_in(
+    layouts: &'static [AttributeLayout],
+    major: u16,
+    name: &[u8],
+) -> Option<&'static AttributeLayout>
+    ensures { option_map (λ l. layout_view l.now) result ≡ layout_in major name.now (map layout_view layouts.now) }
 {
-    for row in rows {
-        if is_row(row, major, name) {
-            return Some(row);
+    for layout in layouts {
+        if is_layout(layout, major, name) {
+            return Some(layout);
         }
     }
     None
 }
 
 /// The version on which it hangs what stands there.
-pub fn major_at(location: Location) -> u16
+fn major_at(location: Location) -> u16
     ensures { result ≡ major_at location }
 {
     match location {
@@ -127,12 +132,12 @@ pub fn major_at(location: Location) -> u16
     }
 }
 
-/// The row of an attribute by the index of its name.
-pub fn row_at(pool: &Pool<'_>, location: Location, name: u16) -> Option<&'static Row>
-    ensures { option_map (λ r. row_view r.now) result ≡ row_at pool.now location name }
+/// The layout of an attribute by the index of its name.
+pub fn layout_at(pool: &Pool<'_>, location: Location, name: u16) -> Option<&'static AttributeLayout>
+    ensures { option_map (λ l. layout_view l.now) result ≡ layout_at pool.now location name }
 {
     match pool.text(name) {
-        Ok(text) => row_in(rows(location), major_at(location), text.bytes()),
+        Ok(text) => layout_in(layouts_in(location), major_at(location), text.bytes()),
         Err(_) => None,
     }
 }
@@ -144,28 +149,17 @@ fn has_count(width: usize, body: &[u8]) -> bool
     let [high, low, rows @ ..] = body else {
         return false;
     };
-    let count = usize::from(*high) * 256 + usize::from(*low);
-    count.checked_mul(width) == Some(rows.len())
+    usize::from(number(*high, *low)).checked_mul(width) == Some(rows.len())
 }
 
-/// Whether the body is laid out as the row says.
-fn has_layout(row: &Row, body: &[u8]) -> bool
-    ensures { result ≡ has_layout (row_view row.now) body.now }
+/// Whether the body is laid out so.
+pub fn has_layout(layout: &AttributeLayout, body: &[u8]) -> bool
+    ensures { result ≡ has_layout (layout_view layout.now) body.now }
 {
-    let width = 2 * row.columns.len();
-    if row.counted {
+    let width = 2 * layout.columns.len();
+    if layout.counted {
         has_count(width, body)
     } else {
         body.len() == width
-    }
-}
-
-/// Whether the body is laid out as an attribute of this name is here. Of other names any body is.
-pub fn is_laid_out(pool: &Pool<'_>, location: Location, name: u16, body: &[u8]) -> bool
-    ensures { result ≡ is_laid_out pool.now location name body.now }
-{
-    match row_at(pool, location, name) {
-        Some(row) => has_layout(row, body),
-        None => true,
     }
 }

@@ -17,7 +17,8 @@
 //! | `code_method` | [`CodeMethod`], a method of a well-formed class as its instructions see it |
 //! | `nested` | [`NestedAttribute`], an attribute of a Code attribute |
 //! | `location` | the table that an attribute stands in, and which are read by field there |
-//! | `layouts` | attributes of numbers of two bytes, and how their bodies are laid out |
+//! | `layouts` | attributes of numbers of two bytes, and how their bodies are laid out: [`AttributeLayout`] |
+//! | `numbers` | [`Numbers`] of an attribute, row by row |
 //! | `table` | a count and so many items, for all tables of a class file |
 //! | `decoding`, `encoding` | the two calls |
 //! | `outline`, `reading` | [`read_class`], and how far a class reaches in a stream |
@@ -61,6 +62,7 @@ mod member_form;
 mod naming;
 mod nested;
 mod number_form;
+mod numbers;
 mod once;
 mod outline;
 mod own_fields;
@@ -89,7 +91,9 @@ pub use laws::{
     class_is_outline, class_or_fault, no_fault_in_class, one_class, one_fault, one_outline,
     one_spelling, outline_or_fault,
 };
+pub use layouts::{AttributeLayout, Column};
 pub use member::Member;
 pub use nested::NestedAttribute;
+pub use numbers::Numbers;
 pub use own_fields::{OwnFields, declares_field};
 pub use reading::read_class;

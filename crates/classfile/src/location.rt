@@ -1,6 +1,6 @@
 //! Where an attribute stands, and whether its body is read by field there (JVMS 4.7, table 4.7-C).
 ghost use Rattle.std.specs.Prelude.{◌≡◌};
-ghost use Rattle.classfile.specs.Locations.{is_named, is_code, is_stack_map, is_record, is_permitted_subclasses};
+ghost use Rattle.classfile.specs.Locations.{is_named, is_code, is_stack_map, is_record};
 
 use pool::Pool;
 
@@ -57,16 +57,6 @@ pub fn is_record(pool: &Pool<'_>, location: Location, name: u16) -> bool
 {
     match location {
         Location::Class { major } => major >= 60 && is_named(pool, name, b"Record"),
-        Location::Field | Location::Method | Location::Code | Location::RecordComponent => false,
-    }
-}
-
-/// Whether an attribute of this name is a PermittedSubclasses here.
-pub fn is_permitted_subclasses(pool: &Pool<'_>, location: Location, name: u16) -> bool
-    ensures { result ≡ is_permitted_subclasses pool.now location name }
-{
-    match location {
-        Location::Class { major } => major >= 61 && is_named(pool, name, b"PermittedSubclasses"),
         Location::Field | Location::Method | Location::Code | Location::RecordComponent => false,
     }
 }

@@ -26,30 +26,26 @@ use names::Text;
 use pool::{NameAndType, Pool};
 
 #[tactic(auto, unfolding(crate::specs::MemberForm::member_has_bad))]
-fn member_has_bad(pool: &Pool<'_>, location: Location, member: &Member<'_>) -> bool
-    ensures { result ≡ member_has_bad pool.now location (member_view member.now) }
+fn member_has_bad(pool: &Pool<'_>, member: &Member<'_>) -> bool
+    ensures { result ≡ member_has_bad pool.now (member_view member.now) }
 {
     texts_have_bad(pool, member.name, member.descriptor)
-        || attributes_have_bad(pool, location, &member.attributes)
+        || attributes_have_bad(pool, &member.attributes)
 }
 
 /// Whether one of its indices breaks a rule, 20 or 21; each is looked up once for both.
 #[tactic(auto, unfolding(crate::specs::MemberForm::member_has_bad, crate::specs::MemberForm::member_has_other))]
-fn member_has_fault(pool: &Pool<'_>, location: Location, member: &Member<'_>) -> bool
-    ensures { result ≡ (member_has_bad pool.now location (member_view member.now) || member_has_other pool.now location (member_view member.now)) }
+fn member_has_fault(pool: &Pool<'_>, member: &Member<'_>) -> bool
+    ensures { result ≡ (member_has_bad pool.now (member_view member.now) || member_has_other pool.now (member_view member.now)) }
 {
     texts_have_fault(pool, member.name, member.descriptor)
-        || attributes_have_fault(pool, location, &member.attributes)
+        || attributes_have_fault(pool, &member.attributes)
 }
 
 /// The name and the descriptor of a member, each looked up once, if none of its indices breaks a rule, 20 or 21.
 #[tactic(auto, unfolding(pool::specs::Lookups::text_at, crate::specs::Indices::is_bad, crate::specs::Indices::is_other, crate::specs::ConstantForm::texts_have_bad, crate::specs::ConstantForm::texts_have_other, crate::specs::MemberForm::member_has_bad, crate::specs::MemberForm::member_has_other))]
-fn sound_texts<'a>(
-    pool: &Pool<'a>,
-    location: Location,
-    member: &Member<'_>,
-) -> Option<NameAndType<'a>>
-    ensures { AreSoundTexts pool.now location (member_view member.now) result }
+fn sound_texts<'a>(pool: &Pool<'a>, member: &Member<'_>) -> Option<NameAndType<'a>>
+    ensures { AreSoundTexts pool.now (member_view member.now) result }
 {
     let Ok(name) = pool.text(member.name) else {
         return None;
@@ -57,7 +53,7 @@ fn sound_texts<'a>(
     let Ok(descriptor) = pool.text(member.descriptor) else {
         return None;
     };
-    if attributes_have_fault(pool, location, &member.attributes) {
+    if attributes_have_fault(pool, &member.attributes) {
         return None;
     }
     Some(NameAndType { name, descriptor })
@@ -74,8 +70,8 @@ pub fn field_rule(
     ensures told { result ≡ broken_rule (field_conditions pool.now repeated (member_view field.now)) }
     ensures kept { AreForms pool.now forms.new }
 {
-    if member_has_fault(pool, Location::Field, field) {
-        Some(index_rule(member_has_bad(pool, Location::Field, field)))
+    if member_has_fault(pool, field) {
+        Some(index_rule(member_has_bad(pool, field)))
     } else if is_no_unqualified_name(pool, forms, field.name) {
         Some(FormRule::BadName)
     } else if is_no_field_descriptor(pool, forms, field.descriptor) {
@@ -84,7 +80,7 @@ pub fn field_rule(
         Some(FormRule::BadFlags)
     } else if repeated {
         Some(FormRule::Twice)
-    } else if numbers_stand_twice(pool, Location::Field, &field.attributes) {
+    } else if numbers_stand_twice(Location::Field, &field.attributes) {
         Some(FormRule::AttributeTwice)
     } else {
         None
@@ -188,9 +184,9 @@ pub fn method_rule(
     ensures told { result ≡ broken_rule (method_conditions pool.now interface repeated (member_view method.now)) }
     ensures kept { AreForms pool.now forms.new }
 {
-    match sound_texts(pool, Location::Method, method) {
+    match sound_texts(pool, method) {
         Some(texts) => named_method_rule(pool, forms, interface, repeated, method, texts),
-        None => Some(index_rule(member_has_bad(pool, Location::Method, method))),
+        None => Some(index_rule(member_has_bad(pool, method))),
     }
 }
 
@@ -234,7 +230,7 @@ fn body_rule(pool: &Pool<'_>, method: &Member<'_>, name: Text<'_>) -> Option<For
         Some(FormRule::CodeNotAllowed)
     } else if have_bad_length(&method.attributes) {
         Some(FormRule::BadCodeLength)
-    } else if have_twice(pool, &method.attributes) {
+    } else if have_twice(&method.attributes) {
         Some(FormRule::AttributeTwice)
     } else {
         None

@@ -2,8 +2,9 @@
 ghost use Rattle.std.specs.Prelude.{◌≡◌, ◌++◌, [], ◌∷◌};
 ghost use Rattle.layout.specs.Pieces.{Goes, field, plain, marked, lengthened};
 
-use crate::layouts::is_laid_out;
+use crate::layouts::{has_layout, layout_at};
 use crate::location::{Location, is_stack_map};
+use crate::numbers::{Numbers, is_laid_out};
 use crate::table::Item;
 use layout::{Cursor, Output, ReadFault, WriteFault};
 use pool::Pool;
@@ -14,7 +15,9 @@ use std::alloc::Global;
 pub enum NestedAttribute<'a> {
     /// A StackMapTable (4.7.4), whose body is kept as it is.
     StackMapTable { name: u16, body: &'a [u8] },
-    /// An attribute of another name, whose body is kept as it is. One of numbers has the length that its layout asks for.
+    /// An attribute whose body is numbers.
+    Numbers { name: u16, numbers: Numbers<'a> },
+    /// An attribute of another name, whose body is kept as it is.
     Raw { name: u16, body: &'a [u8] },
 }
 
@@ -64,10 +67,15 @@ impl<'a> Item<'a> for NestedAttribute<'a> {
         let body = cursor.part(length as usize)?;
         if is_stack_map(pool, Location::Code, name) {
             Ok(NestedAttribute::StackMapTable { name, body })
-        } else if is_laid_out(pool, Location::Code, name, body) {
-            Ok(NestedAttribute::Raw { name, body })
         } else {
-            Err(ReadFault::AttributeLength { at: name_at })
+            match layout_at(pool, Location::Code, name) {
+                None => Ok(NestedAttribute::Raw { name, body }),
+                Some(layout) if has_layout(layout, body) => Ok(NestedAttribute::Numbers {
+                    name,
+                    numbers: Numbers { layout, body },
+                }),
+                Some(_) => Err(ReadFault::AttributeLength { at: name_at }),
+            }
         }
     }
 
@@ -81,9 +89,14 @@ impl<'a> Item<'a> for NestedAttribute<'a> {
             NestedAttribute::StackMapTable { name, body } => {
                 put_kept(out, *name, is_stack_map(pool, Location::Code, *name), body)
             }
+            NestedAttribute::Numbers { name, numbers } => {
+                let fine = !is_stack_map(pool, Location::Code, *name)
+                    && is_laid_out(pool, Location::Code, *name, numbers);
+                put_kept(out, *name, fine, numbers.body)
+            }
             NestedAttribute::Raw { name, body } => {
                 let fine = !is_stack_map(pool, Location::Code, *name)
-                    && is_laid_out(pool, Location::Code, *name, body);
+                    && layout_at(pool, Location::Code, *name).is_none();
                 put_kept(out, *name, fine, body)
             }
         }

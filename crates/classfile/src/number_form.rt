@@ -1,19 +1,17 @@
-//! The faults that the numbers in an attribute's body may have (JVMS 4.7): the indices among them, column by column.
-ghost use Rattle.std.specs.Prelude.{◌≡◌, ◌≤◌, ◌||◌, if◌then◌else◌, Some, None, length, map, option_map};
-ghost use Rattle.classfile.specs.declared.indices.ConstantKind.TheVariants as kinds;
-ghost use Rattle.classfile.specs.Indices.{is_bad, is_other};
-ghost use Rattle.classfile.specs.Layouts.{row_in, rows, major_at};
-ghost use Rattle.classfile.specs.LayoutViews.{row_view};
+//! The faults that the numbers of an attribute may have (JVMS 4.7): the indices among them, column by column.
+ghost use Rattle.std.specs.Prelude.{◌≡◌, ◌≤◌, ◌||◌, if◌then◌else◌, Some, None, length, option_map};
+ghost use Rattle.std.specs.List.{list_any};
+ghost use Rattle.classfile.specs.LayoutViews.{numbers_view};
 ghost use Rattle.classfile.specs.declared.number_form.IndexRule.TheVariants as rules;
-ghost use Rattle.classfile.specs.declared.location.Location.TheVariants as location;
-ghost use Rattle.classfile.specs.IndexRows.{variable, names_variables, is_index_row, index_row_in};
-ghost use Rattle.classfile.specs.NumberForm.{is_bad_in, is_other_in, breaks, row_breaks, behind_row, rows_break, counted_break, is_plain, are_plain, body_breaks, body_breaks_if, numbers_break};
+ghost use Rattle.classfile.specs.IndexColumns.{is_plain, are_plain, variable, are_variable};
+ghost use Rattle.classfile.specs.Numbers.{row_in, behind_row, rows_in, counted_rows};
+ghost use Rattle.classfile.specs.NumberForm.{is_bad_in, is_other_in, breaks, row_breaks, numbers_break};
 
 use crate::indices::{
     ConstantKind, is_bad, is_bad_unless_zero, is_other, lacks, lacks_unless_zero,
 };
-use crate::layouts::{Column, Row, is_row, major_at, row_at, rows};
-use crate::location::Location;
+use crate::layouts::Column;
+use crate::numbers::{Numbers, number};
 use pool::Pool;
 
 /// Of five numbers the third and the fourth are indices of texts.
@@ -88,19 +86,14 @@ fn sound_row<'b>(
     columns: &[Column],
     bytes: &'b [u8],
 ) -> Option<&'b [u8]>
-    ensures { option_map (λ b. b.now) result ≡ (if row_breaks (breaks pool.now rule) columns.now bytes.entry.now then None else Some (behind_row columns.now bytes.entry.now)) }
+    ensures { option_map (λ b. b.now) result ≡ (if row_breaks (breaks pool.now rule) columns.now (row_in columns.now bytes.entry.now) then None else Some (behind_row columns.now bytes.entry.now)) }
 {
     let mut rest = bytes;
     for column in columns {
         let [high, low, behind @ ..] = rest else {
             return Some(&[]);
         };
-        if breaks(
-            pool,
-            rule,
-            *column,
-            u16::from(*high) * 256 + u16::from(*low),
-        ) {
+        if breaks(pool, rule, *column, number(*high, *low)) {
             return None;
         }
         rest = behind;
@@ -116,7 +109,7 @@ fn rows_break(
     count: u16,
     bytes: &[u8],
 ) -> bool
-    ensures { result ≡ rows_break (breaks pool.now rule) columns.now count bytes.now }
+    ensures { result ≡ list_any (row_breaks (breaks pool.now rule) columns.now) (rows_in columns.now count bytes.now) }
 {
     let mut rest = bytes;
     for _ in 0..count {
@@ -130,18 +123,12 @@ fn rows_break(
 
 /// Whether a number in a count's rows breaks the rule.
 fn counted_break(pool: &Pool<'_>, rule: IndexRule, columns: &[Column], body: &[u8]) -> bool
-    ensures { result ≡ counted_break (breaks pool.now rule) columns.now body.now }
+    ensures { result ≡ list_any (row_breaks (breaks pool.now rule) columns.now) (counted_rows columns.now body.now) }
 {
     let [high, low, bytes @ ..] = body else {
         return false;
     };
-    rows_break(
-        pool,
-        rule,
-        columns,
-        u16::from(*high) * 256 + u16::from(*low),
-        bytes,
-    )
+    rows_break(pool, rule, columns, number(*high, *low), bytes)
 }
 
 fn is_plain(column: Column) -> bool
@@ -162,83 +149,33 @@ fn are_plain(columns: &[Column]) -> bool
     true
 }
 
-fn body_breaks(pool: &Pool<'_>, rule: IndexRule, row: &Row, body: &[u8]) -> bool
-    ensures { result ≡ body_breaks (breaks pool.now rule) (row_view row.now) body.now }
-{
-    if row.counted {
-        counted_break(pool, rule, row.columns, body)
-    } else {
-        sound_row(pool, rule, row.columns, body).is_none()
-    }
-}
-
-/// The same, without a look at rows that have no index, as those of line numbers.
-fn indices_break(pool: &Pool<'_>, rule: IndexRule, row: &Row, body: &[u8]) -> bool
-    ensures { result ≡ body_breaks (breaks pool.now rule) (row_view row.now) body.now }
-{
-    if are_plain(row.columns) {
-        return false;
-    }
-    body_breaks(pool, rule, row, body)
-}
-
-/// Whether an index in the body of an attribute of this name breaks the rule.
 #[tactic(auto, unfolding(crate::specs::NumberForm::numbers_break))]
-pub fn numbers_break(
-    pool: &Pool<'_>,
-    location: Location,
-    rule: IndexRule,
-    name: u16,
-    body: &[u8],
-) -> bool
-    ensures { result ≡ numbers_break pool.now location rule name body.now }
+fn body_breaks(pool: &Pool<'_>, rule: IndexRule, numbers: &Numbers<'_>) -> bool
+    ensures { result ≡ numbers_break pool.now rule (numbers_view numbers.now) }
 {
-    match row_at(pool, location, name) {
-        Some(row) => indices_break(pool, rule, row, body),
-        None => false,
+    let columns = numbers.layout.columns;
+    if numbers.layout.counted {
+        counted_break(pool, rule, columns, numbers.body)
+    } else {
+        sound_row(pool, rule, columns, numbers.body).is_none()
     }
 }
 
-/// The row of this name, if its attributes have indices. Rows that have none, as that of line numbers, are not compared with the name.
-fn index_row_in(rows: &'static [Row], major: u16, name: &[u8]) -> Option<&'static Row>
-    ensures { option_map (λ r. row_view r.now) result ≡ index_row_in major name.now (map row_view rows.now) }
+/// Whether an index among the numbers breaks the rule. Rows that have no index, as those of line numbers, are not looked at.
+pub fn numbers_break(pool: &Pool<'_>, rule: IndexRule, numbers: &Numbers<'_>) -> bool
+    ensures { result ≡ numbers_break pool.now rule (numbers_view numbers.now) }
 {
-    for row in rows {
-        if is_index_row(row, major, name) {
-            return Some(row);
-        }
-    }
-    None
+    !are_plain(numbers.layout.columns) && body_breaks(pool, rule, numbers)
 }
 
-/// Whether the row is that of this name, and its attributes have indices.
-fn is_index_row(row: &Row, major: u16, name: &[u8]) -> bool
-    ensures { result ≡ is_index_row major name.now (row_view row.now) }
+/// Whether the columns are those of a LocalVariableTable (JVMS 4.7.13).
+fn are_variable(columns: &[Column]) -> bool
+    ensures { result ≡ are_variable columns.now }
 {
-    row.name.len() == name.len() && !are_plain(row.columns) && is_row(row, major, name)
+    columns == VARIABLE.as_slice()
 }
 
-/// Whether an index in the body of an attribute of this name breaks one of the two rules; each is looked up once.
-fn numbers_have_fault(pool: &Pool<'_>, location: Location, name: &[u8], body: &[u8]) -> bool
-    ensures { result ≡ body_breaks_if (breaks pool.now rules.Both) (row_in (major_at location) name.now (rows location)) body.now }
-{
-    match index_row_in(rows(location), major_at(location), name) {
-        Some(row) => body_breaks(pool, IndexRule::Both, row, body),
-        None => false,
-    }
-}
-
-/// Whether the index of an attribute's name breaks one of the two rules, or an index in its body does; each is looked up once.
-pub fn head_has_fault(pool: &Pool<'_>, location: Location, name: u16, body: &[u8]) -> bool
-    ensures { result ≡ ((is_bad pool.now name || numbers_break pool.now location rules.BadIndex name body.now) || (is_other pool.now kinds.Utf8 name || numbers_break pool.now location rules.WrongKind name body.now)) }
-{
-    match pool.text(name) {
-        Ok(text) => numbers_have_fault(pool, location, text.bytes(), body),
-        Err(_) => true,
-    }
-}
-
-/// The columns of a LocalVariableTable (JVMS 4.7.13).
+/// The columns of a LocalVariableTable.
 fn variable() -> &'static [Column]
     ensures { result.now ≡ variable }
 {
@@ -249,13 +186,12 @@ fn variable() -> &'static [Column]
 /// the most, so their other numbers are not looked at one by one.
 fn sound_variable<'b>(pool: &Pool<'_>, bytes: &'b [u8]) -> Option<&'b [u8]>
     requires { 10 ≤ length bytes.now }
-    ensures { option_map (λ b. b.now) result ≡ (if row_breaks (breaks pool.now rules.Both) variable bytes.entry.now then None else Some (behind_row variable bytes.entry.now)) }
+    ensures { option_map (λ b. b.now) result ≡ (if row_breaks (breaks pool.now rules.Both) variable (row_in variable bytes.entry.now) then None else Some (behind_row variable bytes.entry.now)) }
 {
     let [_, _, _, _, a, b, c, d, _, _, behind @ ..] = bytes else {
         return None;
     };
-    let name = u16::from(*a) * 256 + u16::from(*b);
-    let descriptor = u16::from(*c) * 256 + u16::from(*d);
+    let (name, descriptor) = (number(*a, *b), number(*c, *d));
     if lacks(pool, ConstantKind::Utf8, name) || lacks(pool, ConstantKind::Utf8, descriptor) {
         return None;
     }
@@ -264,7 +200,7 @@ fn sound_variable<'b>(pool: &Pool<'_>, bytes: &'b [u8]) -> Option<&'b [u8]>
 
 /// Whether a name or a descriptor of so many local variables breaks one of the two rules.
 fn variables_break(pool: &Pool<'_>, count: u16, bytes: &[u8]) -> bool
-    ensures { result ≡ rows_break (breaks pool.now rules.Both) variable count bytes.now }
+    ensures { result ≡ list_any (row_breaks (breaks pool.now rules.Both) variable) (rows_in variable count bytes.now) }
 {
     let mut rest = bytes;
     for done in 0..count {
@@ -281,27 +217,20 @@ fn variables_break(pool: &Pool<'_>, count: u16, bytes: &[u8]) -> bool
 
 /// Whether a number in the body of a LocalVariableTable breaks one of the two rules.
 fn variables_have_fault(pool: &Pool<'_>, body: &[u8]) -> bool
-    ensures { result ≡ counted_break (breaks pool.now rules.Both) variable body.now }
+    ensures { result ≡ list_any (row_breaks (breaks pool.now rules.Both) variable) (counted_rows variable body.now) }
 {
     let [high, low, bytes @ ..] = body else {
         return false;
     };
-    variables_break(pool, u16::from(*high) * 256 + u16::from(*low), bytes)
+    variables_break(pool, number(*high, *low), bytes)
 }
 
-/// Whether the text is the name of tables of local variables.
-fn names_variables(name: &[u8]) -> bool
-    ensures { result ≡ names_variables name.now }
+/// Whether an index among the numbers breaks one of the two rules; each is looked up once.
+pub fn numbers_have_fault(pool: &Pool<'_>, numbers: &Numbers<'_>) -> bool
+    ensures { result ≡ (numbers_break pool.now rules.BadIndex (numbers_view numbers.now) || numbers_break pool.now rules.WrongKind (numbers_view numbers.now)) }
 {
-    name.len() == 18 && name == b"LocalVariableTable".as_slice()
-}
-
-/// The same for an attribute of a Code attribute: of the rows there, that of local variables alone has indices.
-pub fn code_head_has_fault(pool: &Pool<'_>, name: u16, body: &[u8]) -> bool
-    ensures { result ≡ ((is_bad pool.now name || numbers_break pool.now location.Code rules.BadIndex name body.now) || (is_other pool.now kinds.Utf8 name || numbers_break pool.now location.Code rules.WrongKind name body.now)) }
-{
-    match pool.text(name) {
-        Ok(text) => names_variables(text.bytes()) && variables_have_fault(pool, body),
-        Err(_) => true,
+    if numbers.layout.counted && are_variable(numbers.layout.columns) {
+        return variables_have_fault(pool, numbers.body);
     }
+    numbers_break(pool, IndexRule::Both, numbers)
 }

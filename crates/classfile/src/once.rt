@@ -1,41 +1,26 @@
 //! Attributes of numbers of which a table may have one (JVMS 4.7), and whether it has two.
-ghost use Rattle.std.specs.Prelude.{◌≡◌, map};
-ghost use Rattle.layout.specs.PieceLaws.{Either};
-ghost use Rattle.classfile.specs.LayoutViews.{row_view};
-ghost use Rattle.classfile.specs.IndexRows.{is_kept, two_are_kept};
-ghost use Rattle.classfile.specs.NumberForm.{is_row_named, is_of_row, row_stands_twice, numbers_stand_twice};
+ghost use Rattle.std.specs.Prelude.{◌≡◌, map, option_map};
+ghost use Rattle.classfile.specs.LayoutViews.{layout_view};
+ghost use Rattle.classfile.specs.IndexColumns.{layout_of, has_numbers, two_have_numbers};
+ghost use Rattle.classfile.specs.NumberForm.{has_this_layout, layout_stands_twice, numbers_stand_twice};
+ghost use Rattle.classfile.specs.Values.{AttributeOf};
 
 use crate::attribute::Attribute;
 use crate::class_attribute::ClassAttribute;
-use crate::layouts::{Row, is_row, major_at, rows};
+use crate::layouts::{AttributeLayout, layouts_in};
 use crate::location::Location;
-use pool::Pool;
 
 /// An attribute of a table that may have attributes of numbers.
 pub trait Tabled {
-    // The value of those that are read by field.
+    // The value of those that are read by their parts.
     ghost Held: { Type 0 };
 
     // An attribute without where its slices lie in memory.
-    ghost attribute: { Self → Either Held };
+    ghost attribute: { Self → AttributeOf Held };
 
-    /// Whether the body of the attribute is kept as it is.
-    fn is_kept(&self) -> bool
-        ensures { result ≡ is_kept (attribute self.now) };
-
-    /// Whether the attribute is that of the row.
-    fn is_of_row(&self, pool: &Pool<'_>, location: Location, row: &Row) -> bool
-        ensures { result ≡ is_of_row pool.now location (row_view row.now) (attribute self.now) };
-}
-
-/// Whether the row is that of this name.
-fn is_row_named(pool: &Pool<'_>, location: Location, row: &Row, name: u16) -> bool
-    ensures { result ≡ is_row_named pool.now location (row_view row.now) name }
-{
-    match pool.text(name) {
-        Ok(text) => is_row(row, major_at(location), text.bytes()),
-        Err(_) => false,
-    }
+    /// The layout of the attribute, if its body is numbers.
+    fn layout(&self) -> Option<&'static AttributeLayout>
+        ensures { option_map (λ l. layout_view l.now) result ≡ layout_of (attribute self.now) };
 }
 
 impl<'a> Tabled for Attribute<'a> {
@@ -46,15 +31,10 @@ impl<'a> Tabled for Attribute<'a> {
 
     ghost attribute = { attribute_view };
 
-    fn is_kept(&self) -> bool {
-        matches!(self, Attribute::Raw { .. })
-    }
-
-    #[tactic(auto, unfolding(crate::specs::NumberForm::is_of_row))]
-    fn is_of_row(&self, pool: &Pool<'_>, location: Location, row: &Row) -> bool {
+    fn layout(&self) -> Option<&'static AttributeLayout> {
         match self {
-            Attribute::Code { .. } => false,
-            Attribute::Raw { name, .. } => is_row_named(pool, location, row, *name),
+            Attribute::Numbers { numbers, .. } => Some(numbers.layout),
+            Attribute::Code { .. } | Attribute::Raw { .. } => None,
         }
     }
 }
@@ -68,57 +48,65 @@ impl<'a> Tabled for ClassAttribute<'a> {
 
     ghost attribute = { class_attribute_view };
 
-    fn is_kept(&self) -> bool {
-        matches!(self, ClassAttribute::Raw { .. })
-    }
-
-    #[tactic(auto, unfolding(crate::specs::NumberForm::is_of_row))]
-    fn is_of_row(&self, pool: &Pool<'_>, location: Location, row: &Row) -> bool {
+    fn layout(&self) -> Option<&'static AttributeLayout> {
         match self {
-            ClassAttribute::Record { .. } => false,
-            ClassAttribute::Raw { name, .. } => is_row_named(pool, location, row, *name),
+            ClassAttribute::Numbers { numbers, .. } => Some(numbers.layout),
+            ClassAttribute::Record { .. } | ClassAttribute::Raw { .. } => None,
         }
     }
 }
 
-#[tactic(auto, unfolding(crate::specs::NumberForm::row_stands_twice))]
-fn row_stands_twice<A: Tabled>(
-    pool: &Pool<'_>,
-    location: Location,
-    attributes: &[A],
-    row: &Row,
-) -> bool
-    ensures { result ≡ row_stands_twice pool.now location (map A.attribute attributes.now) (row_view row.now) }
+/// Whether the body of the attribute is numbers.
+fn has_numbers<A: Tabled>(attribute: &A) -> bool
+    ensures { result ≡ has_numbers (A.attribute attribute.now) }
 {
-    row.once
+    attribute.layout().is_some()
+}
+
+/// Whether the attribute has this layout.
+#[tactic(auto, unfolding(crate::specs::NumberForm::has_this_layout))]
+fn has_this_layout<A: Tabled>(layout: &AttributeLayout, attribute: &A) -> bool
+    ensures { result ≡ has_this_layout (layout_view layout.now) (A.attribute attribute.now) }
+{
+    match attribute.layout() {
+        Some(own) => layout == own,
+        None => false,
+    }
+}
+
+#[tactic(auto, unfolding(crate::specs::NumberForm::layout_stands_twice))]
+fn layout_stands_twice<A: Tabled>(attributes: &[A], layout: &AttributeLayout) -> bool
+    ensures { result ≡ layout_stands_twice (map A.attribute attributes.now) (layout_view layout.now) }
+{
+    layout.once
         && attributes
             .iter()
-            .filter(|a| a.is_of_row(pool, location, row))
+            .filter(|a| has_this_layout(layout, *a))
             .count()
             > 1
 }
 
 #[tactic(auto, unfolding(crate::specs::NumberForm::numbers_stand_twice))]
-fn one_stands_twice<A: Tabled>(pool: &Pool<'_>, location: Location, attributes: &[A]) -> bool
-    ensures { result ≡ numbers_stand_twice pool.now location (map A.attribute attributes.now) }
+fn one_stands_twice<A: Tabled>(location: Location, attributes: &[A]) -> bool
+    ensures { result ≡ numbers_stand_twice location (map A.attribute attributes.now) }
 {
-    rows(location)
+    layouts_in(location)
         .iter()
-        .any(|row| row_stands_twice(pool, location, attributes, row))
+        .any(|layout| layout_stands_twice(attributes, layout))
 }
 
-/// Whether the bodies of two attributes are kept as they are.
-fn two_are_kept<A: Tabled>(attributes: &[A]) -> bool
-    ensures { result ≡ two_are_kept (map A.attribute attributes.now) }
+/// Whether the bodies of two attributes are numbers.
+fn two_have_numbers<A: Tabled>(attributes: &[A]) -> bool
+    ensures { result ≡ two_have_numbers (map A.attribute attributes.now) }
 {
-    attributes.len() > 1 && attributes.iter().filter(|a| a.is_kept()).count() > 1
+    attributes.len() > 1 && attributes.iter().filter(|a| has_numbers(*a)).count() > 1
 }
 
 /// Whether two attributes of numbers are among them of which there may be one. Most tables have one attribute at most, or one beside
 /// the Code.
 #[tactic(auto, unfolding(crate::specs::NumberForm::numbers_stand_twice))]
-pub fn numbers_stand_twice<A: Tabled>(pool: &Pool<'_>, location: Location, attributes: &[A]) -> bool
-    ensures { result ≡ numbers_stand_twice pool.now location (map A.attribute attributes.now) }
+pub fn numbers_stand_twice<A: Tabled>(location: Location, attributes: &[A]) -> bool
+    ensures { result ≡ numbers_stand_twice location (map A.attribute attributes.now) }
 {
-    two_are_kept(attributes) && one_stands_twice(pool, location, attributes)
+    two_have_numbers(attributes) && one_stands_twice(location, attributes)
 }

@@ -5,7 +5,6 @@ use Rattle.std.specs.List.{list_any}
 use Rattle.std.proofs.Common.{◌≡◌, ℕ, ◌+◌, ◌<◌, ◌≤◌, Bool, true, false, List, [], ◌∷◌, ◌++◌, length, get_or, drop, map, slice_get, Option, Some, None, refl, sym, ◌∙◌, ap, arith}
 use Rattle.std.proofs.lemmas.Bool.Decides.{nat_tests}
 use Rattle.std.proofs.lemmas.List.{drop_more, drop_all, append_assoc, append-nil, map-append}
-use Rattle.layout.specs.PieceLaws.{fields as by_field, raw}
 use Rattle.pool.specs.Entries.{Entry}
 use Rattle.classfile.specs.AttributeForm.{on_body, has_bad_length, have_bad_length}
 use Rattle.classfile.specs.MethodParts.{code_at}
@@ -15,7 +14,7 @@ use Rattle.classfile.proofs.FormedNames.{none_holds}
 use Rattle.classfile.proofs.Places.{method_is}
 use Rattle.classfile.specs.declared.code.ExceptionHandler.{ExceptionHandler}
 use Rattle.classfile.specs.declared.form_fault.Place.TheVariants as places
-use Rattle.classfile.specs.Values.{Handler, CodeBody, Attribute, Member, Class}
+use Rattle.classfile.specs.Values.{of_parts, of_numbers, raw, Handler, CodeBody, Attribute, Member, Class}
 use Rattle.classfile.specs.Views.{handler_view}
 use Rattle.classfile.specs.Methods.{ExceptionEntry, caught_type, entry_with, exception_entries, code_of}
 use Rattle.machine.specs.declared.body.ExceptionEntry.{ExceptionEntry as RawEntry}
@@ -62,9 +61,10 @@ left_of false b e = refl
 
 code_passes : (test : CodeBody → Bool) (attributes : List Attribute) (body : CodeBody) → code_of attributes ≡ Some body → list_any (on_body test) attributes ≡ false → test body ≡ false
 code_passes test [] body is h = absurd cc
-code_passes test (by_field name code ∷ attributes) body is h =
+code_passes test (of_parts name code ∷ attributes) body is h =
     let same : code ≡ body = cc in
     sym (ap test same) ∙ left_of (test code) (list_any (on_body test) attributes) h
+code_passes test (of_numbers name numbers ∷ attributes) body is h = code_passes test attributes body is h
 code_passes test (raw name bytes ∷ attributes) body is h = code_passes test attributes body is h
 
 few : (n : ℕ) → (nat_eq n 0 || nat_lt 65535 n) ≡ false → n ≤ 65535

@@ -91,18 +91,17 @@ component_lines pool attribute = flat_map (component_line pool) (components_of a
 abbrev pub permits_line : List Entry → ℕ → List ℕ
 permits_line pool index = codes "permits " ++ (class_text pool index ++ codes "\n")
 
--- such attributes are known from a major version on
-abbrev pub permits_lines : ℕ → List Entry → ClassAttribute → List ℕ
-permits_lines major pool attribute = flat_map (permits_line pool) (permitted_of major pool attribute)
+abbrev pub permits_lines : List Entry → ClassAttribute → List ℕ
+permits_lines pool attribute = flat_map (permits_line pool) (permitted_of attribute)
 
 -- all components, and then all that is permitted
-abbrev pub attribute_lines : ℕ → List Entry → List ClassAttribute → List ℕ
-attribute_lines major pool attributes = flat_map (component_lines pool) attributes ++ flat_map (permits_lines major pool) attributes
+abbrev pub attribute_lines : List Entry → List ClassAttribute → List ℕ
+attribute_lines pool attributes = flat_map (component_lines pool) attributes ++ flat_map (permits_lines pool) attributes
 
 abbrev pub class_lines : Class → List ℕ
 class_lines c =
     class_line c ++ (super_line c ++ (flat_map (interface_line c.constant_pool) c.interfaces
-    ++ (attribute_lines c.major_version c.constant_pool c.attributes
+    ++ (attribute_lines c.constant_pool c.attributes
     ++ (flat_map (field_line c.constant_pool) c.fields ++ flat_map (method_lines c.constant_pool) c.methods))))
 
 -- the code of a method is refused

@@ -1,15 +1,16 @@
 //! The lines of a class's attributes: the components of a record (JVMS 4.7.30) and what a sealed class permits (4.7.31).
-ghost use Rattle.std.specs.Prelude.{◌≡◌, ◌<◌, [], ◌∷◌, IfSome, length, map};
+ghost use Rattle.std.specs.Prelude.{[], map};
 ghost use Rattle.std.specs.List.{flat_map};
 ghost use Rattle.std.specs.Option.{option_map_or};
-ghost use Rattle.classfile.specs.ClassAttributes.{numbers_in};
+ghost use Rattle.classfile.specs.LayoutViews.{numbers_view};
+ghost use Rattle.classfile.specs.Numbers.{first_column};
 ghost use Rattle.classfile.specs.Views.{component_view, class_attribute_view};
 ghost use Rattle.printing.specs.Writing.{Writes};
 ghost use Rattle.printing.specs.Classes.{component_line, component_lines, permits_line, permits_lines, attribute_lines};
 
 use crate::name::{ClassName, ConstantText};
 use crate::print::{Lines, Print, Then, Word, WriteFailed, put_lines};
-use classfile::{ClassAttribute, Component};
+use classfile::{ClassAttribute, Component, Numbers};
 use pool::Pool;
 use std::io::Write;
 
@@ -78,73 +79,73 @@ impl<'p, 'a> Print for Permits<'p, 'a> {
     }
 }
 
-/// The number of two bytes in front, and the bytes behind it.
-fn first_number(bytes: &[u8]) -> Option<(u16, &[u8])>
-    ensures number { option_map_or (λ x. x.0 ∷ numbers_in x.1.now) result [] ≡ numbers_in bytes.entry.now }
-    ensures shorter { IfSome result (λ x. length x.1.now < length bytes.entry.now) }
+/// The line of the class at an index, if there is one.
+fn put_index<W: Write>(
+    pool: &Pool<'_>,
+    index: Option<u16>,
+    out: &mut W,
+) -> Result<(), WriteFailed>
+    ensures { Writes (W.contents out.old) (W.contents out.new) (option_map_or (permits_line pool.now) index []) result }
 {
-    let [high, low, others @ ..] = bytes else {
-        return None;
-    };
-    Some((u16::from(*high) * 256 + u16::from(*low), others))
+    match index {
+        Some(index) => Permits(ClassName { pool, index }).put(out),
+        None => Ok(()),
+    }
 }
 
-/// The lines of classes that are permitted, of each its index in two bytes.
-fn put_permitted<W: Write>(pool: &Pool<'_>, indices: &[u8], out: &mut W) -> Result<(), WriteFailed>
-    ensures { Writes (W.contents out.old) (W.contents out.new) (flat_map (permits_line pool.now) (numbers_in indices.now)) result }
+/// The lines of the classes that are permitted, of each row the index in its first column.
+fn put_permitted<W: Write>(
+    pool: &Pool<'_>,
+    permitted: &Numbers<'_>,
+    out: &mut W,
+) -> Result<(), WriteFailed>
+    ensures { Writes (W.contents out.old) (W.contents out.new) (flat_map (permits_line pool.now) (first_column (numbers_view permitted.now))) result }
 {
-    let mut rest = indices;
-    while let Some((index, others)) = first_number(rest) {
-        match Permits(ClassName { pool, index }).put(out) {
-            Ok(()) => rest = others,
-            Err(failed) => return Err(failed),
-        }
+    for row in 0..permitted.rows() {
+        put_index(pool, permitted.get(row, 0), out)?;
     }
     Ok(())
 }
 
-/// The classes that are permitted by the attributes of a class file of this major version.
+/// The classes that are permitted by the attributes of a class file.
 #[derive(Clone, Copy)]
 struct Sealed<'p, 'a> {
-    major: u16,
     pool: &'p Pool<'a>,
     attributes: &'p [ClassAttribute<'a>],
 }
 
 impl<'p, 'a> Lines<ClassAttribute<'a>> for Sealed<'p, 'a> {
-    ghost line = { λ t a. permits_lines t.major t.pool.now (class_attribute_view a) };
+    ghost line = { λ t a. permits_lines t.pool.now (class_attribute_view a) };
 
     fn put_line<W: Write>(
         &self,
         item: &ClassAttribute<'a>,
         out: &mut W,
     ) -> Result<(), WriteFailed> {
-        put_permitted(
-            self.pool,
-            item.permitted_subclasses(self.pool, self.major),
-            out,
-        )
+        match item.permitted_subclasses() {
+            Some(permitted) => put_permitted(self.pool, &permitted, out),
+            None => Ok(()),
+        }
     }
 }
 
 impl<'p, 'a> Print for Sealed<'p, 'a> {
-    ghost text = { λ t. flat_map (permits_lines t.major t.pool.now) (map class_attribute_view t.attributes.now) };
+    ghost text = { λ t. flat_map (permits_lines t.pool.now) (map class_attribute_view t.attributes.now) };
 
     fn put<W: Write>(&self, out: &mut W) -> Result<(), WriteFailed> {
         put_lines(self, self.attributes, out)
     }
 }
 
-/// The attributes of a class file of this major version, whose names are in this pool.
+/// The attributes of a class file, whose names are in this pool.
 #[derive(Clone, Copy)]
 pub struct ClassAttributes<'p, 'a> {
-    pub major: u16,
     pub pool: &'p Pool<'a>,
     pub attributes: &'p [ClassAttribute<'a>],
 }
 
 impl<'p, 'a> Print for ClassAttributes<'p, 'a> {
-    ghost text = { λ t. attribute_lines t.major t.pool.now (map class_attribute_view t.attributes.now) };
+    ghost text = { λ t. attribute_lines t.pool.now (map class_attribute_view t.attributes.now) };
 
     fn put<W: Write>(&self, out: &mut W) -> Result<(), WriteFailed> {
         let records = Records {
@@ -152,7 +153,6 @@ impl<'p, 'a> Print for ClassAttributes<'p, 'a> {
             attributes: self.attributes,
         };
         let sealed = Sealed {
-            major: self.major,
             pool: self.pool,
             attributes: self.attributes,
         };

@@ -242,7 +242,6 @@ impl<'c, 'a> Print for Listing<'c, 'a> {
             members: &class.methods,
         };
         let attributes = ClassAttributes {
-            major: class.major_version,
             pool,
             attributes: &class.attributes,
         };

@@ -1,6 +1,6 @@
 use crate::making::{K, are_written};
 use classfile::{
-    Attribute, ClassAttribute, ClassFile, CodeAttr, Component, Member, NestedAttribute,
+    Attribute, ClassAttribute, ClassFile, CodeAttr, Component, NestedAttribute,
     class_or_fault, decode, encode, formed_has_names, formed_or_faulty, least_rule_is_told,
     no_fault_in_class, no_fault_in_formed, one_class, one_fault, one_first_fault, one_spelling,
     tests_are_forms,
@@ -139,43 +139,6 @@ fn a_raw_code_attribute(rt: HostRuntime) {
     assert!(rt; is_raw_written(rt.alloc(), true) == Some(false));
 }
 
-/// The class of these bytes, with a field whose one attribute has this body and the name at 8.
-fn with_field<'a>(alloc: Global, bytes: &'a [u8], body: &'a [u8]) -> Option<ClassFile<'a>> {
-    let mut class = decode(alloc, bytes).ok()?;
-    let mut attributes = Vec::new(alloc);
-    attributes.push(Attribute::Raw { name: 8, body }).ok()?;
-    let field = Member {
-        access_flags: 0,
-        name: 5,
-        descriptor: 6,
-        attributes,
-    };
-    class.fields.push(field).ok()?;
-    Some(class)
-}
-
-/// Whether a field with a ConstantValue of this body is written, or no bytes spell it; nothing where memory runs out.
-fn is_constant_written(alloc: Global, body: &[u8]) -> Option<bool> {
-    let mut bytes = MAPPED;
-    bytes[59..72].copy_from_slice(b"ConstantValue");
-    let class = with_field(alloc, &bytes, body)?;
-    match encode(alloc, &class) {
-        Ok(_) => Some(true),
-        Err(WriteFault::HasNoSpelling) => Some(false),
-        Err(_) => None,
-    }
-}
-
-/// An attribute of numbers is written with as many of them as it has, and no others.
-#[test]
-fn attributes_of_numbers(rt: HostRuntime) {
-    let alloc = rt.alloc();
-    assert!(rt; is_constant_written(alloc, &[0, 2]) == Some(true));
-    assert!(rt; is_constant_written(alloc, &[2]) == Some(false));
-    assert!(rt; is_constant_written(alloc, &[]) == Some(false));
-    assert!(rt; is_constant_written(alloc, &[0, 2, 0]) == Some(false));
-}
-
 /// K as a record of one component, of major version 60.
 const RECORD: [u8; 120] = [
     0xCA, 0xFE, 0xBA, 0xBE, 0, 0, 0, 0x3C, 0, 9, 7, 0, 2, 1, 0, 1, 0x4B, 7, 0, 4, 1, 0, 0x10, 0x6A,
@@ -198,8 +161,7 @@ fn is_recorded(class: &ClassFile<'_>) -> bool {
     let [component] = record.components() else {
         return false;
     };
-    let permitted = record.permitted_subclasses(&class.constant_pool, 61);
-    permitted.is_empty() && is_component(component)
+    record.permitted_subclasses().is_none() && is_component(component)
 }
 
 /// Whether the record is read and written; or memory ran out, where it may.

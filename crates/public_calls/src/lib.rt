@@ -8,6 +8,7 @@
 //! | `constant_pools` | `pool`: pools, and look-ups in them |
 //! | `named_constants` | `pool`: what instructions name, read once |
 //! | `class_files`, `class_forms` | `classfile`: class files both ways, and which are well formed |
+//! | `attribute_numbers` | `classfile`: attributes of numbers, read by row and column, and written |
 //! | `code_reading`, `code_writing` | `insn`: code both ways |
 //! | `code_forms` | `insn`: the form of each instruction |
 //! | `superclasses` | `hierarchy`: lists of classes, and summaries of class files |
@@ -30,6 +31,8 @@
 mod ancestor_rows;
 #[cfg(test)]
 mod assignability;
+#[cfg(test)]
+mod attribute_numbers;
 #[cfg(test)]
 mod class_files;
 #[cfg(test)]

@@ -3,10 +3,9 @@ use Rattle.std.proofs.Common.{◌≡◌, ℕ, ◌<◌, ◌≤◌, false, nat_eq,
 use Rattle.std.proofs.lemmas.Bool.Decides.{nat_tests}
 use Rattle.std.specs.List.{list_any}
 use Rattle.std.specs.Option.{option_and_then}
-use Rattle.layout.specs.PieceLaws.{fields as by_field, raw}
 use Rattle.names.specs.Descriptors.{MethodDescriptor}
 use Rattle.classfile.specs.declared.form_fault.Place.TheVariants as places
-use Rattle.classfile.specs.Values.{CodeBody, Attribute, Member, Class}
+use Rattle.classfile.specs.Values.{of_parts, of_numbers, raw, CodeBody, Attribute, Member, Class}
 use Rattle.classfile.specs.Methods.{Method, ExceptionEntry, code_of, method_with, method_from, method_of}
 use Rattle.classfile.specs.MethodParts.{code_at}
 use Rattle.classfile.specs.AttributeForm.{on_body, has_bad_length, have_bad_length}
@@ -36,8 +35,10 @@ has_code c number body e = by (slice_get c.methods number) refl e
 length_passes : (attributes : List Attribute) (body : CodeBody) → code_of attributes ≡ Some body
     → list_any (on_body has_bad_length) attributes ≡ false → has_bad_length body ≡ false
 length_passes [] body is h = cc
-length_passes (by_field name code ∷ attributes) body is h = let same : code ≡ body = some_same code body is in
+length_passes (of_parts name code ∷ attributes) body is h = let same : code ≡ body = some_same code body is in
     sym (ap has_bad_length same) ∙ left_not (has_bad_length code) (list_any (on_body has_bad_length) attributes) h
+length_passes (of_numbers name numbers ∷ attributes) body is h =
+    length_passes attributes body is (right_not (on_body has_bad_length (of_numbers name numbers)) (list_any (on_body has_bad_length) attributes) h)
 length_passes (raw name bytes ∷ attributes) body is h =
     length_passes attributes body is (right_not (on_body has_bad_length (raw name bytes)) (list_any (on_body has_bad_length) attributes) h)
 

@@ -1,6 +1,7 @@
 use Rattle.std.proofs.Common.{◌<◌, ◌∙◌, Bool, Some, None, cond, drop, length, ap, sym, arith}
 use Rattle.std.proofs.lemmas.List.{length-drop}
-use Rattle.classfile.specs.NumberForm.{breaks, behind_row}
+use Rattle.classfile.specs.Numbers.{behind_row}
+use Rattle.classfile.specs.NumberForm.{breaks}
 use Rattle.classfile.proofs.Rows.{short_row}
 use Rattle.classfile.proofs.number_form.sound_row.Goals as goal
 

@@ -12,8 +12,8 @@ pub returns : goal.returns
 unfolding class_attributes_have_bad class_attributes_have_other
 returns c =
     let xs = c.args.attributes.now in
-    let bad : ClassAttribute → Bool = class_attribute_has_bad c.args.pool.now c.args.location in
-    let other : ClassAttribute → Bool = class_attribute_has_other c.args.pool.now c.args.location in
+    let bad : ClassAttribute → Bool = class_attribute_has_bad c.args.pool.now in
+    let other : ClassAttribute → Bool = class_attribute_has_other c.args.pool.now in
     let e : c.any.result ≡ list_any (λ a. bad (class_attribute_view a) || other (class_attribute_view a)) xs =
     any_from_yields_List (λ a. bad (class_attribute_view a) || other (class_attribute_view a)) _ _ c.any.result c.any.ensures.ran (YieldsList-from_slice xs cc) (λ x b q k. search (rules, tests)) in
     e ∙ any_viewed (λ a. bad a || other a) class_attribute_view xs ∙ any_either bad other (map class_attribute_view xs)

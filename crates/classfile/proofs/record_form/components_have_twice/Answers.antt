@@ -12,7 +12,7 @@ pub returns : goal.returns
 unfolding components_have_twice
 returns c =
     let xs = c.args.components.now in
-    let test : Component → Bool = component_has_twice c.args.pool.now in
+    let test : Component → Bool = component_has_twice in
     let e : c.any.result ≡ list_any (λ a. test (component_view a)) xs =
     any_from_yields_List (λ a. test (component_view a)) _ _ c.any.result c.any.ensures.ran (YieldsList-from_slice xs cc) (λ x b q k. search (rules, tests)) in
     e ∙ any_viewed test component_view xs

@@ -13,7 +13,7 @@ pub returns : goal.returns
 unfolding records_have_twice
 returns c =
     let xs = c.args.attributes.now in
-    let test : ClassAttribute → Bool = on_body (components_have_twice c.args.pool.now) in
+    let test : ClassAttribute → Bool = on_body components_have_twice in
     let e : c.any.result ≡ list_any (λ a. test (class_attribute_view a)) xs =
     any_from_yields_List (λ a. test (class_attribute_view a)) _ _ c.any.result c.any.ensures.ran (YieldsList-from_slice xs cc) (λ x b q k. search (rules, tests)) in
     e ∙ any_viewed test class_attribute_view xs

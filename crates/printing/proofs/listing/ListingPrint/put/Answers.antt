@@ -14,7 +14,7 @@ returns g c =
     let pool = class.constant_pool in
     let text : List ℕ → List Member → List Member → List ClassAttribute → List ℕ = λ is fs ms attributes.
     class_line (class_view class) ++ (super_line (class_view class) ++ (flat_map (interface_line pool) (map (λ n. n) is)
-    ++ (attribute_lines class.major_version pool (map class_attribute_view attributes)
+    ++ (attribute_lines pool (map class_attribute_view attributes)
     ++ (flat_map (field_line pool) (map member_view fs) ++ flat_map (method_lines pool) (map member_view ms))))) in
     let written : List ℕ → List Member → List Member → List ClassAttribute → Type 0 = λ is fs ms attributes.
     Writes (held c.args.out.now) (held c.put.new.out) (text is fs ms attributes) c.put.result in

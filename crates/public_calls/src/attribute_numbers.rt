@@ -1,0 +1,203 @@
+use crate::making::K;
+use classfile::{
+    Attribute, AttributeLayout, ClassAttribute, Column, Numbers, decode, encode,
+};
+use layout::WriteFault;
+use std::alloc::{AllocError, Global};
+use std::test::*;
+
+/// That of Exceptions, in methods.
+static EXCEPTIONS: AttributeLayout = AttributeLayout {
+    name: "Exceptions",
+    first_major: 51,
+    once: true,
+    counted: true,
+    columns: &[Column::Class],
+};
+
+/// That of InnerClasses, in classes.
+static INNER_CLASSES: AttributeLayout = AttributeLayout {
+    name: "InnerClasses",
+    first_major: 51,
+    once: true,
+    counted: true,
+    columns: &[
+        Column::Class,
+        Column::ClassOrZero,
+        Column::TextOrZero,
+        Column::Plain,
+    ],
+};
+
+/// That of NestHost, in classes.
+static NEST_HOST: AttributeLayout = AttributeLayout {
+    name: "NestHost",
+    first_major: 55,
+    once: true,
+    counted: false,
+    columns: &[Column::Class],
+};
+
+/// That of Deprecated, in classes, fields and methods.
+static DEPRECATED: AttributeLayout = AttributeLayout {
+    name: "Deprecated",
+    first_major: 51,
+    once: false,
+    counted: false,
+    columns: &[],
+};
+
+/// Two rows of four columns.
+const INNER: [u8; 18] = [0, 2, 0, 1, 0, 0, 0, 3, 0, 9, 1, 4, 0, 5, 0, 0, 0, 1];
+
+#[test]
+fn rows_and_columns(rt: HostRuntime) {
+    let numbers = Numbers {
+        layout: &INNER_CLASSES,
+        body: &INNER,
+    };
+    assert!(rt; numbers.rows() == 2);
+    assert!(rt; numbers.get(0, 0) == Some(1));
+    assert!(rt; numbers.get(0, 3) == Some(9));
+    assert!(rt; numbers.get(1, 0) == Some(260));
+    assert!(rt; numbers.get(1, 3) == Some(1));
+    assert!(rt; numbers.get(1, 4).is_none());
+    assert!(rt; numbers.get(2, 0).is_none());
+}
+
+/// Where no count stands before the rows there is one, of as many numbers as there are columns.
+#[test]
+fn one_row(rt: HostRuntime) {
+    let host = Numbers {
+        layout: &NEST_HOST,
+        body: &[1, 2],
+    };
+    assert!(rt; host.rows() == 1);
+    assert!(rt; host.get(0, 0) == Some(258));
+    assert!(rt; host.get(1, 0).is_none());
+    let mark = Numbers {
+        layout: &DEPRECATED,
+        body: &[],
+    };
+    assert!(rt; mark.rows() == 1);
+    assert!(rt; mark.get(0, 0).is_none());
+}
+
+/// The class file of K in this version, with this text at 8.
+fn with_text(alloc: Global, major: u8, text: &[u8]) -> Result<Vec<u8>, AllocError> {
+    let mut bytes = K[..56].to_vec(alloc)?;
+    bytes.extend_from_slice(&[1, 0, text.len() as u8])?;
+    bytes.extend_from_slice(text)?;
+    bytes.extend_from_slice(&K[56..])?;
+    bytes[7] = major;
+    bytes[9] = 9;
+    Ok(bytes)
+}
+
+/// Whether K with this attribute is written, or no bytes spell it; nothing where memory runs out. The text at 8 is this name.
+fn is_written(
+    alloc: Global,
+    major: u8,
+    name: &[u8],
+    attribute: ClassAttribute<'static>,
+) -> Option<bool> {
+    let bytes = with_text(alloc, major, name).ok()?;
+    let mut class = decode(alloc, &bytes).ok()?;
+    class.attributes.push(attribute).ok()?;
+    match encode(alloc, &class) {
+        Ok(_) => Some(true),
+        Err(WriteFault::HasNoSpelling) => Some(false),
+        Err(_) => None,
+    }
+}
+
+/// These bytes as numbers of a layout.
+fn numbers(layout: &'static AttributeLayout, body: &'static [u8]) -> ClassAttribute<'static> {
+    ClassAttribute::Numbers {
+        name: 8,
+        numbers: Numbers { layout, body },
+    }
+}
+
+fn raw(body: &'static [u8]) -> ClassAttribute<'static> {
+    ClassAttribute::Raw { name: 8, body }
+}
+
+/// An attribute of numbers is written under its name, from its version on, with as many numbers as it has.
+#[test]
+fn numbers_are_written(rt: HostRuntime) {
+    let alloc = rt.alloc();
+    assert!(rt; is_written(alloc, 55, b"NestHost", numbers(&NEST_HOST, &[0, 1])) == Some(true));
+    assert!(rt; is_written(alloc, 54, b"NestHost", numbers(&NEST_HOST, &[0, 1])) == Some(false));
+    assert!(rt; is_written(alloc, 55, b"NestHos", numbers(&NEST_HOST, &[0, 1])) == Some(false));
+    assert!(rt; is_written(alloc, 55, b"NestHost", numbers(&NEST_HOST, &[1])) == Some(false));
+    assert!(rt; is_written(alloc, 55, b"NestHost", numbers(&DEPRECATED, &[])) == Some(false));
+    assert!(rt; is_written(alloc, 52, b"Exceptions", numbers(&EXCEPTIONS, &[0, 0])) == Some(false));
+}
+
+/// Under the name of an attribute of numbers nothing else is written.
+#[test]
+fn raw_bytes_under_such_a_name(rt: HostRuntime) {
+    let alloc = rt.alloc();
+    assert!(rt; is_written(alloc, 55, b"NestHost", raw(&[0, 1])) == Some(false));
+    assert!(rt; is_written(alloc, 54, b"NestHost", raw(&[0, 1])) == Some(true));
+    assert!(rt; is_written(alloc, 55, b"NestHos", raw(&[0, 1])) == Some(true));
+    assert!(rt; is_written(alloc, 52, b"Exceptions", raw(&[0, 0])) == Some(true));
+}
+
+/// K with the thrown class at 1 in the Exceptions of its method, as bytes.
+fn throwing(alloc: Global) -> Option<Vec<u8>> {
+    let bytes = with_text(alloc, 52, b"Exceptions").ok()?;
+    let mut class = decode(alloc, &bytes).ok()?;
+    let attribute = Attribute::Numbers {
+        name: 8,
+        numbers: Numbers {
+            layout: &EXCEPTIONS,
+            body: &[0, 1, 0, 1],
+        },
+    };
+    class.methods.first_mut()?.attributes.push(attribute).ok()?;
+    encode(alloc, &class).ok()
+}
+
+/// The first number of the last attribute of a method, if it has this layout.
+fn thrown(attributes: &[Attribute<'_>]) -> Option<u16> {
+    match attributes {
+        [.., Attribute::Numbers { name: 8, numbers }] if numbers.layout == &EXCEPTIONS =>
+            numbers.get(0, 0),
+        _ => None,
+    }
+}
+
+/// The class that the method of K throws, once it is written and read; nothing where memory runs out.
+fn thrown_again(alloc: Global) -> Option<u16> {
+    let bytes = throwing(alloc)?;
+    let class = decode(alloc, &bytes).ok()?;
+    thrown(&class.methods.first()?.attributes)
+}
+
+#[test]
+fn numbers_both_ways(rt: HostRuntime) {
+    assert!(rt; thrown_again(rt.alloc()) == Some(1));
+}
+
+/// The first class that K permits, where its one attribute has this name and body; 0 where it permits none.
+fn permitted(alloc: Global, major: u8, name: &[u8]) -> Option<u16> {
+    let mut bytes = with_text(alloc, major, name).ok()?;
+    let last = bytes.len() - 1;
+    bytes[last] = 1;
+    bytes.extend_from_slice(&[0, 8, 0, 0, 0, 4, 0, 1, 0, 3]).ok()?;
+    let class = decode(alloc, &bytes).ok()?;
+    match class.attributes.first()?.permitted_subclasses() {
+        Some(numbers) => numbers.get(0, 0),
+        None => Some(0),
+    }
+}
+
+#[test]
+fn permitted_subclasses(rt: HostRuntime) {
+    let alloc = rt.alloc();
+    assert!(rt; permitted(alloc, 61, b"PermittedSubclasses") == Some(3));
+    assert!(rt; permitted(alloc, 60, b"PermittedSubclasses") == Some(0));
+    assert!(rt; permitted(alloc, 61, b"NestMembers") == Some(0));
+}
