@@ -1,5 +1,5 @@
 -- The shared tables in other words: kinds, arrays, and units of the stack.
-use Rattle.std.proofs.Common.{◌≡◌, ◌≢◌, ℕ, zero, suc, ◌+◌, true, false, List, [], ◌∷◌, ◌++◌, length, refl, sym, ap, ◌∙◌, subst, arith, ◌⊎◌, inl, inr, ◌↔◌}
+use Rattle.std.proofs.Common.{◌≡◌, ◌≢◌, ℕ, true, List, [], ◌∷◌, refl, sym, ap, ◌∙◌, subst, arith, ◌⊎◌, inl, inr}
 use Rattle.names.specs.declared.base.Primitive.{Primitive}
 use Rattle.names.specs.declared.base.Primitive.TheVariants as primitives
 use Rattle.insn.specs.declared.operation.Kind.{Kind}
@@ -11,7 +11,7 @@ use Rattle.insn.specs.declared.stack.StackOperator.TheVariants.{Pop, Pop2, Dup, 
 use Rattle.insn.specs.Acts.{StackForm, stack_forms, takes_array}
 use Rattle.insn.specs.Stacks.{computed_as}
 use Rattle.insn.specs.Offsets.{IsAmong}
-use Rattle.insn.specs.ByUnits.{computational_rows, KindsAreRows, TakesArray, ArraysAreTaken, units_in, top_units, passed_units, moved_by, IsFormFor, MovesUnits, FormsMoveUnits}
+use Rattle.insn.specs.ByUnits.{computational_rows, KindsAreRows, TakesArray, ArraysAreTaken, units_in, top_units, passed_units, IsFormFor, FormsMoveUnits}
 
 -- ---- kinds
 

@@ -1,18 +1,18 @@
 -- Nothing happens but what an act and its constant say.
-use Rattle.std.proofs.Common.{◌≡◌, ◌≢◌, ℕ, ◌<◌, ◌^◌, ℤ, Bool, true, false, List, [], ◌∷◌, ◌++◌, length, drop, slice_get, Option, Some, None, if◌then◌else◌, ◌⊎◌, sym, ap, refl, ◌∙◌, subst, nat_eq, eqb-true, eq-eqb}
+use Rattle.std.proofs.Common.{◌≡◌, ℕ, ◌<◌, ◌^◌, ℤ, Bool, true, false, List, [], ◌∷◌, ◌++◌, length, drop, slice_get, Option, Some, None, sym, ap, refl, ◌∙◌, subst, nat_eq, eqb-true, eq-eqb}
 use Rattle.names.specs.ReferenceTypes.{ReferenceType, class_type}
 use Rattle.classfile.specs.Methods.{Method}
 use Rattle.hierarchy.specs.World.{World}
 use Rattle.insn.specs.Meanings.{Act}
-use Rattle.insn.specs.Offsets.{at_offset, IsAmong, led_to}
+use Rattle.insn.specs.Offsets.{at_offset, led_to}
 use Rattle.insn.specs.Stacks.{beneath}
 use Rattle.machine.specs.Values.{Value, null, reference}
-use Rattle.machine.specs.Heap.{Status, ready, made, Object, object, Heap, with_object, with_fresh}
+use Rattle.machine.specs.Heap.{Status, ready, made, Object, object, Heap, with_object}
 use Rattle.machine.specs.Tasks as tasks
 use Rattle.machine.specs.Tasks.{Need, Reply, Task, task}
 use Rattle.machine.specs.Demands.{State, MeetsRest, IsNoFault}
-use Rattle.machine.specs.Steps.{Replies, IsNull, IsLive, IsLast, Does, IsBranch, go, raise, goes_on, ended, Happens}
-use Rattle.machine.specs.ByAct.{Asks, an_address, jumps, asks, is_return}
+use Rattle.machine.specs.Steps.{Replies, IsNull, IsLive, IsLast, Does, IsBranch, go, goes_on, Happens}
+use Rattle.machine.specs.ByAct.{an_address, jumps}
 use Rattle.machine.specs.Breadth.{IsNotNull, Passes, with_new, IsElement, IsAnswer, IsTold, IsPushed, StayReady, IsSuccessor, HasBounds, StepBounds}
 use Rattle.machine.proofs.ByType.{type_where, of_reference}
 use Rattle.machine.proofs.Outlook.{Outlook, outlook, outlook_of, leaves_it, asks_in, reply_asks, seen}

@@ -20,7 +20,7 @@ use Rattle.machine.specs.Tasks.{Need, Reply, Task, task, targets, needs_of}
 use Rattle.machine.specs.Demands.{State, AllMeet, IsMade, IsOwn, MeetsRest, IsNoFault}
 use Rattle.machine.specs.Steps.{Replies, IsNull, moved_with, IsLive, IsLast, Does, IsBranch}
 use Rattle.machine.specs.ByType.{kind_of, IsOf}
-use Rattle.machine.specs.ByAct.{Asks, jumps, asks}
+use Rattle.machine.specs.ByAct.{jumps, asks}
 use Rattle.machine.specs.Breadth.{AreNew, IsNotNull, Passes, with_new, MayGoOn, IsElement, IsAnswer, MakesNone, IsWay, IsTold, HasStep, HasChoices, StepBreadth, with_class, interface_entry, class_entry, WorldBreadth}
 use Rattle.machine.proofs.ByType.{fits_where, reference_where}
 use Rattle.machine.proofs.Flows.{Flows, flows}

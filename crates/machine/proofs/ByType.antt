@@ -1,5 +1,5 @@
 -- The values of a type are those that fit it in the machine.
-use Rattle.std.proofs.Common.{◌≡◌, ℕ, Some, refl, sym, ap, ◌∙◌, subst}
+use Rattle.std.proofs.Common.{◌≡◌, refl, sym, ap, ◌∙◌}
 use Rattle.names.specs.declared.base.Primitive.{Primitive}
 use Rattle.names.specs.declared.base.Primitive.TheVariants.{Boolean, Byte, Char, Short, Int, Long, Float, Double}
 use Rattle.names.specs.Descriptors.{FieldDescriptor, primitive, class, array}
@@ -8,8 +8,8 @@ use Rattle.hierarchy.specs.World.{World}
 use Rattle.insn.specs.declared.operation.Kind.{Kind}
 use Rattle.insn.specs.Stacks.{computed_as}
 use Rattle.machine.specs.Values.{Value, number, null, reference}
-use Rattle.machine.specs.Heap.{ready, object, Heap, FitsReference, FitsField}
-use Rattle.machine.specs.ByType.{kind_of, IsReadyOf, IsOf}
+use Rattle.machine.specs.Heap.{Heap, FitsReference, FitsField}
+use Rattle.machine.specs.ByType.{kind_of, IsOf}
 
 pub computed_so : (p : Primitive) → kind_of p ≡ computed_as p
 computed_so Boolean = refl

@@ -1,5 +1,5 @@
 -- The stack that an instruction leaves is the one that its act and constant say.
-use Rattle.std.proofs.Common.{◌≡◌, ℕ, zero, suc, ◌+◌, Bool, true, false, List, [], ◌∷◌, ◌++◌, length, drop, slice_get, Option, Some, None, if◌then◌else◌, ◌⊎◌, inl, inr, refl, sym, ap, ◌∙◌, subst, arith}
+use Rattle.std.proofs.Common.{◌≡◌, ℕ, zero, suc, ◌+◌, Bool, true, false, List, [], ◌∷◌, ◌++◌, length, drop, slice_get, Option, Some, None, if◌then◌else◌, refl, sym, ap, ◌∙◌, subst, arith}
 use Rattle.std.proofs.lemmas.List.{append_assoc, length-append}
 use Rattle.names.specs.declared.base.Primitive.{Primitive}
 use Rattle.names.specs.Descriptors.{FieldDescriptor, primitive, class as class_descriptor, array as array_descriptor}
@@ -12,22 +12,21 @@ use Rattle.hierarchy.specs.World.{World}
 use Rattle.insn.specs.declared.operation.Kind.{Kind}
 use Rattle.insn.specs.declared.operation.Kind.TheVariants as kinds
 use Rattle.insn.specs.declared.stack.StackPlace.{StackPlace}
-use Rattle.insn.specs.declared.stack.StackPlace.TheVariants.{Narrow, Wide}
 use Rattle.insn.specs.declared.stack.StackOperator.{StackOperator}
 use Rattle.insn.specs.declared.stack.StackOperator.TheVariants.{Pop, Pop2, Dup, DupX1, DupX2, Dup2, Dup2X1, Dup2X2, Swap}
 use Rattle.insn.specs.Acts.{numeric_row, StackForm, stack_forms}
 use Rattle.insn.specs.Stacks.{beneath, with_item, chosen, rearranged}
-use Rattle.insn.specs.ByUnits.{units_in, top_units, passed_units, moved_by, counted, IsFormFor}
+use Rattle.insn.specs.ByUnits.{units_in, moved_by, counted, IsFormFor}
 use Rattle.insn.specs.Meanings as acts
 use Rattle.insn.specs.Meanings.{Act}
-use Rattle.insn.specs.Offsets.{at_offset, IsAmong}
+use Rattle.insn.specs.Offsets.{IsAmong}
 use Rattle.insn.proofs.ByUnits.{forms_move_units}
 use Rattle.machine.specs.Values.{Value, number, null, reference, place_of}
-use Rattle.machine.specs.Heap.{Heap, with_fresh}
+use Rattle.machine.specs.Heap.{with_fresh}
 use Rattle.machine.specs.Tasks as tasks
 use Rattle.machine.specs.Tasks.{Need, Reply, Task, task, stuck}
-use Rattle.machine.specs.Demands.{State, AreForm, MeetsRest, IsNoFault}
-use Rattle.machine.specs.Steps.{Replies, Does, go, goes_on, Happens}
+use Rattle.machine.specs.Demands.{State, AreForm, MeetsRest}
+use Rattle.machine.specs.Steps.{Replies, Does}
 use Rattle.machine.specs.ByType.{units_of, units_of_all}
 use Rattle.machine.specs.Pushes as by_act
 use Rattle.machine.specs.Pushes.{Leaves, nothing, a_number, a_null, the_answer, the_local, the_top, the_items, leaves, AreMoved, IsLeft, StackBounds}

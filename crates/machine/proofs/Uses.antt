@@ -1,22 +1,21 @@
 -- The operands that an instruction uses are those that its task wants ready.
-use Rattle.std.proofs.Common.{◌≡◌, ℕ, zero, suc, ◌+◌, Bool, true, false, ◌&&◌, List, [], ◌∷◌, length, slice_get, Option, Some, None, if◌then◌else◌, bytes_eq, ◌⊎◌, inl, inr, refl, sym, ap, ◌∙◌, subst, arith}
+use Rattle.std.proofs.Common.{◌≡◌, ℕ, zero, suc, ◌+◌, Bool, true, false, ◌&&◌, List, [], ◌∷◌, ◌++◌, length, slice_get, Option, Some, None, if◌then◌else◌, ◌⊎◌, inl, inr, refl, sym, ap, ◌∙◌, subst, arith}
 use Rattle.names.specs.declared.base.Primitive.{Primitive}
 use Rattle.names.specs.Descriptors.{FieldDescriptor, primitive, class as class_descriptor, array as array_descriptor}
 use Rattle.names.specs.ReferenceTypes.{ReferenceType, class_type, array_type}
 use Rattle.pool.specs.Members.{class_at, FieldConstant, field_at, MethodConstant, method_at}
 use Rattle.classfile.specs.Methods.{Method, is_own_field}
 use Rattle.hierarchy.specs.World.{World}
-use Rattle.insn.specs.declared.operation.Kind.{Kind}
 use Rattle.insn.specs.Meanings as acts
 use Rattle.insn.specs.Meanings.{Act}
 use Rattle.insn.specs.Offsets.{IsAmong}
 use Rattle.machine.specs.Values.{Value, number, null, reference}
-use Rattle.machine.specs.Heap.{ready, this, object, Heap, FitsReference, IsThis}
+use Rattle.machine.specs.Heap.{this, object, Heap, FitsReference, IsThis}
 use Rattle.machine.specs.Tasks as tasks
 use Rattle.machine.specs.Tasks.{Need, Task, task, stuck, needs_of}
 use Rattle.machine.specs.Demands.{State, Meets, AllMeet, MeetsRest, IsUsable, AllUsable, HasOperands, UsesReady}
 use Rattle.machine.specs.ByAct.{other_than_init}
-use Rattle.machine.specs.Uses.{with_place, argument_places, arguments_used, receiver_used, value_used, both, used, field_set, IsInitialized, MayBeSet, IsNullOr, UsesInitialized, UsesNoOther, OperandsAreInitialized, ObjectsAreInitialized}
+use Rattle.machine.specs.Uses.{with_place, argument_places, arguments_used, receiver_used, value_used, used, field_set, IsInitialized, MayBeSet, IsNullOr, UsesInitialized, UsesNoOther, OperandsAreInitialized, ObjectsAreInitialized}
 
 -- ---- needs that are met by null or by an object that is ready alone
 
@@ -91,10 +90,10 @@ two_places ns at others x y place (inr e) = y place e
 typed : (ns : List Need) (at : ℕ) (t : ReferenceType) → slice_get ns at ≡ Some (tasks.of_type t) → Wants ns at
 typed ns at t e = record { need = tasks.of_type t; here = e; ready = tt }
 
-both_wanted : (places others : List ℕ) (ns : List Need) → AllWanted places ns → AllWanted others ns → AllWanted (both places others) ns
+both_wanted : (places others : List ℕ) (ns : List Need) → AllWanted places ns → AllWanted others ns → AllWanted (places ++ others) ns
 both_wanted [] others ns x y = y
 both_wanted (p ∷ places) others ns x y =
-    two_places ns p (both places others) (x p (inl refl)) (both_wanted places others ns (λ k i. x k (inr i)) y)
+    two_places ns p (places ++ others) (x p (inl refl)) (both_wanted places others ns (λ k i. x k (inr i)) y)
 
 -- ---- arguments
 
@@ -127,7 +126,7 @@ receiver_wanted ts t =
 
 -- arguments on a receiver
 called_wanted : (c : MethodConstant) (t : ReferenceType)
-    → AllWanted (both (receiver_used (Some c)) (arguments_used (Some c))) (tasks.arguments_on c.type.params (tasks.of_type t ∷ []))
+    → AllWanted (receiver_used (Some c) ++ arguments_used (Some c)) (tasks.arguments_on c.type.params (tasks.of_type t ∷ []))
 called_wanted c t = both_wanted (length c.type.params ∷ []) (argument_places c.type.params) (tasks.arguments_on c.type.params (tasks.of_type t ∷ [])) (receiver_wanted c.type.params t) (arguments_wanted c.type.params (tasks.of_type t ∷ []))
 
 -- ---- by family, unless the task is none
@@ -155,24 +154,24 @@ static_uses : (n : ℕ) (c : Option MethodConstant) → Uses (tasks.invoke_stati
 static_uses n (Some c) e = where_allowed _ (tasks.static_call c) (argument_places c.type.params) (arguments_wanted c.type.params []) e
 static_uses n None e = absurd (e refl)
 
-virtual_uses : (c : Option MethodConstant) → Uses (tasks.invoke_virtual c) (both (receiver_used c) (arguments_used c))
-virtual_uses (Some c) e = where_allowed _ (tasks.call_on c.class c) (both (receiver_used (Some c)) (arguments_used (Some c))) (called_wanted c c.class) e
+virtual_uses : (c : Option MethodConstant) → Uses (tasks.invoke_virtual c) (receiver_used c ++ arguments_used c)
+virtual_uses (Some c) e = where_allowed _ (tasks.call_on c.class c) (receiver_used (Some c) ++ arguments_used (Some c)) (called_wanted c c.class) e
 virtual_uses None e = absurd (e refl)
 
-interface_uses : (n : ℕ) (c : Option MethodConstant) → Uses (tasks.invoke_interface n c) (both (receiver_used c) (arguments_used c))
-interface_uses n (Some c) e = where_allowed _ (tasks.call_on c.class c) (both (receiver_used (Some c)) (arguments_used (Some c))) (called_wanted c c.class) e
+interface_uses : (n : ℕ) (c : Option MethodConstant) → Uses (tasks.invoke_interface n c) (receiver_used c ++ arguments_used c)
+interface_uses n (Some c) e = where_allowed _ (tasks.call_on c.class c) (receiver_used (Some c) ++ arguments_used (Some c)) (called_wanted c c.class) e
 interface_uses n None e = absurd (e refl)
 
 constructor_uses : (c : MethodConstant) (r : ReferenceType) → Uses (tasks.constructor_call c r) (argument_places c.type.params)
 constructor_uses c (class_type name) e = where_allowed _ (tasks.initializes name (tasks.arguments_on c.type.params [])) (argument_places c.type.params) (arguments_wanted c.type.params []) e
 constructor_uses c (array_type component) e = absurd (e refl)
 
-special_uses : (n : ℕ) (me : List ℕ) (c : Option MethodConstant) → Uses (tasks.invoke_special n me c) (both (receiver_used (other_than_init c)) (arguments_used c))
+special_uses : (n : ℕ) (me : List ℕ) (c : Option MethodConstant) → Uses (tasks.invoke_special n me c) (receiver_used (other_than_init c) ++ arguments_used c)
 special_uses n me (Some c) = by (tasks.is_init_name c)
   where
-    by : (b : Bool) → Uses (if b then tasks.constructor_call c c.class else tasks.special_call n me c) (both (receiver_used (if b then None else Some c)) (arguments_used (Some c)))
+    by : (b : Bool) → Uses (if b then tasks.constructor_call c c.class else tasks.special_call n me c) (receiver_used (if b then None else Some c) ++ arguments_used (Some c))
     by true = constructor_uses c c.class
-    by false = λ e. where_allowed _ (tasks.calls_special c.class _ _ _) (both (receiver_used (Some c)) (arguments_used (Some c))) (called_wanted c (class_type me)) e
+    by false = λ e. where_allowed _ (tasks.calls_special c.class _ _ _) (receiver_used (Some c) ++ arguments_used (Some c)) (called_wanted c (class_type me)) e
 special_uses n me None = λ e. absurd (e refl)
 
 cast_uses : (c : Option ReferenceType) → Uses (tasks.check_cast c) (0 ∷ [])

@@ -15,7 +15,7 @@ use Rattle.hierarchy.specs.Extends.{Extends}
 use Rattle.insn.specs.Meanings.{Act}
 use Rattle.insn.specs.Offsets.{at_offset, next_offset, led_to, IsAmong}
 use Rattle.machine.specs.Values.{Value, null, reference}
-use Rattle.machine.specs.Heap.{ready, Object, object, Heap, IsBelow, with_fresh}
+use Rattle.machine.specs.Heap.{ready, object, Heap, IsBelow, with_fresh}
 use Rattle.machine.specs.ByType.{IsOf}
 use Rattle.machine.specs.ByAct.{jumps, is_return, is_throw, is_followed, is_store, object_place, cast_to, Asks, nothing, a_value, an_element, an_address, asks}
 use Rattle.machine.specs.Demands.{State, IsNoFault}

@@ -1,6 +1,6 @@
 -- The operand stack behind an instruction, by its act and the constant that it names (JVMS 2.6.2, 2.11, 6.5): how many operands are gone, and what
 -- stands on what was beneath them.
-use Rattle.std.specs.Prelude.{◌≡◌, ℕ, ◌+◌, if◌then◌else◌, bytes_eq, List, [], ◌∷◌, ◌++◌, length, drop, slice_get, Option, Some, None}
+use Rattle.std.specs.Prelude.{◌≡◌, ℕ, ◌+◌, if◌then◌else◌, bytes_eq, List, ◌∷◌, ◌++◌, length, drop, slice_get, Option, Some, None}
 use Rattle.names.specs.Descriptors.{FieldDescriptor}
 use Rattle.names.specs.ReferenceTypes.{ReferenceType}
 use Rattle.names.specs.StandardNames.{init_name}
@@ -17,7 +17,7 @@ use Rattle.insn.specs.ByUnits.{top_units, passed_units, moved_by}
 use Rattle.insn.specs.Meanings as acts
 use Rattle.insn.specs.Meanings.{Act}
 use Rattle.insn.specs.Offsets.{at_offset}
-use Rattle.machine.specs.Values.{Value, number, null, reference, holds}
+use Rattle.machine.specs.Values.{Value, number, null, holds}
 use Rattle.machine.specs.ByType.{units_of_all}
 use Rattle.machine.specs.Demands.{State}
 use Rattle.machine.specs.Steps.{go, goes_on, Happens}

@@ -1,7 +1,7 @@
 -- The references that an instruction uses, by its act and the constant that it names (JVMS 2.9.1, 4.10.1.4, 6.5): arguments, receivers aside from
 -- that of an `<init>`, the objects of fields, arrays, what is stored in a field or an array, and what is cast, thrown or returned. Each is null, or its
 -- object's constructor has returned. References that are copied, stored in local variables, compared, tested or locked are not used.
-use Rattle.std.specs.Prelude.{◌≡◌, ℕ, true, List, [], ◌∷◌, length, slice_get, Option, Some, None, ◌⊎◌}
+use Rattle.std.specs.Prelude.{◌≡◌, ℕ, true, List, [], ◌∷◌, ◌++◌, length, slice_get, Option, Some, None, ◌⊎◌}
 use Rattle.names.specs.Descriptors.{FieldDescriptor, primitive, class, array}
 use Rattle.names.specs.ReferenceTypes.{ReferenceType}
 use Rattle.pool.specs.Members.{FieldConstant, field_at, MethodConstant, method_at}
@@ -41,17 +41,13 @@ abbrev pub value_used : Option FieldConstant → List ℕ
 value_used (Some f) = with_place f.type 0 []
 value_used None = []
 
-abbrev pub both : List ℕ → List ℕ → List ℕ
-both [] others = others
-both (place ∷ places) others = place ∷ both places others
-
 abbrev pub used : Method Act → Act → List ℕ
 used m (acts.GetField i) = 0 ∷ []
 used m (acts.PutField i) = value_used (field_at m.constant_pool i)
 used m (acts.PutStatic i) = value_used (field_at m.constant_pool i)
-used m (acts.InvokeVirtual i) = both (receiver_used (method_at m.constant_pool i)) (arguments_used (method_at m.constant_pool i))
-used m (acts.InvokeInterface i count) = both (receiver_used (method_at m.constant_pool i)) (arguments_used (method_at m.constant_pool i))
-used m (acts.InvokeSpecial i) = both (receiver_used (other_than_init (method_at m.constant_pool i))) (arguments_used (method_at m.constant_pool i))
+used m (acts.InvokeVirtual i) = receiver_used (method_at m.constant_pool i) ++ arguments_used (method_at m.constant_pool i)
+used m (acts.InvokeInterface i count) = receiver_used (method_at m.constant_pool i) ++ arguments_used (method_at m.constant_pool i)
+used m (acts.InvokeSpecial i) = receiver_used (other_than_init (method_at m.constant_pool i)) ++ arguments_used (method_at m.constant_pool i)
 used m (acts.InvokeStatic i) = arguments_used (method_at m.constant_pool i)
 used m (acts.LoadElement element) = 1 ∷ []
 used m (acts.StoreElement element) = 2 ∷ []

@@ -1,14 +1,14 @@
 -- The conditions that the verdict asks are the fields of a method that is type-safe, each with its number.
-use Rattle.std.proofs.Common.{◌≡◌, ℕ, ℤ, pos, negsuc, ◌<◌, ◌≤◌, Bool, true, false, not, ◌&&◌, ◌||◌, is_some, is_none, nat_lt, nat_eq, List, [], ◌∷◌, ◌++◌, length, Option, Some, None, if◌then◌else◌, ◌⊎◌, ◌↔◌, inl, inr, refl, sym, ◌∙◌, ap, subst, arith, ltb-true, ltb-false, le-ltb, eqb-true, eq-eqb}
+use Rattle.std.proofs.Common.{◌≡◌, ℕ, ℤ, pos, negsuc, ◌≤◌, Bool, true, false, not, ◌&&◌, ◌||◌, is_some, is_none, nat_lt, nat_eq, List, [], ◌∷◌, ◌++◌, Option, Some, None, if◌then◌else◌, ◌⊎◌, ◌↔◌, inl, inr, refl, sym, ◌∙◌, ap, subst, arith, ltb-true, ltb-false, le-ltb, eqb-true, eq-eqb}
 use Rattle.names.specs.StandardNames.{throwable_name}
 use Rattle.classfile.specs.Methods.{Method, ExceptionEntry, covers}
 use Rattle.hierarchy.specs.Class.{ClassFact}
 use Rattle.hierarchy.specs.Answer.{Outcome, yes, no, missing}
 use Rattle.insn.specs.Meanings.{Act}
-use Rattle.insn.specs.Offsets.{at_offset, next_offset, has_offset, IsStart, IsAmong, StartsRise}
+use Rattle.insn.specs.Offsets.{at_offset, next_offset, has_offset, IsStart, IsAmong}
 use Rattle.frames.specs.VerificationType.{class}
 use Rattle.frames.specs.FrameFact.{FrameFact}
-use Rattle.frames.specs.Slots.{to_reference, in_locals}
+use Rattle.frames.specs.Slots.{to_reference}
 use Rattle.frames.specs.Assignable.{type_answer}
 use Rattle.frames.specs.FrameAssignable.{frame_answer}
 use Rattle.frames.specs.Conditions.{Reason, reason, class_missing, number_of, Conditions, NoneHolds, lesser, least, is_no}
@@ -16,11 +16,11 @@ use Rattle.rules.specs.Plans.{Plan, falls, targets}
 use Rattle.rules.specs.Table.{Plans}
 use Rattle.rules.specs.After.{after}
 use Rattle.rules.specs.Rules.{constructs_own, conditions}
-use Rattle.verify.specs.InitialFrames.{initial_types, initial_frame}
-use Rattle.verify.specs.TypeSafety.{Frames, Declares, caught_frame, IsSoundEntry}
-use Rattle.verify.specs.Verdict.{Verdict, MapRefusal, refused, map_refused, told_of, answer_conditions, is_end, table_conditions, declared_at, one_target, target_conditions, one_handler, handler_conditions, is_covered, at_conditions, entry, verdict}
-use Rattle.verify.specs.Refusals.{Reaches, BreaksRule, BreaksFrame, BreaksFirst, BreaksTable, HasNoRoom, BreaksCode, BreaksWithFrames, IsMapFault, MapRefusedWhere}
-use Rattle.verify.specs.Breaks.{Holds, HasNoFrame, Meets, Target, Covering, Breaks, rule, no_frame_at_target, not_assignable_at_target, missing_at_target, no_frame_at_handler, not_assignable_at_handler, missing_at_handler, falls_off, constructor_covered, BreaksAt, not_assignable, missing_there, no_frame, BreaksEntry, covers_nothing, no_start, no_end, no_handler, no_handler_frame, no_throwable, missing_class, AreFields, ConditionsAreFields, IsLeast, BreaksInstruction, BreaksArrival, BreaksHandlers, BreaksDeclared, at_entry, at_beginning, at_frame, at_instruction, BreaksMethod, no_room, with_frames, RefusedBreaks, MapRefusedBreaks}
+use Rattle.verify.specs.InitialFrames.{initial_frame}
+use Rattle.verify.specs.TypeSafety.{Frames, caught_frame}
+use Rattle.verify.specs.Verdict.{told_of, answer_conditions, is_end, table_conditions, declared_at, one_target, target_conditions, one_handler, handler_conditions, is_covered, at_conditions, entry}
+use Rattle.verify.specs.Refusals.{BreaksRule, BreaksFrame, BreaksFirst, BreaksTable, HasNoRoom, BreaksCode, BreaksWithFrames}
+use Rattle.verify.specs.Breaks.{Holds, HasNoFrame, Meets, Target, Covering, Breaks, rule, no_frame_at_target, not_assignable_at_target, missing_at_target, no_frame_at_handler, not_assignable_at_handler, missing_at_handler, falls_off, constructor_covered, BreaksAt, not_assignable, missing_there, no_frame, BreaksEntry, covers_nothing, no_start, no_end, no_handler, no_handler_frame, no_throwable, missing_class, AreFields, ConditionsAreFields, IsLeast, BreaksDeclared, at_entry, at_beginning, at_frame, at_instruction, BreaksMethod, no_room, with_frames, RefusedBreaks, MapRefusedBreaks}
 use Rattle.verify.proofs.Declared.{none_least}
 use Rattle.verify.proofs.MapFaults.{map_refused_where}
 use Rattle.verify.proofs.Refusing.{refused_why}
