@@ -1,4 +1,5 @@
 pub mod Alone
+pub mod ByUnits
 pub mod CodeLaws
 pub mod CodeSpellings
 pub mod Keys

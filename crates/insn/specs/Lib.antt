@@ -16,3 +16,4 @@ pub mod Offsets
 pub mod Stacks
 pub mod Switches
 pub mod Branching
+pub mod ByUnits

@@ -4,6 +4,7 @@ ghost use Rattle.insn.specs.declared.fault.CodeFault.{CodeFault};
 ghost use Rattle.insn.specs.declared.opcode.Opcode.{Opcode};
 ghost use Rattle.insn.specs.Instructions.{Instruction};
 ghost use Rattle.insn.specs.Code.{SpellsCode, FaultyCode};
+ghost use Rattle.insn.specs.ByUnits.{KindsAreRows, ArraysAreTaken, FormsMoveUnits};
 ghost use Rattle.insn.specs.Laws.{OneSpelling, StartsAreSums, SizesAdd, WrittenIsRead, ReadIsWritten};
 ghost use Rattle.insn.specs.Opcodes.{number, opcode_of};
 ghost use Rattle.insn.specs.Readings.{ReadingsAreSpellings};
@@ -45,4 +46,17 @@ pub fn written_is_read()
 /// The instructions that were read are written as the code that they were read from.
 pub fn read_is_written()
     ensures { ReadIsWritten }
+{}
+
+/// The kind as which a number of a primitive type is computed with, and the arrays that an element
+/// instruction takes, are those of the standard's tables.
+pub fn kinds_and_arrays()
+    ensures kinds { KindsAreRows }
+    ensures arrays { ArraysAreTaken }
+{}
+
+/// The forms of an instruction for the stack are for all items of so many units on top and so many
+/// beneath them, whatever the items, and for no others: those on top are dropped, copied or exchanged.
+pub fn forms_move_units()
+    ensures { FormsMoveUnits }
 {}

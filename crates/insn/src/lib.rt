@@ -13,7 +13,7 @@
 //! - `fault`: why bytes are no code
 //! - `finding`: the instruction at an offset
 //! - `instruction`: an opcode and what stands behind it
-//! - `laws`: laws of code, without code
+//! - `laws`: laws of code and of its tables, without code
 //! - `meaning`: what an instruction means
 //! - `opcode`: opcodes and their numbers
 //! - `operation`: operators, and what instructions may mean
@@ -49,8 +49,8 @@ pub use fault::CodeFault;
 pub use finding::found_at;
 pub use instruction::{Insn, Operands, is_rising_start, is_start, mnemonic};
 pub use laws::{
-    code_is_one_list, list_is_one_code, opcodes_have_numbers, read_is_written,
-    readings_are_spellings, written_is_read,
+    code_is_one_list, forms_move_units, kinds_and_arrays, list_is_one_code, opcodes_have_numbers,
+    read_is_written, readings_are_spellings, written_is_read,
 };
 pub use meaning::{act, made_index};
 pub use opcode::Opcode;

@@ -1,19 +1,20 @@
 -- Nothing happens but what an act and its constant say.
-use Rattle.std.proofs.Common.{◌≡◌, ◌≢◌, ℕ, ◌<◌, ◌^◌, ℤ, Bool, true, false, List, [], ◌∷◌, ◌++◌, length, drop, slice_get, Option, Some, None, if◌then◌else◌, ◌⊎◌, sym, ap, refl, ◌∙◌, subst, nat_eq, eqb-true, eq-eqb}
+use Rattle.std.proofs.Common.{◌≡◌, ℕ, ◌<◌, ◌^◌, ℤ, Bool, true, false, List, [], ◌∷◌, ◌++◌, length, drop, slice_get, Option, Some, None, sym, ap, refl, ◌∙◌, subst, nat_eq, eqb-true, eq-eqb}
 use Rattle.names.specs.ReferenceTypes.{ReferenceType, class_type}
 use Rattle.classfile.specs.Methods.{Method}
 use Rattle.hierarchy.specs.World.{World}
 use Rattle.insn.specs.Meanings.{Act}
-use Rattle.insn.specs.Offsets.{at_offset, IsAmong, led_to}
+use Rattle.insn.specs.Offsets.{at_offset, led_to}
 use Rattle.insn.specs.Stacks.{beneath}
 use Rattle.machine.specs.Values.{Value, null, reference}
-use Rattle.machine.specs.Heap.{Status, ready, made, Object, object, Heap, with_object, with_fresh}
+use Rattle.machine.specs.Heap.{Status, ready, made, Object, object, Heap, with_object}
 use Rattle.machine.specs.Tasks as tasks
 use Rattle.machine.specs.Tasks.{Need, Reply, Task, task}
 use Rattle.machine.specs.Demands.{State, MeetsRest, IsNoFault}
-use Rattle.machine.specs.Steps.{Replies, IsNull, IsLive, IsLast, Does, IsBranch, go, raise, goes_on, ended, Happens}
-use Rattle.machine.specs.ByAct.{Asks, an_address, jumps, asks, is_return}
+use Rattle.machine.specs.Steps.{Replies, IsNull, IsLive, IsLast, Does, IsBranch, go, goes_on, Happens}
+use Rattle.machine.specs.ByAct.{an_address, jumps}
 use Rattle.machine.specs.Breadth.{IsNotNull, Passes, with_new, IsElement, IsAnswer, IsTold, IsPushed, StayReady, IsSuccessor, HasBounds, StepBounds}
+use Rattle.machine.proofs.ByType.{type_where, of_reference}
 use Rattle.machine.proofs.Outlook.{Outlook, outlook, outlook_of, leaves_it, asks_in, reply_asks, seen}
 use Rattle.machine.proofs.Breadth.{MayBy, WayBy, keeps_one, true_false}
 
@@ -32,7 +33,7 @@ asked_reply : (w : World) (s : State) (r : Reply) (n : ℕ) (answer : Option Val
 asked_reply w s tasks.no_reply n answer vs e = e.0
 asked_reply w s (tasks.gives_number k) n answer vs e = e.0
 asked_reply w s tasks.gives_null n answer vs e = e.0
-asked_reply w s (tasks.gives_answer t) n answer vs e = (e.0, e.1, e.2)
+asked_reply w s (tasks.gives_answer t) n answer vs e = (e.0, e.1, type_where w s.heap t e.0 e.2)
 
 told_where : (at : ℕ) (os : List ℤ) (branch : Option ℕ) (to : ℕ) → IsBranch (led_to at os) branch to → IsTold os branch to
 told_where at [] branch to b = b
@@ -130,11 +131,11 @@ module _ (w : World) (s : State) (answer : Option Value) (to : ℕ) where
       let st : s.stack ≡ d.0 ∷ reference d.1 ∷ d.3 = d.5 in
       let array : slice_get s.stack 1 ≡ Some (reference d.1) = ap (λ z. slice_get z 1) st in
       let live : IsNotNull (Some 1) s.stack = λ e. reference_is_not_null d.1 (sym array ∙ e) in
-      let element : IsElement w s answer = record { address = d.1; component = d.2; value = d.4; array = array; type = d.6; fits = d.7; is = d.8 } in
+      let element : IsElement w s answer = record { address = d.1; component = d.2; value = d.4; array = array; type = d.6; fits = type_where w s.heap d.2 d.4 d.7; is = d.8 } in
       let pushed : u.stack ≡ d.4 ∷ drop 2 s.stack = ap (λ z. z.stack) d.9 ∙ ap (λ z. d.4 ∷ z) (sym (ap (λ z. drop 2 z) st)) in
       plain tasks.takes_element u to (refl, refl, live, tt) element (d.4, d.8, pushed) (ap (λ z. z.at) d.9) (ap (λ z. z.heap) d.9) (λ e. ap (λ z. z.locals) d.9)
   follows m (tasks.passes r) u d =
-      let p : Passes w s.heap (Some r) s.stack = subst (λ z. Passes w s.heap (Some r) z) (sym d.2) d.3 in
+      let p : Passes w s.heap (Some r) s.stack = subst (λ z. Passes w s.heap (Some r) z) (sym d.2) (of_reference w s.heap r d.0 d.3) in
       plain (tasks.passes r) u to (refl, refl, tt, p) d.4 tt (ap (λ z. z.at) d.5) (ap (λ z. z.heap) d.5) (λ e. ap (λ z. z.locals) d.5)
   follows m (tasks.creates c) u d = made_new (tasks.creates c) u (object (class_type c) made) d.0 0 refl refl refl refl refl d.1 d.2 d.3 (ap (λ z. z.at) d.4) (ap (λ z. z.stack) d.4) (ap (λ z. z.heap) d.4) (ap (λ z. z.locals) d.4)
   follows m (tasks.makes_array ns r) u d =

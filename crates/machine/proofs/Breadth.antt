@@ -1,9 +1,9 @@
--- The machine's choices, beginnings and worlds.
+-- The machine's choices, and worlds.
 use Rattle.std.proofs.Common.{◌≡◌, ◌≢◌, ℕ, ℤ, pos, ◌+ℤ◌, Bool, true, false, List, [], ◌∷◌, length, slice_get, Option, Some, None, if◌then◌else◌, ◌⊎◌, inl, inr, sym, ap, refl, ◌∙◌, subst, ne_eqb, option_map}
 use Rattle.std.specs.Str.{bytes_eq}
 use Rattle.std.proofs.lemmas.Slice.Eq.{bytes_eq-Decides}
 use Rattle.names.specs.ReferenceTypes.{ReferenceType, class_type, array_type}
-use Rattle.classfile.specs.Methods.{Method, Receiver, no_receiver, ready_receiver, own_receiver, receiver_of}
+use Rattle.classfile.specs.Methods.{Method}
 use Rattle.names.specs.StandardNames.{object_name, cloneable_name, serializable_name}
 use Rattle.hierarchy.specs.World.{Entry, World}
 use Rattle.hierarchy.specs.Class.{ClassFact, entry_of, world_of, IsAbsent}
@@ -13,16 +13,16 @@ use Rattle.hierarchy.proofs.Worlds.{itself}
 use Rattle.insn.specs.Meanings.{Act}
 use Rattle.insn.specs.Offsets.{at_offset, next_offset, IsAmong, led_to}
 use Rattle.names.specs.Descriptors.{FieldDescriptor, primitive, class as class_descriptor, array as array_descriptor}
-use Rattle.insn.specs.Stacks.{computed_as}
 use Rattle.machine.specs.Values.{Value, number, null, reference}
-use Rattle.machine.specs.Heap.{Status, ready, made, this, Object, object, Heap, with_object, IsBelow, FitsReference, FitsField, IsFresh, with_fresh}
+use Rattle.machine.specs.Heap.{Status, ready, made, this, Object, object, Heap, with_object, IsBelow, FitsReference, IsFresh, with_fresh}
 use Rattle.machine.specs.Tasks as tasks
 use Rattle.machine.specs.Tasks.{Need, Reply, Task, task, targets, needs_of}
 use Rattle.machine.specs.Demands.{State, AllMeet, IsMade, IsOwn, MeetsRest, IsNoFault}
 use Rattle.machine.specs.Steps.{Replies, IsNull, moved_with, IsLive, IsLast, Does, IsBranch}
-use Rattle.machine.specs.Runs.{Receives}
-use Rattle.machine.specs.ByAct.{Asks, jumps, asks}
-use Rattle.machine.specs.Breadth.{AreNew, IsNotNull, Passes, IsReceiver, with_new, MayGoOn, IsElement, IsAnswer, MakesNone, IsWay, IsTold, HasStep, HasChoices, StepBreadth, StartBreadth, with_class, interface_entry, class_entry, WorldBreadth}
+use Rattle.machine.specs.ByType.{kind_of, IsOf}
+use Rattle.machine.specs.ByAct.{jumps, asks}
+use Rattle.machine.specs.Breadth.{AreNew, IsNotNull, Passes, with_new, MayGoOn, IsElement, IsAnswer, MakesNone, IsWay, IsTold, HasStep, HasChoices, StepBreadth, with_class, interface_entry, class_entry, WorldBreadth}
+use Rattle.machine.proofs.ByType.{fits_where, reference_where}
 use Rattle.machine.proofs.Flows.{Flows, flows}
 use Rattle.machine.proofs.Outlook.{Outlook, outlook, outlook_of, leaves_it, asks_in, reply_asks, seen}
 
@@ -67,11 +67,6 @@ last_where (tasks.leaves ns) r = tt
 last_where tasks.ends r = tt
 last_where _ r = cc
 
-receives_where : (w : World) (m : Method Act) (h : Heap) (own : ℕ) (r : Receiver) (vs : List Value) → IsReceiver w m h own r vs → Receives w m h own r vs
-receives_where w m h own no_receiver vs i = i
-receives_where w m h own ready_receiver vs i = i
-receives_where w m h own own_receiver vs i = i
-
 -- ---- what an instruction does
 
 -- what is asked of the choices, and of the answer, as a task is seen
@@ -88,11 +83,11 @@ replies : (w : World) (s : State) (r : Reply) (n : ℕ) (answer : Option Value) 
 replies w s tasks.no_reply n answer e = ([], (e, refl))
 replies w s (tasks.gives_number k) n answer e = (number k ∷ [], (e, refl))
 replies w s tasks.gives_null n answer e = (null ∷ [], (e, refl))
-replies w s (tasks.gives_answer t) n answer e = (e.0 ∷ [], (e.0, e.1, e.2, refl))
+replies w s (tasks.gives_answer t) n answer e = (e.0 ∷ [], (e.0, e.1, fits_where w s.heap t e.0 e.2, refl))
 
 passed : (w : World) (h : Heap) (t : ReferenceType) (vs : List Value) → Passes w h (Some t) vs → (v : Value) × (rest : List Value) × (vs ≡ v ∷ rest) × FitsReference w h t v
 passed w h t [] f = elim f [ ]
-passed w h t (v ∷ vs) f = (v, vs, refl, f)
+passed w h t (v ∷ vs) f = (v, vs, refl, reference_where w h t v f)
 
 first_one : (w : World) (h : Heap) (n : Need) (vs : List Value) → AllMeet w h (n ∷ []) vs → (v : Value) × (rest : List Value) × (vs ≡ v ∷ rest)
 first_one w h n (v ∷ vs) f = (v, vs, refl)
@@ -117,7 +112,7 @@ module _ (w : World) (m : Method Act) (s : State) (fresh : List (ℕ × Referenc
   does (tasks.moves fs) answer to am mr go_on an = (_, (mr.form, mr.among, mr.fits, an, refl))
   does tasks.takes_element answer to am mr go_on an =
       let q = second_one s.stack an.address an.array in
-      (_, (q.0, an.address, an.component, q.1, an.value, q.2, an.type, an.fits, an.is, refl))
+      (_, (q.0, an.address, an.component, q.1, an.value, q.2, an.type, fits_where w (with_fresh s.heap fresh) an.component an.value an.fits, an.is, refl))
   does (tasks.passes r) answer to am mr go_on an =
       let q = passed w (with_fresh s.heap fresh) r s.stack go_on.3 in
       (_, (q.0, q.1, q.2, q.3, an, refl))
@@ -133,8 +128,8 @@ module _ (w : World) (m : Method Act) (s : State) (fresh : List (ℕ × Referenc
 
   -- ---- something to answer
 
-  field_value : (t : FieldDescriptor) → (v : Value) × FitsField w (with_fresh s.heap fresh) t v
-  field_value (primitive p) = (number (computed_as p), refl)
+  field_value : (t : FieldDescriptor) → (v : Value) × IsOf w (with_fresh s.heap fresh) t v
+  field_value (primitive p) = (number (kind_of p), (p, refl, refl))
   field_value (class_descriptor n) = (null, tt)
   field_value (array_descriptor c) = (null, tt)
 
@@ -296,24 +291,6 @@ module _ (w : World) (m : Method Act) (s : State) (fresh : List (ℕ × Referenc
 
 pub step_breadth : StepBreadth
 step_breadth w m s n act here fresh f = choices w m s fresh (fresh_where s.heap fresh f) n act here
-
--- ---- beginnings
-
-pub start_breadth : StartBreadth
-start_breadth w m heap own receiver args received fit enough objects none only = record {
-  at = refl;
-  stack = refl;
-  own = own;
-  receiver = receiver;
-  arguments = args;
-  receives = receives_where w m heap own (receiver_of m) receiver received;
-  fit = fit;
-  enough = enough;
-  locals = refl;
-  objects = objects;
-  none_made = none;
-  only_own = only;
-}
 
 -- ---- worlds
 

@@ -1,7 +1,11 @@
 mod Flows
 mod Outlook
 mod Examples
+mod ByType
 mod Breadth
+mod RunBreadth
+mod Uses
+mod Pushes
 mod Bounds
 mod Types
 mod Stacks

@@ -148,7 +148,7 @@ put_field_seen m None e = absurd (e refl)
 
 -- ---- calls
 
-arguments_long : (ts : List FieldDescriptor) (ns : List Need) → length (tasks.arguments_on ts ns) ≡ length ts + length ns
+pub arguments_long : (ts : List FieldDescriptor) (ns : List Need) → length (tasks.arguments_on ts ns) ≡ length ts + length ns
 arguments_long [] ns = omega arith
 arguments_long (t ∷ ts) ns = let e = arguments_long ts (tasks.need_of t ∷ ns) in omega arith
 
@@ -202,7 +202,7 @@ array_of_seen : (c : Option ReferenceType) → Seen (tasks.new_reference_array c
 array_of_seen (Some t) e = where_allowed _ (tasks.makes_array _ (array_type (descriptor_of t))) (answers (by_act.array_of (Some t))) refl e
 array_of_seen None e = absurd (e refl)
 
-sizes_long : (n : ℕ) → length (tasks.sizes n) ≡ n
+pub sizes_long : (n : ℕ) → length (tasks.sizes n) ≡ n
 sizes_long zero = refl
 sizes_long (suc n) = ap suc (sizes_long n)
 

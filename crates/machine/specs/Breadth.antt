@@ -1,25 +1,25 @@
--- The machine leaves nothing out and adds nothing: each way to go, each answer that fits, each exception, each beginning and each world has its
--- place in a run, and no other way to go, answer or exception has one (JVMS 2.6, 2.10, 2.11, 4.10.1.2). So a theorem about all runs is about all that
--- a real machine may do. Ways to go, returns, receivers, answers, new objects and what is not null have words of their own, by the act and the constant
--- that it names: a table of the machine that takes another operand or gives another answer then breaks a law, and does not change it. What fits a
--- type, and which type is below which, are the machine's own words, which the law of what fits ties to the verifier's.
-use Rattle.std.specs.Prelude.{◌≡◌, ◌≢◌, ℕ, ℤ, ◌<◌, ◌≤◌, ◌^◌, pos, true, false, List, [], ◌∷◌, ◌++◌, length, drop, slice_get, bytes_eq, if◌then◌else◌, Option, Some, None, ◌⊎◌}
+-- The machine leaves nothing out and adds nothing: each way to go, each answer of its type, each exception and each world has its place in a run, and
+-- no other way to go, answer or exception has one (JVMS 2.6, 2.10, 2.11, 4.10.1.2). So a theorem about all runs is about all that a real machine may do.
+-- Ways to go, returns, receivers, answers, new objects and what is not null have words of their own, by the act and the constant that it names, and so
+-- have the values of a type: a table of the machine that takes another operand or gives another answer then breaks a law, and does not change it. Which
+-- type is below which is the machine's own word, which the law of what fits ties to the verifier's.
+use Rattle.std.specs.Prelude.{◌≡◌, ◌≢◌, ℕ, ℤ, ◌<◌, ◌≤◌, ◌^◌, pos, true, false, List, [], ◌∷◌, drop, slice_get, bytes_eq, if◌then◌else◌, Option, Some, None, ◌⊎◌}
 use Rattle.names.specs.Descriptors.{FieldDescriptor}
-use Rattle.names.specs.ReferenceTypes.{ReferenceType, class_type, array_type, dimensions_of}
+use Rattle.names.specs.ReferenceTypes.{ReferenceType, class_type, array_type, descriptor_of, dimensions_of}
 use Rattle.names.specs.StandardNames.{object_name, cloneable_name, serializable_name, throwable_name}
-use Rattle.classfile.specs.Methods.{Method, ExceptionEntry, covers, Receiver, no_receiver, ready_receiver, own_receiver, receiver_of}
-use Rattle.hierarchy.specs.World.{Entry, World, IsSubclassIn}
+use Rattle.classfile.specs.Methods.{Method, ExceptionEntry, covers}
+use Rattle.hierarchy.specs.World.{Entry, World}
 use Rattle.hierarchy.specs.Class.{ClassFact, world_of, IsAbsent}
 use Rattle.hierarchy.specs.Rules.{IsHierarchy}
 use Rattle.hierarchy.specs.Extends.{Extends}
 use Rattle.insn.specs.Meanings.{Act}
 use Rattle.insn.specs.Offsets.{at_offset, next_offset, led_to, IsAmong}
-use Rattle.machine.specs.Values.{Value, null, reference, in_slots, all_slots}
-use Rattle.machine.specs.Heap.{ready, made, this, Object, object, Heap, IsBelow, FitsReference, FitsField, AllFit, with_fresh}
+use Rattle.machine.specs.Values.{Value, null, reference}
+use Rattle.machine.specs.Heap.{ready, object, Heap, IsBelow, with_fresh}
+use Rattle.machine.specs.ByType.{IsOf}
 use Rattle.machine.specs.ByAct.{jumps, is_return, is_throw, is_followed, is_store, object_place, cast_to, Asks, nothing, a_value, an_element, an_address, asks}
 use Rattle.machine.specs.Demands.{State, IsNoFault}
 use Rattle.machine.specs.Steps.{go, raise, goes_on, ended, Happens}
-use Rattle.machine.specs.Runs.{IsInitial}
 
 -- ---- what an instruction may come to
 
@@ -42,7 +42,7 @@ IsNotNull (Some i) vs = slice_get vs i ≢ Some null
 abbrev pub Passes : World → Heap → Option ReferenceType → List Value → Type 0
 Passes world heap None vs = Unit {0}
 Passes world heap (Some type) [] = ⊥
-Passes world heap (Some type) (v ∷ vs) = FitsReference world heap type v
+Passes world heap (Some type) (v ∷ vs) = IsOf world heap (descriptor_of type) v
 
 -- The instruction may go on: it is no return and no athrow, what only raises where it is null is not, and a cast passes.
 abbrev pub MayGoOn : World → Method Act → Act → State → Type 0
@@ -56,7 +56,7 @@ pub record IsElement (world : World) (s : State) (answer : Option Value) : Type 
   pub value : Value
   pub array : slice_get s.stack 1 ≡ Some (reference address)
   pub type : s.heap address ≡ Some (object (array_type component) ready)
-  pub fits : FitsField world s.heap component value
+  pub fits : IsOf world s.heap component value
   pub is : answer ≡ Some value
 
 pub record IsUnused (s : State) (answer : Option Value) : Type 0 where
@@ -69,7 +69,7 @@ pub record IsUnused (s : State) (answer : Option Value) : Type 0 where
 -- and nothing where nothing is asked.
 abbrev pub IsAnswer : World → State → Asks → Option Value → Type 0
 IsAnswer world s nothing answer = answer ≡ None
-IsAnswer world s (a_value type operands) answer = (v : Value) × (answer ≡ Some v) × FitsField world s.heap type v
+IsAnswer world s (a_value type operands) answer = (v : Value) × (answer ≡ Some v) × IsOf world s.heap type v
 IsAnswer world s an_element answer = IsElement world s answer
 IsAnswer world s (an_address made_there operands) answer = IsUnused s answer
 
@@ -182,27 +182,6 @@ abbrev pub StepBounds : Type 0
 StepBounds =
     (world : World) (m : Method Act) (s : State) → IsNoFault world m s → (act : Act) → at_offset m.code s.at ≡ Some act
     → (fresh : List (ℕ × ReferenceType)) → HasBounds world m s act fresh
-
--- ---- beginnings
-
--- The receiver of a method: nothing; an object that fits its class; or its own object, of its class or one below it.
-abbrev pub IsReceiver : World → Method Act → Heap → ℕ → Receiver → List Value → Type 0
-IsReceiver world m heap own no_receiver vs = vs ≡ []
-IsReceiver world m heap own ready_receiver vs =
-    (a : ℕ) × (vs ≡ reference a ∷ []) × FitsReference world heap (class_type m.class) (reference a)
-IsReceiver world m heap own own_receiver vs =
-    (vs ≡ reference own ∷ []) × ((x : List ℕ) × (heap own ≡ Some (object (class_type x) this)) × IsSubclassIn world x m.class)
-
--- a method begins with every heap, with every receiver that it may have and with all arguments that fit
-abbrev pub StartBreadth : Type 0
-StartBreadth =
-    (world : World) (m : Method Act) (heap : Heap) (own : ℕ) (receiver arguments : List Value)
-    → IsReceiver world m heap own (receiver_of m) receiver → AllFit world heap m.type.params arguments
-    → length (in_slots (receiver ++ arguments)) ≤ m.max_locals
-    → ((a : ℕ) (o : Object) → heap a ≡ Some o → (a < 2 ^ 32) × (dimensions_of o.type ≤ 255))
-    → ((a : ℕ) (x : ReferenceType) → heap a ≡ Some (object x made) → ⊥)
-    → ((a : ℕ) (x : ReferenceType) → heap a ≡ Some (object x this) → (receiver_of m ≡ own_receiver) × (a ≡ own))
-    → IsInitial world m (record { at = 0; stack = []; locals = all_slots m.max_locals (receiver ++ arguments); heap = heap })
 
 -- ---- worlds
 

@@ -5,7 +5,11 @@ pub mod Demands
 pub mod Steps
 pub mod Runs
 pub mod ByAct
+pub mod ByType
 pub mod Breadth
+pub mod RunBreadth
+pub mod Uses
+pub mod Pushes
 pub mod Views
 pub mod Bodies
 pub mod Stepped

@@ -1,7 +1,10 @@
-//! The breadth of the machine's choices, beginnings and worlds.
-ghost use Rattle.machine.specs.Breadth.{StepBreadth, StepBounds, StartBreadth, WorldBreadth};
+//! The breadth of the machine's choices, beginnings, runs and worlds.
+ghost use Rattle.machine.specs.Breadth.{StepBreadth, StepBounds, WorldBreadth};
+ghost use Rattle.machine.specs.Pushes.{StackBounds};
+ghost use Rattle.machine.specs.RunBreadth.{StartBreadth, RunBreadth};
+ghost use Rattle.machine.specs.Uses.{ObjectsAreInitialized, OperandsAreInitialized};
 
-/// At a state that is no fault an instruction goes each way with each answer that fits, and each Throwable may be
+/// At a state that is no fault an instruction goes each way with each answer of its type, and each Throwable may be
 /// raised, whatever objects come into being meanwhile.
 pub fn step_breadth()
     ensures { StepBreadth }
@@ -14,9 +17,29 @@ pub fn step_bounds()
     ensures { StepBounds }
 {}
 
-/// A method begins with every heap, every receiver that it may have, and all arguments that fit.
+/// The stack behind a step is the one that the instruction leaves: what is beneath its operands, and on that a number of its kind, null, the answer,
+/// the value of its local variable, the value that was cast, or the items that it moves.
+pub fn stack_bounds()
+    ensures { StackBounds }
+{}
+
+/// Each reference that an instruction uses is null, or its object's constructor has returned; but in an instance initialization method fields
+/// that the class declares may be set in the own object. Of the parts of a state that is no fault that on operands says so alone, and so does
+/// that on objects.
+pub fn used_is_initialized()
+    ensures operands { OperandsAreInitialized }
+    ensures objects { ObjectsAreInitialized }
+{}
+
+/// A method begins with every heap, every receiver that it may have, and all arguments of its types; each stands in the local variable
+/// behind those before it, and all others are empty.
 pub fn start_breadth()
     ensures { StartBreadth }
+{}
+
+/// A beginning is a run; a run with a step behind it, or with an exception that is caught, is one.
+pub fn run_breadth()
+    ensures { RunBreadth }
 {}
 
 /// A hierarchy extends itself, alone, with one more interface, and with one more class under any superclass or none.

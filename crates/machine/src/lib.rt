@@ -12,6 +12,7 @@
 //! - `stacking`, `storing`, `doing`, `going`: what comes of an instruction.
 //! - `below`, `heaps`, `raising`: run-time types, objects by their addresses, and what is raised.
 //! - `stepping`: a step.
+//! - `laws`: what guards the definitions, in words of its own.
 //!
 //! Definitions:
 //!
@@ -21,6 +22,10 @@
 //! - `specs/Demands.antt`: when a state is no fault.
 //! - `specs/Steps.antt`: what comes of an instruction and a choice.
 //! - `specs/Runs.antt`: initial states and runs.
+//! - `specs/Breadth.antt`, `specs/Pushes.antt`: laws of steps: nothing is left out, nothing else happens, and what stands on the stack behind them.
+//! - `specs/Uses.antt`: a law of the objects that an instruction uses.
+//! - `specs/RunBreadth.antt`: laws of initial states and runs.
+//! - `specs/ByAct.antt`, `specs/ByType.antt`: the words in which laws speak.
 //! - `specs/Views.antt`, `specs/Bodies.antt`: what the program's values stand for.
 //! - `specs/Stepped.antt`: what `step` answers.
 //! - `specs/private/`: words of the code's own steps; nothing that a reader must believe rests on them.

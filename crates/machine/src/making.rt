@@ -2,7 +2,7 @@
 ghost use Rattle.std.specs.Prelude.{◌≡◌, ℕ, List, None, Some, IfOk, IfErr, IfSome, IsSome, MatchOption, map, option_map};
 ghost use Rattle.classfile.specs.MethodParts.{code_at};
 ghost use Rattle.classfile.specs.Methods.{caught_type, exception_entries, method_of};
-ghost use Rattle.classfile.specs.Views.{class_view, handler_view};
+ghost use Rattle.classfile.specs.Views.{class_view, code_view, handler_view};
 ghost use Rattle.classfile.specs.Values.{CodeBody};
 ghost use Rattle.insn.specs.Instructions.{Instruction};
 ghost use Rattle.insn.specs.declared.fault.CodeFault.TheVariants.{OutOfMemory};
@@ -103,6 +103,8 @@ impl<'c, 'a> Method<'c, 'a> {
         requires { IsSome (code_at (class_view formed.now.class.now) number) }
         // It is what the class file says of that method, with the instructions of its code.
         ensures told { IfOk result (λ m. method_of (class_view formed.now.class.now) number (code_of m.list.items) ≡ Some (method_view m)) }
+        // Its instructions are those of the Code attribute that the class has at this number, and of no other.
+        ensures code { IfOk result (λ m. code_at (class_view formed.now.class.now) number ≡ Some (code_view m.code.now)) }
         ensures list { IfOk result (λ m. SpellsCode 0 m.code.now.code.now (views m.list.items)) }
         // Where its code is some instructions, it is answered, unless memory runs out.
         ensures only { (body : CodeBody) (xs : List (ℕ × Instruction)) → code_at (class_view formed.now.class.now) number ≡ Some body → SpellsCode 0 body.code xs → IfErr result (λ e. e ≡ OutOfMemory) }

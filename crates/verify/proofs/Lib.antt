@@ -8,6 +8,7 @@ pub mod Verdicts
 pub mod Refusing
 mod Refused
 pub mod MapFaults
+mod Breaks
 pub mod MapReading
 pub mod Decoded
 pub mod Merging

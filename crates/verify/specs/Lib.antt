@@ -6,6 +6,7 @@ pub mod Verdict
 pub mod VerdictLaws
 pub mod ClassMethods
 pub mod Refusals
+pub mod Breaks
 pub mod Steps
 pub mod Listed
 pub mod FinalSuper

@@ -1,4 +1,5 @@
 //! The meaning of the verdict on a method.
+ghost use Rattle.verify.specs.Breaks.{ConditionsAreFields, MapRefusedBreaks, RefusedBreaks};
 ghost use Rattle.verify.specs.Refusals.{MapRefusedWhere, RefusedWhere};
 ghost use Rattle.verify.specs.FitsBreadth.{FitsBreadth};
 ghost use Rattle.verify.specs.OneVerdict.{OneVerdict, OneReport};
@@ -24,6 +25,15 @@ pub fn refused_where()
 /// The stack map is refused exactly where receiver and parameters fit, and the map has this fault.
 pub fn map_refused_where()
     ensures { MapRefusedWhere }
+{}
+
+/// Each condition that the verdict asks is a field of the definition of type-safe that is broken, with its number, both ways: 67 and 68 at
+/// targets, 73 at handlers, 71, 75, 69 and 70 at the next start, 72 of an entry of the exception table, 77 of a class that is missing, and the
+/// reasons of the rule. So a refusal tells by its number which field is broken, 64 and 78 at 0 among them, and none with a lesser one is.
+pub fn refused_breaks()
+    ensures fields { ConditionsAreFields }
+    ensures refusal { RefusedBreaks }
+    ensures stack_map { MapRefusedBreaks }
 {}
 
 /// A method has one verdict, whatever the hierarchy.

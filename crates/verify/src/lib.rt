@@ -18,8 +18,8 @@
 //! - `place_set`: which declared frames were compared.
 //! - `stack_maps`: the frames that a stack map declares.
 //! - `theorem`: type-safe methods are safe.
-//! - `laws`: the verdict on a method is verified exactly where it is type-safe, there is one, what a refusal says, and that
-//!   in the machine a type takes what the verifier lets it take.
+//! - `laws`: the verdict on a method is verified exactly where it is type-safe, there is one, what a refusal says and which
+//!   condition its number stands for, and that in the machine a type takes what the verifier lets it take.
 #![tactic(auto)]
 
 mod among;
@@ -46,8 +46,8 @@ mod verdict;
 pub use among::{AmongFault, verify_among};
 pub use files::{FileFault, FileRead, class_file};
 pub use laws::{
-    fits_breadth, map_refused_where, one_report, one_verdict, refused_where, type_safe_is_verified,
-    verified_is_type_safe,
+    fits_breadth, map_refused_where, one_report, one_verdict, refused_breaks, refused_where,
+    type_safe_is_verified, verified_is_type_safe,
 };
 pub use method::verify_method;
 pub use report::{ClassFault, MethodVerdict, Report, verify_class, verify_methods};

@@ -1,4 +1,4 @@
-use Rattle.machine.proofs.Breadth.{start_breadth}
+use Rattle.machine.proofs.RunBreadth.{start_breadth}
 use Rattle.machine.proofs.laws.start_breadth.Goals as goal
 
 pub returns : goal.returns
