@@ -1,5 +1,5 @@
 -- The two forms of declared frames tell the same.
-use Rattle.std.proofs.Common.{◌≡◌, ◌∙◌, ℕ, List, [], Result, Ok, Err, Vec, Global, sym, ap, tt}
+use Rattle.std.proofs.Common.{◌≡◌, ◌∙◌, ℕ, List, [], Result, Ok, Err, Vec, Global, sym, ap}
 use Rattle.frames.specs.FrameFact.{FrameFact}
 use Rattle.frames.specs.Conditions.{Reason, reason, number_of}
 use Rattle.frames.specs.FrameReasons.{frame_fault_number}
