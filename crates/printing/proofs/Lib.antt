@@ -1,2 +1,3 @@
+pub mod FirstColumn
 pub mod Steps
 pub mod Writings

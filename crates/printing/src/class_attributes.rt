@@ -80,11 +80,7 @@ impl<'p, 'a> Print for Permits<'p, 'a> {
 }
 
 /// The line of the class at an index, if there is one.
-fn put_index<W: Write>(
-    pool: &Pool<'_>,
-    index: Option<u16>,
-    out: &mut W,
-) -> Result<(), WriteFailed>
+fn put_index<W: Write>(pool: &Pool<'_>, index: Option<u16>, out: &mut W) -> Result<(), WriteFailed>
     ensures { Writes (W.contents out.old) (W.contents out.new) (option_map_or (permits_line pool.now) index []) result }
 {
     match index {
@@ -102,7 +98,10 @@ fn put_permitted<W: Write>(
     ensures { Writes (W.contents out.old) (W.contents out.new) (flat_map (permits_line pool.now) (first_column (numbers_view permitted.now))) result }
 {
     for row in 0..permitted.rows() {
-        put_index(pool, permitted.get(row, 0), out)?;
+        match put_index(pool, permitted.get(row, 0), out) {
+            Ok(()) => {}
+            Err(failed) => return Err(failed),
+        }
     }
     Ok(())
 }
