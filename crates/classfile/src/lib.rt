@@ -88,8 +88,8 @@ pub use form_laws::{
     one_first_fault, tests_are_forms,
 };
 pub use laws::{
-    class_is_outline, class_or_fault, no_fault_in_class, one_class, one_fault, one_outline,
-    one_spelling, outline_or_fault,
+    body_spells_rows, class_is_outline, class_or_fault, no_fault_in_class, one_class, one_fault,
+    one_outline, one_spelling, outline_or_fault,
 };
 pub use layouts::{AttributeLayout, Column};
 pub use member::Member;
