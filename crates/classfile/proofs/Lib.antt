@@ -24,6 +24,7 @@ pub mod NumberRows
 pub mod Outlines
 pub mod Places
 pub mod Receivers
+pub mod RowLaws
 pub mod Rows
 pub mod SeenLaws
 pub mod SpecialNames

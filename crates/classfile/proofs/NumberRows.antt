@@ -11,7 +11,7 @@ use Rattle.classfile.specs.IndexColumns.{first_number, behind_count}
 double : (n : ℕ) → 2 * suc n ≡ suc (suc (2 * n))
 double n = omega arith
 
-behind_drop : (cs : List Column) (bytes : List ℕ) → behind_row cs bytes ≡ drop (2 * length cs) bytes
+pub behind_drop : (cs : List Column) (bytes : List ℕ) → behind_row cs bytes ≡ drop (2 * length cs) bytes
 behind_drop [] bytes = refl
 behind_drop (c ∷ cs) [] = ap (λ (n : ℕ). drop n []) (sym (double (length cs)))
 behind_drop (c ∷ cs) (b ∷ []) = ap (λ (n : ℕ). drop n (b ∷ [])) (sym (double (length cs)))

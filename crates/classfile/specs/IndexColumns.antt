@@ -1,5 +1,4 @@
--- How the code finds a number among bytes, the columns of which it reads the indices alone, and how it looks for two attributes of a kind.
--- Words of the code's own steps.
+-- Words of the code's own steps: the place of a number among bytes, columns of which the indices alone are read, and two attributes of a kind.
 use Rattle.std.specs.Prelude.{ℕ, ◌+◌, ◌*◌, Bool, true, false, ◌&&◌, if◌then◌else◌, List, [], ◌∷◌, drop, nat_lt, count_by, Option, Some, None}
 use Rattle.classfile.specs.declared.layouts.Column.{Column}
 use Rattle.classfile.specs.declared.layouts.Column.TheVariants.{Plain, Text}
@@ -38,10 +37,11 @@ are_variable columns = pointwise is_same_column columns variable
 
 -- ---- attributes
 
--- the bodies of two attributes are numbers
+-- the body of an attribute is numbers
 abbrev pub has_numbers : {A : Type 0} → AttributeOf A → Bool
 has_numbers attribute = on_numbers (λ n. true) attribute
 
+-- those of two are
 abbrev pub two_have_numbers : {A : Type 0} → List (AttributeOf A) → Bool
 two_have_numbers attributes = nat_lt 1 (count_by has_numbers attributes)
 

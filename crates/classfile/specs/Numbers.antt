@@ -14,7 +14,7 @@ pub record Numbers : Type 0 where
   pub layout : AttributeLayout
   pub body : List ℕ
 
--- the numbers of a row: one in each column
+-- a row: a number in each column
 abbrev pub row_in : List Column → List ℕ → List ℕ
 row_in (c ∷ cs) (high ∷ low ∷ bytes) = (high * 256 + low) ∷ row_in cs bytes
 row_in cs bytes = []
@@ -30,12 +30,12 @@ abbrev pub rows_in : List Column → ℕ → List ℕ → List (List ℕ)
 rows_in columns zero bytes = []
 rows_in columns (suc n) bytes = row_in columns bytes ∷ rows_in columns n (behind_row columns bytes)
 
--- as many rows as a count before them says
+-- as many rows as the count in front says
 abbrev pub counted_rows : List Column → List ℕ → List (List ℕ)
 counted_rows columns (high ∷ low ∷ bytes) = rows_in columns (high * 256 + low) bytes
 counted_rows columns bytes = []
 
--- where there is no count, one row
+-- the rows of an attribute: one where there is no count
 abbrev pub rows_of : Numbers → List (List ℕ)
 rows_of n = if n.layout.counted then counted_rows n.layout.columns n.body else rows_in n.layout.columns 1 n.body
 
@@ -54,6 +54,7 @@ first_column n = flat_map first_of (rows_of n)
 
 -- ---- layouts that are the same
 
+-- columns of one meaning
 abbrev pub is_same_column : Column → Column → Bool
 is_same_column Plain Plain = true
 is_same_column Text Text = true

@@ -1,6 +1,6 @@
 //! Laws that follow of the layout of class files alone, whatever the code does.
 ghost use Rattle.classfile.specs.OutlineLaws.{ClassIsOutline, OneOutline, OutlineOrFault, NoFaultBehindOutline};
-ghost use Rattle.classfile.specs.Laws.{OneClass, OneSpelling, ClassOrFault, NoFaultInClass, OneFault};
+ghost use Rattle.classfile.specs.Laws.{OneClass, OneSpelling, ClassOrFault, NoFaultInClass, OneFault, BodySpellsRows, SpelledIsLaidOut};
 
 /// The same bytes do not spell two classes.
 pub fn one_class()
@@ -41,4 +41,10 @@ pub fn one_outline()
 pub fn outline_or_fault()
     ensures either { OutlineOrFault }
     ensures apart { NoFaultBehindOutline }
+{}
+
+/// A body has a layout exactly where it spells rows of numbers by it, and these are its rows.
+pub fn body_spells_rows()
+    ensures rows { BodySpellsRows }
+    ensures layout { SpelledIsLaidOut }
 {}

@@ -16,7 +16,7 @@
 //! | `code` | [`CodeAttr`] and its [`ExceptionHandler`]s |
 //! | `code_method` | [`CodeMethod`], a method of a well-formed class as its instructions see it |
 //! | `nested` | [`NestedAttribute`], an attribute of a Code attribute |
-//! | `location` | the table that an attribute stands in, and which are read by field there |
+//! | `location` | the table that an attribute stands in, and which are read by their parts there |
 //! | `layouts` | attributes of numbers of two bytes, and how their bodies are laid out: [`AttributeLayout`] |
 //! | `numbers` | [`Numbers`] of an attribute, row by row |
 //! | `table` | a count and so many items, for all tables of a class file |
@@ -88,8 +88,8 @@ pub use form_laws::{
     one_first_fault, tests_are_forms,
 };
 pub use laws::{
-    class_is_outline, class_or_fault, no_fault_in_class, one_class, one_fault, one_outline,
-    one_spelling, outline_or_fault,
+    body_spells_rows, class_is_outline, class_or_fault, no_fault_in_class, one_class, one_fault,
+    one_outline, one_spelling, outline_or_fault,
 };
 pub use layouts::{AttributeLayout, Column};
 pub use member::Member;

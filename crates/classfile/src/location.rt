@@ -1,4 +1,4 @@
-//! Where an attribute stands, and whether its body is read by field there (JVMS 4.7, table 4.7-C).
+//! Where an attribute stands, and whether its body is read by its parts there (JVMS 4.7, table 4.7-C).
 ghost use Rattle.std.specs.Prelude.{◌≡◌};
 ghost use Rattle.classfile.specs.Locations.{is_named, is_code, is_stack_map, is_record};
 

@@ -1,7 +1,5 @@
 use crate::making::K;
-use classfile::{
-    Attribute, AttributeLayout, ClassAttribute, Column, Numbers, decode, encode,
-};
+use classfile::{Attribute, AttributeLayout, ClassAttribute, Column, Numbers, decode, encode};
 use layout::WriteFault;
 use std::alloc::{AllocError, Global};
 use std::test::*;
@@ -186,7 +184,9 @@ fn permitted(alloc: Global, major: u8, name: &[u8]) -> Option<u16> {
     let mut bytes = with_text(alloc, major, name).ok()?;
     let last = bytes.len() - 1;
     bytes[last] = 1;
-    bytes.extend_from_slice(&[0, 8, 0, 0, 0, 4, 0, 1, 0, 3]).ok()?;
+    bytes
+        .extend_from_slice(&[0, 8, 0, 0, 0, 4, 0, 1, 0, 3])
+        .ok()?;
     let class = decode(alloc, &bytes).ok()?;
     match class.attributes.first()?.permitted_subclasses() {
         Some(numbers) => numbers.get(0, 0),

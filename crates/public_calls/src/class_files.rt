@@ -1,6 +1,6 @@
 use crate::making::{K, are_written};
 use classfile::{
-    Attribute, ClassAttribute, ClassFile, CodeAttr, Component, NestedAttribute,
+    Attribute, ClassAttribute, ClassFile, CodeAttr, Component, NestedAttribute, body_spells_rows,
     class_or_fault, decode, encode, formed_has_names, formed_or_faulty, least_rule_is_told,
     no_fault_in_class, no_fault_in_formed, one_class, one_fault, one_first_fault, one_spelling,
     tests_are_forms,
@@ -21,6 +21,7 @@ const MAPPED: [u8; 121] = [
 
 #[test]
 fn laws_are_called() {
+    body_spells_rows();
     one_class();
     one_spelling();
     class_or_fault();
