@@ -26,9 +26,9 @@ pub enum Column {
 
 /// How the body of an attribute is laid out that is numbers of two bytes each: a row of such numbers, or a count and as many rows.
 #[derive(Clone, Copy, Debug, PartialEq, Eq)]
-pub struct AttributeLayout {
+pub struct AttributeLayout<'t> {
     /// The attribute's name.
-    pub name: &'static str,
+    pub name: &'t str,
     /// The first major version of class files in which it is read so.
     pub first_major: u16,
     /// Whether it may stand only once in its table.
@@ -36,7 +36,7 @@ pub struct AttributeLayout {
     /// Whether a count stands before the rows; otherwise there is one row.
     pub counted: bool,
     /// The meanings of the numbers of a row.
-    pub columns: &'static [Column],
+    pub columns: &'t [Column],
 }
 
 /// The layouts of a table that is written as `NAME MAJOR ONCE COUNTED [COLUMN, COLUMN];`, one a line.
@@ -47,7 +47,7 @@ macro_rules! attributes {
 }
 
 /// Of classes.
-static CLASS_LAYOUTS: [AttributeLayout; 8] = attributes! {
+static CLASS_LAYOUTS: [AttributeLayout<'static>; 8] = attributes! {
     "SourceFile"          51 true  false [Text];
     "InnerClasses"        51 true  true  [Class, ClassOrZero, TextOrZero, Plain];
     "NestHost"            55 true  false [Class];
@@ -59,7 +59,7 @@ static CLASS_LAYOUTS: [AttributeLayout; 8] = attributes! {
 };
 
 /// Of fields.
-static FIELD_LAYOUTS: [AttributeLayout; 4] = attributes! {
+static FIELD_LAYOUTS: [AttributeLayout<'static>; 4] = attributes! {
     "ConstantValue" 51 true  false [Value];
     "Signature"     51 true  false [Text];
     "Deprecated"    51 false false [];
@@ -67,7 +67,7 @@ static FIELD_LAYOUTS: [AttributeLayout; 4] = attributes! {
 };
 
 /// Of methods.
-static METHOD_LAYOUTS: [AttributeLayout; 4] = attributes! {
+static METHOD_LAYOUTS: [AttributeLayout<'static>; 4] = attributes! {
     "Exceptions" 51 true  true  [Class];
     "Signature"  51 true  false [Text];
     "Deprecated" 51 false false [];
@@ -75,18 +75,18 @@ static METHOD_LAYOUTS: [AttributeLayout; 4] = attributes! {
 };
 
 /// Of Code attributes.
-static CODE_LAYOUTS: [AttributeLayout; 2] = attributes! {
+static CODE_LAYOUTS: [AttributeLayout<'static>; 2] = attributes! {
     "LineNumberTable"    51 false true [Plain, Plain];
     "LocalVariableTable" 51 false true [Plain, Plain, Text, Text, Plain];
 };
 
 /// Of components of records.
-static COMPONENT_LAYOUTS: [AttributeLayout; 1] = attributes! {
+static COMPONENT_LAYOUTS: [AttributeLayout<'static>; 1] = attributes! {
     "Signature" 51 true false [Text];
 };
 
 /// The layouts of the attributes of numbers that may stand in a table.
-pub fn layouts_in(location: Location) -> &'static [AttributeLayout]
+pub fn layouts_in(location: Location) -> &'static [AttributeLayout<'static>]
     ensures { map layout_view result.now ≡ layouts_in location }
 {
     match location {
@@ -99,7 +99,7 @@ pub fn layouts_in(location: Location) -> &'static [AttributeLayout]
 }
 
 /// Whether the layout is that of this name, and stands for class files of this version.
-fn is_layout(layout: &AttributeLayout, major: u16, name: &[u8]) -> bool
+fn is_layout(layout: &AttributeLayout<'_>, major: u16, name: &[u8]) -> bool
     ensures { result ≡ is_layout major name.now (layout_view layout.now) }
 {
     let text = layout.name.as_bytes();
@@ -108,10 +108,10 @@ fn is_layout(layout: &AttributeLayout, major: u16, name: &[u8]) -> bool
 
 /// The first layout of this name.
 fn layout_in(
-    layouts: &'static [AttributeLayout],
+    layouts: &'static [AttributeLayout<'static>],
     major: u16,
     name: &[u8],
-) -> Option<&'static AttributeLayout>
+) -> Option<&'static AttributeLayout<'static>>
     ensures { option_map (λ l. layout_view l.now) result ≡ layout_in major name.now (map layout_view layouts.now) }
 {
     for layout in layouts {
@@ -133,7 +133,11 @@ fn major_at(location: Location) -> u16
 }
 
 /// The layout of an attribute by the index of its name.
-pub fn layout_at(pool: &Pool<'_>, location: Location, name: u16) -> Option<&'static AttributeLayout>
+pub fn layout_at(
+    pool: &Pool<'_>,
+    location: Location,
+    name: u16,
+) -> Option<&'static AttributeLayout<'static>>
     ensures { option_map (λ l. layout_view l.now) result ≡ layout_at pool.now location name }
 {
     match pool.text(name) {
@@ -153,7 +157,7 @@ fn has_count(width: usize, body: &[u8]) -> bool
 }
 
 /// Whether the body is laid out so.
-pub fn has_layout(layout: &AttributeLayout, body: &[u8]) -> bool
+pub fn has_layout(layout: &AttributeLayout<'_>, body: &[u8]) -> bool
     ensures { result ≡ has_layout (layout_view layout.now) body.now }
 {
     let width = 2 * layout.columns.len();

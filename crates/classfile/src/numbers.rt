@@ -15,7 +15,7 @@ use pool::Pool;
 #[derive(Clone, Copy, Debug)]
 pub struct Numbers<'a> {
     /// The name of such attributes, and the columns of a row.
-    pub layout: &'static AttributeLayout,
+    pub layout: &'a AttributeLayout<'a>,
     /// The info item of the attribute.
     pub body: &'a [u8],
 }

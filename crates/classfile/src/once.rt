@@ -19,7 +19,7 @@ pub trait Tabled {
     ghost attribute: { Self → AttributeOf Held };
 
     /// The layout of the attribute, if its body is numbers.
-    fn layout(&self) -> Option<&'static AttributeLayout>
+    fn layout(&self) -> Option<&AttributeLayout<'_>>
         ensures { option_map (λ l. layout_view l.now) result ≡ layout_of (attribute self.now) };
 }
 
@@ -31,7 +31,7 @@ impl<'a> Tabled for Attribute<'a> {
 
     ghost attribute = { attribute_view };
 
-    fn layout(&self) -> Option<&'static AttributeLayout> {
+    fn layout(&self) -> Option<&AttributeLayout<'_>> {
         match self {
             Attribute::Numbers { numbers, .. } => Some(numbers.layout),
             Attribute::Code { .. } | Attribute::Raw { .. } => None,
@@ -48,7 +48,7 @@ impl<'a> Tabled for ClassAttribute<'a> {
 
     ghost attribute = { class_attribute_view };
 
-    fn layout(&self) -> Option<&'static AttributeLayout> {
+    fn layout(&self) -> Option<&AttributeLayout<'_>> {
         match self {
             ClassAttribute::Numbers { numbers, .. } => Some(numbers.layout),
             ClassAttribute::Record { .. } | ClassAttribute::Raw { .. } => None,
@@ -65,7 +65,7 @@ fn has_numbers<A: Tabled>(attribute: &A) -> bool
 
 /// Whether the attribute has this layout.
 #[tactic(auto, unfolding(crate::specs::NumberForm::has_this_layout))]
-fn has_this_layout<A: Tabled>(layout: &AttributeLayout, attribute: &A) -> bool
+fn has_this_layout<A: Tabled>(layout: &AttributeLayout<'_>, attribute: &A) -> bool
     ensures { result ≡ has_this_layout (layout_view layout.now) (A.attribute attribute.now) }
 {
     match attribute.layout() {
@@ -75,7 +75,7 @@ fn has_this_layout<A: Tabled>(layout: &AttributeLayout, attribute: &A) -> bool
 }
 
 #[tactic(auto, unfolding(crate::specs::NumberForm::layout_stands_twice))]
-fn layout_stands_twice<A: Tabled>(attributes: &[A], layout: &AttributeLayout) -> bool
+fn layout_stands_twice<A: Tabled>(attributes: &[A], layout: &AttributeLayout<'_>) -> bool
     ensures { result ≡ layout_stands_twice (map A.attribute attributes.now) (layout_view layout.now) }
 {
     layout.once

@@ -5,7 +5,7 @@ use std::alloc::{AllocError, Global};
 use std::test::*;
 
 /// That of Exceptions, in methods.
-static EXCEPTIONS: AttributeLayout = AttributeLayout {
+static EXCEPTIONS: AttributeLayout<'static> = AttributeLayout {
     name: "Exceptions",
     first_major: 51,
     once: true,
@@ -14,7 +14,7 @@ static EXCEPTIONS: AttributeLayout = AttributeLayout {
 };
 
 /// That of InnerClasses, in classes.
-static INNER_CLASSES: AttributeLayout = AttributeLayout {
+static INNER_CLASSES: AttributeLayout<'static> = AttributeLayout {
     name: "InnerClasses",
     first_major: 51,
     once: true,
@@ -28,7 +28,7 @@ static INNER_CLASSES: AttributeLayout = AttributeLayout {
 };
 
 /// That of NestHost, in classes.
-static NEST_HOST: AttributeLayout = AttributeLayout {
+static NEST_HOST: AttributeLayout<'static> = AttributeLayout {
     name: "NestHost",
     first_major: 55,
     once: true,
@@ -37,7 +37,7 @@ static NEST_HOST: AttributeLayout = AttributeLayout {
 };
 
 /// That of Deprecated, in classes, fields and methods.
-static DEPRECATED: AttributeLayout = AttributeLayout {
+static DEPRECATED: AttributeLayout<'static> = AttributeLayout {
     name: "Deprecated",
     first_major: 51,
     once: false,
@@ -110,7 +110,10 @@ fn is_written(
 }
 
 /// These bytes as numbers of a layout.
-fn numbers(layout: &'static AttributeLayout, body: &'static [u8]) -> ClassAttribute<'static> {
+fn numbers(
+    layout: &'static AttributeLayout<'static>,
+    body: &'static [u8],
+) -> ClassAttribute<'static> {
     ClassAttribute::Numbers {
         name: 8,
         numbers: Numbers { layout, body },

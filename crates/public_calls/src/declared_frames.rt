@@ -89,15 +89,7 @@ fn are_whole(alloc: Global, class: &ClassFile<'_>, max_stack: u16) -> Result<boo
         return Ok(false);
     };
     let map = stack_map(alloc)?;
-    match declared(
-        alloc,
-        &map,
-        &class.constant_pool,
-        &code,
-        &[],
-        5,
-        max_stack,
-    ) {
+    match declared(alloc, &map, &class.constant_pool, &code, &[], 5, max_stack) {
         Ok(frames) => Ok(
             frames.len() == 3
                 && is_whole(&frames[0], 0, &LOCALS, &[])
