@@ -84,7 +84,8 @@ fn one_row(rt: HostRuntime) {
 /// The class file of K in this version, with this text at 8.
 fn with_text(alloc: Global, major: u8, text: &[u8]) -> Result<Vec<u8>, AllocError> {
     let mut bytes = K[..56].to_vec(alloc)?;
-    bytes.extend_from_slice(&[1, 0, text.len() as u8])?;
+    let length = u8::try_from(text.len()).unwrap_or(u8::MAX);
+    bytes.extend_from_slice(&[1, 0, length])?;
     bytes.extend_from_slice(text)?;
     bytes.extend_from_slice(&K[56..])?;
     bytes[7] = major;
@@ -92,15 +93,9 @@ fn with_text(alloc: Global, major: u8, text: &[u8]) -> Result<Vec<u8>, AllocErro
     Ok(bytes)
 }
 
-/// Whether K with this attribute is written, or no bytes spell it; nothing where memory runs out. The text at 8 is this name.
-fn is_written(
-    alloc: Global,
-    major: u8,
-    name: &[u8],
-    attribute: ClassAttribute<'static>,
-) -> Option<bool> {
-    let bytes = with_text(alloc, major, name).ok()?;
-    let mut class = decode(alloc, &bytes).ok()?;
+/// Whether the class in these bytes is written with one more attribute, or no bytes spell it; nothing where memory runs out.
+fn is_written<'a>(alloc: Global, bytes: &'a [u8], attribute: ClassAttribute<'a>) -> Option<bool> {
+    let mut class = decode(alloc, bytes).ok()?;
     class.attributes.push(attribute).ok()?;
     match encode(alloc, &class) {
         Ok(_) => Some(true),
@@ -109,18 +104,15 @@ fn is_written(
     }
 }
 
-/// These bytes as numbers of a layout.
-fn numbers(
-    layout: &'static AttributeLayout<'static>,
-    body: &'static [u8],
-) -> ClassAttribute<'static> {
+/// These bytes as numbers of a layout, under the name at 8.
+fn numbers<'a>(layout: &'a AttributeLayout<'a>, body: &'a [u8]) -> ClassAttribute<'a> {
     ClassAttribute::Numbers {
         name: 8,
         numbers: Numbers { layout, body },
     }
 }
 
-fn raw(body: &'static [u8]) -> ClassAttribute<'static> {
+fn raw<'a>(body: &'a [u8]) -> ClassAttribute<'a> {
     ClassAttribute::Raw { name: 8, body }
 }
 
@@ -128,22 +120,26 @@ fn raw(body: &'static [u8]) -> ClassAttribute<'static> {
 #[test]
 fn numbers_are_written(rt: HostRuntime) {
     let alloc = rt.alloc();
-    assert!(rt; is_written(alloc, 55, b"NestHost", numbers(&NEST_HOST, &[0, 1])) == Some(true));
-    assert!(rt; is_written(alloc, 54, b"NestHost", numbers(&NEST_HOST, &[0, 1])) == Some(false));
-    assert!(rt; is_written(alloc, 55, b"NestHos", numbers(&NEST_HOST, &[0, 1])) == Some(false));
-    assert!(rt; is_written(alloc, 55, b"NestHost", numbers(&NEST_HOST, &[1])) == Some(false));
-    assert!(rt; is_written(alloc, 55, b"NestHost", numbers(&DEPRECATED, &[])) == Some(false));
-    assert!(rt; is_written(alloc, 52, b"Exceptions", numbers(&EXCEPTIONS, &[0, 0])) == Some(false));
+    let host = with_text(alloc, 55, b"NestHost").expect(&rt, "memory");
+    assert!(rt; is_written(alloc, &host, numbers(&NEST_HOST, &[0, 1])) == Some(true));
+    assert!(rt; is_written(alloc, &host, numbers(&NEST_HOST, &[1])) == Some(false));
+    assert!(rt; is_written(alloc, &host, numbers(&DEPRECATED, &[])) == Some(false));
+    let older = with_text(alloc, 54, b"NestHost").expect(&rt, "memory");
+    assert!(rt; is_written(alloc, &older, numbers(&NEST_HOST, &[0, 1])) == Some(false));
+    let other = with_text(alloc, 55, b"NestHos").expect(&rt, "memory");
+    assert!(rt; is_written(alloc, &other, numbers(&NEST_HOST, &[0, 1])) == Some(false));
 }
 
 /// Under the name of an attribute of numbers nothing else is written.
 #[test]
 fn raw_bytes_under_such_a_name(rt: HostRuntime) {
     let alloc = rt.alloc();
-    assert!(rt; is_written(alloc, 55, b"NestHost", raw(&[0, 1])) == Some(false));
-    assert!(rt; is_written(alloc, 54, b"NestHost", raw(&[0, 1])) == Some(true));
-    assert!(rt; is_written(alloc, 55, b"NestHos", raw(&[0, 1])) == Some(true));
-    assert!(rt; is_written(alloc, 52, b"Exceptions", raw(&[0, 0])) == Some(true));
+    let host = with_text(alloc, 55, b"NestHost").expect(&rt, "memory");
+    assert!(rt; is_written(alloc, &host, raw(&[0, 1])) == Some(false));
+    let older = with_text(alloc, 54, b"NestHost").expect(&rt, "memory");
+    assert!(rt; is_written(alloc, &older, raw(&[0, 1])) == Some(true));
+    let elsewhere = with_text(alloc, 52, b"Exceptions").expect(&rt, "memory");
+    assert!(rt; is_written(alloc, &elsewhere, raw(&[0, 0])) == Some(true));
 }
 
 /// K with the thrown class at 1 in the Exceptions of its method, as bytes.
@@ -161,11 +157,10 @@ fn throwing(alloc: Global) -> Option<Vec<u8>> {
     encode(alloc, &class).ok()
 }
 
-/// The first number of the last attribute of a method, if it has this layout.
-fn thrown(attributes: &[Attribute<'_>]) -> Option<u16> {
-    match attributes {
-        [.., Attribute::Numbers { name: 8, numbers }] if numbers.layout == &EXCEPTIONS =>
-            numbers.get(0, 0),
+/// The first number of an attribute, if it is one of numbers.
+fn first_number(attribute: &Attribute<'_>) -> Option<u16> {
+    match attribute {
+        Attribute::Numbers { numbers, .. } => numbers.get(0, 0),
         _ => None,
     }
 }
@@ -174,7 +169,7 @@ fn thrown(attributes: &[Attribute<'_>]) -> Option<u16> {
 fn thrown_again(alloc: Global) -> Option<u16> {
     let bytes = throwing(alloc)?;
     let class = decode(alloc, &bytes).ok()?;
-    thrown(&class.methods.first()?.attributes)
+    first_number(class.methods.first()?.attributes.last()?)
 }
 
 #[test]
@@ -185,8 +180,7 @@ fn numbers_both_ways(rt: HostRuntime) {
 /// The first class that K permits, where its one attribute has this name and body; 0 where it permits none.
 fn permitted(alloc: Global, major: u8, name: &[u8]) -> Option<u16> {
     let mut bytes = with_text(alloc, major, name).ok()?;
-    let last = bytes.len() - 1;
-    bytes[last] = 1;
+    *bytes.last_mut()? = 1;
     bytes
         .extend_from_slice(&[0, 8, 0, 0, 0, 4, 0, 1, 0, 3])
         .ok()?;

@@ -48,17 +48,21 @@ fn is_head(class: &ClassFile<'_>) -> bool {
     ) && class.constant_pool.constants().len() == 8
 }
 
+fn is_empty_map(attribute: &NestedAttribute<'_>) -> bool {
+    match attribute {
+        NestedAttribute::StackMapTable { name, body } => {
+            *name == 8 && *body == [0, 0].as_slice()
+        }
+        _ => false,
+    }
+}
+
 fn is_code(code: &CodeAttr<'_>) -> bool {
-    code.max_stack == 0
-        && code.max_locals == 0
-        && code.code == [0xB1].as_slice()
-        && matches!(
-            code.attributes.as_slice(),
-            [NestedAttribute::StackMapTable {
-                name: 8,
-                body: [0, 0]
-            }]
-        )
+    let has_map = match code.attributes.as_slice() {
+        [attribute] => is_empty_map(attribute),
+        _ => false,
+    };
+    has_map && code.max_stack == 0 && code.max_locals == 0 && code.code == [0xB1].as_slice()
 }
 
 fn has_method(class: &ClassFile<'_>) -> bool {
