@@ -24,7 +24,12 @@ def stack_map(name):
 
 
 K = ClassFile(CONSTANTS, methods=[method_f(code_f())])
-OBJECT_CLASS = named(OBJECT, above=None).data()
+# It declares the method clone, which is protected and native.
+OBJECT_CLASS = replace(
+    named(OBJECT, above=None),
+    constants=[*named(OBJECT, above=None).constants, utf8("clone"), utf8("()Ljava/lang/Object;")],
+    methods=[member(0x0104, 3, 4)],
+).data()
 
 
 def with_constants(*more):

@@ -9,7 +9,7 @@ from handler_rows import handler, mapped
 from reference_rows import KNOWN, Constants, assembled
 
 PAGE = pathlib.Path(__file__).resolve().parent.parent / "docs/REFUSALS.md"
-FIRST, LAST = 60, 79
+NUMBERS = [*range(60, 80), 82]
 
 
 def table(heading):
@@ -31,7 +31,7 @@ def in_order():
     """Whether there is an example for each number of a verdict, in their order, and for each other number one or a call."""
     shown = [int(it) for heading in ("Of a class file", "Of code", "Of a list", "Of calls") for row in table(heading) for it in row[0].split(", ")]
     numbers = [int(it) for it in re.findall(r"(?m)^\| (\d+) \| `", PAGE.read_text().partition("\n## ")[0])]
-    return [int(it[0]) for it in rows()] == list(range(FIRST, LAST + 1)) and sorted(shown + list(range(FIRST, LAST + 1))) == numbers
+    return [int(it[0]) for it in rows()] == NUMBERS and sorted(shown + NUMBERS) == numbers
 
 
 def edited(words):

@@ -5,6 +5,7 @@ from assembler import NATIVE, OBJECT, STATIC, attribute, code_of, integer, long,
 from class_k import K, OBJECT_CLASS, code_f, method_f, with_constant
 from handler_rows import with_handlers
 from object_rows import with_objects
+from protected_rows import with_protected
 from reference_rows import with_references
 
 CLONEABLE = "java/lang/Cloneable"
@@ -210,7 +211,7 @@ def without_code():
 
 def hierarchies():
     """Lists of classes, of which the first is verified."""
-    k, cut = K.data(), OBJECT_CLASS[:45]
+    k, cut = K.data(), named(OBJECT, above=None).data()[:45]
     a, b, x = (named(name, above).data() for name, above in (("A", "B"), ("B", "A"), ("X", "A")))
     own = [named(name, name).data() for name in ("B", "A")]
     below = [named(name).data() for name in ("A", "B")]
@@ -241,5 +242,5 @@ def hierarchies():
 
 def verified():
     """A name for each list of files, their bytes, and the line of it."""
-    for table in (verdicts, mapped_verdicts, with_references, with_objects, with_handlers, without_code, hierarchies):
+    for table in (verdicts, mapped_verdicts, with_references, with_objects, with_protected, with_handlers, without_code, hierarchies):
         yield from table()

@@ -11,3 +11,9 @@ pub mod RowLists
 pub mod RowsKept
 pub mod Summaries
 pub mod Table
+pub mod Upward
+pub mod Nearby
+pub mod Packaging
+pub mod Spots
+pub mod Guards
+pub mod Guarding

@@ -6,6 +6,9 @@ pub mod Answer
 pub mod Rules
 pub mod Faults
 pub mod Extends
+pub mod Nearest
 pub mod Ancestors
 pub mod Rows
 pub mod Jumps
+pub mod Above
+pub mod Flags

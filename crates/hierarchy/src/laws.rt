@@ -1,8 +1,9 @@
-//! Laws of faults, of chains of superclasses, of worlds and of summaries.
+//! Laws of faults, of chains of superclasses, of worlds, of summaries and of declarations.
 ghost use Rattle.hierarchy.specs.Answer.{HasOneSubclassAnswer};
 ghost use Rattle.hierarchy.specs.ClassSummary.{SummaryHasTexts};
 ghost use Rattle.hierarchy.specs.Faults.{FaultsBreakRules, OneFault, RulesMakeHierarchies};
 ghost use Rattle.hierarchy.specs.Extends.{KeepsSubclasses, ExtendsItself, ChainsAreSteps};
+ghost use Rattle.hierarchy.specs.Nearest.{NearestIsComputed};
 ghost use Rattle.hierarchy.specs.Rows.{HasOneDepth, IsBelowByDepth};
 
 use classfile::formed_has_names;
@@ -58,3 +59,8 @@ pub fn summary_has_texts()
 {
     formed_has_names();
 }
+
+/// In a hierarchy the nearest declaration of a member from a class upward is the one that its word computes.
+pub fn nearest_is_computed()
+    ensures { NearestIsComputed }
+{}

@@ -16,9 +16,16 @@
 //! - `jumps`: jumps up the chain of superclasses, by doubled steps.
 //! - `row_table`: rows of ancestors, one behind the other.
 //! - `rows`: classes by rows of ancestors.
+//! - `nearest`: references to members that are protected and of another package.
+//! - `above`: the classes above a class.
+//! - `spot`: members by numbers of their texts, at a class above.
+//! - `starts`: where references begin to look for declarations.
+//! - `flags`: declarations of the classes above, and the first from a class upward.
+//! - `package`: packages of classes.
 //! - `laws`: what holds of faults, chains and worlds.
 #![tactic(auto)]
 
+mod above;
 mod answer;
 mod chains;
 mod checked;
@@ -26,13 +33,18 @@ mod class_summary;
 mod classes;
 mod cycles;
 mod fault;
+mod flags;
 mod index;
 mod jumps;
 pub mod laws;
+mod nearest;
+mod package;
 mod places;
 mod row_table;
 mod rows;
 mod rules;
+mod spot;
+mod starts;
 mod summary;
 
 pub use answer::Answer;
@@ -40,5 +52,6 @@ pub use chains::Chains;
 pub use class_summary::summary_of;
 pub use classes::Classes;
 pub use fault::HierarchyFault;
+pub use nearest::{MemberRef, guarded};
 pub use rows::Rows;
 pub use summary::{Kind, MemberSummary, Summary};

@@ -1,7 +1,7 @@
 //! The summary of a class.
 
 /// Whether a member is a field (JVMS 4.5) or a method (JVMS 4.6).
-#[derive(Clone, Copy, Debug, PartialEq, Eq)]
+#[derive(Clone, Copy, Debug, PartialEq, Eq, PartialOrd, Ord)]
 pub enum Kind {
     Field,
     Method,

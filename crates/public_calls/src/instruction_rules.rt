@@ -1,10 +1,11 @@
 //! Single instructions of an instance initialization method.
-use crate::making::{OUT_OF_MEMORY, frame, hasher, object};
+use crate::making::{OUT_OF_MEMORY, frame, hasher, object, summary};
 use classfile::{ClassFile, Formed, decode, form_check};
 use frames::{Frame, VType};
-use hierarchy::{Classes, Rows};
+use hierarchy::{Classes, MemberSummary, Rows};
 use insn::{Act, Branches, Insn, Kind, decode_code};
 use layout::MAX_CODE_BYTES;
+use names::{Base, OBJECT};
 use rules::{After, Env, apply, branches, falls, is_plain};
 use std::alloc::Global;
 use std::test::*;
@@ -28,6 +29,17 @@ const CONSTRUCTING: [u8; 114] = [
     1, 0, 6, 0x3C, 0x69, 0x6E, 0x69, 0x74, 0x3E, 1, 0, 3, 0x28, 0x29, 0x56, 1, 0, 4, 0x43, 0x6F,
     0x64, 0x65, 12, 0, 5, 0, 6, 10, 0, 3, 0, 8, 0, 0x21, 0, 1, 0, 3, 0, 0, 0, 0, 0, 1, 0, 0, 0, 5,
     0, 6, 0, 1, 0, 7, 0, 0, 0, 0x0F, 0, 4, 0, 2, 0, 0, 0, 3, 0xB7, 0, 9, 0, 0, 0, 0, 0, 0,
+];
+
+/// The same with the constant 11 for Object's `clone`, and a method that calls that.
+const CLONING: [u8; 145] = [
+    0xCA, 0xFE, 0xBA, 0xBE, 0, 0, 0, 0x34, 0, 12, 7, 0, 2, 1, 0, 1, 0x4B, 7, 0, 4, 1, 0, 0x10, 0x6A,
+    0x61, 0x76, 0x61, 0x2F, 0x6C, 0x61, 0x6E, 0x67, 0x2F, 0x4F, 0x62, 0x6A, 0x65, 0x63, 0x74, 1, 0,
+    6, 0x3C, 0x69, 0x6E, 0x69, 0x74, 0x3E, 1, 0, 3, 0x28, 0x29, 0x56, 1, 0, 4, 0x43, 0x6F, 0x64,
+    0x65, 1, 0, 5, 0x63, 0x6C, 0x6F, 0x6E, 0x65, 1, 0, 0x14, 0x28, 0x29, 0x4C, 0x6A, 0x61, 0x76,
+    0x61, 0x2F, 0x6C, 0x61, 0x6E, 0x67, 0x2F, 0x4F, 0x62, 0x6A, 0x65, 0x63, 0x74, 0x3B, 12, 0, 8, 0,
+    9, 10, 0, 3, 0, 10, 0, 0x21, 0, 1, 0, 3, 0, 0, 0, 0, 0, 1, 0, 0, 0, 5, 0, 6, 0, 1, 0, 7, 0, 0,
+    0, 15, 0, 4, 0, 2, 0, 0, 0, 3, 0xB6, 0, 11, 0, 0, 0, 0, 0, 0,
 ];
 
 /// The same class file with this byte as the method's code.
@@ -83,6 +95,42 @@ fn judge_of<'a>(alloc: Global, formed: &Formed<'_, 'a>, frame: &Frame<'a>) -> Ju
     match Rows::new(alloc, &alone, hasher()) {
         Ok(classes) => judge_among(alloc, formed, &classes, frame),
         Err(_) => Err(OUT_OF_MEMORY),
+    }
+}
+
+/// The same, where Object has the method `clone`, which is protected, and K and A are below it.
+fn judge_cloning<'a>(alloc: Global, formed: &Formed<'_, 'a>, frame: &Frame<'a>) -> Judged<'a> {
+    let mut above = object(alloc);
+    let clone = MemberSummary {
+        name: b"clone",
+        descriptor: b"()Ljava/lang/Object;",
+        kind: hierarchy::Kind::Method,
+        is_static: false,
+        is_protected: true,
+    };
+    if above.members.push(clone).is_err() {
+        return Err(OUT_OF_MEMORY);
+    }
+    let list = [
+        above,
+        summary(alloc, b"K", Some(OBJECT), false),
+        summary(alloc, b"A", Some(OBJECT), false),
+    ];
+    match Rows::new(alloc, &list, hasher()) {
+        Ok(classes) => judge_among(alloc, formed, &classes, frame),
+        Err(_) => Err(OUT_OF_MEMORY),
+    }
+}
+
+/// The outcome of the rule where `clone` is called on an object of this type.
+fn judge_clone<'a>(alloc: Global, object: VType<'a>) -> Judged<'a> {
+    let before = frame(alloc, &[VType::Top, VType::Top], &[object], false);
+    match (decode(alloc, &CLONING), before) {
+        (Ok(class), Ok(before)) => match form_check(alloc, &class) {
+            Ok(formed) => judge_cloning(alloc, &formed, &before),
+            Err(_) => Err(OUT_OF_MEMORY),
+        },
+        _ => Err(OUT_OF_MEMORY),
     }
 }
 
@@ -153,6 +201,23 @@ fn constructors(rt: HostRuntime) {
     let ready = judge(alloc, &CONSTRUCTING, &[VType::Class(b"K")], false);
     assert!(rt; matches!(ready, Err(62)));
     assert!(rt; matches!(judge(alloc, &CONSTRUCTING, &[], true), Err(61)));
+}
+
+/// A protected member of another package is used on objects of the current class alone, which no array is.
+#[test]
+fn protected_members(rt: HostRuntime) {
+    let alloc = rt.alloc();
+    let given = [VType::Class(OBJECT)];
+    assert!(rt; leaves(judge_clone(alloc, VType::Class(b"K")), &given));
+    assert!(rt; leaves(judge_clone(alloc, VType::Null), &given));
+    assert!(rt; matches!(judge_clone(alloc, VType::Class(b"A")), Err(82)));
+    assert!(rt; matches!(judge_clone(alloc, VType::Class(b"B")), Err(77)));
+    let array = VType::Array {
+        dims: 1,
+        base: Base::Class(b"K"),
+    };
+    assert!(rt; matches!(judge_clone(alloc, array), Err(82)));
+    assert!(rt; matches!(judge_clone(alloc, VType::Int), Err(62)));
 }
 
 /// Whether a `goto`, a `nop` and a `jsr` go the right ways. Behind `jsr`, which has no rule, code may go on.

@@ -13,6 +13,7 @@
 //! | `code_forms` | `insn`: the form of each instruction |
 //! | `superclasses` | `hierarchy`: lists of classes, and summaries of class files |
 //! | `ancestor_rows` | `hierarchy`: rows of ancestors |
+//! | `guarded_members` | `hierarchy`: references to protected members of other packages |
 //! | `assignability` | `frames`: one type or frame where another is wanted |
 //! | `stack_maps`, `declared_frames` | `frames`: stack maps both ways, and the frames that they declare |
 //! | `instruction_rules` | `rules`: single instructions |
@@ -53,6 +54,8 @@ mod declared_frames;
 mod fault_texts;
 #[cfg(test)]
 mod file_answers;
+#[cfg(test)]
+mod guarded_members;
 #[cfg(test)]
 mod instruction_rules;
 #[cfg(test)]

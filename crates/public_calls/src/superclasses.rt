@@ -19,6 +19,7 @@ fn laws_are_called() {
     laws::faults_break_rules();
     laws::one_hierarchy_fault();
     laws::summary_has_texts();
+    laws::nearest_is_computed();
 }
 
 fn finds<C: Classes>(classes: &C) -> bool {

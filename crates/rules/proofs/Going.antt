@@ -8,10 +8,10 @@ use Rattle.frames.specs.FrameFact.{FrameFact, frame_of}
 use Rattle.frames.specs.Conditions.{least}
 use Rattle.rules.specs.Plans.{Plan, refuses, falls, offsets_of}
 use Rattle.rules.specs.Table.{plan}
-use Rattle.rules.specs.Rules.{conditions, constructs_own}
+use Rattle.rules.specs.Rules.{constructs_own}
 use Rattle.rules.specs.Ways.{goes_on, branch_offsets}
 use Rattle.rules.specs.After.{after}
-use Rattle.rules.specs.Applied.{Applied, TellsOwn}
+use Rattle.rules.specs.Applied.{Applied, TellsOwn, all_conditions}
 use Rattle.rules.specs.Reasons.{reason_view}
 use Rattle.rules.specs.declared.reason.Reason.{Reason}
 use Rattle.rules.specs.declared.reason.Reason.TheVariants.{OutOfMemory, ClassMissing}
@@ -27,13 +27,13 @@ same_own m f w a b own act_is frame_is e = e ∙ ap (λ x. constructs_own (plan 
 
 pub applied : (cs : List ClassFact) (m : Method Act) (at : ℕ) (f w new : FrameFact) (a b : Act) (frame : Frame) (t : BranchTargets) (on own : Bool)
     → b ≡ a → w ≡ f → own ≡ constructs_own (plan m b) w
-    → (least (conditions cs m at (plan m b) w) ≡ None) × (new ≡ after m at (plan m b) w)
+    → (least (all_conditions cs m at b (plan m b) w) ≡ None) × (new ≡ after m at (plan m b) w)
     → frame_of frame ≡ new → targets_of t ≡ led_to at (branch_offsets a) → on ≡ goes_on a
-    → Applied cs m at (plan m a) f (Ok (record { frame = frame; targets = t; falls = on; own = own }))
+    → Applied cs m at a (plan m a) f (Ok (record { frame = frame; targets = t; falls = on; own = own }))
 applied cs m at f w new a b frame t on own act_is frame_is own_is done held_is to goes_is =
-    let none : least (conditions cs m at (plan m a) f) ≡ None =
-    subst (λ x. least (conditions cs m at (plan m x) f) ≡ None) act_is
-    (subst (λ x. least (conditions cs m at (plan m b) x) ≡ None) frame_is done.0) in
+    let none : least (all_conditions cs m at a (plan m a) f) ≡ None =
+    subst (λ x. least (all_conditions cs m at x (plan m x) f) ≡ None) act_is
+    (subst (λ x. least (all_conditions cs m at b (plan m b) x) ≡ None) frame_is done.0) in
     let way = way_of m a in
     record {
       outcome = (
@@ -54,12 +54,12 @@ tells p f (ClassMissing name) own is = is
 tells p f _ own is = tt
 
 pub refused : (cs : List ClassFact) (m : Method Act) (at : ℕ) (f w : FrameFact) (a b : Act) (e : Reason) (own : Bool) → b ≡ a → w ≡ f → own ≡ constructs_own (plan m b) w
-    → ((e ≡ OutOfMemory) ⊎ (least (conditions cs m at (plan m b) w) ≡ Some (reason_view e)))
-    → Applied cs m at (plan m a) f (Err (record { reason = e; own = own }))
+    → ((e ≡ OutOfMemory) ⊎ (least (all_conditions cs m at b (plan m b) w) ≡ Some (reason_view e)))
+    → Applied cs m at a (plan m a) f (Err (record { reason = e; own = own }))
 refused cs m at f w a b e own act_is frame_is own_is why = record {
   outcome = (
     tells (plan m a) f e own (same_own m f w a b own act_is frame_is own_is),
-    subst (λ x. (e ≡ OutOfMemory) ⊎ (least (conditions cs m at (plan m x) f) ≡ Some (reason_view e))) act_is
-        (subst (λ x. (e ≡ OutOfMemory) ⊎ (least (conditions cs m at (plan m b) x) ≡ Some (reason_view e))) frame_is why),
+    subst (λ x. (e ≡ OutOfMemory) ⊎ (least (all_conditions cs m at x (plan m x) f) ≡ Some (reason_view e))) act_is
+        (subst (λ x. (e ≡ OutOfMemory) ⊎ (least (all_conditions cs m at b (plan m b) x) ≡ Some (reason_view e))) frame_is why),
   );
 }

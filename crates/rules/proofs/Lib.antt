@@ -16,3 +16,6 @@ pub mod SpecialCalls
 pub mod Made
 pub mod Rising
 pub mod Written
+pub mod Lesser
+pub mod Guarding
+pub mod Using

@@ -214,7 +214,7 @@ module _ (m : Method Act) (f : FrameFact) where
 
 -- ---- an item beneath arguments
 
-beneath_drops : {A B : Type 0} (ws : List A) (ts : List B) → beneath ws ts ≡ drop (length ws) ts
+pub beneath_drops : {A B : Type 0} (ws : List A) (ts : List B) → beneath ws ts ≡ drop (length ws) ts
 beneath_drops [] ts = drop_none ts
   where
     drop_none : {B : Type 0} (ts : List B) → ts ≡ drop 0 ts

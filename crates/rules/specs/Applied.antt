@@ -1,11 +1,11 @@
 -- The answer of `apply`.
-use Rattle.std.specs.Prelude.{◌≡◌, ◌⊎◌, ℕ, Bool, List, Some, None, Result, MatchResult}
+use Rattle.std.specs.Prelude.{◌≡◌, ◌⊎◌, ◌++◌, ℕ, Bool, List, Some, None, Result, MatchResult}
 use Rattle.hierarchy.specs.Class.{ClassFact}
 use Rattle.classfile.specs.Methods.{Method}
 use Rattle.insn.specs.Meanings.{Act}
 use Rattle.insn.specs.Branching.{targets_of}
 use Rattle.frames.specs.FrameFact.{FrameFact, frame_of}
-use Rattle.frames.specs.Conditions.{least}
+use Rattle.frames.specs.Conditions.{Conditions, least}
 use Rattle.rules.specs.declared.applying.After.{After}
 use Rattle.rules.specs.declared.applying.Refusal.{Refusal}
 use Rattle.rules.specs.declared.reason.Reason.{Reason}
@@ -13,6 +13,7 @@ use Rattle.rules.specs.declared.reason.Reason.TheVariants.{OutOfMemory, ClassMis
 use Rattle.rules.specs.Plans.{Plan, falls, targets}
 use Rattle.rules.specs.After.{after}
 use Rattle.rules.specs.Rules.{conditions, constructs_own}
+use Rattle.rules.specs.Protected.{member_conditions}
 use Rattle.rules.specs.Reasons.{reason_view}
 
 -- what is left where no condition holds
@@ -27,8 +28,12 @@ abbrev pub TellsOwn : Plan → FrameFact → Reason → Bool → Type 0
 TellsOwn p f (ClassMissing name) own = own ≡ constructs_own p f
 TellsOwn p f _ own = Unit {0}
 
+-- the reasons against an instruction, by its plan and by the protected member that it uses
+abbrev pub all_conditions : List ClassFact → Method Act → ℕ → Act → Plan → FrameFact → Conditions
+all_conditions classes m at act p f = conditions classes m at p f ++ member_conditions classes m act f
+
 -- After exactly where no condition holds; otherwise the least reason, or want of memory.
-pub record Applied (classes : List ClassFact) (m : Method Act) (at : ℕ) (p : Plan) (f : FrameFact) (r : Result After Refusal) : Type 0 where
+pub record Applied (classes : List ClassFact) (m : Method Act) (at : ℕ) (act : Act) (p : Plan) (f : FrameFact) (r : Result After Refusal) : Type 0 where
   pub outcome : MatchResult r
-      (λ a. (least (conditions classes m at p f) ≡ None) × Leaves m at p f a)
-      (λ e. TellsOwn p f e.reason e.own × ((e.reason ≡ OutOfMemory) ⊎ (least (conditions classes m at p f) ≡ Some (reason_view e.reason))))
+      (λ a. (least (all_conditions classes m at act p f) ≡ None) × Leaves m at p f a)
+      (λ e. TellsOwn p f e.reason e.own × ((e.reason ≡ OutOfMemory) ⊎ (least (all_conditions classes m at act p f) ≡ Some (reason_view e.reason))))

@@ -15,3 +15,5 @@ pub mod Views
 pub mod Outcomes
 pub mod Applied
 pub mod Naming
+pub mod Protected
+pub mod Guards

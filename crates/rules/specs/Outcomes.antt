@@ -24,6 +24,10 @@ use Rattle.rules.specs.Views.{stack_of}
 pub record Done (cs : Conditions) (wanted now : FrameFact) (r : Result Unit Reason) : Type 0 where
   pub outcome : MatchResult r (λ _. (least cs ≡ None) × (now ≡ wanted)) (λ e. (e ≡ OutOfMemory) ⊎ (least cs ≡ Some (reason_view e)))
 
+-- none of the conditions holds; or this is the least reason, or want of memory
+pub record Judges (cs : Conditions) (r : Result Unit Reason) : Type 0 where
+  pub outcome : MatchResult r (λ _. least cs ≡ None) (λ e. (e ≡ OutOfMemory) ⊎ (least cs ≡ Some (reason_view e)))
+
 -- operands were there, with this answer, and this is left
 pub record Took (classes : List ClassFact) (wants : List Want) (stack : List VerificationType) (answer : Outcome) (left : List VerificationType) : Type 0 where
   pub enough : is_short wants stack ≡ false

@@ -11,13 +11,14 @@ ghost use Rattle.rules.specs.Bodies.{method_view};
 ghost use Rattle.rules.specs.Applied.{Applied};
 
 use crate::environment::Env;
-use crate::naming::named_by;
+use crate::members::Members;
+use crate::merging::first_reason;
 use crate::own_object::constructs_own;
+use crate::protected::check_member;
 use crate::reason::Reason;
 use crate::running::run;
 use crate::ways::{branches, falls};
 use crate::working::Working;
-use classfile::OwnFields;
 use frames::Frame;
 use hierarchy::Classes;
 use insn::{BranchTargets, Insn, act};
@@ -48,7 +49,7 @@ pub struct Refusal<'a> {
 
 /// Memory ran out.
 fn out_of_memory<'a>() -> Result<After<'a>, Refusal<'a>>
-    ensures { (cs : List ClassFact) (m : Method Act) (at : ℕ) (p : Plan) (f : FrameFact) → Applied cs m at p f result }
+    ensures { (cs : List ClassFact) (m : Method Act) (at : ℕ) (a : Act) (p : Plan) (f : FrameFact) → Applied cs m at a p f result }
 {
     Err(Refusal {
         reason: Reason::OutOfMemory,
@@ -58,7 +59,8 @@ fn out_of_memory<'a>() -> Result<After<'a>, Refusal<'a>>
 
 /// Judges the instruction at an offset by its rule (JVMS 4.10.1.9). The frame before it has max_locals locals.
 ///
-/// Refused is, by the least number that holds, what the rule refuses (60 to 66, 74, 76, 77); or 1 where memory ran out.
+/// Refused is, by the least number that holds, what the rule refuses (60 to 66, 74, 76, 77), or 77 or 82 for the protected member that it uses; or 1
+/// where memory ran out.
 pub fn apply<'a, C: Classes>(
     alloc: Global,
     env: &Env<'_, '_, 'a, C>,
@@ -68,19 +70,28 @@ pub fn apply<'a, C: Classes>(
 ) -> Result<After<'a>, Refusal<'a>>
     requires { length frame.now.locals.items ≡ env.now.method.code.now.max_locals }
     ensures { let m = method_view env.now.method in
-        Applied (C.content env.now.classes.now) m at (plan m (act (view insn.now))) (frame_of frame.now) result }
+        let a = act (view insn.now) in
+        Applied (C.content env.now.classes.now) m at a (plan m a) (frame_of frame.now) result }
 {
     let Ok(mut working) = Working::from_frame(alloc, frame, env.method.code.max_locals) else {
         return out_of_memory();
     };
     let act = act(insn);
     let mut constants = Descriptors::new(alloc, &env.method.class.constant_pool);
-    let mut fields = OwnFields::new(alloc, env.method.class);
-    let Ok(named) = named_by(&mut constants, &mut fields, &env.method, &act) else {
+    let mut members = Members::new(alloc, env.method.class, env.classes);
+    let Ok(named) = members.named(&mut constants, &env.method, &act) else {
         return out_of_memory();
     };
     let own = constructs_own(&env.method, &act, &named, &working);
-    match run(
+    let used = check_member(
+        &env.method,
+        &act,
+        &named,
+        &mut members,
+        &working,
+        env.classes,
+    );
+    if let Err(reason) = run(
         alloc,
         &env.method,
         env,
@@ -90,15 +101,19 @@ pub fn apply<'a, C: Classes>(
         &mut working,
         env.classes,
     ) {
-        Err(reason) => Err(Refusal { reason, own }),
-        Ok(()) => match working.into_frame() {
-            Err(_) => out_of_memory(),
-            Ok(frame) => Ok(After {
-                frame,
-                targets: BranchTargets::new(at, branches(insn)),
-                falls: falls(insn),
-                own,
-            }),
-        },
+        let reason = first_reason(reason, used);
+        return Err(Refusal { reason, own });
+    }
+    if let Err(reason) = used {
+        return Err(Refusal { reason, own });
+    }
+    match working.into_frame() {
+        Err(_) => out_of_memory(),
+        Ok(frame) => Ok(After {
+            frame,
+            targets: BranchTargets::new(at, branches(insn)),
+            falls: falls(insn),
+            own,
+        }),
     }
 }

@@ -20,6 +20,10 @@
 //! - `arrays`: instructions that make arrays and read their elements, and casts.
 //! - `naming`: what the constant is that an instruction names.
 //! - `declaring_class`: the class that declares the method, and its superclass.
+//! - `guards`: which constants name members that are guarded.
+//! - `members`: the members that the instructions of a class name.
+//! - `protected`: on which objects protected members may be used.
+//! - `merging`: the reasons of two judgements taken together.
 //! - `want`: what is asked of an operand.
 //! - `running`: the rule of an instruction, on a frame in place.
 //! - `ways`: where an instruction goes, and whether it leaves the locals as they are.
@@ -33,6 +37,7 @@
 //! - `specs/Naming.antt`: which constant an instruction names.
 //! - `specs/After.antt`: the frame after.
 //! - `specs/Rules.antt`: the conditions that refuse an instruction, with their numbers.
+//! - `specs/Protected.antt`: those on protected members.
 //! - `specs/Ways.antt`: where instructions go.
 #![tactic(auto)]
 
@@ -46,11 +51,15 @@ mod declaring_class;
 mod environment;
 mod families;
 mod fields;
+mod guards;
 mod making;
+mod members;
+mod merging;
 mod moves;
 mod naming;
 mod operands;
 mod own_object;
+mod protected;
 mod reason;
 mod replacing;
 mod running;
@@ -65,8 +74,11 @@ mod working;
 pub use applying::{After, Refusal, apply};
 pub use declaring_class::own_class;
 pub use environment::Env;
-pub use naming::{Named, named_by};
+pub use members::Members;
+pub use merging::{first_reason, together};
+pub use naming::Named;
 pub use own_object::constructs_own;
+pub use protected::check_member;
 pub use reason::Reason;
 pub use running::{run, run_plain};
 pub use ways::{

@@ -28,7 +28,7 @@ use insn::Act;
 use pool::MethodConstant;
 
 /// The item of a stack beneath so many; top where there is none.
-fn item_beneath<'a>(count: usize, stack: &[VType<'a>]) -> VType<'a>
+pub fn item_beneath<'a>(count: usize, stack: &[VType<'a>]) -> VType<'a>
     ensures { type_of result ≡ top_of (drop count (stack_of stack.now)) }
 {
     if count < stack.len() {

@@ -41,7 +41,7 @@ use std::alloc::Global;
 /// locals, the starts are those of the method's code, and what the instruction names was looked up.
 ///
 /// Refused is, by the least number that holds, what the rule refuses (60 to 66, 74, 76, 77); or 1 where memory ran out.
-/// Nothing is said of the frame then.
+/// Nothing is said of the frame then. Of the protected member that it uses [`check_member`](crate::check_member) judges, in the frame before it.
 pub fn run<'a, S: Starts, C: Classes>(
     alloc: Global,
     method: &CodeMethod<'_, 'a>,

@@ -1,9 +1,11 @@
 -- The conditions that the verdict asks are the fields of a method that is type-safe, each with its number.
 use Rattle.std.proofs.Common.{◌≡◌, ℕ, ℤ, pos, negsuc, ◌≤◌, Bool, true, false, not, ◌&&◌, ◌||◌, is_some, is_none, nat_lt, nat_eq, List, [], ◌∷◌, ◌++◌, Option, Some, None, if◌then◌else◌, ◌⊎◌, ◌↔◌, inl, inr, refl, sym, ◌∙◌, ap, subst, arith, ltb-true, ltb-false, le-ltb, eqb-true, eq-eqb}
+use Rattle.std.specs.Option.{option_map_or}
 use Rattle.names.specs.StandardNames.{throwable_name}
 use Rattle.classfile.specs.Methods.{Method, ExceptionEntry, covers}
 use Rattle.hierarchy.specs.Class.{ClassFact}
 use Rattle.hierarchy.specs.Answer.{Outcome, yes, no, missing}
+use Rattle.hierarchy.specs.Nearest.{is_guarded}
 use Rattle.insn.specs.Meanings.{Act}
 use Rattle.insn.specs.Offsets.{at_offset, next_offset, has_offset, IsStart, IsAmong}
 use Rattle.frames.specs.VerificationType.{class}
@@ -16,11 +18,12 @@ use Rattle.rules.specs.Plans.{Plan, falls, targets}
 use Rattle.rules.specs.Table.{Plans}
 use Rattle.rules.specs.After.{after}
 use Rattle.rules.specs.Rules.{constructs_own, conditions}
+use Rattle.rules.specs.Protected.{Use, used_by, object_beneath, object_answer, object_conditions, use_conditions, member_conditions}
 use Rattle.verify.specs.InitialFrames.{initial_frame}
 use Rattle.verify.specs.TypeSafety.{Frames, caught_frame}
 use Rattle.verify.specs.Verdict.{told_of, answer_conditions, is_end, table_conditions, declared_at, one_target, target_conditions, one_handler, handler_conditions, is_covered, at_conditions, entry}
 use Rattle.verify.specs.Refusals.{BreaksRule, BreaksFrame, BreaksFirst, BreaksTable, HasNoRoom, BreaksCode, BreaksWithFrames}
-use Rattle.verify.specs.Breaks.{Holds, HasNoFrame, Meets, Target, Covering, Breaks, rule, no_frame_at_target, not_assignable_at_target, missing_at_target, no_frame_at_handler, not_assignable_at_handler, missing_at_handler, falls_off, constructor_covered, BreaksAt, not_assignable, missing_there, no_frame, BreaksEntry, covers_nothing, no_start, no_end, no_handler, no_handler_frame, no_throwable, missing_class, AreFields, ConditionsAreFields, IsLeast, BreaksDeclared, at_entry, at_beginning, at_frame, at_instruction, BreaksMethod, no_room, with_frames, RefusedBreaks, MapRefusedBreaks}
+use Rattle.verify.specs.Breaks.{Holds, HasNoFrame, Meets, Target, Covering, Breaks, rule, no_frame_at_target, not_assignable_at_target, missing_at_target, Guarded, protected_member, missing_object, no_frame_at_handler, not_assignable_at_handler, missing_at_handler, falls_off, constructor_covered, BreaksAt, not_assignable, missing_there, no_frame, BreaksEntry, covers_nothing, no_start, no_end, no_handler, no_handler_frame, no_throwable, missing_class, AreFields, ConditionsAreFields, IsLeast, BreaksDeclared, at_entry, at_beginning, at_frame, at_instruction, BreaksMethod, no_room, with_frames, RefusedBreaks, MapRefusedBreaks}
 use Rattle.verify.proofs.Declared.{none_least}
 use Rattle.verify.proofs.MapFaults.{map_refused_where}
 use Rattle.verify.proofs.Refusing.{refused_why}
@@ -244,9 +247,9 @@ module _ (classes : List ClassFact) (m : Method Act) (frames : Frames) where
 
   -- ---- an instruction
 
-  module _ (at : ℕ) (p : Plan) (next : Option ℕ) (f : FrameFact) (why : Reason) where
+  module _ (at : ℕ) (act : Act) (p : Plan) (next : Option ℕ) (f : FrameFact) (why : Reason) where
     abbrev Broken : Type 0
-    Broken = Breaks classes m frames at p next f why
+    Broken = Breaks classes m frames at act p next f why
 
     abbrev behind : FrameFact
     behind = after m at p f
@@ -256,6 +259,9 @@ module _ (classes : List ClassFact) (m : Method Act) (frames : Frames) where
 
     abbrev at_handlers : Conditions
     at_handlers = handler_conditions classes frames at f m.exceptions
+
+    abbrev on_member : Conditions
+    on_member = member_conditions classes m act f
 
     abbrev at_targets : Conditions
     at_targets = target_conditions classes frames behind (targets at p)
@@ -283,6 +289,22 @@ module _ (classes : List ClassFact) (m : Method Act) (frames : Frames) where
         by (inl x) = not_assignable_at_handler x.0 c (record { declared = g; here = d; told = x.1 })
         by (inr x) = missing_at_handler x.0 x.1 c (record { declared = g; here = d; told = x.2 })
 
+    object_broken : (g : Guarded classes m act) (a : Outcome) → object_answer classes m.class (object_beneath g.member f) ≡ a → Holds (object_conditions a) why → Broken
+    object_broken g a e h = by (answer_held 82 a why h)
+      where
+        by : IsAnswered 82 a why → Broken
+        by (inl x) = protected_member x.0 g (e ∙ x.1)
+        by (inr x) = missing_object x.0 x.1 g (e ∙ x.2)
+
+    member_broken : (o : Option Use) → used_by m act ≡ o → Holds (option_map_or (use_conditions classes m f) o []) why → Broken
+    member_broken None d h = elim h [ ]
+    member_broken (Some u) d h = by (is_guarded classes m.class u.reference) refl h
+      where
+        by : (b : Bool) → is_guarded classes m.class u.reference ≡ b
+            → Holds (if b then object_conditions (object_answer classes m.class (object_beneath u f)) else []) why → Broken
+        by true e k = object_broken (record { member = u; used = d; guarded = e }) (object_answer classes m.class (object_beneath u f)) refl k
+        by false e k = elim k [ ]
+
     last_broken : Holds last why → Broken
     last_broken (inl e) =
         let x = held why (reason 71) (falls p && is_none next) e in
@@ -295,38 +317,50 @@ module _ (classes : List ClassFact) (m : Method Act) (frames : Frames) where
         constructor_covered x.0 y.0 (record { e = c.0; among = c.1; covered = c.2 })
     last_broken (inr (inr e)) = elim e [ ]
 
-    broken_where : Holds (at_conditions classes m frames at p next f) why → Broken
-    broken_where h = first (holds_apart (conditions classes m at p f) (at_targets ++ (at_handlers ++ last)) why h)
+    broken_where : Holds (at_conditions classes m frames at act p next f) why → Broken
+    broken_where h = first (holds_apart (conditions classes m at p f) (at_targets ++ ((on_member ++ at_handlers) ++ last)) why h)
       where
-        third : Holds at_handlers why ⊎ Holds last why → Broken
-        third (inl x) = let y = handlers_held at f m.exceptions why x in handler_broken (record { e = y.e; among = y.among; covered = y.covered }) (at_offset frames y.e.handler) refl y.here
+        fourth : Holds on_member why ⊎ Holds at_handlers why → Broken
+        fourth (inl x) = member_broken (used_by m act) refl x
+        fourth (inr x) = let y = handlers_held at f m.exceptions why x in handler_broken (record { e = y.e; among = y.among; covered = y.covered }) (at_offset frames y.e.handler) refl y.here
+
+        third : Holds (on_member ++ at_handlers) why ⊎ Holds last why → Broken
+        third (inl x) = fourth (holds_apart on_member at_handlers why x)
         third (inr x) = last_broken x
 
-        second : Holds at_targets why ⊎ Holds (at_handlers ++ last) why → Broken
+        second : Holds at_targets why ⊎ Holds ((on_member ++ at_handlers) ++ last) why → Broken
         second (inl x) = let y = targets_held behind (targets at p) why x in target_broken (record { target = y.target; among = y.among }) (declared_at frames y.target) refl y.here
-        second (inr x) = third (holds_apart at_handlers last why x)
+        second (inr x) = third (holds_apart (on_member ++ at_handlers) last why x)
 
-        first : Holds (conditions classes m at p f) why ⊎ Holds (at_targets ++ (at_handlers ++ last)) why → Broken
+        first : Holds (conditions classes m at p f) why ⊎ Holds (at_targets ++ ((on_member ++ at_handlers) ++ last)) why → Broken
         first (inl x) = rule x
-        first (inr x) = second (holds_apart at_targets (at_handlers ++ last) why x)
+        first (inr x) = second (holds_apart at_targets ((on_member ++ at_handlers) ++ last) why x)
 
     -- ---- and back
 
     abbrev Told : Type 0
-    Told = Holds (at_conditions classes m frames at p next f) why
+    Told = Holds (at_conditions classes m frames at act p next f) why
 
     in_targets : Holds at_targets why → Told
-    in_targets h = holds_behind (conditions classes m at p f) (at_targets ++ (at_handlers ++ last)) why (holds_front at_targets (at_handlers ++ last) why h)
+    in_targets h =
+        holds_behind (conditions classes m at p f) (at_targets ++ ((on_member ++ at_handlers) ++ last)) why
+        (holds_front at_targets ((on_member ++ at_handlers) ++ last) why h)
+
+    in_before : Holds (on_member ++ at_handlers) why → Told
+    in_before h =
+        holds_behind (conditions classes m at p f) (at_targets ++ ((on_member ++ at_handlers) ++ last)) why
+        (holds_behind at_targets ((on_member ++ at_handlers) ++ last) why (holds_front (on_member ++ at_handlers) last why h))
+
+    in_member : Holds on_member why → Told
+    in_member h = in_before (holds_front on_member at_handlers why h)
 
     in_handlers : Holds at_handlers why → Told
-    in_handlers h =
-        holds_behind (conditions classes m at p f) (at_targets ++ (at_handlers ++ last)) why
-        (holds_behind at_targets (at_handlers ++ last) why (holds_front at_handlers last why h))
+    in_handlers h = in_before (holds_behind on_member at_handlers why h)
 
     in_last : Holds last why → Told
     in_last h =
-        holds_behind (conditions classes m at p f) (at_targets ++ (at_handlers ++ last)) why
-        (holds_behind at_targets (at_handlers ++ last) why (holds_behind at_handlers last why h))
+        holds_behind (conditions classes m at p f) (at_targets ++ ((on_member ++ at_handlers) ++ last)) why
+        (holds_behind at_targets ((on_member ++ at_handlers) ++ last) why (holds_behind (on_member ++ at_handlers) last why h))
 
     target_told : (t : Target at p) (to : ℕ) → t.target ≡ pos to → (a : Outcome) → (k : Meets classes frames behind to a)
         → Holds (answer_conditions 68 (frame_answer classes behind k.declared)) why → Told
@@ -344,8 +378,16 @@ module _ (classes : List ClassFact) (m : Method Act) (frames : Frames) where
     unframed_told c None d none w = inl (put why (reason 73) true w refl)
     unframed_told c (Some g) d none w = absurd (none g d)
 
+    member_told : (g : Guarded classes m act) → Holds (object_conditions (object_answer classes m.class (object_beneath g.member f))) why → Told
+    member_told g h =
+        let asked : Conditions = object_conditions (object_answer classes m.class (object_beneath g.member f)) in
+        let one : Holds (if is_guarded classes m.class g.member.reference then asked else []) why = subst (λ b. Holds (if b then asked else []) why) (sym g.guarded) h in
+        in_member (subst (λ (o : Option Use). Holds (option_map_or (use_conditions classes m f) o []) why) (sym g.used) one)
+
     told_where : Broken → Told
-    told_where (rule h) = holds_front (conditions classes m at p f) (at_targets ++ (at_handlers ++ last)) why h
+    told_where (rule h) = holds_front (conditions classes m at p f) (at_targets ++ ((on_member ++ at_handlers) ++ last)) why h
+    told_where (protected_member w g e) = member_told g (no_held 82 (object_answer classes m.class (object_beneath g.member f)) why w e)
+    told_where (missing_object name w g e) = member_told g (missing_held 82 (object_answer classes m.class (object_beneath g.member f)) name why w e)
     told_where (no_frame_at_target w t none) =
         in_targets (held_target behind (targets at p) why t.target t.among
         (subst (λ z. Holds (one_target classes z behind) why) (sym (no_frame_there t.target none)) (inl (put why (reason 67) true w refl))))
@@ -458,7 +500,7 @@ module _ (classes : List ClassFact) (m : Method Act) (frames : Frames) where
 
   fields : AreFields classes m frames
   fields = record {
-    instructions = λ at p next f why. (broken_where at p next f why, told_where at p next f why);
+    instructions = λ at act p next f why. (broken_where at act p next f why, told_where at act p next f why);
     arrivals = λ comes f at why. (arrives_broken f at why comes (at_offset frames at) refl, arrival_told f at why comes);
     entries = λ e why. (entry_broken e why, entry_told e why);
   }
@@ -490,7 +532,7 @@ module _ (plan : Plans) (classes : List ClassFact) (m : Method Act) (at : ℕ) (
             before = x.before;
             reached = x.reached;
             next = x.next;
-            fine = λ other b. none_held (at_conditions classes m frames x.before p (Some at) f) other x.fine (((fields classes m frames).instructions x.before p (Some at) f other).1 b);
+            fine = λ other b. none_held (at_conditions classes m frames x.before x.reached.act p (Some at) f) other x.fine (((fields classes m frames).instructions x.before x.reached.act p (Some at) f other).1 b);
             broken = ((fields classes m frames).arrivals (falls p) (after m x.before p f) at why).0 x.told;
           })
       by (inr (inr x)) =
@@ -498,7 +540,7 @@ module _ (plan : Plans) (classes : List ClassFact) (m : Method Act) (at : ℕ) (
           let f : FrameFact = x.reached.table at in
           at_instruction (record {
             reached = x.reached;
-            broken = least_by (Holds (at_conditions classes m frames at p (next_offset m.code at) f)) (Breaks classes m frames at p (next_offset m.code at) f) why ((fields classes m frames).instructions at p (next_offset m.code at) f) (least_held (at_conditions classes m frames at p (next_offset m.code at) f) why x.told);
+            broken = least_by (Holds (at_conditions classes m frames at x.reached.act p (next_offset m.code at) f)) (Breaks classes m frames at x.reached.act p (next_offset m.code at) f) why ((fields classes m frames).instructions at x.reached.act p (next_offset m.code at) f) (least_held (at_conditions classes m frames at x.reached.act p (next_offset m.code at) f) why x.told);
           })
 
 pub refused_breaks : RefusedBreaks

@@ -11,7 +11,7 @@ use Rattle.frames.specs.Conditions.{Reason, reason, class_missing, number_of, le
 use Rattle.verify.specs.TypeSafety.{Frames, caught_frame}
 use Rattle.verify.specs.Verdict.{answer_conditions, one_handler, handler_conditions}
 use Rattle.verify.specs.Catching.{answer_at, caught_answer, caught_reason}
-use Rattle.verify.proofs.Merging.{merge, least_append}
+use Rattle.rules.proofs.Lesser.{merge, least_append}
 
 least_answer : (a : Outcome) → least (answer_conditions 73 a) ≡ caught_reason a
 least_answer yes = refl

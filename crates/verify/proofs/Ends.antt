@@ -1,9 +1,11 @@
 -- The least reason against an instruction, by what is judged of it one after the other.
 use Rattle.std.proofs.Common.{◌≡◌, ◌⊎◌, ℕ, ◌<◌, ◌≤◌, Bool, true, false, ◌&&◌, is_none, nat_lt, ℤ, List, [], ◌∷◌, ◌++◌, Option, Some, None, Result, Ok, Err, refl, sym, ◌∙◌, ap, arith, inl, inr, if◌then◌else◌}
 use Rattle.std.proofs.lemmas.Bool.Decides.{nat_tests}
+use Rattle.std.specs.Option.{option_map_or}
 use Rattle.classfile.specs.Methods.{Method, ExceptionEntry, covers}
 use Rattle.hierarchy.specs.Class.{ClassFact}
 use Rattle.hierarchy.specs.Answer.{Outcome, yes, no, missing}
+use Rattle.hierarchy.specs.Nearest.{is_guarded}
 use Rattle.insn.specs.Meanings.{Act}
 use Rattle.insn.specs.Offsets.{at_offset, led_to}
 use Rattle.frames.specs.FrameFact.{FrameFact}
@@ -12,16 +14,16 @@ use Rattle.frames.specs.Conditions.{Reason, reason, number_of, Conditions, lesse
 use Rattle.rules.specs.Plans.{Plan, refuses, falls, offsets_of, targets}
 use Rattle.rules.specs.After.{after}
 use Rattle.rules.specs.Rules.{conditions, constructs_own}
-use Rattle.rules.specs.Outcomes.{Done}
+use Rattle.rules.specs.Protected.{Use, used_by, object_beneath, object_answer, object_conditions, use_conditions, member_conditions}
+use Rattle.rules.specs.Outcomes.{Done, Judges}
 use Rattle.rules.specs.declared.reason.Reason.{Reason as RuleReason}
 use Rattle.rules.specs.declared.reason.Reason.TheVariants.{OutOfMemory}
 use Rattle.rules.specs.Reasons.{reason_number, reason_view}
 use Rattle.rules.specs.Ways.{goes_on, branch_offsets}
 use Rattle.verify.specs.TypeSafety.{Frames, caught_frame}
-use Rattle.verify.specs.Verdict.{answer_conditions, declared_at, one_target, target_conditions, one_handler, handler_conditions, is_covered, at_conditions}
-use Rattle.verify.specs.Steps.{Judges}
+use Rattle.verify.specs.Verdict.{answer_conditions, declared_at, one_target, target_conditions, one_handler, handler_conditions, is_covered, before_conditions, at_conditions}
 use Rattle.verify.proofs.Going.{IsEarly, IsWay}
-use Rattle.verify.proofs.Merging.{both_least, view_number, number_some}
+use Rattle.rules.proofs.Lesser.{both_least, view_number, number_some}
 
 -- ---- reasons that are not a rule's come late
 
@@ -92,32 +94,49 @@ handlers_late classes frames at f (e ∷ es) = late_append (one (covers e at)) (
     late true = handler_late classes (at_offset frames e.handler) (caught_frame e f)
     late false = tt
 
+object_late : (answer : Outcome) → AreLate (object_conditions answer)
+object_late yes = (omega arith, (omega arith, tt))
+object_late no = (omega arith, (omega arith, tt))
+object_late (missing name) = (omega arith, (omega arith, tt))
+
+member_late : (classes : List ClassFact) (m : Method Act) (a : Act) (f : FrameFact) → AreLate (member_conditions classes m a f)
+member_late classes m a f = by (used_by m a)
+  where
+    one : (u : Use) (b : Bool) → AreLate (if b then object_conditions (object_answer classes m.class (object_beneath u f)) else [])
+    one u true = object_late (object_answer classes m.class (object_beneath u f))
+    one u false = tt
+
+    by : (o : Option Use) → AreLate (option_map_or (use_conditions classes m f) o [])
+    by None = tt
+    by (Some u) = one u (is_guarded classes m.class u.reference)
+
 -- no reason has the number 0
 no_zero : (e : RuleReason) → Some (reason 0) ≡ Some (reason_view e) → ⊥
 no_zero e q = let same : reason 0 ≡ reason_view e = cc in
     let zero : 0 ≡ reason_number e = ap number_of same ∙ view_number e in absurd (omega (arith, zero, number_some e))
 
-module _ (classes : List ClassFact) (m : Method Act) (frames : Frames) (at : ℕ) (f : FrameFact) where
+module _ (classes : List ClassFact) (m : Method Act) (frames : Frames) (at : ℕ) (f : FrameFact) (a : Act) where
   -- ---- the parts of all that is asked
 
   abbrev ways_of : Plan → List ℤ → Conditions
   ways_of p ts = target_conditions classes frames (after m at p f) ts
 
-  abbrev caught : Conditions
-  caught = handler_conditions classes frames at f m.exceptions
+  abbrev before : Conditions
+  before = before_conditions classes m frames at a f
 
   -- what is asked besides the rule and the targets
   abbrev end : Plan → Bool → Conditions
-  end p b = caught ++ ((reason 71, b) ∷ (reason 75, constructs_own p f && is_covered m.exceptions at) ∷ [])
+  end p b = before ++ ((reason 71, b) ∷ (reason 75, constructs_own p f && is_covered m.exceptions at) ∷ [])
 
   end_late : (p : Plan) (b : Bool) → AreLate (end p b)
   end_late p b =
-      late_append caught ((reason 71, b) ∷ (reason 75, constructs_own p f && is_covered m.exceptions at) ∷ []) (handlers_late classes frames at f m.exceptions)
+      late_append before ((reason 71, b) ∷ (reason 75, constructs_own p f && is_covered m.exceptions at) ∷ [])
+      (late_append (member_conditions classes m a f) (handler_conditions classes frames at f m.exceptions) (member_late classes m a f) (handlers_late classes frames at f m.exceptions))
       (omega arith, (omega arith, tt))
 
   -- an early reason of the rule is that of all
   early_all : (p : Plan) (next : Option ℕ) (n : ℕ) → least (conditions classes m at p f) ≡ Some (reason n) → n < 67
-      → least (at_conditions classes m frames at p next f) ≡ Some (reason n)
+      → least (at_conditions classes m frames at a p next f) ≡ Some (reason n)
   early_all p next n e lt =
       let ts = ways_of p (targets at p) in
       early_first (conditions classes m at p f) (ts ++ end p (falls p && is_none next)) n e lt
@@ -129,44 +148,44 @@ module _ (classes : List ClassFact) (m : Method Act) (frames : Frames) (at : ℕ
 
   -- ---- where the rule refuses
 
-  module _ (a : Act) (p : Plan) (x : IsWay a p) (last : Bool) (next : Option ℕ) (is : is_none next ≡ last) where
+  module _ (p : Plan) (x : IsWay a p) (last : Bool) (next : Option ℕ) (is : is_none next ≡ last) where
     -- with no targets, the end is all that is asked besides
     straight : offsets_of p ≡ [] → goes_on a ≡ falls p
-        → least (conditions classes m at p f ++ end p (goes_on a && last)) ≡ least (at_conditions classes m frames at p next f)
+        → least (conditions classes m at p f ++ end p (goes_on a && last)) ≡ least (at_conditions classes m frames at a p next f)
     straight o e =
         ap (λ (z : Bool). least (conditions classes m at p f ++ end p (z && last))) e
         ∙ ap (λ (z : Bool). least (conditions classes m at p f ++ end p (falls p && z))) (sym is)
         ∙ ap (λ (z : List ℤ). least (conditions classes m at p f ++ (ways_of p z ++ end p (falls p && is_none next)))) (sym (ap (led_to at) o))
 
     by_early : (n : ℕ) → least (conditions classes m at p f) ≡ Some (reason n) → n < 67
-        → least (conditions classes m at p f ++ end p (goes_on a && last)) ≡ least (at_conditions classes m frames at p next f)
+        → least (conditions classes m at p f ++ end p (goes_on a && last)) ≡ least (at_conditions classes m frames at a p next f)
     by_early n e lt = early_end p (goes_on a && last) n e lt ∙ sym (early_all p next n e lt)
 
     refused_alike : (least (conditions classes m at p f) ≡ None → ⊥)
-        → least (conditions classes m at p f ++ end p (goes_on a && last)) ≡ least (at_conditions classes m frames at p next f)
+        → least (conditions classes m at p f ++ end p (goes_on a && last)) ≡ least (at_conditions classes m frames at a p next f)
     refused_alike some = by x.calm
       where
         calmly : IsEarly (least (conditions classes m at p f))
-            → least (conditions classes m at p f ++ end p (goes_on a && last)) ≡ least (at_conditions classes m frames at p next f)
+            → least (conditions classes m at p f ++ end p (goes_on a && last)) ≡ least (at_conditions classes m frames at a p next f)
         calmly (inl e) = absurd (some e)
         calmly (inr r) = by_early r.0 r.1 r.2
 
         by : (offsets_of p ≡ []) ⊎ ((classes : List ClassFact) (m : Method Act) (at : ℕ) (f : FrameFact) → IsEarly (least (conditions classes m at p f)))
-            → least (conditions classes m at p f ++ end p (goes_on a && last)) ≡ least (at_conditions classes m frames at p next f)
+            → least (conditions classes m at p f ++ end p (goes_on a && last)) ≡ least (at_conditions classes m frames at a p next f)
         by (inl o) = straight o x.way.falls_on
         by (inr calm) = calmly (calm classes m at f)
 
     -- the reason that goes before, of the rule's and the end's
     pub refused_end : (g : FrameFact) (e y : RuleReason) → (e ≡ OutOfMemory) ⊎ (least (conditions classes m at p f) ≡ Some (reason_view e))
         → ((cs : Conditions) → Judges cs (Err e) → Judges (cs ++ end p (goes_on a && last)) (Err y))
-        → Done (at_conditions classes m frames at p next f) (after m at p f) g (Err y)
+        → Done (at_conditions classes m frames at a p next f) (after m at p f) g (Err y)
     refused_end g e y (inr q) all = record { outcome = by (all (conditions classes m at p f) (record { outcome = inr q })).outcome }
       where
         some : least (conditions classes m at p f) ≡ None → ⊥
         some n = let clash : Some (reason_view e) ≡ None = sym q ∙ n in cc
 
         by : (y ≡ OutOfMemory) ⊎ (least (conditions classes m at p f ++ end p (goes_on a && last)) ≡ Some (reason_view y))
-            → (y ≡ OutOfMemory) ⊎ (least (at_conditions classes m frames at p next f) ≡ Some (reason_view y))
+            → (y ≡ OutOfMemory) ⊎ (least (at_conditions classes m frames at a p next f) ≡ Some (reason_view y))
         by (inl z) = inl z
         by (inr z) = inr (sym (refused_alike some) ∙ z)
     refused_end g e y (inl q) all = record { outcome = by (all (early_one) (record { outcome = inl q })).outcome }
@@ -178,7 +197,7 @@ module _ (classes : List ClassFact) (m : Method Act) (frames : Frames) (at : ℕ
         zero_first b = early_first early_one (end p b) 0 refl (omega arith) (end_late p b)
 
         by : (y ≡ OutOfMemory) ⊎ (least (early_one ++ end p (goes_on a && last)) ≡ Some (reason_view y))
-            → (y ≡ OutOfMemory) ⊎ (least (at_conditions classes m frames at p next f) ≡ Some (reason_view y))
+            → (y ≡ OutOfMemory) ⊎ (least (at_conditions classes m frames at a p next f) ≡ Some (reason_view y))
         by (inl z) = inl z
         by (inr z) = absurd (no_zero y (sym (zero_first (goes_on a && last)) ∙ z))
 
@@ -186,11 +205,11 @@ module _ (classes : List ClassFact) (m : Method Act) (frames : Frames) (at : ℕ
 
     pub done_ways : (g : FrameFact) (r : Result Unit RuleReason) → least (conditions classes m at p f) ≡ None → g ≡ after m at p f
         → Judges (target_conditions classes frames g (led_to at (branch_offsets a)) ++ end p (goes_on a && last)) r
-        → Done (at_conditions classes m frames at p next f) (after m at p f) g r
+        → Done (at_conditions classes m frames at a p next f) (after m at p f) g r
     done_ways g r e q j = by r j
       where
         same : least (target_conditions classes frames g (led_to at (branch_offsets a)) ++ end p (goes_on a && last))
-            ≡ least (at_conditions classes m frames at p next f)
+            ≡ least (at_conditions classes m frames at a p next f)
         same =
             ap (λ (z : FrameFact). least (target_conditions classes frames z (led_to at (branch_offsets a)) ++ end p (goes_on a && last))) q
             ∙ ap (λ (z : List ℤ). least (ways_of p (led_to at z) ++ end p (goes_on a && last))) x.way.branches
@@ -201,11 +220,11 @@ module _ (classes : List ClassFact) (m : Method Act) (frames : Frames) (at : ℕ
 
         by : (r : Result Unit RuleReason)
             → Judges (target_conditions classes frames g (led_to at (branch_offsets a)) ++ end p (goes_on a && last)) r
-            → Done (at_conditions classes m frames at p next f) (after m at p f) g r
+            → Done (at_conditions classes m frames at a p next f) (after m at p f) g r
         by (Ok u) j = record { outcome = (sym same ∙ j.outcome, q) }
         by (Err e) j = record { outcome = told j.outcome }
           where
             told : (e ≡ OutOfMemory) ⊎ (least (target_conditions classes frames g (led_to at (branch_offsets a)) ++ end p (goes_on a && last)) ≡ Some (reason_view e))
-                → (e ≡ OutOfMemory) ⊎ (least (at_conditions classes m frames at p next f) ≡ Some (reason_view e))
+                → (e ≡ OutOfMemory) ⊎ (least (at_conditions classes m frames at a p next f) ≡ Some (reason_view e))
             told (inl z) = inl z
             told (inr z) = inr (sym same ∙ z)

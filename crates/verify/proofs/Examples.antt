@@ -39,9 +39,10 @@ no_next at to e = by (nat_eq 0 at) e
     by true e = cc
     by false e = cc
 
-return_is_safe : (at : ℕ) → IsTypeSafeAt [] method [] (λ n. empty_frame) at returns
+return_is_safe : (at : ℕ) → IsTypeSafeAt [] method [] (λ n. empty_frame) at ReturnVoid returns
 return_is_safe at = record {
   rule = (refl, (refl, tt));
+  protected = tt;
   leads = λ target i. elim i [ ];
   next = λ e. absurd (apart e);
   alone = λ e to n. absurd (no_next at to n);
@@ -66,7 +67,7 @@ is_type_safe = record {
   table = λ n. empty_frame;
   first = inl refl;
   at_declared = λ at f e. absurd (none_some f e);
-  each = λ at act e. subst (λ a. IsTypeSafeAt [] method [] (λ n. empty_frame) at (plan method a)) (only_return at act e) (return_is_safe at);
+  each = λ at act e. subst (λ a. IsTypeSafeAt [] method [] (λ n. empty_frame) at a (plan method a)) (only_return at act e) (return_is_safe at);
 }
   where
     none_some : (f : FrameFact) → None ≡ Some f → ⊥

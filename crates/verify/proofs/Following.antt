@@ -77,10 +77,10 @@ module _ (plan : Plans) (classes : List ClassFact) (m : Method Act) (frames : Fr
     pub behind : next_offset (c ∷ cs) c.0 ≡ first_offset cs
     behind = rw (eq-eqb c.0 c.0 refl) refl
 
-    pub none_here : least (at_conditions classes m frames c.0 (plan m c.1) (first_offset cs) f) ≡ None
+    pub none_here : least (at_conditions classes m frames c.0 c.1 (plan m c.1) (first_offset cs) f) ≡ None
     none_here =
-        none_told (at_conditions classes m frames c.0 (plan m c.1) (first_offset cs) f) (of_fine classes m frames c.0 (plan m c.1) (first_offset cs) f
-        (subst (λ z. IsFine classes m frames c.0 (plan m c.1) z) there now.fine) (λ t. let z = now.next t in (z.0, sym behind ∙ z.1)))
+        none_told (at_conditions classes m frames c.0 c.1 (plan m c.1) (first_offset cs) f) (of_fine classes m frames c.0 c.1 (plan m c.1) (first_offset cs) f
+        (subst (λ z. IsFine classes m frames c.0 c.1 (plan m c.1) z) there now.fine) (λ t. let z = now.next t in (z.0, sym behind ∙ z.1)))
 
     pub at_next : (p : ℕ) → first_offset cs ≡ Some p → ((k : FrameFact) → at_offset frames p ≡ Some k → table p ≡ k) → (b : Bool) → falls (plan m c.1) ≡ b
         → (entry classes b (after m c.0 (plan m c.1) f) (at_offset frames p) ≡ None) × (table p ≡ entered (after m c.0 (plan m c.1) f) (at_offset frames p))

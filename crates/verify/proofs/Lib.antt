@@ -11,7 +11,6 @@ pub mod MapFaults
 mod Breaks
 pub mod MapReading
 pub mod Decoded
-pub mod Merging
 pub mod Caught
 pub mod Tracking
 pub mod InTurn

@@ -86,7 +86,7 @@ module _ (plan : Plans) (classes : List ClassFact) (m : Method Act) (frames : Fr
   pass_clash : (cs : List (ℕ × Act)) (f : FrameFact) → passes plan classes m frames cs f ≡ map_refused why → ⊥
   pass_clash [] f e = cc
   pass_clash (c ∷ cs) f e =
-      reason_clash (least (at_conditions classes m frames c.0 (plan m c.1) (first_offset cs) f)) c.0 (arrives classes frames cs (falls (plan m c.1)) (after m c.0 (plan m c.1) f) (passes plan classes m frames cs))
+      reason_clash (least (at_conditions classes m frames c.0 c.1 (plan m c.1) (first_offset cs) f)) c.0 (arrives classes frames cs (falls (plan m c.1)) (after m c.0 (plan m c.1) f) (passes plan classes m frames cs))
       (arrival_clash cs (falls (plan m c.1)) (after m c.0 (plan m c.1) f) (λ g. pass_clash cs g)) e
 
   table_clash : (es : List ExceptionEntry) (rest : Verdict) → (rest ≡ map_refused why → ⊥) → table_judged classes m frames es rest ≡ map_refused why → ⊥

@@ -23,7 +23,7 @@ use Rattle.verify.specs.Steps.{place_of}
 use Rattle.verify.specs.Answers.{HasBadCode, HasVerdict, HasRefusal, IsRefused}
 use Rattle.verify.specs.Reports.{IsReported}
 use Rattle.verify.specs.OneVerdict.{AreSameVerdict, OneVerdict, IsSameLine, OneReport}
-use Rattle.verify.proofs.Merging.{view_number}
+use Rattle.rules.proofs.Lesser.{view_number}
 
 some_same : {A : Type 0} (a b : A) → Some a ≡ Some b → a ≡ b
 some_same a b e = cc

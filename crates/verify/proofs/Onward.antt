@@ -30,7 +30,7 @@ use Rattle.rules.specs.declared.reason.Reason.TheVariants.{OutOfMemory}
 use Rattle.verify.specs.TypeSafety.{Frames}
 use Rattle.verify.specs.Verdict.{Verdict, refused, told_of, refused_or, at_conditions, entry, entered, arrives, passes}
 use Rattle.verify.specs.Steps.{Enters}
-use Rattle.verify.proofs.Merging.{rule_none}
+use Rattle.rules.proofs.Lesser.{rule_none}
 use Rattle.verify.proofs.Going.{ways}
 
 -- ---- the number of locals stays
@@ -90,7 +90,7 @@ module _ (classes : List ClassFact) (m : Method Act) (frames : Frames) where
     -- a frame comes in, and this one goes on
     module _ (g : FrameFact) (r : Result Unit RuleReason) (u : Unit {0}) (ok : r ≡ Ok u) (enters : Enters classes b f declared g r) where
       abbrev pub at_here : Conditions
-      at_here = at_conditions classes m frames c.0 (plan m c.1) (first_offset cs) g
+      at_here = at_conditions classes m frames c.0 c.1 (plan m c.1) (first_offset cs) g
 
       abbrev pub after_here : FrameFact
       after_here = after m c.0 (plan m c.1) g

@@ -51,7 +51,7 @@ module _ (plan : Plans) (classes : List ClassFact) (m : Method Act) (frames : Fr
 
   -- an instruction among these is fine in the table's frame, and what comes behind it is right
   pub record IsFineIn (table : ℕ → FrameFact) (cs : List (ℕ × Act)) (at : ℕ) (act : Act) : Type 0 where
-    pub fine : IsFine classes m frames at (plan m act) (table at)
+    pub fine : IsFine classes m frames at act (plan m act) (table at)
     pub next : falls (plan m act) ≡ true → (to : ℕ) × (next_offset cs at ≡ Some to) × Comes classes frames table (after m at (plan m act) (table at)) to
     pub alone : falls (plan m act) ≡ false → (to : ℕ) → next_offset cs at ≡ Some to → (f : FrameFact) × (at_offset frames to ≡ Some f)
     pub own : (g : FrameFact) → at_offset frames at ≡ Some g → table at ≡ g
@@ -92,7 +92,7 @@ module _ (plan : Plans) (classes : List ClassFact) (m : Method Act) (frames : Fr
 
   -- a table for the instructions behind one is widened to that one
   module _ (c : ℕ × Act) (cs : List (ℕ × Act)) (f : FrameFact) (apart : at_offset cs c.0 ≡ None) (own : (k : FrameFact) → at_offset frames c.0 ≡ Some k → f ≡ k)
-      (fine : least (at_conditions classes m frames c.0 (plan m c.1) (first_offset cs) f) ≡ None)
+      (fine : least (at_conditions classes m frames c.0 c.1 (plan m c.1) (first_offset cs) f) ≡ None)
       (on : IsEntered cs (falls (plan m c.1)) (after m c.0 (plan m c.1) f))
       (rest : ℕ → FrameFact) (rest_head : (q : ℕ) → first_offset cs ≡ Some q → rest q ≡ came cs (after m c.0 (plan m c.1) f)) where
     abbrev pub wider : ℕ → FrameFact
@@ -107,12 +107,12 @@ module _ (plan : Plans) (classes : List ClassFact) (m : Method Act) (frames : Fr
         clash : (act : Act) → None ≡ Some act → ⊥
         clash act e = cc
 
-    parts : IsFine classes m frames c.0 (plan m c.1) f × (falls (plan m c.1) ≡ true → (q : ℕ) × (first_offset cs ≡ Some q))
-    parts = fine_of classes m frames c.0 (plan m c.1) (first_offset cs) f (none_least (at_conditions classes m frames c.0 (plan m c.1) (first_offset cs) f) fine)
+    parts : IsFine classes m frames c.0 c.1 (plan m c.1) f × (falls (plan m c.1) ≡ true → (q : ℕ) × (first_offset cs ≡ Some q))
+    parts = fine_of classes m frames c.0 c.1 (plan m c.1) (first_offset cs) f (none_least (at_conditions classes m frames c.0 c.1 (plan m c.1) (first_offset cs) f) fine)
 
     pub fine_head : IsFineIn wider (c ∷ cs) c.0 c.1
     fine_head = record {
-      fine = subst (λ z. IsFine classes m frames c.0 (plan m c.1) z) (sym here) parts.0;
+      fine = subst (λ z. IsFine classes m frames c.0 c.1 (plan m c.1) z) (sym here) parts.0;
       next = λ t.
           let x = parts.1 t in
           let y = on x.0 x.1 in (
@@ -134,7 +134,7 @@ module _ (plan : Plans) (classes : List ClassFact) (m : Method Act) (frames : Fr
     fine_tail p act i k rec =
         let s : wider p ≡ rest p = same p (act, k) in
         record {
-          fine = subst (λ z. IsFine classes m frames p (plan m act) z) (sym s) rec.fine;
+          fine = subst (λ z. IsFine classes m frames p act (plan m act) z) (sym s) rec.fine;
           next = λ t.
               let x = rec.next t in (
                 x.0,
@@ -158,7 +158,7 @@ module _ (plan : Plans) (classes : List ClassFact) (m : Method Act) (frames : Fr
   pub has_table : (cs : List (ℕ × Act)) (f : FrameFact) → AreApart cs → ((p : ℕ) (k : FrameFact) → first_offset cs ≡ Some p → at_offset frames p ≡ Some k → f ≡ k) → passes plan classes m frames cs f ≡ verified → HasTable cs f
   has_table [] f apart own e = record { table = λ p. f; head = λ p i. refl; each = λ p act i. cc }
   has_table (c ∷ cs) f apart own e =
-      let x = not_refused (least (at_conditions classes m frames c.0 (plan m c.1) (first_offset cs) f)) c.0 (arrives classes frames cs (falls (plan m c.1)) (after m c.0 (plan m c.1) f) (passes plan classes m frames cs)) e in
+      let x = not_refused (least (at_conditions classes m frames c.0 c.1 (plan m c.1) (first_offset cs) f)) c.0 (arrives classes frames cs (falls (plan m c.1)) (after m c.0 (plan m c.1) f) (passes plan classes m frames cs)) e in
       let g = after m c.0 (plan m c.1) f in
       let on : IsEntered cs (falls (plan m c.1)) g = λ q i. enters_of cs (falls (plan m c.1)) g q x.1 i in
       let r = has_table cs (came cs g) apart.1 (λ p k i j. own_of cs g p k i j) (tail_of cs (falls (plan m c.1)) g x.1) in

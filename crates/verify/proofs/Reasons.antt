@@ -11,8 +11,9 @@ use Rattle.frames.specs.Conditions.{Reason, Conditions, NoneHolds, least}
 use Rattle.rules.specs.Plans.{Plan, falls, targets}
 use Rattle.rules.specs.After.{after}
 use Rattle.rules.specs.Rules.{conditions, constructs_own}
+use Rattle.rules.specs.Protected.{member_conditions}
 use Rattle.verify.specs.TypeSafety.{Frames, LeadsTo, LeadsToTarget, caught_frame}
-use Rattle.verify.specs.Verdict.{Verdict, verified, refused_or, answer_conditions, declared_at, one_target, target_conditions, one_handler, handler_conditions, is_covered, at_conditions}
+use Rattle.verify.specs.Verdict.{Verdict, verified, refused_or, answer_conditions, declared_at, one_target, target_conditions, one_handler, handler_conditions, is_covered, before_conditions, at_conditions}
 
 pub none_told : (cs : Conditions) → NoneHolds cs → least cs ≡ None
 none_told [] n = refl
@@ -50,8 +51,9 @@ both_not false b f = refl
 
 module _ (classes : List ClassFact) (m : Method Act) (frames : Frames) where
   -- what is asked of an instruction in a frame, the next start aside
-  pub record IsFine (at : ℕ) (p : Plan) (f : FrameFact) : Type 0 where
+  pub record IsFine (at : ℕ) (act : Act) (p : Plan) (f : FrameFact) : Type 0 where
     pub rule : NoneHolds (conditions classes m at p f)
+    pub protected : NoneHolds (member_conditions classes m act f)
     pub leads : (target : ℤ) → IsAmong target (targets at p) → LeadsToTarget classes frames (after m at p f) target
     pub handled : (e : ExceptionEntry) → IsAmong e m.exceptions → covers e at ≡ true → LeadsTo classes frames (caught_frame e f) e.handler
     pub uncovered : constructs_own p f ≡ true → (e : ExceptionEntry) → IsAmong e m.exceptions → covers e at ≡ false
@@ -134,24 +136,27 @@ module _ (classes : List ClassFact) (m : Method Act) (frames : Frames) where
   is_there false next f = refl
   is_there true next f = ap is_none (f refl).1
 
-  module _ (at : ℕ) (p : Plan) (next : Option ℕ) (f : FrameFact) where
-    pub fine_of : NoneHolds (at_conditions classes m frames at p next f) → IsFine at p f × (falls p ≡ true → (q : ℕ) × (next ≡ Some q))
+  module _ (at : ℕ) (act : Act) (p : Plan) (next : Option ℕ) (f : FrameFact) where
+    pub fine_of : NoneHolds (at_conditions classes m frames at act p next f) → IsFine at act p f × (falls p ≡ true → (q : ℕ) × (next ≡ Some q))
     fine_of n =
         let a = none_apart (conditions classes m at p f) _ n in
         let b = none_apart (target_conditions classes frames (after m at p f) (targets at p)) _ a.1 in
-        let c = none_apart (handler_conditions classes frames at f m.exceptions) _ b.1 in (
+        let c = none_apart (before_conditions classes m frames at act f) _ b.1 in
+        let d = none_apart (member_conditions classes m act f) (handler_conditions classes frames at f m.exceptions) c.0 in (
           record {
             rule = a.0;
+            protected = d.0;
             leads = targets_lead (after m at p f) (targets at p) b.0;
-            handled = handlers_lead at f m.exceptions c.0;
+            handled = handlers_lead at f m.exceptions d.1;
             uncovered = λ own. none_covers at m.exceptions (not_both (constructs_own p f) (is_covered m.exceptions at) c.1.1.0 own);
           },
           there_is (falls p) next c.1.0,
         )
 
-    pub of_fine : IsFine at p f → (falls p ≡ true → (q : ℕ) × (next ≡ Some q)) → NoneHolds (at_conditions classes m frames at p next f)
+    pub of_fine : IsFine at act p f → (falls p ≡ true → (q : ℕ) × (next ≡ Some q)) → NoneHolds (at_conditions classes m frames at act p next f)
     of_fine x there =
         none_together (conditions classes m at p f) _ x.rule
         (none_together (target_conditions classes frames (after m at p f) (targets at p)) _ (lead_none (after m at p f) (targets at p) x.leads)
-        (none_together (handler_conditions classes frames at f m.exceptions) _ (handlers_none at f m.exceptions x.handled)
+        (none_together (before_conditions classes m frames at act f) _
+        (none_together (member_conditions classes m act f) (handler_conditions classes frames at f m.exceptions) x.protected (handlers_none at f m.exceptions x.handled))
         (is_there (falls p) next there, (both_not (constructs_own p f) (is_covered m.exceptions at) (λ own. not_covered at m.exceptions (x.uncovered own)), tt))))

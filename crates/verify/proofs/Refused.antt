@@ -48,12 +48,12 @@ module _ (plan : Plans) (classes : List ClassFact) (m : Method Act) (frames : Fr
       frame : table stop ≡ f
       frame = ap table (sym same) ∙ there
 
-      conditions_are : least (at_conditions classes m frames stop (plan m act) (next_offset (c ∷ cs) stop) (table stop)) ≡ least (at_conditions classes m frames c.0 (plan m c.1) (first_offset cs) f)
+      conditions_are : least (at_conditions classes m frames stop act (plan m act) (next_offset (c ∷ cs) stop) (table stop)) ≡ least (at_conditions classes m frames c.0 c.1 (plan m c.1) (first_offset cs) f)
       conditions_are =
-          ap (λ z. least (at_conditions classes m frames stop (plan m act) z (table stop))) behind
-          ∙ ap (λ z. least (at_conditions classes m frames stop (plan m act) (first_offset cs) z)) frame
-          ∙ ap (λ z. least (at_conditions classes m frames z (plan m act) (first_offset cs) f)) (sym same)
-          ∙ ap (λ z. least (at_conditions classes m frames c.0 (plan m z) (first_offset cs) f)) (sym is_act)
+          ap (λ z. least (at_conditions classes m frames stop act (plan m act) z (table stop))) behind
+          ∙ ap (λ z. least (at_conditions classes m frames stop act (plan m act) (first_offset cs) z)) frame
+          ∙ ap (λ z. least (at_conditions classes m frames z act (plan m act) (first_offset cs) f)) (sym same)
+          ∙ ap (λ z. least (at_conditions classes m frames c.0 z (plan m z) (first_offset cs) f)) (sym is_act)
 
       at_entry : (ds : List (ℕ × Act)) → first_offset ds ≡ Some at → (b : Bool) (g : FrameFact) (goes_on : FrameFact → Verdict) → entry classes b g (at_offset frames at) ≡ Some why → arrives classes frames ds b g goes_on ≡ refused at why
       at_entry [] i b g goes_on e = cc
@@ -155,7 +155,7 @@ module _ (plan : Plans) (classes : List ClassFact) (m : Method Act) (rise : Star
     fine p a l e =
         let x = r.safe.each p a l e in
         record {
-          fine = record { rule = x.rule; leads = x.leads; handled = x.handled; uncovered = x.uncovered };
+          fine = record { rule = x.rule; protected = x.protected; leads = x.leads; handled = x.handled; uncovered = x.uncovered };
           next = x.next;
           alone = x.alone;
           own = λ k i. r.safe.at_declared p k (record { what = a; here = e }) (omega (arith, l)) i;
@@ -186,7 +186,7 @@ module _ (plan : Plans) (classes : List ClassFact) (m : Method Act) (rise : Star
   code_refused (inl b) = first_refused m.code first (passes plan classes m frames m.code) b
   code_refused (inr (inl b)) =
       reached_refused b.before b.reached
-      (inr (none_told (at_conditions classes m frames b.before (plan m b.reached.act) (next_offset m.code b.before) (b.reached.table b.before)) (rw b.next b.fine), b.next, b.told))
+      (inr (none_told (at_conditions classes m frames b.before b.reached.act (plan m b.reached.act) (next_offset m.code b.before) (b.reached.table b.before)) (rw b.next b.fine), b.next, b.told))
   code_refused (inr (inr b)) = reached_refused at b.reached (inl (b.told, refl))
 
   frames_refused : BreaksTable classes m frames at why ⊎ BreaksCode plan classes m frames at why → table_judged classes m frames m.exceptions (code_judged plan classes m frames) ≡ refused at why

@@ -28,8 +28,8 @@ module _ (plan : Plans) (classes : List ClassFact) (m : Method Act) (frames : Fr
   -- the refusal is of this instruction, or of the frame behind it
   abbrev pub Fails : ℕ → Act → Option ℕ → FrameFact → ℕ → Reason → Type 0
   Fails stop act next f at why =
-      ((least (at_conditions classes m frames stop (plan m act) next f) ≡ Some why) × (stop ≡ at))
-      ⊎ ((least (at_conditions classes m frames stop (plan m act) next f) ≡ None)
+      ((least (at_conditions classes m frames stop act (plan m act) next f) ≡ Some why) × (stop ≡ at))
+      ⊎ ((least (at_conditions classes m frames stop act (plan m act) next f) ≡ None)
       × (next ≡ Some at)
       × (entry classes (falls (plan m act)) (after m stop (plan m act) f) (at_offset frames at) ≡ Some why))
 
@@ -64,7 +64,7 @@ module _ (plan : Plans) (classes : List ClassFact) (m : Method Act) (frames : Fr
 
   -- a start is not in front of the first
   module _ (c : ℕ × Act) (cs : List (ℕ × Act)) (f : FrameFact) (at : ℕ) (why : Reason) (apart : at_offset cs c.0 ≡ None) (own : (k : FrameFact) → at_offset frames c.0 ≡ Some k → f ≡ k)
-      (fine : least (at_conditions classes m frames c.0 (plan m c.1) (first_offset cs) f) ≡ None)
+      (fine : least (at_conditions classes m frames c.0 c.1 (plan m c.1) (first_offset cs) f) ≡ None)
       (on : (q : ℕ) → first_offset cs ≡ Some q → (entry classes (falls (plan m c.1)) (after m c.0 (plan m c.1) f) (at_offset frames q) ≡ None)
       × (came plan classes m frames cs (after m c.0 (plan m c.1) f) ≡ entered (after m c.0 (plan m c.1) f) (at_offset frames q)))
       (r : IsFineUpTo cs (came plan classes m frames cs (after m c.0 (plan m c.1) f)) at why) where
@@ -93,7 +93,7 @@ module _ (plan : Plans) (classes : List ClassFact) (m : Method Act) (frames : Fr
     }
 
   arriving : (from : ℕ) (c : ℕ × Act) (cs : List (ℕ × Act)) (f : FrameFact) (at : ℕ) (why : Reason) → StartsRise from (c ∷ cs) → ((k : FrameFact) → at_offset frames c.0 ≡ Some k → f ≡ k)
-      → least (at_conditions classes m frames c.0 (plan m c.1) (first_offset cs) f) ≡ None
+      → least (at_conditions classes m frames c.0 c.1 (plan m c.1) (first_offset cs) f) ≡ None
       → ((k : FrameFact) → ((p : ℕ) (j : FrameFact) → first_offset cs ≡ Some p → at_offset frames p ≡ Some j → k ≡ j) → passes plan classes m frames cs k ≡ refused at why → IsFineUpTo cs k at why)
       → arrives classes frames cs (falls (plan m c.1)) (after m c.0 (plan m c.1) f) (passes plan classes m frames cs) ≡ refused at why → IsFineUpTo (c ∷ cs) f at why
   arriving from c [] f at why rise own fine rec e = cc
@@ -117,11 +117,11 @@ module _ (plan : Plans) (classes : List ClassFact) (m : Method Act) (frames : Fr
       → ((p : ℕ) (k : FrameFact) → first_offset cs ≡ Some p → at_offset frames p ≡ Some k → f ≡ k) → passes plan classes m frames cs f ≡ refused at why → IsFineUpTo cs f at why
   refusing from [] f at why rise own e = cc
   refusing from (c ∷ cs) f at why rise own e =
-      by (told (least (at_conditions classes m frames c.0 (plan m c.1) (first_offset cs) f)) c.0 (arrives classes frames cs (falls (plan m c.1)) (after m c.0 (plan m c.1) f) (passes plan classes m frames cs)) at why e)
+      by (told (least (at_conditions classes m frames c.0 c.1 (plan m c.1) (first_offset cs) f)) c.0 (arrives classes frames cs (falls (plan m c.1)) (after m c.0 (plan m c.1) f) (passes plan classes m frames cs)) at why e)
       (λ k j. refusing (c.0 + 1) cs k at why rise.1 j)
     where
-      by : ((least (at_conditions classes m frames c.0 (plan m c.1) (first_offset cs) f) ≡ Some why) × (c.0 ≡ at))
-          ⊎ ((least (at_conditions classes m frames c.0 (plan m c.1) (first_offset cs) f) ≡ None) × (arrives classes frames cs (falls (plan m c.1)) (after m c.0 (plan m c.1) f) (passes plan classes m frames cs) ≡ refused at why))
+      by : ((least (at_conditions classes m frames c.0 c.1 (plan m c.1) (first_offset cs) f) ≡ Some why) × (c.0 ≡ at))
+          ⊎ ((least (at_conditions classes m frames c.0 c.1 (plan m c.1) (first_offset cs) f) ≡ None) × (arrives classes frames cs (falls (plan m c.1)) (after m c.0 (plan m c.1) f) (passes plan classes m frames cs) ≡ refused at why))
           → ((k : FrameFact) → ((p : ℕ) (j : FrameFact) → first_offset cs ≡ Some p → at_offset frames p ≡ Some j → k ≡ j) → passes plan classes m frames cs k ≡ refused at why → IsFineUpTo cs k at why)
           → IsFineUpTo (c ∷ cs) f at why
       by (inl x) rec = at_head c cs f at why (omega arith, rise.1) (λ k i. own c.0 k refl i) (inl x)
@@ -141,8 +141,8 @@ module _ (plan : Plans) (classes : List ClassFact) (m : Method Act) (frames : Fr
 
   -- ---- the whole code
 
-  safe_at : (table : ℕ → FrameFact) (p : ℕ) (act : Act) → IsFineIn plan classes m frames table m.code p act → IsTypeSafeAt classes m frames table p (plan m act)
-  safe_at table p act x = record { rule = x.fine.rule; leads = x.fine.leads; next = x.next; alone = x.alone; handled = x.fine.handled; uncovered = x.fine.uncovered }
+  safe_at : (table : ℕ → FrameFact) (p : ℕ) (act : Act) → IsFineIn plan classes m frames table m.code p act → IsTypeSafeAt classes m frames table p act (plan m act)
+  safe_at table p act x = record { rule = x.fine.rule; protected = x.fine.protected; leads = x.fine.leads; next = x.next; alone = x.alone; handled = x.fine.handled; uncovered = x.fine.uncovered }
 
   module _ (at : ℕ) (why : Reason) (first : first_offset m.code ≡ Some 0)
       (enters : (entry classes true (initial_frame m) (at_offset frames 0) ≡ None) × (came plan classes m frames m.code (initial_frame m) ≡ entered (initial_frame m) (at_offset frames 0)))
@@ -177,7 +177,7 @@ module _ (plan : Plans) (classes : List ClassFact) (m : Method Act) (frames : Fr
           before = r.stop;
           reached = reached;
           next = x.1;
-          fine = subst (λ z. NoneHolds (at_conditions classes m frames r.stop (plan m r.act) z (r.table r.stop))) x.1 (none_least (at_conditions classes m frames r.stop (plan m r.act) (next_offset m.code r.stop) (r.table r.stop)) x.0);
+          fine = subst (λ z. NoneHolds (at_conditions classes m frames r.stop r.act (plan m r.act) z (r.table r.stop))) x.1 (none_least (at_conditions classes m frames r.stop r.act (plan m r.act) (next_offset m.code r.stop) (r.table r.stop)) x.0);
           told = x.2;
         })
 

@@ -12,12 +12,12 @@ use Rattle.verify.specs.declared.place_set.PlaceSet.{PlaceSet}
 use Rattle.verify.specs.PlaceSets.{has}
 use Rattle.verify.specs.TypeSafety.{Frames}
 use Rattle.verify.specs.Verdict.{declared_at, one_target, target_conditions}
-use Rattle.verify.specs.Steps.{Judges}
+use Rattle.rules.specs.Outcomes.{Judges}
 use Rattle.verify.specs.Targets.{IsPlace, Compares}
 use Rattle.std.specs.Prelude.{int_lt}
 use Rattle.insn.specs.Offsets.{StartsRise}
 use Rattle.insn.proofs.Places.{past_last}
-use Rattle.verify.proofs.Merging.{merge, least_append}
+use Rattle.rules.proofs.Lesser.{merge, least_append}
 
 -- the second adds nothing to the first
 abbrev Holds : Option Refusing → Option Refusing → Type 0

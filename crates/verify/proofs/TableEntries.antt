@@ -24,7 +24,7 @@ use Rattle.rules.specs.Reasons.{reason_view}
 use Rattle.verify.specs.declared.exceptions.Entry.{Entry}
 use Rattle.verify.specs.TypeSafety.{Frames}
 use Rattle.verify.specs.Verdict.{Verdict, refused, refused_or, answer_conditions, is_end, table_conditions, table_judged}
-use Rattle.verify.specs.Steps.{Judges}
+use Rattle.rules.specs.Outcomes.{Judges}
 use Rattle.verify.specs.ExceptionTables.{entry_view, IsEntry, AreNumbered, has_places, JudgesTable}
 
 -- ---- as they are made

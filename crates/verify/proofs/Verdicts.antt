@@ -42,7 +42,7 @@ module _ (plan : Plans) (classes : List ClassFact) (m : Method Act) (rise : Star
             (r.each at start.what start.here).own f e;
         each = λ at act e.
             let x = r.each at act e in
-            record { rule = x.fine.rule; leads = x.fine.leads; next = x.next; alone = x.alone; handled = x.fine.handled; uncovered = x.fine.uncovered };
+            record { rule = x.fine.rule; protected = x.fine.protected; leads = x.fine.leads; next = x.next; alone = x.alone; handled = x.fine.handled; uncovered = x.fine.uncovered };
       }
 
   judged_type_safe : IsStart m.code 0 → verdict plan classes m ≡ verified → IsTypeSafeBy plan classes m
@@ -61,7 +61,7 @@ module _ (plan : Plans) (classes : List ClassFact) (m : Method Act) (rise : Star
     fine at act e =
         let x = safe.each at act e in
         record {
-          fine = record { rule = x.rule; leads = x.leads; handled = x.handled; uncovered = x.uncovered };
+          fine = record { rule = x.rule; protected = x.protected; leads = x.leads; handled = x.handled; uncovered = x.uncovered };
           next = x.next;
           alone = x.alone;
           own = safe.at_declared at;

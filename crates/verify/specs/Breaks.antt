@@ -5,6 +5,7 @@ use Rattle.names.specs.StandardNames.{throwable_name}
 use Rattle.classfile.specs.Methods.{Method, ExceptionEntry, covers}
 use Rattle.hierarchy.specs.Class.{ClassFact}
 use Rattle.hierarchy.specs.Answer.{Outcome, no, missing}
+use Rattle.hierarchy.specs.Nearest.{is_guarded}
 use Rattle.insn.specs.Meanings.{Act}
 use Rattle.insn.specs.Offsets.{at_offset, next_offset, IsStart, IsAmong, StartsRise}
 use Rattle.frames.specs.VerificationType.{class}
@@ -17,6 +18,7 @@ use Rattle.rules.specs.Plans.{Plan, falls, targets}
 use Rattle.rules.specs.Table.{Plans}
 use Rattle.rules.specs.After.{after}
 use Rattle.rules.specs.Rules.{constructs_own, conditions}
+use Rattle.rules.specs.Protected.{Use, used_by, object_beneath, object_answer}
 use Rattle.verify.specs.InitialFrames.{initial_types, initial_frame}
 use Rattle.verify.specs.TypeSafety.{Frames, Declares, caught_frame, IsSoundEntry}
 use Rattle.verify.specs.Refusals.{Reaches, IsMapFault}
@@ -49,29 +51,41 @@ pub record Covering (m : Method Act) (at : ℕ) : Type 0 where
   pub among : IsAmong e m.exceptions
   pub covered : covers e at ≡ true
 
+-- the member that it uses on an object is guarded: it is protected in another package, in a class above the current one
+pub record Guarded (classes : List ClassFact) (m : Method Act) (act : Act) : Type 0 where
+  pub member : Use
+  pub used : used_by m act ≡ Some member
+  pub guarded : is_guarded classes m.class member.reference ≡ true
+
 -- The condition on an instruction that is broken, the frame at its next start aside, by the fields of an instruction that is type-safe.
-pub data Breaks (classes : List ClassFact) (m : Method Act) (frames : Frames) (at : ℕ) (p : Plan) (next : Option ℕ) (f : FrameFact) (why : Reason) : Type 0 where
+pub data Breaks (classes : List ClassFact) (m : Method Act) (frames : Frames) (at : ℕ) (act : Act) (p : Plan) (next : Option ℕ) (f : FrameFact) (why : Reason) : Type 0 where
   -- `rule`, with a reason of the rule
-  rule : Holds (conditions classes m at p f) why → Breaks classes m frames at p next f why
+  rule : Holds (conditions classes m at p f) why → Breaks classes m frames at act p next f why
   -- `leads`: 67, no frame is declared at a target
-  no_frame_at_target : why ≡ reason 67 → (t : Target at p) → ((to : ℕ) → t.target ≡ pos to → HasNoFrame frames to) → Breaks classes m frames at p next f why
+  no_frame_at_target : why ≡ reason 67 → (t : Target at p) → ((to : ℕ) → t.target ≡ pos to → HasNoFrame frames to) → Breaks classes m frames at act p next f why
   -- 68, the frame after is not assignable to the one that is declared there
   not_assignable_at_target : why ≡ reason 68 → (t : Target at p) → (to : ℕ) → t.target ≡ pos to → Meets classes frames (after m at p f) to no
-      → Breaks classes m frames at p next f why
+      → Breaks classes m frames at act p next f why
   -- 77, that hangs on a class which is missing
   missing_at_target : (name : List ℕ) → why ≡ class_missing name → (t : Target at p) → (to : ℕ) → t.target ≡ pos to
-      → Meets classes frames (after m at p f) to (missing name) → Breaks classes m frames at p next f why
+      → Meets classes frames (after m at p f) to (missing name) → Breaks classes m frames at act p next f why
+  -- `protected`: 82, the object on which a member is used that is guarded is none of the current class
+  protected_member : why ≡ reason 82 → (g : Guarded classes m act) → object_answer classes m.class (object_beneath g.member f) ≡ no
+      → Breaks classes m frames at act p next f why
+  -- 77, that hangs on a class which is missing
+  missing_object : (name : List ℕ) → why ≡ class_missing name → (g : Guarded classes m act) → object_answer classes m.class (object_beneath g.member f) ≡ missing name
+      → Breaks classes m frames at act p next f why
   -- `handled`: 73, at the handler of an entry that covers it no frame is declared
-  no_frame_at_handler : why ≡ reason 73 → (c : Covering m at) → HasNoFrame frames c.e.handler → Breaks classes m frames at p next f why
+  no_frame_at_handler : why ≡ reason 73 → (c : Covering m at) → HasNoFrame frames c.e.handler → Breaks classes m frames at act p next f why
   -- or its frame is not assignable to the one that is declared there
   not_assignable_at_handler : why ≡ reason 73 → (c : Covering m at) → Meets classes frames (caught_frame c.e f) c.e.handler no
-      → Breaks classes m frames at p next f why
+      → Breaks classes m frames at act p next f why
   missing_at_handler : (name : List ℕ) → why ≡ class_missing name → (c : Covering m at) → Meets classes frames (caught_frame c.e f) c.e.handler (missing name)
-      → Breaks classes m frames at p next f why
+      → Breaks classes m frames at act p next f why
   -- `next`: 71, it falls through, and there is no next instruction
-  falls_off : why ≡ reason 71 → falls p ≡ true → next ≡ None → Breaks classes m frames at p next f why
+  falls_off : why ≡ reason 71 → falls p ≡ true → next ≡ None → Breaks classes m frames at act p next f why
   -- `uncovered`: 75, an entry covers an `<init>` on the own object
-  constructor_covered : why ≡ reason 75 → constructs_own p f ≡ true → Covering m at → Breaks classes m frames at p next f why
+  constructor_covered : why ≡ reason 75 → constructs_own p f ≡ true → Covering m at → Breaks classes m frames at act p next f why
 
 -- ---- the frame at a start
 
@@ -101,8 +115,8 @@ pub data BreaksEntry (classes : List ClassFact) (m : Method Act) (frames : Frame
 -- ---- the conditions that the verdict asks are these, each with its number
 
 pub record AreFields (classes : List ClassFact) (m : Method Act) (frames : Frames) : Type 0 where
-  pub instructions : (at : ℕ) (p : Plan) (next : Option ℕ) (f : FrameFact) (why : Reason)
-      → Holds (at_conditions classes m frames at p next f) why ↔ Breaks classes m frames at p next f why
+  pub instructions : (at : ℕ) (act : Act) (p : Plan) (next : Option ℕ) (f : FrameFact) (why : Reason)
+      → Holds (at_conditions classes m frames at act p next f) why ↔ Breaks classes m frames at act p next f why
   pub arrivals : (comes : Bool) (f : FrameFact) (at : ℕ) (why : Reason)
       → (entry classes comes f (at_offset frames at) ≡ Some why) ↔ BreaksAt classes frames comes f at why
   pub entries : (e : ExceptionEntry) (why : Reason) → Holds (table_conditions classes m frames e) why ↔ BreaksEntry classes m frames e why
@@ -118,14 +132,14 @@ IsLeast broken why = broken why × ((other : Reason) → broken other → number
 -- the instruction there, up to which the method is type-safe
 pub record BreaksInstruction (plan : Plans) (classes : List ClassFact) (m : Method Act) (frames : Frames) (at : ℕ) (why : Reason) : Type 0 where
   pub reached : Reaches plan classes m frames at
-  pub broken : IsLeast (Breaks classes m frames at (plan m reached.act) (next_offset m.code at) (reached.table at)) why
+  pub broken : IsLeast (Breaks classes m frames at reached.act (plan m reached.act) (next_offset m.code at) (reached.table at)) why
 
 -- the frame there, behind an instruction up to which the method is type-safe and that meets each other condition
 pub record BreaksArrival (plan : Plans) (classes : List ClassFact) (m : Method Act) (frames : Frames) (at : ℕ) (why : Reason) : Type 0 where
   pub before : ℕ
   pub reached : Reaches plan classes m frames before
   pub next : next_offset m.code before ≡ Some at
-  pub fine : (other : Reason) → Breaks classes m frames before (plan m reached.act) (Some at) (reached.table before) other → ⊥
+  pub fine : (other : Reason) → Breaks classes m frames before reached.act (plan m reached.act) (Some at) (reached.table before) other → ⊥
   pub broken : BreaksAt classes frames (falls (plan m reached.act)) (after m before (plan m reached.act) (reached.table before)) at why
 
 -- an entry of the exception table, those in front of it being sound

@@ -14,7 +14,7 @@ use Rattle.verify.specs.declared.handlers.Handlers.{Handlers}
 use Rattle.verify.specs.declared.handlers.Missing.{Missing}
 use Rattle.verify.specs.TypeSafety.{Frames}
 use Rattle.verify.specs.Verdict.{handler_conditions}
-use Rattle.verify.specs.Steps.{Judges}
+use Rattle.rules.specs.Outcomes.{Judges}
 use Rattle.verify.specs.ExceptionTables.{entry_view}
 use Rattle.verify.specs.Catching.{caught_answer}
 

@@ -21,7 +21,7 @@ use Rattle.verify.specs.Verdict.{MapRefusal, unreadable, undeclared, refused, ma
 pub record IsTypeSafeUpTo (plan : Plans) (classes : List ClassFact) (m : Method Act) (frames : Frames) (table : ℕ → FrameFact) (to : ℕ) : Type 0 where
   pub first : Comes classes frames table (initial_frame m) 0
   pub at_declared : (at : ℕ) (f : FrameFact) → IsStart m.code at → at ≤ to → at_offset frames at ≡ Some f → table at ≡ f
-  pub each : (at : ℕ) (act : Act) → at < to → at_offset m.code at ≡ Some act → IsTypeSafeAt classes m frames table at (plan m act)
+  pub each : (at : ℕ) (act : Act) → at < to → at_offset m.code at ≡ Some act → IsTypeSafeAt classes m frames table at act (plan m act)
 
 -- The method is type-safe up to this instruction.
 pub record Reaches (plan : Plans) (classes : List ClassFact) (m : Method Act) (frames : Frames) (at : ℕ) : Type 0 where
@@ -33,14 +33,14 @@ pub record Reaches (plan : Plans) (classes : List ClassFact) (m : Method Act) (f
 -- The instruction breaks a condition that is not on the frame at its next start; of those that hold the reason is the least.
 pub record BreaksRule (plan : Plans) (classes : List ClassFact) (m : Method Act) (frames : Frames) (at : ℕ) (why : Reason) : Type 0 where
   pub reached : Reaches plan classes m frames at
-  pub told : least (at_conditions classes m frames at (plan m reached.act) (next_offset m.code at) (reached.table at)) ≡ Some why
+  pub told : least (at_conditions classes m frames at reached.act (plan m reached.act) (next_offset m.code at) (reached.table at)) ≡ Some why
 
 -- The instruction before meets all conditions but that on the frame at its next start, and this is the reason against that.
 pub record BreaksFrame (plan : Plans) (classes : List ClassFact) (m : Method Act) (frames : Frames) (at : ℕ) (why : Reason) : Type 0 where
   pub before : ℕ
   pub reached : Reaches plan classes m frames before
   pub next : next_offset m.code before ≡ Some at
-  pub fine : NoneHolds (at_conditions classes m frames before (plan m reached.act) (Some at) (reached.table before))
+  pub fine : NoneHolds (at_conditions classes m frames before reached.act (plan m reached.act) (Some at) (reached.table before))
   pub told :
       entry classes (falls (plan m reached.act)) (after m before (plan m reached.act) (reached.table before)) (at_offset frames at) ≡ Some why
 

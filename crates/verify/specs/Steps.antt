@@ -23,10 +23,6 @@ abbrev pub verify_fault_number : VerifyFault → ℕ
 verify_fault_number faults.OutOfMemory = 1
 verify_fault_number faults.NotInHierarchy = 80
 
--- none of the conditions holds; or this is the least reason, or want of memory
-pub record Judges (cs : Conditions) (r : Result Unit Reason) : Type 0 where
-  pub outcome : MatchResult r (λ _. least cs ≡ None) (λ e. (e ≡ OutOfMemory) ⊎ (least cs ≡ Some (reason_view e)))
-
 -- a frame comes to a start, where this one is declared, and this one goes on; or this is the reason against it, or want of memory
 pub record Enters (classes : List ClassFact) (falls : Bool) (f : FrameFact) (declared : Option FrameFact) (now : FrameFact)
     (r : Result Unit Reason) : Type 0 where

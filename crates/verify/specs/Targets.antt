@@ -7,7 +7,7 @@ use Rattle.verify.specs.declared.place_set.PlaceSet.{PlaceSet}
 use Rattle.verify.specs.PlaceSets.{has}
 use Rattle.verify.specs.TypeSafety.{Frames}
 use Rattle.verify.specs.Verdict.{declared_at, one_target}
-use Rattle.verify.specs.Steps.{Judges}
+use Rattle.rules.specs.Outcomes.{Judges}
 
 -- the frame that is declared at a target stands there in the list
 pub record IsPlace (frames : Frames) (target : ℤ) (place : ℕ) (f : FrameFact) : Type 0 where

@@ -19,6 +19,7 @@ use Rattle.rules.specs.Table as tables
 use Rattle.rules.specs.Table.{Plans}
 use Rattle.rules.specs.After.{with_stack, after}
 use Rattle.rules.specs.Rules.{constructs_own, conditions}
+use Rattle.rules.specs.Protected.{member_conditions}
 use Rattle.verify.specs.InitialFrames.{initial_types, initial_frame}
 
 -- ---- declared frames
@@ -70,8 +71,10 @@ pub record IsSoundEntry (classes : List ClassFact) (m : Method Act) (frames : Fr
 
 -- ---- an instruction in the frame before it
 
-pub record IsTypeSafeAt (classes : List ClassFact) (m : Method Act) (frames : Frames) (table : ℕ → FrameFact) (at : ℕ) (p : Plan) : Type 0 where
+pub record IsTypeSafeAt (classes : List ClassFact) (m : Method Act) (frames : Frames) (table : ℕ → FrameFact) (at : ℕ) (act : Act) (p : Plan) : Type 0 where
   pub rule : NoneHolds (conditions classes m at p (table at))
+  -- a member that is protected, of another package and of a class above the current one, is used on objects of the current class (4.10.1.8)
+  pub protected : NoneHolds (member_conditions classes m act (table at))
   pub leads : (target : ℤ) → IsAmong target (targets at p) → LeadsToTarget classes frames (after m at p (table at)) target
   pub next : falls p ≡ true → (to : ℕ) × (next_offset m.code at ≡ Some to) × Comes classes frames table (after m at p (table at)) to
   -- behind an instruction that does not fall through a frame is declared
@@ -94,7 +97,7 @@ pub record IsTypeSafeBy (plan : Plans) (classes : List ClassFact) (m : Method Ac
   pub table : ℕ → FrameFact
   pub first : Comes classes frames table (initial_frame m) 0
   pub at_declared : (at : ℕ) (f : FrameFact) → at_offset frames at ≡ Some f → table at ≡ f
-  pub each : (at : ℕ) (act : Act) → at_offset m.code at ≡ Some act → IsTypeSafeAt classes m frames table at (plan m act)
+  pub each : (at : ℕ) (act : Act) → at_offset m.code at ≡ Some act → IsTypeSafeAt classes m frames table at act (plan m act)
 
 abbrev pub IsTypeSafe : List ClassFact → Method Act → Type 0
 IsTypeSafe = IsTypeSafeBy tables.plan

@@ -25,6 +25,7 @@ use Rattle.rules.specs.Plans.{Plan, falls, targets}
 use Rattle.rules.specs.Table.{Plans}
 use Rattle.rules.specs.After.{after}
 use Rattle.rules.specs.Rules.{constructs_own, conditions}
+use Rattle.rules.specs.Protected.{member_conditions}
 use Rattle.verify.specs.InitialFrames.{initial_types, initial_frame}
 use Rattle.verify.specs.TypeSafety.{Frames, caught_frame}
 
@@ -134,12 +135,16 @@ abbrev pub is_covered : List ExceptionEntry → ℕ → Bool
 is_covered [] at = false
 is_covered (e ∷ es) at = covers e at || is_covered es at
 
--- by its plan, with the next start if there is one
-abbrev pub at_conditions : List ClassFact → Method Act → Frames → ℕ → Plan → Option ℕ → FrameFact → Conditions
-at_conditions classes m frames at p next f =
+-- what is asked of the frame before besides the rule's plan: of the object on which a protected member is used, and of the handlers
+abbrev pub before_conditions : List ClassFact → Method Act → Frames → ℕ → Act → FrameFact → Conditions
+before_conditions classes m frames at act f = member_conditions classes m act f ++ handler_conditions classes frames at f m.exceptions
+
+-- by its act and its plan, with the next start if there is one. No act both branches and uses a member of an object.
+abbrev pub at_conditions : List ClassFact → Method Act → Frames → ℕ → Act → Plan → Option ℕ → FrameFact → Conditions
+at_conditions classes m frames at act p next f =
     conditions classes m at p f
     ++ (target_conditions classes frames (after m at p f) (targets at p)
-    ++ (handler_conditions classes frames at f m.exceptions
+    ++ (before_conditions classes m frames at act f
     ++ ((reason falls_off, falls p && is_none next) ∷ (reason constructor_covered, constructs_own p f && is_covered m.exceptions at) ∷ [])))
 
 -- ---- the frame that comes to a start, where the instruction in front falls through, and the one that goes on
@@ -166,7 +171,7 @@ arrives classes frames (c ∷ cs) falls f goes_on =
 abbrev pub passes : Plans → List ClassFact → Method Act → Frames → List (ℕ × Act) → FrameFact → Verdict
 passes plan classes m frames [] f = verified
 passes plan classes m frames (c ∷ cs) f =
-    refused_or (least (at_conditions classes m frames c.0 (plan m c.1) (first_offset cs) f)) c.0
+    refused_or (least (at_conditions classes m frames c.0 c.1 (plan m c.1) (first_offset cs) f)) c.0
     (arrives classes frames cs (falls (plan m c.1)) (after m c.0 (plan m c.1) f) (passes plan classes m frames cs))
 
 abbrev pub code_judged : Plans → List ClassFact → Method Act → Frames → Verdict

@@ -5,17 +5,17 @@ ghost use Rattle.insn.specs.Offsets.{led_to};
 ghost use Rattle.frames.specs.DeclaredTables.{frames_in, locals_in, declared_view, IsOf};
 ghost use Rattle.rules.specs.Held.{held};
 ghost use Rattle.verify.specs.Verdict.{declared_at, target_conditions};
-ghost use Rattle.verify.specs.Steps.{Judges};
+ghost use Rattle.rules.specs.Outcomes.{Judges};
 ghost use Rattle.verify.specs.Targets.{IsPlace, Compares};
 ghost use Rattle.verify.specs.Keeping.{IsKnown};
 
-use crate::flow::{check_answer, together};
+use crate::flow::check_answer;
 use crate::keeping::Known;
 use crate::place_set::PlaceSet;
 use frames::{Declared, DeclaredFrames};
 use hierarchy::Classes;
 use insn::{BranchTargets, Branches};
-use rules::{Reason, Working};
+use rules::{Reason, Working, together};
 
 /// Whether a target is behind the last frame that is declared.
 fn is_behind(frames: &DeclaredFrames<'_>, target: i64) -> bool

@@ -8,7 +8,7 @@ ghost use Rattle.frames.specs.DeclaredTables.{frames_in};
 ghost use Rattle.frames.specs.MarkedCode.{code_in};
 ghost use Rattle.rules.specs.Bodies.{method_view};
 ghost use Rattle.verify.specs.Verdict.{is_end, table_conditions};
-ghost use Rattle.verify.specs.Steps.{Judges};
+ghost use Rattle.rules.specs.Outcomes.{Judges};
 ghost use Rattle.verify.specs.ExceptionTables.{entry_view, IsEntry, AreNumbered, has_places, JudgesTable};
 
 use crate::flow::check_answer;

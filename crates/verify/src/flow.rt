@@ -6,7 +6,8 @@ ghost use Rattle.frames.specs.DeclaredTables.{declared_view, IsOf};
 ghost use Rattle.rules.specs.Held.{held};
 ghost use Rattle.rules.specs.Reasons.{reason_number, reason_view};
 ghost use Rattle.verify.specs.Verdict.{answer_conditions};
-ghost use Rattle.verify.specs.Steps.{Judges, Enters};
+ghost use Rattle.rules.specs.Outcomes.{Judges};
+ghost use Rattle.verify.specs.Steps.{Enters};
 ghost use Rattle.verify.specs.Keeping.{IsKnown};
 
 use crate::keeping::Known;
@@ -67,32 +68,4 @@ pub fn check_end<'a>(falls: bool, last: bool, covered: bool) -> Result<(), Reaso
         return Err(Reason::ConstructorCovered);
     }
     Ok(())
-}
-
-/// The lesser of two reasons, if there is another.
-pub fn first_reason<'a>(one: Reason<'a>, other: Result<(), Reason<'a>>) -> Reason<'a>
-    ensures { (cs ds : Conditions) → Judges cs (Err one.entry) → Judges ds other.entry → Judges (cs ++ ds) (Err result) }
-{
-    match other {
-        Ok(()) => one,
-        Err(another) => if another.number() < one.number() {
-            another
-        } else {
-            one
-        },
-    }
-}
-
-/// The judgement of two lists of conditions taken together.
-pub fn together<'a>(
-    one: Result<(), Reason<'a>>,
-    other: Result<(), Reason<'a>>,
-) -> Result<(), Reason<'a>>
-    ensures judged { (cs ds : Conditions) → Judges cs one.entry → Judges ds other.entry → Judges (cs ++ ds) result }
-    ensures both { OnOk result (IsOk one.entry × IsOk other.entry) }
-{
-    match one {
-        Ok(()) => other,
-        Err(reason) => Err(first_reason(reason, other)),
-    }
 }

@@ -13,37 +13,38 @@ ghost use Rattle.rules.specs.Rules.{constructs_own};
 ghost use Rattle.classfile.specs.Methods.{ExceptionEntry};
 ghost use Rattle.hierarchy.specs.Class.{ClassFact};
 ghost use Rattle.rules.specs.Bodies.{method_view};
-ghost use Rattle.rules.specs.Outcomes.{Done};
+ghost use Rattle.rules.specs.Outcomes.{Done, Judges};
 ghost use Rattle.rules.specs.Held.{held};
 ghost use Rattle.rules.specs.Naming.{IsNamed};
 ghost use Rattle.rules.specs.Ways.{goes_on};
 ghost use Rattle.verify.specs.InitialFrames.{initial_frame};
-ghost use Rattle.verify.specs.Verdict.{handler_conditions, at_conditions, code_judged, is_covered};
-ghost use Rattle.verify.specs.Steps.{Enters, Judges, Gives};
+ghost use Rattle.verify.specs.Verdict.{at_conditions, before_conditions, code_judged, is_covered};
+ghost use Rattle.verify.specs.Steps.{Enters, Gives};
 ghost use Rattle.verify.specs.Keeping.{IsKnown};
 ghost use Rattle.verify.specs.Handling.{AreAhead, Follows};
 ghost use Rattle.verify.specs.TypeSafety.{Frames};
 
 use crate::branching::check_targets;
-use crate::flow::{check_end, enter, first_reason, together};
+use crate::flow::{check_end, enter};
 use crate::handlers::Handlers;
 use crate::keeping::Known;
 use crate::place_set::PlaceSet;
 use crate::refusal::refuse;
 use crate::verdict::{Verdict, VerifyFault};
-use classfile::{CodeMethod, OwnFields};
+use classfile::CodeMethod;
 use frames::{CodeStarts, DeclaredFrames};
 use hierarchy::Classes;
 use insn::{Act, Instructions};
 use pool::Descriptors;
 use rules::{
-    Named, Reason, Working, branches_by, constructs_own, goes_on, is_plain, keeps_locals, named_by,
-    run, run_plain,
+    Members, Named, Reason, Working, branches_by, check_member, constructs_own, first_reason,
+    goes_on, is_plain, keeps_locals, run, run_plain, together,
 };
 use std::alloc::{AllocError, Global};
 
 /// Judges an instruction that names this, in the frame before it, which becomes the frame after. Of the frame at the next start nothing is
-/// asked. What is caught in the frame before was judged. What is known of locals is known of the frame after.
+/// asked. The frame before was judged by the object on which a protected member is used, and by what is caught in it. What is known of locals is
+/// known of the frame after.
 fn judge_named<'n, 'a, C: Classes>(
     alloc: Global,
     method: &CodeMethod<'_, 'a>,
@@ -53,7 +54,7 @@ fn judge_named<'n, 'a, C: Classes>(
     named: &Named<'a>,
     falls: bool,
     last: bool,
-    caught: Result<(), Reason<'a>>,
+    before: Result<(), Reason<'a>>,
     covered: bool,
     frames: &'n DeclaredFrames<'a>,
     known: &mut Known<'n, 'a>,
@@ -66,17 +67,17 @@ fn judge_named<'n, 'a, C: Classes>(
     requires declared { locals_in frames.now ≡ method.now.code.now.max_locals }
     requires named { IsNamed (method_view method.now) (act_view act) named.now }
     requires known { let m = method_view method.now in IsKnown (C.content classes.now) frames.now (after m at (plan m (act_view act)) (held frame.old)) known.old }
-    requires caught { let m = method_view method.now in Judges (handler_conditions (C.content classes.now) (frames_in frames.now) at (held frame.old) m.exceptions) caught }
+    requires before { Judges (before_conditions (C.content classes.now) (method_view method.now) (frames_in frames.now) at (act_view act) (held frame.old)) before }
     requires covered { let m = method_view method.now in covered ≡ (constructs_own (plan m (act_view act)) (held frame.old) && is_covered m.exceptions at) }
     requires falls { falls ≡ goes_on (act_view act) }
     ensures known { OnOk result (IsKnown (C.content classes.now) frames.now (held frame.new) known.new) }
     ensures judged { (next : Option ℕ) → is_none next ≡ last →
         let m = method_view method.now in let f = held frame.old in
-        let p = plan m (act_view act.entry) in
-        Done (at_conditions (C.content classes.now) m (frames_in frames.now) at p next f) (after m at p f) (held frame.new) result }
-    ensures caught { OnOk result (IsOk caught.entry) }
+        let a = act_view act.entry in let p = plan m a in
+        Done (at_conditions (C.content classes.now) m (frames_in frames.now) at a p next f) (after m at p f) (held frame.new) result }
+    ensures before { OnOk result (IsOk before.entry) }
 {
-    let aside = together(caught, check_end(falls, last, covered));
+    let aside = together(before, check_end(falls, last, covered));
     let branches = branches_by(&act);
     match run(alloc, method, starts, at, act, named, frame, classes) {
         Ok(()) => together(
@@ -160,8 +161,8 @@ fn covers_constructor<'a>(
     handlers.covers(at)
 }
 
-/// Judges an instruction in the frame before it, which becomes the frame after: by its rule, its targets, and the handlers of the entries that
-/// cover it. What is known of locals, and the handlers that were compared, are so of the frame after.
+/// Judges an instruction in the frame before it, which becomes the frame after: by its rule, the protected member that it uses, its targets, and
+/// the handlers of the entries that cover it. What is known of locals, and the handlers that were compared, are so of the frame after.
 #[inline(never)]
 fn judge_wholly<'n, 'a, C: Classes>(
     alloc: Global,
@@ -171,7 +172,7 @@ fn judge_wholly<'n, 'a, C: Classes>(
     act: Act<'a>,
     last: bool,
     constants: &mut Descriptors<'_, 'a>,
-    fields: &mut OwnFields<'_, 'a>,
+    members: &mut Members<'_, '_, 'a, C>,
     frames: &'n DeclaredFrames<'a>,
     known: &mut Known<'n, 'a>,
     seen: &mut PlaceSet,
@@ -180,25 +181,27 @@ fn judge_wholly<'n, 'a, C: Classes>(
     classes: &C,
 ) -> Result<(), Reason<'a>>
     requires constants { constants.old ≡ method.now.class.now.constant_pool }
-    requires fields { fields.old ≡ method.now.class.now }
+    requires members { members.old ≡ record { class = method.now.class.now; classes = C.content classes.now } }
     requires locals { length (held frame.old).locals ≡ method.now.code.now.max_locals }
     requires starts { code_in starts.now ≡ method.now.code.now.code.now }
     requires declared { locals_in frames.now ≡ method.now.code.now.max_locals }
     requires known { IsKnown (C.content classes.now) frames.now (held frame.old) known.old }
     requires handlers { let m = method_view method.now in Follows (C.content classes.now) (frames_in frames.now) m.exceptions at (held frame.old) handlers.old }
     ensures same { constants.new ≡ constants.old }
-    ensures same_fields { fields.new ≡ fields.old }
+    ensures same_members { members.new ≡ members.old }
     ensures judged { (next : Option ℕ) → is_none next ≡ last →
         let m = method_view method.now in let f = held frame.old in
-        let p = plan m (act_view act.entry) in
-        Done (at_conditions (C.content classes.now) m (frames_in frames.now) at p next f) (after m at p f) (held frame.new) result }
+        let a = act_view act.entry in let p = plan m a in
+        Done (at_conditions (C.content classes.now) m (frames_in frames.now) at a p next f) (after m at p f) (held frame.new) result }
     ensures known { OnOk result (IsKnown (C.content classes.now) frames.now (held frame.new) known.new) }
     ensures handlers { let m = method_view method.now in OnOk result (Follows (C.content classes.now) (frames_in frames.now) m.exceptions at (held frame.new) handlers.new) }
 {
     handlers.come_to(at)?;
-    let named = named_by(constants, fields, method, &act)?;
+    let named = members.named(constants, method, &act)?;
     let covered = covers_constructor(method, at, &act, &named, handlers, frame)?;
+    let used = check_member(method, &act, &named, members, frame, classes);
     let caught = handlers.catch(at, frame, frames, known, classes);
+    let before = together(used, caught);
     known.behind(&act, frame)?;
     handlers.behind(keeps_locals(&act))?;
     judge_named(
@@ -210,7 +213,7 @@ fn judge_wholly<'n, 'a, C: Classes>(
         &named,
         goes_on(&act),
         last,
-        caught,
+        before,
         covered,
         frames,
         known,
@@ -229,7 +232,7 @@ fn judge<'n, 'a, C: Classes>(
     act: &Act<'a>,
     last: bool,
     constants: &mut Descriptors<'_, 'a>,
-    fields: &mut OwnFields<'_, 'a>,
+    members: &mut Members<'_, '_, 'a, C>,
     frames: &'n DeclaredFrames<'a>,
     known: &mut Known<'n, 'a>,
     seen: &mut PlaceSet,
@@ -238,18 +241,18 @@ fn judge<'n, 'a, C: Classes>(
     classes: &C,
 ) -> Result<(), Reason<'a>>
     requires constants { constants.old ≡ method.now.class.now.constant_pool }
-    requires fields { fields.old ≡ method.now.class.now }
+    requires members { members.old ≡ record { class = method.now.class.now; classes = C.content classes.now } }
     requires locals { length (held frame.old).locals ≡ method.now.code.now.max_locals }
     requires starts { code_in starts.now ≡ method.now.code.now.code.now }
     requires declared { locals_in frames.now ≡ method.now.code.now.max_locals }
     requires known { IsKnown (C.content classes.now) frames.now (held frame.old) known.old }
     requires handlers { let m = method_view method.now in Follows (C.content classes.now) (frames_in frames.now) m.exceptions at (held frame.old) handlers.old }
     ensures same { constants.new ≡ constants.old }
-    ensures same_fields { fields.new ≡ fields.old }
+    ensures same_members { members.new ≡ members.old }
     ensures judged { (next : Option ℕ) → is_none next ≡ last →
         let m = method_view method.now in let f = held frame.old in
-        let p = plan m (act_view act.now) in
-        Done (at_conditions (C.content classes.now) m (frames_in frames.now) at p next f) (after m at p f) (held frame.new) result }
+        let a = act_view act.now in let p = plan m a in
+        Done (at_conditions (C.content classes.now) m (frames_in frames.now) at a p next f) (after m at p f) (held frame.new) result }
     ensures known { OnOk result (IsKnown (C.content classes.now) frames.now (held frame.new) known.new) }
     ensures handlers { let m = method_view method.now in OnOk result (Follows (C.content classes.now) (frames_in frames.now) m.exceptions at (held frame.new) handlers.new) }
 {
@@ -259,7 +262,7 @@ fn judge<'n, 'a, C: Classes>(
         return run_plain(method, act, frame, classes);
     }
     judge_wholly(
-        alloc, method, starts, at, *act, last, constants, fields, frames, known, seen, handlers,
+        alloc, method, starts, at, *act, last, constants, members, frames, known, seen, handlers,
         frame, classes,
     )
 }
@@ -274,12 +277,12 @@ pub fn pass<'a, C: Classes>(
     handlers: &mut Handlers<'a>,
     seen: &mut PlaceSet,
     constants: &mut Descriptors<'_, 'a>,
-    fields: &mut OwnFields<'_, 'a>,
+    members: &mut Members<'_, '_, 'a, C>,
     frame: &mut Working<'a>,
     classes: &C,
 ) -> Result<Verdict<'a>, VerifyFault>
     requires constants { constants.old ≡ method.now.class.now.constant_pool }
-    requires fields { fields.old ≡ method.now.class.now }
+    requires members { members.old ≡ record { class = method.now.class.now; classes = C.content classes.now } }
     requires initial { held frame.old ≡ initial_frame (method_view method.now) }
     requires locals { length (held frame.old).locals ≡ method.now.code.now.max_locals }
     requires starts { code_in starts.now ≡ method.now.code.now.code.now }
@@ -288,7 +291,7 @@ pub fn pass<'a, C: Classes>(
     requires spelled { (xs : List (ℕ × Instruction)) × SpellsCode 0 method.now.code.now.code.now xs }
     requires few { length method.now.code.now.code.now ≤ MAX_CODE_BYTES }
     ensures same { constants.new ≡ constants.old }
-    ensures same_fields { fields.new ≡ fields.old }
+    ensures same_members { members.new ≡ members.old }
     ensures judged { Gives (code_judged plan (C.content classes.now) (method_view method.now) (frames_in frames.now)) result }
 {
     let mut code = Instructions::new(method.code.code);
@@ -303,7 +306,7 @@ pub fn pass<'a, C: Classes>(
         let last = code.is_at_end();
         comes = goes_on(&act);
         let judged = judge(
-            alloc, method, starts, at, &act, last, constants, fields, frames, &mut known, seen,
+            alloc, method, starts, at, &act, last, constants, members, frames, &mut known, seen,
             handlers, frame, classes,
         );
         if let Err(reason) = judged {

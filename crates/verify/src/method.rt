@@ -29,12 +29,12 @@ use crate::place_set::PlaceSet;
 use crate::refusal::{refuse, refuse_code};
 use crate::stack_maps::declared_frames;
 use crate::verdict::{Verdict, VerifyFault};
-use classfile::{CodeMethod, Formed, OwnFields};
+use classfile::{CodeMethod, Formed};
 use frames::{CodeStarts, DeclaredFrames};
 use hierarchy::Classes;
 use names::{FieldType, MethodType, method_type};
 use pool::Descriptors;
-use rules::{Reason, Working};
+use rules::{Members, Reason, Working};
 use std::alloc::Global;
 
 /// The types that a method's descriptor names. The only refusal is want of memory.
@@ -56,12 +56,12 @@ fn judge_code<'a, C: Classes>(
     starts: &CodeStarts<'_>,
     frames: &DeclaredFrames<'a>,
     constants: &mut Descriptors<'_, 'a>,
-    fields: &mut OwnFields<'_, 'a>,
+    members: &mut Members<'_, '_, 'a, C>,
     frame: &mut Working<'a>,
     classes: &C,
 ) -> Result<Verdict<'a>, VerifyFault>
     requires constants { constants.old ≡ method.now.class.now.constant_pool }
-    requires fields { fields.old ≡ method.now.class.now }
+    requires members { members.old ≡ record { class = method.now.class.now; classes = C.content classes.now } }
     requires initial { held frame.old ≡ initial_frame (method_view method.now) }
     requires locals { length (held frame.old).locals ≡ method.now.code.now.max_locals }
     requires starts { code_in starts.now ≡ method.now.code.now.code.now }
@@ -69,7 +69,7 @@ fn judge_code<'a, C: Classes>(
     requires spelled { (xs : List (ℕ × Instruction)) × SpellsCode 0 method.now.code.now.code.now xs }
     requires few { length method.now.code.now.code.now ≤ MAX_CODE_BYTES }
     ensures same { constants.new ≡ constants.old }
-    ensures same_fields { fields.new ≡ fields.old }
+    ensures same_members { members.new ≡ members.old }
     ensures judged { let m = method_view method.now in Gives (with_frames plan (C.content classes.now) m (Ok (frames_in frames.now))) result }
 {
     let table = exceptions(alloc, method)?;
@@ -87,7 +87,7 @@ fn judge_code<'a, C: Classes>(
         &mut handlers,
         &mut seen,
         constants,
-        fields,
+        members,
         frame,
         classes,
     )
@@ -101,18 +101,18 @@ fn judge_body<'a, C: Classes>(
     starts: &CodeStarts<'_>,
     parameters: &[FieldType<'a>],
     constants: &mut Descriptors<'_, 'a>,
-    fields: &mut OwnFields<'_, 'a>,
+    members: &mut Members<'_, '_, 'a, C>,
     frame: &mut Working<'a>,
     classes: &C,
 ) -> Result<Verdict<'a>, VerifyFault>
     requires constants { constants.old ≡ method.now.class.now.constant_pool }
-    requires fields { fields.old ≡ method.now.class.now }
+    requires members { members.old ≡ record { class = method.now.class.now; classes = C.content classes.now } }
     requires starts { code_in starts.now ≡ method.now.code.now.code.now }
     requires parameters { (method_view method.now).type.params ≡ map type_of parameters.now }
     requires spelled { (xs : List (ℕ × Instruction)) × SpellsCode 0 method.now.code.now.code.now xs }
     requires few { length method.now.code.now.code.now ≤ MAX_CODE_BYTES }
     ensures same { constants.new ≡ constants.old }
-    ensures same_fields { fields.new ≡ fields.old }
+    ensures same_members { members.new ≡ members.old }
     ensures judged { Gives (verdict plan (C.content classes.now) (method_view method.now)) result }
 {
     let max_locals = method.code.max_locals;
@@ -127,7 +127,7 @@ fn judge_body<'a, C: Classes>(
     };
     frame.start(&locals, max_locals, begins_uninitialized(method))?;
     judge_code(
-        alloc, method, starts, &frames, constants, fields, frame, classes,
+        alloc, method, starts, &frames, constants, members, frame, classes,
     )
 }
 
@@ -136,16 +136,16 @@ fn verify_code<'a, C: Classes>(
     alloc: Global,
     method: CodeMethod<'_, 'a>,
     constants: &mut Descriptors<'_, 'a>,
-    fields: &mut OwnFields<'_, 'a>,
+    members: &mut Members<'_, '_, 'a, C>,
     frame: &mut Working<'a>,
     classes: &C,
 ) -> Result<Verdict<'a>, VerifyFault>
     requires constants { constants.old ≡ method.class.now.constant_pool }
-    requires fields { fields.old ≡ method.class.now }
+    requires members { members.old ≡ record { class = method.class.now; classes = C.content classes.now } }
     requires formed { WellFormed (class_view method.class.now) }
     requires coded { code_at (class_view method.class.now) method.number ≡ Some (code_view method.code.now) }
     ensures same { constants.new ≡ constants.old }
-    ensures same_fields { fields.new ≡ fields.old }
+    ensures same_members { members.new ≡ members.old }
     ensures answered { AnswersCode (C.content classes.now) (class_view method.entry.class.now) method.entry.number result }
 {
     let starts = match CodeStarts::new(alloc, method.code.code) {
@@ -159,7 +159,7 @@ fn verify_code<'a, C: Classes>(
         &starts,
         &types.params,
         constants,
-        fields,
+        members,
         frame,
         classes,
     )
@@ -171,22 +171,22 @@ pub fn verify_listed<'a, C: Classes>(
     formed: &Formed<'_, 'a>,
     number: usize,
     constants: &mut Descriptors<'_, 'a>,
-    fields: &mut OwnFields<'_, 'a>,
+    members: &mut Members<'_, '_, 'a, C>,
     frame: &mut Working<'a>,
     classes: &C,
 ) -> Result<Verdict<'a>, VerifyFault>
     requires constants { constants.old ≡ formed.now.class.now.constant_pool }
-    requires fields { fields.old ≡ formed.now.class.now }
+    requires members { members.old ≡ record { class = formed.now.class.now; classes = C.content classes.now } }
     requires within { number < length formed.now.class.now.methods.items }
     requires listed { IsListed (C.content classes.now) (class_view formed.now.class.now) }
     ensures same { constants.new ≡ constants.old }
-    ensures same_fields { fields.new ≡ fields.old }
+    ensures same_members { members.new ≡ members.old }
     ensures answered { Answers (C.content classes.now) (class_view formed.now.class.now) number result }
 {
     formed.class();
     match formed.method(number) {
         None => Ok(Verdict::NoCode),
-        Some(method) => verify_code(alloc, method, constants, fields, frame, classes),
+        Some(method) => verify_code(alloc, method, constants, members, frame, classes),
     }
 }
 
@@ -200,7 +200,8 @@ pub fn verify_listed<'a, C: Classes>(
 /// - 72 or 77 at 0: an entry of the exception table is refused, the first one by the frames that are declared and by what it catches;
 /// - at the first instruction that is refused: 69 or 77 where the frame that comes in is not assignable to the one that is declared
 ///   there, 70 where none comes and none is declared; then the least number that holds of what its rule refuses (60 to 66, 74, 76, 77), 67,
-///   68 and 77 for its targets, 73 and 77 for the handlers of the entries that cover it, and 71 where the last one goes on.
+///   68 and 77 for its targets, 77 and 82 for the protected member that it uses, 73 and 77 for the handlers of the entries that cover it, and 71
+///   where the last one goes on.
 ///
 /// Before all that, 80 where the hierarchy has no class with exactly this class's summary; and 1 where memory ran out.
 pub fn verify_method<'a, C: Classes>(
@@ -223,13 +224,13 @@ pub fn verify_method<'a, C: Classes>(
     let mut frame = Working::new(alloc, 0, false);
     let class = formed.class();
     let mut constants = Descriptors::new(alloc, &class.constant_pool);
-    let mut fields = OwnFields::new(alloc, class);
+    let mut members = Members::new(alloc, class, classes);
     verify_listed(
         alloc,
         formed,
         number,
         &mut constants,
-        &mut fields,
+        &mut members,
         &mut frame,
         classes,
     )

@@ -11,12 +11,12 @@ use crate::final_super::has_final_super;
 use crate::listing::has_summary;
 use crate::method::verify_listed;
 use crate::verdict::{Verdict, VerifyFault};
-use classfile::{FormFault, FormRule, Formed, OwnFields, Place, decode, form_check};
+use classfile::{FormFault, FormRule, Formed, Place, decode, form_check};
 use hierarchy::{Classes, summary_of};
 use layout::ReadFault;
 use names::Text;
 use pool::Descriptors;
-use rules::Working;
+use rules::{Members, Working};
 use std::alloc::{AllocError, Global};
 use thiserror::Error;
 
@@ -74,17 +74,17 @@ fn report_on<'a, C: Classes>(
     formed: &Formed<'_, 'a>,
     number: usize,
     constants: &mut Descriptors<'_, 'a>,
-    fields: &mut OwnFields<'_, 'a>,
+    members: &mut Members<'_, '_, 'a, C>,
     frame: &mut Working<'a>,
     classes: &C,
 ) -> Result<MethodVerdict<'a>, VerifyFault>
     requires constants { constants.old ≡ formed.now.class.now.constant_pool }
-    requires fields { fields.old ≡ formed.now.class.now }
+    requires members { members.old ≡ record { class = formed.now.class.now; classes = C.content classes.now } }
     requires number { number < length formed.now.class.now.methods.items }
     requires hierarchy { IsHierarchy (C.content classes.now) }
     requires listed { IsListed (C.content classes.now) (class_view formed.now.class.now) }
     ensures same { constants.new ≡ constants.old }
-    ensures same_fields { fields.new ≡ fields.old }
+    ensures same_members { members.new ≡ members.old }
     ensures found { IfOk result (IsReported (C.content classes.now) (class_view formed.now.class.now) number) }
     ensures memory { IfErr result (λ e. e ≡ OutOfMemory) }
 {
@@ -93,7 +93,7 @@ fn report_on<'a, C: Classes>(
     let pool = &class.constant_pool;
     let name = pool.text(member.name).unwrap();
     let descriptor = pool.text(member.descriptor).unwrap();
-    match verify_listed(alloc, formed, number, constants, fields, frame, classes) {
+    match verify_listed(alloc, formed, number, constants, members, frame, classes) {
         Ok(verdict) => Ok(MethodVerdict {
             name,
             descriptor,
@@ -118,14 +118,14 @@ pub fn report_listed<'a, C: Classes>(
     let mut frame = Working::new(alloc, 0, false);
     let class = formed.class();
     let mut constants = Descriptors::new(alloc, &class.constant_pool);
-    let mut fields = OwnFields::new(alloc, class);
+    let mut members = Members::new(alloc, class, classes);
     for number in 0..class.methods.len() {
         let verdict = report_on(
             alloc,
             formed,
             number,
             &mut constants,
-            &mut fields,
+            &mut members,
             &mut frame,
             classes,
         )?;

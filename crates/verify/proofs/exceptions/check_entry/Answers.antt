@@ -6,7 +6,7 @@ use Rattle.frames.specs.DeclaredTables.{frames_in}
 use Rattle.rules.specs.Bodies.{method_view}
 use Rattle.verify.specs.ExceptionTables.{entry_view}
 use Rattle.verify.specs.Verdict.{answer_conditions}
-use Rattle.verify.specs.Steps.{Judges}
+use Rattle.rules.specs.Outcomes.{Judges}
 use Rattle.verify.proofs.TableEntries.{refuses_misplaced, judges_placed}
 use Rattle.verify.proofs.exceptions.check_entry.Goals as goal
 

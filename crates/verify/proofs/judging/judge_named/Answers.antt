@@ -7,11 +7,10 @@ use Rattle.rules.specs.After.{after}
 use Rattle.rules.specs.Rules.{conditions, constructs_own}
 use Rattle.rules.specs.Held.{held}
 use Rattle.rules.specs.Bodies.{method_view}
-use Rattle.rules.specs.Outcomes.{Done}
+use Rattle.rules.specs.Outcomes.{Done, Judges}
 use Rattle.rules.specs.Table.{plan}
 use Rattle.rules.specs.Ways.{goes_on, branch_offsets}
-use Rattle.verify.specs.Verdict.{target_conditions, handler_conditions, is_covered}
-use Rattle.verify.specs.Steps.{Judges}
+use Rattle.verify.specs.Verdict.{target_conditions, before_conditions, is_covered}
 use Rattle.verify.proofs.Onward.{keeps_length}
 use Rattle.verify.proofs.Going.{ways}
 use Rattle.verify.proofs.Ends.{done_ways, refused_end}
@@ -50,14 +49,14 @@ returns-in-Ok-clause-judged g c = λ next e.
     let ran = (subst (Done (conditions classes m c.args.at p f) (after m c.args.at p f) now) c.in-Ok.is c.run.ensures).outcome in
     let targets : Judges (target_conditions classes frames now (led_to c.args.at (branch_offsets a))) c.check_targets.result =
     subst (λ (z : List ℤ). Judges (target_conditions classes frames now (led_to c.args.at z)) c.check_targets.result) c.branches_by-branches.ensures c.check_targets.ensures.judged in
-    let caught = handler_conditions classes frames c.args.at f m.exceptions in
+    let before = before_conditions classes m frames c.args.at a f in
     let last = (reason 71, goes_on a && c.args.last) ∷ (reason 75, constructs_own p f && is_covered m.exceptions c.args.at) ∷ [] in
     let end : Judges ((reason 71, goes_on a && c.args.last) ∷ (reason 75, constructs_own p f && is_covered m.exceptions c.args.at) ∷ []) c.check_end.result =
     subst (λ z. Judges ((reason 71, z && c.args.last) ∷ (reason 75, constructs_own p f && is_covered m.exceptions c.args.at) ∷ []) c.check_end.result) c.requires.falls
     (subst (λ z. Judges ((reason 71, c.args.falls && c.args.last) ∷ (reason 75, z) ∷ []) c.check_end.result) c.requires.covered c.check_end.ensures) in
-    let aside = c.together-aside.ensures.judged caught last c.requires.caught end in
+    let aside = c.together-aside.ensures.judged before last c.requires.before end in
     done_ways classes m frames c.args.at f a p (ways m a) c.args.last next e now c.together.result ran.0 ran.1
-    (c.together.ensures.judged (target_conditions classes frames now (led_to c.args.at (branch_offsets a))) (caught ++ last) targets aside)
+    (c.together.ensures.judged (target_conditions classes frames now (led_to c.args.at (branch_offsets a))) (before ++ last) targets aside)
 
 pub returns-in-Err-clause-judged : goal.returns-in-Err-clause-judged
 returns-in-Err-clause-judged g c = λ next e.
@@ -69,11 +68,11 @@ returns-in-Err-clause-judged g c = λ next e.
     let now = held c.run.new.frame in
     let frames = frames_in c.args.frames.now in
     let ran = (subst (Done (conditions classes m c.args.at p f) (after m c.args.at p f) now) c.in-Err.is c.run.ensures).outcome in
-    let caught = handler_conditions classes frames c.args.at f m.exceptions in
+    let before = before_conditions classes m frames c.args.at a f in
     let last = (reason 71, goes_on a && c.args.last) ∷ (reason 75, constructs_own p f && is_covered m.exceptions c.args.at) ∷ [] in
     let end : Judges ((reason 71, goes_on a && c.args.last) ∷ (reason 75, constructs_own p f && is_covered m.exceptions c.args.at) ∷ []) c.check_end.result =
     subst (λ z. Judges ((reason 71, z && c.args.last) ∷ (reason 75, constructs_own p f && is_covered m.exceptions c.args.at) ∷ []) c.check_end.result) c.requires.falls
     (subst (λ z. Judges ((reason 71, c.args.falls && c.args.last) ∷ (reason 75, z) ∷ []) c.check_end.result) c.requires.covered c.check_end.ensures) in
-    let aside = c.together-aside.ensures.judged caught last c.requires.caught end in
+    let aside = c.together-aside.ensures.judged before last c.requires.before end in
     refused_end classes m frames c.args.at f a p (ways m a) c.args.last next e now c.in-Err.reason c.first_reason.result ran
-    (λ cs j. c.first_reason.ensures cs (caught ++ last) j aside)
+    (λ cs j. c.first_reason.ensures cs (before ++ last) j aside)

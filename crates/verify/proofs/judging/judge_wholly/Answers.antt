@@ -6,9 +6,10 @@ use Rattle.rules.specs.After.{after}
 use Rattle.rules.specs.Bodies.{method_view}
 use Rattle.rules.specs.Held.{held}
 use Rattle.rules.specs.Outcomes.{Done}
+use Rattle.rules.specs.Protected.{member_conditions}
 use Rattle.rules.specs.Table.{plan}
 use Rattle.verify.specs.Handling.{Follows}
-use Rattle.verify.specs.Verdict.{at_conditions}
+use Rattle.verify.specs.Verdict.{at_conditions, handler_conditions}
 use Rattle.verify.proofs.Comparing.{same_behind}
 use Rattle.verify.proofs.InTurn.{on_ok, when_ok}
 use Rattle.verify.proofs.judging.judge_wholly.Goals as goal
@@ -18,15 +19,16 @@ some_next : (last : Bool) → (next : Option ℕ) × (is_none next ≡ last)
 some_next true = (None, refl)
 some_next false = (Some 0, refl)
 
-pub judge_named-requires-clause-caught : goal.judge_named-requires-clause-caught
-judge_named-requires-clause-caught g c =
+pub judge_named-requires-clause-before : goal.judge_named-requires-clause-before
+judge_named-requires-clause-before g c =
     let classes = g.C.Classes.content c.args.classes.now in
     let m = method_view c.args.method.now in
     let frames = frames_in c.args.frames.now in
     let f = held c.args.frame.now in
     let arrived = c.in_ok-come_to.ensures classes frames m.exceptions f c.requires.handlers in
     let looked = c.in_ok-covered.ensures classes frames m.exceptions arrived.0 arrived.1 in
-    (c.catch-caught.ensures.caught m.exceptions looked.1 looked.2).judged
+    c.together-before.ensures.judged (member_conditions classes m (act_view c.args.act) f) (handler_conditions classes frames c.args.at f m.exceptions)
+    c.check_member-used.ensures.judged (c.catch-caught.ensures.caught m.exceptions looked.1 looked.2).judged
 
 pub judge_named-requires-clause-covered : goal.judge_named-requires-clause-covered
 judge_named-requires-clause-covered g c =
@@ -49,8 +51,9 @@ returns-clause-handlers g c =
     let arrived = c.in_ok-come_to.ensures classes frames m.exceptions f c.requires.handlers in
     let looked = c.in_ok-covered.ensures classes frames m.exceptions arrived.0 arrived.1 in
     on_ok c.judge_named.result (λ u is.
-    let done = subst (Done (at_conditions classes m frames c.args.at p next.0 f) (after m c.args.at p f) now) is (c.judge_named.ensures.judged next.0 next.1) in
-    let ok = subst (λ (r : Result Unit _). OnOk r (IsOk c.catch-caught.result)) is c.judge_named.ensures.caught in
-    let caught = when_ok (Follows classes frames m.exceptions c.args.at f c.catch-caught.new.self) c.catch-caught.result ok (c.catch-caught.ensures.caught m.exceptions looked.1 looked.2).followed in
+    let done = subst (Done (at_conditions classes m frames c.args.at (act_view c.args.act) p next.0 f) (after m c.args.at p f) now) is (c.judge_named.ensures.judged next.0 next.1) in
+    let ok = subst (λ (r : Result Unit _). OnOk r (IsOk c.together-before.result)) is c.judge_named.ensures.before in
+    let both = when_ok (IsOk c.check_member-used.result × IsOk c.catch-caught.result) c.together-before.result ok c.together-before.ensures.both in
+    let caught = when_ok (Follows classes frames m.exceptions c.args.at f c.catch-caught.new.self) c.catch-caught.result both.1 (c.catch-caught.ensures.caught m.exceptions looked.1 looked.2).followed in
     let same = λ (e : c.keeps_locals.result ≡ true). same_behind m c.args.at (act_view c.args.act) f now (sym c.keeps_locals.ensures ∙ e) done.outcome.1 in
     c.in_ok-behind-2.ensures classes frames m.exceptions c.args.at f now same caught)

@@ -35,7 +35,7 @@ loop-code-init g c =
       };
       locals = c.requires.locals;
       constants = refl;
-      fields = refl;
+      members = refl;
       known = c.in_ok-known.ensures (g.C.Classes.content c.args.classes.now) (held c.args.frame.now);
       handlers = subst (λ n. Follows classes frames m.exceptions n (held c.args.frame.now) c.args.handlers.now) (sym (ap (λ (p : Place). p.at) c.new-code.ensures)) c.requires.handlers;
     }
@@ -106,7 +106,7 @@ loop-code-preserved g c =
     let g1 = held c.arrive.new.frame in
     let next = first_offset (acts one.others) in
     let done = c.judge-judged.ensures.judged next (last_is c.take_act-act.new.self one.others one.read ∙ sym c.is_at_end-last.ensures) in
-    let well = subst (Done (at_conditions classes m frames x.0 (plan m a.1) next g1) (after m x.0 (plan m a.1) g1) (held c.judge-judged.new.frame)) c.in_default-judged.is done in
+    let well = subst (Done (at_conditions classes m frames x.0 a.1 (plan m a.1) next g1) (after m x.0 (plan m a.1) g1) (held c.judge-judged.new.frame)) c.in_default-judged.is done in
     let within = step_within c.loop-code.code c.take_act-act.new.self x (taken_at c.loop-code.code c.take_act-act.new.self c.at-at.result c.take_act-act.result c.at-at.ensures c.take_act-act.ensures) in
     record {
       left = record {
@@ -122,7 +122,7 @@ loop-code-preserved g c =
           keeps_length m x.0 (plan m a.1) g1 (held c.judge-judged.new.frame) c.args.method.now.code.now.max_locals
           (c.in_default.ensures.locals ∙ c.loop-code.invariant.locals) well.outcome.1;
       constants = c.judge-judged.ensures.same ∙ c.loop-code.invariant.constants;
-      fields = c.judge-judged.ensures.same_fields ∙ c.loop-code.invariant.fields;
+      members = c.judge-judged.ensures.same_members ∙ c.loop-code.invariant.members;
       known = c.in_default-judged.ensures.known;
       handlers =
           follows_later classes frames m.exceptions x.0 c.take_act-act.new.self.at (held c.judge-judged.new.frame) c.judge-judged.new.handlers

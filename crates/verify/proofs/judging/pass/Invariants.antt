@@ -16,7 +16,7 @@ invariant-loop-code g l = record {
       (code_judged plan (g.C.Classes.content l.classes) (method_view l.method) (frames_in l.frames));
   locals : length (held l.frame).locals ≡ l.method.code.now.max_locals;
   constants : l.constants ≡ l.fn.constants;
-  fields : l.fields ≡ l.fn.fields;
+  members : l.members ≡ l.fn.members;
   known : IsKnown (g.C.Classes.content l.classes) l.frames (held l.frame) l.known;
   handlers : Follows (g.C.Classes.content l.classes) (frames_in l.frames) (method_view l.method).exceptions l.code.at (held l.frame) l.handlers;
 }

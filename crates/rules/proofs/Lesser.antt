@@ -6,7 +6,7 @@ use Rattle.frames.specs.Conditions.{Conditions, number_of, lesser, least}
 use Rattle.rules.specs.declared.reason.Reason.{Reason}
 use Rattle.rules.specs.declared.reason.Reason.TheVariants.{OutOfMemory}
 use Rattle.rules.specs.Reasons.{reason_number, reason_view}
-use Rattle.verify.specs.Steps.{Judges}
+use Rattle.rules.specs.Outcomes.{Judges}
 
 abbrev pub merge : Option conditions.Reason → Option conditions.Reason → Option conditions.Reason
 merge None o = o

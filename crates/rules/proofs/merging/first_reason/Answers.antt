@@ -1,8 +1,8 @@
 use Rattle.std.proofs.Common.{rules, ◌<◌, ◌≤◌, subst}
 use Rattle.rules.specs.Reasons.{reason_number}
-use Rattle.verify.specs.Steps.{Judges}
-use Rattle.verify.proofs.Merging.{judges_alone, judges_less, judges_first}
-use Rattle.verify.proofs.flow.first_reason.Goals as goal
+use Rattle.rules.specs.Outcomes.{Judges}
+use Rattle.rules.proofs.Lesser.{judges_alone, judges_less, judges_first}
+use Rattle.rules.proofs.merging.first_reason.Goals as goal
 
 pub returns-in-Ok : goal.returns-in-Ok
 returns-in-Ok c = λ cs ds a b. judges_alone cs ds c.args.one c.in-Ok.field-0 a (subst (Judges ds) c.in-Ok.is b)

@@ -1,0 +1,10 @@
+use Rattle.std.proofs.Common.{map, take}
+use Rattle.hierarchy.specs.Flags.{AreNumbers, AreStarts}
+use Rattle.hierarchy.specs.Summary.{reference_of}
+use Rattle.hierarchy.proofs.starts.starts_of.Given as goal
+
+abbrev pub invariant-loop-reference : goal.invariant-loop-reference
+invariant-loop-reference l = record {
+  starts : AreStarts l.places l.numbers l.class (map reference_of (take l.reference-index l.references)) l.starts.items;
+  good : AreNumbers l.numbers;
+}

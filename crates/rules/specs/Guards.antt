@@ -1,0 +1,129 @@
+-- Which constants of a class name members that are guarded, as the program finds them. Words of the code's own steps.
+use Rattle.std.specs.Prelude.{◌≡◌, ℕ, nat_eq, Bool, true, false, if◌then◌else◌, List, slice_get, length, map, Option, Some, None, Result, Ok, Err, MatchOption}
+use Rattle.std.specs.Option.{option_and_then}
+use Rattle.names.specs.ReferenceTypes.{class_type}
+use Rattle.pool.specs.declared.fault.PoolFault.{PoolFault}
+use Rattle.pool.specs.Entries.{Entry, Class, Fieldref, Methodref, NameAndType}
+use Rattle.pool.specs.Lookups.{entry_at, text_at}
+use Rattle.pool.specs.Members.{constant_at, class_at, FieldConstant, field_at, MethodConstant, method_at}
+use Rattle.classfile.specs.declared.class_file.ClassFile.{ClassFile}
+use Rattle.classfile.specs.Indices.{on_found}
+use Rattle.classfile.specs.Methods.{Method, class_named}
+use Rattle.classfile.specs.MethodParts.{or_empty}
+use Rattle.hierarchy.specs.declared.summary.Kind.{Kind}
+use Rattle.hierarchy.specs.declared.summary.Kind.TheVariants as kinds
+use Rattle.hierarchy.specs.declared.nearest.MemberRef.{MemberRef}
+use Rattle.hierarchy.specs.Class.{ClassFact}
+use Rattle.hierarchy.specs.Nearest.{MemberReference, is_guarded}
+use Rattle.hierarchy.specs.Summary.{reference_of}
+use Rattle.insn.specs.Meanings.{Act}
+use Rattle.rules.specs.declared.guards.Guards.{Guards}
+use Rattle.rules.specs.declared.guards.Key.{Key}
+use Rattle.rules.specs.declared.guards.References.{References}
+use Rattle.rules.specs.declared.protected.Use as uses
+use Rattle.rules.specs.Protected.{Use, field_reference, method_reference, used_by}
+
+-- the name of the class itself
+abbrev pub own_name : ClassFile → List ℕ
+own_name c = or_empty (class_named (class_at c.constant_pool c.this_class))
+
+-- the constant of this index is a field of a class, or a method of a class
+pub data IsReference (pool : List Entry) (index : ℕ) : MemberReference → Type 0 where
+  field : (f : FieldConstant) → field_at pool index ≡ Some f → IsReference pool index (field_reference f)
+  method : (c : MethodConstant) (name : List ℕ) → method_at pool index ≡ Some c → c.interface ≡ false → c.class ≡ class_type name
+      → IsReference pool index (method_reference name c)
+
+-- ---- references by the entries of a pool
+
+abbrev pub is_of : ℕ → Entry → Bool
+is_of class (Fieldref index name_and_type) = nat_eq index class
+is_of class (Methodref index name_and_type) = nat_eq index class
+is_of class _ = false
+
+-- a Fieldref or Methodref stands at the index, with the Class by which the class file names its own class
+abbrev pub names_own : ClassFile → ℕ → Bool
+names_own c index = on_found (is_of c.this_class) (entry_at c.constant_pool index)
+
+-- the indices of the texts of a reference, by its Class and its NameAndType
+abbrev pub key_by : Kind → Option Entry → Option Entry → Option Key
+key_by kind (Some (Class class)) (Some (NameAndType name descriptor)) = Some (record { kind = kind; class = class; name = name; descriptor = descriptor })
+key_by kind _ _ = None
+
+-- of another class than the class itself
+abbrev pub other_key : ClassFile → Kind → ℕ → ℕ → Option Key
+other_key c kind class name_and_type =
+    if nat_eq class c.this_class then None else key_by kind (constant_at c.constant_pool class) (constant_at c.constant_pool name_and_type)
+
+abbrev pub key_of : ClassFile → Entry → Option Key
+key_of c (Fieldref class name_and_type) = other_key c kinds.Field class name_and_type
+key_of c (Methodref class name_and_type) = other_key c kinds.Method class name_and_type
+key_of c _ = None
+
+abbrev pub with_texts : Kind → Result (List ℕ) PoolFault → Result (List ℕ) PoolFault → Result (List ℕ) PoolFault → Option MemberReference
+with_texts kind (Ok class) (Ok name) (Ok descriptor) = Some (record { class = class; kind = kind; name = name; descriptor = descriptor })
+with_texts kind _ _ _ = None
+
+abbrev pub read_key : List Entry → Key → Option MemberReference
+read_key pool k = with_texts k.kind (text_at pool k.class) (text_at pool k.name) (text_at pool k.descriptor)
+
+-- the reference that an entry leads to, but for one of the class itself
+abbrev pub read_entry : ClassFile → Entry → Option MemberReference
+read_entry c e = option_and_then (read_key c.constant_pool) (key_of c e)
+
+-- a key and its reference
+abbrev pub IsKeyed : List Entry → Key → MemberRef → Type 0
+IsKeyed pool k r = read_key pool k ≡ Some (reference_of r)
+
+-- ---- answers
+
+-- by the places of entries
+pub record IsPlaced {A : Type 0} (places : List ℕ) (kept : List A) (place : ℕ) (x : A) : Type 0 where
+  pub number : ℕ
+  pub placed : slice_get places place ≡ Some number
+  pub there : slice_get kept number ≡ Some x
+
+-- each key has its reference beside it
+pub record AreKeyed (pool : List Entry) (rs : References) : Type 0 where
+  pub together : length rs.keys.items ≡ length rs.references.items
+  pub each : (number : ℕ) (k : Key) → slice_get rs.keys.items number ≡ Some k
+      → (r : MemberReference) × (read_key pool k ≡ Some r) × (slice_get (map reference_of rs.references.items) number ≡ Some r)
+
+-- a reference is among them at this number, and those that were there are so at theirs
+pub record Numbers (pool : List Entry) (old now : References) (r : MemberReference) (number : ℕ) : Type 0 where
+  pub here : slice_get (map reference_of now.references.items) number ≡ Some r
+  pub kept : (n : ℕ) (x : MemberReference) → slice_get (map reference_of old.references.items) n ≡ Some x → slice_get (map reference_of now.references.items) n ≡ Some x
+  pub keyed : AreKeyed pool now
+
+-- the same of the reference to which an entry leads, if it leads to one
+pub record Reads (c : ClassFile) (e : Entry) (old now : References) (number : ℕ) : Type 0 where
+  pub here : (r : MemberReference) → read_entry c e ≡ Some r → slice_get (map reference_of now.references.items) number ≡ Some r
+  pub kept : (n : ℕ) (x : MemberReference) → slice_get (map reference_of old.references.items) n ≡ Some x → slice_get (map reference_of now.references.items) n ≡ Some x
+  pub keyed : AreKeyed c.constant_pool now
+
+-- the references to which these entries, the first ones of the pool, lead
+pub record AreRead (c : ClassFile) (entries : List Entry) (places : List ℕ) (references : List MemberRef) : Type 0 where
+  pub all : length places ≡ length entries
+  pub each : (place : ℕ) (e : Entry) (r : MemberReference) → slice_get entries place ≡ Some e → read_entry c e ≡ Some r
+      → IsPlaced places (map reference_of references) place r
+
+pub record AreGuards (classes : List ClassFact) (c : ClassFile) (g : Guards) : Type 0 where
+  pub each : (place : ℕ) (e : Entry) (r : MemberReference) → slice_get c.constant_pool place ≡ Some e → read_entry c e ≡ Some r
+      → IsPlaced g.places.items g.answers.items place (is_guarded classes (own_name c) r)
+
+-- ---- the class whose instructions are judged, and the classes that it is judged among
+
+pub record Surroundings : Type 0 where
+  pub class : ClassFile
+  pub classes : List ClassFact
+
+-- ---- what an instruction uses
+
+-- the constant of this index, beneath so many operands
+pub record IsUse (m : Method Act) (act : Act) (index above : ℕ) : Type 0 where
+  pub member : Use
+  pub used : used_by m act ≡ Some member
+  pub named : IsReference m.constant_pool index member.reference
+  pub count : above ≡ length member.above
+
+abbrev pub Uses : Method Act → Act → Option uses.Use → Type 0
+Uses m act r = MatchOption r (used_by m act ≡ None) (λ u. IsUse m act u.index u.above)

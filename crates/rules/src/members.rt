@@ -1,0 +1,98 @@
+//! The members that the instructions of a class name: its own fields, and which members of other classes are guarded.
+ghost use Rattle.std.specs.Prelude.{◌≡◌};
+
+use crate::guards::{Guards, names_own};
+use crate::naming::{Named, named_by};
+use classfile::{ClassFile, CodeMethod, OwnFields};
+use hierarchy::Classes;
+use insn::Act;
+use pool::Descriptors;
+use std::alloc::{AllocError, Global};
+use std::marker::Model;
+
+/// The members that the instructions of a class name, among classes. Which of them are guarded is found for all at once, when it is first asked of a
+/// constant that does not name the class itself.
+#[derive(Drop)]
+pub struct Members<'k, 'c, 'a, C: Classes> {
+    alloc: Global,
+    class: &'c ClassFile<'a>,
+    classes: &'k C,
+    fields: OwnFields<'c, 'a>,
+    guards: Option<Guards>,
+}
+
+impl<'k, 'c, 'a, C: Classes> Model for Members<'k, 'c, 'a, C> {
+    ghost use Rattle.std.specs.Prelude.{◌≡◌, IfSome};
+    ghost use Rattle.rules.specs.Guards.{AreGuards, Surroundings};
+
+    ghost Value = { Surroundings };
+
+    ghost view = { λ m. record { class = m.class.now; classes = C.content m.classes.now } };
+
+    ghost invariant = { λ m. (m.fields ≡ m.class.now) × IfSome m.guards (AreGuards (C.content m.classes.now) m.class.now) };
+}
+
+impl<'k, 'c, 'a, C: Classes> Members<'k, 'c, 'a, C> {
+    ghost use Rattle.std.specs.Prelude.{◌≡◌, IfOk};
+    ghost use Rattle.hierarchy.specs.Nearest.{MemberReference, is_guarded};
+    ghost use Rattle.insn.specs.Views.{act_view};
+    ghost use Rattle.rules.specs.Bodies.{method_view};
+    ghost use Rattle.rules.specs.Guards.{AreGuards, IsReference, own_name};
+    ghost use Rattle.rules.specs.Naming.{IsNamed};
+
+    /// Those of a class among classes, of which none was asked.
+    pub fn new(alloc: Global, class: &'c ClassFile<'a>, classes: &'k C) -> Members<'k, 'c, 'a, C>
+        ensures { result ≡ record { class = class.now; classes = C.content classes.now } }
+    {
+        Members {
+            alloc,
+            class,
+            classes,
+            fields: OwnFields::new(alloc, class),
+            guards: None,
+        }
+    }
+
+    /// Looks up what an instruction that means this names, by the constants and the fields of the class. The only refusal is want of memory.
+    pub fn named(
+        &mut self,
+        constants: &mut Descriptors<'_, 'a>,
+        method: &CodeMethod<'_, 'a>,
+        act: &Act<'a>,
+    ) -> Result<Named<'a>, AllocError>
+        requires constants { constants.old ≡ method.now.class.now.constant_pool }
+        requires class { self.old.class ≡ method.now.class.now }
+        ensures same { self.new ≡ self.old }
+        ensures same_constants { constants.new ≡ constants.old }
+        ensures found { IfOk result (IsNamed (method_view method.now) (act_view act.now)) }
+    {
+        named_by(constants, &mut self.fields, method, act)
+    }
+
+    // The guards, which are taken out.
+    fn take_guards(&mut self) -> Result<Guards, AllocError>
+        ensures same { self.new ≡ self.old }
+        ensures guards { IfOk result (AreGuards self.old.classes self.old.class) }
+    {
+        match self.guards.take() {
+            Some(guards) => Ok(guards),
+            None => Guards::new(self.alloc, self.class, self.classes),
+        }
+    }
+
+    /// Whether the constant at an index names a member that is guarded, where it is a field or a method of a class: one that the class may use on
+    /// objects of its own alone (JVMS 4.10.1.8). The only refusal is want of memory.
+    pub fn is_guarded(&mut self, index: u16) -> Result<bool, AllocError>
+        ensures same { self.new ≡ self.old }
+        ensures found { IfOk result (λ b. (r : MemberReference) → IsReference self.old.class.constant_pool index r
+            → b ≡ is_guarded self.old.classes (own_name self.old.class) r) }
+    {
+        if names_own(self.class, index) {
+            return Ok(false);
+        }
+        let guards = self.take_guards()?;
+        let answer = guards.get(index);
+        self.guards = Some(guards);
+        Ok(answer)
+    }
+}
