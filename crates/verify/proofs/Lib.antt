@@ -34,3 +34,4 @@ mod BranchExamples
 mod ObjectExamples
 pub mod Named
 pub mod Formed
+pub mod Playing

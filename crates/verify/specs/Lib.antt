@@ -1,6 +1,9 @@
 pub mod InitialFrames
 pub mod TypeSafety
 pub mod Safety
+pub mod ClassRuns
+pub mod ClassRunSafety
+pub mod Plays
 pub mod FitsBreadth
 pub mod Verdict
 pub mod VerdictLaws

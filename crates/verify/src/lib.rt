@@ -17,7 +17,8 @@
 //! - `keeping`: what is known of the locals of the running frame.
 //! - `place_set`: which declared frames were compared.
 //! - `stack_maps`: the frames that a stack map declares.
-//! - `theorem`: type-safe methods are safe.
+//! - `theorem`: type-safe methods are safe, one by one and where calls enter them.
+//! - `play`: the reports on classes that run together.
 //! - `laws`: the verdict on a method is verified exactly where it is type-safe, there is one, what a refusal says and which
 //!   condition its number stands for, and that in the machine a type takes what the verifier lets it take.
 #![tactic(auto)]
@@ -37,6 +38,7 @@ mod laws;
 mod listing;
 mod method;
 mod place_set;
+mod play;
 mod refusal;
 mod report;
 mod stack_maps;
@@ -50,6 +52,7 @@ pub use laws::{
     type_safe_is_verified, verified_is_type_safe,
 };
 pub use method::verify_method;
+pub use play::{PlayFault, PlayRule, verify_play};
 pub use report::{ClassFault, MethodVerdict, Report, verify_class, verify_methods};
-pub use theorem::type_safe_is_safe;
+pub use theorem::{type_safe_is_safe, verified_is_playable};
 pub use verdict::{Verdict, VerifyFault};

@@ -1,0 +1,122 @@
+-- Classes in play: earlier classes of a name, and what reports on all of them say.
+use Rattle.std.proofs.Common.{◌≡◌, ◌⊎◌, inl, inr, ℕ, zero, suc, ◌+◌, ◌<◌, ◌≤◌, Bool, true, false, List, [], ◌∷◌, length, Option, Some, None, Ok, refl, sym, ap, ◌∙◌, subst, arith, eq-or-lt_of_le}
+use Rattle.std.specs.Prelude.{slice_get}
+use Rattle.std.specs.Option.{option_and_then}
+use Rattle.std.specs.Str.{bytes_eq}
+use Rattle.std.proofs.lemmas.Slice.Eq.{bytes_eq-Decides}
+use Rattle.classfile.specs.Values.{CodeBody, Member, Class}
+use Rattle.classfile.specs.Methods.{Method, code_of}
+use Rattle.classfile.specs.MethodParts.{code_at}
+use Rattle.hierarchy.specs.Class.{ClassFact}
+use Rattle.hierarchy.specs.Rules.{IsHierarchy}
+use Rattle.hierarchy.specs.ClassSummary.{summary_of}
+use Rattle.insn.specs.Meanings.{Act}
+use Rattle.insn.specs.Offsets.{IsAmong}
+use Rattle.verify.specs.declared.verdict.Verdict.{Verdict}
+use Rattle.verify.specs.declared.verdict.Verdict.TheVariants.{Verified, NoCode, Refused}
+use Rattle.verify.specs.declared.report.MethodVerdict.{MethodVerdict}
+use Rattle.verify.specs.declared.report.Report.{Report}
+use Rattle.verify.specs.TypeSafety.{IsTypeSafe}
+use Rattle.verify.specs.ClassMethods.{IsMethod}
+use Rattle.verify.specs.Answers.{Answers}
+use Rattle.verify.specs.Reports.{IsReport}
+use Rattle.machine.specs.Demands.{IsNoFault}
+use Rattle.verify.specs.ClassRuns.{Moment, state_in, IsClassRun}
+use Rattle.verify.specs.ClassRunSafety.{IsInPlay, AreVerified, ArePlayable}
+use Rattle.verify.specs.Plays.{IsFineVerdict, AreFineBelow, HasEarlier, IsFine, AreFine, ArePlayed}
+use Rattle.verify.proofs.safety.OneMethod.{one_method}
+use Rattle.verify.proofs.safety.ClassRuns.{verified_is_playable}
+
+some_same : {A : Type 0} (a b : A) → Some a ≡ Some b → a ≡ b
+some_same a b e = cc
+
+true_false : true ≡ false → ⊥
+true_false e = cc
+
+none_some : {A : Type 0} (a : A) → None ≡ Some a → ⊥
+none_some a e = cc
+
+-- ---- earlier classes of a name
+
+pub earlier_more : (cs : List Class) (i : ℕ) (name : List ℕ) (c : Class) → slice_get cs i ≡ Some c → bytes_eq (summary_of c).name name ≡ false → (HasEarlier cs i name → ⊥) → HasEarlier cs (i + 1) name → ⊥
+earlier_more cs i name c here other none (j, d, lt, at, is) =
+    let le : j ≤ i = omega arith in
+    go (eq-or-lt_of_le le)
+  where
+    go : (j ≡ i) ⊎ (j < i) → ⊥
+    go (inl e) =
+        let k : d ≡ c = some_same d c (sym at ∙ ap (slice_get cs) e ∙ here) in
+        true_false (sym ((bytes_eq-Decides (summary_of c).name name).1 (ap (λ z. (summary_of z).name) (sym k) ∙ is)) ∙ other)
+    go (inr l) = none (j, d, l, at, is)
+
+-- ---- from the reports to the premise of the theorem
+
+place_of : {A : Type 0} (x : A) (xs : List A) → IsAmong x xs → (i : ℕ) × (slice_get xs i ≡ Some x)
+place_of x [] a = elim a [ ]
+place_of x (y ∷ ys) (inl e) = (zero, ap Some (sym e))
+place_of x (y ∷ ys) (inr a) = let p = place_of x ys a in (suc p.0, p.1)
+
+item_there : {A B : Type 0} (xs : List A) (ys : List B) (i : ℕ) (x : A) → length ys ≡ length xs → slice_get xs i ≡ Some x → (y : B) × (slice_get ys i ≡ Some y) × (i < length ys)
+item_there [] ys i x e at = absurd (none_some x at)
+item_there (x ∷ xs) [] i z e at = cc
+item_there (x ∷ xs) (y ∷ ys) zero z e at = (y, refl, omega arith)
+item_there (x ∷ xs) (y ∷ ys) (suc i) z e at =
+    let l : length ys ≡ length xs = cc in
+    let p = item_there xs ys i z l at in
+    let k : i < length ys = p.2 in
+    (p.0, p.1, omega arith)
+
+module _ (h : List ClassFact) (cs : List Class) (rs : List Report) (all : ArePlayed h cs rs) where
+  fine_class : (c : Class) → IsAmong c cs → (ms : List MethodVerdict) × (i : ℕ) × IsFine h cs i c ms
+  fine_class c a =
+      let p = place_of c cs a in
+      let r = item_there cs rs p.0 c all.0 p.1 in
+      let f = all.1 p.0 r.0 r.1 in
+      let k : f.0 ≡ c = some_same f.0 c (sym f.1 ∙ p.1) in
+      (r.0.methods.items, p.0, subst (λ z. IsFine h cs p.0 z r.0.methods.items) k f.2)
+
+  by_verdict : (c : Class) (n : ℕ) (m : Method Act) → IsMethod c n m → (v : Verdict) → IsFineVerdict v → Answers h c n (Ok v) → IsTypeSafe h m
+  by_verdict c n m i Verified f a = subst (IsTypeSafe h) (one_method c n a.1.0 m a.1.1 i) a.1.2
+  by_verdict c n m i NoCode f a =
+      let e : code_at c n ≡ Some i.body = ap (option_and_then (λ (z : Member). code_of z.attributes)) i.numbered ∙ i.has_code in
+      absurd (none_some i.body (sym a.1 ∙ e))
+  by_verdict c n m i (Refused at why) f a = elim f [ ]
+
+  safe_method : (c : Class) → IsAmong c cs → (n : ℕ) (m : Method Act) → IsMethod c n m → IsTypeSafe h m
+  safe_method c a n m i =
+      let f = fine_class c a in
+      let r = item_there c.methods f.0 n i.member f.2.report.all i.numbered in
+      by_verdict c n m i r.0.verdict (f.2.verified n r.0 r.2 r.1) (f.2.report.each n r.0 r.1).exactly
+
+  pub are_verified : AreVerified h cs
+  are_verified = record { listed = λ c a. (fine_class c a).2.report.listed; safe = λ c a n m i. safe_method c a n m i }
+
+-- no run begins where no class is in play
+none_playable : (h : List ClassFact) → ArePlayable h []
+none_playable h w x [] r q i a j = elim r [ ]
+none_playable h w x (p ∷ []) r q i a j = elim r.in_play.among [ ]
+none_playable h w x (p ∷ (o ∷ os)) r q i a j = begins (o ∷ os) r.1
+  where
+    begins : (ps : List Moment) → IsClassRun w (IsInPlay []) ps → IsNoFault w a.method (state_in q.types a)
+    begins [] r = elim r [ ]
+    begins (p ∷ []) r = elim r.in_play.among [ ]
+    begins (p ∷ (o ∷ os)) r = begins (o ∷ os) r.1
+
+pub are_playable : (h : List ClassFact) (cs : List Class) (rs : List Report) → (0 < length cs → IsHierarchy h) → ArePlayed h cs rs → ArePlayable h cs
+are_playable h [] rs hh all = none_playable h
+are_playable h (c ∷ cs) rs hh all = verified_is_playable h (hh (omega arith)) (c ∷ cs) (are_verified h (c ∷ cs) rs all)
+
+-- ---- methods that are not refused
+
+pub not_both : (b : Bool) → b ≡ true → b ≡ false → ⊥
+not_both true e f = cc
+not_both false e f = cc
+
+pub more_fine : (rs : List MethodVerdict) (n : ℕ) (m : MethodVerdict) → AreFineBelow rs n → slice_get rs n ≡ Some m → IsFineVerdict m.verdict → AreFineBelow rs (n + 1)
+more_fine rs n m all here fine k r lt at =
+    let le : k ≤ n = omega arith in
+    go (eq-or-lt_of_le le)
+  where
+    go : (k ≡ n) ⊎ (k < n) → IsFineVerdict r.verdict
+    go (inl e) = subst (λ z. IsFineVerdict z.verdict) (some_same m r (sym here ∙ ap (slice_get rs) (sym e) ∙ at)) fine
+    go (inr l) = all k r l at
