@@ -35,3 +35,4 @@ mod ObjectExamples
 pub mod Named
 pub mod Formed
 pub mod Playing
+pub mod Together

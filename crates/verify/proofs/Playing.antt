@@ -1,5 +1,5 @@
--- Classes in play: earlier classes of a name, and what reports on all of them say.
-use Rattle.std.proofs.Common.{◌≡◌, ◌⊎◌, inl, inr, ℕ, zero, suc, ◌+◌, ◌<◌, ◌≤◌, Bool, true, false, List, [], ◌∷◌, length, Option, Some, None, Ok, refl, sym, ap, ◌∙◌, subst, arith, eq-or-lt_of_le}
+-- Classes in play: names that were met, and what follows of the reports on all classes.
+use Rattle.std.proofs.Common.{◌≡◌, ◌⊎◌, inl, inr, ℕ, zero, suc, ◌+◌, ◌<◌, ◌≤◌, Bool, true, false, ◌||◌, List, [], ◌∷◌, length, Option, Some, None, Ok, refl, sym, ap, ◌∙◌, subst, arith, eq-or-lt_of_le}
 use Rattle.std.specs.Prelude.{slice_get}
 use Rattle.std.specs.Option.{option_and_then}
 use Rattle.std.specs.Str.{bytes_eq}
@@ -23,7 +23,11 @@ use Rattle.verify.specs.Reports.{IsReport}
 use Rattle.machine.specs.Demands.{IsNoFault}
 use Rattle.verify.specs.ClassRuns.{Moment, state_in, IsClassRun}
 use Rattle.verify.specs.ClassRunSafety.{IsInPlay, AreVerified, ArePlayable}
-use Rattle.verify.specs.Plays.{IsFineVerdict, AreFineBelow, HasEarlier, IsFine, AreFine, ArePlayed}
+use Rattle.verify.specs.declared.met_names.MetNames.{MetNames}
+use Rattle.verify.specs.MetNames.{is_met, Meets}
+use Rattle.verify.specs.Plays.{IsFineVerdict, AreFineBelow, HasEarlier, IsFirstOfName, IsFine, AreFine, ArePlayed}
+use Rattle.verify.specs.PlaySteps.{AreMet}
+use Rattle.verify.proofs.safety.Worlds.{name_same}
 use Rattle.verify.proofs.safety.OneMethod.{one_method}
 use Rattle.verify.proofs.safety.ClassRuns.{verified_is_playable}
 
@@ -36,18 +40,57 @@ true_false e = cc
 none_some : {A : Type 0} (a : A) → None ≡ Some a → ⊥
 none_some a e = cc
 
--- ---- earlier classes of a name
+-- ---- names that were met
 
-pub earlier_more : (cs : List Class) (i : ℕ) (name : List ℕ) (c : Class) → slice_get cs i ≡ Some c → bytes_eq (summary_of c).name name ≡ false → (HasEarlier cs i name → ⊥) → HasEarlier cs (i + 1) name → ⊥
-earlier_more cs i name c here other none (j, d, lt, at, is) =
-    let le : j ≤ i = omega arith in
-    go (eq-or-lt_of_le le)
+either : (a b : Bool) → (a || b) ≡ true → (a ≡ true) ⊎ (b ≡ true)
+either true b e = inl refl
+either false b e = inr e
+
+first_or : (a b : Bool) → a ≡ true → (a || b) ≡ true
+first_or a b e = rw e refl
+
+second_or : (a b : Bool) → b ≡ true → (a || b) ≡ true
+second_or true b e = refl
+second_or false b e = e
+
+pub none_met : (cs : List Class) (names : MetNames) → ((name : List ℕ) → is_met names name ≡ false) → AreMet cs 0 names
+none_met cs names none = record {
+  only = λ name e. absurd (true_false (sym e ∙ none name));
+  all = λ name (j, d, lt, at, is). absurd (omega (arith, lt));
+}
+
+pub one_more_met : (cs : List Class) (i : ℕ) (c : Class) (old new : MetNames) (before : Bool) → slice_get cs i ≡ Some c → AreMet cs i old → Meets old new (summary_of c).name before → AreMet cs (i + 1) new
+one_more_met cs i c old new before here met step = record { only = only; all = all }
   where
-    go : (j ≡ i) ⊎ (j < i) → ⊥
-    go (inl e) =
+    name : List ℕ
+    name = (summary_of c).name
+
+    told : (other : List ℕ) → (bytes_eq name other ≡ true) ⊎ (is_met old other ≡ true) → HasEarlier cs (i + 1) other
+    told other (inl e) = (i, c, omega arith, here, name_same name other e)
+    told other (inr e) =
+        let (j, d, lt, at, is) = met.only other e in
+        (j, d, omega (arith, lt), at, is)
+
+    only : (other : List ℕ) → is_met new other ≡ true → HasEarlier cs (i + 1) other
+    only other e = told other (either (bytes_eq name other) (is_met old other) (sym (step.behind other) ∙ e))
+
+    by : (other : List ℕ) (j : ℕ) (d : Class) → slice_get cs j ≡ Some d → (summary_of d).name ≡ other → (j ≡ i) ⊎ (j < i) → (bytes_eq name other || is_met old other) ≡ true
+    by other j d at is (inl e) =
         let k : d ≡ c = some_same d c (sym at ∙ ap (slice_get cs) e ∙ here) in
-        true_false (sym ((bytes_eq-Decides (summary_of c).name name).1 (ap (λ z. (summary_of z).name) (sym k) ∙ is)) ∙ other)
-    go (inr l) = none (j, d, l, at, is)
+        first_or (bytes_eq name other) (is_met old other) ((bytes_eq-Decides name other).1 (ap (λ z. (summary_of z).name) (sym k) ∙ is))
+    by other j d at is (inr l) = second_or (bytes_eq name other) (is_met old other) (met.all other (j, d, l, at, is))
+
+    all : (other : List ℕ) → HasEarlier cs (i + 1) other → is_met new other ≡ true
+    all other (j, d, lt, at, is) =
+        let le : j ≤ i = omega (arith, lt) in
+        step.behind other ∙ by other j d at is (eq-or-lt_of_le le)
+
+-- the name of the class at a place stands before it, or does not
+pub stands_twice : (cs : List Class) (i : ℕ) (c : Class) (old new : MetNames) (before : Bool) → AreMet cs i old → Meets old new (summary_of c).name before → before ≡ true → HasEarlier cs i (summary_of c).name
+stands_twice cs i c old new before met step e = met.only (summary_of c).name (sym step.told ∙ e)
+
+pub stands_once : (cs : List Class) (i : ℕ) (c : Class) (old new : MetNames) (before : Bool) → AreMet cs i old → Meets old new (summary_of c).name before → before ≡ false → IsFirstOfName cs i c
+stands_once cs i c old new before met step e earlier = true_false (sym (met.all (summary_of c).name earlier) ∙ sym step.told ∙ e)
 
 -- ---- from the reports to the premise of the theorem
 

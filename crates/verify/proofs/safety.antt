@@ -17,5 +17,6 @@ pub mod ClassReturns
 pub mod ClassEnters
 pub mod ClassMethods
 pub mod ClassRuns
+pub mod ClassRunBreadth
 pub mod FitsBreadth
 pub mod NewMaps

@@ -1,20 +1,23 @@
-//! Classes in play: all that may be entered when they run together is verified.
-ghost use Rattle.std.specs.Prelude.{◌≡◌, ◌↔◌, ◌<◌, ◌≤◌, IsTrue, List, map, length, slice_get, Some, Ok, Err, IfOk, IfErr, MatchOption, MatchResult};
+//! Classes in play: the reports on classes whose methods may call each other.
+ghost use Rattle.std.specs.Prelude.{◌≡◌, ◌↔◌, IsTrue, List, map, length, slice_get, Some, IfOk, MatchOption, MatchResult};
 ghost use Rattle.classfile.specs.Values.{Class};
 ghost use Rattle.classfile.specs.Views.{class_view};
-ghost use Rattle.hierarchy.specs.ClassSummary.{summary_of as summary_in};
-ghost use Rattle.verify.specs.Plays.{IsFineVerdict, IsFirstRefused, AreFineBelow, HasEarlier, Judges, ArePlayed, IsNotPlayed, rule_number, play_fault_number};
+ghost use Rattle.hierarchy.specs.Rules.{IsHierarchy};
+ghost use Rattle.verify.specs.Plays.{IsFineVerdict, IsFirstRefused, AreFineBelow, ArePlayed, IsNotPlayed, IsStopped, rule_number, play_fault_number};
+ghost use Rattle.verify.specs.PlaySteps.{AreMet, Judges};
 ghost use Rattle.verify.specs.ClassRunSafety.{ArePlayable};
 
 use crate::final_super::has_final_super;
 use crate::listing::has_summary;
+use crate::met_names::MetNames;
 use crate::report::{MethodVerdict, Report, report_listed};
 use crate::verdict::Verdict;
 use classfile::Formed;
 use hierarchy::{Classes, summary_of};
 use std::alloc::{AllocError, AllocFailed, Global};
+use thiserror::Error;
 
-/// The rule that a class in play breaks.
+/// A rule that a class in play breaks.
 #[derive(Clone, Copy, Debug, PartialEq, Eq)]
 pub enum PlayRule {
     /// 80: the hierarchy has no class with exactly the summary of this one.
@@ -23,17 +26,36 @@ pub enum PlayRule {
     FinalSuper,
     /// 83: an earlier class in play has this name.
     ClassInPlayTwice,
-    /// 84: the method of this number, which counts from 0, is the first that is refused.
-    NotAllVerified { method: usize },
 }
 
 /// Why there are no reports on classes in play.
-#[derive(Clone, Copy, Debug, PartialEq, Eq)]
+#[derive(Clone, Copy, Debug, PartialEq, Eq, Error)]
 pub enum PlayFault {
     /// 1: memory ran out.
+    #[error("refused 1")]
     OutOfMemory,
-    /// The class of this number, which counts from 0, is the first that breaks a rule, and breaks this one first.
+    /// 80, 81 or 83: the class of this number is the first with a fault, and this is the first rule that it breaks. Classes count from 0.
+    #[error("refused {}", rule.number())]
     Broken { class: usize, rule: PlayRule },
+    /// 84: the class of this number is the first with a fault, and the method of this number the first of its methods that is refused.
+    /// Classes and methods count from 0.
+    #[error("refused 84")]
+    NotAllVerified { class: usize, method: usize },
+}
+
+/// Why there are no reports, with the verdict on the method that is refused.
+#[derive(Clone, Copy)]
+pub enum PlayStop<'a> {
+    /// Memory ran out.
+    OutOfMemory,
+    /// The class of this number breaks this rule.
+    Broken { class: usize, rule: PlayRule },
+    /// The first method of the class that is refused has this number.
+    Refused {
+        class: usize,
+        number: usize,
+        method: MethodVerdict<'a>,
+    },
 }
 
 impl PlayRule {
@@ -45,7 +67,6 @@ impl PlayRule {
             PlayRule::NotInHierarchy => 80,
             PlayRule::FinalSuper => 81,
             PlayRule::ClassInPlayTwice => 83,
-            PlayRule::NotAllVerified { .. } => 84,
         }
     }
 }
@@ -58,33 +79,34 @@ impl PlayFault {
         match self {
             PlayFault::OutOfMemory => 1,
             PlayFault::Broken { rule, .. } => rule.number(),
+            PlayFault::NotAllVerified { .. } => 84,
         }
     }
 }
 
-impl From<AllocError> for PlayFault {
-    ghost use Rattle.verify.specs.declared.play.PlayFault.TheVariants.{OutOfMemory};
+impl<'a> From<AllocError> for PlayStop<'a> {
+    ghost use Rattle.verify.specs.declared.play.PlayStop.TheVariants.{OutOfMemory};
 
     ghost from_gives = { λ _ e. e ≡ OutOfMemory };
 
-    fn from(_error: AllocError) -> PlayFault {
-        PlayFault::OutOfMemory
+    fn from(_error: AllocError) -> PlayStop<'a> {
+        PlayStop::OutOfMemory
     }
 }
 
-impl<T: Drop> From<AllocFailed<T>> for PlayFault {
-    ghost use Rattle.verify.specs.declared.play.PlayFault.TheVariants.{OutOfMemory};
+impl<'a, T: Drop> From<AllocFailed<T>> for PlayStop<'a> {
+    ghost use Rattle.verify.specs.declared.play.PlayStop.TheVariants.{OutOfMemory};
 
     ghost from_gives = { λ _ e. e ≡ OutOfMemory };
 
-    fn from(_failed: AllocFailed<T>) -> PlayFault {
-        PlayFault::OutOfMemory
+    fn from(_failed: AllocFailed<T>) -> PlayStop<'a> {
+        PlayStop::OutOfMemory
     }
 }
 
-/// Whether it is no refusal.
-fn is_fine(verdict: Verdict<'_>) -> bool
-    ensures { IsTrue result ↔ IsFineVerdict verdict.entry }
+/// Whether a verdict does not refuse.
+fn is_fine(verdict: &Verdict<'_>) -> bool
+    ensures { IsTrue result ↔ IsFineVerdict verdict.now }
 {
     match verdict {
         Verdict::Verified | Verdict::NoCode => true,
@@ -93,89 +115,80 @@ fn is_fine(verdict: Verdict<'_>) -> bool
 }
 
 /// The first method that is refused, if one is.
-fn first_refused(methods: &[MethodVerdict<'_>]) -> Option<usize>
-    ensures { MatchOption result (AreFineBelow methods.now (length methods.now)) (IsFirstRefused methods.now) }
+fn first_refused<'a>(methods: &[MethodVerdict<'a>]) -> Option<(usize, MethodVerdict<'a>)>
+    ensures { MatchOption result (AreFineBelow methods.now (length methods.now)) (λ r. IsFirstRefused methods.now r.0 r.1) }
 {
     for i in 0..methods.len() {
         let method = &methods[i];
-        if !is_fine(method.verdict) {
-            return Some(i);
+        if !is_fine(&method.verdict) {
+            return Some((i, *method));
         }
     }
     None
 }
 
-/// The name of a class.
-fn name_of<'a>(formed: &Formed<'_, 'a>) -> &'a [u8]
-    ensures { result.now ≡ (summary_in (class_view formed.now.class.now)).name }
-{
-    let class = formed.class();
-    match class.constant_pool.class_name(class.this_class) {
-        Ok(name) => name.bytes(),
-        Err(_) => &[],
-    }
-}
-
-/// Whether a class before this place has the name.
-fn has_earlier(play: &[Formed<'_, '_>], place: usize, name: &[u8]) -> bool
-    requires { place ≤ length play.now }
-    ensures { IsTrue result ↔ HasEarlier (map (λ f. class_view f.class.now) play.now) place name.now }
-{
-    for i in 0..place {
-        if name_of(&play[i]) == name {
-            return true;
-        }
-    }
-    false
-}
-
-/// The report on the class at a place; or the first rule that it breaks.
+/// The report on the class at a place; or the first rule that it breaks. The names of the classes before it were met.
 fn judge<'a, C: Classes>(
     alloc: Global,
-    play: &[Formed<'_, 'a>],
-    place: usize,
+    formed: &Formed<'_, 'a>,
+    class: usize,
+    names: &mut MetNames<'a>,
     classes: &C,
-) -> Result<Report<'a>, PlayFault>
-    requires { place < length play.now }
-    ensures { (c : Class) × (slice_get (map (λ f. class_view f.class.now) play.now) place ≡ Some c) × Judges (C.content classes.now) (map (λ f. class_view f.class.now) play.now) place c result }
+) -> Result<Report<'a>, PlayStop<'a>>
+    ensures { (play : List Class) → slice_get play class ≡ Some (class_view formed.now.class.now) → AreMet play class names.old → Judges (C.content classes.now) play class (class_view formed.now.class.now) names.new result }
 {
-    let formed = &play[place];
     let summary = summary_of(alloc, formed)?;
     if !has_summary(&summary, classes) {
-        return Err(PlayFault::Broken {
-            class: place,
-            rule: PlayRule::NotInHierarchy,
-        });
+        let rule = PlayRule::NotInHierarchy;
+        return Err(PlayStop::Broken { class, rule });
     }
     if has_final_super(&summary, classes) {
-        return Err(PlayFault::Broken {
-            class: place,
-            rule: PlayRule::FinalSuper,
-        });
+        let rule = PlayRule::FinalSuper;
+        return Err(PlayStop::Broken { class, rule });
     }
-    if has_earlier(play, place, summary.name) {
-        return Err(PlayFault::Broken {
-            class: place,
-            rule: PlayRule::ClassInPlayTwice,
-        });
+    if names.meet(summary.name, class)? {
+        let rule = PlayRule::ClassInPlayTwice;
+        return Err(PlayStop::Broken { class, rule });
     }
     let Ok(report) = report_listed(alloc, formed, classes) else {
-        return Err(PlayFault::OutOfMemory);
+        return Err(PlayStop::OutOfMemory);
     };
-    if let Some(method) = first_refused(&report.methods) {
-        return Err(PlayFault::Broken {
-            class: place,
-            rule: PlayRule::NotAllVerified { method },
-        });
+    match first_refused(&report.methods) {
+        None => Ok(report),
+        Some((number, method)) => Err(PlayStop::Refused {
+            class,
+            number,
+            method,
+        }),
     }
-    Ok(report)
 }
 
-/// The reports on classes that are to run together, in the list's order, where each method with code is verified. Refused is the first
-/// class that breaks a rule, for the least number: 80 and 81 as by [`verify_methods`](crate::verify_methods), 83 where an earlier class has
-/// its name, 84 where a method is refused. 1 where memory ran out.
+/// The reports on classes in play; or why there are none, with the verdict on a method that is refused.
+pub fn reports_in_play<'a, C: Classes>(
+    alloc: Global,
+    play: &[Formed<'_, 'a>],
+    classes: &C,
+) -> Result<Vec<Report<'a>>, PlayStop<'a>>
+    ensures exactly { let cs = map (λ f. class_view f.class.now) play.now in MatchResult result (λ rs. ArePlayed (C.content classes.now) cs rs.items) (IsStopped (C.content classes.now) cs) }
+    ensures safe { IfOk result (λ _. ArePlayable (C.content classes.now) (map (λ f. class_view f.class.now) play.now)) }
+{
+    let mut reports = Vec::with_capacity(alloc, play.len())?;
+    let mut names = MetNames::new(alloc);
+    for class in 0..play.len() {
+        let report = judge(alloc, &play[class], class, &mut names, classes)?;
+        reports.push(report)?;
+    }
+    Ok(reports)
+}
+
+/// The reports on classes that are in play together: any method of theirs may be entered where another calls it. They are in the order of the
+/// list, and each method that has code is verified.
 ///
-/// Where there are reports, the classes may run together: no activation of theirs meets a fault.
+/// Refused is the first class that breaks a rule, for the least number: 80 and 81 as by [`verify_methods`](crate::verify_methods), 83 where
+/// an earlier class has its name, 84 where one of its methods is refused. 1 where memory ran out.
+///
+/// Where there are reports, no run through the methods of these classes meets a fault (JVMS 2.6, 2.10, 2.11.8): in no activation, in no
+/// world that extends the hierarchy.
 pub fn verify_play<'a, C: Classes>(
     alloc: Global,
     play: &[Formed<'_, 'a>],
@@ -184,10 +197,13 @@ pub fn verify_play<'a, C: Classes>(
     ensures exactly { let cs = map (λ f. class_view f.class.now) play.now in MatchResult result (λ rs. ArePlayed (C.content classes.now) cs rs.items) (IsNotPlayed (C.content classes.now) cs) }
     ensures safe { IfOk result (λ _. ArePlayable (C.content classes.now) (map (λ f. class_view f.class.now) play.now)) }
 {
-    let mut reports = Vec::new(alloc);
-    for place in 0..play.len() {
-        let report = judge(alloc, play, place, classes)?;
-        reports.push(report)?;
+    match reports_in_play(alloc, play, classes) {
+        Ok(reports) => Ok(reports),
+        Err(PlayStop::OutOfMemory) => Err(PlayFault::OutOfMemory),
+        Err(PlayStop::Broken { class, rule }) => Err(PlayFault::Broken { class, rule }),
+        Err(PlayStop::Refused { class, number, .. }) => Err(PlayFault::NotAllVerified {
+            class,
+            method: number,
+        }),
     }
-    Ok(reports)
 }

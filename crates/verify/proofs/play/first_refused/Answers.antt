@@ -8,7 +8,6 @@ pub returns-then-not-is_fine : goal.returns-then-not-is_fine
 returns-then-not-is_fine c =
     let m = c.index-methods-i.result in
     record {
-      verdict = m;
       here = slice_get-get_or c.args.methods.now c.loop-i.i m c.loop-i-test.true ∙ ap Some (sym c.index-methods-i.is);
       refused = λ f. not_both c.is_fine.result (c.is_fine.ensures.1 f) c.if-not-is_fine.true;
       before = c.loop-i.invariant;
