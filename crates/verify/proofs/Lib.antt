@@ -35,4 +35,4 @@ mod ObjectExamples
 pub mod Named
 pub mod Formed
 pub mod Playing
-pub mod Together
+pub mod FilesInPlay

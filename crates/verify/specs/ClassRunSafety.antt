@@ -1,4 +1,4 @@
--- Safety of the classes in play: no activation of a class run meets a fault. The theorem is that classes whose methods are type-safe are safe.
+-- Safety of classes in play: no activation meets a fault in any run through their methods. The theorem: classes whose methods are type-safe are safe.
 use Rattle.std.specs.Prelude.{◌≡◌, ℕ, List, Some, slice_get}
 use Rattle.pool.specs.Lookups.{text_at}
 use Rattle.pool.specs.Members.{found}
@@ -30,7 +30,7 @@ pub record AreVerified (classes : List ClassFact) (cs : List Class) : Type 0 whe
   pub listed : (c : Class) → IsAmong c cs → IsListed classes c
   pub safe : (c : Class) → IsAmong c cs → (number : ℕ) (m : Method Act) → IsMethod c number m → IsTypeSafe classes m
 
--- no activation of a class run is a fault, in no world that extends the hierarchy
+-- in every world that extends the hierarchy, no activation of a run through the methods of the classes is at a fault
 abbrev pub ArePlayable : List ClassFact → List Class → Type 0
 ArePlayable classes cs =
     (world : World) → Extends world classes → (run : List Moment) → IsClassRun world (IsInPlay cs) run → (q : Moment) → IsAmong q run

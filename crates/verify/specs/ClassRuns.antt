@@ -1,5 +1,5 @@
--- Runs through the methods of several classes (JVMS 2.6, 2.10, 2.11.8): a call may enter a method, whose answer is the caller's, and what
--- it raises the caller raises.
+-- Runs through the methods of classes in play (JVMS 2.6, 2.10, 2.11.8): a call may enter a method. What that method returns answers the call, and
+-- what it raises is raised at the call.
 use Rattle.std.specs.Prelude.{◌≡◌, ◌⊎◌, ℕ, Bool, true, false, nat_eq, bytes_eq, if◌then◌else◌, List, [], ◌∷◌, ◌++◌, length, slice_get, Option, Some, None, option_map}
 use Rattle.names.specs.Descriptors.{FieldDescriptor}
 use Rattle.names.specs.ReferenceTypes.{ReferenceType, class_type}
@@ -28,8 +28,8 @@ pub record Callee : Type 0 where
 abbrev pub Types : Type 0
 Types = ℕ → Option ReferenceType
 
--- A method that runs. Of an object that it made the status is `made`, of its own object `this`, until a constructor of that object has
--- returned to it. All others are ready.
+-- A method that runs. The status of an object that it made is `made`, and that of its own object `this`, until a constructor of that object has
+-- returned to it. All other objects are ready for it.
 pub record Activation : Type 0 where
   pub method : Method Act
   pub at : ℕ
@@ -54,7 +54,7 @@ status_of (Some o) = o.status
 abbrev pub activation : Method Act → State → Activation
 activation m s = record { method = m; at = s.at; stack = s.stack; locals = s.locals; status = λ a. status_of (s.heap a) }
 
--- the activations, the last one first
+-- a moment of a run: the run-time type of each object, and the activations, the last one first
 pub record Moment : Type 0 where
   pub types : Types
   pub activations : List Activation
@@ -70,7 +70,7 @@ pub data Way : Type 0 where
 abbrev pub by_way : Way → Option MethodConstant → Option (Way × MethodConstant)
 by_way way constant = option_map (λ c. (way, c)) constant
 
--- how an instruction calls a method, and which
+-- by which way an instruction calls, and the method that it names
 abbrev pub called : Method Act → Act → Option (Way × MethodConstant)
 called m (acts.InvokeStatic i) = by_way static (method_at m.constant_pool i)
 called m (acts.InvokeSpecial i) = by_way special (method_at m.constant_pool i)
@@ -103,20 +103,20 @@ pub record IsCall (a : Activation) : Type 0 where
   pub one : IsReceiver way receiver
   pub all : length arguments ≡ length constant.type.params
 
--- which methods of the name and descriptor are entered: the named class's, or by a virtual or interface call any whose class the
--- receiver fits
+-- The methods that may be entered, of the name and descriptor that the call names: one of the class that it names; by a virtual or interface call
+-- one of any class that the receiver fits.
 abbrev pub MayEnter : World → Heap → Way → MethodConstant → List Value → Method Act → Type 0
 MayEnter world heap static c receiver m = (m.is_static ≡ true) × (class_type m.class ≡ c.class)
 MayEnter world heap special c receiver m = (m.is_static ≡ false) × (class_type m.class ≡ c.class)
 MayEnter world heap virtual c receiver m =
     (m.is_static ≡ false) × ((a : ℕ) × (receiver ≡ reference a ∷ []) × FitsReference world heap (class_type m.class) (reference a))
 
--- a constructor's receiver is its own object; all else is ready
+-- a constructor's receiver is its own object, not initialized; all other objects are ready
 abbrev pub first_status : Receiver → List Value → ℕ → Status
 first_status own_receiver (reference own ∷ vs) a = if nat_eq own a then this else ready
 first_status _ vs a = ready
 
--- the method with this receiver and these arguments, before its first instruction
+-- The method before its first instruction, with this receiver and these arguments. They need not fit.
 abbrev pub entered : Method Act → List Value → List Value → Activation
 entered m receiver arguments = record {
   method = m;
@@ -146,12 +146,12 @@ abbrev pub IsReadyAnswer : Heap → Option Value → Type 0
 IsReadyAnswer heap None = Unit {0}
 IsReadyAnswer heap (Some v) = IsReady heap v
 
--- a constructor gives no answer
+-- a constructor hands over nothing
 abbrev pub taken : Bool → Option Value → Option Value
 taken true answer = None
 taken false answer = answer
 
--- behind a call
+-- the caller behind its call
 abbrev pub resumed : Activation → Bool → List Value → List Value → Option Value → ℕ → Activation
 resumed a constructs receiver below answer to = record {
   method = a.method;
@@ -161,7 +161,7 @@ resumed a constructs receiver below answer to = record {
   status = status_after constructs receiver a.status;
 }
 
--- the caller goes on behind its call, with an answer that is ready for it
+-- The caller goes on behind its call. The answer is ready for it, and need not fit.
 pub record GoesOn (types : Types) (a : Activation) (answer : Option Value) (b : Activation) : Type 0 where
   pub call : IsCall a
   pub to : ℕ
@@ -169,20 +169,20 @@ pub record GoesOn (types : Types) (a : Activation) (answer : Option Value) (b : 
   pub ready : IsReadyAnswer (heap_in types a.status) answer
   pub result : b ≡ resumed a (constructs call.way call.constant) call.receiver call.below answer to
 
--- the value that a return hands over
+-- the value that a return hands over, where it is one with a value
 abbrev pub handed_over : Task → List Value → Option Value
 handed_over (leaves needs) stack = slice_get stack 0
 handed_over _ stack = None
 
 -- ---- steps
 
--- the last activation steps by itself, or catches what is raised
+-- the last activation makes a step of its own, or catches what is raised
 pub record StepsAlone (world : World) (types : Types) (a : Activation) (callers : List Activation) (c : Choice) (q : Moment) : Type 0 where
   pub state : State
   pub happens : Happens world a.method (state_in types a) c (goes_on state)
   pub result : q ≡ moment (types_of state.heap) (activation a.method state ∷ callers)
 
--- it calls a method in play, which is entered
+-- it is at a call, and a method in play is entered
 pub record Enters (world : World) (InPlay : Callee → Type 0) (types : Types) (a : Activation) (callers : List Activation) (q : Moment) : Type 0 where
   pub no_fault : IsNoFault world a.method (state_in types a)
   pub call : IsCall a
@@ -193,7 +193,7 @@ pub record Enters (world : World) (InPlay : Callee → Type 0) (types : Types) (
   pub may : MayEnter world (heap_in types a.status) call.way call.constant call.receiver callee.method
   pub result : q ≡ moment types (entered callee.method call.receiver call.arguments ∷ (a ∷ callers))
 
--- the answer comes to the caller, if there is one
+-- the caller gets the answer, if there is a caller
 abbrev pub Answered : Types → Option Value → List Activation → Moment → Type 0
 Answered types answer [] q = q ≡ moment types []
 Answered types answer (a ∷ callers) q = (b : Activation) × GoesOn types a answer b × (q ≡ moment types (b ∷ callers))
@@ -205,14 +205,14 @@ pub record Returns (world : World) (types : Types) (a : Activation) (callers : L
   pub ends : EndsBy task a.method (state_in types a) None None fresh
   pub answered : Answered (types_of (with_fresh (heap_in types a.status) fresh)) (handed_over (task a.method ends.act) a.stack) callers q
 
--- the object that was raised comes to the first caller that catches it; those that do not are taken off
+-- the object that was raised comes to the first caller that catches it; the activations of those that do not end
 abbrev pub Unwinds : World → Types → ℕ → List Activation → Moment → Type 0
 Unwinds world types address [] q = q ≡ moment types []
 Unwinds world types address (a ∷ callers) q =
     ((entry : ℕ) × StepsAlone world types a callers (raise address [] (Some entry)) q)
     ⊎ (Happens world a.method (state_in types a) (raise address [] None) ended × Unwinds world types address callers q)
 
--- it raises what it does not catch
+-- it raises an object that it does not catch
 pub record Raises (world : World) (types : Types) (a : Activation) (callers : List Activation) (q : Moment) : Type 0 where
   pub address : ℕ
   pub fresh : List (ℕ × ReferenceType)
@@ -235,7 +235,7 @@ pub record Begins (world : World) (InPlay : Callee → Type 0) (q : Moment) : Ty
   pub initial : IsInitial world callee.method state
   pub result : q ≡ moment (types_of state.heap) (activation callee.method state ∷ [])
 
--- the newest first
+-- the moments of a run, the newest first
 abbrev pub IsClassRun : World → (Callee → Type 0) → List Moment → Type 0
 IsClassRun world InPlay [] = ⊥
 IsClassRun world InPlay (q ∷ []) = Begins world InPlay q

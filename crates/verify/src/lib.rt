@@ -50,8 +50,8 @@ mod verdict;
 pub use among::{AmongFault, verify_among};
 pub use files::{FileFault, FileRead, class_file};
 pub use laws::{
-    class_run_breadth, fits_breadth, map_refused_where, one_report, one_verdict, refused_breaks, refused_where,
-    type_safe_is_verified, verified_is_type_safe,
+    class_run_breadth, fits_breadth, map_refused_where, one_report, one_verdict, refused_breaks,
+    refused_where, type_safe_is_verified, verified_is_type_safe,
 };
 pub use method::verify_method;
 pub use play::{PlayFault, PlayRule, verify_play};

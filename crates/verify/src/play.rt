@@ -49,7 +49,10 @@ pub enum PlayStop<'a> {
     /// Memory ran out.
     OutOfMemory,
     /// The class of this number breaks this rule.
-    Broken { class: usize, rule: PlayRule },
+    Broken {
+        class: usize,
+        rule: PlayRule,
+    },
     /// The first method of the class that is refused has this number.
     Refused {
         class: usize,

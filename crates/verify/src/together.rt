@@ -28,13 +28,19 @@ pub enum TogetherFault<'a> {
     OutOfMemory,
     /// The file of this number is no class that is well formed; those before it are.
     #[error("class {number} {fault}")]
-    Refused { number: usize, fault: FileFault },
+    Refused {
+        number: usize,
+        fault: FileFault,
+    },
     /// The classes are no hierarchy: 40 to 46.
     #[error("hierarchy refused {}", .0.number())]
     NoHierarchy(HierarchyFault<'a>),
     /// The class of this number is the first that breaks a rule, and it breaks this one: 81.
     #[error("class {number} refused {}", rule.number())]
-    Broken { number: usize, rule: PlayRule },
+    Broken {
+        number: usize,
+        rule: PlayRule,
+    },
     /// The class of this number is the first that breaks a rule, and this is its first method that is refused.
     #[error("class {number} refused 84")]
     NotVerified {
@@ -123,10 +129,7 @@ fn form_all<'c, 'a>(
 }
 
 /// The summaries of classes.
-fn summaries_of<'a>(
-    alloc: Global,
-    play: &[Formed<'_, 'a>],
-) -> Result<Vec<Summary<'a>>, AllocError>
+fn summaries_of<'a>(alloc: Global, play: &[Formed<'_, 'a>]) -> Result<Vec<Summary<'a>>, AllocError>
     ensures { IfOk result (λ v. facts_of v.items ≡ map summary_of (map (λ f. class_view f.class.now) play.now)) }
 {
     let mut summaries = Vec::with_capacity(alloc, play.len())?;

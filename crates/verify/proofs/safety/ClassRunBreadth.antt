@@ -321,7 +321,7 @@ module _ (breadth : StepBreadth) (w : World) (InPlay : Callee → Type 0) where
       no_fault = returns_so.0;
       ends = returns_so.1;
       answered = subst (λ t. Answered t (handed_over (task a.method returns_so.1.act) a.stack) callers q) (sym (types_with p.types a.status fresh))
-      (subst (λ v. Answered (with_types p.types fresh) v callers q) (sym handed_so) k);
+          (subst (λ v. Answered (with_types p.types fresh) v callers q) (sym handed_so) k);
     }
 
   -- ---- an object is raised

@@ -75,9 +75,10 @@ module _ (h : List ClassFact) (w : World) (hh : IsHierarchy h) (x : Extends w h)
   calls types a callers q k s =
       let p = known s.callee s.in_play in
       let type = callee_type h w hh x a s.call s.callee p s.descriptor in
-      subst HoldsAt (sym s.result)
-      (enters h w hh x types a k.0 s.call s.callee p s.no_fault s.name s.descriptor s.may,
-      (k.0, (λ d. ap (λ z. z.type.result) (one_constant a d s.call) ∙ ap (λ z. z.result) (sym type)), k.1))
+      subst HoldsAt (sym s.result) (
+        enters h w hh x types a k.0 s.call s.callee p s.no_fault s.name s.descriptor s.may,
+        (k.0, (λ d. ap (λ z. z.type.result) (one_constant a d s.call) ∙ ap (λ z. z.result) (sym type)), k.1),
+      )
 
   -- ---- an answer comes to the caller
 
