@@ -7,6 +7,7 @@ use Rattle.names.specs.Descriptors.{class}
 use Rattle.names.specs.ReferenceTypes.{ReferenceType, class_type}
 use Rattle.names.specs.StandardNames.{init_name}
 use Rattle.pool.specs.Members.{MethodConstant, method_at}
+use Rattle.classfile.specs.Values.{Class}
 use Rattle.classfile.specs.Methods.{Method, own_receiver, receiver_of}
 use Rattle.hierarchy.specs.World.{World}
 use Rattle.insn.specs.Meanings as acts
@@ -21,6 +22,7 @@ use Rattle.machine.specs.Demands.{State, IsNoFault}
 use Rattle.machine.specs.Steps.{Choice, raise, goes_on, ended, Happens}
 use Rattle.machine.specs.Runs.{IsInitial}
 use Rattle.verify.specs.ClassRuns.{Callee, Types, Activation, heap_in, state_in, Moment, IsClassRun}
+use Rattle.verify.specs.ClassRunSafety.{IsInPlay}
 
 -- ---- moments
 
@@ -220,5 +222,6 @@ pub record HasClassRuns (world : World) (InPlay : Callee → Type 0) : Type 0 wh
       → (address : ℕ) (fresh : List (ℕ × ReferenceType)) → Throws world p.types address fresh a → DoNotCatch world (with_types p.types fresh) address passed
       → (q : Moment) × Follows world InPlay p q × (q.activations ≡ [])
 
+-- whatever the classes in play are
 abbrev pub ClassRunBreadth : Type 0
-ClassRunBreadth = (world : World) (InPlay : Callee → Type 0) → HasClassRuns world InPlay
+ClassRunBreadth = (world : World) (cs : List Class) → HasClassRuns world (IsInPlay cs)

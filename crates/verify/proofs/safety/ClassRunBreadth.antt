@@ -21,6 +21,7 @@ use Rattle.machine.specs.Demands.{State, IsNoFault}
 use Rattle.machine.specs.Steps.{Choice, go, raise, goes_on, ended, IsLast, EndsBy, Happens}
 use Rattle.machine.specs.Runs.{IsInitial}
 use Rattle.verify.specs.ClassRuns.{Callee, Types, Activation, heap_in, state_in, types_of, status_of, activation, Moment, moment, Way, static, special, virtual, by_way, called, IsReceiver, pushed, IsCall, MayEnter, first_status, entered, constructs, status_after, on_top, IsReadyAnswer, taken, resumed, GoesOn, handed_over, StepsAlone, Enters, Answered, Returns, Unwinds, Raises, Goes, Begins, IsClassRun}
+use Rattle.verify.specs.ClassRunSafety.{IsInPlay}
 use Rattle.verify.specs.ClassRunBreadth.{Follows, Sees, Shows, with_types, named_method, receivers, IsOn, HasReceiver, AreOnTop, Calls, IsOfClass, MaySelect, Selects, IsOwnObject, IsEntered, handed, IsReadyFor, is_constructor_call, with_answer, IsAnswered, IsConstructed, IsResumed, IsReturn, Throws, DoNotCatch, HasClassRuns, ClassRunBreadth}
 use Rattle.verify.proofs.safety.ClassCalls.{some_same}
 use Rattle.verify.proofs.safety.ClassMoments.{none_some, same_heaps, seen, here}
@@ -159,7 +160,7 @@ found m (acts.InvokeInterface i count) c values e many r =
     found_on m (acts.InvokeInterface i count) c values virtual (ap (by_way virtual) e) refl (λ own. (own, refl)) (λ w h n own is k. on_receiver w h n values own c is k) many r
 found m _ c values e many r = absurd (none_some c e)
 
-call_of : (a : Activation) (act : Act) (c : MethodConstant) (values below : List Value) → Calls a act c values below → Found a.method act c values → IsCall a
+abbrev call_of : (a : Activation) (act : Act) (c : MethodConstant) (values below : List Value) → Calls a act c values below → Found a.method act c values → IsCall a
 call_of a act c values below k f = record {
   act = act;
   here = k.here;
@@ -443,13 +444,13 @@ module _ (breadth : StepBreadth) (w : World) (InPlay : Callee → Type 0) where
       (q, goes_to p q (a ∷ passed) e (inr (inr (inr (raises_by p a passed address fresh q k (unwinds_out (with_types p.types fresh) address passed n))))), refl)
 
 pub class_run_breadth : StepBreadth → ClassRunBreadth
-class_run_breadth breadth w InPlay = record {
+class_run_breadth breadth w cs = record {
   views = views;
-  begins = begins breadth w InPlay;
-  steps = steps breadth w InPlay;
-  calls = calls breadth w InPlay;
-  returns = returns breadth w InPlay;
-  ends = ends breadth w InPlay;
-  catches = catches breadth w InPlay;
-  uncaught = uncaught breadth w InPlay;
+  begins = begins breadth w (IsInPlay cs);
+  steps = steps breadth w (IsInPlay cs);
+  calls = calls breadth w (IsInPlay cs);
+  returns = returns breadth w (IsInPlay cs);
+  ends = ends breadth w (IsInPlay cs);
+  catches = catches breadth w (IsInPlay cs);
+  uncaught = uncaught breadth w (IsInPlay cs);
 }
