@@ -1,6 +1,7 @@
 -- Files that are classes, and all of them in play.
-use Rattle.std.proofs.Common.{◌≡◌, ℕ, zero, suc, ◌+◌, ◌<◌, ◌≤◌, List, [], ◌∷◌, ◌++◌, map, take, length, Some, None, Result, Ok, Err, refl, sym, ap, ◌∙◌, subst, arith}
-use Rattle.std.specs.Prelude.{slice_get}
+use Rattle.std.proofs.Common.{◌≡◌, ℕ, zero, suc, ◌+◌, ◌<◌, ◌≤◌, List, [], ◌∷◌, ◌++◌, map, take, length, Option, Some, None, Result, Ok, Err, Vec, Global, refl, sym, ap, ◌∙◌, subst, arith}
+use Rattle.std.specs.Prelude.{slice_get, MatchResult, IfOk}
+use Rattle.std.proofs.lemmas.List.{take_all, map-append}
 use Rattle.classfile.specs.Values.{Class}
 use Rattle.classfile.specs.WellFormed.{WellFormed}
 use Rattle.classfile.specs.declared.class_file.ClassFile.{ClassFile}
@@ -10,14 +11,18 @@ use Rattle.hierarchy.specs.Class.{ClassFact}
 use Rattle.hierarchy.specs.Rules.{IsHierarchy}
 use Rattle.hierarchy.specs.ClassSummary.{summary_of}
 use Rattle.verify.specs.declared.files.FileFault.{FileFault}
+use Rattle.verify.specs.declared.report.MethodVerdict.{MethodVerdict}
+use Rattle.verify.specs.declared.report.Report.{Report}
+use Rattle.verify.specs.declared.play.PlayRule.{PlayRule}
 use Rattle.verify.specs.declared.play.PlayStop.{PlayStop}
 use Rattle.verify.specs.declared.play.PlayStop.TheVariants as stops
 use Rattle.verify.specs.declared.together.TogetherFault.{TogetherFault}
 use Rattle.verify.specs.declared.together.TogetherFault.TheVariants.{OutOfMemory, Refused, NoHierarchy, Broken, NotVerified}
 use Rattle.verify.specs.Files.{Read, IsDecoded, IsFormed, IsRefused, AreFormed, IsFirstRefused}
 use Rattle.verify.specs.Plays.{IsStopped}
-use Rattle.verify.specs.Together.{HaveNone, NotTogether}
-use Rattle.verify.specs.TogetherSteps.{AreDecoded, AreWellFormed, views, IsWithin}
+use Rattle.verify.specs.Together.{HaveReports, HaveNone, ReportsTogether, NotTogether, ArePlayableFiles}
+use Rattle.verify.specs.TogetherSteps.{AreDecoded, AreWellFormed, DecodesAll, views, IsWithin}
+use Rattle.verify.specs.ClassRunSafety.{ArePlayable}
 use Rattle.verify.proofs.Formed.{decoded_formed, earlier_formed}
 
 some_same : {A : Type 0} (a b : A) → Some a ≡ Some b → a ≡ b
@@ -93,3 +98,48 @@ stops_within classes cs (stops.Refused class number method) ((c, here, why), bef
 pub classes_of : (all : List Formed) → map (λ f. class_view f.class.now) all ≡ views (map (λ f. f.class.now) all)
 classes_of [] = refl
 classes_of (f ∷ all) = ap (λ z. class_view f.class.now ∷ z) (classes_of all)
+
+-- ---- steps
+
+pub front_of_all : (reads : List Read) (cs : List Class) (fault : Option TogetherFault) → DecodesAll reads cs fault → AreDecoded (take (length cs) reads) cs
+front_of_all reads cs None all = subst (λ rs. AreDecoded rs cs) (sym (take_all (length cs) reads (omega (arith, as_many reads cs all)))) all
+front_of_all reads cs (Some fault) all = all.0
+
+-- all classes in front of a file that is refused
+pub first_behind : (reads : List Read) (cs : List Class) (read : Read) (fault : FileFault) → AreDecoded (take (length cs) reads) cs → AreWellFormed cs → slice_get reads (length cs) ≡ Some read
+    → IsRefused read fault → IsFirstRefused reads (length cs) fault
+first_behind reads cs read fault all formed here refused =
+    first_refused reads cs (length cs) read fault (omega arith) all (subst AreWellFormed (sym (take_all (length cs) cs (omega arith))) formed) here refused
+
+pub broken_at : (cs : List Class) (stop : PlayStop) (class : ℕ) (rule : PlayRule) → stop ≡ stops.Broken class rule → IsHierarchy (map summary_of cs) → IsStopped (map summary_of cs) cs stop
+    → HaveNone cs (Broken (class + 1) rule)
+broken_at cs stop class rule e hierarchy p = (hierarchy, (class, refl, subst (IsStopped (map summary_of cs) cs) e p))
+
+pub refused_at : (cs : List Class) (stop : PlayStop) (class number : ℕ) (method : MethodVerdict) → stop ≡ stops.Refused class number method → IsHierarchy (map summary_of cs)
+    → IsStopped (map summary_of cs) cs stop → HaveNone cs (NotVerified (class + 1) method)
+refused_at cs stop class number method e hierarchy p =
+    let ((c, here, refused), before) = subst (IsStopped (map summary_of cs) cs) e p in
+    (hierarchy, (class, refl, ((c, here, (number, refused)), before)))
+
+pub more_views : (old : List ClassFile) (x : ClassFile) → views (old ++ x ∷ []) ≡ views old ++ class_view x ∷ []
+more_views old x = map-append (λ c. class_view c) old (x ∷ [])
+
+pub more_classes : (old : List Formed) (x : Formed) → map (λ f. f.class.now) (old ++ x ∷ []) ≡ map (λ f. f.class.now) old ++ x.class.now ∷ []
+more_classes old x = map-append (λ f. f.class.now) old (x ∷ [])
+
+-- the reports on the classes are those on the files
+pub of_classes : (reads : List Read) (cs ds : List Class) (rs : List Report) → ds ≡ cs → AreFormed reads cs → HaveReports ds rs → ReportsTogether reads rs
+of_classes reads cs ds rs e all p = (cs, all, subst (λ k. HaveReports k rs) e p)
+
+pub none_of_classes : (reads : List Read) (cs ds : List Class) (fault : TogetherFault) → ds ≡ cs → AreFormed reads cs → HaveNone ds fault → NotTogether reads fault
+none_of_classes reads cs ds fault e all p = not_together reads cs fault all (subst (λ k. HaveNone k fault) e p)
+
+pub told : (reads : List Read) (cs ds : List Class) (r : Result (Vec Report Global) TogetherFault) → ds ≡ cs → AreFormed reads cs → MatchResult r (λ rs. HaveReports ds rs.items) (HaveNone ds)
+    → MatchResult r (λ rs. ReportsTogether reads rs.items) (NotTogether reads)
+told reads cs ds (Ok rs) e all p = of_classes reads cs ds rs.items e all p
+told reads cs ds (Err fault) e all p = none_of_classes reads cs ds fault e all p
+
+pub playable : (reads : List Read) (cs ds : List Class) (r : Result (Vec Report Global) TogetherFault) → ds ≡ cs → AreFormed reads cs → IfOk r (λ rs. ArePlayable (map summary_of ds) ds)
+    → IfOk r (λ rs. ArePlayableFiles reads)
+playable reads cs ds (Ok rs) e all p = (cs, all, subst (λ k. ArePlayable (map summary_of k) k) e p)
+playable reads cs ds (Err fault) e all p = p

@@ -1,5 +1,5 @@
 -- Classes in play: names that were met, and what follows of the reports on all classes.
-use Rattle.std.proofs.Common.{◌≡◌, ◌⊎◌, inl, inr, ℕ, zero, suc, ◌+◌, ◌<◌, ◌≤◌, Bool, true, false, ◌||◌, List, [], ◌∷◌, length, Option, Some, None, Ok, refl, sym, ap, ◌∙◌, subst, arith, eq-or-lt_of_le}
+use Rattle.std.proofs.Common.{◌≡◌, ◌⊎◌, inl, inr, ℕ, zero, suc, ◌+◌, ◌<◌, ◌≤◌, Bool, true, false, ◌||◌, List, [], ◌∷◌, length, Option, Some, None, Ok, Err, refl, sym, ap, ◌∙◌, subst, arith, eq-or-lt_of_le}
 use Rattle.std.specs.Prelude.{slice_get}
 use Rattle.std.specs.Option.{option_and_then}
 use Rattle.std.specs.Str.{bytes_eq}
@@ -24,9 +24,12 @@ use Rattle.machine.specs.Demands.{IsNoFault}
 use Rattle.verify.specs.ClassRuns.{Moment, state_in, IsClassRun}
 use Rattle.verify.specs.ClassRunSafety.{IsInPlay, AreVerified, ArePlayable}
 use Rattle.verify.specs.declared.met_names.MetNames.{MetNames}
+use Rattle.verify.specs.declared.play.PlayFault.TheVariants.{NotAllVerified}
+use Rattle.verify.specs.declared.play.PlayStop.{PlayStop}
+use Rattle.verify.specs.declared.play.PlayStop.TheVariants as stops
 use Rattle.verify.specs.MetNames.{is_met, Meets}
-use Rattle.verify.specs.Plays.{IsFineVerdict, AreFineBelow, HasEarlier, IsFirstOfName, IsFine, AreFine, ArePlayed}
-use Rattle.verify.specs.PlaySteps.{AreMet}
+use Rattle.verify.specs.Plays.{IsFineVerdict, AreFineBelow, HasEarlier, IsFirstOfName, IsFine, Breaks, HasRefused, AreFine, ArePlayed, BreaksFirst, IsNotPlayed, IsStopped}
+use Rattle.verify.specs.PlaySteps.{AreMet, Judges}
 use Rattle.verify.proofs.safety.Worlds.{name_same}
 use Rattle.verify.proofs.safety.OneMethod.{one_method}
 use Rattle.verify.proofs.safety.ClassRuns.{verified_is_playable}
@@ -163,3 +166,19 @@ more_fine rs n m all here fine k r lt at =
     go : (k ≡ n) ⊎ (k < n) → IsFineVerdict r.verdict
     go (inl e) = subst (λ z. IsFineVerdict z.verdict) (some_same m r (sym here ∙ ap (slice_get rs) (sym e) ∙ at)) fine
     go (inr l) = all k r l at
+
+-- ---- why there are no reports
+
+pub stopped : (h : List ClassFact) (cs : List Class) (i : ℕ) (c : Class) (names : MetNames) (stop : PlayStop) (rs : List Report) → slice_get cs i ≡ Some c → length rs ≡ i → AreFine h cs rs
+    → Judges h cs i c names (Err stop) → IsStopped h cs stop
+stopped h cs i c names stops.OutOfMemory rs here many fine p = tt
+stopped h cs i c names (stops.Broken class rule) rs here many fine p =
+    subst (λ n. BreaksFirst h cs n (λ d. Breaks h cs n d rule)) (sym p.0) ((c, here, p.1), (rs, many, fine))
+stopped h cs i c names (stops.Refused class number method) rs here many fine p =
+    subst (λ n. BreaksFirst h cs n (λ d. HasRefused h cs n d number method)) (sym p.0) ((c, here, p.1), (rs, many, fine))
+
+pub not_all_verified : (h : List ClassFact) (cs : List Class) (stop : PlayStop) (class number : ℕ) (method : MethodVerdict) → stop ≡ stops.Refused class number method
+    → IsStopped h cs stop → IsNotPlayed h cs (NotAllVerified class number)
+not_all_verified h cs stop class number method e p =
+    let ((c, here, refused), before) = subst (IsStopped h cs) e p in
+    ((c, here, (method, refused)), before)

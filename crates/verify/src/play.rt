@@ -1,7 +1,8 @@
 //! Classes in play: the reports on classes whose methods may call each other.
-ghost use Rattle.std.specs.Prelude.{◌≡◌, ◌↔◌, IsTrue, List, map, length, slice_get, Some, IfOk, MatchOption, MatchResult};
+ghost use Rattle.std.specs.Prelude.{◌≡◌, ◌↔◌, ◌<◌, IsTrue, List, map, length, slice_get, Some, IfOk, MatchOption, MatchResult};
 ghost use Rattle.classfile.specs.Values.{Class};
 ghost use Rattle.classfile.specs.Views.{class_view};
+ghost use Rattle.hierarchy.specs.Class.{ClassFact};
 ghost use Rattle.hierarchy.specs.Rules.{IsHierarchy};
 ghost use Rattle.verify.specs.Plays.{IsFineVerdict, IsFirstRefused, AreFineBelow, ArePlayed, IsNotPlayed, IsStopped, rule_number, play_fault_number};
 ghost use Rattle.verify.specs.PlaySteps.{AreMet, Judges};
@@ -173,15 +174,31 @@ pub fn reports_in_play<'a, C: Classes>(
     classes: &C,
 ) -> Result<Vec<Report<'a>>, PlayStop<'a>>
     ensures exactly { let cs = map (λ f. class_view f.class.now) play.now in MatchResult result (λ rs. ArePlayed (C.content classes.now) cs rs.items) (IsStopped (C.content classes.now) cs) }
-    ensures safe { IfOk result (λ _. ArePlayable (C.content classes.now) (map (λ f. class_view f.class.now) play.now)) }
+    ensures hierarchy { IfOk result (λ rs. 0 < length rs.items → IsHierarchy (C.content classes.now)) }
 {
     let mut reports = Vec::with_capacity(alloc, play.len())?;
     let mut names = MetNames::new(alloc);
     for class in 0..play.len() {
-        let report = judge(alloc, &play[class], class, &mut names, classes)?;
-        reports.push(report)?;
+        match judge(alloc, &play[class], class, &mut names, classes) {
+            Ok(report) => reports.push(report)?,
+            Err(stop) => return Err(stop),
+        }
     }
     Ok(reports)
+}
+
+/// The fault of classes in play that have no reports.
+fn fault_of(stop: PlayStop<'_>) -> PlayFault
+    ensures { (classes : List ClassFact) (cs : List Class) → IsStopped classes cs stop.entry → IsNotPlayed classes cs result }
+{
+    match stop {
+        PlayStop::OutOfMemory => PlayFault::OutOfMemory,
+        PlayStop::Broken { class, rule } => PlayFault::Broken { class, rule },
+        PlayStop::Refused { class, number, .. } => PlayFault::NotAllVerified {
+            class,
+            method: number,
+        },
+    }
 }
 
 /// The reports on classes that are in play together: any method of theirs may be entered where another calls it. They are in the order of the
@@ -202,11 +219,6 @@ pub fn verify_play<'a, C: Classes>(
 {
     match reports_in_play(alloc, play, classes) {
         Ok(reports) => Ok(reports),
-        Err(PlayStop::OutOfMemory) => Err(PlayFault::OutOfMemory),
-        Err(PlayStop::Broken { class, rule }) => Err(PlayFault::Broken { class, rule }),
-        Err(PlayStop::Refused { class, number, .. }) => Err(PlayFault::NotAllVerified {
-            class,
-            method: number,
-        }),
+        Err(stop) => Err(fault_of(stop)),
     }
 }

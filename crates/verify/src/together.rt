@@ -15,7 +15,7 @@ use crate::files::{FileFault, FileRead, class_in, formed};
 use crate::play::{PlayRule, PlayStop, reports_in_play};
 use crate::report::{MethodVerdict, Report};
 use classfile::{ClassFile, Formed};
-use hierarchy::{HierarchyFault, Rows, Summary, summary_of};
+use hierarchy::{Classes, HierarchyFault, Rows, Summary, summary_of};
 use std::alloc::{AllocError, AllocFailed, Global};
 use std::hash::BuildHasher;
 use thiserror::Error;
@@ -69,35 +69,6 @@ impl<'a, T: Drop> From<AllocFailed<T>> for TogetherFault<'a> {
     }
 }
 
-/// The classes that files are, up to the first that is none, and why it is none.
-#[derive(Drop)]
-struct Decoded<'a> {
-    classes: Vec<ClassFile<'a>>,
-    fault: Option<FileFault>,
-}
-
-/// Decodes the files in turn, up to the first that is no class.
-fn decode_all<'a>(alloc: Global, files: &[FileRead<'a>]) -> Result<Decoded<'a>, AllocError>
-    ensures { IfOk result (λ d. DecodesAll (map read_of files.now) (views d.classes.items) d.fault) }
-{
-    let mut classes = Vec::with_capacity(alloc, files.len())?;
-    for file in files {
-        match class_in(alloc, *file) {
-            Ok(class) => classes.push(class)?,
-            Err(fault) => {
-                return Ok(Decoded {
-                    classes,
-                    fault: Some(fault),
-                });
-            }
-        }
-    }
-    Ok(Decoded {
-        classes,
-        fault: None,
-    })
-}
-
 /// The fault of the file of this number, which is refused.
 fn refused<'a>(number: usize, fault: FileFault) -> TogetherFault<'a>
     ensures { (reads : List Read) (read : Read) (i : ℕ) → number ≡ i + 1 → OrMemory read fault → (IsRefused read fault → IsFirstRefused reads i fault) → NotTogether reads result }
@@ -110,13 +81,40 @@ fn refused<'a>(number: usize, fault: FileFault) -> TogetherFault<'a>
     }
 }
 
+/// The classes that files are, up to the first that is none, and its fault.
+#[derive(Drop)]
+struct Decoded<'a> {
+    classes: Vec<ClassFile<'a>>,
+    fault: Option<TogetherFault<'a>>,
+}
+
+/// Decodes the files in turn, up to the first that is no class.
+fn decode_all<'a>(alloc: Global, files: &[FileRead<'a>]) -> Result<Decoded<'a>, AllocError>
+    ensures { IfOk result (λ d. DecodesAll (map read_of files.now) (views d.classes.items) d.fault) }
+{
+    let mut classes = Vec::with_capacity(alloc, files.len())?;
+    for (i, file) in files.iter().enumerate() {
+        match class_in(alloc, *file) {
+            Ok(class) => classes.push(class)?,
+            Err(fault) => {
+                let fault = Some(refused(i + 1, fault));
+                return Ok(Decoded { classes, fault });
+            }
+        }
+    }
+    Ok(Decoded {
+        classes,
+        fault: None,
+    })
+}
+
 /// The classes as such that are well formed; or the first that breaks a rule.
 fn form_all<'c, 'a>(
     alloc: Global,
     classes: &'c [ClassFile<'a>],
 ) -> Result<Vec<Formed<'c, 'a>>, TogetherFault<'a>>
     ensures formed { IfOk result (λ v. (map (λ f. f.class.now) v.items ≡ classes.now) × AreWellFormed (views classes.now)) }
-    ensures refused { IfErr result (λ e. (reads : List Read) → AreDecoded (take (length classes.now) reads) (views classes.now) → NotTogether reads e) }
+    ensures refused { IfErr result (λ e. (reads : List Read) → AreDecoded (take (length (views classes.now)) reads) (views classes.now) → NotTogether reads e) }
 {
     let mut all = Vec::with_capacity(alloc, classes.len())?;
     for i in 0..classes.len() {
@@ -141,7 +139,7 @@ fn summaries_of<'a>(alloc: Global, play: &[Formed<'_, 'a>]) -> Result<Vec<Summar
 
 /// Why the classes in play, of which there are so many, have no reports.
 fn stopped<'a>(stop: PlayStop<'a>, many: usize) -> TogetherFault<'a>
-    requires { IsWithin many stop.entry }
+    requires { IsWithin many stop }
     ensures { (cs : List Class) → IsHierarchy (map summary_of cs) → IsStopped (map summary_of cs) cs stop.entry → HaveNone cs result }
 {
     match stop {
@@ -157,7 +155,42 @@ fn stopped<'a>(stop: PlayStop<'a>, many: usize) -> TogetherFault<'a>
     }
 }
 
-/// The reports on classes under the hierarchy that they are.
+/// The reports on classes in play, of whose summaries the hierarchy is made.
+fn reports_under<'a, C: Classes>(
+    alloc: Global,
+    play: &[Formed<'_, 'a>],
+    classes: &C,
+) -> Result<Vec<Report<'a>>, TogetherFault<'a>>
+    requires content { C.content classes.now ≡ map summary_of (map (λ f. class_view f.class.now) play.now) }
+    requires hierarchy { IsHierarchy (C.content classes.now) }
+    ensures exactly { let cs = map (λ f. class_view f.class.now) play.now in MatchResult result (λ rs. HaveReports cs rs.items) (HaveNone cs) }
+    ensures safe { let cs = map (λ f. class_view f.class.now) play.now in IfOk result (λ _. ArePlayable (map summary_of cs) cs) }
+{
+    match reports_in_play(alloc, play, classes) {
+        Ok(reports) => Ok(reports),
+        Err(stop) => Err(stopped(stop, play.len())),
+    }
+}
+
+/// The reports on classes in play, whose summaries these are; or why they are no hierarchy.
+fn reports_among<'a, S: BuildHasher + Drop>(
+    alloc: Global,
+    play: &[Formed<'_, 'a>],
+    summaries: &[Summary<'a>],
+    hasher: S,
+) -> Result<Vec<Report<'a>>, TogetherFault<'a>>
+    requires { facts_of summaries.now ≡ map summary_of (map (λ f. class_view f.class.now) play.now) }
+    ensures exactly { let cs = map (λ f. class_view f.class.now) play.now in MatchResult result (λ rs. HaveReports cs rs.items) (HaveNone cs) }
+    ensures safe { let cs = map (λ f. class_view f.class.now) play.now in IfOk result (λ _. ArePlayable (map summary_of cs) cs) }
+{
+    match Rows::new(alloc, summaries, hasher) {
+        Ok(classes) => reports_under(alloc, play, &classes),
+        Err(HierarchyFault::OutOfMemory) => Err(TogetherFault::OutOfMemory),
+        Err(fault) => Err(TogetherFault::NoHierarchy(fault)),
+    }
+}
+
+/// The reports on classes in play, under the hierarchy that they are.
 fn reports_on<'a, S: BuildHasher + Drop>(
     alloc: Global,
     play: &[Formed<'_, 'a>],
@@ -167,14 +200,26 @@ fn reports_on<'a, S: BuildHasher + Drop>(
     ensures safe { let cs = map (λ f. class_view f.class.now) play.now in IfOk result (λ _. ArePlayable (map summary_of cs) cs) }
 {
     let summaries = summaries_of(alloc, play)?;
-    let classes = match Rows::new(alloc, &summaries, hasher) {
-        Ok(classes) => classes,
-        Err(HierarchyFault::OutOfMemory) => return Err(TogetherFault::OutOfMemory),
-        Err(fault) => return Err(TogetherFault::NoHierarchy(fault)),
+    reports_among(alloc, play, &summaries, hasher)
+}
+
+/// The reports on the classes of files, which were decoded so.
+fn reports_decoded<'a, S: BuildHasher + Drop>(
+    alloc: Global,
+    classes: &[ClassFile<'a>],
+    fault: Option<TogetherFault<'a>>,
+    hasher: S,
+) -> Result<Vec<Report<'a>>, TogetherFault<'a>>
+    ensures exactly { (reads : List Read) → DecodesAll reads (views classes.now) fault.entry → MatchResult result (λ rs. ReportsTogether reads rs.items) (NotTogether reads) }
+    ensures safe { (reads : List Read) → DecodesAll reads (views classes.now) fault.entry → IfOk result (λ _. ArePlayableFiles reads) }
+{
+    let play = match form_all(alloc, classes) {
+        Ok(play) => play,
+        Err(broken) => return Err(broken),
     };
-    match reports_in_play(alloc, play, &classes) {
-        Ok(reports) => Ok(reports),
-        Err(stop) => Err(stopped(stop, play.len())),
+    match fault {
+        Some(fault) => Err(fault),
+        None => reports_on(alloc, &play, hasher),
     }
 }
 
@@ -194,9 +239,5 @@ pub fn verify_together<'a, S: BuildHasher + Drop>(
     ensures safe { IfOk result (λ _. ArePlayableFiles (map read_of files.now)) }
 {
     let decoded = decode_all(alloc, files)?;
-    let play = form_all(alloc, &decoded.classes)?;
-    match decoded.fault {
-        Some(fault) => Err(refused(play.len() + 1, fault)),
-        None => reports_on(alloc, &play, hasher),
-    }
+    reports_decoded(alloc, &decoded.classes, decoded.fault, hasher)
 }

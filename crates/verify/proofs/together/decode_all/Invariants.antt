@@ -4,6 +4,5 @@ use Rattle.verify.specs.Files.{read_of}
 use Rattle.verify.specs.TogetherSteps.{AreDecoded, views}
 use Rattle.verify.proofs.together.decode_all.Given as goal
 
-abbrev pub invariant-loop-file : goal.invariant-loop-file
-invariant-loop-file l =
-    AreDecoded (take l.file-index (map read_of l.files)) (views l.classes.items) × (length l.classes.items ≡ l.file-index)
+abbrev pub invariant-loop-i : goal.invariant-loop-i
+invariant-loop-i l = AreDecoded (take l.i (map read_of l.files)) (views l.classes.items) × (length l.classes.items ≡ l.i)
