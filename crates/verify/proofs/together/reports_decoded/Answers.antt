@@ -14,15 +14,15 @@ returns-in-Some-clause-exactly g c = λ reads all.
     let some = subst (DecodesAll reads (views c.args.classes.now)) c.in-Some.is all in
     some.1 c.in-Ok.ensures.formed.1
 
-pub returns-in-None-clause-exactly : goal.returns-in-None-clause-exactly
-returns-in-None-clause-exactly g c = λ reads all.
+pub returns-clause-exactly : goal.returns-clause-exactly
+returns-clause-exactly g c = λ reads all.
     let cs = views c.args.classes.now in
     let none = subst (DecodesAll reads cs) c.in-None.is all in
     let same = ap (map (λ (f : Formed). class_view f.class.now)) c.deref.ensures.value ∙ classes_of c.in-Ok.play.items ∙ ap views c.in-Ok.ensures.formed.0 in
     told reads cs (map (λ f. class_view f.class.now) c.deref.result.now) c.reports_on.result same (all_formed reads cs none c.in-Ok.ensures.formed.1) c.reports_on.ensures.exactly
 
-pub returns-in-None-clause-safe : goal.returns-in-None-clause-safe
-returns-in-None-clause-safe g c = λ reads all.
+pub returns-clause-safe : goal.returns-clause-safe
+returns-clause-safe g c = λ reads all.
     let cs = views c.args.classes.now in
     let none = subst (DecodesAll reads cs) c.in-None.is all in
     let same = ap (map (λ (f : Formed). class_view f.class.now)) c.deref.ensures.value ∙ classes_of c.in-Ok.play.items ∙ ap views c.in-Ok.ensures.formed.0 in
