@@ -1,5 +1,5 @@
 -- Files that are classes, and all of them in play.
-use Rattle.std.proofs.Common.{◌≡◌, ℕ, zero, suc, ◌+◌, ◌<◌, ◌≤◌, List, [], ◌∷◌, ◌++◌, map, take, length, Option, Some, None, Result, Ok, Err, Vec, Global, refl, sym, ap, ◌∙◌, subst, arith}
+use Rattle.std.proofs.Common.{◌≡◌, ℕ, zero, suc, ◌+◌, ◌<◌, ◌≤◌, List, [], ◌∷◌, ◌++◌, map, take, length, Option, Some, None, Result, Ok, Err, Vec, Global, refl, sym, ap, subst, arith}
 use Rattle.std.specs.Prelude.{slice_get, MatchResult, IfOk}
 use Rattle.std.proofs.lemmas.List.{take_all, map-append}
 use Rattle.classfile.specs.Values.{Class}
@@ -18,7 +18,7 @@ use Rattle.verify.specs.declared.play.PlayStop.{PlayStop}
 use Rattle.verify.specs.declared.play.PlayStop.TheVariants as stops
 use Rattle.verify.specs.declared.together.TogetherFault.{TogetherFault}
 use Rattle.verify.specs.declared.together.TogetherFault.TheVariants.{OutOfMemory, Refused, NoHierarchy, Broken, NotVerified}
-use Rattle.verify.specs.Files.{Read, IsDecoded, IsFormed, IsRefused, AreFormed, IsFirstRefused}
+use Rattle.verify.specs.Files.{Read, IsDecoded, IsRefused, AreFormed, IsFirstRefused}
 use Rattle.verify.specs.Plays.{IsStopped}
 use Rattle.verify.specs.Together.{HaveReports, HaveNone, ReportsTogether, NotTogether, ArePlayableFiles}
 use Rattle.verify.specs.TogetherSteps.{AreDecoded, AreWellFormed, DecodesAll, views, IsWithin}

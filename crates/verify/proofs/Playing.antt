@@ -1,10 +1,10 @@
 -- Classes in play: names that were met, and what follows of the reports on all classes.
-use Rattle.std.proofs.Common.{◌≡◌, ◌⊎◌, inl, inr, ℕ, zero, suc, ◌+◌, ◌<◌, ◌≤◌, Bool, true, false, ◌||◌, List, [], ◌∷◌, length, Option, Some, None, Ok, Err, refl, sym, ap, ◌∙◌, subst, arith, eq-or-lt_of_le}
+use Rattle.std.proofs.Common.{◌≡◌, ◌⊎◌, inl, inr, ℕ, zero, suc, ◌+◌, ◌<◌, ◌≤◌, Bool, true, false, ◌||◌, List, [], ◌∷◌, length, Some, None, Ok, Err, refl, sym, ap, ◌∙◌, subst, arith, eq-or-lt_of_le}
 use Rattle.std.specs.Prelude.{slice_get}
 use Rattle.std.specs.Option.{option_and_then}
 use Rattle.std.specs.Str.{bytes_eq}
 use Rattle.std.proofs.lemmas.Slice.Eq.{bytes_eq-Decides}
-use Rattle.classfile.specs.Values.{CodeBody, Member, Class}
+use Rattle.classfile.specs.Values.{Member, Class}
 use Rattle.classfile.specs.Methods.{Method, code_of}
 use Rattle.classfile.specs.MethodParts.{code_at}
 use Rattle.hierarchy.specs.Class.{ClassFact}
@@ -19,7 +19,6 @@ use Rattle.verify.specs.declared.report.Report.{Report}
 use Rattle.verify.specs.TypeSafety.{IsTypeSafe}
 use Rattle.verify.specs.ClassMethods.{IsMethod}
 use Rattle.verify.specs.Answers.{Answers}
-use Rattle.verify.specs.Reports.{IsReport}
 use Rattle.machine.specs.Demands.{IsNoFault}
 use Rattle.verify.specs.ClassRuns.{Moment, state_in, IsClassRun}
 use Rattle.verify.specs.ClassRunSafety.{IsInPlay, AreVerified, ArePlayable}

@@ -1,8 +1,8 @@
 -- Safety of classes in play: no activation meets a fault in any run through their methods. The theorem: classes whose methods are type-safe are safe.
-use Rattle.std.specs.Prelude.{◌≡◌, ℕ, List, Some, slice_get}
+use Rattle.std.specs.Prelude.{◌≡◌, ℕ, List, Some}
 use Rattle.pool.specs.Lookups.{text_at}
 use Rattle.pool.specs.Members.{found}
-use Rattle.classfile.specs.Values.{Member, Class}
+use Rattle.classfile.specs.Values.{Class}
 use Rattle.classfile.specs.Methods.{Method}
 use Rattle.hierarchy.specs.World.{World}
 use Rattle.hierarchy.specs.Class.{ClassFact}

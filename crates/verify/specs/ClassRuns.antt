@@ -1,11 +1,10 @@
 -- Runs through the methods of classes in play (JVMS 2.6, 2.10, 2.11.8): a call may enter a method. What that method returns answers the call, and
 -- what it raises is raised at the call.
 use Rattle.std.specs.Prelude.{◌≡◌, ◌⊎◌, ℕ, Bool, true, false, nat_eq, bytes_eq, if◌then◌else◌, List, [], ◌∷◌, ◌++◌, length, slice_get, Option, Some, None, option_map}
-use Rattle.names.specs.Descriptors.{FieldDescriptor}
 use Rattle.names.specs.ReferenceTypes.{ReferenceType, class_type}
 use Rattle.names.specs.StandardNames.{init_name}
 use Rattle.pool.specs.Members.{MethodConstant, method_at}
-use Rattle.classfile.specs.Methods.{Method, Receiver, no_receiver, ready_receiver, own_receiver, receiver_of}
+use Rattle.classfile.specs.Methods.{Method, Receiver, own_receiver, receiver_of}
 use Rattle.hierarchy.specs.World.{World}
 use Rattle.insn.specs.Meanings as acts
 use Rattle.insn.specs.Meanings.{Act}
@@ -14,7 +13,7 @@ use Rattle.machine.specs.Values.{Value, reference, Slot, all_slots}
 use Rattle.machine.specs.Heap.{Status, ready, this, Object, object, Heap, FitsReference, IsReady, with_fresh}
 use Rattle.machine.specs.Tasks.{Task, leaves, task}
 use Rattle.machine.specs.Demands.{State, IsNoFault}
-use Rattle.machine.specs.Steps.{Choice, go, raise, goes_on, ended, Happens, EndsBy}
+use Rattle.machine.specs.Steps.{Choice, raise, goes_on, ended, Happens, EndsBy}
 use Rattle.machine.specs.Runs.{IsInitial}
 
 -- a method with code of a class in play, by its name and descriptor

@@ -1,5 +1,5 @@
 -- Calls in a class run: what an instruction that calls asks for, and what it does with an answer.
-use Rattle.std.proofs.Common.{◌≡◌, ℕ, zero, suc, ◌+◌, Bool, true, false, not, ◌&&◌, ◌==◌, List, [], ◌∷◌, ◌++◌, length, slice_get, Option, Some, None, option_map, ◌⊎◌, inl, inr, if◌then◌else◌, sym, ap, refl, ◌∙◌, subst, arith}
+use Rattle.std.proofs.Common.{◌≡◌, ℕ, suc, ◌+◌, Bool, true, false, not, ◌&&◌, List, [], ◌∷◌, length, slice_get, Option, Some, None, ◌⊎◌, inl, inr, if◌then◌else◌, ap, refl, ◌∙◌, subst, arith}
 use Rattle.std.specs.Str.{bytes_eq}
 use Rattle.names.specs.Descriptors.{FieldDescriptor, primitive, class, array}
 use Rattle.names.specs.ReferenceTypes.{ReferenceType, class_type, array_type, is_class_type}
@@ -10,12 +10,11 @@ use Rattle.hierarchy.specs.World.{World}
 use Rattle.insn.specs.Meanings as acts
 use Rattle.insn.specs.Meanings.{Act}
 use Rattle.insn.specs.Stacks.{beneath}
-use Rattle.machine.specs.Values.{Value, number, null, reference}
-use Rattle.machine.specs.Heap.{Heap, IsBelow, FitsReference, FitsField, AllFit}
+use Rattle.machine.specs.Values.{Value}
+use Rattle.machine.specs.Heap.{Heap, FitsField, AllFit}
 use Rattle.machine.specs.Tasks as tasks
 use Rattle.machine.specs.Tasks.{Need, Task, of_type, need_of, arguments_on, reply_of, operates, initializes, calls_special, stuck, where_allowed, is_init_name, has_room_for_receiver, may_name, may_invoke_interface, call_on, static_call, needs_of, task}
 use Rattle.machine.specs.Demands.{State, Meets, AllMeet, MeetsRest}
-use Rattle.machine.specs.Steps.{IsNull}
 use Rattle.verify.specs.ClassRuns.{Way, static, special, virtual, by_way, called, pushed}
 
 pub some_same : {A : Type 0} (a b : A) → Some a ≡ Some b → a ≡ b

@@ -1,13 +1,13 @@
 -- A method that a call enters begins in a state that fits its first frame.
-use Rattle.std.proofs.Common.{◌≡◌, ℕ, Bool, true, false, not, ◌&&◌, nat_eq, List, [], ◌∷◌, ◌++◌, length, Option, Some, None, option_map, ◌⊎◌, inl, inr, if◌then◌else◌, sym, ap, refl, ◌∙◌, subst, eqb-true, eq-eqb}
+use Rattle.std.proofs.Common.{◌≡◌, ℕ, Bool, true, false, nat_eq, List, [], ◌∷◌, ◌++◌, length, Option, Some, None, option_map, ◌⊎◌, inl, inr, if◌then◌else◌, sym, ap, refl, ◌∙◌, subst, eqb-true, eq-eqb}
 use Rattle.std.specs.Str.{bytes_eq}
 use Rattle.std.specs.Option.{option_and_then}
 use Rattle.names.specs.Descriptors.{MethodDescriptor}
-use Rattle.names.specs.ReferenceTypes.{ReferenceType, class_type, array_type, descriptor_of}
+use Rattle.names.specs.ReferenceTypes.{ReferenceType, class_type, array_type}
 use Rattle.names.specs.StandardNames.{init_name, object_name}
 use Rattle.names.specs.Reading.{method_answer}
 use Rattle.pool.specs.Lookups.{MethodOf, method_ref_at}
-use Rattle.pool.specs.Members.{found, MethodConstant, method_of_class, method_constant, method_at}
+use Rattle.pool.specs.Members.{found, MethodConstant, method_of_class, method_constant}
 use Rattle.names.specs.ReferenceTypes.{reference_type}
 use Rattle.classfile.specs.Methods.{Method, Receiver, no_receiver, ready_receiver, own_receiver, receiver_of}
 use Rattle.hierarchy.specs.World.{World, IsSubclassIn, same}
@@ -16,21 +16,19 @@ use Rattle.hierarchy.specs.Rules.{IsHierarchy}
 use Rattle.hierarchy.specs.Extends.{Extends}
 use Rattle.insn.specs.Meanings as acts
 use Rattle.insn.specs.Meanings.{Act}
-use Rattle.insn.specs.Offsets.{at_offset}
 use Rattle.machine.specs.Values.{Value, reference}
-use Rattle.machine.specs.Heap.{Status, ready, made, this, Object, object, Heap, IsBelow, FitsReference, AllFit}
-use Rattle.machine.specs.Tasks as tasks
+use Rattle.machine.specs.Heap.{Status, ready, made, this, object, Heap, IsBelow, FitsReference, AllFit}
 use Rattle.machine.specs.Tasks.{of_type, arguments_on, needs_of, task}
-use Rattle.machine.specs.Demands.{State, AllMeet, IsMade, IsOwn, MeetsRest, IsNoFault}
+use Rattle.machine.specs.Demands.{AllMeet, IsMade, IsOwn, MeetsRest, IsNoFault}
 use Rattle.machine.specs.Runs.{Receives}
 use Rattle.verify.specs.TypeSafety.{IsTypeSafe}
 use Rattle.verify.specs.ClassRuns.{Callee, Types, Activation, heap_in, state_in, Way, static, special, virtual, by_way, called, IsReceiver, pushed, IsCall, MayEnter, first_status, entered}
 use Rattle.verify.proofs.safety.Worlds.{name_same, sub_trans, world_of_hierarchy}
 use Rattle.verify.proofs.safety.Fits.{fits_up}
 use Rattle.verify.proofs.safety.Run.{begins_by}
-use Rattle.verify.proofs.safety.ClassCalls.{CallsBy, special_task, calls_by, arguments_meet, some_same}
+use Rattle.verify.proofs.safety.ClassCalls.{CallsBy, calls_by, arguments_meet, some_same}
 use Rattle.verify.proofs.safety.ClassMoments.{Unused, Good, KeepsReady, reference_in, all_in, there, here, none_some}
-use Rattle.verify.proofs.safety.ClassReturns.{Uninitialized, made_or_own, receiver_is, stack_of}
+use Rattle.verify.proofs.safety.ClassReturns.{receiver_is, stack_of}
 
 -- ---- the type of a call is its descriptor's
 

@@ -19,13 +19,12 @@ use Rattle.classfile.specs.Values.{CodeBody, Member, Class}
 use Rattle.classfile.specs.Methods as methods
 use Rattle.classfile.specs.Methods.{Method, ExceptionEntry, code_of, class_named, member_type, exception_entries, method_with, method_from, method_of}
 use Rattle.hierarchy.specs.World.{Entry as WorldEntry, World, superclass_in, IsSubclassIn, same, above}
-use Rattle.hierarchy.specs.Class.{ClassFact, class_of, entry_of, world_of}
+use Rattle.hierarchy.specs.Class.{ClassFact, entry_of, world_of}
 use Rattle.hierarchy.specs.ClassSummary.{class_name_of, superclass_name, summary_of}
 use Rattle.hierarchy.specs.Extends.{Extends}
 use Rattle.insn.specs.Meanings.{Act}
-use Rattle.insn.specs.Offsets.{IsAmong, acts}
+use Rattle.insn.specs.Offsets.{acts}
 use Rattle.verify.specs.ClassMethods.{IsMethod}
-use Rattle.verify.specs.Listed.{IsListed}
 use Rattle.verify.specs.ClassRuns.{Callee}
 use Rattle.verify.specs.ClassRunSafety.{IsInPlay, AreVerified}
 use Rattle.verify.proofs.safety.ClassCalls.{some_same}

@@ -6,8 +6,6 @@ use Rattle.names.specs.ReferenceTypes.{ReferenceType, class_type, array_type}
 use Rattle.classfile.specs.Methods.{Method}
 use Rattle.hierarchy.specs.World.{World, IsSubclassIn}
 use Rattle.hierarchy.specs.Class.{ClassFact}
-use Rattle.hierarchy.specs.Rules.{IsHierarchy}
-use Rattle.hierarchy.specs.Extends.{Extends}
 use Rattle.insn.specs.Meanings.{Act}
 use Rattle.machine.specs.Values.{Value, number, null, reference}
 use Rattle.machine.specs.Heap.{Status, ready, made, Object, object, Heap, with_object, FitsReference, FitsField, AllFit, IsFresh, with_fresh}
@@ -20,7 +18,7 @@ use Rattle.verify.specs.ClassRuns.{Types, Activation, heap_in, state_in, types_o
 use Rattle.verify.proofs.safety.Fits.{With, Gains}
 use Rattle.verify.proofs.safety.News.{grows, fresh_gains}
 use Rattle.verify.proofs.safety.Start.{first_view}
-use Rattle.verify.proofs.safety.Run.{Inv, follows}
+use Rattle.verify.proofs.safety.Run.{Inv}
 
 pub none_some : {A : Type 0} (a : A) → None ≡ Some a → ⊥
 none_some a e = cc

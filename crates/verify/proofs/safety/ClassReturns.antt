@@ -1,9 +1,7 @@
 -- What a method returns fits its result, and what a caller does with it.
-use Rattle.std.proofs.Common.{◌≡◌, ℕ, zero, suc, ◌+◌, Bool, true, false, not, ◌&&◌, nat_eq, nat_lt, List, [], ◌∷◌, ◌++◌, length, slice_get, Option, Some, None, option_map, ◌⊎◌, inl, inr, if◌then◌else◌, sym, ap, refl, ◌∙◌, subst, arith, eqb-true}
-use Rattle.std.specs.Str.{bytes_eq}
+use Rattle.std.proofs.Common.{◌≡◌, ℕ, ◌+◌, Bool, true, false, not, ◌&&◌, nat_eq, nat_lt, List, [], ◌∷◌, ◌++◌, length, slice_get, Option, Some, None, option_map, ◌⊎◌, inl, inr, if◌then◌else◌, sym, ap, refl, ◌∙◌, subst, arith, eqb-true}
 use Rattle.names.specs.Descriptors.{FieldDescriptor, primitive, class, array}
 use Rattle.names.specs.ReferenceTypes.{ReferenceType, class_type, array_type, dimensions_of, descriptor_of, is_class_type}
-use Rattle.names.specs.StandardNames.{init_name}
 use Rattle.pool.specs.Entries as entries
 use Rattle.pool.specs.Entries.{Entry}
 use Rattle.pool.specs.Members.{FieldConstant, MethodConstant, constant_at, class_at, field_at, method_at}
@@ -17,7 +15,7 @@ use Rattle.insn.specs.Meanings.{Act}
 use Rattle.insn.specs.Stacks.{computed_as, same_kind, beneath}
 use Rattle.insn.specs.Offsets.{at_offset, next_offset}
 use Rattle.machine.specs.Values.{Value, number, null, reference}
-use Rattle.machine.specs.Heap.{Status, ready, made, this, Object, object, Heap, with_object, IsBelow, FitsReference, FitsField, IsReady}
+use Rattle.machine.specs.Heap.{Status, ready, made, this, object, Heap, with_object, FitsReference, FitsField, IsReady}
 use Rattle.machine.specs.Tasks as tasks
 use Rattle.machine.specs.Tasks.{Need, Reply, Task, of_kind, of_type, arguments_on, reply_of, leaves, where_allowed, needs_of, task, falls, targets}
 use Rattle.machine.specs.Demands.{State, AllMeet, IsMade, IsOwn, MeetsRest, HasReceiver}

@@ -1,30 +1,28 @@
 -- Class runs leave nothing out.
-use Rattle.std.proofs.Common.{◌≡◌, ℕ, zero, suc, ◌+◌, ◌-◌, ◌<◌, Bool, true, false, nat_eq, List, [], ◌∷◌, ◌++◌, length, drop, slice_get, Option, Some, None, option_map, ◌⊎◌, inl, inr, if◌then◌else◌, sym, ap, refl, ◌∙◌, subst, arith, eqb-true, eq-eqb}
-use Rattle.std.specs.Str.{bytes_eq}
+use Rattle.std.proofs.Common.{◌≡◌, ℕ, zero, suc, ◌+◌, ◌-◌, Bool, true, false, nat_eq, List, [], ◌∷◌, ◌++◌, length, drop, slice_get, Option, Some, None, option_map, ◌⊎◌, inl, inr, if◌then◌else◌, sym, ap, refl, ◌∙◌, subst, arith, eqb-true, eq-eqb}
 use Rattle.names.specs.Descriptors.{FieldDescriptor, primitive, class, array}
-use Rattle.names.specs.ReferenceTypes.{ReferenceType, class_type}
-use Rattle.names.specs.StandardNames.{init_name}
-use Rattle.pool.specs.Members.{MethodConstant, method_at}
+use Rattle.names.specs.ReferenceTypes.{ReferenceType}
+use Rattle.pool.specs.Members.{MethodConstant}
 use Rattle.classfile.specs.Methods.{Method, Receiver, no_receiver, ready_receiver, own_receiver, receiver_of}
 use Rattle.hierarchy.specs.World.{World}
 use Rattle.insn.specs.Meanings as acts
 use Rattle.insn.specs.Meanings.{Act}
-use Rattle.insn.specs.Offsets.{at_offset, next_offset, IsAmong}
+use Rattle.insn.specs.Offsets.{next_offset}
 use Rattle.insn.specs.declared.operation.Kind.{Kind}
 use Rattle.insn.specs.Stacks.{computed_as, same_kind}
 use Rattle.machine.specs.Values.{Value, number, null, reference, all_slots}
 use Rattle.machine.specs.Heap.{Status, ready, this, Object, object, Heap, with_object, with_fresh}
 use Rattle.machine.specs.Tasks.{Task, of_kind, where_allowed, leaves, return_number, return_reference, return_nothing, task}
 use Rattle.machine.specs.ByAct.{is_return}
-use Rattle.machine.specs.Breadth.{AreNew, StepBreadth}
+use Rattle.machine.specs.Breadth.{StepBreadth}
 use Rattle.machine.specs.Demands.{State, IsNoFault}
-use Rattle.machine.specs.Steps.{Choice, go, raise, goes_on, ended, IsLast, EndsBy, Happens}
+use Rattle.machine.specs.Steps.{Choice, go, raise, goes_on, ended, IsLast, Happens}
 use Rattle.machine.specs.Runs.{IsInitial}
-use Rattle.verify.specs.ClassRuns.{Callee, Types, Activation, heap_in, state_in, types_of, status_of, activation, Moment, moment, Way, static, special, virtual, by_way, called, IsReceiver, pushed, IsCall, MayEnter, first_status, entered, constructs, status_after, on_top, IsReadyAnswer, taken, resumed, GoesOn, handed_over, StepsAlone, Enters, Answered, Returns, Unwinds, Raises, Goes, Begins, IsClassRun}
+use Rattle.verify.specs.ClassRuns.{Callee, Types, Activation, heap_in, state_in, types_of, status_of, activation, Moment, moment, Way, static, special, virtual, by_way, called, IsReceiver, pushed, IsCall, MayEnter, first_status, entered, constructs, status_after, on_top, IsReadyAnswer, taken, resumed, handed_over, Answered, Returns, Unwinds, Raises, Goes, IsClassRun}
 use Rattle.verify.specs.ClassRunSafety.{IsInPlay}
-use Rattle.verify.specs.ClassRunBreadth.{Follows, Sees, Shows, with_types, named_method, receivers, IsOn, HasReceiver, AreOnTop, Calls, IsOfClass, MaySelect, Selects, IsOwnObject, IsEntered, handed, IsReadyFor, is_constructor_call, with_answer, IsAnswered, IsConstructed, IsResumed, IsReturn, Throws, DoNotCatch, HasClassRuns, ClassRunBreadth}
+use Rattle.verify.specs.ClassRunBreadth.{Follows, Sees, Shows, with_types, named_method, receivers, IsOn, HasReceiver, AreOnTop, Calls, IsOfClass, MaySelect, Selects, IsOwnObject, IsEntered, handed, IsReadyFor, is_constructor_call, with_answer, IsAnswered, IsConstructed, IsResumed, IsReturn, Throws, DoNotCatch, ClassRunBreadth}
 use Rattle.verify.proofs.safety.ClassCalls.{some_same}
-use Rattle.verify.proofs.safety.ClassMoments.{none_some, same_heaps, seen, here}
+use Rattle.verify.proofs.safety.ClassMoments.{none_some, seen, here}
 
 -- ---- moments
 

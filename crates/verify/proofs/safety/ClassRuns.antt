@@ -1,19 +1,17 @@
 -- No activation of a class run is a fault.
 use Rattle.std.proofs.Common.{◌≡◌, ℕ, Bool, true, false, nat_eq, List, [], ◌∷◌, Option, Some, None, inl, inr, if◌then◌else◌, sym, ap, refl, ◌∙◌, subst}
 use Rattle.names.specs.Descriptors.{FieldDescriptor}
-use Rattle.names.specs.ReferenceTypes.{ReferenceType}
-use Rattle.pool.specs.Members.{MethodConstant}
 use Rattle.hierarchy.specs.World.{World}
 use Rattle.hierarchy.specs.Class.{ClassFact}
 use Rattle.hierarchy.specs.Rules.{IsHierarchy}
 use Rattle.hierarchy.specs.Extends.{Extends}
 use Rattle.insn.specs.Offsets.{IsAmong}
 use Rattle.machine.specs.Values.{Value, number, null, reference}
-use Rattle.machine.specs.Heap.{Status, ready, IsReady, with_fresh}
+use Rattle.machine.specs.Heap.{Status, ready, with_fresh}
 use Rattle.machine.specs.Tasks.{needs_of, task}
-use Rattle.machine.specs.Demands.{State, AllMeet, IsNoFault}
+use Rattle.machine.specs.Demands.{AllMeet, IsNoFault}
 use Rattle.machine.specs.Steps.{Choice, raise}
-use Rattle.verify.specs.ClassRuns.{Callee, Types, Activation, heap_in, state_in, types_of, activation, Moment, moment, called, IsCall, constructs, status_after, taken, resumed, IsReadyAnswer, handed_over, entered, StepsAlone, Enters, Answered, Returns, Unwinds, Raises, Goes, Begins, IsClassRun}
+use Rattle.verify.specs.ClassRuns.{Callee, Types, Activation, heap_in, state_in, types_of, Moment, called, IsCall, constructs, status_after, taken, resumed, IsReadyAnswer, handed_over, StepsAlone, Enters, Answered, Returns, Unwinds, Raises, Goes, Begins, IsClassRun}
 use Rattle.verify.specs.ClassRunSafety.{IsInPlay, VerifiedIsPlayable}
 use Rattle.verify.proofs.safety.Run.{begins, step, follows, met}
 use Rattle.verify.proofs.safety.ClassCalls.{some_same, constant_in, calls_by}

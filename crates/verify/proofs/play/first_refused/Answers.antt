@@ -1,5 +1,4 @@
-use Rattle.std.proofs.Common.{◌≡◌, ◌<◌, ◌∙◌, sym, ap, length, Some}
-use Rattle.std.specs.Prelude.{slice_get}
+use Rattle.std.proofs.Common.{◌∙◌, sym, ap, Some}
 use Rattle.std.proofs.lemmas.Option.{slice_get-get_or}
 use Rattle.verify.proofs.Playing.{not_both, more_fine}
 use Rattle.verify.proofs.play.first_refused.Goals as goal

@@ -1,12 +1,10 @@
-use Rattle.std.proofs.Common.{◌≡◌, ◌∙◌, refl, sym, ap, subst, Some, true, false}
-use Rattle.classfile.specs.Values.{Class}
+use Rattle.std.proofs.Common.{◌≡◌, ◌∙◌, refl, sym, ap, subst, Some}
 use Rattle.classfile.specs.Views.{class_view}
-use Rattle.hierarchy.specs.Class.{ClassFact, class_of}
+use Rattle.hierarchy.specs.Class.{class_of}
 use Rattle.hierarchy.specs.Summary.{fact_of}
 use Rattle.hierarchy.specs.ClassSummary.{summary_of}
-use Rattle.verify.specs.MetNames.{Meets}
 use Rattle.verify.specs.FinalSuper.{has_final_super}
-use Rattle.verify.proofs.Playing.{not_both, stands_twice, stands_once, one_more_met}
+use Rattle.verify.proofs.Playing.{not_both}
 use Rattle.verify.proofs.play.judge.Goals as goal
 
 pub returns-then-not-has_summary : goal.returns-then-not-has_summary

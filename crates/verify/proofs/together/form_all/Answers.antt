@@ -1,11 +1,10 @@
-use Rattle.std.proofs.Common.{◌≡◌, ◌≤◌, ◌∙◌, ◌++◌, ◌+◌, ◌∷◌, [], List, Some, map, take, length, sym, ap, subst, refl, arith}
+use Rattle.std.proofs.Common.{◌≡◌, ◌≤◌, ◌∙◌, ◌++◌, ◌∷◌, [], List, Some, map, take, length, sym, ap, subst, refl, arith}
 use Rattle.std.specs.Prelude.{slice_get}
 use Rattle.std.proofs.lemmas.List.{length-map}
 use Rattle.std.proofs.lemmas.Option.{slice_get-get_or}
 use Rattle.classfile.specs.declared.form.Formed.{Formed}
 use Rattle.classfile.specs.Views.{class_view}
 use Rattle.classfile.proofs.Places.{viewed_at, take_one_more}
-use Rattle.verify.specs.Files.{OrMemory}
 use Rattle.verify.specs.TogetherSteps.{AreWellFormed, views}
 use Rattle.verify.proofs.Formed.{refused_by}
 use Rattle.verify.proofs.FilesInPlay.{decoded_at, one_more_well_formed, first_refused, more_classes}

@@ -1,7 +1,6 @@
-use Rattle.std.proofs.Common.{◌≡◌, ◌∙◌, map, sym, ap, subst, Some, None}
+use Rattle.std.proofs.Common.{◌∙◌, map, ap, subst}
 use Rattle.classfile.specs.Views.{class_view}
 use Rattle.classfile.specs.declared.form.Formed.{Formed}
-use Rattle.classfile.specs.declared.class_file.ClassFile.{ClassFile}
 use Rattle.verify.specs.TogetherSteps.{DecodesAll, views}
 use Rattle.verify.proofs.FilesInPlay.{front_of_all, all_formed, classes_of, told, playable}
 use Rattle.verify.proofs.together.reports_decoded.Goals as goal

@@ -1,8 +1,7 @@
-use Rattle.std.proofs.Common.{◌≡◌, map, length, subst}
+use Rattle.std.proofs.Common.{map, subst}
 use Rattle.std.proofs.lemmas.List.{length-map}
 use Rattle.classfile.specs.Views.{class_view}
 use Rattle.hierarchy.specs.Rules.{IsHierarchy}
-use Rattle.hierarchy.specs.ClassSummary.{summary_of}
 use Rattle.verify.specs.Plays.{ArePlayed, IsStopped}
 use Rattle.verify.specs.TogetherSteps.{IsWithin}
 use Rattle.verify.specs.ClassRunSafety.{ArePlayable}
