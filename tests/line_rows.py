@@ -18,12 +18,16 @@ LINES = [
     ("check -- -a", "ok", 0),
     ("verify K O A", "method f ()V verified", 0),
     ("verify K A", "hierarchy refused 42 K", 1),
+    ("play K O A", "play verified", 0),
+    ("play K", "hierarchy refused 42 K", 1),
     ("check missing", "file 1 cannot be opened", 2),
     ("verify K O missing A", "file 3 cannot be opened", 2),
+    ("play K missing", "file 2 cannot be opened", 2),
     # a folder is opened, and not read
     ("check .", "refused 15 at 0", 2),
     ("check", MISSING, 2),
     ("verify", MISSING, 2),
+    ("play", MISSING, 2),
     ("", "error: 'classck' requires a subcommand but one was not provided", 2),
     ("check K O", "error: unexpected argument 'O' found", 2),
     ("judge K", "error: unrecognized subcommand 'judge'", 2),
@@ -34,4 +38,5 @@ LINES = [
     ("check --help", "Prints `ok`, or `refused` with the number of the first fault and its place", 2),
     ("help show", "Prints what a class file holds, and of each method with code its instructions", 2),
     ("verify -h", "Prints the verdict on each method of a class", 2),
+    ("play -h", "Prints whether all methods of classes that run together are verified", 2),
 ]

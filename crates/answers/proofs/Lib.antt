@@ -2,3 +2,4 @@ pub mod OneFile
 pub mod OneVerify
 pub mod OneAnswer
 pub mod Tellings
+pub mod OnePlay

@@ -6,9 +6,10 @@ use Rattle.verify.specs.Files.{Read}
 use Rattle.answers.specs.Files.{refusal_status}
 use Rattle.answers.specs.Texts.{refusal_line}
 use Rattle.answers.specs.Laws.{OneAnswer}
-use Rattle.answers.specs.declared.command.Command.TheVariants.{Check, Show, Verify}
+use Rattle.answers.specs.declared.command.Command.TheVariants.{Check, Show, Verify, Play}
 use Rattle.answers.proofs.OneFile.{Laws, one_formed, not_refused, one_refusal}
 use Rattle.answers.proofs.OneVerify.{one_verify}
+use Rattle.answers.proofs.OnePlay.{one_play}
 
 one_said : Laws → (Tells : Class → List ℕ → ℕ → Type 0) → ((c : Class) (text other : List ℕ) (status next : ℕ) → Tells c text status → Tells c other next → (text ≡ other) × (status ≡ next))
     → (read : Read) (text other : List ℕ) (status next : ℕ)
@@ -32,3 +33,4 @@ same_answer laws command [] text other status next p q = (p.0 ∙ sym q.0, p.1 �
 same_answer laws Check (read ∷ others) text other status next p q = one_said laws CheckTells one_check read text other status next p q
 same_answer laws Show (read ∷ others) text other status next p q = one_said laws ShowTells one_show read text other status next p q
 same_answer laws Verify (read ∷ known) text other status next p q = one_verify laws read known text other status next p q
+same_answer laws Play (read ∷ others) text other status next p q = one_play laws (read ∷ others) text other status next p q

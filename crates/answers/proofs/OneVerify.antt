@@ -42,7 +42,7 @@ by_name : (f : HierarchyFault) → fault_name f ≡ name_behind (fault_class f)
 by_name OutOfMemory = refl
 by_name _ = refl
 
-same_refusal : (f g : HierarchyFault) → number_of f ≡ number_of g → fault_class f ≡ fault_class g → hierarchy_refusal f ≡ hierarchy_refusal g
+pub same_refusal : (f g : HierarchyFault) → number_of f ≡ number_of g → fault_class f ≡ fault_class g → hierarchy_refusal f ≡ hierarchy_refusal g
 same_refusal f g number class =
     let name : fault_name f ≡ fault_name g = by_name f ∙ ap name_behind class ∙ sym (by_name g) in
     ap (λ n. codes "hierarchy refused " ++ (decimal n ++ (fault_name f ++ codes "\n"))) number
@@ -77,7 +77,7 @@ abbrev line_of : List ℕ → List ℕ → List ℕ → List ℕ
 line_of name descriptor verdict =
     codes "method " ++ (name_text name ++ (codes " " ++ (name_text descriptor ++ (verdict ++ codes "\n"))))
 
-same_line : (r q : MethodVerdict) → IsSameLine r q → verdict_line r ≡ verdict_line q
+pub same_line : (r q : MethodVerdict) → IsSameLine r q → verdict_line r ≡ verdict_line q
 same_line r q e =
     ap (λ n. line_of n r.descriptor.bytes.now (verdict_text r.verdict)) e.name
     ∙ ap (λ d. line_of q.name.bytes.now d (verdict_text r.verdict)) e.descriptor
@@ -102,7 +102,7 @@ same_lines (r ∷ rs) (q ∷ qs) e each =
 module _ (laws : Laws) where
   -- ---- of files
 
-  one_list : (reads : List Read) (cs ds : List Class) → AreFormed reads cs → AreFormed reads ds → cs ≡ ds
+  pub one_list : (reads : List Read) (cs ds : List Class) → AreFormed reads cs → AreFormed reads ds → cs ≡ ds
   one_list [] [] [] p q = refl
   one_list [] [] (d ∷ ds) p q = absurd q
   one_list [] (c ∷ cs) ds p q = absurd p
@@ -111,7 +111,7 @@ module _ (laws : Laws) where
   one_list (r ∷ reads) (c ∷ cs) (d ∷ ds) p q =
       ap (λ x. x ∷ cs) (one_formed laws r c d p.0 q.0) ∙ ap (λ x. d ∷ x) (one_list reads cs ds p.1 q.1)
 
-  one_first : (reads : List Read) (i j : ℕ) (r s : FileFault) → IsFirstRefused reads i r → IsFirstRefused reads j s → (i ≡ j) × (r ≡ s)
+  pub one_first : (reads : List Read) (i j : ℕ) (r s : FileFault) → IsFirstRefused reads i r → IsFirstRefused reads j s → (i ≡ j) × (r ≡ s)
   one_first reads i j r s p q = by (cases_order i j)
     where
       by : (i ≡ j) ⊎ ((i < j) ⊎ (j < i)) → (i ≡ j) × (r ≡ s)
@@ -128,7 +128,7 @@ module _ (laws : Laws) where
   formed_at (r ∷ reads) (c ∷ cs) zero read all e = (c, subst (λ x. IsFormed x c) (some_same r read e) all.0)
   formed_at (r ∷ reads) (c ∷ cs) (suc i) read all e = formed_at reads cs i read all.1 e
 
-  none_refused : (reads : List Read) (cs : List Class) (i : ℕ) (r : FileFault) → AreFormed reads cs → IsFirstRefused reads i r → ⊥
+  pub none_refused : (reads : List Read) (cs : List Class) (i : ℕ) (r : FileFault) → AreFormed reads cs → IsFirstRefused reads i r → ⊥
   none_refused reads cs i r all first =
       let formed = formed_at reads cs i first.read all first.here in
       not_refused laws first.read formed.0 r formed.1 first.refused

@@ -10,11 +10,12 @@ use Rattle.verify.specs.declared.files.FileFault.{FileFault}
 use Rattle.verify.specs.Files.{Read, IsFormed, IsRefused}
 use Rattle.answers.specs.Files.{refusal_status}
 use Rattle.answers.specs.Verdicts.{VerifySays}
+use Rattle.answers.specs.Plays.{PlaySays}
 use Rattle.answers.specs.Texts.{refusal_line}
 use Rattle.answers.specs.declared.fault.AnswerFault.{AnswerFault}
 use Rattle.answers.specs.declared.fault.AnswerFault.TheVariants.{OutOfMemory, WriteFailed}
 use Rattle.answers.specs.declared.command.Command.{Command}
-use Rattle.answers.specs.declared.command.Command.TheVariants.{Check, Show, Verify}
+use Rattle.answers.specs.declared.command.Command.TheVariants.{Check, Show, Verify, Play}
 
 -- The answer about a file: what is told of its class, or why it has none.
 abbrev pub FileSays : (Class → List ℕ → ℕ → Type 0) → Read → List ℕ → ℕ → Type 0
@@ -36,6 +37,7 @@ Says command [] text status = (text ≡ []) × (status ≡ 0)
 Says Check (read ∷ others) text status = FileSays CheckTells read text status
 Says Show (read ∷ others) text status = FileSays ShowTells read text status
 Says Verify (read ∷ known) text status = VerifySays read known text status
+Says Play (read ∷ others) text status = PlaySays (read ∷ others) text status
 
 -- The bytes that a writer holds behind an answer: all of what is to be said was written; or nothing, where memory
 -- ran out; or a beginning of it, where a write failed.

@@ -3,3 +3,4 @@ pub mod Laws
 pub mod Texts
 pub mod Files
 pub mod Verdicts
+pub mod Plays

@@ -7,6 +7,7 @@ ghost use Rattle.answers.specs.declared.fault.AnswerFault.TheVariants.{OutOfMemo
 use crate::checking::check;
 use crate::command::Command;
 use crate::fault::AnswerFault;
+use crate::playing::play;
 use crate::showing::show;
 use crate::verifying::verify;
 use layout::{ReadFault, StreamFault};
@@ -38,6 +39,7 @@ pub fn answer<W: Write, S: BuildHasher + Drop>(
             Command::Check => check(alloc, read, out),
             Command::Show => show(alloc, read, out),
             Command::Verify => verify(alloc, read, known, hasher, out),
+            Command::Play => play(alloc, reads, hasher, out),
         },
     }
 }

@@ -1,7 +1,8 @@
 //! The answers on files, once these are read: a text and a status.
 //!
-//! `answer` (`answering`) answers each [`Command`], with a module for each: `checking`, `showing`, `verifying`. What is
-//! said is decided by the verifier, of files as they were read (`reads`), and then written (`telling`, `refusal`, `verdicts`).
+//! `answer` (`answering`) answers each [`Command`], with a module for each: `checking`, `showing`, `verifying`, `playing`. What is
+//! said is decided by the verifier, of files as they were read (`reads`), and then written (`telling`, `refusal`, `verdicts`,
+//! `plays`).
 #![tactic(auto)]
 
 mod answering;
@@ -9,6 +10,8 @@ mod checking;
 mod command;
 mod fault;
 mod laws;
+mod playing;
+mod plays;
 mod reads;
 mod refusal;
 mod showing;

@@ -126,6 +126,26 @@ impl<'a> Print for VerdictText<'a> {
     }
 }
 
+/// The line of a method and the verdict on it.
+#[derive(Clone, Copy)]
+pub struct VerdictLine<'a>(pub MethodVerdict<'a>);
+
+impl<'a> Print for VerdictLine<'a> {
+    ghost text = { λ t. verdict_line t.0 };
+
+    fn put<W: Write>(&self, out: &mut W) -> Result<(), WriteFailed> {
+        let verdict = Then(VerdictText(self.0.verdict), Word("\n"));
+        Then(
+            Word("method "),
+            Then(
+                Name(self.0.name),
+                Then(Word(" "), Then(Name(self.0.descriptor), verdict)),
+            ),
+        )
+        .put(out)
+    }
+}
+
 /// The verdicts on the methods of a class.
 #[derive(Clone, Copy)]
 pub struct ReportText<'r, 'a>(pub &'r [MethodVerdict<'a>]);
@@ -134,20 +154,7 @@ impl<'r, 'a> Lines<MethodVerdict<'a>> for ReportText<'r, 'a> {
     ghost line = { λ t r. verdict_line r };
 
     fn put_line<W: Write>(&self, item: &MethodVerdict<'a>, out: &mut W) -> Result<(), WriteFailed> {
-        Then(
-            Word("method "),
-            Then(
-                Name(item.name),
-                Then(
-                    Word(" "),
-                    Then(
-                        Name(item.descriptor),
-                        Then(VerdictText(item.verdict), Word("\n")),
-                    ),
-                ),
-            ),
-        )
-        .put(out)
+        VerdictLine(*item).put(out)
     }
 }
 

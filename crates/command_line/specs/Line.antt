@@ -6,7 +6,7 @@ use Rattle.clap.specs.declared.error.Error.{Error}
 use Rattle.clap.specs.declared.error.kind.ErrorKind.TheVariants as kind
 use Rattle.clap.specs.Words.{App, Row, Rule, Shape, Text, all_of, new_app, new_rule, with_rule, with_subcommand, subcommand_of, fault_of, Kinds, IsAmong, kind_of}
 use Rattle.answers.specs.declared.command.Command.{Command}
-use Rattle.answers.specs.declared.command.Command.TheVariants.{Check, Show, Verify}
+use Rattle.answers.specs.declared.command.Command.TheVariants.{Check, Show, Verify, Play}
 use Rattle.command_line.specs.declared.line.Request.{Request}
 use Rattle.command_line.specs.declared.line.LineFault.{LineFault}
 use Rattle.command_line.specs.declared.line.LineFault.TheVariants.{OutOfMemory, NoRequest}
@@ -29,6 +29,13 @@ known_files = record (new_rule (codes "KNOWN")) { range = Some (record { start_i
 abbrev pub verify : Shape
 verify = (with_rule (with_rule (new_app (codes "verify")) class_file) known_files).top
 
+-- the files of the classes that are in play, of which there is one at least
+abbrev pub class_files : Rule
+class_files = record (new_rule (codes "CLASS")) { required = true; range = Some (record { start_inclusive = 1; end_inclusive = usize_max }) }
+
+abbrev pub play : Shape
+play = (with_rule (new_app (codes "play")) class_files).top
+
 -- the program itself, which tells its version, and of which a command must be asked
 abbrev pub program : App
 program = record (new_app (codes "classck")) { top = record (new_app (codes "classck")).top { has_version = true; subcommand_required = true } }
@@ -37,8 +44,12 @@ program = record (new_app (codes "classck")) { top = record (new_app (codes "cla
 abbrev pub line_of_file : App
 line_of_file = with_subcommand (with_subcommand program (of_file (codes "check"))) (of_file (codes "show"))
 
+-- the command of a class and known ones behind them
+abbrev pub line_with_known : App
+line_with_known = with_subcommand line_of_file verify
+
 abbrev pub line : App
-line = with_subcommand line_of_file verify
+line = with_subcommand line_with_known play
 
 -- the words for the argument of this name
 abbrev pub words_for : Text → List Row → List Text
@@ -49,10 +60,15 @@ abbrev pub files_in : Command → List Row → List Text
 files_in Check rows = words_for (codes "FILE") rows
 files_in Show rows = words_for (codes "FILE") rows
 files_in Verify rows = words_for (codes "CLASS") rows ++ words_for (codes "KNOWN") rows
+files_in Play rows = words_for (codes "CLASS") rows
 
 -- the command of a name; `clap` takes no other name than theirs
 abbrev pub command_named : Text → Command
-command_named name = if bytes_eq name (codes "show") then Show else if bytes_eq name (codes "verify") then Verify else Check
+command_named name =
+    if bytes_eq name (codes "show") then Show
+    else if bytes_eq name (codes "verify") then Verify
+    else if bytes_eq name (codes "play") then Play
+    else Check
 
 -- what the matches of a line ask for
 abbrev pub asked : Option (Text × List Row) → Option (Command × List Text)

@@ -2,7 +2,7 @@
 ghost use Rattle.std.specs.Prelude.{◌≡◌, ◌++◌, IfOk, OnOk, codes, false, map, string_bytes};
 ghost use Rattle.clap.specs.Words.{Kinds, HasKind, app_of, rule_of, rows_of, found_of, new_app, with_rule};
 ghost use Rattle.clap.specs.declared.builder.command.Command.TheViews.{out-Command};
-ghost use Rattle.command_line.specs.Line.{line, line_of_file, file, class_file, known_files, IsFault, ToldBy, Asks, command_named, words_for, files_in};
+ghost use Rattle.command_line.specs.Line.{line, line_of_file, line_with_known, file, class_file, known_files, class_files, IsFault, ToldBy, Asks, command_named, words_for, files_in};
 
 use crate::line::{LineFault, Request};
 use answers::Command;
@@ -50,6 +50,15 @@ const VERIFY_EXAMPLE: &str = "Example:
 
 Each method is `verified`, has `no code`, or is `refused NUMBER at OFFSET`, the offset counting bytes of its code. Behind 77 stands
 `missing NAME`: give the file of that class as well; examples/judge does so by itself. docs/REFUSALS.md explains the numbers 40 to 81.";
+
+/// The end of the help on `play`.
+const PLAY_EXAMPLE: &str = "Example:
+  $ classck play Sums.class java.lang.Object.class
+  play verified
+
+The hierarchy is these classes, so give each class above one of them as well, up to java/lang/Object. The first class that is at fault is
+told: `class NUMBER refused NUMBER`, classes counting from 1, or `class NUMBER method NAME DESCRIPTOR refused NUMBER at OFFSET` as by
+`verify`. docs/REFUSALS.md explains the numbers 40 to 84.";
 
 /// A command that takes one file: `NAME FILE`.
 fn one_file<'a>(alloc: Global, name: &'a str) -> Result<Parser<'a>, AllocError>
@@ -131,6 +140,37 @@ fn verify<'a>(alloc: Global) -> Result<Parser<'a>, AllocError>
     )
 }
 
+/// The files of classes in play, one at least.
+fn class_files<'a>(alloc: Global) -> Arg<'a>
+    ensures rule { rule_of result ≡ class_files }
+    ensures local { result.global ≡ false }
+{
+    Arg::new(alloc, "CLASS").required(true).num_args(1..).help(
+        "The paths of the files of the classes, java/lang/Object among them",
+    )
+}
+
+/// A command that takes the files of classes.
+fn all_classes<'a>(alloc: Global) -> Result<Parser<'a>, AllocError>
+    ensures app { IfOk result (λ c. app_of c ≡ with_rule (new_app (codes "play")) class_files) }
+    ensures local { IfOk result (λ c. (out-Command c).has_globals ≡ false) }
+{
+    Parser::new(alloc, "play").arg(class_files(alloc))
+}
+
+/// `play CLASS...`
+fn play<'a>(alloc: Global) -> Result<Parser<'a>, AllocError>
+    ensures app { IfOk result (λ c. app_of c ≡ with_rule (new_app (codes "play")) class_files) }
+    ensures local { IfOk result (λ c. (out-Command c).has_globals ≡ false) }
+{
+    let command = all_classes(alloc)?;
+    Ok(
+        command
+            .about("Prints whether all methods of classes that run together are verified")
+            .after_help(PLAY_EXAMPLE),
+    )
+}
+
 /// The command lines of one file.
 fn commands_of_files<'a>(alloc: Global) -> Result<Parser<'a>, AllocError>
     ensures { IfOk result (λ c. app_of c ≡ line_of_file) }
@@ -144,11 +184,18 @@ fn commands_of_files<'a>(alloc: Global) -> Result<Parser<'a>, AllocError>
         .subcommand(show(alloc)?)
 }
 
+/// The command lines of one file, and that of a class and known ones.
+fn with_known<'a>(alloc: Global) -> Result<Parser<'a>, AllocError>
+    ensures { IfOk result (λ c. app_of c ≡ line_with_known) }
+{
+    commands_of_files(alloc)?.subcommand(verify(alloc)?)
+}
+
 /// The command lines that the program knows.
 fn parser<'a>(alloc: Global) -> Result<Parser<'a>, AllocError>
     ensures { IfOk result (λ c. app_of c ≡ line) }
 {
-    commands_of_files(alloc)?.subcommand(verify(alloc)?)
+    with_known(alloc)?.subcommand(play(alloc)?)
 }
 
 /// Adds copies of the words.
@@ -188,6 +235,7 @@ fn files(alloc: Global, command: Command, found: &ArgMatches<'_>) -> Result<Vec<
             add_words(alloc, found, "CLASS", &mut files)?;
             add_words(alloc, found, "KNOWN", &mut files)?;
         }
+        Command::Play => add_words(alloc, found, "CLASS", &mut files)?,
     }
     Ok(files)
 }
@@ -200,6 +248,8 @@ fn command_named(name: &str) -> Command
         Command::Show
     } else if name == "verify" {
         Command::Verify
+    } else if name == "play" {
+        Command::Play
     } else {
         Command::Check
     }

@@ -46,7 +46,9 @@ fn lines(rt: HostRuntime) {
             "P"
         )
     );
+    assert!(rt; asks(alloc, &["classck", "play", "K", "O"], Command::Play, 2, "O"));
     assert!(rt; misses(alloc, &["classck", "check"]));
+    assert!(rt; misses(alloc, &["classck", "play"]));
 }
 
 /// Each complaint, in the order of the enum.

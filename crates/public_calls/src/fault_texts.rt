@@ -11,7 +11,7 @@ use names::NameFault;
 use pool::PoolFault;
 use std::alloc::Global;
 use std::fmt::Display;
-use verify::{AmongFault, ClassFault, FileFault, VerifyFault};
+use verify::{AmongFault, ClassFault, FileFault, PlayFault, PlayRule, TogetherFault, VerifyFault};
 
 /// Whether each fault is displayed as the text beside it.
 fn are_shown<T: Display>(alloc: Global, rows: &[(T, &str)]) -> bool {
@@ -272,6 +272,47 @@ fn faults_among_classes(rt: HostRuntime) {
             "hierarchy refused 43",
         ),
         (AmongFault::FinalSuper, "class refused 81"),
+    ];
+    assert!(rt; are_shown(rt.alloc(), &rows));
+}
+
+#[test]
+fn faults_of_classes_in_play(rt: HostRuntime) {
+    let rule = PlayRule::FinalSuper;
+    let rows = [
+        (PlayFault::OutOfMemory, "refused 1"),
+        (PlayFault::Broken { class: 0, rule }, "refused 81"),
+        (
+            PlayFault::NotAllVerified {
+                class: 1,
+                method: 2,
+            },
+            "refused 84",
+        ),
+    ];
+    assert!(rt; are_shown(rt.alloc(), &rows));
+}
+
+#[test]
+fn faults_of_files_in_play(rt: HostRuntime) {
+    let rule = PlayRule::FinalSuper;
+    let rows = [
+        (TogetherFault::OutOfMemory, "refused 1"),
+        (
+            TogetherFault::Refused {
+                number: 2,
+                fault: CUT,
+            },
+            "class 2 refused 2 at 95",
+        ),
+        (
+            TogetherFault::NoHierarchy(HierarchyFault::NoObject),
+            "hierarchy refused 43",
+        ),
+        (
+            TogetherFault::Broken { number: 1, rule },
+            "class 1 refused 81",
+        ),
     ];
     assert!(rt; are_shown(rt.alloc(), &rows));
 }

@@ -93,13 +93,14 @@ fn is_answered(alloc: Global, command: Command, reads: &[Read], left: usize, tex
 
 #[test]
 fn a_writer_that_fails(rt: HostRuntime) -> Result<(), Fail> {
-    let rows: [(Command, &[u8]); 3] = [
+    let rows: [(Command, &[u8]); 4] = [
         (Command::Check, b"ok\n"),
         (
             Command::Show,
             b"class K major 52 minor 0 flags 0021\nsuper java/lang/Object\nmethod 0009 f ()V\n  stack 0 locals 0\n  0 return\n",
         ),
         (Command::Verify, b"method f ()V verified\n"),
+        (Command::Play, b"play verified\n"),
     ];
     let reads = both(rt.alloc())?;
     for (command, text) in rows {

@@ -19,6 +19,7 @@
 //! | `instruction_rules` | `rules`: single instructions |
 //! | `machine_steps`, `object_steps` | `machine`: single steps |
 //! | `verdicts` | `verify`: verdicts and reports |
+//! | `classes_in_play` | `verify`: reports on classes that run together |
 //! | `printed_text` | `printing`: texts of class files, names and faults |
 //! | `file_answers` | `answers`: what each command answers of files, read or not |
 //! | `command_lines` | `command_line`: what a line asks for, and what the program complains of |
@@ -38,6 +39,8 @@ mod attribute_numbers;
 mod class_files;
 #[cfg(test)]
 mod class_forms;
+#[cfg(test)]
+mod classes_in_play;
 #[cfg(test)]
 mod code_forms;
 #[cfg(test)]

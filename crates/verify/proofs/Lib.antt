@@ -33,3 +33,5 @@ mod BranchExamples
 mod ObjectExamples
 pub mod Named
 pub mod Formed
+pub mod Playing
+pub mod FilesInPlay

@@ -11,5 +11,12 @@ pub mod Steps
 pub mod Start
 pub mod Run
 pub mod OneMethod
+pub mod ClassCalls
+pub mod ClassMoments
+pub mod ClassReturns
+pub mod ClassEnters
+pub mod ClassMethods
+pub mod ClassRuns
+pub mod ClassRunBreadth
 pub mod FitsBreadth
 pub mod NewMaps

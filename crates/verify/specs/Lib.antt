@@ -1,6 +1,14 @@
 pub mod InitialFrames
 pub mod TypeSafety
 pub mod Safety
+pub mod ClassRuns
+pub mod ClassRunSafety
+pub mod ClassRunBreadth
+pub mod Plays
+pub mod PlaySteps
+pub mod MetNames
+pub mod Together
+pub mod TogetherSteps
 pub mod FitsBreadth
 pub mod Verdict
 pub mod VerdictLaws

@@ -1,9 +1,12 @@
-//! The meaning of the verdict on a method.
+//! The meaning of the verdict on a method, and the breadth of class runs.
 ghost use Rattle.verify.specs.Breaks.{ConditionsAreFields, MapRefusedBreaks, RefusedBreaks};
 ghost use Rattle.verify.specs.Refusals.{MapRefusedWhere, RefusedWhere};
 ghost use Rattle.verify.specs.FitsBreadth.{FitsBreadth};
+ghost use Rattle.verify.specs.ClassRunBreadth.{ClassRunBreadth};
 ghost use Rattle.verify.specs.OneVerdict.{OneVerdict, OneReport};
 ghost use Rattle.verify.specs.VerdictLaws.{TypeSafeIsVerified, VerifiedIsTypeSafe};
+
+use machine::laws::step_breadth;
 
 /// A method whose verdict is verified is type-safe.
 pub fn verified_is_type_safe()
@@ -50,3 +53,12 @@ pub fn one_report()
 pub fn fits_breadth()
     ensures { FitsBreadth }
 {}
+
+/// A run through the methods of classes in play begins in each of them. It goes on by each step of its last activation; by each call into each
+/// method in play that the call selects, whatever its values are; by each return to the caller, whatever the answer is, as long as that is ready
+/// for the caller; and by each object that is raised to each caller that catches it, past those that do not.
+pub fn class_run_breadth()
+    ensures { ClassRunBreadth }
+{
+    step_breadth();
+}

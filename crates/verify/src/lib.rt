@@ -5,7 +5,7 @@
 //! - `verdict`: what is answered.
 //! - `report`: the verdicts on the methods of a class.
 //! - `files`: from a file as it was read to a class that is well formed.
-//! - `among`: a class among the classes that it may refer to.
+//! - `among`: a class among the classes that it may refer to; `together`: the classes of files in play together.
 //! - `listing`: whether a hierarchy has a class as it is.
 //! - `final_super`: whether the superclass of a class is final.
 //! - `refusal`: verdicts that refuse.
@@ -17,7 +17,8 @@
 //! - `keeping`: what is known of the locals of the running frame.
 //! - `place_set`: which declared frames were compared.
 //! - `stack_maps`: the frames that a stack map declares.
-//! - `theorem`: type-safe methods are safe.
+//! - `theorem`: type-safe methods are safe, one by one and where calls enter them.
+//! - `play`: the reports on classes whose methods may call each other; `met_names`: the names of those that were met.
 //! - `laws`: the verdict on a method is verified exactly where it is type-safe, there is one, what a refusal says and which
 //!   condition its number stands for, and that in the machine a type takes what the verifier lets it take.
 #![tactic(auto)]
@@ -35,21 +36,26 @@ mod judging;
 mod keeping;
 mod laws;
 mod listing;
+mod met_names;
 mod method;
 mod place_set;
+mod play;
 mod refusal;
 mod report;
 mod stack_maps;
 mod theorem;
+mod together;
 mod verdict;
 
 pub use among::{AmongFault, verify_among};
 pub use files::{FileFault, FileRead, class_file};
 pub use laws::{
-    fits_breadth, map_refused_where, one_report, one_verdict, refused_breaks, refused_where,
-    type_safe_is_verified, verified_is_type_safe,
+    class_run_breadth, fits_breadth, map_refused_where, one_report, one_verdict, refused_breaks,
+    refused_where, type_safe_is_verified, verified_is_type_safe,
 };
 pub use method::verify_method;
+pub use play::{PlayFault, PlayRule, verify_play};
 pub use report::{ClassFault, MethodVerdict, Report, verify_class, verify_methods};
-pub use theorem::type_safe_is_safe;
+pub use theorem::{type_safe_is_safe, verified_is_playable};
+pub use together::{TogetherFault, verify_together};
 pub use verdict::{Verdict, VerifyFault};

@@ -28,7 +28,7 @@ use Rattle.verify.proofs.safety.Agree.{agree}
 use Rattle.verify.proofs.safety.Plain.{room, reference_item}
 use Rattle.verify.proofs.safety.News.{grows, fresh_gains}
 use Rattle.verify.proofs.safety.Steps.{operands_met, rest_met, room_met, all_usable, ends_met, does, does_at, ways_agree}
-use Rattle.verify.proofs.safety.Start.{first_view, start_fits}
+use Rattle.verify.proofs.safety.Start.{first_view, MayStart, may_start, start_fits}
 use Rattle.verify.proofs.Declared.{IsGoodFrame, good_frames}
 
 -- ---- the next start is a start
@@ -173,11 +173,14 @@ module _ (h : List ClassFact) (m : Method Act) (safe : IsTypeSafe h m) (w : Worl
 
   -- ---- runs
 
-  pub begins : (s : State) (i : IsInitial w m s) → Inv w m i.own safe.table s
-  begins s i = comes i.own (λ n. 0) (λ n. 0) s 0 (initial_frame m) i.at (start_fits w m s i) safe.begins nothing safe.first
+  pub begins_by : (s : State) → s.at ≡ 0 → (i : MayStart w m s) → Inv w m i.own safe.table s
+  begins_by s at i = comes i.own (λ n. 0) (λ n. 0) s 0 (initial_frame m) at (start_fits w m s i) safe.begins nothing safe.first
     where
       nothing : 0 ≤ m.max_stack
       nothing = omega arith
+
+  pub begins : (s : State) (i : IsInitial w m s) → Inv w m i.own safe.table s
+  begins s i = begins_by s i.at (may_start w m s safe.enough i)
 
   pub follows : (own : ℕ) (s t : State) (c : Choice) → Inv w m own safe.table s → Happens w m s c (goes_on t) → Inv w m own safe.table t
   follows own s t (go br v fresh) i k = step own s t br v fresh i k.1

@@ -8,7 +8,7 @@ use Rattle.insn.specs.Meanings.{Act}
 use Rattle.frames.specs.VerificationType.{VerificationType, top, class, uninit_this}
 use Rattle.frames.specs.Slots.{descriptor_type, is_wide, in_locals, all_locals}
 use Rattle.machine.specs.Values.{Value, Slot, empty, second, holds, is_wide_value, ArePairedBehind, ArePaired, in_slots, all_slots}
-use Rattle.machine.specs.Heap.{this, Object, object, Heap}
+use Rattle.machine.specs.Heap.{this, Object, object, Heap, AllFit}
 use Rattle.machine.specs.Demands.{State}
 use Rattle.machine.specs.Runs.{Receives, IsInitial}
 use Rattle.verify.specs.InitialFrames.{receiver_types, initial_types, is_uninitialized, initial_frame}
@@ -90,16 +90,33 @@ abbrev type_in : Option Object → ReferenceType
 type_in None = class_type []
 type_in (Some o) = o.type
 
-pub start_fits : (w : World) (m : Method Act) (s : State) (i : IsInitial w m s) → Fits (first_view w m i.own) s (initial_frame m)
+-- what of a beginning keeps a state fitting
+pub record MayStart (w : World) (m : Method Act) (s : State) : Type 0 where
+  pub stack : s.stack ≡ []
+  pub own : ℕ
+  pub receiver : List Value
+  pub arguments : List Value
+  pub receives : Receives w m s.heap own (receiver_of m) receiver
+  pub fit : AllFit w s.heap m.type.params arguments
+  pub enough : length (in_locals (initial_types m)) ≤ m.max_locals
+  pub locals : s.locals ≡ all_slots m.max_locals (receiver ++ arguments)
+  pub only_own : (a : ℕ) (x : ReferenceType) → s.heap a ≡ Some (object x this) → (receiver_of m ≡ own_receiver) × (a ≡ own)
+
+abbrev pub may_start : (w : World) (m : Method Act) (s : State) → length (in_locals (initial_types m)) ≤ m.max_locals → (i : IsInitial w m s) → MayStart w m s
+may_start w m s enough i = record { stack = i.stack; own = i.own; receiver = i.receiver; arguments = i.arguments; receives = i.receives; fit = i.fit; enough = enough; locals = i.locals; only_own = i.only_own }
+
+pub start_fits : (w : World) (m : Method Act) (s : State) (i : MayStart w m s) → Fits (first_view w m i.own) s (initial_frame m)
 start_fits w m s i =
     let e = first_view w m i.own in
     let vs = i.receiver ++ i.arguments in
     let items = items_append e s.heap i.receiver i.arguments (receiver_types m (receiver_of m)) (map descriptor_type m.type.params) (receiver_items w m i.own s.heap (receiver_of m) i.receiver i.receives) (field_items e s.heap m.type.params i.arguments i.fit) in
+    let long : length (in_slots vs) ≡ length (in_locals (initial_types m)) = slots_length e s.heap (in_slots vs) (in_locals (initial_types m)) (slots_of_items e s.heap vs (initial_types m) items) in
+    let enough : length (in_slots vs) ≤ m.max_locals = subst (λ n. n ≤ m.max_locals) (sym long) i.enough in
     record {
       items = subst (λ z. Items e s.heap z []) (sym i.stack) tt;
       slots = subst (λ z. Slots e s.heap z (initial_frame m).locals) (sym i.locals) (all_slots_fit e s.heap m.max_locals vs (initial_types m) items);
       paired = subst ArePaired (sym i.locals) (paired_append false (in_slots vs) (replicate (m.max_locals - length (in_slots vs)) empty) (values_paired vs) (empties_paired (m.max_locals - length (in_slots vs))));
-      long = ap length i.locals ∙ all_length m.max_locals vs i.enough;
+      long = ap length i.locals ∙ all_length m.max_locals vs enough;
       only = λ a t at. own a t at;
     }
   where

@@ -1,6 +1,7 @@
 use Rattle.std.proofs.Common.{rules, ◌≡◌, ◌≤◌, ◌∙◌, ◌-◌, take, length, map, List, [], ◌∷◌, slice_index_or, drop, sym, ap, subst, arith, refl}
 use Rattle.std.proofs.lemmas.List.{take_all, length-drop}
 use Rattle.answers.specs.Verdicts.{VerifySays}
+use Rattle.answers.specs.Plays.{PlaySays}
 use Rattle.answers.specs.Answers.{Answered, Says}
 use Rattle.answers.specs.Files.{read_view}
 use Rattle.answers.proofs.answering.answer.Goals as goal
@@ -34,6 +35,16 @@ returns-in-Verify-clause-answered g c =
     (subst (λ command. Answered (Says command (read_view read ∷ map read_view (drop 1 reads))) (held c.args.out.now) (held c.verify.new.out) c.verify.result) (sym c.in-Verify.is)
     (subst (λ known. Answered (VerifySays (read_view read) (map read_view known)) (held c.args.out.now) (held c.verify.new.out) c.verify.result) all c.verify.ensures))
 
+pub returns-in-Play-clause-answered : goal.returns-in-Play-clause-answered
+returns-in-Play-clause-answered g c =
+    let held = g.W.Write.contents in
+    let reads = c.args.reads.now in
+    let read = c.read-item.result in
+    let e = split read_view reads read c.in-len1-up.len_at_least c.read-item.is in
+    let behind = read_view read ∷ map read_view (drop 1 reads) in
+    let told : Answered (PlaySays behind) (held c.args.out.now) (held c.play.new.out) c.play.result = subst (λ rs. Answered (PlaySays rs) (held c.args.out.now) (held c.play.new.out) c.play.result) e c.play.ensures in
+    rw e (subst (λ command. Answered (Says command behind) (held c.args.out.now) (held c.play.new.out) c.play.result) (sym c.in-Play.is) told)
+
 pub returns-in-Check-clause-memory : goal.returns-in-Check-clause-memory
 returns-in-Check-clause-memory g c = search rules
 
@@ -42,3 +53,6 @@ returns-in-Show-clause-memory g c = search rules
 
 pub returns-in-Verify-clause-memory : goal.returns-in-Verify-clause-memory
 returns-in-Verify-clause-memory g c = search rules
+
+pub returns-in-Play-clause-memory : goal.returns-in-Play-clause-memory
+returns-in-Play-clause-memory g c = search rules

@@ -1,0 +1,157 @@
+-- The answer of `play` is one.
+use Rattle.std.proofs.Common.{◌≡◌, ℕ, zero, suc, ◌+◌, ◌<◌, List, [], ◌∷◌, length, map, Some, None, refl, sym, ◌∙◌, ap, subst, inl, inr, arith}
+use Rattle.std.specs.Prelude.{◌⊎◌, true, false, ◌++◌, slice_get, codes, decimal}
+use Rattle.std.proofs.lemmas.Bool.{cases_order}
+use Rattle.std.proofs.lemmas.Option.{none-some}
+use Rattle.classfile.specs.Values.{Class}
+use Rattle.hierarchy.specs.Class.{ClassFact}
+use Rattle.hierarchy.specs.ClassSummary.{summary_of}
+use Rattle.verify.specs.declared.verdict.Verdict.{Verdict}
+use Rattle.verify.specs.declared.verdict.Verdict.TheVariants.{Verified, NoCode, Refused}
+use Rattle.verify.specs.declared.report.MethodVerdict.{MethodVerdict}
+use Rattle.verify.specs.declared.report.Report.{Report}
+use Rattle.verify.specs.declared.play.PlayRule.{PlayRule}
+use Rattle.verify.specs.declared.play.PlayRule.TheVariants.{NotInHierarchy, FinalSuper, ClassInPlayTwice}
+use Rattle.verify.specs.OneVerdict.{AreSameVerdict, IsSameLine}
+use Rattle.verify.specs.Files.{Read, AreFormed}
+use Rattle.verify.specs.Reports.{IsReport}
+use Rattle.verify.specs.Plays.{IsFineVerdict, IsFirstRefused, IsFine, HasRefused, Breaks, AreFine, ArePlayed, BreaksFirst}
+use Rattle.answers.specs.Files.{refusal_status}
+use Rattle.answers.specs.Verdicts.{verdict_line}
+use Rattle.answers.specs.Plays.{numbered_refusal, rule_refusal, method_refusal, BrokenSays, ClassesSay, TogetherSay, PlaySays}
+use Rattle.answers.proofs.OneFile.{Laws}
+use Rattle.answers.proofs.OneVerify.{same_refusal, same_line, one_list, one_first, none_refused}
+
+false_true : false ≡ true → ⊥
+false_true e = cc
+
+some_same : {A : Type 0} (a b : A) → Some a ≡ Some b → a ≡ b
+some_same a b e = cc
+
+-- ---- lists
+
+within : {A : Type 0} (xs : List A) (n : ℕ) (x : A) → slice_get xs n ≡ Some x → n < length xs
+within [] n x e = absurd (none-some x e)
+within (y ∷ xs) zero x e = omega arith
+within (y ∷ xs) (suc n) x e = let k = within xs n x e in omega (arith, k)
+
+item : {A : Type 0} (xs : List A) (n : ℕ) → n < length xs → (x : A) × (slice_get xs n ≡ Some x)
+item [] n lt = absurd (omega (arith, lt))
+item (x ∷ xs) zero lt = (x, refl)
+item (x ∷ xs) (suc n) lt = item xs n (omega (arith, lt))
+
+-- ---- of a class
+
+-- a verdict is fine where one that says the same is
+fine_too : (v w : Verdict) → AreSameVerdict v w → IsFineVerdict w → IsFineVerdict v
+fine_too Verified Verified e f = tt
+fine_too NoCode NoCode e f = tt
+fine_too v (Refused at why) e f = absurd f
+fine_too _ _ e f = absurd e
+
+module _ (laws : Laws) (classes : List ClassFact) (cs : List Class) (place : ℕ) (c : Class) where
+  broken_fine : (rule : PlayRule) (rs : List MethodVerdict) → Breaks classes cs place c rule → IsFine classes cs place c rs → ⊥
+  broken_fine NotInHierarchy rs b f = b f.report.listed
+  broken_fine FinalSuper rs b f = false_true (sym f.not_final ∙ b.1)
+  broken_fine ClassInPlayTwice rs b f = f.first b.2
+
+  broken_refused : (rule : PlayRule) (n : ℕ) (r : MethodVerdict) → Breaks classes cs place c rule → HasRefused classes cs place c n r → ⊥
+  broken_refused NotInHierarchy n r b (plain, first, rs, report, one) = b report.listed
+  broken_refused FinalSuper n r b (plain, first, rs, report, one) = false_true (sym plain ∙ b.1)
+  broken_refused ClassInPlayTwice n r b (plain, first, rs, report, one) = first b.2
+
+  refused_fine : (n : ℕ) (r : MethodVerdict) (qs : List MethodVerdict) → HasRefused classes cs place c n r → IsFine classes cs place c qs → ⊥
+  refused_fine n r qs (plain, first, rs, report, one) f =
+      let same = laws.one_report classes c rs qs report f.report in
+      let lt : n < length qs = omega (arith, same.all, within rs n r one.here) in
+      let (q, there) = item qs n lt in
+      one.refused (fine_too r.verdict q.verdict (same.each n r q one.here there).verdict (f.verified n q lt there))
+
+  one_rule : (rule other : PlayRule) → Breaks classes cs place c rule → Breaks classes cs place c other → rule ≡ other
+  one_rule NotInHierarchy NotInHierarchy p q = refl
+  one_rule NotInHierarchy FinalSuper p q = absurd (p q.0)
+  one_rule NotInHierarchy ClassInPlayTwice p q = absurd (p q.0)
+  one_rule FinalSuper NotInHierarchy p q = absurd (q p.0)
+  one_rule FinalSuper FinalSuper p q = refl
+  one_rule FinalSuper ClassInPlayTwice p q = absurd (false_true (sym q.1 ∙ p.1))
+  one_rule ClassInPlayTwice NotInHierarchy p q = absurd (q p.0)
+  one_rule ClassInPlayTwice FinalSuper p q = absurd (false_true (sym p.1 ∙ q.1))
+  one_rule ClassInPlayTwice ClassInPlayTwice p q = refl
+
+  -- the first method that is refused comes later in neither report
+  not_later : (rs qs : List MethodVerdict) (n m : ℕ) (r o : MethodVerdict) → IsReport classes c rs → IsReport classes c qs → IsFirstRefused rs n r → IsFirstRefused qs m o → n < m → ⊥
+  not_later rs qs n m r o p q one two lt =
+      let same = laws.one_report classes c rs qs p q in
+      let (x, there) = item qs n (omega (arith, lt, within qs m o two.here)) in
+      one.refused (fine_too r.verdict x.verdict (same.each n r x one.here there).verdict (two.before n x lt there))
+
+  one_line : (n m : ℕ) (r o : MethodVerdict) → HasRefused classes cs place c n r → HasRefused classes cs place c m o → verdict_line r ≡ verdict_line o
+  one_line n m r o (plain, first, rs, p, one) (even, before, qs, q, two) = by (cases_order n m)
+    where
+      by : (n ≡ m) ⊎ ((n < m) ⊎ (m < n)) → verdict_line r ≡ verdict_line o
+      by (inl e) = same_line r o ((laws.one_report classes c rs qs p q).each n r o one.here (ap (slice_get qs) e ∙ two.here))
+      by (inr (inl lt)) = absurd (not_later rs qs n m r o p q one two lt)
+      by (inr (inr lt)) = absurd (not_later qs rs m n o r q p two one lt)
+
+  one_broken : (text other : List ℕ) (status next : ℕ) → BrokenSays classes cs place c text status → BrokenSays classes cs place c other next → (text ≡ other) × (status ≡ next)
+  one_broken text other status next (inl (rule, p, t, s)) (inl (also, q, u, v)) =
+      (t ∙ ap (rule_refusal (place + 1)) (one_rule rule also p q) ∙ sym u, s ∙ sym v)
+  one_broken text other status next (inl (rule, p, t, s)) (inr (m, o, q, u, v)) = absurd (broken_refused rule m o p q)
+  one_broken text other status next (inr (n, r, p, t, s)) (inl (also, q, u, v)) = absurd (broken_refused also n r q p)
+  one_broken text other status next (inr (n, r, p, t, s)) (inr (m, o, q, u, v)) =
+      (t ∙ ap (numbered (place + 1)) (one_line n m r o p q) ∙ sym u, s ∙ sym v)
+    where
+      numbered : ℕ → List ℕ → List ℕ
+      numbered number line = codes "class " ++ (decimal number ++ (codes " " ++ line))
+
+  broken_or_fine : (text : List ℕ) (status : ℕ) (qs : List MethodVerdict) → BrokenSays classes cs place c text status → IsFine classes cs place c qs → ⊥
+  broken_or_fine text status qs (inl (rule, p, t, s)) f = broken_fine rule qs p f
+  broken_or_fine text status qs (inr (n, r, p, t, s)) f = refused_fine n r qs p f
+
+-- ---- of all classes
+
+module _ (laws : Laws) (classes : List ClassFact) (cs : List Class) where
+  -- of a class among those that break no rule
+  not_among : (place : ℕ) (c : Class) (text : List ℕ) (status : ℕ) (rs : List Report) → slice_get cs place ≡ Some c → BrokenSays classes cs place c text status
+      → AreFine classes cs rs → place < length rs → ⊥
+  not_among place c text status rs here b fine lt =
+      let (r, at) = item rs place lt in
+      let (d, there, f) = fine place r at in
+      let same : d ≡ c = some_same d c (sym there ∙ here) in
+      broken_or_fine laws classes cs place c text status r.methods.items b (subst (λ z. IsFine classes cs place z r.methods.items) same f)
+
+  one_classes : (text other : List ℕ) (status next : ℕ) → ClassesSay classes cs text status → ClassesSay classes cs other next → (text ≡ other) × (status ≡ next)
+  one_classes text other status next (inl (i, ((c, here, b), (rs, many, fine)))) (inl (j, ((d, there, k), (qs, count, all)))) = by (cases_order i j)
+    where
+      by : (i ≡ j) ⊎ ((i < j) ⊎ (j < i)) → (text ≡ other) × (status ≡ next)
+      by (inl e) =
+          let same : c ≡ d = some_same c d (sym here ∙ ap (slice_get cs) e ∙ there) in
+          one_broken laws classes cs j d text other status next
+          (subst (λ z. BrokenSays classes cs j z text status) same (subst (λ n. BrokenSays classes cs n c text status) e b)) k
+      by (inr (inl lt)) = absurd (not_among i c text status qs here b all (omega (arith, lt, count)))
+      by (inr (inr lt)) = absurd (not_among j d other next rs there k fine (omega (arith, lt, many)))
+  one_classes text other status next (inl (i, ((c, here, b), before))) (inr (qs, (count, all), u, v)) =
+      absurd (not_among i c text status qs here b all (omega (arith, count, within cs i c here)))
+  one_classes text other status next (inr (rs, (many, fine), t, s)) (inl (j, ((d, there, k), before))) =
+      absurd (not_among j d other next rs there k fine (omega (arith, many, within cs j d there)))
+  one_classes text other status next (inr (rs, p, t, s)) (inr (qs, q, u, v)) = (t ∙ sym u, s ∙ sym v)
+
+module _ (laws : Laws) where
+  one_together : (cs : List Class) (text other : List ℕ) (status next : ℕ) → TogetherSay cs text status → TogetherSay cs other next → (text ≡ other) × (status ≡ next)
+  one_together cs text other status next (inl (f, m, p, t, s)) (inl (g, n, q, u, v)) =
+      let same = laws.one_hierarchy_fault (map summary_of cs) f g m n p q in
+      (t ∙ same_refusal f g same.0 same.1 ∙ sym u, s ∙ sym v)
+  one_together cs text other status next (inl (f, m, p, t, s)) (inr (h, q)) = absurd (laws.not_hierarchy (map summary_of cs) f m p h)
+  one_together cs text other status next (inr (h, p)) (inl (g, n, q, u, v)) = absurd (laws.not_hierarchy (map summary_of cs) g n q h)
+  one_together cs text other status next (inr (h, p)) (inr (k, q)) = one_classes laws (map summary_of cs) cs text other status next p q
+
+  pub one_play : (reads : List Read) (text other : List ℕ) (status next : ℕ) → PlaySays reads text status → PlaySays reads other next → (text ≡ other) × (status ≡ next)
+  one_play reads text other status next (inl (i, r, p, t, s)) (inl (j, o, q, u, v)) =
+      let same = one_first laws reads i j r o p q in (
+        t ∙ ap (λ n. numbered_refusal (n + 1) r) same.0 ∙ ap (numbered_refusal (j + 1)) same.1 ∙ sym u,
+        s ∙ ap refusal_status same.1 ∙ sym v,
+      )
+  one_play reads text other status next (inl (i, r, p, t, s)) (inr (ds, q, k)) = absurd (none_refused laws reads ds i r q p)
+  one_play reads text other status next (inr (cs, p, h)) (inl (j, o, q, u, v)) = absurd (none_refused laws reads cs j o p q)
+  one_play reads text other status next (inr (cs, p, h)) (inr (ds, q, k)) =
+      one_together ds text other status next (subst (λ x. TogetherSay x text status) (one_list laws reads cs ds p q) h) k

@@ -1,0 +1,24 @@
+use Rattle.std.proofs.Common.{◌≡◌, ◌∙◌, map, inr, ap, subst}
+use Rattle.verify.specs.Files.{read_of}
+use Rattle.verify.specs.Together.{ReportsTogether, NotTogether}
+use Rattle.answers.specs.Files.{read_view}
+use Rattle.answers.specs.Plays.{play_verified, PlaySays}
+use Rattle.answers.proofs.Tellings.{answered_more}
+use Rattle.answers.proofs.playing.play.Goals as goal
+
+pub returns-in-Ok-verify_together : goal.returns-in-Ok-verify_together
+returns-in-Ok-verify_together g c =
+    let held = g.W.Write.contents in
+    let reads = map read_view c.args.reads.now in
+    let rs = c.in-Ok-verify_together.field-0.items in
+    let same : map read_of c.deref.result.now ≡ reads = ap (map read_of) c.deref.ensures.value ∙ c.in-Ok.ensures.found in
+    let (cs, all, hierarchy, played) = subst (λ k. ReportsTogether k rs) same c.in-Ok-verify_together.ensures.exactly in
+    answered_more (λ t s. (t ≡ play_verified) × (s ≡ 0)) (PlaySays reads)
+    (λ text status p. inr (cs, all, inr (hierarchy, inr (rs, played, p.0, p.1))))
+    (held c.args.out.now) (held c.tell.new.out) c.tell.result c.tell.ensures
+
+pub returns : goal.returns
+returns g c =
+    let reads = map read_view c.args.reads.now in
+    let same : map read_of c.deref.result.now ≡ reads = ap (map read_of) c.deref.ensures.value ∙ c.in-Ok.ensures.found in
+    c.refuse.ensures reads (subst (λ k. NotTogether k c.in-Err-verify_together.fault) same c.in-Err-verify_together.ensures.exactly)

@@ -1,0 +1,14 @@
+-- Each class so far breaks no rule, and its name was met.
+use Rattle.std.proofs.Common.{◌≡◌, ◌<◌, length, map}
+use Rattle.classfile.specs.Views.{class_view}
+use Rattle.hierarchy.specs.Rules.{IsHierarchy}
+use Rattle.verify.specs.Plays.{AreFine}
+use Rattle.verify.specs.PlaySteps.{AreMet}
+use Rattle.verify.proofs.play.reports_in_play.Given as goal
+
+abbrev pub invariant-loop-class : goal.invariant-loop-class
+invariant-loop-class g l =
+    (length l.reports.items ≡ l.class)
+    × AreFine (g.C.Classes.content l.classes) (map (λ f. class_view f.class.now) l.play) l.reports.items
+    × AreMet (map (λ f. class_view f.class.now) l.play) l.class l.names
+    × (0 < l.class → IsHierarchy (g.C.Classes.content l.classes))
