@@ -4,9 +4,9 @@ import struct
 
 from long_texts import LONGEST, indices, utf8
 
-ALOAD_0, POP, RETURN, GETFIELD = b"\x2a", b"\x57", b"\xb1", b"\xb4"
+ACONST_NULL, ALOAD_0, POP, RETURN, GETFIELD = b"\x01", b"\x2a", b"\x57", b"\xb1", b"\xb4"
 STATIC, PROTECTED = 9, 4
-CHAIN, READS, FIELDS, DECLARED = 10_000, 21_000, 16_000, 40
+CHAIN, READS, FIELDS, DECLARED, OF_NULL = 10_000, 21_000, 16_000, 40, 13_000
 LINES = b"method m (LK;)V verified\n"
 # In each class the class and its superclass stand at 1 and 3, and the others from 5 on; in K these first.
 OF_METHOD = [utf8(b"m"), utf8(b"(LK;)V"), utf8(b"Code"), utf8(b"LK;")]
@@ -26,9 +26,17 @@ def declaring(name, above, names):
     return class_file(name, above, [utf8(b"LK;"), *map(utf8, names)], [(6 + i, 5) for i in range(len(names))])
 
 
-def reading(above, constants, reads):
-    """K below a class, with a method that reads the fields of these constants, each on what the one before it gave."""
-    code = ALOAD_0 + b"".join(GETFIELD + struct.pack(">H", it) for it in reads) + POP + RETURN
+def on_one_another(reads):
+    """Code that reads the fields of these constants, each on what the one before it gave."""
+    return ALOAD_0 + b"".join(GETFIELD + struct.pack(">H", it) for it in reads) + POP + RETURN
+
+
+def on_null(reads):
+    return b"".join(ACONST_NULL + GETFIELD + struct.pack(">H", it) + POP for it in reads) + RETURN
+
+
+def reading(above, constants, code):
+    """K below a class, with a method of this code."""
     body = struct.pack(">HHI", 1, 1, len(code)) + code + bytes(4)
     method = struct.pack(">HHHHHI", STATIC, NAME, DESCRIPTOR, 1, CODE, len(body)) + body
     return class_file(b"K", above, [*OF_METHOD, *constants], methods=[method])
@@ -52,16 +60,17 @@ def of_chain(names, reads, each, last):
     constants, fields = fields_of(names)
     above = [b"p/s%d" % i for i in range(CHAIN)]
     classes = [declaring(*it, each) for it in zip(above, above[1:])]
-    return [reading(above[0], constants, fields * (reads // len(fields))), *classes, declaring(above[-1], b"java/lang/Object", last)]
+    return [reading(above[0], constants, on_one_another(fields * (reads // len(fields)))), *classes, declaring(above[-1], b"java/lang/Object", last)]
 
 
 def of_long_names():
-    """Each read has a Fieldref, a Class and a NameAndType of its own; all of them lead to one class and one field of the longest names."""
+    """Each read has a Fieldref, a Class and a NameAndType of its own; all of them lead to one class and one field of the longest names. The object is
+    null, so that nothing is compared with the class."""
     above, name, constants = b"p/" + b"a" * (LONGEST - 2), b"x" * LONGEST, [utf8(b"x" * LONGEST)]
-    for i in range(READS):
+    for i in range(OF_NULL):
         at = BEHIND + 1 + 3 * i
         constants += [indices(9, at + 1, at + 2), indices(7, 4), indices(12, BEHIND, FIELD_TYPE)]
-    return [reading(above, constants, [BEHIND + 1 + 3 * i for i in range(READS)]), declaring(above, b"java/lang/Object", [name])]
+    return [reading(above, constants, on_null(BEHIND + 1 + 3 * i for i in range(OF_NULL))), declaring(above, b"java/lang/Object", [name])]
 
 
 OTHERS = numbered(b"y", DECLARED)
@@ -72,7 +81,7 @@ FILES = {
     "16,000 reads of a field each of the last of 10,000 superclasses": lambda: of_chain(numbered(b"x", FIELDS), FIELDS, [], numbered(b"x", FIELDS)),
     "21,000 reads of a field of the last of 10,000 superclasses that declare 40 fields each": lambda: of_chain([b"x"], READS, OTHERS, [b"x"]),
     "16,000 reads of a field each of the last of 10,000 superclasses that declare 40 fields each": lambda: of_chain(numbered(b"x", FIELDS), FIELDS, OTHERS, numbered(b"x", FIELDS)),
-    "21,000 reads of one field of a long name in a class of a long name, each by its own constants": of_long_names,
+    "13,000 reads of one field of a long name in a class of a long name, each by its own constants": of_long_names,
 }
 
 

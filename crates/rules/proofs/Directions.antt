@@ -1,5 +1,5 @@
 -- Where the plan of an instruction goes: as its act says, whatever the method.
-use Rattle.std.proofs.Common.{◌≡◌, ◌⊎◌, ◌∙◌, ℕ, ◌<◌, Bool, true, false, List, [], ◌∷◌, Option, Some, None, refl, sym, arith, inl, inr, if◌then◌else◌}
+use Rattle.std.proofs.Common.{◌≡◌, ◌∙◌, ℕ, Bool, true, false, List, [], ◌∷◌, Option, Some, None, refl, sym, if◌then◌else◌}
 use Rattle.names.specs.declared.base.Primitive.{Primitive}
 use Rattle.names.specs.Descriptors.{FieldDescriptor, primitive, class as class_descriptor, array as array_descriptor}
 use Rattle.std.specs.Prelude.{nat_lt, not, ◌&&◌}

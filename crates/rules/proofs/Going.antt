@@ -1,12 +1,12 @@
 -- Where an instruction goes that is not refused: as its act says, whatever the method.
-use Rattle.std.proofs.Common.{◌≡◌, ◌⊎◌, ◌∙◌, ℕ, Bool, List, Some, None, Ok, Err, inl, inr, ap, subst}
+use Rattle.std.proofs.Common.{◌≡◌, ◌⊎◌, ◌∙◌, ℕ, Bool, List, Some, None, Ok, Err, ap, subst}
 use Rattle.classfile.specs.Methods.{Method}
 use Rattle.hierarchy.specs.Class.{ClassFact}
 use Rattle.insn.specs.Meanings.{Act}
 use Rattle.frames.specs.declared.frame.Frame.{Frame}
 use Rattle.frames.specs.FrameFact.{FrameFact, frame_of}
 use Rattle.frames.specs.Conditions.{least}
-use Rattle.rules.specs.Plans.{Plan, refuses, falls, offsets_of}
+use Rattle.rules.specs.Plans.{Plan}
 use Rattle.rules.specs.Table.{plan}
 use Rattle.rules.specs.Rules.{constructs_own}
 use Rattle.rules.specs.Ways.{goes_on, branch_offsets}

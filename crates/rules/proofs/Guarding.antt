@@ -1,5 +1,5 @@
 -- References to members by the entries of a pool, and the answers that are kept for them.
-use Rattle.std.proofs.Common.{◌≡◌, ◌⊎◌, ℕ, zero, suc, ◌+◌, Bool, true, false, nat_eq, eqb-true, if◌then◌else◌, List, [], ◌∷◌, ◌++◌, length, map, slice_get, Option, Some, None, option_map, Result, Ok, Err, refl, sym, ◌∙◌, ap, subst, inl, inr, arith}
+use Rattle.std.proofs.Common.{◌≡◌, ◌⊎◌, ℕ, zero, suc, ◌+◌, Bool, true, false, nat_eq, eqb-true, if◌then◌else◌, List, [], ◌∷◌, ◌++◌, length, map, slice_get, Option, Some, None, option_map, Result, Ok, Err, refl, sym, ◌∙◌, ap, subst, inl, inr}
 use Rattle.std.specs.Option.{option_and_then}
 use Rattle.std.specs.Str.{bytes_eq}
 use Rattle.std.proofs.lemmas.List.{length-append, length-map, map-append}
@@ -11,8 +11,8 @@ use Rattle.names.specs.Reading.{field_answer, method_answer}
 use Rattle.names.specs.ReferenceTypes.{ReferenceType, class_type, array_type, begins_array, array_of, reference_type}
 use Rattle.pool.specs.declared.fault.PoolFault.{PoolFault}
 use Rattle.pool.specs.Entries.{Entry, Class, Fieldref, Methodref, NameAndType}
-use Rattle.pool.specs.Lookups.{Named, FieldOf, MethodOf, entry_at, text_at, class_name_at, field_ref_at, method_ref_at, StandsAt, HasClassName, HasNameAndType, HasMember, methodref}
-use Rattle.pool.specs.Members.{found, constant_at, class_at, FieldConstant, field_of_class, field_constant, field_at, MethodConstant, method_of_class, method_constant, method_at}
+use Rattle.pool.specs.Lookups.{FieldOf, MethodOf, class_name_at, field_ref_at, method_ref_at, StandsAt, HasMember, methodref}
+use Rattle.pool.specs.Members.{found, constant_at, FieldConstant, field_of_class, field_constant, field_at, MethodConstant, method_of_class, method_constant, method_at}
 use Rattle.pool.proofs.LookupLaws.{stands_entry, stands_text, stands_class, field_stands, method_stands}
 use Rattle.classfile.specs.declared.class_file.ClassFile.{ClassFile}
 use Rattle.classfile.specs.Indices.{on_found}
@@ -27,7 +27,7 @@ use Rattle.hierarchy.specs.Summary.{reference_of}
 use Rattle.rules.specs.declared.guards.Guards.{Guards}
 use Rattle.rules.specs.declared.guards.Key.{Key}
 use Rattle.rules.specs.declared.guards.References.{References}
-use Rattle.rules.specs.Guards.{own_name, IsReference, field, method, is_of, names_own, key_by, other_key, key_of, with_texts, read_key, read_entry, IsPlaced, IsKeyed, AreKeyed, Numbers, Reads, AreRead, AreGuards}
+use Rattle.rules.specs.Guards.{own_name, IsReference, field, method, is_of, names_own, key_by, other_key, with_texts, read_key, read_entry, IsPlaced, IsKeyed, AreKeyed, Numbers, Reads, AreRead, AreGuards}
 use Rattle.rules.specs.Protected.{field_reference, method_reference}
 
 -- ---- the entry that is a reference

@@ -1,5 +1,5 @@
 -- The member that an instruction uses on an object, by what was looked up for it, and what is judged of it.
-use Rattle.std.proofs.Common.{◌≡◌, ◌∙◌, ℕ, true, false, if◌then◌else◌, List, [], ◌∷◌, length, Option, Some, None, option_map, Result, refl, sym, ap, subst, arith}
+use Rattle.std.proofs.Common.{◌≡◌, ◌∙◌, ℕ, true, false, if◌then◌else◌, List, [], ◌∷◌, length, Option, Some, option_map, Result, refl, sym, ap, subst, arith}
 use Rattle.std.specs.Option.{option_and_then, option_map_or}
 use Rattle.names.specs.ReferenceTypes.{ReferenceType, class_type, array_type, is_class_type}
 use Rattle.pool.specs.Members.{FieldConstant, field_at, MethodConstant, method_at}

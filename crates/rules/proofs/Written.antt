@@ -1,5 +1,5 @@
 -- A store writes at most three locals, one after the other: the one before it, if that held a long or double, its own, and the one behind a long or double.
-use Rattle.std.proofs.Common.{◌≡◌, ℕ, zero, suc, ◌+◌, true, false, List, [], ◌∷◌, get_or, set, slice_get, refl, sym, ap, arith, ◌∙◌, if◌then◌else◌}
+use Rattle.std.proofs.Common.{◌≡◌, ℕ, zero, suc, true, false, List, [], ◌∷◌, get_or, set, slice_get, refl, ap, ◌∙◌, if◌then◌else◌}
 use Rattle.frames.specs.VerificationType.{VerificationType, top}
 use Rattle.frames.specs.Slots.{is_wide}
 use Rattle.rules.specs.After.{stored_type, top_first, or_top}

@@ -1,5 +1,5 @@
 -- Which constants of a class name members that are guarded, as the program finds them. Words of the code's own steps.
-use Rattle.std.specs.Prelude.{◌≡◌, ℕ, nat_eq, Bool, true, false, if◌then◌else◌, List, slice_get, length, map, Option, Some, None, Result, Ok, Err, MatchOption}
+use Rattle.std.specs.Prelude.{◌≡◌, ℕ, nat_eq, Bool, false, if◌then◌else◌, List, slice_get, length, map, Option, Some, None, Result, Ok, MatchOption}
 use Rattle.std.specs.Option.{option_and_then}
 use Rattle.names.specs.ReferenceTypes.{class_type}
 use Rattle.pool.specs.declared.fault.PoolFault.{PoolFault}

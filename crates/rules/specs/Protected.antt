@@ -1,8 +1,8 @@
 -- Members that are protected (JVMS 4.10.1.8): one that a class above the current one declares in another package is used on objects of the current class alone.
-use Rattle.std.specs.Prelude.{ℕ, Bool, true, false, if◌then◌else◌, List, [], ◌∷◌, Option, Some, None, option_map}
+use Rattle.std.specs.Prelude.{ℕ, Bool, false, if◌then◌else◌, List, [], ◌∷◌, Option, Some, None, option_map}
 use Rattle.std.specs.Option.{option_and_then, option_map_or}
 use Rattle.names.specs.Descriptors.{FieldDescriptor}
-use Rattle.names.specs.ReferenceTypes.{ReferenceType, class_type, array_type}
+use Rattle.names.specs.ReferenceTypes.{ReferenceType, class_type}
 use Rattle.pool.specs.Members.{FieldConstant, field_at, MethodConstant, method_at}
 use Rattle.classfile.specs.Methods.{Method}
 use Rattle.hierarchy.specs.declared.summary.Kind.TheVariants as kinds

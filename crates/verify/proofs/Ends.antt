@@ -11,7 +11,7 @@ use Rattle.insn.specs.Offsets.{at_offset, led_to}
 use Rattle.frames.specs.FrameFact.{FrameFact}
 use Rattle.frames.specs.FrameAssignable.{frame_answer}
 use Rattle.frames.specs.Conditions.{Reason, reason, number_of, Conditions, lesser, least}
-use Rattle.rules.specs.Plans.{Plan, refuses, falls, offsets_of, targets}
+use Rattle.rules.specs.Plans.{Plan, falls, offsets_of, targets}
 use Rattle.rules.specs.After.{after}
 use Rattle.rules.specs.Rules.{conditions, constructs_own}
 use Rattle.rules.specs.Protected.{Use, used_by, object_beneath, object_answer, object_conditions, use_conditions, member_conditions}

@@ -1,5 +1,5 @@
 -- Where each instruction goes, by its plan: as its act says; and where it branches, its rule needs no class.
-use Rattle.std.proofs.Common.{◌≡◌, ◌⊎◌, ℕ, ◌<◌, Bool, true, false, ◌&&◌, ℤ, List, [], ◌∷◌, Option, Some, None, refl, sym, ◌∙◌, ap, arith, inl, inr}
+use Rattle.std.proofs.Common.{◌≡◌, ◌⊎◌, ℕ, ◌<◌, Bool, true, false, ◌&&◌, ℤ, List, [], ◌∷◌, Option, Some, None, refl, sym, ◌∙◌, arith, inl, inr}
 use Rattle.classfile.specs.Methods.{Method}
 use Rattle.hierarchy.specs.Class.{ClassFact}
 use Rattle.hierarchy.specs.Answer.{Outcome, yes, no, missing}
@@ -10,7 +10,7 @@ use Rattle.frames.specs.VerificationType.{VerificationType, top, int, float, lon
 use Rattle.frames.specs.FrameAssignable.{both}
 use Rattle.frames.specs.FrameFact.{FrameFact}
 use Rattle.frames.specs.Conditions.{Reason, reason, Conditions, least, is_no, missing_if}
-use Rattle.rules.specs.Plans.{Want, number, any_reference, Plan, pops, refuses, falls, offsets_of}
+use Rattle.rules.specs.Plans.{Want, number, any_reference, Plan, pops, offsets_of}
 use Rattle.rules.specs.Table.{plan}
 use Rattle.rules.proofs.Directions.{WayOf, way_of}
 use Rattle.rules.specs.After.{after}

@@ -21,7 +21,6 @@ use Rattle.frames.specs.Conditions.{Reason, Conditions, least}
 use Rattle.rules.specs.Plans.{Plan, pops, loads, stores, counts, rearranges, loads_element, makes, constructs, calls_special, returns, refuses, falls}
 use Rattle.rules.specs.Table.{plan}
 use Rattle.rules.specs.After.{top_first, stored_type, after}
-use Rattle.rules.specs.Rules.{conditions}
 use Rattle.rules.specs.Outcomes.{Done}
 use Rattle.rules.specs.Ways.{goes_on as act_goes_on}
 use Rattle.rules.specs.Reasons.{reason_view}
@@ -30,7 +29,6 @@ use Rattle.rules.specs.declared.reason.Reason.TheVariants.{OutOfMemory}
 use Rattle.verify.specs.TypeSafety.{Frames}
 use Rattle.verify.specs.Verdict.{Verdict, refused, told_of, refused_or, at_conditions, entry, entered, arrives, passes}
 use Rattle.verify.specs.Steps.{Enters}
-use Rattle.rules.proofs.Lesser.{rule_none}
 use Rattle.verify.proofs.Going.{ways}
 
 -- ---- the number of locals stays

@@ -7,7 +7,6 @@ use Rattle.insn.specs.Faults.{code_fault_number}
 use Rattle.frames.specs.FrameFact.{FrameFact}
 use Rattle.frames.specs.declared.declared_frames.DeclaredFrames.{DeclaredFrames}
 use Rattle.frames.specs.DeclaredTables.{frames_in}
-use Rattle.frames.specs.Conditions.{Conditions, least}
 use Rattle.rules.specs.declared.reason.Reason.{Reason}
 use Rattle.rules.specs.declared.reason.Reason.TheVariants.{OutOfMemory, BadCode}
 use Rattle.rules.specs.Reasons.{reason_view}

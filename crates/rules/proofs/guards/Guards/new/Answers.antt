@@ -1,4 +1,4 @@
-use Rattle.std.proofs.Common.{◌≡◌, ◌∙◌, map, ap}
+use Rattle.std.proofs.Common.{◌∙◌, map, ap}
 use Rattle.hierarchy.specs.Nearest.{is_guarded}
 use Rattle.hierarchy.specs.Summary.{reference_of}
 use Rattle.rules.proofs.Guarding.{guards_are}

@@ -1,9 +1,7 @@
-use Rattle.std.proofs.Common.{◌≡◌, ◌∙◌, suc, ◌+◌, ◌≢◌, length, get_or, set, false, true, refl, sym, ap, subst, arith}
+use Rattle.std.proofs.Common.{◌≡◌, ◌∙◌, suc, ◌+◌, ◌≢◌, get_or, set, sym, ap, arith}
 use Rattle.std.proofs.lemmas.List.{set_past, get_or-set_other, length-set}
-use Rattle.frames.specs.Slots.{is_wide}
-use Rattle.frames.specs.FrameFact.{FrameFact}
 use Rattle.frames.specs.VerificationType.{top}
-use Rattle.rules.specs.After.{top_of, stored, stored_type}
+use Rattle.rules.specs.After.{top_of, stored}
 use Rattle.rules.specs.Held.{held}
 use Rattle.rules.specs.Views.{with_half_free}
 use Rattle.rules.proofs.Storing.{free_length}

@@ -1,4 +1,4 @@
-use Rattle.std.proofs.Common.{◌≡◌, ◌∙◌, suc, ◌-◌, get_or, set, false, true, refl, sym, ap, subst, arith}
+use Rattle.std.proofs.Common.{◌≡◌, ◌∙◌, suc, ◌-◌, get_or, false, true, refl, sym, ap, arith}
 use Rattle.frames.specs.Slots.{is_wide}
 use Rattle.frames.specs.VerificationType.{top}
 use Rattle.rules.specs.After.{local_of}
