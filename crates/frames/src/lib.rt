@@ -16,9 +16,12 @@
 //! - `laws`: what the answers mean, by chains of superclasses and place by place.
 //! - `map_reading`, `map_writing`: the two directions of a stack map.
 //! - `naming`: the types of what descriptors and Class constants name.
+//! - `packed`: frames with their slots, compared by lanes.
+//! - `packing`: types as slots of four bytes.
 //! - `refusing`: an entry judged.
 //! - `stack_map`: stack maps, and `read_map`.
 //! - `starts`: where instructions begin.
+//! - `undecided`: where equal slots do not decide.
 //! - `vtype`: verification types.
 //! - `walking`: chains gone through.
 //! - `whole_frames`: declared frames with all their locals.
