@@ -8,15 +8,11 @@ use Rattle.frames.specs.VerificationType.{VerificationType}
 use Rattle.frames.specs.FrameFact.{FrameFact}
 use Rattle.frames.specs.Assignable.{type_answer}
 use Rattle.frames.specs.FrameAssignable.{both, width_of, item_answer, list_answer, stack_answer, flag_answer, frame_answer}
+use Rattle.frames.specs.PackedFrames.{joined}
 use Rattle.frames.specs.Meaning.{IsAlike, answers, slot_answers, FrameAnswer}
 use Rattle.frames.proofs.Slots.{both_no, both_assoc, list_uneven, stack_uneven, stack_reverse}
 use Rattle.hierarchy.proofs.Names.{some_same, same_some, none_some}
 use Rattle.frames.proofs.Types.{type_itself, no_is_yes}
-
--- many answers as one
-abbrev joined : List Outcome → Outcome
-joined [] = yes
-joined (r ∷ rs) = both r (joined rs)
 
 joined_append : (rs ss : List Outcome) → joined (rs ++ ss) ≡ both (joined rs) (joined ss)
 joined_append [] ss = refl
@@ -104,7 +100,7 @@ flag_no true true e h = cc
 flag_no true false e h = false≢true (h refl)
 
 module _ (h : List ClassFact) (f g : FrameFact) where
-  alike_answer : IsAlike f g → frame_answer h f g ≡ joined (slot_answers h f g)
+  pub alike_answer : IsAlike f g → frame_answer h f g ≡ joined (slot_answers h f g)
   alike_answer a =
       let e : length (reverse f.stack) ≡ length (reverse g.stack) = length-reverse f.stack ∙ a.1 ∙ sym (length-reverse g.stack) in
       let stack = stack_reverse (item_answer h) (reverse f.stack) (reverse g.stack) e in
@@ -176,7 +172,7 @@ pub list_itself : (h : List ClassFact) (xs : List VerificationType) → list_ans
 list_itself h [] = refl
 list_itself h (x ∷ xs) = ap (λ r. both r (list_answer (type_answer h) xs xs)) (type_itself h x) ∙ list_itself h xs
 
-item_itself : (h : List ClassFact) (x : VerificationType) → item_answer h x x ≡ yes
+pub item_itself : (h : List ClassFact) (x : VerificationType) → item_answer h x x ≡ yes
 item_itself h x = ap (λ t. both (yes_if t) (type_answer h x x)) (eq-eqb (width_of x) (width_of x) refl) ∙ type_itself h x
 
 stack_itself : (h : List ClassFact) (xs : List VerificationType) → stack_answer (item_answer h) xs xs ≡ yes

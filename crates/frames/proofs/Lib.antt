@@ -1,4 +1,9 @@
 pub mod Arrays
+pub mod EightLanes
+pub mod SlotRows
+pub mod SlotTypes
+pub mod PlaceAnswers
+pub mod PackedRows
 pub mod Slots
 pub mod Types
 pub mod Frames

@@ -1,10 +1,10 @@
 -- The locals of two frames of one table, and lists between the two.
-use Rattle.std.proofs.Common.{◌≡◌, ◌≢◌, ◌∙◌, ℕ, zero, suc, ◌-◌, ◌≤◌, List, [], ◌∷◌, ◌++◌, length, take, drop, get_or, replicate, reverse, refl, sym, ap, arith, append_assoc}
+use Rattle.std.proofs.Common.{◌≡◌, ◌∙◌, ℕ, zero, suc, ◌-◌, ◌≤◌, List, [], ◌∷◌, ◌++◌, length, take, drop, replicate, reverse, refl, sym, ap, arith, append_assoc}
 use Rattle.std.proofs.lemmas.List.{length-replicate, reverse-append, take-append-le, drop-replicate}
 use Rattle.frames.specs.VerificationType.{VerificationType, top}
-use Rattle.frames.specs.Slots.{units_of, in_locals, all_locals}
+use Rattle.frames.specs.Slots.{units_of, in_locals}
 use Rattle.frames.specs.Chains.{types_at, AreLinked, IsOn}
-use Rattle.frames.specs.DeclaredViews.{locals_at, fact_of, IsInside}
+use Rattle.frames.specs.DeclaredViews.{locals_at, fact_of}
 use Rattle.frames.specs.DeclaredTables.{declared_view, AreOfOne}
 use Rattle.frames.specs.Fitting.{AreSameBut}
 use Rattle.frames.specs.declared.chain.Link.{Link}

@@ -20,3 +20,6 @@ pub mod Marks
 pub mod MarkedCode
 pub mod DeclaredForms
 pub mod Fitting
+pub mod Packing
+pub mod PackedFrames
+pub mod Undecided

@@ -1,5 +1,6 @@
 //! The meaning of the answers of the comparisons, and that declared frames tell the same in both of their forms.
 ghost use Rattle.frames.specs.DeclaredForms.{FormsAgree};
+ghost use Rattle.frames.specs.Packing.{EqualSlotsAreEqualTypes, EqualSlotsAreYes};
 ghost use Rattle.frames.specs.Meaning.{ClassesHaveOneAnswer, TypesMean, FramesHaveOneAnswer, FramesToThemselves};
 
 /// A comparison of two classes has one answer, by the chain of superclasses.
@@ -27,4 +28,10 @@ pub fn frames_to_themselves()
 /// [`declared`](crate::declared) tells, and where one refuses, so does the other, by the same number.
 pub fn forms_agree()
     ensures { FormsAgree }
+{}
+
+/// Types of equal slots are equal, that of absent classes aside, and so each stands for the other.
+pub fn equal_slots_are_equal_types()
+    ensures types { EqualSlotsAreEqualTypes }
+    ensures answers { EqualSlotsAreYes }
 {}

@@ -16,9 +16,12 @@
 //! - `laws`: what the answers mean, by chains of superclasses and place by place.
 //! - `map_reading`, `map_writing`: the two directions of a stack map.
 //! - `naming`: the types of what descriptors and Class constants name.
+//! - `packed`: frames with their slots, compared by lanes.
+//! - `packing`: types as slots of four bytes.
 //! - `refusing`: an entry judged.
 //! - `stack_map`: stack maps, and `read_map`.
 //! - `starts`: where instructions begin.
+//! - `undecided`: where equal slots do not decide.
 //! - `vtype`: verification types.
 //! - `walking`: chains gone through.
 //! - `whole_frames`: declared frames with all their locals.
@@ -39,9 +42,12 @@ pub mod laws;
 mod map_reading;
 mod map_writing;
 mod naming;
+mod packed;
+mod packing;
 mod refusing;
 mod stack_map;
 mod starts;
+mod undecided;
 mod vtype;
 mod walking;
 mod whole_frames;
@@ -55,7 +61,10 @@ pub use fitting::Fitting;
 pub use frame::Frame;
 pub use frame_fault::FrameFault;
 pub use naming::{array_of, held_by, number_type, reference_to};
+pub use packed::{Packed, packed_assignable};
+pub use packing::pack;
 pub use stack_map::{MapEntry, StackMap, TypeInfo, read_map};
 pub use starts::Starts;
+pub use undecided::{ABSENT, first_undecided};
 pub use vtype::VType;
 pub use whole_frames::declared;

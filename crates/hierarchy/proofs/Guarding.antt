@@ -1,11 +1,8 @@
 -- Numbers of texts, starts of references, and that the first flag from a start on says whether a reference is guarded.
 use Rattle.std.proofs.Common.{◌≡◌, ◌&&◌, ◌||◌, ◌==◌, ℕ, zero, suc, ◌+◌, ◌-◌, ◌<◌, ◌≤◌, Bool, true, false, cond, not, List, [], ◌∷◌, ◌++◌, get_or, length, map, slice_get, take, Option, Some, None, option_map, IsSome, Result, Ok, Err, IfOk, refl, ap, sym, ◌∙◌, subst, arith}
-use Rattle.std.specs.BTreeMap.{BTreeMap, btree_map_len, IsEmpty}
-use Rattle.std.specs.Cmp.Lexicographic.{slice_cmp}
+use Rattle.std.specs.BTreeMap.{BTreeMap, btree_map_len}
 use Rattle.std.specs.Global.{Vec}
 use Rattle.std.specs.declared.alloc.AllocError.{AllocError}
-use Rattle.std.specs.Map.{lookup}
-use Rattle.std.specs.Ordering.{is_eq, nat_cmp}
 use Rattle.std.specs.Borrow.{Bor}
 use Rattle.std.specs.List.{AllZip, list_any}
 use Rattle.std.specs.Str.{bytes_eq}
@@ -30,10 +27,6 @@ use Rattle.hierarchy.proofs.Upward.{named, above_own, few_above, chain_above}
 -- ---- numbers
 
 module _ (old new : TextNumbers) (text : List ℕ) (good : AreNumbers old) where
-  -- a text that has a number already
-  pub known_number : (n : ℕ) → number_of old text ≡ Some n → GetsNumber old old text n
-  known_number n e = record { here = e; kept = λ t m h. h; good = good }
-
   -- a text that has none gets the next one
   pub next_number : (n : ℕ) → n ≡ btree_map_len old → number_of old text ≡ None → ((t : List ℕ) → number_of new t ≡ cond (bytes_eq text t) (Some n) (number_of old t))
       → btree_map_len new ≡ btree_map_len old + 1 → GetsNumber old new text n
@@ -204,22 +197,6 @@ starts_next places old new class rs i d os more o kept lt starts start pushed =
     let all = zip_more (IsStart places new class) (map reference_of (take i rs)) os (reference_of (get_or rs i d)) o (starts_kept places old new class kept (map reference_of (take i rs)) os starts) start in
     let with_one = subst (λ xs. AreStarts places new class xs (os ++ o ∷ [])) (sym (map_more reference_of rs i d lt)) all in
     subst (λ ys. AreStarts places new class (map reference_of (take (i + 1) rs)) ys) (sym pushed) with_one
-
--- no text has a number in an empty map
-pub none_numbered : (numbers : TextNumbers) → IsEmpty numbers → (t : List ℕ) → number_of numbers t ≡ None
-none_numbered numbers e t = ap (λ es. lookup (λ (k : Bor (List ℕ)). is_eq (slice_cmp nat_cmp t k.now)) es) e
-
-pub empty_numbers : (numbers : TextNumbers) → IsEmpty numbers → AreNumbers numbers
-empty_numbers numbers e = record {
-  below = λ t n h. absurd (none_some (sym (none_numbered numbers e t) ∙ h));
-  one = λ t u n h k. absurd (none_some (sym (none_numbered numbers e t) ∙ h));
-}
-
-pub empty_places : (places : TextNumbers) → IsEmpty places → ArePlaces [] places
-empty_places places e = record {
-  leads = λ name p h. absurd (none_some (sym (none_numbered places e name) ∙ h));
-  each = λ p name h. absurd (none_some h);
-}
 
 -- ---- what the first flags say
 

@@ -17,3 +17,4 @@ pub mod Packaging
 pub mod Spots
 pub mod Guards
 pub mod Guarding
+pub mod PlacesKept

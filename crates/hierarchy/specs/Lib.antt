@@ -10,5 +10,6 @@ pub mod Nearest
 pub mod Ancestors
 pub mod Rows
 pub mod Jumps
+pub mod Places
 pub mod Above
 pub mod Flags

@@ -9,6 +9,7 @@ use crate::checked::checked_index;
 use crate::classes::Classes;
 use crate::fault::HierarchyFault;
 use crate::index::Index;
+use crate::places::short;
 use crate::summary::Summary;
 use std::alloc::Global;
 use std::hash::BuildHasher;
@@ -60,6 +61,10 @@ impl<'s, 'a, S: BuildHasher> Classes for Chains<'s, 'a, S> {
 
     fn find(&self, name: &[u8]) -> Option<&Summary<'_>> {
         self.index.find(name)
+    }
+
+    fn place(&self, name: &[u8]) -> Option<u16> {
+        short(self.index.place(name))
     }
 
     fn is_interface(&self, name: &[u8]) -> Option<bool> {

@@ -2,6 +2,7 @@
 ghost use Rattle.std.specs.Prelude.{◌≡◌, List, option_map};
 ghost use Rattle.std.specs.Option.{option_copied};
 ghost use Rattle.hierarchy.specs.Class.{ClassFact, class_of, interface_of};
+ghost use Rattle.hierarchy.specs.Places.{place_in};
 ghost use Rattle.hierarchy.specs.Summary.{fact_of};
 ghost use Rattle.hierarchy.specs.Rules.{IsHierarchy};
 ghost use Rattle.hierarchy.specs.Answer.{SubclassAnswer, outcome_of};
@@ -18,6 +19,10 @@ pub trait Classes {
     fn find(&self, name: &[u8]) -> Option<&Summary<'_>>
         ensures found { option_map fact_of (option_copied result) ≡ class_of (content self.now) name.now }
         ensures formed { IsHierarchy (content self.now) };
+
+    /// The place in the list, from 0, of the class of this name. Two names with one place are equal.
+    fn place(&self, name: &[u8]) -> Option<u16>
+        ensures { result ≡ place_in (content self.now) name.now };
 
     /// Whether the class of this name is an interface, where there is one.
     fn is_interface(&self, name: &[u8]) -> Option<bool>

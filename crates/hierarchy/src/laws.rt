@@ -1,9 +1,10 @@
-//! Laws of faults, of chains of superclasses, of worlds, of summaries and of declarations.
+//! Laws of faults, of chains of superclasses, of worlds, of summaries, of declarations and of places.
 ghost use Rattle.hierarchy.specs.Answer.{HasOneSubclassAnswer};
 ghost use Rattle.hierarchy.specs.ClassSummary.{SummaryHasTexts};
 ghost use Rattle.hierarchy.specs.Faults.{FaultsBreakRules, OneFault, RulesMakeHierarchies};
 ghost use Rattle.hierarchy.specs.Extends.{KeepsSubclasses, ExtendsItself, ChainsAreSteps};
 ghost use Rattle.hierarchy.specs.Nearest.{NearestIsComputed};
+ghost use Rattle.hierarchy.specs.Places.{PlacesAreNames};
 ghost use Rattle.hierarchy.specs.Rows.{HasOneDepth, IsBelowByDepth};
 
 use classfile::formed_has_names;
@@ -59,6 +60,11 @@ pub fn summary_has_texts()
 {
     formed_has_names();
 }
+
+/// Two names with one place are equal.
+pub fn places_are_names()
+    ensures { PlacesAreNames }
+{}
 
 /// In a hierarchy the nearest declaration of a member from a class upward is the one that its word computes.
 pub fn nearest_is_computed()

@@ -24,7 +24,8 @@ pub struct MemberRef<'a> {
 /// For each reference whether the class of this name may use the member on objects of its own alone: a class above it is asked, and the
 /// nearest declaration from there upward, static or not, is protected and of a class of another package (JVMS 4.10.1.8).
 ///
-/// The chain of superclasses is gone up once, however many references there are. The only refusal is want of memory.
+/// The time is that of the members on the chain of superclasses and of the references, times a logarithm; of a reference its own texts are
+/// compared once. The only refusal is want of memory.
 pub fn guarded<'a, C: Classes>(
     alloc: Global,
     classes: &C,

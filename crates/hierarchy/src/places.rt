@@ -1,5 +1,5 @@
 //! Places in a list of classes.
-ghost use Rattle.std.specs.Prelude.{◌≡◌, ◌<◌, length, MatchOption};
+ghost use Rattle.std.specs.Prelude.{◌≡◌, ◌<◌, length, IfSome, MatchOption};
 ghost use Rattle.hierarchy.specs.Ancestors.{HasNone, IsLowest, lower};
 ghost use Rattle.hierarchy.specs.Rules.{IsNamedAt};
 ghost use Rattle.hierarchy.specs.Summary.{facts_of};
@@ -12,6 +12,17 @@ pub fn name_at<'a>(classes: &[Summary<'a>], place: usize) -> &'a [u8]
     ensures { IsNamedAt (facts_of classes.now) place result.now }
 {
     classes[place].name
+}
+
+/// A place in a list of at most 65,536 classes, in two bytes.
+pub fn short(place: Option<usize>) -> Option<u16>
+    requires { IfSome place (λ n. n < 65536) }
+    ensures { result ≡ place }
+{
+    match place {
+        None => None,
+        Some(n) => Some(n as u16),
+    }
 }
 
 // The lowest of the places in a table.

@@ -14,6 +14,7 @@ use crate::classes::Classes;
 use crate::fault::HierarchyFault;
 use crate::index::Index;
 use crate::jumps::jumps_up;
+use crate::places::short;
 use crate::row_table::{RowTable, has_entry, rows_of};
 use crate::summary::Summary;
 use std::alloc::{AllocError, Global};
@@ -161,6 +162,10 @@ impl<'s, 'a, S: BuildHasher> Classes for Rows<'s, 'a, S> {
 
     fn find(&self, name: &[u8]) -> Option<&Summary<'_>> {
         self.index.find(name)
+    }
+
+    fn place(&self, name: &[u8]) -> Option<u16> {
+        short(self.index.place(name))
     }
 
     fn is_interface(&self, name: &[u8]) -> Option<bool> {

@@ -4,7 +4,12 @@ use names::OBJECT;
 use std::alloc::{AllocError, Global};
 use std::test::*;
 
-fn member<'a>(kind: Kind, name: &'a [u8], descriptor: &'a [u8], is_protected: bool) -> MemberSummary<'a> {
+fn member<'a>(
+    kind: Kind,
+    name: &'a [u8],
+    descriptor: &'a [u8],
+    is_protected: bool,
+) -> MemberSummary<'a> {
     MemberSummary {
         name,
         descriptor,
@@ -59,7 +64,12 @@ fn setting<'a>(alloc: Global) -> Result<[Summary<'a>; 10], AllocError> {
     ])
 }
 
-fn of_class<'a>(class: &'a [u8], kind: Kind, name: &'a [u8], descriptor: &'a [u8]) -> MemberRef<'a> {
+fn of_class<'a>(
+    class: &'a [u8],
+    kind: Kind,
+    name: &'a [u8],
+    descriptor: &'a [u8],
+) -> MemberRef<'a> {
     MemberRef {
         class,
         kind,

@@ -15,6 +15,7 @@
 //! | `ancestor_rows` | `hierarchy`: rows of ancestors |
 //! | `guarded_members` | `hierarchy`: references to protected members of other packages |
 //! | `assignability` | `frames`: one type or frame where another is wanted |
+//! | `packed_frames` | `frames`: types as slots, and frames compared by them |
 //! | `stack_maps`, `declared_frames` | `frames`: stack maps both ways, and the frames that they declare |
 //! | `instruction_rules` | `rules`: single instructions |
 //! | `machine_steps`, `object_steps` | `machine`: single steps |
@@ -69,6 +70,8 @@ mod making;
 mod named_constants;
 #[cfg(test)]
 mod object_steps;
+#[cfg(test)]
+mod packed_frames;
 #[cfg(test)]
 mod parts;
 #[cfg(test)]

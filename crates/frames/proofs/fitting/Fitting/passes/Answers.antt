@@ -1,4 +1,4 @@
-use Rattle.std.proofs.Common.{◌≡◌, ◌≤◌, ◌∙◌, suc, ◌+◌, ◌-◌, length, replicate, sym, ap, subst, arith}
+use Rattle.std.proofs.Common.{◌≡◌, ◌∙◌, suc, ◌+◌, ◌-◌, length, replicate, sym, ap, subst, arith}
 use Rattle.frames.specs.VerificationType.{top}
 use Rattle.frames.specs.DeclaredTables.{declared_view}
 use Rattle.frames.specs.Fitting.{AreFitting, AreSameBut}
