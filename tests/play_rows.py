@@ -82,11 +82,12 @@ ROWS = (
     ("a final superclass before a method that is refused", [BELOW, NOP, LAST, OBJECT_CLASS], "class 1 refused 81"),
     ("two classes with methods that are refused", [OBJECT_CLASS, SECOND, NOP], "class 2 method g ()V refused 71 at 0"),
     ("a method whose instruction has no rule", [JSR, OBJECT_CLASS], "class 1 method f ()V refused 60 at 0"),
-    ("a method that needs a class which is missing", [ABSENT, OBJECT_CLASS], "class 1 method f (LA;)LB; refused 77 at 1 missing A"),
+    ("a method that needs a class which is missing", [ABSENT, OBJECT_CLASS], "class 1 method f (LA;)LB; refused 77 at 1 missing B"),
     # classes that are verified
     ("two classes that call each other", [EVEN, ODD, OBJECT_CLASS], "play verified"),
     ("an exception that crosses three activations", [CATCHING, THROWABLE, OBJECT_CLASS], "play verified"),
-    ("a method that throws, without Throwable", [CATCHING, OBJECT_CLASS], "class 1 method f (Ljava/lang/Throwable;)V refused 72 at 0"),
+    # Throwable is below itself, known or not
+    ("an exception, without Throwable", [CATCHING, OBJECT_CLASS], "play verified"),
     ("constructors", [MAKING, SINGLE, object_class()], "play verified"),
     ("a constructor that calls none", [EARLY, OBJECT_CLASS], "class 1 method <init> ()V refused 74 at 0"),
 )

@@ -1,5 +1,5 @@
 -- The answer of `play` is one.
-use Rattle.std.proofs.Common.{◌≡◌, ℕ, zero, suc, ◌+◌, ◌<◌, List, [], ◌∷◌, length, map, Some, None, refl, sym, ◌∙◌, ap, subst, inl, inr, arith}
+use Rattle.std.proofs.Common.{◌≡◌, ℕ, zero, suc, ◌+◌, ◌<◌, List, [], ◌∷◌, length, map, Some, refl, sym, ◌∙◌, ap, subst, inl, inr, arith}
 use Rattle.std.specs.Prelude.{◌⊎◌, true, false, ◌++◌, slice_get, codes, decimal}
 use Rattle.std.proofs.lemmas.Bool.{cases_order}
 use Rattle.std.proofs.lemmas.Option.{none-some}
@@ -12,13 +12,13 @@ use Rattle.verify.specs.declared.report.MethodVerdict.{MethodVerdict}
 use Rattle.verify.specs.declared.report.Report.{Report}
 use Rattle.verify.specs.declared.play.PlayRule.{PlayRule}
 use Rattle.verify.specs.declared.play.PlayRule.TheVariants.{NotInHierarchy, FinalSuper, ClassInPlayTwice}
-use Rattle.verify.specs.OneVerdict.{AreSameVerdict, IsSameLine}
-use Rattle.verify.specs.Files.{Read, AreFormed}
+use Rattle.verify.specs.OneVerdict.{AreSameVerdict}
+use Rattle.verify.specs.Files.{Read}
 use Rattle.verify.specs.Reports.{IsReport}
-use Rattle.verify.specs.Plays.{IsFineVerdict, IsFirstRefused, IsFine, HasRefused, Breaks, AreFine, ArePlayed, BreaksFirst}
+use Rattle.verify.specs.Plays.{IsFineVerdict, IsFirstRefused, IsFine, HasRefused, Breaks, AreFine}
 use Rattle.answers.specs.Files.{refusal_status}
 use Rattle.answers.specs.Verdicts.{verdict_line}
-use Rattle.answers.specs.Plays.{numbered_refusal, rule_refusal, method_refusal, BrokenSays, ClassesSay, TogetherSay, PlaySays}
+use Rattle.answers.specs.Plays.{numbered_refusal, rule_refusal, BrokenSays, ClassesSay, TogetherSay, PlaySays}
 use Rattle.answers.proofs.OneFile.{Laws}
 use Rattle.answers.proofs.OneVerify.{same_refusal, same_line, one_list, one_first, none_refused}
 
@@ -56,12 +56,12 @@ module _ (laws : Laws) (classes : List ClassFact) (cs : List Class) (place : ℕ
   broken_fine ClassInPlayTwice rs b f = f.first b.2
 
   broken_refused : (rule : PlayRule) (n : ℕ) (r : MethodVerdict) → Breaks classes cs place c rule → HasRefused classes cs place c n r → ⊥
-  broken_refused NotInHierarchy n r b (plain, first, rs, report, one) = b report.listed
-  broken_refused FinalSuper n r b (plain, first, rs, report, one) = false_true (sym plain ∙ b.1)
-  broken_refused ClassInPlayTwice n r b (plain, first, rs, report, one) = first b.2
+  broken_refused NotInHierarchy n r b (plain, first, (rs, report, one)) = b report.listed
+  broken_refused FinalSuper n r b (plain, first, (rs, report, one)) = false_true (sym plain ∙ b.1)
+  broken_refused ClassInPlayTwice n r b (plain, first, (rs, report, one)) = first b.2
 
   refused_fine : (n : ℕ) (r : MethodVerdict) (qs : List MethodVerdict) → HasRefused classes cs place c n r → IsFine classes cs place c qs → ⊥
-  refused_fine n r qs (plain, first, rs, report, one) f =
+  refused_fine n r qs (plain, first, (rs, report, one)) f =
       let same = laws.one_report classes c rs qs report f.report in
       let lt : n < length qs = omega (arith, same.all, within rs n r one.here) in
       let (q, there) = item qs n lt in
@@ -86,7 +86,7 @@ module _ (laws : Laws) (classes : List ClassFact) (cs : List Class) (place : ℕ
       one.refused (fine_too r.verdict x.verdict (same.each n r x one.here there).verdict (two.before n x lt there))
 
   one_line : (n m : ℕ) (r o : MethodVerdict) → HasRefused classes cs place c n r → HasRefused classes cs place c m o → verdict_line r ≡ verdict_line o
-  one_line n m r o (plain, first, rs, p, one) (even, before, qs, q, two) = by (cases_order n m)
+  one_line n m r o (plain, first, (rs, p, one)) (even, before, (qs, q, two)) = by (cases_order n m)
     where
       by : (n ≡ m) ⊎ ((n < m) ⊎ (m < n)) → verdict_line r ≡ verdict_line o
       by (inl e) = same_line r o ((laws.one_report classes c rs qs p q).each n r o one.here (ap (slice_get qs) e ∙ two.here))

@@ -4,9 +4,7 @@ use classfile::{ClassFile, Formed, decode, form_check};
 use hierarchy::{Rows, summary_of};
 use std::alloc::Global;
 use std::test::*;
-use verify::{
-    PlayFault, PlayRule, class_run_breadth, verified_is_playable, verify_play,
-};
+use verify::{PlayFault, PlayRule, class_run_breadth, verified_is_playable, verify_play};
 
 #[test]
 fn theorem_and_law_are_called() {
@@ -25,7 +23,11 @@ fn reports_on(
         return Err(PlayFault::OutOfMemory);
     };
     let list = [object(alloc), own];
-    let known = if is_known { list.as_slice() } else { &list[..1] };
+    let known = if is_known {
+        list.as_slice()
+    } else {
+        &list[..1]
+    };
     let Ok(classes) = Rows::new(alloc, known, hasher()) else {
         return Err(PlayFault::OutOfMemory);
     };
@@ -94,5 +96,10 @@ fn classes_in_play(rt: HostRuntime) {
 /// Where memory runs out there are no reports, and otherwise all.
 #[test]
 fn memory_runs_out_for_classes_in_play(rt: HostRuntime) {
-    assert!(rt; matches!(reports(rt.alloc(), &K, 1, true), Ok(1) | Err(PlayFault::OutOfMemory)));
+    assert!(rt;
+        matches!(
+            reports(rt.alloc(), &K, 1, true),
+            Ok(1) | Err(PlayFault::OutOfMemory)
+        )
+    );
 }

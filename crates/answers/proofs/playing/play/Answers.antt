@@ -12,7 +12,7 @@ returns-in-Ok-verify_together g c =
     let reads = map read_view c.args.reads.now in
     let rs = c.in-Ok-verify_together.field-0.items in
     let same : map read_of c.deref.result.now ≡ reads = ap (map read_of) c.deref.ensures.value ∙ c.in-Ok.ensures.found in
-    let (cs, all, hierarchy, played) = subst (λ k. ReportsTogether k rs) same c.in-Ok-verify_together.ensures.exactly in
+    let (cs, all, (hierarchy, played)) = subst (λ k. ReportsTogether k rs) same c.in-Ok-verify_together.ensures.exactly in
     answered_more (λ t s. (t ≡ play_verified) × (s ≡ 0)) (PlaySays reads)
     (λ text status p. inr (cs, all, inr (hierarchy, inr (rs, played, p.0, p.1))))
     (held c.args.out.now) (held c.tell.new.out) c.tell.result c.tell.ensures

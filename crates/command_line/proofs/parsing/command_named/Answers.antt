@@ -4,5 +4,8 @@ use Rattle.command_line.proofs.parsing.command_named.Goals as goal
 pub returns-then-eq-2 : goal.returns-then-eq-2
 returns-then-eq-2 c = search rules
 
-pub returns-else-eq-2 : goal.returns-else-eq-2
-returns-else-eq-2 c = search rules
+pub returns-then-eq-3 : goal.returns-then-eq-3
+returns-then-eq-3 c = search rules
+
+pub returns-else-eq-3 : goal.returns-else-eq-3
+returns-else-eq-3 c = search rules
