@@ -7,6 +7,10 @@ use Rattle.std.specs.Cmp.{eq_by_cmp_equiv}
 use Rattle.std.proofs.lemmas.Cmp.{nat_cmp_total}
 use Rattle.std.proofs.lemmas.Map.Views.{IfSome-lookup_from_All, All-values_from_lookup}
 use Rattle.std.proofs.lemmas.Map.Keys.{IsDistinct-from_sorted}
+use Rattle.std.proofs.lemmas.Map.Lookups.{exact_unsigned}
+use Rattle.std.proofs.lemmas.Map.Views.{btree_map_get_iff}
+use Rattle.std.proofs.lemmas.List.Elements.{All-contains, All-contains_itself, All-weaker}
+use Rattle.std.specs.List.{Contains}
 use Rattle.std.specs.Ordering.{nat_cmp, is_eq}
 use Rattle.std.proofs.Math.Path.{fun_ext}
 use Rattle.std.proofs.lemmas.List.{drop_more}
@@ -19,6 +23,7 @@ use Rattle.machine.specs.declared.objects.RunType.{RunType}
 use Rattle.machine.specs.declared.objects.RunType.TheVariants as types
 use Rattle.machine.specs.declared.objects.Object.{Object as RawObject}
 use Rattle.machine.specs.Heap.{Status, ready, made, this, Object, object, Heap, IsAddress, IsRunTimeType, IsFresh, with_fresh, with_object, HasNoThis}
+use Rattle.machine.specs.private.Beginnings.{HasStatus, MayBe, AreObjects}
 use Rattle.machine.specs.private.Decided.{is_own, is_this}
 use Rattle.machine.specs.Views.{heap_view, object_view, run_type_view, fresh_view}
 
@@ -50,6 +55,45 @@ module _ (objects : BTreeMap ℕ RawObject) where
 
   pub this_none : IsOrdered nat_cmp objects → HasNoThis (heap_view objects) → All (λ o. is_this (object_view o) ≡ false) (values objects)
   this_none ordered none = All-values_from_lookup (eq_by_cmp_equiv nat_cmp_total) (λ o. is_this (object_view o) ≡ false) objects.entries (IsDistinct-from_sorted nat_cmp _ ordered) (λ q. none_here (get nat_cmp objects q) (none q))
+
+-- ---- objects when a method begins
+
+module _ (objects : BTreeMap ℕ RawObject) (own : Option ℕ) (ordered : IsOrdered nat_cmp objects) where
+  abbrev Fine : ℕ × RawObject → Type 0
+  Fine e = MayBe own e.0 (object_view e.1)
+
+  found_object : (a : ℕ) (o : Object) → heap_view objects a ≡ Some o → (r : RawObject) × (get nat_cmp objects a ≡ Some r) × (object_view r ≡ o)
+  found_object a o e = by (get nat_cmp objects a) refl e
+    where
+      by : (g : Option RawObject) → get nat_cmp objects a ≡ g → option_map object_view g ≡ Some o → (r : RawObject) × (get nat_cmp objects a ≡ Some r) × (object_view r ≡ o)
+      by None p q = absurd cc
+      by (Some r) p q = (r, p, cc)
+
+  one_fine : All Fine objects.entries → (a : ℕ) (o : Object) → heap_view objects a ≡ Some o → MayBe own a o
+  one_fine all a o e =
+      let f = found_object a o e in
+      subst (MayBe own a) f.2 (All-contains Fine objects.entries (a, f.0) all ((btree_map_get_iff nat_cmp_total exact_unsigned objects ordered a f.0).0 f.1))
+
+  pub objects_are : All Fine objects.entries → AreObjects own (heap_view objects)
+  objects_are all = record {
+    objects = λ a o e. let f = one_fine all a o e in (f.0, f.1);
+    none_made = λ a x e. (one_fine all a (object x made) e).2;
+    only_own = λ a x e. (one_fine all a (object x this) e).2;
+  }
+
+  pub are_objects : AreObjects own (heap_view objects) → All Fine objects.entries
+  are_objects are = All-weaker (Contains objects.entries) Fine each objects.entries (All-contains_itself objects.entries)
+    where
+      status : (a : ℕ) (o : Object) → heap_view objects a ≡ Some o → (s : Status) → o.status ≡ s → HasStatus own a s
+      status a o e ready p = tt
+      status a o e made p = are.none_made a o.type (e ∙ ap (λ s. Some (object o.type s)) p)
+      status a o e this p = are.only_own a o.type (e ∙ ap (λ s. Some (object o.type s)) p)
+
+      each : (x : ℕ × RawObject) → Contains objects.entries x → Fine x
+      each x c =
+          let there : heap_view objects x.0 ≡ Some (object_view x.1) = ap (option_map object_view) ((btree_map_get_iff nat_cmp_total exact_unsigned objects ordered x.0 x.1).1 c) in
+          let h = are.objects x.0 (object_view x.1) there in
+          (h.0, h.1, status x.0 (object_view x.1) there (object_view x.1).status refl)
 
 -- ---- new objects
 

@@ -9,7 +9,7 @@ use Rattle.insn.specs.Offsets.{at_offset, next_offset}
 use Rattle.machine.specs.declared.choosing.Outcome.{Outcome as RawOutcome}
 use Rattle.machine.specs.declared.choosing.Outcome.TheVariants as outcomes
 use Rattle.machine.specs.declared.choosing.StepFault.{StepFault}
-use Rattle.machine.specs.declared.choosing.StepFault.TheVariants.{OutOfMemory, NotAChoice}
+use Rattle.machine.specs.declared.choosing.StepFault.TheVariants.{OutOfMemory, NotAChoice, NotInitial}
 use Rattle.machine.specs.Values.{Value}
 use Rattle.machine.specs.Heap.{Heap, with_fresh}
 use Rattle.machine.specs.Tasks.{Task, operates, reads, writes, increments, moves, takes_element, passes, creates, makes_array, initializes, calls_special, leaves, throws, ends, stuck, targets, Tasks}
@@ -133,6 +133,7 @@ module _ (task : Tasks) (world : World) (m : Method Act) (s : State) (act : Act)
     )
     go_steps (Ok outcomes.Fault) g = absurd g
     go_steps (Err OutOfMemory) g = tt
+    go_steps (Err NotInitial) g = absurd g
     go_steps (Err NotAChoice) g = (fine, none)
       where
         none : (o : Outcome) → HappensBy task world m s (go branch answer fresh) o → ⊥
@@ -146,6 +147,7 @@ module _ (task : Tasks) (world : World) (m : Method Act) (s : State) (act : Act)
   raise_steps address fresh (Some entry) (Ok outcomes.Ended) g = absurd cc
   raise_steps address fresh entry (Ok outcomes.Fault) g = absurd g
   raise_steps address fresh entry (Err OutOfMemory) g = tt
+  raise_steps address fresh entry (Err NotInitial) g = absurd g
   raise_steps address fresh None (Err NotAChoice) g = (fine, none)
     where
       none : (o : Outcome) → HappensBy task world m s (raise address fresh None) o → ⊥

@@ -15,7 +15,7 @@ use Rattle.machine.specs.declared.items.Value.{Value as RawValue}
 use Rattle.machine.specs.declared.items.Value.TheVariants as values
 use Rattle.machine.specs.declared.snapshot.State.{State as RawState}
 use Rattle.machine.specs.declared.choosing.StepFault.{StepFault}
-use Rattle.machine.specs.declared.choosing.StepFault.TheVariants.{OutOfMemory, NotAChoice}
+use Rattle.machine.specs.declared.choosing.StepFault.TheVariants.{OutOfMemory, NotAChoice, NotInitial}
 use Rattle.machine.specs.Values.{Value, reference, depth_of}
 use Rattle.machine.specs.Heap.{Object, IsAddress, Heap, object, ready, with_object, with_fresh}
 use Rattle.machine.specs.Tasks.{Need, Task, falls, targets}
@@ -76,6 +76,7 @@ module _ (needs : List Need) (s : State) (answer : Option Value) (a : ℕ) (rest
   pub initialized : (r : Result RawState StepFault) → Done (MakesReady a (moved s s.at rest)) r → Done (Initializes needs s answer) r
   initialized (Ok t) d = (a, rest, d.0, d.1, e, d.2, none, d.3)
   initialized (Err OutOfMemory) d = tt
+  initialized (Err NotInitial) d = absurd d
   initialized (Err NotAChoice) d = λ t p.
       let same : reference p.0 ∷ p.1 ≡ reference a ∷ rest = sym p.4 ∙ e in
       let here : p.0 ≡ a = cc in
@@ -93,6 +94,7 @@ named o v a e f = ap (option_map value_view) (e ∙ ap Some f)
 pub placed : (o : Object) (s : State) (answer : Option Value) (a : ℕ) → answer ≡ Some (reference a) → (r : Result RawState StepFault) → Done (PutsAt o s a) r → Done (Puts o s answer) r
 placed o s answer a e (Ok t) d = (a, e, d.0, d.1, d.2)
 placed o s answer a e (Err OutOfMemory) d = tt
+placed o s answer a e (Err NotInitial) d = absurd d
 placed o s answer a e (Err NotAChoice) d = λ t p.
     let named : Some (reference p.0) ≡ Some (reference a) = sym p.1 ∙ e in
     let here : p.0 ≡ a = cc in
@@ -127,11 +129,30 @@ module _ (world : World) (t : Task) (next : Option ℕ) (s : State) (heap : Heap
     does = elsewhere world t s at s.at at heap answer (state_view u) (subst (λ z. DoesHere world t z answer (state_view u)) is d);
   }
   goes_on_there (Err OutOfMemory) d = tt
+  goes_on_there (Err NotInitial) d = absurd d
   goes_on_there (Err NotAChoice) d = λ u g.
       let here : Does world t (moved_to s s.at heap) answer at u = subst (λ k. Does world t (moved_to s s.at heap) answer k u) (one_way (targets s.at t) (falls t) next branch g.to at g.way way) g.does in
       d u (subst (λ z. DoesHere world t z answer u) (sym is) (elsewhere world t s s.at at at heap answer u here))
 
+module _ (world : World) (t : Task) (next : Option ℕ) (s : State) (heap : Heap) (branch : Option ℕ) (answer : Option Value) where
+  -- it goes on so from the state that has new objects
+  there_is_here : (u : State) → GoesOn world t next (moved_to s s.at heap) heap branch answer u → GoesOn world t next s heap branch answer u
+  there_is_here u g = record { to = g.to; way = g.way; does = g.does }
+
+  here_is_there : (u : State) → GoesOn world t next s heap branch answer u → GoesOn world t next (moved_to s s.at heap) heap branch answer u
+  here_is_there u g = record { to = g.to; way = g.way; does = g.does }
+
+  from_there : (r : Result RawState StepFault) → Done (GoesOn world t next (moved_to s s.at heap) heap branch answer) r → Done (GoesOn world t next s heap branch answer) r
+  from_there (Ok u) d = there_is_here (state_view u) d
+  from_there (Err OutOfMemory) d = tt
+  from_there (Err NotAChoice) d = λ u g. d u (here_is_there u g)
+  from_there (Err NotInitial) d = d
+
+  pub goes_from_there : (v : State) → v ≡ moved_to s s.at heap → (r : Result RawState StepFault) → Done (GoesOn world t next v v.heap branch answer) r → Done (GoesOn world t next s heap branch answer) r
+  goes_from_there v e r d = from_there r (subst (λ z. Done (GoesOn world t next z z.heap branch answer) r) e d)
+
 module _ (world : World) (t : Task) (next : Option ℕ) (s : State) (heap : Heap) (fresh : List (ℕ × ReferenceType)) (branch : Option ℕ) (answer : Option Value) where
   pub refused : (fault : StepFault) → Done (GoesOn world t next s heap branch answer) (Err fault) → heap ≡ with_fresh s.heap fresh → (IsLast t → ⊥) → Goes world t next s branch answer fresh (Err fault)
   refused OutOfMemory d e n = tt
+  refused NotInitial d e n = absurd d
   refused NotAChoice d e n = λ f. ((λ u g. d u (subst (λ h. GoesOn world t next s h branch answer u) (sym e) g)), (λ x. n x.last))

@@ -4,6 +4,9 @@ mod Examples
 mod ByType
 mod Breadth
 mod RunBreadth
+mod Starting
+mod ReadBack
+mod Leading
 mod Uses
 mod Pushes
 mod Bounds

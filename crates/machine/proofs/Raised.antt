@@ -14,7 +14,7 @@ use Rattle.machine.specs.declared.body.ExceptionEntry.{ExceptionEntry as RawEntr
 use Rattle.machine.specs.declared.choosing.Outcome.{Outcome as RawOutcome}
 use Rattle.machine.specs.declared.choosing.Outcome.TheVariants as outcomes
 use Rattle.machine.specs.declared.choosing.StepFault.{StepFault}
-use Rattle.machine.specs.declared.choosing.StepFault.TheVariants.{OutOfMemory, NotAChoice}
+use Rattle.machine.specs.declared.choosing.StepFault.TheVariants.{OutOfMemory, NotAChoice, NotInitial}
 use Rattle.machine.specs.Values.{Value, Slot, reference}
 use Rattle.machine.specs.Heap.{Object, object, ready, Heap, IsBelow, IsFresh, with_fresh}
 use Rattle.machine.specs.Demands.{State}
@@ -68,9 +68,22 @@ module _ (world : World) (m : Method Act) (s : State) (address : ℕ) (fresh : L
     result = c.result ∙ ap (λ h. moved_with s c.by_entry.handler (reference address ∷ []) h) (sym same);
   }
 
+  -- caught behind the new objects
+  there_is_here : (r : Result RawOutcome StepFault) → CatchesBy world m (moved_with s s.at s.stack heap) address type heap entry r → CatchesBy world m s address type heap entry r
+  there_is_here (Ok (outcomes.Next t)) c = record { by_entry = c.by_entry; which = c.which; covered = c.covered; catches = c.catches; result = c.result }
+  there_is_here (Ok outcomes.Ended) c = c
+  there_is_here (Ok outcomes.Fault) c = c
+  there_is_here (Err OutOfMemory) c = tt
+  there_is_here (Err NotAChoice) c = λ t d. c t (record { by_entry = d.by_entry; which = d.which; covered = d.covered; catches = d.catches; result = d.result })
+  there_is_here (Err NotInitial) c = c
+
+  pub caught_there : (t : State) → t ≡ moved_with s s.at s.stack heap → (r : Result RawOutcome StepFault) → CatchesBy world m t address type t.heap entry r → CatchesBy world m s address type heap entry r
+  caught_there t e r c = there_is_here r (subst (λ z. CatchesBy world m z address type z.heap entry r) e c)
+
   pub caught_raises : (r : Result RawOutcome StepFault) → CatchesBy world m s address type heap entry r → Raises world m s address fresh (Some entry) r
   caught_raises (Ok (outcomes.Next t)) c = is_caught (state_view t) c
   caught_raises (Ok outcomes.Ended) c = absurd c
   caught_raises (Ok outcomes.Fault) c = c
   caught_raises (Err OutOfMemory) c = tt
   caught_raises (Err NotAChoice) c = (λ e. absurd cc, λ t d. c t (catches t d))
+  caught_raises (Err NotInitial) c = absurd c

@@ -31,7 +31,7 @@ receives_where w m h own own_receiver vs i = i
 
 -- ---- values in local variables
 
-width : (v : Value) → ((is_wide_value v ≡ true) × (units_of v ≡ 2)) ⊎ ((is_wide_value v ≡ false) × (units_of v ≡ 1))
+pub width : (v : Value) → ((is_wide_value v ≡ true) × (units_of v ≡ 2)) ⊎ ((is_wide_value v ≡ false) × (units_of v ≡ 1))
 width (number kinds.Int) = inr (refl, refl)
 width (number kinds.Float) = inr (refl, refl)
 width (number kinds.Long) = inl (refl, refl)
@@ -39,13 +39,13 @@ width (number kinds.Double) = inl (refl, refl)
 width null = inr (refl, refl)
 width (reference a) = inr (refl, refl)
 
-in_wide : (v : Value) (vs : List Value) → is_wide_value v ≡ true → in_slots (v ∷ vs) ≡ holds v ∷ second ∷ in_slots vs
+pub in_wide : (v : Value) (vs : List Value) → is_wide_value v ≡ true → in_slots (v ∷ vs) ≡ holds v ∷ second ∷ in_slots vs
 in_wide v vs e = ap (λ b. if b then holds v ∷ second ∷ in_slots vs else holds v ∷ in_slots vs) e
 
-in_narrow : (v : Value) (vs : List Value) → is_wide_value v ≡ false → in_slots (v ∷ vs) ≡ holds v ∷ in_slots vs
+pub in_narrow : (v : Value) (vs : List Value) → is_wide_value v ≡ false → in_slots (v ∷ vs) ≡ holds v ∷ in_slots vs
 in_narrow v vs e = ap (λ b. if b then holds v ∷ second ∷ in_slots vs else holds v ∷ in_slots vs) e
 
-taken : (vs : List Value) → length (in_slots vs) ≡ units_of_all vs
+pub taken : (vs : List Value) → length (in_slots vs) ≡ units_of_all vs
 taken [] = refl
 taken (v ∷ vs) = by (width v) (taken vs)
   where

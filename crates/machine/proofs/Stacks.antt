@@ -36,7 +36,7 @@ depth_append : (xs ys : List Value) → depth_of (xs ++ ys) ≡ depth_of xs + de
 depth_append [] ys = omega arith
 depth_append (x ∷ xs) ys = omega (arith, depth_append xs ys)
 
-depth_reverse : (xs : List Value) → depth_of (reverse xs) ≡ depth_of xs
+pub depth_reverse : (xs : List Value) → depth_of (reverse xs) ≡ depth_of xs
 depth_reverse [] = refl
 depth_reverse (x ∷ xs) = ap depth_of (reverse-append (x ∷ []) xs) ∙ depth_append (reverse xs) (x ∷ []) ∙ omega (arith, depth_reverse xs)
 

@@ -28,8 +28,8 @@ code_of list = acts (views list)
 
 abbrev pub method_view : RawMethod → Method Act
 method_view m =
-    let c = class_view m.class.now in
-    let code = code_view m.code.now in
+    let c = class_view m.declared.class.now in
+    let code = code_view m.declared.code.now in
     record {
       code = code_of m.list.items;
       code_length = length code.code;
@@ -42,7 +42,7 @@ method_view m =
       class = or_empty (class_named (class_at c.constant_pool c.this_class));
       superclass = superclass_of c.constant_pool c.super_class;
       fields = declared_fields c.constant_pool c.fields;
-      is_static = m.is_static;
-      is_init = m.is_init;
-      type = record { params = params_at c m.number; result = option_map type_of m.result_type };
+      is_static = m.declared.is_static;
+      is_init = m.declared.is_init;
+      type = record { params = params_at c m.declared.number; result = option_map type_of m.declared.result_type };
     }

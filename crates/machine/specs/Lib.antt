@@ -4,6 +4,7 @@ pub mod Tasks
 pub mod Demands
 pub mod Steps
 pub mod Runs
+pub mod Walks
 pub mod ByAct
 pub mod ByType
 pub mod Breadth

@@ -6,7 +6,7 @@ use Rattle.insn.specs.Meanings.{Act}
 use Rattle.machine.specs.declared.choosing.Outcome.{Outcome as RawOutcome}
 use Rattle.machine.specs.declared.choosing.Outcome.TheVariants as outcomes
 use Rattle.machine.specs.declared.choosing.StepFault.{StepFault}
-use Rattle.machine.specs.declared.choosing.StepFault.TheVariants.{OutOfMemory, NotAChoice}
+use Rattle.machine.specs.declared.choosing.StepFault.TheVariants.{OutOfMemory, NotAChoice, NotInitial}
 use Rattle.machine.specs.Tasks.{Tasks}
 use Rattle.machine.specs.Demands.{State, IsNoFaultBy}
 use Rattle.machine.specs.Steps.{Choice, Outcome, goes_on, ended, HappensBy}
@@ -19,3 +19,5 @@ Stepped task world m s choice (Ok outcomes.Ended) = HappensBy task world m s cho
 Stepped task world m s choice (Ok outcomes.Fault) = IsNoFaultBy task world m s → ⊥
 Stepped task world m s choice (Err OutOfMemory) = Unit {0}
 Stepped task world m s choice (Err NotAChoice) = IsNoFaultBy task world m s × ((o : Outcome) → HappensBy task world m s choice o → ⊥)
+-- a step begins nothing
+Stepped task world m s choice (Err NotInitial) = ⊥

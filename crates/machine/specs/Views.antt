@@ -18,11 +18,14 @@ use Rattle.machine.specs.declared.snapshot.State.{State as RawState}
 use Rattle.machine.specs.declared.choosing.Choice.{Choice as RawChoice}
 use Rattle.machine.specs.declared.choosing.Choice.TheVariants as choices
 use Rattle.machine.specs.declared.choosing.StepFault.{StepFault}
-use Rattle.machine.specs.declared.choosing.StepFault.TheVariants.{OutOfMemory, NotAChoice}
+use Rattle.machine.specs.declared.choosing.StepFault.TheVariants.{OutOfMemory, NotAChoice, NotInitial}
 use Rattle.machine.specs.Values.{Value, number, null, reference, Slot, empty, second, holds}
 use Rattle.machine.specs.Heap.{Status, ready, made, this, Object, object, Heap}
 use Rattle.machine.specs.Demands.{State}
 use Rattle.machine.specs.Steps.{Choice, go, raise}
+use Rattle.machine.specs.Walks.{Stop, more, returned, fault, no_choice}
+use Rattle.machine.specs.declared.walks.Last.{Last as RawLast}
+use Rattle.machine.specs.declared.walks.Last.TheVariants as lasts
 
 abbrev pub value_view : RawValue → Value
 value_view values.Int = number kinds.Int
@@ -69,6 +72,13 @@ abbrev pub choice_view : RawChoice → Choice
 choice_view (choices.Go branch answer fresh) = go branch (option_map value_view answer) (fresh_view fresh.items)
 choice_view (choices.Raise address fresh entry) = raise address (fresh_view fresh.items) entry
 
+abbrev pub stop_view : RawLast → Stop
+stop_view (lasts.More s) = more (state_view s)
+stop_view lasts.Ended = returned
+stop_view lasts.Fault = fault
+stop_view lasts.NotAChoice = no_choice
+
 abbrev pub fault_number : StepFault → ℕ
 fault_number OutOfMemory = 1
 fault_number NotAChoice = 54
+fault_number NotInitial = 55

@@ -5,7 +5,7 @@ ghost use Rattle.insn.specs.Views.{views};
 ghost use Rattle.machine.specs.private.Rising.{StartsRise-prop};
 
 use crate::objects::RunType;
-use classfile::{ClassFile, CodeAttr};
+use classfile::CodeMethod;
 use insn::Insn;
 use names::FieldType;
 use pool::Pool;
@@ -25,12 +25,8 @@ pub struct ExceptionEntry<'a> {
 /// A method with its code, ready to run.
 #[derive(Drop)]
 pub struct Method<'c, 'a> {
-    pub(crate) class: &'c ClassFile<'a>,
-    pub(crate) number: usize,
-    pub(crate) code: &'c CodeAttr<'a>,
-    pub(crate) is_static: bool,
-    pub(crate) is_init: bool,
-    pub(crate) result_type: Option<FieldType<'a>>,
+    /// The method as the class file has it.
+    pub(crate) declared: CodeMethod<'c, 'a>,
     pub(crate) list: Vec<(u16, Insn<'a>)>,
     pub(crate) exceptions: Vec<ExceptionEntry<'a>>,
     pub ghost rising: { StartsRise 0 (views list.items) } by { StartsRise-prop 0 (views list.items) },
@@ -39,15 +35,15 @@ pub struct Method<'c, 'a> {
 impl<'c, 'a> Method<'c, 'a> {
     /// The constant pool of its class.
     pub(crate) fn pool(&self) -> &'c Pool<'a>
-        ensures { result.now ≡ self.now.class.now.constant_pool }
+        ensures { result.now ≡ self.now.declared.class.now.constant_pool }
     {
-        &self.class.constant_pool
+        &self.declared.class.constant_pool
     }
 
     /// The type of its result, if it has one.
     pub(crate) fn result_type(&self) -> Option<FieldType<'a>>
-        ensures { result ≡ self.now.result_type }
+        ensures { result ≡ self.now.declared.result_type }
     {
-        self.result_type
+        self.declared.result_type
     }
 }

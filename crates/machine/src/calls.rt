@@ -131,7 +131,7 @@ pub fn invoke_static<'a>(
     };
     if is_class(constant.class)
         && !is_init_name(&constant)
-        && may_name(method.class.major_version, constant.interface)
+        && may_name(method.declared.class.major_version, constant.interface)
     {
         static_call(alloc, &constant)
     } else {
@@ -217,7 +217,7 @@ fn special_call<'a>(
 {
     if !is_class(constant.class)
         || constant.units >= 255
-        || !may_name(method.class.major_version, constant.interface)
+        || !may_name(method.declared.class.major_version, constant.interface)
     {
         return Ok(Deed::Stuck);
     }

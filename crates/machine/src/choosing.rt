@@ -50,6 +50,9 @@ pub enum StepFault {
     /// 54: the state is no fault, and nothing comes of this choice there.
     #[error("refused 54")]
     NotAChoice,
+    /// 55: the method begins with no such values and objects.
+    #[error("refused 55")]
+    NotInitial,
 }
 
 impl StepFault {
@@ -60,6 +63,7 @@ impl StepFault {
         match self {
             StepFault::OutOfMemory => 1,
             StepFault::NotAChoice => 54,
+            StepFault::NotInitial => 55,
         }
     }
 }

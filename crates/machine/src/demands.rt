@@ -139,7 +139,7 @@ fn rest_meets<C: Classes>(
 {
     match deed {
         Deed::Reads { need, local } => has_local(*need, *local, state, classes),
-        Deed::Writes { need, local } => has_place(*need, *local, method.code.max_locals),
+        Deed::Writes { need, local } => has_place(*need, *local, method.declared.code.max_locals),
         Deed::Increments { local } => has_local(Need::Number(Kind::Int), *local, state, classes),
         Deed::Moves(operator) => has_form(*operator, state),
         Deed::Initializes { class, needs } => has_receiver(method, class, needs, state),
@@ -197,7 +197,7 @@ fn moves_have_room(
         None => Ok(true),
         Some(form) => {
             let after = rearranged(alloc, form, &state.stack)?;
-            Ok(has_room(0, &after, method.code.max_stack))
+            Ok(has_room(0, &after, method.declared.code.max_stack))
         }
     }
 }
@@ -211,7 +211,7 @@ fn leaves_room(
 ) -> Result<bool, AllocError>
     ensures { IfOk result (λ b. IsTrue b ↔ HasRoom (method_view method.now) (task_view deed.now) (state_view state.now)) }
 {
-    let limit = method.code.max_stack;
+    let limit = method.declared.code.max_stack;
     let stack = &state.stack;
     match deed {
         Deed::Operates { operation, .. } | Deed::CallsSpecial { operation, .. } => {
@@ -301,7 +301,7 @@ fn ends_ready(method: &Method<'_, '_>, deed: &Deed<'_>, state: &State<'_>) -> bo
     ensures { IsTrue result ↔ EndsReady (method_view method.now) (task_view deed.now) (state_view state.now) }
 {
     match deed {
-        Deed::Ends => !method.is_init || has_no_this(&state.heap),
+        Deed::Ends => !method.declared.is_init || has_no_this(&state.heap),
         Deed::Operates { .. }
         | Deed::Reads { .. }
         | Deed::Writes { .. }
@@ -332,10 +332,10 @@ pub fn meets<C: Classes>(
 {
     let has_room_after = leaves_room(alloc, method, deed, state)?;
     Ok(
-        are_whole(method.code.max_locals, &state.locals)
+        are_whole(method.declared.code.max_locals, &state.locals)
             && operands_meet(deed, state, classes)
             && rest_meets(method, deed, state, classes)
-            && has_room(0, &state.stack, method.code.max_stack)
+            && has_room(0, &state.stack, method.declared.code.max_stack)
             && has_room_after
             && stays(method, state.at, deed, next)
             && ends_ready(method, deed, state),

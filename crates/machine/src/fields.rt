@@ -51,7 +51,7 @@ pub fn get_field<'a>(alloc: Global, pool: &Pool<'a>, index: u16) -> Result<Deed<
 fn target_of<'a>(method: &Method<'_, 'a>, field: &FieldConstant<'a>) -> Need<'a>
     ensures { need_view result ≡ target_of (method_view method.now) (field_view field.now) }
 {
-    if method.is_init && method.is_own_field(field) {
+    if method.declared.is_init && method.is_own_field(field) {
         Need::OwnOr(field.class)
     } else {
         Need::Type(RunType::Class(field.class))

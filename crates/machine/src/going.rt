@@ -1,25 +1,23 @@
 //! An instruction is done.
-ghost use Rattle.std.specs.Prelude.{◌≡◌, ◌↔◌, ℕ, pos, IsTrue, IfOk, MatchOption, option_map};
+ghost use Rattle.std.specs.Prelude.{◌≡◌, ◌↔◌, ℕ, pos, IsTrue, MatchOption, option_map};
 ghost use Rattle.hierarchy.specs.Class.{world_of};
 ghost use Rattle.insn.specs.Branching.{targets_of};
 ghost use Rattle.insn.specs.Offsets.{IsAmong};
 ghost use Rattle.machine.specs.Steps.{IsLast};
 ghost use Rattle.machine.specs.private.Deeds.{task_view};
 ghost use Rattle.machine.specs.private.Happening.{Done, MayGo, GoesOn, Goes, moved_to};
-ghost use Rattle.machine.specs.Views.{value_view, heap_view, fresh_view, state_view};
+ghost use Rattle.machine.specs.Views.{value_view, fresh_view, state_view};
 
 use crate::choosing::{Outcome, StepFault};
 use crate::deed::Deed;
 use crate::demands::{falls, targets};
 use crate::doing::done;
-use crate::heaps::with_fresh;
 use crate::items::Value;
-use crate::objects::{Object, RunType};
-use crate::snapshot::State;
+use crate::objects::RunType;
+use crate::snapshot::{State, with_fresh};
 use hierarchy::Classes;
 use insn::BranchTargets;
-use std::alloc::{AllocError, Global};
-use std::collections::BTreeMap;
+use std::alloc::Global;
 
 // Whether the method then ends.
 fn is_last(deed: &Deed<'_>) -> bool
@@ -79,44 +77,31 @@ fn way(
     }
 }
 
-// The state elsewhere, among these objects.
-fn moved_to<'a>(
-    alloc: Global,
-    state: &State<'a>,
-    at: u16,
-    heap: BTreeMap<u32, Object<'a>>,
-) -> Result<State<'a>, AllocError>
-    ensures { IfOk result (λ t. state_view t ≡ moved_to (state_view state.now) at (heap_view heap.entry)) }
+// The state elsewhere.
+fn moved_to<'a>(state: State<'a>, at: u16) -> State<'a>
+    ensures { let s = state_view state.entry in state_view result ≡ moved_to s at s.heap }
 {
-    let mut stack = Vec::new(alloc);
-    stack.extend_from_slice(&state.stack)?;
-    let mut locals = Vec::new(alloc);
-    locals.extend_from_slice(&state.locals)?;
-    Ok(State {
-        at,
-        stack,
-        locals,
-        heap,
-    })
+    let mut moved = state;
+    moved.at = at;
+    moved
 }
 
-// It goes on among these objects.
+// It goes on.
 fn go_on<'a, C: Classes>(
     alloc: Global,
     deed: &Deed<'a>,
     next: Option<u16>,
-    state: &State<'a>,
-    heap: BTreeMap<u32, Object<'a>>,
+    state: State<'a>,
     branch: Option<u16>,
     answer: Option<Value>,
     classes: &C,
 ) -> Result<State<'a>, StepFault>
-    ensures { Done (GoesOn (world_of (C.content classes.now)) (task_view deed.now) next (state_view state.now) (heap_view heap.entry) branch (option_map value_view answer)) result }
+    ensures { let s = state_view state.entry in Done (GoesOn (world_of (C.content classes.now)) (task_view deed.now) next s s.heap branch (option_map value_view answer)) result }
 {
-    let Some(at) = way(targets(state.at, deed), falls(deed), next, branch) else {
+    let Some(at) = way(targets(state.offset(), deed), falls(deed), next, branch) else {
         return Err(StepFault::NotAChoice);
     };
-    let moved = moved_to(alloc, state, at, heap)?;
+    let moved = moved_to(state, at);
     done(alloc, deed, moved, answer, classes)
 }
 
@@ -125,15 +110,15 @@ pub fn go<'a, C: Classes>(
     alloc: Global,
     deed: &Deed<'a>,
     next: Option<u16>,
-    state: &State<'a>,
+    state: State<'a>,
     branch: Option<u16>,
     answer: Option<Value>,
     fresh: &[(u32, RunType<'a>)],
     classes: &C,
 ) -> Result<Outcome<'a>, StepFault>
-    ensures { Goes (world_of (C.content classes.now)) (task_view deed.now) next (state_view state.now) branch (option_map value_view answer) (fresh_view fresh.now) result }
+    ensures { Goes (world_of (C.content classes.now)) (task_view deed.now) next (state_view state.entry) branch (option_map value_view answer) (fresh_view fresh.now) result }
 {
-    let heap = with_fresh(&state.heap, fresh)?;
+    let state = with_fresh(state, fresh)?;
     if is_last(deed) {
         return if branch.is_none() && answer.is_none() {
             Ok(Outcome::Ended)
@@ -141,7 +126,7 @@ pub fn go<'a, C: Classes>(
             Err(StepFault::NotAChoice)
         };
     }
-    match go_on(alloc, deed, next, state, heap, branch, answer, classes) {
+    match go_on(alloc, deed, next, state, branch, answer, classes) {
         Ok(after) => Ok(Outcome::Next(after)),
         Err(fault) => Err(fault),
     }

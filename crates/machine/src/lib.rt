@@ -1,6 +1,6 @@
 //! An abstract machine of the JVM for one method (JVMS 2.6, 2.10, 2.11, 6.5): tagged values, objects by their
-//! addresses, and no frames. Proved against its definitions in specs. The calls to know are [`Method::new`] and
-//! [`step`].
+//! addresses, and no frames. Proved against its definitions in specs. The calls to know are [`Method::new`],
+//! [`initial`], [`step`] and [`walk`].
 //!
 //! - `items`, `objects`, `snapshot`: values, objects and states.
 //! - `choosing`: what a step leaves open, and what comes of it.
@@ -12,6 +12,8 @@
 //! - `stacking`, `storing`, `doing`, `going`: what comes of an instruction.
 //! - `below`, `heaps`, `raising`: run-time types, objects by their addresses, and what is raised.
 //! - `stepping`: a step.
+//! - `beginnings`, `held`: states in which a method may begin, and values read back from local variables.
+//! - `walks`: steps by a list of choices.
 //! - `laws`: what guards the definitions, in words of its own.
 //!
 //! Definitions:
@@ -22,6 +24,7 @@
 //! - `specs/Demands.antt`: when a state is no fault.
 //! - `specs/Steps.antt`: what comes of an instruction and a choice.
 //! - `specs/Runs.antt`: initial states and runs.
+//! - `specs/Walks.antt`: walks by a list of choices.
 //! - `specs/Breadth.antt`, `specs/Pushes.antt`: laws of steps: nothing is left out, nothing else happens, and what stands on the stack behind them.
 //! - `specs/Uses.antt`: a law of the objects that an instruction uses.
 //! - `specs/RunBreadth.antt`: laws of initial states and runs.
@@ -31,6 +34,7 @@
 //! - `specs/private/`: words of the code's own steps; nothing that a reader must believe rests on them.
 #![tactic(auto)]
 
+mod beginnings;
 mod below;
 mod body;
 mod calls;
@@ -45,6 +49,7 @@ mod fields;
 mod fitting;
 mod going;
 mod heaps;
+mod held;
 mod items;
 pub mod laws;
 mod making;
@@ -57,10 +62,13 @@ mod stacking;
 mod starts;
 mod stepping;
 mod storing;
+mod walks;
 
+pub use beginnings::{initial, is_initial};
 pub use body::{ExceptionEntry, Method};
 pub use choosing::{Choice, Outcome, StepFault};
 pub use items::{Slot, Value};
 pub use objects::{Object, RunType, Status};
 pub use snapshot::State;
 pub use stepping::step;
+pub use walks::{Last, Walked, walk};

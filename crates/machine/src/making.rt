@@ -15,35 +15,23 @@ ghost use Rattle.machine.specs.Views.{run_type_view};
 use crate::body::{ExceptionEntry, Method};
 use crate::constants::class_at;
 use crate::objects::RunType;
-use classfile::{ClassFile, CodeAttr, ExceptionHandler, Formed};
+use classfile::{CodeMethod, ExceptionHandler, Formed};
 use insn::{CodeFault, Insn, decode_code};
-use names::{FieldType, THROWABLE};
+use names::THROWABLE;
 use pool::Pool;
 use std::alloc::{AllocError, Global};
 
-/// The method of a number by its parts. The offsets of its instructions rise.
+/// The method by its parts. The offsets of its instructions rise.
 pub(crate) fn assembled<'c, 'a>(
-    class: &'c ClassFile<'a>,
-    number: usize,
-    code: &'c CodeAttr<'a>,
-    is_static: bool,
-    is_init: bool,
-    result_type: Option<FieldType<'a>>,
+    declared: CodeMethod<'c, 'a>,
     list: Vec<(u16, Insn<'a>)>,
     exceptions: Vec<ExceptionEntry<'a>>,
 ) -> Method<'c, 'a>
     requires { StartsRise 0 (views list.items) }
-    ensures { let m = result in
-        (m.class.now ≡ class.now) × (m.number ≡ number) × (m.code.now ≡ code.now) × (m.is_static ≡ is_static) × (m.is_init ≡ is_init)
-        × (m.result_type ≡ result_type.entry) × (m.list ≡ list.entry) × (m.exceptions ≡ exceptions.entry) }
+    ensures { let m = result in (m.declared ≡ declared.entry) × (m.list ≡ list.entry) × (m.exceptions ≡ exceptions.entry) }
 {
     Method {
-        class,
-        number,
-        code,
-        is_static,
-        is_init,
-        result_type,
+        declared,
         list,
         exceptions,
     }
@@ -104,8 +92,8 @@ impl<'c, 'a> Method<'c, 'a> {
         // It is what the class file says of that method, with the instructions of its code.
         ensures told { IfOk result (λ m. method_of (class_view formed.now.class.now) number (code_of m.list.items) ≡ Some (method_view m)) }
         // Its instructions are those of the Code attribute that the class has at this number, and of no other.
-        ensures code { IfOk result (λ m. code_at (class_view formed.now.class.now) number ≡ Some (code_view m.code.now)) }
-        ensures list { IfOk result (λ m. SpellsCode 0 m.code.now.code.now (views m.list.items)) }
+        ensures code { IfOk result (λ m. code_at (class_view formed.now.class.now) number ≡ Some (code_view m.declared.code.now)) }
+        ensures list { IfOk result (λ m. SpellsCode 0 m.declared.code.now.code.now (views m.list.items)) }
         // Where its code is some instructions, it is answered, unless memory runs out.
         ensures only { (body : CodeBody) (xs : List (ℕ × Instruction)) → code_at (class_view formed.now.class.now) number ≡ Some body → SpellsCode 0 body.code xs → IfErr result (λ e. e ≡ OutOfMemory) }
         ensures fault { IfErr result (λ e. IfSome (code_at (class_view formed.now.class.now) number) (λ body. UnlessMemory e (FaultyCode body.code e))) }
@@ -117,16 +105,7 @@ impl<'c, 'a> Method<'c, 'a> {
         let pool = &class.constant_pool;
         match entries(alloc, pool, &code.exception_table)? {
             None => unreachable!(),
-            Some(exceptions) => Ok(assembled(
-                class,
-                number,
-                code,
-                method.is_static,
-                method.is_init,
-                method.result_type,
-                list,
-                exceptions,
-            )),
+            Some(exceptions) => Ok(assembled(method, list, exceptions)),
         }
     }
 }

@@ -2,32 +2,41 @@
 ghost use Rattle.std.specs.Prelude.{◌≡◌, option_map};
 ghost use Rattle.classfile.specs.Methods.{is_own_field};
 ghost use Rattle.machine.specs.Bodies.{method_view};
+ghost use Rattle.machine.specs.private.Beginnings.{begins};
 ghost use Rattle.machine.specs.private.Constants.{field_view};
 
 use crate::body::Method;
 use crate::constants::{FieldConstant, class_at};
 use crate::objects::RunType;
-use classfile::declares_field;
+use classfile::{CodeMethod, declares_field};
+
+/// The name of the class that declares a method.
+pub(crate) fn class_name<'a>(method: &CodeMethod<'_, 'a>) -> &'a [u8]
+    ensures { result.now ≡ (begins method.now).class }
+{
+    let class = method.class;
+    match class_at(&class.constant_pool, class.this_class) {
+        Some(RunType::Class(name)) => name,
+        Some(RunType::Array { .. }) | None => &[],
+    }
+}
 
 impl<'a> Method<'_, 'a> {
     /// The name of its class.
     pub(crate) fn class_name(&self) -> &'a [u8]
         ensures { result.now ≡ (method_view self.now).class }
     {
-        match class_at(self.pool(), self.class.this_class) {
-            Some(RunType::Class(name)) => name,
-            Some(RunType::Array { .. }) | None => &[],
-        }
+        class_name(&self.declared)
     }
 
     /// The name of the direct superclass of its class, which Object alone has not.
     pub(crate) fn superclass(&self) -> Option<&'a [u8]>
         ensures { option_map (λ n. n.now) result ≡ (method_view self.now).superclass }
     {
-        if self.class.super_class == 0 {
+        if self.declared.class.super_class == 0 {
             return None;
         }
-        match class_at(self.pool(), self.class.super_class) {
+        match class_at(self.pool(), self.declared.class.super_class) {
             Some(RunType::Class(name)) => Some(name),
             Some(RunType::Array { .. }) | None => None,
         }
@@ -37,6 +46,7 @@ impl<'a> Method<'_, 'a> {
     pub(crate) fn is_own_field(&self, field: &FieldConstant<'_>) -> bool
         ensures { result ≡ is_own_field (method_view self.now) (field_view field.now) }
     {
-        self.class_name() == field.class && declares_field(self.class, field.name, field.descriptor)
+        self.class_name() == field.class
+            && declares_field(self.declared.class, field.name, field.descriptor)
     }
 }

@@ -12,10 +12,10 @@ ghost use Rattle.machine.specs.Views.{stack_of, run_type_view, heap_view, fresh_
 use crate::below::is_below;
 use crate::body::Method;
 use crate::choosing::{Outcome, StepFault};
-use crate::heaps::{ready_type, with_fresh};
-use crate::items::{Slot, Value};
+use crate::heaps::ready_type;
+use crate::items::Value;
 use crate::objects::{Object, RunType};
-use crate::snapshot::State;
+use crate::snapshot::{State, with_fresh};
 use crate::starts::covers;
 use hierarchy::Classes;
 use names::THROWABLE;
@@ -31,42 +31,31 @@ fn alone(alloc: Global, address: u32) -> Result<Vec<Value>, AllocError>
     Ok(stack)
 }
 
-fn copy_of(alloc: Global, locals: &[Slot]) -> Result<Vec<Slot>, AllocError>
-    ensures { IfOk result (λ v. v.items ≡ locals.now) }
-{
-    let mut copy = Vec::new(alloc);
-    copy.extend_from_slice(locals)?;
-    Ok(copy)
-}
-
 // An object of this type is caught by the entry of this place, where that covers the instruction and catches the type.
 fn caught<'a, C: Classes>(
     alloc: Global,
     method: &Method<'_, 'a>,
     classes: &C,
-    state: &State<'a>,
+    state: State<'a>,
     address: u32,
     run_type: RunType<'a>,
-    heap: BTreeMap<u32, Object<'a>>,
     entry: u16,
 ) -> Result<Outcome<'a>, StepFault>
-    ensures { CatchesBy (world_of (C.content classes.now)) (method_view method.now) (state_view state.now) address (run_type_view run_type.entry) (heap_view heap.entry) entry result }
+    ensures { let s = state_view state.entry in CatchesBy (world_of (C.content classes.now)) (method_view method.now) s address (run_type_view run_type.entry) s.heap entry result }
 {
     let Some(found) = method.exceptions.get(usize::from(entry)) else {
         return Err(StepFault::NotAChoice);
     };
-    if !covers(found, state.at) {
+    if !covers(found, state.offset()) {
         return Err(StepFault::NotAChoice);
     }
     if !is_below(run_type, found.caught, classes) {
         return Err(StepFault::NotAChoice);
     }
-    Ok(Outcome::Next(State {
-        at: found.handler,
-        stack: alone(alloc, address)?,
-        locals: copy_of(alloc, &state.locals)?,
-        heap,
-    }))
+    let mut after = state;
+    after.at = found.handler;
+    after.stack = alone(alloc, address)?;
+    Ok(Outcome::Next(after))
 }
 
 // The type of a Throwable that is ready at this address.
@@ -93,21 +82,19 @@ pub fn raise<'a, C: Classes>(
     alloc: Global,
     method: &Method<'_, 'a>,
     classes: &C,
-    state: &State<'a>,
+    state: State<'a>,
     address: u32,
     fresh: &[(u32, RunType<'a>)],
     entry: Option<u16>,
 ) -> Result<Outcome<'a>, StepFault>
-    ensures { Raises (world_of (C.content classes.now)) (method_view method.now) (state_view state.now) address (fresh_view fresh.now) entry result }
+    ensures { Raises (world_of (C.content classes.now)) (method_view method.now) (state_view state.entry) address (fresh_view fresh.now) entry result }
 {
-    let heap = with_fresh(&state.heap, fresh)?;
-    let Some(run_type) = raised_type(&heap, address, classes) else {
+    let state = with_fresh(state, fresh)?;
+    let Some(run_type) = raised_type(&state.heap, address, classes) else {
         return Err(StepFault::NotAChoice);
     };
     match entry {
         None => Ok(Outcome::Ended),
-        Some(entry) => caught(
-            alloc, method, classes, state, address, run_type, heap, entry,
-        ),
+        Some(entry) => caught(alloc, method, classes, state, address, run_type, entry),
     }
 }

@@ -11,31 +11,27 @@ use crate::deeds::deed_of;
 use crate::demands::meets;
 use crate::going::go;
 use crate::raising::raise;
-use crate::snapshot::State;
+use crate::snapshot::{State, copy_of_state};
 use hierarchy::Classes;
 use insn::found_at;
 use std::alloc::Global;
 
-/// A step of the machine (JVMS 2.10, 2.11, 6.5) from a state, by a choice, in the world that has these classes and no
-/// other.
-///
-/// `Fault` is answered exactly where the state does not meet the demands of its instruction, whatever the choice.
-/// Elsewhere `Next` or `Ended` is what comes of the choice, and 54 says that nothing does. 1 may be answered in place
-/// of any other answer. The state stays as it is.
-pub fn step<'a, C: Classes>(
+/// A step as [`step`] takes it, from a state that is handed over and becomes the next one. It takes no time for the objects that
+/// the instruction does not name.
+pub(crate) fn advance<'a, C: Classes>(
     alloc: Global,
     method: &Method<'_, 'a>,
     classes: &C,
-    state: &State<'a>,
+    state: State<'a>,
     choice: &Choice<'a>,
 ) -> Result<Outcome<'a>, StepFault>
-    ensures { Stepped task (world_of (C.content classes.now)) (method_view method.now) (state_view state.now) (choice_view choice.now) result }
+    ensures { Stepped task (world_of (C.content classes.now)) (method_view method.now) (state_view state.entry) (choice_view choice.now) result }
 {
-    let Some((act, next)) = found_at(&method.list, state.at) else {
+    let Some((act, next)) = found_at(&method.list, state.offset()) else {
         return Ok(Outcome::Fault);
     };
     let deed = deed_of(alloc, act, method)?;
-    let is_met = meets(alloc, method, &deed, next, state, classes)?;
+    let is_met = meets(alloc, method, &deed, next, &state, classes)?;
     if !is_met {
         return Ok(Outcome::Fault);
     }
@@ -51,4 +47,23 @@ pub fn step<'a, C: Classes>(
             entry,
         } => raise(alloc, method, classes, state, *address, fresh, *entry),
     }
+}
+
+/// A step of the machine (JVMS 2.10, 2.11, 6.5) from a state, by a choice, in the world that has these classes and no
+/// other.
+///
+/// `Fault` is answered exactly where the state does not meet the demands of its instruction, whatever the choice.
+/// Elsewhere `Next` or `Ended` is what comes of the choice, and 54 says that nothing does. 1 may be answered in place
+/// of any other answer. The state stays as it is, and is copied, all its objects with it.
+pub fn step<'a, C: Classes>(
+    alloc: Global,
+    method: &Method<'_, 'a>,
+    classes: &C,
+    state: &State<'a>,
+    choice: &Choice<'a>,
+) -> Result<Outcome<'a>, StepFault>
+    ensures { Stepped task (world_of (C.content classes.now)) (method_view method.now) (state_view state.now) (choice_view choice.now) result }
+{
+    let copy = copy_of_state(alloc, state)?;
+    advance(alloc, method, classes, copy, choice)
 }

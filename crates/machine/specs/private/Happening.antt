@@ -12,7 +12,7 @@ use Rattle.machine.specs.declared.choosing.Outcome.{Outcome as RawOutcome}
 use Rattle.machine.specs.declared.choosing.Outcome.TheVariants as outcomes
 use Rattle.machine.specs.declared.snapshot.State.{State as RawState}
 use Rattle.machine.specs.declared.choosing.StepFault.{StepFault}
-use Rattle.machine.specs.declared.choosing.StepFault.TheVariants.{OutOfMemory, NotAChoice}
+use Rattle.machine.specs.declared.choosing.StepFault.TheVariants.{OutOfMemory, NotAChoice, NotInitial}
 use Rattle.machine.specs.Values.{Value, reference, Slot, empty, holds, is_wide_slot, behind_lost, stored}
 use Rattle.machine.specs.Heap.{Status, ready, Object, object, Heap, with_object, IsAddress, IsBelow, IsFresh, with_fresh}
 use Rattle.machine.specs.Tasks.{Need, Reply, Task, falls, targets}
@@ -42,6 +42,7 @@ abbrev pub Done : (State → Type 0) → Result RawState StepFault → Type 0
 Done P (Ok t) = P (state_view t)
 Done P (Err OutOfMemory) = Unit {0}
 Done P (Err NotAChoice) = (t : State) → P t → ⊥
+Done P (Err NotInitial) = ⊥
 
 -- what it does to a state that is already where it goes
 abbrev pub DoesHere : World → Task → State → Option Value → State → Type 0
@@ -128,6 +129,7 @@ Goes world task next s branch answer fresh (Ok outcomes.Fault) = ⊥
 Goes world task next s branch answer fresh (Err OutOfMemory) = Unit {0}
 Goes world task next s branch answer fresh (Err NotAChoice) =
     IsFresh s.heap fresh → ((t : State) → GoesOn world task next s (with_fresh s.heap fresh) branch answer t → ⊥) × (EndsSo task branch answer → ⊥)
+Goes world task next s branch answer fresh (Err NotInitial) = ⊥
 
 -- ---- raising
 
@@ -146,6 +148,7 @@ CatchesBy world m s address type heap entry (Ok outcomes.Ended) = ⊥
 CatchesBy world m s address type heap entry (Ok outcomes.Fault) = ⊥
 CatchesBy world m s address type heap entry (Err OutOfMemory) = Unit {0}
 CatchesBy world m s address type heap entry (Err NotAChoice) = (t : State) → Catches world m s address type heap entry t → ⊥
+CatchesBy world m s address type heap entry (Err NotInitial) = ⊥
 
 -- no entry is named by which it is caught
 abbrev pub CaughtBy : World → Method Act → State → ℕ → List (ℕ × ReferenceType) → Option ℕ → State → Type 0
@@ -159,3 +162,4 @@ Raises world m s address fresh entry (Ok outcomes.Fault) = ⊥
 Raises world m s address fresh entry (Err OutOfMemory) = Unit {0}
 Raises world m s address fresh entry (Err NotAChoice) =
     (entry ≡ None → IsRaised world s address fresh → ⊥) × ((t : State) → CaughtBy world m s address fresh entry t → ⊥)
+Raises world m s address fresh entry (Err NotInitial) = ⊥
