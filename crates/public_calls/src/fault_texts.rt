@@ -210,6 +210,7 @@ fn faults_of_steps(rt: HostRuntime) {
     let rows = [
         (StepFault::OutOfMemory, "refused 1"),
         (StepFault::NotAChoice, "refused 54"),
+        (StepFault::NotInitial, "refused 55"),
     ];
     assert!(rt; are_shown(rt.alloc(), &rows));
 }

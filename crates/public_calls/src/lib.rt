@@ -86,3 +86,5 @@ mod superclasses;
 mod texts;
 #[cfg(test)]
 mod verdicts;
+#[cfg(test)]
+mod walks;

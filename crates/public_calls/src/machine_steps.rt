@@ -51,7 +51,10 @@ fn step_of_method<'a>(
 }
 
 /// The one method of the class as the machine takes it; or the number of what is wrong with its code, 0 if it has none.
-fn machine_method<'c, 'a>(alloc: Global, formed: &Formed<'c, 'a>) -> Result<Method<'c, 'a>, u8> {
+pub fn machine_method<'c, 'a>(
+    alloc: Global,
+    formed: &Formed<'c, 'a>,
+) -> Result<Method<'c, 'a>, u8> {
     if formed.class().methods.len() != 1 {
         return Err(0);
     }
