@@ -23,12 +23,8 @@ fn reports_on(
         return Err(PlayFault::OutOfMemory);
     };
     let list = [object(alloc), own];
-    let known = if is_known {
-        list.as_slice()
-    } else {
-        &list[..1]
-    };
-    let Ok(classes) = Rows::new(alloc, known, hasher()) else {
+    let many = if is_known { 2 } else { 1 };
+    let Ok(classes) = Rows::new(alloc, &list[..many], hasher()) else {
         return Err(PlayFault::OutOfMemory);
     };
     match verify_play(alloc, play, &classes) {
