@@ -143,7 +143,7 @@ fn text_indices(pool: &Pool<'_>, field: u16) -> Option<(u16, u16)>
 }
 
 impl<'c, 'a> OwnFields<'c, 'a> {
-    /// Those of a class, of which none was asked.
+    /// The fields of a class, none of which was asked for yet.
     pub fn new(alloc: Global, class: &'c ClassFile<'a>) -> OwnFields<'c, 'a>
         ensures { result ≡ class.now }
     {

@@ -1,4 +1,4 @@
--- What is kept of the members that references ask for: numbers of their texts, the spot from which a reference looks upward, and what
+-- The members that references ask for, as they are kept: numbers of their texts, the spot from which a reference looks upward, and what
 -- each class above declares there. Words of the code's own steps.
 use Rattle.std.specs.Prelude.{◌≡◌, ℕ, ◌+◌, ◌-◌, ◌<◌, zero, suc, Bool, false, ◌&&◌, List, [], ◌∷◌, ◌++◌, length, slice_get, Option, Some, None, option_map}
 use Rattle.std.specs.BTreeMap.{BTreeMap, btree_map_len, get}

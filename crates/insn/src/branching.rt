@@ -26,7 +26,7 @@ impl<'a> BranchTargets<'a> {
     ghost use Rattle.insn.specs.Offsets.{led_to};
     ghost use Rattle.insn.specs.Branching.{branches_view, targets_of};
 
-    /// Those of an instruction at this offset, which branches so.
+    /// The targets of an instruction at this offset that branches so.
     pub fn new(at: u16, branches: Branches<'a>) -> BranchTargets<'a>
         ensures { targets_of result ≡ led_to at (branches_view branches.entry) }
     {

@@ -119,7 +119,7 @@ impl<'a> Parts<'a> {
     ghost use Rattle.insn.specs.Instructions.{nothing};
     ghost use Rattle.insn.specs.Parts.{AreParts};
 
-    /// Those of an instruction without operands.
+    /// The parts of an instruction without operands.
     fn none() -> Parts<'a>
         ensures { AreParts result nothing }
     {

@@ -161,7 +161,7 @@ fn all_fit<C: Classes>(
 }
 
 impl<'a> Beginning<'a> {
-    /// Those of a method.
+    /// The beginning of a method.
     pub(crate) fn of(
         alloc: Global,
         method: &CodeMethod<'_, 'a>,

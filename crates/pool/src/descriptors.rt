@@ -67,7 +67,7 @@ fn copy<'a>(alloc: Global, method: &MethodType<'a>) -> Result<MethodType<'a>, Al
 }
 
 impl<'p, 'a> Descriptors<'p, 'a> {
-    /// Those of a pool, of which nothing was named.
+    /// The constants of a pool, none of which was asked for yet.
     pub fn new(alloc: Global, pool: &'p Pool<'a>) -> Descriptors<'p, 'a>
         ensures { result ≡ pool.now }
     {

@@ -144,7 +144,7 @@ fn walks_that_stop(rt: HostRuntime) {
     assert!(rt; raises(alloc, &K, (false, None), (0, Stop::NotAChoice)));
 }
 
-/// What is raised is caught, and the walk goes on at the handler.
+/// An object that is raised is caught, and the walk goes on at the handler.
 #[test]
 fn walks_that_catch(rt: HostRuntime) {
     let alloc = rt.alloc();

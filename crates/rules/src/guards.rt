@@ -85,7 +85,7 @@ fn key_by(pool: &Pool<'_>, kind: Kind, class: u16, name_and_type: u16) -> Option
     })
 }
 
-/// Those of a constant that is a Fieldref or a Methodref of another class than the class itself.
+/// The indices of the texts of a constant that is a Fieldref or a Methodref of another class than the class itself.
 fn key_of<'a>(class: &ClassFile<'a>, constant: Constant<'a>) -> Option<Key>
     ensures { result ≡ key_of class.now (view constant.entry) }
 {
@@ -252,7 +252,7 @@ fn read_all<'a>(
 }
 
 impl Guards {
-    /// Those of a class among classes. The only refusal is want of memory.
+    /// The guards of a class among classes. The only refusal is want of memory.
     pub fn new<'a, C: Classes>(
         alloc: Global,
         class: &ClassFile<'a>,

@@ -40,7 +40,7 @@ impl<'k, 'c, 'a, C: Classes> Members<'k, 'c, 'a, C> {
     ghost use Rattle.rules.specs.Guards.{AreGuards, IsReference, own_name};
     ghost use Rattle.rules.specs.Naming.{IsNamed};
 
-    /// Those of a class among classes, of which none was asked.
+    /// The members of a class among classes, none of which was asked for yet.
     pub fn new(alloc: Global, class: &'c ClassFile<'a>, classes: &'k C) -> Members<'k, 'c, 'a, C>
         ensures { result ≡ record { class = class.now; classes = C.content classes.now } }
     {

@@ -17,7 +17,7 @@ use std::alloc::{AllocError, Global};
 /// A frame that instructions change in place. Locals beyond those in use take no room: they are top.
 #[derive(Drop)]
 pub struct Working<'a> {
-    // Those in use, from 0 up.
+    // The local variables in use, from 0 up.
     locals: Vec<VType<'a>>,
     max_locals: u16,
     // From the bottom up.
@@ -138,7 +138,7 @@ impl<'a> Working<'a> {
         self.flag
     }
 
-    /// Those of its locals that are in use, from 0 up: all beyond them are top.
+    /// Its local variables that are in use, from 0 up: all beyond them are top.
     pub fn locals(&self) -> &[VType<'a>]
         ensures { let f = held self.now in held_locals result.now (length f.locals) ≡ f.locals }
     {

@@ -1,4 +1,4 @@
--- What is known of the locals of the running frame.
+-- Facts about the locals of the running frame.
 use Rattle.std.specs.Prelude.{◌≡◌, List, [], ◌∷◌, set, IfSome}
 use Rattle.hierarchy.specs.Class.{ClassFact}
 use Rattle.frames.specs.FrameFact.{FrameFact}

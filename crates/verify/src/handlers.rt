@@ -26,9 +26,9 @@ pub struct Handlers<'a> {
     by_start: Vec<Entry<'a>>,
     // How many of them have begun.
     begun: usize,
-    // Those that are to be compared with the frame.
+    // Entries that are to be compared with the frame.
     fresh: Vec<Entry<'a>>,
-    // Those that were, with these locals.
+    // Entries already checked against the current locals.
     settled: Vec<Entry<'a>>,
     // Where the frame of a handler is written.
     room: Vec<VType<'a>>,
@@ -65,7 +65,7 @@ impl<'a> Handlers<'a> {
     ghost use Rattle.verify.specs.Verdict.{is_covered, handler_conditions};
     ghost use Rattle.verify.specs.declared.exceptions.Entry as entries;
 
-    /// Those of this table, before the code.
+    /// The handlers of this table, before the first instruction.
     pub fn new(alloc: Global, table: Vec<Entry<'a>>) -> Result<Handlers<'a>, AllocError>
         requires { AreNumbered table.items }
         ensures { (cs : List ClassFact) (frames : Frames) (f : FrameFact) → IfOk result (Follows cs frames (map entry_view table.entry.items) 0 f) }

@@ -1,5 +1,5 @@
 -- Words of the code's own steps: nothing that a reader must believe rests on them.
--- What a method says of the states in which it may begin, and what is asked of values and objects there.
+-- The parts of a method that say in which states it may begin, and the conditions on values and objects there.
 use Rattle.std.specs.Prelude.{◌≡◌, ℕ, ◌+◌, ◌≤◌, Bool, true, false, List, [], ◌∷◌, ◌++◌, length, map, replicate, Option, Some, None}
 use Rattle.names.specs.Descriptors.{FieldDescriptor}
 use Rattle.names.specs.ReferenceTypes.{ReferenceType, class_type}

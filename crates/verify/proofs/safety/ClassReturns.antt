@@ -1,4 +1,4 @@
--- What a method returns fits its result, and what a caller does with it.
+-- A method's answer fits its result, and the caller goes on with it.
 use Rattle.std.proofs.Common.{◌≡◌, ℕ, ◌+◌, Bool, true, false, not, ◌&&◌, nat_eq, nat_lt, List, [], ◌∷◌, ◌++◌, length, slice_get, Option, Some, None, option_map, ◌⊎◌, inl, inr, if◌then◌else◌, sym, ap, refl, ◌∙◌, subst, arith, eqb-true}
 use Rattle.names.specs.Descriptors.{FieldDescriptor, primitive, class, array}
 use Rattle.names.specs.ReferenceTypes.{ReferenceType, class_type, array_type, dimensions_of, descriptor_of, is_class_type}
