@@ -19,7 +19,7 @@ pub fn file_read(read: &Result<Vec<u8>, StreamFault>) -> FileRead<'_>
     }
 }
 
-/// The same of each file, in their order.
+/// The answer of each read, in the order of the files.
 pub fn file_reads(
     alloc: Global,
     reads: &[Result<Vec<u8>, StreamFault>],

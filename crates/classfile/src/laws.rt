@@ -2,12 +2,12 @@
 ghost use Rattle.classfile.specs.OutlineLaws.{ClassIsOutline, OneOutline, OutlineOrFault, NoFaultBehindOutline};
 ghost use Rattle.classfile.specs.Laws.{OneClass, OneSpelling, ClassOrFault, NoFaultInClass, OneFault, BodySpellsRows, SpelledIsLaidOut};
 
-/// The same bytes do not spell two classes.
+/// No bytes spell two classes.
 pub fn one_class()
     ensures { OneClass }
 {}
 
-/// The same class does not have two spellings.
+/// No class has two spellings.
 pub fn one_spelling()
     ensures { OneSpelling }
 {}

@@ -55,7 +55,7 @@ fn is_other_in(pool: &Pool<'_>, column: Column, number: u16) -> bool
     }
 }
 
-/// The same by one look-up for both rules.
+/// Whether a number breaks one of both rules, by one look-up.
 fn is_unfit_in(pool: &Pool<'_>, column: Column, number: u16) -> bool
     ensures { result ≡ (is_bad_in pool.now column number || is_other_in pool.now column number) }
 {

@@ -75,7 +75,7 @@ pub extern "C" fn in_process_rows(alloc: Global, depth: u16, rounds: u32) -> u32
     rows_of(alloc, depth, true, rounds).unwrap_or(0)
 }
 
-/// The same of so many classes that are all below Object.
+/// The answers of so many classes that are all below Object, kept in rows; 0 where memory runs out.
 #[unsafe(no_mangle)]
 pub extern "C" fn in_process_flat(alloc: Global, count: u16, rounds: u32) -> u32 {
     rows_of(alloc, count, false, rounds).unwrap_or(0)

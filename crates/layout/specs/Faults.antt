@@ -18,12 +18,12 @@ abbrev pub Reads : {X V : Type 0} → Format V → (X → V) → Place → Place
 Reads f view old new (Ok x) = reads f old.at old.rest ≡ Ok (view x, new)
 Reads f view old new (Err e) = (reads f old.at old.rest ≡ Err e) × (new ≡ old)
 
--- The same for a call that takes memory: want of memory may stand in place of any other answer.
+-- A call that takes memory and reads by the format: want of memory may stand in place of any other answer.
 abbrev pub ReadsUnlessMemory : {X V : Type 0} → Format V → (X → V) → Place → Place → Result X ReadFault → Type 0
 ReadsUnlessMemory f view old new (Ok x) = reads f old.at old.rest ≡ Ok (view x, new)
 ReadsUnlessMemory f view old new (Err e) = UnlessMemory e (reads f old.at old.rest ≡ Err e) × (new ≡ old)
 
--- The same for a step inside a larger part, after whose refusal nobody looks at the cursor.
+-- A step that reads by the format inside a larger part: after its refusal nobody looks at the cursor.
 abbrev pub GoesOn : {X V : Type 0} → Format V → (X → V) → Place → Place → Result X ReadFault → Type 0
 GoesOn f view old new (Ok x) = reads f old.at old.rest ≡ Ok (view x, new)
 GoesOn f view old new (Err e) = UnlessMemory e (reads f old.at old.rest ≡ Err e)

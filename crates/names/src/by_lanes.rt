@@ -17,7 +17,7 @@ pub(crate) trait ByLanes {
         requires { at + 16 ≤ length bytes.now }
         ensures { AreIn is bytes.now at 16 result };
 
-    /// The same of eight bytes.
+    /// How many of the eight bytes from a place on are seen to be of the kind, up to the first that is not.
     fn in_eight(bytes: &[u8], at: usize) -> usize
         requires { at + 8 ≤ length bytes.now }
         ensures { AreIn is bytes.now at 8 result };
@@ -47,7 +47,7 @@ fn are_all_singly<K: ByLanes>(bytes: &[u8]) -> bool
     true
 }
 
-/// The same of sixteen bytes or more, sixteen at a time. The last sixteen may begin before the others end.
+/// Whether sixteen bytes or more are seen to be of the kind, sixteen at a time. The last sixteen may begin before the others end.
 fn are_all_by_sixteen<K: ByLanes>(bytes: &[u8]) -> bool
     requires { 16 ≤ length bytes.now }
     ensures { result ≡ true → AreBetween K.is bytes.now 0 (length bytes.now) }

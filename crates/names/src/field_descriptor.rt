@@ -16,7 +16,7 @@ pub fn is_field_descriptor(text: Text<'_>) -> bool
     ensures accepted { (t : FieldDescriptor) → SpellsField text.entry.bytes.now t → dimensions t ≤ 255 → IsTrue result }
     ensures only { IsTrue result → (t : FieldDescriptor) × SpellsField text.entry.bytes.now t × (dimensions t ≤ 255) }
 
-    // The same in words that compute.
+    // So says the word that computes.
     ensures computed { result ≡ is_ok (field_answer text.entry.bytes.now) }
 {
     is_one_type(text.bytes()) || field_type(text).is_ok()

@@ -23,7 +23,7 @@ fn are_joined_in_sixteen(bytes: &[u8], at: usize) -> bool
     stops.to_bitmask() == 0
 }
 
-/// The same of eight bytes.
+/// Whether each of eight bytes from a place on is seen to be one of a class name that the byte behind it may follow.
 #[inline(always)]
 fn are_joined_in_eight(bytes: &[u8], at: usize) -> bool
     requires { at + 9 ≤ length bytes.now }
@@ -39,7 +39,7 @@ fn are_joined_in_eight(bytes: &[u8], at: usize) -> bool
     stops.to_bitmask() == 0
 }
 
-/// The same of seventeen bytes or more but for the last, sixteen at a time. The last sixteen may begin before the others end.
+/// Whether each of seventeen bytes or more but for the last is seen to be such a byte, sixteen at a time. The last sixteen may begin before the others end.
 fn are_joined_by_sixteen(bytes: &[u8]) -> bool
     requires { 17 ≤ length bytes.now }
     ensures { result ≡ true → AreJoinedBetween bytes.now 0 (length bytes.now - 1) }

@@ -33,7 +33,7 @@ fn stops_in_sixteen(bytes: &[u8], at: usize) -> u64
     stops.to_bitmask()
 }
 
-/// The same as [`run_end`], byte by byte.
+/// Answers as [`run_end`] does, byte by byte.
 fn run_end_of_few(bytes: &[u8], start: usize) -> usize
     requires behind { 1 ≤ start }
     requires within { start ≤ length bytes.now }

@@ -23,7 +23,7 @@ pub fn parameter_types(text: Text<'_>) -> Parameters<'_>
     // Of a text that is a descriptor, all its parameters in their order.
     ensures named { (m : MethodDescriptor) → SpellsMethod text.entry.bytes.now m → AreWithinDimensions m → types_left result ≡ m.params }
 
-    // The same in words that compute, with or without a receiver.
+    // So says the word that computes, with or without a receiver.
     ensures computed { (receiver : Bool) (m : MethodDescriptor) → method_answer receiver text.entry.bytes.now ≡ Ok m → types_left result ≡ m.params }
 {
     let bytes = text.bytes();

@@ -47,7 +47,7 @@ fn plain_of_sixteen(bytes: &[u8], at: usize) -> usize
     first_set(stops.to_bitmask(), 16)
 }
 
-/// The same of eight bytes.
+/// How many of the eight bytes from a place on are seen to be plain, up to the first that is not, or is a `=`.
 #[inline(always)]
 fn plain_of_eight(bytes: &[u8], at: usize) -> usize
     requires { at + 8 ≤ length bytes.now }

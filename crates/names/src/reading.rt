@@ -168,7 +168,7 @@ pub fn field_type(text: Text<'_>) -> Result<FieldType<'_>, NameFault>
     ensures fault { IfErr result (λ e. IsFieldFault text.entry.bytes.now e) }
     ensures refused { (e : NameFault) → IsFieldFault text.entry.bytes.now e → result ≡ Err e }
 
-    // The same in words that compute.
+    // So says the word that computes.
     ensures computed { IsFieldAnswer text.entry.bytes.now result }
 {
     judge_field(text.bytes())
@@ -349,7 +349,7 @@ pub fn method_type(
     ensures fault { IfErr result (λ e. (e ≡ OutOfMemory) ⊎ IsMethodFault receiver text.entry.bytes.now e) }
     ensures refused { (e : NameFault) → IsMethodFault receiver text.entry.bytes.now e → IsErrAnd result (λ d. (d ≡ OutOfMemory) ⊎ (d ≡ e)) }
 
-    // The same in words that compute.
+    // So says the word that computes.
     ensures computed { IsMethodAnswer receiver text.entry.bytes.now result }
 {
     judge_method(alloc, text.bytes(), receiver)
@@ -414,7 +414,7 @@ pub fn result_type(text: Text<'_>) -> Option<FieldType<'_>>
     // A type only where the text is a descriptor with this result.
     ensures only { IfSome result (λ t. (m : MethodDescriptor) × SpellsMethod text.entry.bytes.now m × (m.result ≡ Some (type_of t))) }
 
-    // The same in words that compute, with or without a receiver.
+    // So says the word that computes, with or without a receiver.
     ensures computed { (receiver : Bool) (m : MethodDescriptor) → method_answer receiver text.entry.bytes.now ≡ Ok m → option_map type_of result ≡ m.result }
 {
     judge_result(text.bytes())

@@ -37,7 +37,7 @@ fn single_of_sixteen(bytes: &[u8], at: usize) -> usize
     first_set(stops.to_bitmask(), 16)
 }
 
-/// The same of eight bytes.
+/// How many of the eight bytes from a place on spell a unit each, up to the first that does not.
 #[inline(always)]
 fn single_of_eight(bytes: &[u8], at: usize) -> usize
     requires { at + 8 ≤ length bytes.now }

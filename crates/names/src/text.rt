@@ -134,7 +134,7 @@ pub fn check_text(bytes: &[u8]) -> Result<Text<'_>, NameFault>
     ensures fault { IfErr result (λ e. (at : ℕ) × (e ≡ BadText at) × FirstBad bytes.now at) }
     ensures refused { (at : ℕ) → FirstBad bytes.now at → result ≡ Err (BadText at) }
 
-    // The same in words that compute.
+    // So says the word that computes.
     ensures exact { MatchResult result (λ _. bad_text bytes.now ≡ None) (λ e. (k : ℕ) × (e ≡ BadText k) × (bad_text bytes.now ≡ Some k)) }
 {
     match first_bad(bytes) {

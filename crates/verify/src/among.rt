@@ -91,7 +91,7 @@ fn report_in<'a, S: BuildHasher + Drop>(
     }
 }
 
-/// The same of a class that is well formed, and of the files of the known ones.
+/// The verdicts on the methods of a class that is well formed, among the classes that the known files are.
 fn report_formed<'a, S: BuildHasher + Drop>(
     alloc: Global,
     formed: &Formed<'_, 'a>,

@@ -115,7 +115,7 @@ fn take_up<'n, 'a, C: Classes>(
     Ok(())
 }
 
-/// The same, by one look-up where a frame comes and none is declared.
+/// Like [`take_up`], but returns early if control falls through and no frame is declared.
 fn arrive<'n, 'a, C: Classes>(
     at: u16,
     comes: bool,
@@ -223,7 +223,8 @@ fn judge_wholly<'n, 'a, C: Classes>(
     )
 }
 
-/// The same, by the rule alone where nothing else is asked: no handler is to be compared, and the instruction is plain and not the last one.
+/// Like [`judge_wholly`], but by the rule alone where nothing else is asked: no handler is to be compared, and the instruction is plain and not the
+/// last one.
 fn judge<'n, 'a, C: Classes>(
     alloc: Global,
     method: &CodeMethod<'_, 'a>,
