@@ -25,43 +25,52 @@ fn field<'a>(name: &'a [u8], is_protected: bool) -> MemberSummary<'a> {
 
 /// A class below another, with members.
 fn declaring<'a>(
-    alloc: Global,
     name: &'a [u8],
     superclass: &'a [u8],
-    members: &[MemberSummary<'a>],
-) -> Result<Summary<'a>, AllocError> {
-    Ok(Summary {
+    members: Vec<MemberSummary<'a>>,
+) -> Summary<'a> {
+    Summary {
         name,
         superclass: Some(superclass),
         interface: false,
         is_final: false,
-        members: members.to_vec(alloc)?,
-    })
+        members,
+    }
 }
 
-/// `p/Q` declares protected members, of which `p/P` below it declares one as public. Below that are classes of four packages. `B` is in
-/// the package without a name, as is `L` below it.
-fn setting<'a>(alloc: Global) -> Result<[Summary<'a>; 10], AllocError> {
+/// Four protected members, one of them static and one a method.
+fn protected_members<'a>(alloc: Global) -> Result<Vec<MemberSummary<'a>>, AllocError> {
     let mut shared = field(b"s", true);
     shared.is_static = true;
-    let of_q = [
+    let members = [
         field(b"x", true),
         field(b"y", true),
         shared,
         member(Kind::Method, b"m", b"()V", true),
     ];
-    Ok([
+    members.to_vec(alloc)
+}
+
+/// `p/Q` and `p/P` below it declare members, and below that are classes of four packages. `B`, which declares members too, is in the package without a name,
+/// as is `L` below it.
+fn setting<'a>(
+    alloc: Global,
+    of_q: Vec<MemberSummary<'a>>,
+    of_p: Vec<MemberSummary<'a>>,
+    of_b: Vec<MemberSummary<'a>>,
+) -> [Summary<'a>; 10] {
+    [
         object(alloc),
-        declaring(alloc, b"p/Q", OBJECT, &of_q)?,
-        declaring(alloc, b"p/P", b"p/Q", &[field(b"y", false)])?,
+        declaring(b"p/Q", OBJECT, of_q),
+        declaring(b"p/P", b"p/Q", of_p),
         summary(alloc, b"p/K", Some(b"p/P"), false),
         summary(alloc, b"q/K", Some(b"p/P"), false),
         summary(alloc, b"p/q/K", Some(b"p/P"), false),
         summary(alloc, b"K", Some(b"p/P"), false),
-        declaring(alloc, b"B", OBJECT, &[field(b"z", true)])?,
+        declaring(b"B", OBJECT, of_b),
         summary(alloc, b"L", Some(b"B"), false),
         summary(alloc, b"p/L", Some(b"B"), false),
-    ])
+    ]
 }
 
 fn of_class<'a>(
@@ -90,9 +99,17 @@ fn are_guarded(
     want: &[bool],
     may_fail: bool,
 ) -> bool {
-    let Ok(list) = setting(alloc) else {
+    let Ok(of_q) = protected_members(alloc) else {
         return may_fail;
     };
+    // One of them is public in between.
+    let Ok(of_p) = [field(b"y", false)].to_vec(alloc) else {
+        return may_fail;
+    };
+    let Ok(of_b) = [field(b"z", true)].to_vec(alloc) else {
+        return may_fail;
+    };
+    let list = setting(alloc, of_q, of_p, of_b);
     match Rows::new(alloc, &list, hasher()) {
         Err(fault) => may_fail && fault.number() == 1,
         Ok(classes) => match guarded(alloc, &classes, class, references) {

@@ -151,37 +151,27 @@ fn all_agree<C: Classes>(alloc: Global, classes: &C) -> Result<bool, FrameFault>
     Ok(true)
 }
 
+/// A frame of ten local variables, ints but for these at 3, 7 and 9.
+fn row<'a>(
+    alloc: Global,
+    third: VType<'a>,
+    seventh: VType<'a>,
+    ninth: VType<'a>,
+) -> Result<Frame<'a>, AllocError> {
+    let int = VType::Int;
+    let locals = [int, int, int, third, int, int, int, seventh, int, ninth];
+    frame(alloc, &locals, &[], false)
+}
+
 /// Two slots of a class that is absent; one that is missing, alone and in front of a No; and two that are missing.
 fn absent_rows<C: Classes>(alloc: Global, classes: &C) -> Result<bool, FrameFault> {
-    let mut from = ints_but(alloc, 10, 3, B)?;
-    let mut to = ints_but(alloc, 10, 3, B)?;
-    from[7] = B;
-    to[7] = B;
-    let yes = packed_answer(
-        alloc,
-        &cut(alloc, &from, 10)?,
-        &cut(alloc, &to, 10)?,
-        classes,
-        Answer::Yes,
-    )?;
-    from[3] = A;
-    from[7] = VType::Class(b"D");
+    let absent = row(alloc, B, B, VType::Int)?;
+    let yes = packed_answer(alloc, &absent, &absent, classes, Answer::Yes)?;
+    let ours = row(alloc, A, VType::Class(b"D"), VType::Int)?;
     let missing = Answer::Missing(b"B");
-    let first = packed_answer(
-        alloc,
-        &cut(alloc, &from, 10)?,
-        &cut(alloc, &to, 10)?,
-        classes,
-        missing,
-    )?;
-    to[9] = VType::Float;
-    let no = packed_answer(
-        alloc,
-        &cut(alloc, &from, 10)?,
-        &cut(alloc, &to, 10)?,
-        classes,
-        Answer::No,
-    )?;
+    let first = packed_answer(alloc, &ours, &absent, classes, missing)?;
+    let float = row(alloc, B, B, VType::Float)?;
+    let no = packed_answer(alloc, &ours, &float, classes, Answer::No)?;
     Ok(yes && first && no)
 }
 

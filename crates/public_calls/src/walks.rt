@@ -121,26 +121,41 @@ fn raises(alloc: Global, bytes: &[u8], raised: (bool, Option<u16>), wanted: (usi
     }
 }
 
+/// So many choices to go on.
+fn choices<'a>(alloc: Global, count: usize) -> Result<Vec<Choice<'a>>, AllocError> {
+    let mut choices = Vec::new(alloc);
+    for _ in 0..count {
+        choices.push(on(alloc))?;
+    }
+    Ok(choices)
+}
+
+/// The walk of the class's method by so many choices to go on, without arguments.
+fn goes(alloc: Global, bytes: &[u8], count: usize) -> Walk {
+    match choices(alloc, count) {
+        Ok(choices) => walk_of(alloc, bytes, &[], &choices),
+        Err(_) => Err(OUT_OF_MEMORY),
+    }
+}
+
 /// `return` ends the method; choices behind that are not looked at, and without a choice nothing is done.
 #[test]
 fn walks_that_end(rt: HostRuntime) {
     let alloc = rt.alloc();
-    assert!(rt; walk_of(alloc, &K, &[], &[]) == Ok((0, Stop::At(0))));
-    assert!(rt; walk_of(alloc, &K, &[], &[on(alloc)]) == Ok((1, Stop::Ended)));
-    assert!(rt; walk_of(alloc, &K, &[], &[on(alloc), on(alloc)]) == Ok((1, Stop::Ended)));
+    assert!(rt; goes(alloc, &K, 0) == Ok((0, Stop::At(0))));
+    assert!(rt; goes(alloc, &K, 1) == Ok((1, Stop::Ended)));
+    assert!(rt; goes(alloc, &K, 2) == Ok((1, Stop::Ended)));
     let two = catching([0x04, 0xB1]);
-    assert!(rt; walk_of(alloc, &two, &[], &[on(alloc)]) == Ok((1, Stop::At(1))));
-    assert!(rt; walk_of(alloc, &two, &[], &[on(alloc), on(alloc)]) == Ok((2, Stop::Ended)));
+    assert!(rt; goes(alloc, &two, 1) == Ok((1, Stop::At(1))));
+    assert!(rt; goes(alloc, &two, 2) == Ok((2, Stop::Ended)));
 }
 
 /// `pop` of nothing is a fault, behind `nop` too; where a choice is none, it is not counted.
 #[test]
 fn walks_that_stop(rt: HostRuntime) {
     let alloc = rt.alloc();
-    let pops = catching([0x57, 0xB1]);
-    assert!(rt; walk_of(alloc, &pops, &[], &[on(alloc)]) == Ok((0, Stop::Fault)));
-    let later = catching([0x00, 0x57]);
-    assert!(rt; walk_of(alloc, &later, &[], &[on(alloc), on(alloc)]) == Ok((1, Stop::Fault)));
+    assert!(rt; goes(alloc, &catching([0x57, 0xB1]), 1) == Ok((0, Stop::Fault)));
+    assert!(rt; goes(alloc, &catching([0x00, 0x57]), 2) == Ok((1, Stop::Fault)));
     assert!(rt; raises(alloc, &K, (false, None), (0, Stop::NotAChoice)));
 }
 
@@ -203,9 +218,7 @@ fn states_in_which_a_method_begins(rt: HostRuntime) {
 /// Where memory runs out a walk answers 1, and otherwise its end.
 #[test]
 fn memory_runs_out_for_a_walk(rt: HostRuntime) {
-    let alloc = rt.alloc();
-    let two = catching([0x04, 0xB1]);
-    let walked = walk_of(alloc, &two, &[], &[on(alloc), on(alloc)]);
+    let walked = goes(rt.alloc(), &catching([0x04, 0xB1]), 2);
     assert!(rt; walked == Ok((2, Stop::Ended)) || walked == Err(OUT_OF_MEMORY));
 }
 
