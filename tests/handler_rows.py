@@ -77,7 +77,7 @@ ROWS = """
 (I)V 1 1 | nop; fconst_0; fstore_0; nop; return; pop; return; pop; return | 0002 4507[class java/lang/Throwable] ff0001 0001 02 0001 07[class java/lang/Throwable] | 3 5 7 any, 0 4 5 any | refused 73 at 3
 """
 
-# The same of a constructor of K, which is directly below Object: no entry covers its call of a constructor on the own object. Behind that the own object
+# Rows of a constructor of K, which is directly below Object: no entry covers its call of a constructor on the own object. Behind that the own object
 # is no longer one that is not initialized, and before it the handler's frame has to have that.
 OF_CONSTRUCTORS = """
 ()V 1 1 | aload_0; invokespecial [method java/lang/Object <init> ()V]; return; athrow | 0001 ff0005 0001 06 0001 07[class java/lang/Throwable] | 0 1 5 any | verified

@@ -71,7 +71,7 @@ OF_CLASSES = """
 ()V 1 1 | goto 3; new [class A]; astore_0; goto -4 | 0001 03 | verified
 """
 
-# The same of a constructor of K, which is directly below Object and declares x of type I.
+# Rows of a constructor of K, which is directly below Object and declares x of type I.
 OF_CONSTRUCTORS = """
 ()V 1 1 | aload_0; invokespecial [method java/lang/Object <init> ()V]; return | verified
 ()V 1 1 | return | refused 74 at 0
@@ -103,7 +103,7 @@ OF_CONSTRUCTORS = """
 ()V 1 1 | aload_0; astore_0; aload_0; invokespecial [method java/lang/Object <init> ()V]; return | verified
 """
 
-# The same of a constructor that sets fields, in a K that declares only x, and in one with very many others, or with one of a long name, in front of it.
+# Rows of a constructor that sets fields, in a K that declares only x, and in one with very many others, or with one of a long name, in front of it.
 OF_OWN_FIELDS = """
 ()V 2 1 | aload_0; iconst_0; putfield [field K x I]; aload_0; invokespecial [method java/lang/Object <init> ()V]; return | verified
 ()V 2 1 | aload_0; iconst_0; putfield [field K y I]; aload_0; invokespecial [method java/lang/Object <init> ()V]; return | refused 62 at 2
@@ -115,7 +115,7 @@ OF_OWN_FIELDS = """
 """
 MANY, LONG = [f"x{i}" for i in range(100)], ["x" * 300]
 
-# The same of another method of K, with a receiver.
+# Rows of another method of K, with a receiver.
 OF_INSTANCES = """
 ()V 1 1 | aload_0; invokespecial [method K f ()V]; return | verified
 ()I 1 1 | aload_0; invokespecial [method java/lang/Object hashCode ()I]; ireturn | verified

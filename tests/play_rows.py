@@ -59,7 +59,7 @@ def object_class():
     return replace(K, constants=constants.items, super_class=0, methods=[method]).data()
 
 
-# What they are, their files, and the line.
+# Rows: a description, the files, and the line that is printed.
 ROWS = (
     ("K and Object", [BYTES, O], "play verified"),
     ("Object", [O], "play verified"),

@@ -190,7 +190,7 @@ ROWS = """
 ()V 0 0 | bytes ba 0001 0000; return | refused 60 at 0
 """
 
-# The same of a method with a receiver, which is in the first local variable.
+# Rows of a method with a receiver, which is in the first local variable.
 OF_INSTANCES = """
 ()V 0 0 | return | refused 64 at 0
 ()V 0 1 | return | verified

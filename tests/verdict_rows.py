@@ -85,7 +85,7 @@ VERDICTS = """
 (I[La(b)c;J)[[Ld)e; 1 4 | return | refused 76 at 0
 """
 
-# The same with a StackMapTable's body in front of the verdict.
+# Rows with a StackMapTable's body in front of the verdict.
 MAPPED = """
 ()V 0 0 | return | 0000 | verified
 # loops and branches

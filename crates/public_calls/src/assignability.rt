@@ -37,7 +37,7 @@ fn class_rows<'a>() -> [(VType<'a>, VType<'a>, Answer<'a>); 7] {
     ]
 }
 
-/// The same of arrays.
+/// Types of arrays, and what is answered of them.
 fn array_rows<'a>() -> [(VType<'a>, VType<'a>, Answer<'a>); 4] {
     let objects = array(1, Base::Class(OBJECT));
     let bs = array(1, Base::Class(b"B"));

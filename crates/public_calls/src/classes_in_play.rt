@@ -33,7 +33,7 @@ fn reports_on(
     }
 }
 
-/// The same of a class so many times, at most twice.
+/// The reports on a class in play so many times, at most twice.
 fn reports_on_class(
     alloc: Global,
     class: &ClassFile<'_>,
@@ -53,7 +53,7 @@ fn reports_on_class(
     reports_on(alloc, &play[..times.min(2)], &first, is_known)
 }
 
-/// The same of the class that these bytes are.
+/// The reports on the class that these bytes are, in play so many times.
 fn reports(alloc: Global, bytes: &[u8], times: usize, is_known: bool) -> Result<usize, PlayFault> {
     match decode(alloc, bytes) {
         Ok(class) => reports_on_class(alloc, &class, times, is_known),

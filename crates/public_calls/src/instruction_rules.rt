@@ -22,7 +22,7 @@ const INIT: [u8; 102] = [
     0, 2, 0, 0, 0, 1, 0xB1, 0, 0, 0, 0, 0, 0,
 ];
 
-/// The same with the constants 8 and 9 for Object's `<init>`, and a method that calls that.
+/// The class file of K with the constants 8 and 9 for Object's `<init>`, and a method that calls that.
 const CONSTRUCTING: [u8; 114] = [
     0xCA, 0xFE, 0xBA, 0xBE, 0, 0, 0, 0x34, 0, 10, 7, 0, 2, 1, 0, 1, 0x4B, 7, 0, 4, 1, 0, 0x10,
     0x6A, 0x61, 0x76, 0x61, 0x2F, 0x6C, 0x61, 0x6E, 0x67, 0x2F, 0x4F, 0x62, 0x6A, 0x65, 0x63, 0x74,
@@ -31,7 +31,7 @@ const CONSTRUCTING: [u8; 114] = [
     0, 6, 0, 1, 0, 7, 0, 0, 0, 0x0F, 0, 4, 0, 2, 0, 0, 0, 3, 0xB7, 0, 9, 0, 0, 0, 0, 0, 0,
 ];
 
-/// The same with the constant 11 for Object's `clone`, and a method that calls that.
+/// The class file of K with the constant 11 for Object's `clone`, and a method that calls that.
 const CLONING: [u8; 145] = [
     0xCA, 0xFE, 0xBA, 0xBE, 0, 0, 0, 0x34, 0, 12, 7, 0, 2, 1, 0, 1, 0x4B, 7, 0, 4, 1, 0, 0x10,
     0x6A, 0x61, 0x76, 0x61, 0x2F, 0x6C, 0x61, 0x6E, 0x67, 0x2F, 0x4F, 0x62, 0x6A, 0x65, 0x63, 0x74,
@@ -42,7 +42,7 @@ const CLONING: [u8; 145] = [
     7, 0, 0, 0, 15, 0, 4, 0, 2, 0, 0, 0, 3, 0xB6, 0, 11, 0, 0, 0, 0, 0, 0,
 ];
 
-/// The same class file with this byte as the method's code.
+/// The class file of K with this byte as the method's code.
 fn with(code: u8) -> [u8; 102] {
     let mut bytes = INIT;
     bytes[95] = code;
@@ -67,7 +67,7 @@ fn apply_first<'a, C: Classes>(
     }
 }
 
-/// The same in the class's first method, where these are the classes.
+/// The outcome of the rule in the class's first method, where these are the classes.
 fn judge_among<'a, C: Classes>(
     alloc: Global,
     formed: &Formed<'_, 'a>,
@@ -89,7 +89,7 @@ fn judge_among<'a, C: Classes>(
     }
 }
 
-/// The same, where `java/lang/Object` is the one class.
+/// The outcome of the rule where `java/lang/Object` is the one class.
 fn judge_of<'a>(alloc: Global, formed: &Formed<'_, 'a>, frame: &Frame<'a>) -> Judged<'a> {
     let alone = [object(alloc)];
     match Rows::new(alloc, &alone, hasher()) {
@@ -98,7 +98,7 @@ fn judge_of<'a>(alloc: Global, formed: &Formed<'_, 'a>, frame: &Frame<'a>) -> Ju
     }
 }
 
-/// The same, where Object has the method `clone`, which is protected, and K and A are below it.
+/// The outcome of the rule where Object has the method `clone`, which is protected, and K and A are below it.
 fn judge_cloning<'a>(alloc: Global, formed: &Formed<'_, 'a>, frame: &Frame<'a>) -> Judged<'a> {
     let mut above = object(alloc);
     let clone = MemberSummary {
@@ -134,7 +134,7 @@ fn judge_clone<'a>(alloc: Global, object: VType<'a>) -> Judged<'a> {
     }
 }
 
-/// The same of a class file.
+/// The outcome of the rule in the first method of a class file.
 fn judge_class<'a>(alloc: Global, class: &ClassFile<'a>, frame: &Frame<'a>) -> Judged<'a> {
     match form_check(alloc, class) {
         Ok(formed) => judge_of(alloc, &formed, frame),

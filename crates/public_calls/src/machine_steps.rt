@@ -67,7 +67,7 @@ pub fn machine_method<'c, 'a>(
     }
 }
 
-/// The same, of the one method of the class.
+/// The step of the one method of the class.
 fn step_of_class<'a>(
     alloc: Global,
     class: &ClassFile<'a>,
@@ -83,7 +83,7 @@ fn step_of_class<'a>(
     }
 }
 
-/// The same, of the class that these bytes are.
+/// The step of the one method of the class that these bytes are.
 pub fn step_of<'a>(
     alloc: Global,
     bytes: &'a [u8],

@@ -67,7 +67,7 @@ fn are_right(constants: &mut Descriptors<'_, '_>) -> Result<bool, AllocError> {
     Ok(field && long && array && short && !other)
 }
 
-/// The same when they are read, and when they were.
+/// Whether each index names what stands there when the texts are read, and again when they were.
 fn are_named_twice(alloc: Global) -> Result<bool, AllocError> {
     let pool = match Pool::take(alloc, &mut Cursor::new(&NAMED)) {
         Ok(pool) => pool,

@@ -111,7 +111,7 @@ fn is_summary_or<'a>(alloc: Global, class: &ClassFile<'a>, or_none: bool) -> boo
     }
 }
 
-/// The same of the class file K.
+/// Whether the summary of the class file K is right, or none where memory runs out.
 fn has_summary_or(alloc: Global, or_none: bool) -> bool {
     match decode(alloc, &K) {
         Ok(class) => is_summary_or(alloc, &class, or_none),

@@ -85,7 +85,7 @@ fn names(rt: HostRuntime) {
     assert!(rt; matches!(kinds("<init>"), (true, true, false)));
 }
 
-/// The same, found at once.
+/// Which forms the name has, found at once.
 fn forms(name: &str) -> (bool, bool, bool) {
     match check_text(name.as_bytes()) {
         Ok(text) => {
@@ -126,7 +126,7 @@ fn is_method(alloc: Global, descriptor: &[u8], may_fail: bool) -> bool {
     }
 }
 
-/// The same of a field whose type is an array of two dimensions.
+/// Whether it is the descriptor of a field whose type is an array of two dimensions; or memory ran out, where it may.
 fn is_array(alloc: Global, descriptor: &[u8], may_fail: bool) -> bool {
     let Ok(text) = check_text(descriptor) else {
         return false;

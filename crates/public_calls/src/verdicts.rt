@@ -86,7 +86,7 @@ fn report_among<'a>(
     }
 }
 
-/// The same, where they are a class.
+/// The report on the class that these bytes are.
 fn report<'a>(alloc: Global, bytes: &'a [u8]) -> Result<Report<'a>, AllocError> {
     let Ok(class) = decode(alloc, bytes) else {
         return Err(AllocError);
