@@ -18,3 +18,5 @@ pub mod Spots
 pub mod Guards
 pub mod Guarding
 pub mod PlacesKept
+pub mod Sharing
+pub mod Numbering

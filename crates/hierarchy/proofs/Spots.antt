@@ -13,28 +13,28 @@ use Rattle.hierarchy.specs.declared.summary.Kind.TheVariants.{Field, Method}
 use Rattle.hierarchy.specs.contracts.summary.KindOrd.TheImpl as kind_ord
 use Rattle.hierarchy.specs.Flags.{spot_cmp, moved}
 
-abbrev kind_cmp : Kind → Kind → Ordering
+abbrev pub kind_cmp : Kind → Kind → Ordering
 kind_cmp = (kind_ord.ghosts).cmp
 
 -- ---- two spots in one place of the order are one
 
-both_equal : (a b : Ordering) → is_eq (ordering_then a b) ≡ true → (a ≡ Equal) × (is_eq b ≡ true)
+pub both_equal : (a b : Ordering) → is_eq (ordering_then a b) ≡ true → (a ≡ Equal) × (is_eq b ≡ true)
 both_equal Less b e = absurd (false≢true e)
 both_equal Equal b e = (refl, e)
 both_equal Greater b e = absurd (false≢true e)
 
-equal_is : (a : Ordering) → is_eq a ≡ true → a ≡ Equal
+pub equal_is : (a : Ordering) → is_eq a ≡ true → a ≡ Equal
 equal_is Less e = absurd (false≢true e)
 equal_is Equal e = refl
 equal_is Greater e = absurd (false≢true e)
 
-kinds_equal : (j k : Kind) → kind_cmp j k ≡ Equal → j ≡ k
+pub kinds_equal : (j k : Kind) → kind_cmp j k ≡ Equal → j ≡ k
 kinds_equal Field Field e = refl
 kinds_equal Field Method e = cc
 kinds_equal Method Field e = cc
 kinds_equal Method Method e = refl
 
-kind_itself : (k : Kind) → kind_cmp k k ≡ Equal
+pub kind_itself : (k : Kind) → kind_cmp k k ≡ Equal
 kind_itself Field = refl
 kind_itself Method = refl
 

@@ -13,3 +13,5 @@ pub mod Jumps
 pub mod Places
 pub mod Above
 pub mod Flags
+pub mod Versions
+pub mod MemberNumbers

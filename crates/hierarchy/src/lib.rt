@@ -21,6 +21,9 @@
 //! - `spot`: members by numbers of their texts, at a class above.
 //! - `starts`: where references begin to look for declarations.
 //! - `flags`: declarations of the classes above, and the first from a class upward.
+//! - `versions`: arrays of numbers whose versions share what is equal.
+//! - `member_key`: members by numbers of their texts.
+//! - `member_numbers`: numbers of members.
 //! - `package`: packages of classes.
 //! - `laws`: what holds of faults, chains and worlds.
 #![tactic(auto)]
@@ -37,6 +40,8 @@ mod flags;
 mod index;
 mod jumps;
 pub mod laws;
+mod member_key;
+mod member_numbers;
 mod nearest;
 mod package;
 mod places;
@@ -46,6 +51,7 @@ mod rules;
 mod spot;
 mod starts;
 mod summary;
+mod versions;
 
 pub use answer::Answer;
 pub use chains::Chains;

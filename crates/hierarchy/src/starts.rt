@@ -8,8 +8,8 @@ use crate::spot::Spot;
 use std::alloc::{AllocError, Global};
 use std::collections::BTreeMap;
 
-/// The number of a text.
-fn number_of<'a>(
+/// The number of a text, which gets the next one where it has none.
+pub fn number_of<'a>(
     numbers: &mut BTreeMap<&'a [u8], usize>,
     text: &'a [u8],
 ) -> Result<usize, AllocError>
