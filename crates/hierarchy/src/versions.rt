@@ -33,7 +33,7 @@ impl Versions {
         Ok(Versions { nodes })
     }
 
-    /// The value of a version at an index. Looks at as many nodes as the index above it has binary digits.
+    /// The value of a version at an index. Looks at one node more than the index has binary digits, at most.
     pub fn get(&self, version: usize, index: usize) -> usize
         requires good { AreVersions self.now }
         requires there { IsVersion self.now version }
