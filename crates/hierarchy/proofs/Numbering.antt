@@ -15,8 +15,8 @@ use Rattle.hierarchy.specs.declared.member_numbers.MemberNumbers.{MemberNumbers}
 use Rattle.hierarchy.specs.declared.summary.Kind.{Kind}
 use Rattle.hierarchy.specs.Above.{number_of}
 use Rattle.hierarchy.specs.Class.{MemberFact}
-use Rattle.hierarchy.specs.Flags.{AreNumbers, KeepNumbers, GetsNumber}
-use Rattle.hierarchy.specs.MemberNumbers.{key_cmp, number_at, key_with, key_of, member_number, AreMemberNumbers, AddsMember}
+use Rattle.hierarchy.specs.Flags.{AreNumbers, KeepNumbers}
+use Rattle.hierarchy.specs.MemberNumbers.{key_cmp, number_at, key_with, member_number, AreMemberNumbers, AddsMember}
 use Rattle.hierarchy.proofs.Guards.{TextNumbers}
 use Rattle.hierarchy.proofs.Names.{none_some, some_same}
 use Rattle.hierarchy.proofs.Spots.{kind_cmp, both_equal, equal_is, kinds_equal, kind_itself}

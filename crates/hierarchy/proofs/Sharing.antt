@@ -222,12 +222,6 @@ module _ (old : Versions) (from : ℕ) (node : Node) (good : AreVersions old) (t
   is_read : node ≡ node_at old.nodes.items from
   is_read = get_or_read old.nodes.items from node there read (record { value = 0; odd = 0; even = 0 })
 
-  pub odd_there : IsVersion old node.odd
-  odd_there = subst (λ (x : Node). IsVersion old x.odd) (sym is_read) (good.odd from there)
-
-  pub even_there : IsVersion old node.even
-  even_there = subst (λ (x : Node). IsVersion old x.even) (sym is_read) (good.even from there)
-
   -- one node down
   pub stepped : (next left value : ℕ) → 0 < left → next ≡ node_below node left → value_at old from left ≡ value → IsVersion old next × (value_at old next ((left - 1) / 2) ≡ value)
   stepped next left value some e h = (
@@ -246,17 +240,17 @@ module _ (old : Versions) (from : ℕ) (node : Node) (good : AreVersions old) (t
     pub new_at_top : index ≡ 0 → IfOk r (IsPushed old new (record { value = value; odd = node.odd; even = node.even })) → IfOk r (Puts old new from index value)
     new_at_top z h = IfOk-weaker r (IsPushed old new (record { value = value; odd = node.odd; even = node.even })) (Puts old new from index value)
         (λ made pushed. subst (λ i. Puts old new from i value made) (sym z) (put_here old old new from value made good there
-            (subst (λ (x : Node). IsPushed old new (record { value = value; odd = x.odd; even = x.even }) made) is_read pushed))) h
+        (subst (λ (x : Node). IsPushed old new (record { value = value; odd = x.odd; even = x.even }) made) is_read pushed))) h
 
     module _ (mid : Versions) (below : ℕ) (above : index ≡ 0 → ⊥) where
       pub new_in_odd : index % 2 ≡ 1 → Puts old mid node.odd ((index - 1) / 2) value below → IfOk r (IsPushed mid new (record { value = node.value; odd = below; even = node.even })) → IfOk r (Puts old new from index value)
       new_in_odd odd p h = IfOk-weaker r (IsPushed mid new (record { value = node.value; odd = below; even = node.even })) (Puts old new from index value)
           (λ made pushed. put_odd old mid new from value made good there index below (omega arith) odd
-              (subst (λ (x : Node). Puts old mid x.odd ((index - 1) / 2) value below) is_read p)
-              (subst (λ (x : Node). IsPushed mid new (record { value = x.value; odd = below; even = x.even }) made) is_read pushed)) h
+          (subst (λ (x : Node). Puts old mid x.odd ((index - 1) / 2) value below) is_read p)
+          (subst (λ (x : Node). IsPushed mid new (record { value = x.value; odd = below; even = x.even }) made) is_read pushed)) h
 
       pub new_in_even : (index % 2 ≡ 1 → ⊥) → Puts old mid node.even ((index - 1) / 2) value below → IfOk r (IsPushed mid new (record { value = node.value; odd = node.odd; even = below })) → IfOk r (Puts old new from index value)
       new_in_even even p h = IfOk-weaker r (IsPushed mid new (record { value = node.value; odd = node.odd; even = below })) (Puts old new from index value)
           (λ made pushed. put_even old mid new from value made good there index below (omega arith) even
-              (subst (λ (x : Node). Puts old mid x.even ((index - 1) / 2) value below) is_read p)
-              (subst (λ (x : Node). IsPushed mid new (record { value = x.value; odd = x.odd; even = below }) made) is_read pushed)) h
+          (subst (λ (x : Node). Puts old mid x.even ((index - 1) / 2) value below) is_read p)
+          (subst (λ (x : Node). IsPushed mid new (record { value = x.value; odd = x.odd; even = below }) made) is_read pushed)) h
