@@ -1,4 +1,4 @@
-"""Classes whose methods read protected fields of classes far above, with these, for `bench/hostile`."""
+"""Classes whose methods read protected fields of classes far above, with these, for `bench/hostile`: one judged beside known ones, or all in play."""
 import pathlib
 import struct
 
@@ -82,6 +82,27 @@ FILES = {
     "21,000 reads of a field of the last of 10,000 superclasses that declare 40 fields each": lambda: of_chain([b"x"], READS, OTHERS, [b"x"]),
     "16,000 reads of a field each of the last of 10,000 superclasses that declare 40 fields each": lambda: of_chain(numbered(b"x", FIELDS), FIELDS, OTHERS, numbered(b"x", FIELDS)),
     "13,000 reads of one field of a long name in a class of a long name, each by its own constants": of_long_names,
+}
+
+
+def asking(name, above, field):
+    """A class whose method reads a field of its superclass by this name, on null."""
+    code = on_null([BEHIND])
+    body = struct.pack(">HHI", 1, 1, len(code)) + code + bytes(4)
+    method = struct.pack(">HHHHHI", STATIC, NAME, DESCRIPTOR, 1, CODE, len(body)) + body
+    return class_file(name, above, [*OF_METHOD, indices(9, 3, BEHIND + 1), indices(12, BEHIND + 2, FIELD_TYPE), utf8(field)], methods=[method])
+
+
+def in_line(count, field):
+    """Classes in one line of superclasses, the lowest first, each of which asks the one above it for a field by a name of its own; the highest declares no field."""
+    names = [b"p%d/s%d" % (i % 2, i) for i in range(count)] + [b"java/lang/Object"]
+    return [asking(names[i], names[i + 1], field(i)) for i in range(count)]
+
+
+# classes that are in play with Object
+IN_PLAY = {
+    "8,000 classes in play in one line of superclasses, each of which reads a field of the one above it": lambda: in_line(8_000, lambda i: b"x"),
+    "30,000 classes in play in one line of superclasses, each of which reads another field of the one above it": lambda: in_line(30_000, lambda i: b"x%d" % i),
 }
 
 

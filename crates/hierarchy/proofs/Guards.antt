@@ -65,12 +65,12 @@ and_both true false c e = absurd (false≢true e)
 and_both false b c e = absurd (false≢true e)
 
 -- a member that is named has the kind, the name and the descriptor
-named_is : (r : MemberReference) (m : MemberFact) → is_named r m ≡ true → (r.kind ≡ m.kind) × (r.name ≡ m.name) × (r.descriptor ≡ m.descriptor)
+pub named_is : (r : MemberReference) (m : MemberFact) → is_named r m ≡ true → (r.kind ≡ m.kind) × (r.name ≡ m.name) × (r.descriptor ≡ m.descriptor)
 named_is r m e =
     let b = and_both (is_kind r.kind m.kind) (bytes_eq r.name m.name) (bytes_eq r.descriptor m.descriptor) e in
     (kinds_same r.kind m.kind b.0, (bytes_eq-Decides r.name m.name).0 b.1, (bytes_eq-Decides r.descriptor m.descriptor).0 b.2)
 
-is_named_by : (r : MemberReference) (m : MemberFact) → r.kind ≡ m.kind → r.name ≡ m.name → r.descriptor ≡ m.descriptor → is_named r m ≡ true
+pub is_named_by : (r : MemberReference) (m : MemberFact) → r.kind ≡ m.kind → r.name ≡ m.name → r.descriptor ≡ m.descriptor → is_named r m ≡ true
 is_named_by r m k n d = rw (ap (λ x. is_kind r.kind x) (sym k) ∙ kind_itself r.kind, (bytes_eq-Decides r.name m.name).1 n, (bytes_eq-Decides r.descriptor m.descriptor).1 d) refl
 
 module _ (numbers : TextNumbers) (class : List ℕ) (classes : List ClassFact) (c : ClassFact) (m : MemberFact) (ms : List MemberFact) (old : BTreeMap Spot Bool) where

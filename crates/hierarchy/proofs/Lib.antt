@@ -20,3 +20,7 @@ pub mod Guarding
 pub mod PlacesKept
 pub mod Sharing
 pub mod Numbering
+pub mod InOrder
+pub mod Descent
+pub mod Numbered
+pub mod Lookups

@@ -13,7 +13,7 @@ same_name : (a : List ℕ) → bytes_eq a a ≡ true
 same_name a = (bytes_eq-Decides a a).1 refl
 
 -- what is met on the way up is a chain
-met_chain : (world : World) (n : ℕ) (a b : List ℕ) → on_chain world n a b ≡ true → IsSubclassIn world a b
+pub met_chain : (world : World) (n : ℕ) (a b : List ℕ) → on_chain world n a b ≡ true → IsSubclassIn world a b
 met_chain world zero a b e = subst (IsSubclassIn world a) ((bytes_eq-Decides a b).0 e) same
 met_chain world (suc n) a b e = by (bytes_eq a b) refl (superclass_in world a) refl e (λ s. met_chain world n s b)
   where
@@ -31,7 +31,7 @@ or_left true u e = refl
 or_left false u e = absurd (false≢true e)
 
 -- a chain of at most so many steps is met on the way up
-chain_met : (classes : List ClassFact) (n : ℕ) (a b : List ℕ) → IsWithin classes n a b → on_chain (world_of classes) n a b ≡ true
+pub chain_met : (classes : List ClassFact) (n : ℕ) (a b : List ℕ) → IsWithin classes n a b → on_chain (world_of classes) n a b ≡ true
 chain_met classes zero a b here = same_name a
 chain_met classes (suc n) a b here = or_left (bytes_eq a a) (option_map_or (λ s. on_chain (world_of classes) n s a) (superclass_of classes a) false) (same_name a)
 chain_met classes (suc n) a b (up {s = s} e p) =

@@ -65,7 +65,7 @@ module _ (classes : List ClassFact) where
   pub found_own : (a : List ℕ) (c : ClassFact) → class_of classes a ≡ Some c → IsOwn c
   found_own a c e = ap (class_of classes) (named a c e) ∙ e
 
-  own_above : (c : ClassFact) → IsOwn c → superclass_in world c.name ≡ c.superclass
+  pub own_above : (c : ClassFact) → IsOwn c → superclass_in world c.name ≡ c.superclass
   own_above c e = ap (λ o. option_and_then (λ (e : Entry). e.superclass) (option_map entry_of o)) e
 
   pub none_upward : (n : ℕ) → upward classes n None ≡ []
@@ -177,7 +177,7 @@ module _ (classes : List ClassFact) where
         by (Some c) e f = (reached (suc (length classes)) p c d (found_own name c e) f).1
 
     -- the superclass of a class is in the list
-    super_there : (c : ClassFact) (s : List ℕ) → IsOwn c → c.superclass ≡ Some s → class_of classes s ≡ None → ⊥
+    pub super_there : (c : ClassFact) (s : List ℕ) → IsOwn c → c.superclass ≡ Some s → class_of classes s ≡ None → ⊥
     super_there c s e g n = h.rooted at.0 at.1 c at.2 (is_object, rw g n)
       where
         at : (k : ℕ) × (k < length classes) × (slice_get classes k ≡ Some c) × (c.name ≡ c.name)

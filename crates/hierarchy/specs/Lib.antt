@@ -15,3 +15,5 @@ pub mod Above
 pub mod Flags
 pub mod Versions
 pub mod MemberNumbers
+pub mod Ancestry
+pub mod Inheritance

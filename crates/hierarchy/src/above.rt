@@ -11,7 +11,7 @@ use std::alloc::{AllocError, Global};
 use std::collections::BTreeMap;
 
 /// The class directly above a class.
-fn class_above<'s, C: Classes>(classes: &'s C, class: &Summary<'_>) -> Option<&'s Summary<'s>>
+pub fn class_above<'s, C: Classes>(classes: &'s C, class: &Summary<'_>) -> Option<&'s Summary<'s>>
     ensures { option_map fact_of (option_copied result) ≡ class_above (C.content classes.now) (fact_of class.now) }
 {
     match class.superclass {

@@ -9,9 +9,10 @@ use crate::checked::checked_index;
 use crate::classes::Classes;
 use crate::fault::HierarchyFault;
 use crate::index::Index;
+use crate::nearest::MemberRef;
 use crate::places::short;
 use crate::summary::Summary;
-use std::alloc::Global;
+use std::alloc::{AllocError, Global};
 use std::hash::BuildHasher;
 use std::marker::Model;
 
@@ -83,5 +84,14 @@ impl<'s, 'a, S: BuildHasher> Classes for Chains<'s, 'a, S> {
         } else {
             Answer::No
         }
+    }
+
+    fn guarded_in_advance(
+        &self,
+        _alloc: Global,
+        _class: &[u8],
+        _references: &[MemberRef<'_>],
+    ) -> Result<Option<Vec<bool>>, AllocError> {
+        Ok(None)
     }
 }

@@ -64,6 +64,14 @@ fn summarise<'a>(
     Ok(())
 }
 
+/// The name of a class.
+pub fn name_of<'a>(formed: &Formed<'_, 'a>) -> &'a [u8]
+    ensures { result.now ≡ (summary_of (class_view formed.now.class.now)).name }
+{
+    let class = formed.class();
+    class_name_of(&class.constant_pool, class.this_class)
+}
+
 /// The summary of a class: its name, that of its superclass, whether it is an interface and final, and its fields and
 /// then its methods in the order of the file (JVMS 4.1, 4.5, 4.6). All texts are parts of the bytes of the class. The
 /// only refusal is want of memory.
@@ -76,7 +84,7 @@ pub fn summary_of<'a>(alloc: Global, formed: &Formed<'_, 'a>) -> Result<Summary<
     summarise(pool, Kind::Field, &class.fields, &mut members)?;
     summarise(pool, Kind::Method, &class.methods, &mut members)?;
     Ok(Summary {
-        name: class_name_of(pool, class.this_class),
+        name: name_of(formed),
         superclass: superclass_name(pool, class.super_class),
         interface: has(class.access_flags, INTERFACE),
         is_final: has(class.access_flags, FINAL),

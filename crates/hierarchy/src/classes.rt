@@ -1,16 +1,19 @@
 //! The questions that are asked of a set of classes, however it is kept.
-ghost use Rattle.std.specs.Prelude.{◌≡◌, List, option_map};
+ghost use Rattle.std.specs.Prelude.{◌≡◌, List, map, option_map, IfOk, IfSome};
 ghost use Rattle.std.specs.Option.{option_copied};
 ghost use Rattle.hierarchy.specs.Class.{ClassFact, class_of, interface_of};
+ghost use Rattle.hierarchy.specs.Nearest.{is_guarded};
 ghost use Rattle.hierarchy.specs.Places.{place_in};
-ghost use Rattle.hierarchy.specs.Summary.{fact_of};
+ghost use Rattle.hierarchy.specs.Summary.{fact_of, reference_of};
 ghost use Rattle.hierarchy.specs.Rules.{IsHierarchy};
 ghost use Rattle.hierarchy.specs.Answer.{SubclassAnswer, outcome_of};
 
 use crate::answer::Answer;
+use crate::nearest::MemberRef;
 use crate::summary::Summary;
+use std::alloc::{AllocError, Global};
 
-/// A set of classes without faults. Its content is a list of summaries, one for each name. No question takes memory.
+/// A set of classes without faults. Its content is a list of summaries, one for each name. No question but the last takes memory.
 pub trait Classes {
     /// The summaries.
     ghost content: { Self → List ClassFact };
@@ -32,4 +35,14 @@ pub trait Classes {
     /// otherwise whether `b` is on the chain of superclasses of `a` (JVMS 4.10.1.2).
     fn is_subclass<'n>(&self, a: &'n [u8], b: &'n [u8]) -> Answer<'n>
         ensures { SubclassAnswer (content self.now) a.now b.now (outcome_of result) };
+
+    /// The answers of [`guarded`](crate::guarded), where what the class of this name inherits was found in advance
+    /// ([`Prepared`](crate::Prepared)). This question alone takes memory, for its answers.
+    fn guarded_in_advance(
+        &self,
+        alloc: Global,
+        class: &[u8],
+        references: &[MemberRef<'_>],
+    ) -> Result<Option<Vec<bool>>, AllocError>
+        ensures { IfOk result (λ found. IfSome found (λ answers. answers.items ≡ map (λ r. is_guarded (content self.now) class.now (reference_of r)) references.now)) };
 }

@@ -21,14 +21,18 @@
 //! - `spot`: members by numbers of their texts, at a class above.
 //! - `starts`: where references begin to look for declarations.
 //! - `flags`: declarations of the classes above, and the first from a class upward.
+//! - `ancestry`: classes with all that stand above them, each behind its superclass.
 //! - `versions`: arrays of numbers whose versions share what is equal.
 //! - `member_key`: members by numbers of their texts.
-//! - `member_numbers`: numbers of members.
+//! - `member_numbers`: numbers of members, by kind, name and descriptor.
+//! - `inheritance`: what classes inherit, found for many at once.
+//! - `prepared`: classes with what some of them inherit.
 //! - `package`: packages of classes.
 //! - `laws`: what holds of faults, chains and worlds.
 #![tactic(auto)]
 
 mod above;
+mod ancestry;
 mod answer;
 mod chains;
 mod checked;
@@ -38,6 +42,7 @@ mod cycles;
 mod fault;
 mod flags;
 mod index;
+mod inheritance;
 mod jumps;
 pub mod laws;
 mod member_key;
@@ -45,6 +50,7 @@ mod member_numbers;
 mod nearest;
 mod package;
 mod places;
+mod prepared;
 mod row_table;
 mod rows;
 mod rules;
@@ -55,9 +61,10 @@ mod versions;
 
 pub use answer::Answer;
 pub use chains::Chains;
-pub use class_summary::summary_of;
+pub use class_summary::{name_of, summary_of};
 pub use classes::Classes;
 pub use fault::HierarchyFault;
 pub use nearest::{MemberRef, guarded};
+pub use prepared::Prepared;
 pub use rows::Rows;
 pub use summary::{Kind, MemberSummary, Summary};

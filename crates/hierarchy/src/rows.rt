@@ -14,6 +14,7 @@ use crate::classes::Classes;
 use crate::fault::HierarchyFault;
 use crate::index::Index;
 use crate::jumps::jumps_up;
+use crate::nearest::MemberRef;
 use crate::places::short;
 use crate::row_table::{RowTable, has_entry, rows_of};
 use crate::summary::Summary;
@@ -174,5 +175,14 @@ impl<'s, 'a, S: BuildHasher> Classes for Rows<'s, 'a, S> {
 
     fn is_subclass<'n>(&self, a: &'n [u8], b: &'n [u8]) -> Answer<'n> {
         self.climb(a, b).0
+    }
+
+    fn guarded_in_advance(
+        &self,
+        _alloc: Global,
+        _class: &[u8],
+        _references: &[MemberRef<'_>],
+    ) -> Result<Option<Vec<bool>>, AllocError> {
+        Ok(None)
     }
 }

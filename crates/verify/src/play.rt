@@ -14,7 +14,7 @@ use crate::met_names::MetNames;
 use crate::report::{MethodVerdict, Report, report_listed};
 use crate::verdict::Verdict;
 use classfile::Formed;
-use hierarchy::{Classes, summary_of};
+use hierarchy::{Classes, Prepared, name_of, summary_of};
 use std::alloc::{AllocError, AllocFailed, Global};
 use thiserror::Error;
 
@@ -167,8 +167,8 @@ fn judge<'a, C: Classes>(
     }
 }
 
-/// The reports on classes in play; or why there are none, with the verdict on a method that is refused.
-pub fn reports_in_play<'a, C: Classes>(
+/// The reports on classes in play, judged in turn; or why there are none, with the verdict on a method that is refused.
+fn reports_in_turn<'a, C: Classes>(
     alloc: Global,
     play: &[Formed<'_, 'a>],
     classes: &C,
@@ -185,6 +185,26 @@ pub fn reports_in_play<'a, C: Classes>(
         }
     }
     Ok(reports)
+}
+
+/// The names of classes.
+fn names_of<'a>(alloc: Global, play: &[Formed<'_, 'a>]) -> Result<Vec<&'a [u8]>, AllocError> {
+    play.iter().map(|formed| name_of(formed)).collect(alloc)
+}
+
+/// The reports on classes in play; or why there are none, with the verdict on a method that is refused. What the classes inherit is found for
+/// all of them before any is judged, so that none walks along its superclasses.
+pub fn reports_in_play<'a, C: Classes>(
+    alloc: Global,
+    play: &[Formed<'_, 'a>],
+    classes: &C,
+) -> Result<Vec<Report<'a>>, PlayStop<'a>>
+    ensures exactly { let cs = map (λ f. class_view f.class.now) play.now in MatchResult result (λ rs. ArePlayed (C.content classes.now) cs rs.items) (IsStopped (C.content classes.now) cs) }
+    ensures hierarchy { IfOk result (λ rs. 0 < length rs.items → IsHierarchy (C.content classes.now)) }
+{
+    let names = names_of(alloc, play)?;
+    let prepared = Prepared::new(alloc, classes, &names)?;
+    reports_in_turn(alloc, play, &prepared)
 }
 
 /// The fault of classes in play that have no reports.

@@ -7,7 +7,7 @@ use Rattle.classfile.proofs.Places.{viewed_at}
 use Rattle.verify.specs.Plays.{IsFine}
 use Rattle.verify.proofs.Named.{one_more_item}
 use Rattle.verify.proofs.Playing.{stopped}
-use Rattle.verify.proofs.play.reports_in_play.Goals as goal
+use Rattle.verify.proofs.play.reports_in_turn.Goals as goal
 
 pub loop-class-preserved : goal.loop-class-preserved
 loop-class-preserved g c =

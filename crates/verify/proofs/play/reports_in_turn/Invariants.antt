@@ -4,7 +4,7 @@ use Rattle.classfile.specs.Views.{class_view}
 use Rattle.hierarchy.specs.Rules.{IsHierarchy}
 use Rattle.verify.specs.Plays.{AreFine}
 use Rattle.verify.specs.PlaySteps.{AreMet}
-use Rattle.verify.proofs.play.reports_in_play.Given as goal
+use Rattle.verify.proofs.play.reports_in_turn.Given as goal
 
 abbrev pub invariant-loop-class : goal.invariant-loop-class
 invariant-loop-class g l =

@@ -4,7 +4,7 @@ use Rattle.hierarchy.specs.Flags.{first_flag}
 use Rattle.hierarchy.specs.Nearest.{is_guarded}
 use Rattle.hierarchy.specs.Summary.{reference_of}
 use Rattle.hierarchy.proofs.Guarding.{all_guards, all_told, as_many}
-use Rattle.hierarchy.proofs.nearest.guarded.Goals as goal
+use Rattle.hierarchy.proofs.nearest.guarded_by_walk.Goals as goal
 
 pub returns : goal.returns
 returns g c =

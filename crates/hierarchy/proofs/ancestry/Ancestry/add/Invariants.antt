@@ -1,0 +1,12 @@
+use Rattle.std.proofs.Common.{length}
+use Rattle.hierarchy.specs.Ancestry.{EndsBelow, IsAncestry, facts_at}
+use Rattle.hierarchy.proofs.ancestry.Ancestry.add.Given as goal
+
+abbrev pub invariant-loop-class : goal.invariant-loop-class
+invariant-loop-class g l = record {
+  good : IsAncestry (g.C.Classes.content l.classes) l.self;
+  way : EndsBelow (g.C.Classes.content l.classes) l.self (facts_at l.way.items);
+}
+
+abbrev pub decreases-loop-class : goal.decreases-loop-class
+decreases-loop-class g l = length l.way.items

@@ -1,0 +1,10 @@
+use Rattle.std.proofs.Common.{◌<◌, length}
+use Rattle.hierarchy.specs.Ancestry.{IsAncestry}
+use Rattle.hierarchy.specs.Rules.{IsHierarchy}
+use Rattle.hierarchy.proofs.ancestry.ancestry_of.Given as goal
+
+abbrev pub invariant-loop-name : goal.invariant-loop-name
+invariant-loop-name g l = record {
+  good : IsAncestry (g.C.Classes.content l.classes) l.ancestry;
+  formed : 0 < length l.ancestry.classes.items → IsHierarchy (g.C.Classes.content l.classes);
+}

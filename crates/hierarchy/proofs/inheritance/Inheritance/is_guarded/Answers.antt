@@ -1,0 +1,60 @@
+use Rattle.std.proofs.Common.{◌∙◌, arith, sym, subst}
+use Rattle.std.proofs.lemmas.Bool.{false≢true}
+use Rattle.hierarchy.specs.Ancestry.{facts_at}
+use Rattle.hierarchy.specs.Inheritance.{IsProtectedAt}
+use Rattle.hierarchy.specs.Summary.{reference_of}
+use Rattle.hierarchy.proofs.Lookups.{no_place, protected_some, start_apart, start_at, start_free, start_guarded, start_itself, within}
+use Rattle.hierarchy.proofs.inheritance.Inheritance.is_guarded.Goals.{then-start-class-via-then-start-class, then-start-class-via-else-start-class+then-not-is_below}
+use Rattle.hierarchy.proofs.inheritance.Inheritance.is_guarded.Goals as goal
+
+pub returns-in_default : goal.returns-in_default
+returns-in_default c classes a is at = no_place classes c.args.self.now is c.args.class a at (reference_of c.args.reference.now) (sym c.place.ensures ∙ c.in_default.is)
+
+pub returns-then-start-class : goal.returns-then-start-class
+returns-then-start-class c classes a is at =
+    let h = c.args.self.now in
+    let r = reference_of c.args.reference.now in
+    let found = sym c.place.ensures ∙ c.in-Some.is in
+    elim c.then-start-class.branch [
+      | then-start-class-via-then-start-class w ↦ start_itself classes h is c.args.class a at r c.in-Some.start found w.if-start-class.true
+      | then-start-class-via-else-start-class+then-not-is_below w ↦
+          let d = start_at classes h is c.args.class a at r c.in-Some.start found in
+          start_apart classes h is c.args.class a at r c.in-Some.start found
+          (λ sub. false≢true (sym w.if-not-is_below.true ∙ (w.is_below.ensures classes a d.0 is at d.1).1 sub))
+    ]
+
+pub protected_in-requires-clause-there : goal.protected_in-requires-clause-there
+protected_in-requires-clause-there c =
+    let at = c.requires.good.1.ancestry.places.leads c.args.reference.now.class.now c.in-Some.start (sym c.place.ensures ∙ c.in-Some.is) in
+    within c.requires.good.0 c.args.self.now c.requires.good.1 c.in-Some.start at.0 at.1
+
+pub index-requires : goal.index-requires
+index-requires c =
+    let classes = c.requires.good.0 in
+    let h = c.args.self.now in
+    let r = reference_of c.args.reference.now in
+    let at = c.requires.good.1.ancestry.places.leads r.class c.in-Some.start (sym c.place.ensures ∙ c.in-Some.is) in
+    let told = subst (IsProtectedAt classes (facts_at h.ancestry.classes.items) r at.0.name) c.in-Some-protected_in.is (c.protected_in.ensures classes at.0 c.requires.good.1 at.1) in
+    let d = protected_some classes (facts_at h.ancestry.classes.items) r at.0.name c.in-Some-protected_in.place told in
+    let lt = within classes h c.requires.good.1 c.in-Some-protected_in.place d.0.class d.1 in
+    omega (arith, lt, h.table.of.ok)
+
+pub returns-in-None : goal.returns-in-None
+returns-in-None c classes a is at =
+    let h = c.args.self.now in
+    let r = reference_of c.args.reference.now in
+    let found = sym c.place.ensures ∙ c.in-Some.is in
+    let d = start_at classes h is c.args.class a at r c.in-Some.start found in
+    start_free classes h is c.args.class a at r c.in-Some.start found
+    (subst (IsProtectedAt classes (facts_at h.ancestry.classes.items) r d.0.name) c.in-None.is (c.protected_in.ensures classes d.0 is d.1))
+
+pub returns-in-Some-protected_in : goal.returns-in-Some-protected_in
+returns-in-Some-protected_in c classes a is at =
+    let h = c.args.self.now in
+    let r = reference_of c.args.reference.now in
+    let found = sym c.place.ensures ∙ c.in-Some.is in
+    let d = start_at classes h is c.args.class a at r c.in-Some.start found in
+    start_guarded classes h is c.args.class a at r c.in-Some.start found c.if-start-class.false
+    ((c.is_below.ensures classes a d.0 is at d.1).0 c.if-not-is_below.false) c.in-Some-protected_in.place
+    (subst (IsProtectedAt classes (facts_at h.ancestry.classes.items) r d.0.name) c.in-Some-protected_in.is (c.protected_in.ensures classes d.0 is d.1))
+    c.index-in-Some-protected_in.result.now c.index.result.now c.requires.there c.index-in-Some-protected_in.ensures c.index.ensures

@@ -1,0 +1,51 @@
+use Rattle.std.proofs.Common.{◌≡◌, ◌∙◌, ◌+◌, suc, map, Some, ap, option_map, refl, sym, subst, arith, slice_get}
+use Rattle.std.specs.Borrow.{Bor}
+use Rattle.std.proofs.lemmas.Option.{slice_get-map}
+use Rattle.hierarchy.specs.declared.summary.Summary.{Summary}
+use Rattle.hierarchy.specs.Ancestry.{facts_at}
+use Rattle.hierarchy.specs.Above.{number_of}
+use Rattle.hierarchy.specs.Inheritance.{Declares}
+use Rattle.hierarchy.specs.Summary.{fact_of, member_of}
+use Rattle.hierarchy.proofs.Descent.{chain_there, inherit_next, members_there}
+use Rattle.hierarchy.proofs.InOrder.{read_at}
+use Rattle.hierarchy.proofs.inheritance.InheritanceTable.next.Goals as goal
+
+pub put-requires-clause-there : goal.put-requires-clause-there
+put-requires-clause-there g c =
+    let classes = g.C.Classes.content c.args.classes.now in
+    let a = c.args.ancestry.now in
+    let was = c.args.self.now in
+    let s = c.index-class.result.now in
+    let read = read_at a.classes.items c.len-place.result s (omega (arith, c.requires.left, c.len-place.ensures)) c.index-class.ensures in
+    let at : slice_get (facts_at a.classes.items) c.len-place.result ≡ Some (fact_of s.now) = slice_get-map (λ (s : Bor Summary). fact_of s.now) a.classes.items c.len-place.result ∙ ap (option_map (λ (s : Bor Summary). fact_of s.now)) read in
+    chain_there classes (facts_at a.classes.items) a refl c.requires.good c.args.numbers.now c.len-place.result (fact_of s.now) at was.versions was.versions was.versions was.packages was.packages was.of.items
+    c.requires.begun c.above-above.result (c.above-above.ensures c.args.numbers.now c.requires.begun)
+
+pub declare-requires-clause-there : goal.declare-requires-clause-there
+declare-requires-clause-there g c =
+    let classes = g.C.Classes.content c.args.classes.now in
+    let a = c.args.ancestry.now in
+    let was = c.args.self.now in
+    let s = c.index-class.result.now in
+    let read = read_at a.classes.items c.len-place.result s (omega (arith, c.requires.left, c.len-place.ensures)) c.index-class.ensures in
+    let at : slice_get (facts_at a.classes.items) c.len-place.result ≡ Some (fact_of s.now) = slice_get-map (λ (s : Bor Summary). fact_of s.now) a.classes.items c.len-place.result ∙ ap (option_map (λ (s : Bor Summary). fact_of s.now)) read in
+    c.in_ok-ancestors.ensures.puts.stays c.above-above.result.members
+    (members_there classes (facts_at a.classes.items) a refl c.requires.good c.args.numbers.now c.len-place.result (fact_of s.now) at was.versions was.versions was.versions was.packages was.packages was.of.items
+    c.requires.begun c.above-above.result (c.above-above.ensures c.args.numbers.now c.requires.begun))
+
+pub returns-clause-begun : goal.returns-clause-begun
+returns-clause-begun g c =
+    let classes = g.C.Classes.content c.args.classes.now in
+    let a = c.args.ancestry.now in
+    let was = c.args.self.now in
+    let s = c.index-class.result.now in
+    let place = c.len-place.result in
+    let read = read_at a.classes.items place s (omega (arith, c.requires.left, c.len-place.ensures)) c.index-class.ensures in
+    let at : slice_get (facts_at a.classes.items) place ≡ Some (fact_of s.now) = slice_get-map (λ (s : Bor Summary). fact_of s.now) a.classes.items place ∙ ap (option_map (λ (s : Bor Summary). fact_of s.now)) read in
+    let number = c.in_ok-package_number.ensures in
+    let next : place + 1 ≡ suc place = omega arith in
+    inherit_next classes (facts_at a.classes.items) a refl c.requires.good c.args.numbers.now place (fact_of s.now) at was.versions c.put.new.self c.declare.new.versions was.packages c.number_of.new.numbers was.of.items
+    c.requires.begun c.above-above.result (c.above-above.ensures c.args.numbers.now c.requires.begun) c.in_ok-ancestors.ancestors c.in_ok-members.members c.in_ok-package_number.package_number
+    c.in_ok-ancestors.ensures.puts
+    (subst (λ n. Declares c.args.numbers.now c.put.new.self c.declare.new.versions (map member_of s.now.members.items) n c.above-above.result.members c.in_ok-members.members) next c.in_ok-members.ensures)
+    number.kept (ap (number_of c.number_of.new.numbers) (sym c.package_of.ensures) ∙ number.here) number.good c.push.new.self.items (omega (arith, c.len-place.ensures)) c.in_ok-push.ensures.items

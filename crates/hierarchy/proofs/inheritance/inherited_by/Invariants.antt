@@ -1,0 +1,13 @@
+use Rattle.std.proofs.Common.{◌≤◌, ◌-◌, length}
+use Rattle.hierarchy.specs.Ancestry.{facts_at}
+use Rattle.hierarchy.specs.Inheritance.{InheritSoFar}
+use Rattle.hierarchy.proofs.inheritance.inherited_by.Given as goal
+
+abbrev pub invariant-loop-table : goal.invariant-loop-table
+invariant-loop-table g l = record {
+  begun : InheritSoFar (g.C.Classes.content l.classes) (facts_at l.ancestry.classes.items) l.numbers l.table.versions l.table.packages l.table.of.items;
+  few : length l.table.of.items ≤ length l.ancestry.classes.items;
+}
+
+abbrev pub decreases-loop-table : goal.decreases-loop-table
+decreases-loop-table g l = length l.ancestry.classes.items - length l.table.of.items

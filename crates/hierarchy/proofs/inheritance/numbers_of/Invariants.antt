@@ -1,0 +1,11 @@
+use Rattle.std.proofs.Common.{take}
+use Rattle.hierarchy.specs.Ancestry.{facts_at}
+use Rattle.hierarchy.specs.Inheritance.{NumberAll}
+use Rattle.hierarchy.specs.MemberNumbers.{AreMemberNumbers}
+use Rattle.hierarchy.proofs.inheritance.numbers_of.Given as goal
+
+abbrev pub invariant-loop-place : goal.invariant-loop-place
+invariant-loop-place l = record {
+  good : AreMemberNumbers l.numbers;
+  numbered : NumberAll l.numbers (facts_at (take l.place l.ancestry.classes.items));
+}

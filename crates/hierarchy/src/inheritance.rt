@@ -1,0 +1,294 @@
+//! What classes inherit, found for many at once.
+ghost use Rattle.std.specs.Prelude.{◌≡◌, ◌<◌, ◌↔◌, ◌+◌, List, [], length, map, slice_get, Some, IfOk, OnOk, IsTrue};
+ghost use Rattle.hierarchy.specs.Above.{class_above, number_of};
+ghost use Rattle.hierarchy.specs.Ancestry.{IsAncestry, facts_at};
+ghost use Rattle.hierarchy.specs.Class.{ClassFact, IsSubclass};
+ghost use Rattle.hierarchy.specs.Inheritance.{Declares, HaveNumbers, InheritSoFar, InheritsAny, IsInheritance, IsProtectedAt, KeepMembers, NumberAll};
+ghost use Rattle.hierarchy.specs.MemberNumbers.{AreMemberNumbers};
+ghost use Rattle.hierarchy.specs.Nearest.{is_guarded};
+ghost use Rattle.hierarchy.specs.declared.member_numbers.MemberNumbers.{MemberNumbers};
+ghost use Rattle.hierarchy.specs.Rules.{IsHierarchy};
+ghost use Rattle.hierarchy.specs.Summary.{fact_of, member_of, reference_of};
+ghost use Rattle.hierarchy.specs.Versions.{AreVersions, IsVersion};
+
+use crate::above::class_above;
+use crate::ancestry::{Ancestry, ancestry_of};
+use crate::classes::Classes;
+use crate::member_numbers::MemberNumbers;
+use crate::nearest::MemberRef;
+use crate::package::package_of;
+use crate::starts::number_of;
+use crate::summary::Summary;
+use crate::versions::Versions;
+use std::alloc::{AllocError, Global};
+use std::collections::BTreeMap;
+
+/// What one class inherits.
+#[derive(Clone, Copy)]
+pub struct Inherited {
+    // The version that has 1 at the place of each class that is this one or stands above it.
+    ancestors: usize,
+    // The version that has at the number of a member the place, from 1, of the class with the nearest declaration, where that is protected.
+    members: usize,
+    // The number of its package.
+    package_number: usize,
+}
+
+/// What classes inherit: which classes stand above each, and the nearest declarations of protected members.
+///
+/// The time and the memory are those of the classes and their members, times a logarithm, however long the chains of superclasses are.
+#[derive(Drop)]
+pub struct Inheritance<'k> {
+    ancestry: Ancestry<'k>,
+    numbers: MemberNumbers<'k>,
+    table: InheritanceTable<'k>,
+}
+
+/// What the classes of an ancestry inherit, so far.
+#[derive(Drop)]
+pub struct InheritanceTable<'k> {
+    versions: Versions,
+    packages: BTreeMap<&'k [u8], usize>,
+    of: Vec<Inherited>,
+}
+
+/// Gives numbers to the protected members of a class.
+fn number_members<'k>(
+    numbers: &mut MemberNumbers<'k>,
+    class: &Summary<'k>,
+) -> Result<(), AllocError>
+    requires { AreMemberNumbers numbers.old }
+    ensures good { OnOk result (AreMemberNumbers numbers.new) }
+    ensures numbered { OnOk result (HaveNumbers numbers.new (map member_of class.now.members.items)) }
+    ensures kept { OnOk result (KeepMembers numbers.old numbers.new) }
+{
+    for member in &class.members {
+        if member.is_protected {
+            numbers.add(member)?;
+        }
+    }
+    Ok(())
+}
+
+/// The numbers of the protected members of classes.
+fn numbers_of<'k>(alloc: Global, ancestry: &Ancestry<'k>) -> Result<MemberNumbers<'k>, AllocError>
+    ensures good { IfOk result AreMemberNumbers }
+    ensures numbered { IfOk result (λ numbers. NumberAll numbers (facts_at ancestry.now.classes.items)) }
+{
+    let mut numbers = MemberNumbers::new(alloc);
+    for place in 0..ancestry.classes.len() {
+        number_members(&mut numbers, ancestry.classes[place])?;
+    }
+    Ok(numbers)
+}
+
+/// The version of the members of a class, over that of its superclass. From the last member to the first, so that the first of several counts.
+fn declare(
+    versions: &mut Versions,
+    numbers: &MemberNumbers<'_>,
+    class: &Summary<'_>,
+    own: usize,
+    above: usize,
+) -> Result<usize, AllocError>
+    requires numbers { AreMemberNumbers numbers.now }
+    requires good { AreVersions versions.old }
+    requires there { IsVersion versions.old above }
+    ensures { IfOk result (Declares numbers.now versions.old versions.new (map member_of class.now.members.items) own above) }
+{
+    let mut version = above;
+    let mut left = class.members.len();
+    while left > 0 {
+        left -= 1;
+        let member = &class.members[left];
+        if let Some(number) = numbers.get(member.kind, member.name, member.descriptor) {
+            let value = if member.is_protected { own } else { 0 };
+            version = versions.put(version, number, value)?;
+        }
+    }
+    Ok(version)
+}
+
+impl<'k> InheritanceTable<'k> {
+    /// No class.
+    fn new(alloc: Global) -> Result<InheritanceTable<'k>, AllocError>
+        ensures begun { IfOk result (λ i. (classes all : List ClassFact) (numbers : MemberNumbers) → InheritSoFar classes all numbers i.versions i.packages i.of.items) }
+        ensures none { IfOk result (λ i. i.of.items ≡ []) }
+    {
+        Ok(InheritanceTable {
+            versions: Versions::new(alloc)?,
+            packages: BTreeMap::new(alloc),
+            of: Vec::new(alloc),
+        })
+    }
+
+    /// What the class directly above the next class of an ancestry inherits.
+    fn above<C: Classes>(
+        &self,
+        classes: &C,
+        ancestry: &Ancestry<'k>,
+        class: &Summary<'k>,
+    ) -> Inherited
+        requires good { IsAncestry (C.content classes.now) ancestry.now }
+        requires next { slice_get (facts_at ancestry.now.classes.items) (length self.now.of.items) ≡ Some (fact_of class.now) }
+        ensures { (numbers : MemberNumbers) → InheritSoFar (C.content classes.now) (facts_at ancestry.now.classes.items) numbers self.now.versions self.now.packages self.now.of.items
+            → InheritsAny (C.content classes.now) (facts_at ancestry.now.classes.items) numbers self.now.versions self.now.packages (class_above (C.content classes.now) (fact_of class.now)) result }
+    {
+        let nothing = Inherited {
+            ancestors: 0,
+            members: 0,
+            package_number: 0,
+        };
+        let Some(above) = class_above(classes, class) else {
+            return nothing;
+        };
+        match ancestry.place(above.name) {
+            None => nothing,
+            Some(place) => self.of[place],
+        }
+    }
+
+    /// Adds what the next class of an ancestry inherits.
+    fn next<C: Classes>(
+        &mut self,
+        classes: &C,
+        ancestry: &Ancestry<'k>,
+        numbers: &MemberNumbers<'k>,
+    ) -> Result<(), AllocError>
+        requires formed { IsHierarchy (C.content classes.now) }
+        requires good { IsAncestry (C.content classes.now) ancestry.now }
+        requires numbers { AreMemberNumbers numbers.now }
+        requires left { length self.old.of.items < length ancestry.now.classes.items }
+        requires begun { InheritSoFar (C.content classes.now) (facts_at ancestry.now.classes.items) numbers.now self.old.versions self.old.packages self.old.of.items }
+        ensures begun { OnOk result (InheritSoFar (C.content classes.now) (facts_at ancestry.now.classes.items) numbers.now self.new.versions self.new.packages self.new.of.items) }
+        ensures more { OnOk result (length self.new.of.items ≡ length self.old.of.items + 1) }
+    {
+        let place = self.of.len();
+        let class = ancestry.classes[place];
+        let above = self.above(classes, ancestry, class);
+        let ancestors = self.versions.put(above.ancestors, place, 1)?;
+        let members = declare(&mut self.versions, numbers, class, place + 1, above.members)?;
+        let package_number = number_of(&mut self.packages, package_of(class.name))?;
+        self.of.push(Inherited {
+            ancestors,
+            members,
+            package_number,
+        })?;
+        Ok(())
+    }
+}
+
+/// What the classes of an ancestry inherit.
+fn inherited_by<'k, C: Classes>(
+    alloc: Global,
+    classes: &C,
+    ancestry: &Ancestry<'k>,
+    numbers: &MemberNumbers<'k>,
+) -> Result<InheritanceTable<'k>, AllocError>
+    requires formed { 0 < length ancestry.now.classes.items → IsHierarchy (C.content classes.now) }
+    requires good { IsAncestry (C.content classes.now) ancestry.now }
+    requires numbers { AreMemberNumbers numbers.now }
+    ensures all { IfOk result (λ i. InheritSoFar (C.content classes.now) (facts_at ancestry.now.classes.items) numbers.now i.versions i.packages i.of.items) }
+    ensures as_many { IfOk result (λ i. length i.of.items ≡ length ancestry.now.classes.items) }
+{
+    let mut table = InheritanceTable::new(alloc)?;
+    while table.of.len() < ancestry.classes.len() {
+        table.next(classes, ancestry, numbers)?;
+    }
+    Ok(table)
+}
+
+impl<'k> Inheritance<'k> {
+    /// What the classes of these names inherit, with all that stand above them. The only refusal is want of memory.
+    pub fn new<C: Classes>(
+        alloc: Global,
+        classes: &'k C,
+        names: &[&[u8]],
+    ) -> Result<Inheritance<'k>, AllocError>
+        ensures { IfOk result (IsInheritance (C.content classes.now)) }
+    {
+        let ancestry = ancestry_of(alloc, classes, names)?;
+        let numbers = numbers_of(alloc, &ancestry)?;
+        let table = inherited_by(alloc, classes, &ancestry, &numbers)?;
+        Ok(Inheritance {
+            ancestry,
+            numbers,
+            table,
+        })
+    }
+
+    /// The place of the class of this name.
+    pub fn place(&self, name: &[u8]) -> Option<usize>
+        ensures { result ≡ number_of self.now.ancestry.places name.now }
+    {
+        self.ancestry.place(name)
+    }
+
+    /// Whether the class at a place is another one or stands below it.
+    fn is_below(&self, class: usize, other: usize) -> bool
+        requires good { (classes : List ClassFact) × IsInheritance classes self.now }
+        requires there { class < length self.now.table.of.items }
+        ensures { (classes : List ClassFact) (c d : ClassFact) → IsInheritance classes self.now → slice_get (facts_at self.now.ancestry.classes.items) class ≡ Some c
+            → slice_get (facts_at self.now.ancestry.classes.items) other ≡ Some d → IsTrue result ↔ IsSubclass classes c.name d.name }
+    {
+        self.table
+            .versions
+            .get(self.table.of[class].ancestors, other)
+            != 0
+    }
+
+    /// The place of the class with the nearest declaration from the class at a place upward, where that is protected.
+    fn protected_in(&self, class: usize, reference: &MemberRef<'_>) -> Option<usize>
+        requires good { (classes : List ClassFact) × IsInheritance classes self.now }
+        requires there { class < length self.now.table.of.items }
+        ensures { (classes : List ClassFact) (c : ClassFact) → IsInheritance classes self.now → slice_get (facts_at self.now.ancestry.classes.items) class ≡ Some c
+            → IsProtectedAt classes (facts_at self.now.ancestry.classes.items) (reference_of reference.now) c.name result }
+    {
+        let number = self
+            .numbers
+            .get(reference.kind, reference.name, reference.descriptor)?;
+        let place = self
+            .table
+            .versions
+            .get(self.table.of[class].members, number);
+        if place == 0 { None } else { Some(place - 1) }
+    }
+
+    /// Whether the class at a place may use the member that a reference asks for on objects of its own alone.
+    fn is_guarded(&self, class: usize, reference: &MemberRef<'_>) -> bool
+        requires good { (classes : List ClassFact) × IsInheritance classes self.now }
+        requires there { class < length self.now.table.of.items }
+        ensures { (classes : List ClassFact) (c : ClassFact) → IsInheritance classes self.now → slice_get (facts_at self.now.ancestry.classes.items) class ≡ Some c
+            → result ≡ is_guarded classes c.name (reference_of reference.now) }
+    {
+        let Some(start) = self.place(reference.class) else {
+            return false;
+        };
+        if start == class || !self.is_below(class, start) {
+            return false;
+        }
+        match self.protected_in(start, reference) {
+            None => false,
+            Some(place) => self.table.of[place].package_number
+                != self.table.of[class].package_number,
+        }
+    }
+
+    /// For each reference whether the class at a place may use the member on objects of its own alone.
+    pub fn guarded(
+        &self,
+        alloc: Global,
+        class: usize,
+        references: &[MemberRef<'_>],
+    ) -> Result<Vec<bool>, AllocError>
+        requires good { (classes : List ClassFact) × IsInheritance classes self.now }
+        requires there { class < length self.now.table.of.items }
+        ensures { IfOk result (λ answers. (classes : List ClassFact) (c : ClassFact) → IsInheritance classes self.now
+            → slice_get (facts_at self.now.ancestry.classes.items) class ≡ Some c → answers.items ≡ map (λ r. is_guarded classes c.name (reference_of r)) references.now) }
+    {
+        let mut answers = Vec::with_capacity(alloc, references.len())?;
+        for reference in references {
+            answers.push(self.is_guarded(class, reference))?;
+        }
+        Ok(answers)
+    }
+}
