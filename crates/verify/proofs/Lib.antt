@@ -35,3 +35,4 @@ pub mod Named
 pub mod Formed
 pub mod Playing
 pub mod FilesInPlay
+pub mod Walking

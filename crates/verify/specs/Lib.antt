@@ -6,6 +6,7 @@ pub mod ClassRunSafety
 pub mod ClassRunBreadth
 pub mod Plays
 pub mod PlaySteps
+pub mod VerifiedWalks
 pub mod MetNames
 pub mod Together
 pub mod TogetherSteps

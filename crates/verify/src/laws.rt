@@ -5,6 +5,7 @@ ghost use Rattle.verify.specs.FitsBreadth.{FitsBreadth};
 ghost use Rattle.verify.specs.ClassRunBreadth.{ClassRunBreadth};
 ghost use Rattle.verify.specs.OneVerdict.{OneVerdict, OneReport};
 ghost use Rattle.verify.specs.VerdictLaws.{TypeSafeIsVerified, VerifiedIsTypeSafe};
+ghost use Rattle.verify.specs.VerifiedWalks.{WalksAreRuns};
 
 use machine::laws::step_breadth;
 
@@ -52,6 +53,11 @@ pub fn one_report()
 /// In the machine a type takes all values that the verifier lets it take: null, and what is of a type that is assignable to it.
 pub fn fits_breadth()
     ensures { FitsBreadth }
+{}
+
+/// Each state that a walk reaches is one of a run, where the method begins in its first state.
+pub fn walks_are_runs()
+    ensures { WalksAreRuns }
 {}
 
 /// A run through the methods of classes in play begins in each of them. It goes on by each step of its last activation; by each call into each

@@ -19,8 +19,9 @@
 //! - `stack_maps`: the frames that a stack map declares.
 //! - `theorem`: type-safe methods are safe, one by one and where calls enter them.
 //! - `play`: the reports on classes whose methods may call each other; `met_names`: the names of those that were met.
+//! - `verified_walk`: walks of the machine through methods that are verified.
 //! - `laws`: the verdict on a method is verified exactly where it is type-safe, there is one, what a refusal says and which
-//!   condition its number stands for, and that in the machine a type takes what the verifier lets it take.
+//!   condition its number stands for, that in the machine a type takes what the verifier lets it take, and that walks are runs.
 #![tactic(auto)]
 
 mod among;
@@ -46,12 +47,13 @@ mod stack_maps;
 mod theorem;
 mod together;
 mod verdict;
+mod verified_walk;
 
 pub use among::{AmongFault, verify_among};
 pub use files::{FileFault, FileRead, class_file};
 pub use laws::{
     class_run_breadth, fits_breadth, map_refused_where, one_report, one_verdict, refused_breaks,
-    refused_where, type_safe_is_verified, verified_is_type_safe,
+    refused_where, type_safe_is_verified, verified_is_type_safe, walks_are_runs,
 };
 pub use method::verify_method;
 pub use play::{PlayFault, PlayRule, verify_play};
@@ -59,3 +61,4 @@ pub use report::{ClassFault, MethodVerdict, Report, verify_class, verify_methods
 pub use theorem::{type_safe_is_safe, verified_is_playable};
 pub use together::{TogetherFault, verify_together};
 pub use verdict::{Verdict, VerifyFault};
+pub use verified_walk::{WalkFault, walk_verified};
