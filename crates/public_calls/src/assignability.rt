@@ -12,6 +12,7 @@ fn laws_are_called() {
     laws::types_mean();
     laws::frames_have_one_answer();
     laws::frames_to_themselves();
+    laws::forms_agree();
 }
 
 const A: VType<'static> = VType::Class(b"A");

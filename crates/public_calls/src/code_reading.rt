@@ -1,7 +1,7 @@
 use insn::{
-    Act, CodeFault, Insn, Instructions, Kind, Opcode, act, code_is_one_list, decode_code, is_start,
-    list_is_one_code, mnemonic, opcodes_have_numbers, read_insn, read_is_written,
-    readings_are_spellings, written_is_read,
+    Act, CodeFault, Insn, Instructions, Kind, Opcode, act, code_is_one_list, decode_code,
+    forms_move_units, is_start, kinds_and_arrays, list_is_one_code, mnemonic, opcodes_have_numbers,
+    read_insn, read_is_written, readings_are_spellings, written_is_read,
 };
 use layout::{Cursor, MAX_CODE_BYTES};
 use std::alloc::Global;
@@ -16,6 +16,8 @@ fn laws_are_called() {
     list_is_one_code();
     written_is_read();
     read_is_written();
+    kinds_and_arrays();
+    forms_move_units();
 }
 
 /// Whether the item is a load of local variable 1 at this offset.

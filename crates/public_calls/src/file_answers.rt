@@ -1,17 +1,10 @@
 //! The answer of each command on files, read or not, and how much of it a writer takes that fails.
-use crate::making::{K, hasher};
+use crate::making::{K, O, hasher};
 use answers::{AnswerFault, Command, answer, one_answer};
 use layout::{ReadFault, StreamFault};
 use std::alloc::{AllocError, Global};
 use std::io::{self, Write};
 use std::test::*;
-
-/// The class file of `java/lang/Object`, without members.
-const O: [u8; 46] = [
-    0xCA, 0xFE, 0xBA, 0xBE, 0, 0, 0, 0x34, 0, 3, 7, 0, 2, 1, 0, 0x10, 0x6A, 0x61, 0x76, 0x61, 0x2F,
-    0x6C, 0x61, 0x6E, 0x67, 0x2F, 0x4F, 0x62, 0x6A, 0x65, 0x63, 0x74, 0, 0x21, 0, 1, 0, 0, 0, 0, 0,
-    0, 0, 0, 0, 0,
-];
 
 /// A file as it was read.
 type Read = Result<Vec<u8>, StreamFault>;

@@ -1,8 +1,8 @@
 //! Single instructions of an instance initialization method.
-use crate::making::{OUT_OF_MEMORY, frame, hasher, object, summary};
+use crate::making::{OUT_OF_MEMORY, frame, hasher, object, object_with_clone, summary};
 use classfile::{ClassFile, Formed, decode, form_check};
 use frames::{Frame, VType};
-use hierarchy::{Classes, MemberSummary, Rows};
+use hierarchy::{Classes, Rows};
 use insn::{Act, Branches, Insn, Kind, decode_code};
 use layout::MAX_CODE_BYTES;
 use names::{Base, OBJECT};
@@ -23,7 +23,7 @@ const INIT: [u8; 102] = [
 ];
 
 /// The class file of K with the constants 8 and 9 for Object's `<init>`, and a method that calls that.
-const CONSTRUCTING: [u8; 114] = [
+pub const CONSTRUCTING: [u8; 114] = [
     0xCA, 0xFE, 0xBA, 0xBE, 0, 0, 0, 0x34, 0, 10, 7, 0, 2, 1, 0, 1, 0x4B, 7, 0, 4, 1, 0, 0x10,
     0x6A, 0x61, 0x76, 0x61, 0x2F, 0x6C, 0x61, 0x6E, 0x67, 0x2F, 0x4F, 0x62, 0x6A, 0x65, 0x63, 0x74,
     1, 0, 6, 0x3C, 0x69, 0x6E, 0x69, 0x74, 0x3E, 1, 0, 3, 0x28, 0x29, 0x56, 1, 0, 4, 0x43, 0x6F,
@@ -32,7 +32,7 @@ const CONSTRUCTING: [u8; 114] = [
 ];
 
 /// The class file of K with the constant 11 for Object's `clone`, and a method that calls that.
-const CLONING: [u8; 145] = [
+pub const CLONING: [u8; 145] = [
     0xCA, 0xFE, 0xBA, 0xBE, 0, 0, 0, 0x34, 0, 12, 7, 0, 2, 1, 0, 1, 0x4B, 7, 0, 4, 1, 0, 0x10,
     0x6A, 0x61, 0x76, 0x61, 0x2F, 0x6C, 0x61, 0x6E, 0x67, 0x2F, 0x4F, 0x62, 0x6A, 0x65, 0x63, 0x74,
     1, 0, 6, 0x3C, 0x69, 0x6E, 0x69, 0x74, 0x3E, 1, 0, 3, 0x28, 0x29, 0x56, 1, 0, 4, 0x43, 0x6F,
@@ -100,17 +100,9 @@ fn judge_of<'a>(alloc: Global, formed: &Formed<'_, 'a>, frame: &Frame<'a>) -> Ju
 
 /// The outcome of the rule where Object has the method `clone`, which is protected, and K and A are below it.
 fn judge_cloning<'a>(alloc: Global, formed: &Formed<'_, 'a>, frame: &Frame<'a>) -> Judged<'a> {
-    let mut above = object(alloc);
-    let clone = MemberSummary {
-        name: b"clone",
-        descriptor: b"()Ljava/lang/Object;",
-        kind: hierarchy::Kind::Method,
-        is_static: false,
-        is_protected: true,
-    };
-    if above.members.push(clone).is_err() {
+    let Ok(above) = object_with_clone(alloc) else {
         return Err(OUT_OF_MEMORY);
-    }
+    };
     let list = [
         above,
         summary(alloc, b"K", Some(OBJECT), false),

@@ -18,8 +18,11 @@
 //! | `packed_frames` | `frames`: types as slots, and frames compared by them |
 //! | `stack_maps`, `declared_frames` | `frames`: stack maps both ways, and the frames that they declare |
 //! | `instruction_rules` | `rules`: single instructions |
+//! | `instructions_in_place` | `rules`: instructions on a frame in place, the members that they name, and reasons taken together |
 //! | `machine_steps`, `object_steps` | `machine`: single steps |
+//! | `walks` | `machine`: steps by a list of choices, and beginnings |
 //! | `verdicts` | `verify`: verdicts and reports |
+//! | `verified_files` | `verify`: verdicts on the classes that files are, alone, among known ones and in play |
 //! | `classes_in_play` | `verify`: reports on classes that run together |
 //! | `printed_text` | `printing`: texts of class files, names and faults |
 //! | `file_answers` | `answers`: what each command answers of files, read or not |
@@ -63,6 +66,8 @@ mod guarded_members;
 #[cfg(test)]
 mod instruction_rules;
 #[cfg(test)]
+mod instructions_in_place;
+#[cfg(test)]
 mod machine_steps;
 #[cfg(test)]
 mod making;
@@ -86,5 +91,7 @@ mod superclasses;
 mod texts;
 #[cfg(test)]
 mod verdicts;
+#[cfg(test)]
+mod verified_files;
 #[cfg(test)]
 mod walks;

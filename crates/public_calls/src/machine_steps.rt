@@ -15,7 +15,10 @@ pub type Stepped<'a> = Result<Outcome<'a>, u8>;
 fn laws_are_called() {
     laws::step_breadth();
     laws::step_bounds();
+    laws::stack_bounds();
+    laws::used_is_initialized();
     laws::start_breadth();
+    laws::run_breadth();
     laws::world_breadth();
 }
 

@@ -1,6 +1,6 @@
 //! Values that tests of several files use: class files of one method, summaries of classes, frames, and texts as they are written.
 use frames::{Frame, VType};
-use hierarchy::Summary;
+use hierarchy::{Kind, MemberSummary, Summary};
 use layout::{Part, WriteFault};
 use names::OBJECT;
 use std::alloc::{AllocError, Global};
@@ -14,6 +14,13 @@ pub const K: [u8; 97] = [
     1, 0x66, 1, 0, 3, 0x28, 0x29, 0x56, 1, 0, 4, 0x43, 0x6F, 0x64, 0x65, 0, 0x21, 0, 1, 0, 3, 0, 0,
     0, 0, 0, 1, 0, 9, 0, 5, 0, 6, 0, 1, 0, 7, 0, 0, 0, 0x0D, 0, 0, 0, 0, 0, 0, 0, 1, 0xB1, 0, 0, 0,
     0, 0, 0,
+];
+
+/// The class file of `java/lang/Object`, without members.
+pub const O: [u8; 46] = [
+    0xCA, 0xFE, 0xBA, 0xBE, 0, 0, 0, 0x34, 0, 3, 7, 0, 2, 1, 0, 0x10, 0x6A, 0x61, 0x76, 0x61, 0x2F,
+    0x6C, 0x61, 0x6E, 0x67, 0x2F, 0x4F, 0x62, 0x6A, 0x65, 0x63, 0x74, 0, 0x21, 0, 1, 0, 0, 0, 0, 0,
+    0, 0, 0, 0, 0,
 ];
 
 /// The class file of K, whose method `f` has two local variables, room for four units on the stack, and two bytes of
@@ -53,6 +60,19 @@ pub fn summary<'a>(
 /// The summary of `java/lang/Object`.
 pub fn object<'a>(alloc: Global) -> Summary<'a> {
     summary(alloc, OBJECT, None, false)
+}
+
+/// The summary of `java/lang/Object` with its method `clone`, which is protected.
+pub fn object_with_clone<'a>(alloc: Global) -> Result<Summary<'a>, AllocError> {
+    let mut above = object(alloc);
+    above.members.push(MemberSummary {
+        name: b"clone",
+        descriptor: b"()Ljava/lang/Object;",
+        kind: Kind::Method,
+        is_static: false,
+        is_protected: true,
+    })?;
+    Ok(above)
 }
 
 /// The summaries of `java/lang/Object`, of a class A and a class C below it, and of an interface I; there is no class B.

@@ -3,7 +3,10 @@ ghost use Rattle.std.specs.Prelude.{◌≤◌, ◌<◌, length};
 
 use crate::making::K;
 use classfile::{class_is_outline, one_outline, outline_or_fault, read_class};
-use layout::{ReadFault, Reading, StreamFault, streams_are_decided};
+use layout::{
+    ReadFault, Reading, StreamFault, body_is_whole, reading_is_spelling, streams_are_decided,
+    whole_is_spelling, writing_is_spelling,
+};
 use std::alloc::Global;
 use std::io::{self, ErrorKind, Read};
 use std::test::*;
@@ -261,6 +264,10 @@ fn numbers_of_a_stream(rt: HostRuntime) {
 #[test]
 fn laws_are_called() {
     streams_are_decided::<u8>();
+    reading_is_spelling::<u8>();
+    body_is_whole::<u8, u8>();
+    whole_is_spelling::<u8>();
+    writing_is_spelling::<u8>();
     class_is_outline();
     one_outline();
     outline_or_fault();

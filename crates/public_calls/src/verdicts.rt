@@ -6,8 +6,8 @@ use std::alloc::{AllocError, Global};
 use std::test::*;
 use verify::{
     ClassFault, MethodVerdict, Report, Verdict, VerifyFault, fits_breadth, map_refused_where,
-    one_report, one_verdict, refused_where, type_safe_is_safe, type_safe_is_verified,
-    verified_is_type_safe, verify_class, verify_method, verify_methods,
+    one_report, one_verdict, refused_breaks, refused_where, type_safe_is_safe,
+    type_safe_is_verified, verified_is_type_safe, verify_class, verify_method, verify_methods,
 };
 
 #[test]
@@ -17,6 +17,7 @@ fn theorem_and_laws_are_called() {
     verified_is_type_safe();
     type_safe_is_verified();
     refused_where();
+    refused_breaks();
     map_refused_where();
     one_verdict();
     one_report();

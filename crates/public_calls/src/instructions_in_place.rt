@@ -1,0 +1,225 @@
+//! Instructions on a frame in place, the members that they name, and reasons taken together.
+use crate::instruction_rules::{CLONING, CONSTRUCTING};
+use crate::making::{OUT_OF_MEMORY, hasher, object_with_clone, summary};
+use classfile::{ClassFile, Formed, decode, form_check};
+use frames::VType;
+use hierarchy::{Classes, Rows};
+use insn::{Act, Branches, Kind, decode_code};
+use layout::MAX_CODE_BYTES;
+use names::{Base, OBJECT};
+use pool::Descriptors;
+use rules::{
+    Env, Members, Reason, Working, branches_by, check_member, constructs_own, first_reason,
+    goes_on, is_plain, keeps_locals, own_class, plans_go_as_acts, run, run_plain, stored_to,
+    together,
+};
+use std::alloc::Global;
+use std::test::*;
+
+/// Something that is asked in the first method of a class.
+#[derive(Clone, Copy)]
+enum Asked<'a> {
+    /// Whether `clone` may be called on an object of this type.
+    Clones(VType<'a>),
+    /// Whether a constructor is called on the own object where this type is on the stack.
+    Constructs(VType<'a>),
+    /// Whether an `int` is stored to the last local variable, and what it replaced put back.
+    Stores,
+    /// Whether the class is K.
+    IsOfK,
+}
+
+type Judged<'a> = Result<bool, Reason<'a>>;
+
+/// Whether `clone` of Object leaves one item on the stack, on which only its object was.
+fn clones<'a, C: Classes>(
+    alloc: Global,
+    env: &Env<'_, '_, 'a, C>,
+    object: VType<'a>,
+) -> Judged<'a> {
+    let act = Act::InvokeVirtual { index: 11 };
+    let mut frame = Working::new(alloc, env.method.code.max_locals, false);
+    frame.push(object)?;
+    let mut constants = Descriptors::new(alloc, &env.method.class.constant_pool);
+    let mut members = Members::new(alloc, env.method.class, env.classes);
+    let named = members.named(&mut constants, &env.method, &act)?;
+    let used = check_member(&env.method, &act, &named, &mut members, &frame, env.classes);
+    if frame.max_locals() != env.method.code.max_locals {
+        return Ok(false);
+    }
+    match run(
+        alloc,
+        &env.method,
+        env,
+        0,
+        act,
+        &named,
+        &mut frame,
+        env.classes,
+    ) {
+        Ok(()) => together(used, Ok(()))?,
+        Err(reason) => return Err(first_reason(reason, used)),
+    }
+    Ok(frame.stack().len() == 1)
+}
+
+/// Whether the constructor of Object is called on the own object.
+fn constructs<'a, C: Classes>(
+    alloc: Global,
+    env: &Env<'_, '_, 'a, C>,
+    object: VType<'a>,
+) -> Judged<'a> {
+    let act = Act::InvokeSpecial { index: 9 };
+    let mut frame = Working::new(alloc, env.method.code.max_locals, true);
+    frame.push(object)?;
+    let mut constants = Descriptors::new(alloc, &env.method.class.constant_pool);
+    let mut members = Members::new(alloc, env.method.class, env.classes);
+    let named = members.named(&mut constants, &env.method, &act)?;
+    Ok(constructs_own(&env.method, &act, &named, &frame))
+}
+
+/// Whether a store of an `int` to the local variable 1 is seen there, and the local is top again when that is put back.
+fn stores<'a, C: Classes>(alloc: Global, env: &Env<'_, '_, 'a, C>) -> Judged<'a> {
+    let act = Act::Store {
+        kind: Kind::Int,
+        local: 1,
+    };
+    let mut frame = Working::new(alloc, env.method.code.max_locals, false);
+    frame.push(VType::Int)?;
+    if !is_plain(&act) || frame.max_locals() != env.method.code.max_locals {
+        return Ok(false);
+    }
+    run_plain(&env.method, &act, &mut frame, env.classes)?;
+    let is_there = matches!(frame.local(1), VType::Int) && frame.stack().is_empty();
+    frame.put_back(VType::Top, 1)?;
+    Ok(is_there && matches!(frame.local(1), VType::Top))
+}
+
+fn ask_in<'a, C: Classes>(
+    alloc: Global,
+    env: &Env<'_, '_, 'a, C>,
+    asked: Asked<'a>,
+) -> Result<bool, u8> {
+    let judged = match asked {
+        Asked::Clones(object) => clones(alloc, env, object),
+        Asked::Constructs(object) => constructs(alloc, env, object),
+        Asked::Stores => stores(alloc, env),
+        Asked::IsOfK => Ok(own_class(&env.method) == b"K".as_slice()),
+    };
+    match judged {
+        Ok(answer) => Ok(answer),
+        Err(reason) => Err(reason.number()),
+    }
+}
+
+/// The answer in the first method of a class, where these are the classes.
+fn ask_among<'a, C: Classes>(
+    alloc: Global,
+    formed: &Formed<'_, 'a>,
+    classes: &C,
+    asked: Asked<'a>,
+) -> Result<bool, u8> {
+    if formed.class().methods.is_empty() {
+        return Err(0);
+    }
+    let Some(method) = formed.method(0) else {
+        return Err(0);
+    };
+    if method.code.code.len() > MAX_CODE_BYTES {
+        return Err(0);
+    }
+    match decode_code(alloc, method.code.code) {
+        Ok(list) => ask_in(alloc, &Env::new(formed, 0, &list, classes), asked),
+        Err(_) => Err(OUT_OF_MEMORY),
+    }
+}
+
+/// The answer where Object has the method `clone`, which is protected, and K and A are below it.
+fn ask_formed<'a>(alloc: Global, formed: &Formed<'_, 'a>, asked: Asked<'a>) -> Result<bool, u8> {
+    let Ok(above) = object_with_clone(alloc) else {
+        return Err(OUT_OF_MEMORY);
+    };
+    let list = [
+        above,
+        summary(alloc, b"K", Some(OBJECT), false),
+        summary(alloc, b"A", Some(OBJECT), false),
+    ];
+    match Rows::new(alloc, &list, hasher()) {
+        Ok(classes) => ask_among(alloc, formed, &classes, asked),
+        Err(_) => Err(OUT_OF_MEMORY),
+    }
+}
+
+fn ask_class<'a>(alloc: Global, class: &ClassFile<'a>, asked: Asked<'a>) -> Result<bool, u8> {
+    match form_check(alloc, class) {
+        Ok(formed) => ask_formed(alloc, &formed, asked),
+        Err(_) => Err(OUT_OF_MEMORY),
+    }
+}
+
+/// The answer in `<init>` of the class file K.
+fn ask<'a>(alloc: Global, bytes: &'a [u8], asked: Asked<'a>) -> Result<bool, u8> {
+    match decode(alloc, bytes) {
+        Ok(class) => ask_class(alloc, &class, asked),
+        Err(_) => Err(OUT_OF_MEMORY),
+    }
+}
+
+/// A protected member is refused 82 where the rule refuses nothing for a lesser number.
+#[test]
+fn members_of_other_packages(rt: HostRuntime) {
+    let alloc = rt.alloc();
+    let array = VType::Array {
+        dims: 1,
+        base: Base::Class(b"K"),
+    };
+    assert!(rt; ask(alloc, &CLONING, Asked::Clones(VType::Class(b"K"))) == Ok(true));
+    assert!(rt; ask(alloc, &CLONING, Asked::Clones(VType::Null)) == Ok(true));
+    assert!(rt; ask(alloc, &CLONING, Asked::Clones(VType::Class(b"A"))) == Err(82));
+    assert!(rt; ask(alloc, &CLONING, Asked::Clones(array)) == Err(82));
+    assert!(rt; ask(alloc, &CLONING, Asked::Clones(VType::Class(b"B"))) == Err(77));
+    assert!(rt; ask(alloc, &CLONING, Asked::Clones(VType::Int)) == Err(62));
+}
+
+#[test]
+fn own_objects(rt: HostRuntime) {
+    let alloc = rt.alloc();
+    assert!(rt; ask(alloc, &CONSTRUCTING, Asked::Constructs(VType::UninitThis)) == Ok(true));
+    assert!(rt; ask(alloc, &CONSTRUCTING, Asked::Constructs(VType::Uninit(0))) == Ok(false));
+    assert!(rt; ask(alloc, &CONSTRUCTING, Asked::IsOfK) == Ok(true));
+}
+
+/// The ways of a `goto`, a `store` and an `invokespecial`.
+#[test]
+fn ways_of_acts(rt: HostRuntime) {
+    let (goto, call) = (Act::Goto { offset: 3 }, Act::InvokeSpecial { index: 9 });
+    let store = Act::StoreReference { local: 1 };
+    plans_go_as_acts();
+    assert!(rt; !goes_on(&goto) && goes_on(&call) && goes_on(&store));
+    assert!(rt; keeps_locals(&goto) && !keeps_locals(&call) && !keeps_locals(&store));
+    assert!(rt; stored_to(&store) == Some(1) && stored_to(&goto).is_none());
+    assert!(rt; matches!(branches_by(&goto), Branches::One(3)));
+    assert!(rt; matches!(branches_by(&call), Branches::Nowhere));
+}
+
+#[test]
+fn stores_in_place(rt: HostRuntime) {
+    assert!(rt; ask(rt.alloc(), &CLONING, Asked::Stores) == Ok(true));
+}
+
+#[test]
+fn lesser_reasons(rt: HostRuntime) {
+    let (one, other) = (Reason::WrongOperand, Reason::ProtectedMember);
+    assert!(rt; matches!(first_reason(one, Ok(())), Reason::WrongOperand));
+    assert!(rt; matches!(first_reason(other, Err(one)), Reason::WrongOperand));
+    assert!(rt; matches!(first_reason(one, Err(other)), Reason::WrongOperand));
+    assert!(rt; matches!(together(Ok(()), Err(other)), Err(Reason::ProtectedMember)));
+    assert!(rt; together(Ok(()), Ok(())).is_ok());
+}
+
+/// Where memory runs out the reason is 1.
+#[test]
+fn memory_runs_out_for_members(rt: HostRuntime) {
+    let told = ask(rt.alloc(), &CLONING, Asked::Clones(VType::Class(b"K")));
+    assert!(rt; told == Ok(true) || told == Err(OUT_OF_MEMORY));
+}
