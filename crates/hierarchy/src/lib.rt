@@ -21,7 +21,7 @@
 //! - `spot`: members by numbers of their texts, at a class above.
 //! - `starts`: where references begin to look for declarations.
 //! - `flags`: declarations of the classes above, and the first from a class upward.
-//! - `versions`: arrays of numbers whose versions share what is equal.
+//! - `versions`: versions of an array of numbers, which share nodes.
 //! - `member_key`: members by numbers of their texts.
 //! - `member_numbers`: numbers of members.
 //! - `package`: packages of classes.
