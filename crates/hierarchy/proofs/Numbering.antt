@@ -88,7 +88,7 @@ module _ (texts : TextNumbers) (members : KeyNumbers) where
     named = named;
   }
 
--- where there are none
+-- no text and no member has a number
 module _ (texts : TextNumbers) (members : KeyNumbers) (no_texts : texts.entries ≡ []) (no_members : members.entries ≡ []) where
   no_text : (t : List ℕ) → number_of texts t ≡ None
   no_text t = ap (lookup (is_at (λ (k : Bor (List ℕ)). slice_cmp nat_cmp t k.now))) no_texts
@@ -110,7 +110,7 @@ module _ (texts : TextNumbers) (members : KeyNumbers) (no_texts : texts.entries 
 
 module _ (texts more : TextNumbers) (members : KeyNumbers) (old : AreMemberNumbers (record { texts = texts; members = members })) (m : MemberFact) (key : MemberKey)
     (good : AreNumbers more) (keep : KeepNumbers texts more) (name : number_of more m.name ≡ Some key.name) (descriptor : number_of more m.descriptor ≡ Some key.descriptor) (kind : key.kind ≡ m.kind) where
-  -- the keys have the numbers of texts, of which there are more now
+  -- each key has the numbers of two texts, also where more texts have numbers
   still_named : (q : MemberKey) (i : ℕ) → number_at members q ≡ Some i → (a : List ℕ) × (d : List ℕ) × (number_of more a ≡ Some q.name) × (number_of more d ≡ Some q.descriptor)
   still_named q i e = let t = old.named q i e in (t.0, t.1, keep t.0 q.name t.2, keep t.1 q.descriptor t.3)
 
@@ -148,11 +148,11 @@ module _ (texts more : TextNumbers) (members : KeyNumbers) (old : AreMemberNumbe
           good.one d m.descriptor q.descriptor o (descriptor ∙ ap (λ (x : MemberKey). Some x.descriptor) f),
         )
 
-  -- which had a number
+  -- the member had a number
   pub had_number : IsSome (number_at members key) → AddsMember (record { texts = texts; members = members }) (record { texts = more; members = members }) m
   had_number here = adds members (λ q i e. e) here (λ q i e. inl e) old.below old.keys
 
-  -- which gets the next one
+  -- the member gets the next number
   pub gets_number : (new : KeyNumbers) (n : ℕ) → n ≡ btree_map_len members → number_at members key ≡ None → ((q : MemberKey) → number_at new q ≡ cond (is_eq (key_cmp key q)) (Some n) (number_at members q))
       → btree_map_len new ≡ btree_map_len members + 1 → AddsMember (record { texts = texts; members = members }) (record { texts = more; members = new }) m
   gets_number new n is none written longer = adds new

@@ -1,4 +1,4 @@
--- Versions: the value at an index by the nodes on the way to it, and what a node more changes.
+-- Versions: the value at an index by the nodes on the way to it, and what a node more leaves as it was.
 use Rattle.std.proofs.Common.{◌≡◌, ◌==◌, ℕ, zero, suc, ◌+◌, ◌-◌, ◌/◌, ◌%◌, ◌<◌, ◌≤◌, Bool, true, false, cond, List, [], ◌∷◌, ◌++◌, length, get_or, Result, IfOk, refl, ap, sym, ◌∙◌, subst, inl, inr, ◌⊎◌, arith}
 use Rattle.std.specs.declared.alloc.AllocError.{AllocError}
 use Rattle.std.proofs.lemmas.Bool.{eq-eqb, ne_eqb, cases_eq}
@@ -21,7 +21,7 @@ enough nodes (suc n) (suc m) v zero a b = refl
 enough nodes (suc n) (suc m) v (suc i) a b = enough nodes n m (node_below (node_at nodes v) (suc i)) (i / 2) (omega arith) (omega arith)
 
 module _ (nodes : List Node) (v : ℕ) where
-  -- one node down
+  -- the node below has the value at the index halved
   pub down : (i : ℕ) → 0 < i → value_in nodes i v i ≡ value_in nodes ((i - 1) / 2) (node_below (node_at nodes v) i) ((i - 1) / 2)
   down zero p = absurd (omega arith)
   down (suc i) p =
@@ -147,7 +147,7 @@ module _ (old new : Versions) (node : Node) (made : ℕ) (good : AreVersions old
 
 -- ---- a value put
 
--- a node is pushed, which the version that was made begins with
+-- the node is pushed, and the version that was made begins there
 abbrev pub IsPushed : Versions → Versions → Node → ℕ → Type 0
 IsPushed old new node made = (made ≡ length old.nodes.items) × (new.nodes.items ≡ old.nodes.items ++ node ∷ [])
 
@@ -158,7 +158,7 @@ module _ (old mid new : Versions) (from value made : ℕ) (good : AreVersions ol
   abbrev node : Node
   node = node_at old.nodes.items from
 
-  -- at index 0
+  -- the value is put at index 0
   put_here : IsPushed old new (record { value = value; odd = node.odd; even = node.even }) made → Puts old new from 0 value made
   put_here pushed = record {
     version = a.version;
@@ -173,7 +173,7 @@ module _ (old mid new : Versions) (from value made : ℕ) (good : AreVersions ol
       a = added old new (record { value = value; odd = node.odd; even = node.even }) made good (good.odd from there) (good.even from there) pushed.0 pushed.1
 
   module _ (index below : ℕ) (some : 0 < index) where
-    -- in a version below, which takes the place of the one that the index leads to
+    -- the value is put in the version below, and the new version below takes the place of that one
     put_below : (next : Node) → next.value ≡ node.value → node_below next index ≡ below → ((j : ℕ) → (j % 2 ≡ index % 2 → ⊥) → node_below next j ≡ node_below node j)
         → IsVersion mid next.odd → IsVersion mid next.even → Puts old mid (node_below node index) ((index - 1) / 2) value below → IsPushed mid new next made → Puts old new from index value made
     put_below next own same other odd even p pushed = record {
@@ -213,16 +213,16 @@ module _ (old mid new : Versions) (from value made : ℕ) (good : AreVersions ol
         put_below next refl (at_even next index is) (λ j n. at_odd next j (omega arith) ∙ sym (at_odd node j (omega arith)))
         (p.stays node.odd (good.odd from there)) p.version (subst (λ v. Puts old mid v ((index - 1) / 2) value below) (sym (at_even node index is)) p)
 
--- what has the value already
+-- a version that has the value stays as it is
 pub put_nothing : (vs : Versions) (from index value : ℕ) → AreVersions vs → IsVersion vs from → value_at vs from index ≡ value → Puts vs vs from index value from
 put_nothing vs from index value good there e = record { version = there; here = e; others = λ j apart. refl; kept = λ v p j. refl; stays = λ v p. p; good = good }
 
--- as the code goes: the node was read
+-- the node of the version was read
 module _ (old : Versions) (from : ℕ) (node : Node) (good : AreVersions old) (there : IsVersion old from) (read : node ≡ get_or old.nodes.items from node) where
   is_read : node ≡ node_at old.nodes.items from
   is_read = get_or_read old.nodes.items from node there read (record { value = 0; odd = 0; even = 0 })
 
-  -- one node down
+  -- the walk goes one node down
   pub stepped : (next left value : ℕ) → 0 < left → next ≡ node_below node left → value_at old from left ≡ value → IsVersion old next × (value_at old next ((left - 1) / 2) ≡ value)
   stepped next left value some e h = (
     subst (IsVersion old) (sym way) (next_there old good from left there),
@@ -232,7 +232,7 @@ module _ (old : Versions) (from : ℕ) (node : Node) (good : AreVersions old) (t
       way : next ≡ node_below (node_at old.nodes.items from) left
       way = e ∙ ap (λ (x : Node). node_below x left) is_read
 
-  -- no node further
+  -- the walk ends at the node that has the value
   pub arrived : (left value : ℕ) → left ≤ 0 → value_at old from left ≡ value → node.value ≡ value
   arrived left value none h = let z : 0 ≡ left = omega arith in ap (λ (x : Node). x.value) is_read ∙ ap (value_at old from) z ∙ h
 

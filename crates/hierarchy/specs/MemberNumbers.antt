@@ -36,11 +36,11 @@ member_number numbers kind name descriptor = option_and_then (number_at numbers.
 -- different members have different numbers
 pub record AreMemberNumbers (numbers : MemberNumbers) : Type 0 where
   pub one : (k l : Kind) (a b d e : List ℕ) (i : ℕ) → member_number numbers k a d ≡ Some i → member_number numbers l b e ≡ Some i → (k ≡ l) × (a ≡ b) × (d ≡ e)
-  -- so have different texts, and different keys, whose numbers are below how many there are
+  -- different texts have different numbers too, and so have different keys, below how many there are
   pub texts : AreNumbers numbers.texts
   pub below : (key : MemberKey) (i : ℕ) → number_at numbers.members key ≡ Some i → i < btree_map_len numbers.members
   pub keys : (key other : MemberKey) (i : ℕ) → number_at numbers.members key ≡ Some i → number_at numbers.members other ≡ Some i → key ≡ other
-  -- the numbers in each key are those of texts
+  -- each key has the numbers of two texts
   pub named : (key : MemberKey) (i : ℕ) → number_at numbers.members key ≡ Some i
       → (name : List ℕ) × (descriptor : List ℕ) × (number_of numbers.texts name ≡ Some key.name) × (number_of numbers.texts descriptor ≡ Some key.descriptor)
 

@@ -1,4 +1,4 @@
-//! Arrays of numbers whose versions share what is equal.
+//! Versions of an array of numbers, which share nodes.
 ghost use Rattle.std.specs.Prelude.{◌≡◌, ℕ, List, [], ◌∷◌, ◌++◌, length, Ok, IfOk};
 ghost use Rattle.hierarchy.specs.Versions.{AreVersions, IsVersion, Puts, value_at};
 
@@ -12,15 +12,16 @@ pub struct Node {
     even: usize,
 }
 
-/// Arrays of numbers, each a version of one of zeros, which share the nodes that are equal. An array is named by its node at the top:
-/// node 0 is that of zeros. Index 2i + 1 of a version is index i of its node `odd`, and index 2i + 2 is index i of its node `even`.
+/// Versions of an array of numbers, each named by its node at the top. Version 0 has zeros alone, and each other one was made of one before
+/// by a value at one index: the nodes on the way to that index are new, and all others are shared. Index 2i + 1 of a version is index i of its
+/// node `odd`, and index 2i + 2 is index i of its node `even`.
 #[derive(Drop)]
 pub struct Versions {
     nodes: Vec<Node>,
 }
 
 impl Versions {
-    /// The array of zeros alone, which is version 0.
+    /// Version 0 alone, which has zeros at all indices.
     pub fn new(alloc: Global) -> Result<Versions, AllocError>
         ensures { IfOk result (λ v. AreVersions v × IsVersion v 0 × ((i : ℕ) → value_at v 0 i ≡ 0)) }
     {
@@ -49,7 +50,7 @@ impl Versions {
         self.nodes[at].value
     }
 
-    // The version of this node, which is new.
+    // A new version, which has this node at the top.
     fn push(&mut self, node: Node) -> Result<usize, AllocError>
         ensures { IfOk result (λ made. (made ≡ length self.old.nodes.items) × (self.new.nodes.items ≡ self.old.nodes.items ++ node ∷ [])) }
     {
