@@ -1,5 +1,5 @@
 use crate::making::{hasher, object, summary};
-use hierarchy::{Kind, MemberRef, MemberSummary, Rows, Summary, guarded};
+use hierarchy::{Classes, Kind, MemberRef, MemberSummary, Prepared, Rows, Summary, guarded};
 use names::OBJECT;
 use std::alloc::{AllocError, Global};
 use std::test::*;
@@ -91,6 +91,41 @@ fn field_of<'a>(class: &'a [u8], name: &'a [u8]) -> MemberRef<'a> {
     of_class(class, Kind::Field, name, b"I")
 }
 
+/// Whether these classes guard the references of a class as it is said; or memory ran out, where it may.
+fn guard<C: Classes>(
+    alloc: Global,
+    classes: &C,
+    class: &[u8],
+    references: &[MemberRef<'_>],
+    want: &[bool],
+    may_fail: bool,
+) -> bool {
+    match guarded(alloc, classes, class, references) {
+        Ok(answers) => answers.as_slice() == want,
+        Err(_) => may_fail,
+    }
+}
+
+/// Whether they do so where what all classes of the list inherit was found before.
+fn guard_prepared<C: Classes>(
+    alloc: Global,
+    classes: &C,
+    list: &[Summary<'_>],
+    class: &[u8],
+    references: &[MemberRef<'_>],
+    want: &[bool],
+    may_fail: bool,
+) -> bool {
+    let Ok(names): Result<Vec<&[u8]>, AllocError> = list.iter().map(|it| it.name).collect(alloc)
+    else {
+        return may_fail;
+    };
+    match Prepared::new(alloc, classes, &names) {
+        Ok(prepared) => guard(alloc, &prepared, class, references, want, may_fail),
+        Err(_) => may_fail,
+    }
+}
+
 /// Whether the references of a class are guarded as it is said; or memory ran out, where it may.
 fn are_guarded(
     alloc: Global,
@@ -112,10 +147,10 @@ fn are_guarded(
     let list = setting(alloc, of_q, of_p, of_b);
     match Rows::new(alloc, &list, hasher()) {
         Err(fault) => may_fail && fault.number() == 1,
-        Ok(classes) => match guarded(alloc, &classes, class, references) {
-            Ok(answers) => answers.as_slice() == want,
-            Err(_) => may_fail,
-        },
+        Ok(classes) => {
+            guard(alloc, &classes, class, references, want, may_fail)
+                && guard_prepared(alloc, &classes, &list, class, references, want, may_fail)
+        }
     }
 }
 

@@ -1,7 +1,8 @@
 use crate::making::{K, hasher, object, setting, summary};
 use classfile::{ClassFile, decode, form_check};
 use hierarchy::{
-    Answer, Chains, Classes, HierarchyFault, Kind, MemberSummary, Summary, laws, summary_of,
+    Answer, Chains, Classes, HierarchyFault, Kind, MemberSummary, Summary, laws, name_of,
+    summary_of,
 };
 use names::OBJECT;
 use std::alloc::Global;
@@ -104,7 +105,7 @@ fn is_summary_of_k(summary: &Summary<'_>) -> bool {
 fn is_summary_or<'a>(alloc: Global, class: &ClassFile<'a>, or_none: bool) -> bool {
     match form_check(alloc, class) {
         Ok(formed) => match summary_of(alloc, &formed) {
-            Ok(summary) => is_summary_of_k(&summary),
+            Ok(summary) => is_summary_of_k(&summary) && name_of(&formed) == summary.name,
             Err(_) => or_none,
         },
         Err(fault) => or_none && fault.number() == 1,
