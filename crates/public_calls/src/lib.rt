@@ -19,8 +19,10 @@
 //! | `stack_maps`, `declared_frames` | `frames`: stack maps both ways, and the frames that they declare |
 //! | `instruction_rules` | `rules`: single instructions |
 //! | `machine_steps`, `object_steps` | `machine`: single steps |
+//! | `walks` | `machine`: steps by a list of choices, from where a method begins |
 //! | `verdicts` | `verify`: verdicts and reports |
 //! | `classes_in_play` | `verify`: reports on classes that run together |
+//! | `verified_walks` | `verify`: walks of the machine through methods that are verified |
 //! | `printed_text` | `printing`: texts of class files, names and faults |
 //! | `file_answers` | `answers`: what each command answers of files, read or not |
 //! | `command_lines` | `command_line`: what a line asks for, and what the program complains of |
@@ -86,5 +88,7 @@ mod superclasses;
 mod texts;
 #[cfg(test)]
 mod verdicts;
+#[cfg(test)]
+mod verified_walks;
 #[cfg(test)]
 mod walks;
