@@ -19,7 +19,7 @@
 //! | `stack_maps`, `declared_frames` | `frames`: stack maps both ways, and the frames that they declare |
 //! | `instruction_rules` | `rules`: single instructions |
 //! | `machine_steps`, `object_steps` | `machine`: single steps |
-//! | `walks` | `machine`: steps by a list of choices, from where a method begins |
+//! | `walks`, `walk_choices` | `machine`: steps by a list of choices, from where a method begins |
 //! | `verdicts` | `verify`: verdicts and reports |
 //! | `classes_in_play` | `verify`: reports on classes that run together |
 //! | `verified_walks` | `verify`: walks of the machine through methods that are verified |
@@ -90,5 +90,7 @@ mod texts;
 mod verdicts;
 #[cfg(test)]
 mod verified_walks;
+#[cfg(test)]
+mod walk_choices;
 #[cfg(test)]
 mod walks;
