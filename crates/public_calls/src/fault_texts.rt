@@ -11,7 +11,9 @@ use names::NameFault;
 use pool::PoolFault;
 use std::alloc::Global;
 use std::fmt::Display;
-use verify::{AmongFault, ClassFault, FileFault, PlayFault, PlayRule, TogetherFault, VerifyFault};
+use verify::{
+    AmongFault, ClassFault, FileFault, PlayFault, PlayRule, TogetherFault, VerifyFault, WalkFault,
+};
 
 /// Whether each fault is displayed as the text beside it.
 fn are_shown<T: Display>(alloc: Global, rows: &[(T, &str)]) -> bool {
@@ -206,11 +208,18 @@ fn faults_of_verdicts_and_answers(rt: HostRuntime) {
 }
 
 #[test]
-fn faults_of_steps(rt: HostRuntime) {
+fn faults_of_steps_and_walks(rt: HostRuntime) {
     let rows = [
         (StepFault::OutOfMemory, "refused 1"),
         (StepFault::NotAChoice, "refused 54"),
         (StepFault::NotInitial, "refused 55"),
+    ];
+    assert!(rt; are_shown(rt.alloc(), &rows));
+    let rows = [
+        (WalkFault::OutOfMemory, "refused 1"),
+        (WalkFault::NotInitial, "refused 55"),
+        (WalkFault::NotVerified, "refused 56"),
+        (WalkFault::NotInHierarchy, "refused 80"),
     ];
     assert!(rt; are_shown(rt.alloc(), &rows));
 }

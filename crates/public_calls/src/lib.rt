@@ -20,10 +20,11 @@
 //! | `instruction_rules` | `rules`: single instructions |
 //! | `instructions_in_place` | `rules`: instructions on a frame in place, the members that they name, and reasons taken together |
 //! | `machine_steps`, `object_steps` | `machine`: single steps |
-//! | `walks` | `machine`: steps by a list of choices, and beginnings |
+//! | `walks`, `walk_choices` | `machine`: steps by a list of choices, from where a method begins |
 //! | `verdicts` | `verify`: verdicts and reports |
 //! | `verified_files` | `verify`: verdicts on the classes that files are, alone, among known ones and in play |
 //! | `classes_in_play` | `verify`: reports on classes that run together |
+//! | `verified_walks` | `verify`: walks of the machine through methods that are verified |
 //! | `printed_text` | `printing`: texts of class files, names and faults |
 //! | `file_answers` | `answers`: what each command answers of files, read or not |
 //! | `command_lines` | `command_line`: what a line asks for, and what the program complains of |
@@ -93,5 +94,9 @@ mod texts;
 mod verdicts;
 #[cfg(test)]
 mod verified_files;
+#[cfg(test)]
+mod verified_walks;
+#[cfg(test)]
+mod walk_choices;
 #[cfg(test)]
 mod walks;

@@ -11,7 +11,7 @@ use std::test::*;
 
 /// Where a walk stops.
 #[derive(Clone, Copy, PartialEq, Eq)]
-enum Stop {
+pub enum Stop {
     /// At this offset, all choices being used up.
     At(u16),
     Ended,
@@ -20,9 +20,9 @@ enum Stop {
 }
 
 /// How many choices were taken, and where the walk stops; or the number of a refusal.
-type Walk = Result<(usize, Stop), u8>;
+pub type Walk = Result<(usize, Stop), u8>;
 
-fn stop_of(last: &Last<'_>) -> Stop {
+pub fn stop_of(last: &Last<'_>) -> Stop {
     match last {
         Last::More(state) => Stop::At(state.at),
         Last::Ended => Stop::Ended,
@@ -39,7 +39,7 @@ fn told(walked: Result<Walked<'_>, StepFault>) -> Walk {
 }
 
 /// The walk of a method by these choices from the state in which it begins with these arguments, with no object.
-fn walk_from<'a, C: Classes>(
+pub fn walk_from<'a, C: Classes>(
     alloc: Global,
     method: &Method<'_, 'a>,
     args: &[Value],
@@ -92,7 +92,7 @@ fn walk_of<'a>(alloc: Global, bytes: &'a [u8], args: &[Value], choices: &[Choice
 }
 
 /// The choice to go on, where there is no branch and no answer, with nothing new.
-fn on<'a>(alloc: Global) -> Choice<'a> {
+pub fn on<'a>(alloc: Global) -> Choice<'a> {
     Choice::Go {
         branch: None,
         answer: None,
