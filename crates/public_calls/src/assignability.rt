@@ -1,7 +1,10 @@
 use crate::making::{frame, hasher, setting};
-use frames::{Frame, VType, assignable, frame_assignable, laws};
+use frames::{
+    Frame, VType, array_of, assignable, frame_assignable, held_by, laws, number_type, reference_to,
+};
 use hierarchy::{Answer, Classes, Rows};
-use names::{Base, OBJECT, Primitive};
+use insn::Kind;
+use names::{Base, FieldType, OBJECT, Primitive, RefType};
 use std::alloc::{AllocError, Global};
 use std::process::Abort;
 use std::test::*;
@@ -121,4 +124,26 @@ fn frames(rt: HostRuntime) {
         }
         Err(_) => panic!(rt; "a hierarchy"),
     }
+}
+
+#[test]
+fn types_of_what_is_named(rt: HostRuntime) {
+    let class = RefType::Class(b"A");
+    let of_class = array_of(class);
+    assert!(rt;
+        matches!(
+            of_class,
+            VType::Array {
+                dims: 1,
+                base: Base::Class(_)
+            }
+        )
+    );
+    assert!(rt; reference_to(class) == A);
+    assert!(rt; matches!(number_type(Kind::Long), VType::Long));
+    let short = FieldType {
+        dims: 0,
+        base: Base::Primitive(Primitive::Short),
+    };
+    assert!(rt; matches!(held_by(&short), VType::Int));
 }

@@ -1,7 +1,7 @@
 use crate::making::K;
 use classfile::{
-    ClassFile, CodeMethod, FormFault, FormRule, Formed, Member, Place, decode, form_check,
-    method_is_told,
+    ClassFile, CodeMethod, FormFault, FormRule, Formed, Member, OwnFields, Place, declares_field,
+    decode, form_check, method_is_told,
 };
 use std::alloc::Global;
 use std::test::*;
@@ -104,4 +104,31 @@ fn is_refused(alloc: Global) -> bool {
 #[test]
 fn a_rule_is_broken(rt: HostRuntime) {
     assert!(rt; is_refused(rt.alloc()));
+}
+
+/// K with a field that has the name and the descriptor of its method.
+fn with_a_field(alloc: Global) -> Option<ClassFile<'static>> {
+    let mut class = decode(alloc, &K).ok()?;
+    class.fields.push(native(alloc, 5, 6)).ok()?;
+    Some(class)
+}
+
+/// Whether the Class constant 3 is no Fieldref of the class.
+fn is_no_field(alloc: Global, class: &ClassFile<'_>) -> bool {
+    let mut fields = OwnFields::new(alloc, class);
+    !fields.names_class(3) && matches!(fields.declares(3), Ok(false))
+}
+
+fn declares_its_field(alloc: Global) -> bool {
+    let Some(class) = with_a_field(alloc) else {
+        return false;
+    };
+    declares_field(&class, b"f", b"()V")
+        && !declares_field(&class, b"f", b"I")
+        && is_no_field(alloc, &class)
+}
+
+#[test]
+fn own_fields(rt: HostRuntime) {
+    assert!(rt; declares_its_field(rt.alloc()));
 }

@@ -1,7 +1,8 @@
 use insn::{
-    Act, CodeFault, Insn, Instructions, Kind, Opcode, act, code_is_one_list, decode_code,
-    forms_move_units, is_start, kinds_and_arrays, list_is_one_code, mnemonic, opcodes_have_numbers,
-    read_insn, read_is_written, readings_are_spellings, written_is_read,
+    Act, CodeFault, Insn, Instructions, Kind, Opcode, act, code_is_one_list, count_instructions,
+    decode_code, forms_move_units, found_at, is_start, kinds_and_arrays, list_is_one_code,
+    made_index, mnemonic, opcodes_have_numbers, read_insn, read_is_written, readings_are_spellings,
+    written_is_read,
 };
 use layout::{Cursor, MAX_CODE_BYTES};
 use std::alloc::Global;
@@ -199,4 +200,46 @@ fn is_read_or_memory(alloc: Global) -> bool {
 #[test]
 fn want_of_memory(rt: HostRuntime) {
     assert!(rt; is_read_or_memory(rt.alloc()));
+}
+
+/// Whether the instructions of a `new`, a `dup` and a `goto` back to the first are found where they begin.
+fn are_found(alloc: Global, code: &[u8]) -> bool {
+    if code.len() > MAX_CODE_BYTES {
+        return false;
+    }
+    let Ok(list) = decode_code(alloc, code) else {
+        return false;
+    };
+    let second = matches!(found_at(&list, 3), Some((Act::Stack(_), Some(4))));
+    let last = matches!(found_at(&list, 4), Some((Act::Goto { offset: -4 }, None)));
+    second && last && found_at(&list, 1).is_none()
+}
+
+/// The class of which the first instruction makes an object.
+fn first_made(alloc: Global, code: &[u8]) -> Option<u16> {
+    if code.len() > MAX_CODE_BYTES {
+        return None;
+    }
+    let Ok(list) = decode_code(alloc, code) else {
+        return None;
+    };
+    match list.first() {
+        Some((_, insn)) => made_index(insn),
+        None => None,
+    }
+}
+
+#[test]
+fn instructions_that_are_looked_up(rt: HostRuntime) {
+    let code = [0xBB, 0, 5, 0x59, 0xA7, 0xFF, 0xFC];
+    assert!(rt; are_found(rt.alloc(), &code));
+    assert!(rt; first_made(rt.alloc(), &code) == Some(5));
+    assert!(rt; first_made(rt.alloc(), &code[3..]).is_none());
+    assert!(rt; matches!(count_instructions(&code), Ok(3)));
+    assert!(rt;
+        matches!(
+            count_instructions(&code[..2]),
+            Err(CodeFault::CutInstruction { at: 0 })
+        )
+    );
 }

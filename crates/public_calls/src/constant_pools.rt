@@ -1,7 +1,8 @@
 use crate::making::{are_written, is_put, is_shown};
 use layout::{Cursor, Output, Part, ReadFault, WriteFault};
 use pool::{
-    Constant, Pool, PoolFault, found_where_it_stands, put_pool, refused_where_nothing_fits,
+    Constant, Pool, PoolFault, found_where_it_stands, put_pool, read_pool,
+    refused_where_nothing_fits,
 };
 use std::alloc::{AllocError, Global};
 use std::test::*;
@@ -171,4 +172,17 @@ fn nested_faults(rt: HostRuntime) {
 #[test]
 fn want_of_memory(rt: HostRuntime) {
     assert!(rt; is_read(rt.alloc(), true));
+}
+
+fn is_read_in_place(alloc: Global) -> bool {
+    let mut cursor = Cursor::new(&ALL);
+    match read_pool(alloc, &mut cursor) {
+        Ok(pool) => cursor.at() == 85 && pool.constants().len() == 19,
+        Err(_) => false,
+    }
+}
+
+#[test]
+fn a_pool_in_place(rt: HostRuntime) {
+    assert!(rt; is_read_in_place(rt.alloc()));
 }

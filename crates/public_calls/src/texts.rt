@@ -2,7 +2,8 @@ use names::{
     Base, FieldType, MethodShape, MethodType, NameFault, NameForms, Text, check_text,
     field_answers, field_type, is_class_name, is_field_descriptor, is_field_name, is_method_name,
     method_answers, method_shape, method_type, name_forms, names_by_units, one_field_type,
-    one_method_type, one_unit_list, parameter_types, result_type, spell, text_answers, units,
+    one_method_type, one_unit_list, parameter_types, reference_type, result_type, spell,
+    text_answers, units,
 };
 use std::alloc::Global;
 use std::test::*;
@@ -351,4 +352,22 @@ fn widest_shapes(rt: HostRuntime) {
     method[128] = b'I';
     assert!(rt; shape(&method, false).is_ok());
     assert!(rt; shape(&method, true) == Err(NameFault::TooWide));
+}
+
+/// How many dimensions the array has that the text of a Class constant names; 0 of a class.
+fn named_dimensions(text: &[u8]) -> Option<u8> {
+    match check_text(text) {
+        Ok(text) => match reference_type(text) {
+            Some(t) => Some(t.dimensions()),
+            None => None,
+        },
+        Err(_) => None,
+    }
+}
+
+#[test]
+fn types_of_class_constants(rt: HostRuntime) {
+    assert!(rt; named_dimensions(b"A") == Some(0));
+    assert!(rt; named_dimensions(b"[[I") == Some(2));
+    assert!(rt; named_dimensions(b"[A").is_none());
 }
