@@ -12,6 +12,8 @@ use Rattle.machine.specs.Steps.{Choice, goes_on, Happens}
 use Rattle.machine.specs.Runs.{IsInitial, IsRun}
 use Rattle.machine.specs.Walks.{Stop, more, fault, Walks}
 use Rattle.machine.specs.Views.{stop_view}
+use Rattle.verify.specs.declared.verdict.VerifyFault.{VerifyFault}
+use Rattle.verify.specs.declared.verdict.VerifyFault.TheVariants as faults
 use Rattle.verify.specs.declared.verified_walk.WalkFault.{WalkFault}
 use Rattle.verify.specs.declared.verified_walk.WalkFault.TheVariants.{OutOfMemory, NotInitial, NotVerified, NotInHierarchy}
 use Rattle.verify.specs.ClassMethods.{IsMethod, IsTypeSafeIn}
@@ -64,6 +66,10 @@ WalksVerified classes c number s choices (Err OutOfMemory) = Unit {0}
 WalksVerified classes c number s choices (Err NotInitial) = BeginsIn classes c number s → ⊥
 WalksVerified classes c number s choices (Err NotVerified) = BeginsIn classes c number s × IsUnverified classes c number NotVerified
 WalksVerified classes c number s choices (Err NotInHierarchy) = BeginsIn classes c number s × IsUnverified classes c number NotInHierarchy
+
+abbrev pub of_verify_fault : VerifyFault → WalkFault
+of_verify_fault faults.OutOfMemory = OutOfMemory
+of_verify_fault faults.NotInHierarchy = NotInHierarchy
 
 abbrev pub walk_fault_number : WalkFault → ℕ
 walk_fault_number OutOfMemory = 1

@@ -64,6 +64,19 @@ impl From<AllocError> for WalkFault {
     }
 }
 
+impl From<VerifyFault> for WalkFault {
+    ghost use Rattle.verify.specs.VerifiedWalks.{of_verify_fault};
+
+    ghost from_gives = { λ fault e. e ≡ of_verify_fault fault };
+
+    fn from(fault: VerifyFault) -> WalkFault {
+        match fault {
+            VerifyFault::OutOfMemory => WalkFault::OutOfMemory,
+            VerifyFault::NotInHierarchy => WalkFault::NotInHierarchy,
+        }
+    }
+}
+
 /// Whether the method has code and begins in the state. The only refusal is want of memory.
 fn begins_in<'a, C: Classes>(
     alloc: Global,
@@ -106,15 +119,11 @@ fn check_verified<C: Classes>(
     ensures safe { IfOk result (λ _. IsSafeIn (C.content classes.now) (class_view formed.now.class.now) number) }
     ensures refused { IfErr result (IsUnverified (C.content classes.now) (class_view formed.now.class.now) number) }
 {
-    match verify_method(alloc, formed, number, classes) {
-        Ok(verdict) => if is_verified(&verdict) {
-            Ok(())
-        } else {
-            Err(WalkFault::NotVerified)
-        },
-        Err(VerifyFault::OutOfMemory) => Err(WalkFault::OutOfMemory),
-        Err(VerifyFault::NotInHierarchy) => Err(WalkFault::NotInHierarchy),
+    let verdict = verify_method(alloc, formed, number, classes)?;
+    if !is_verified(&verdict) {
+        return Err(WalkFault::NotVerified);
     }
+    Ok(())
 }
 
 /// The walk of a method whose code is instructions. The only refusal is want of memory.
