@@ -1,11 +1,11 @@
-//! Walks by what a call answers, a branch takes and a handler catches; and the arguments with which a method begins.
+//! Walks by what a call answers, a branch takes and a handler catches, and among many objects; and the arguments with which a method begins.
 use crate::machine_steps::machine_method;
 use crate::making::{OUT_OF_MEMORY, hasher, object, summary};
 use crate::walks::on;
 use classfile::{Formed, decode, form_check};
 use hierarchy::{Classes, Rows, Summary};
 use machine::{Choice, Last, Method, Object, RunType, Status, Value, initial, walk};
-use names::{OBJECT, THROWABLE};
+use names::{Base, OBJECT, Primitive, THROWABLE};
 use std::alloc::{AllocError, Global};
 use std::collections::BTreeMap;
 use std::test::*;
@@ -259,4 +259,56 @@ fn beginnings_with_an_argument(rt: HostRuntime) {
     assert!(rt; begins(alloc, b'A', Value::Ref(0), other) == Err(55));
     assert!(rt; begins(alloc, b'A', Value::Ref(0), made) == Err(55));
     assert!(rt; begins(alloc, b'I', Value::Ref(0), other) == begun);
+}
+
+/// So many arrays of `int`, at the first addresses.
+fn many<'a>(alloc: Global, count: u32) -> Result<BTreeMap<u32, Object<'a>>, AllocError> {
+    let object = Object {
+        run_type: RunType::Array {
+            dims: 1,
+            base: Base::Primitive(Primitive::Int),
+        },
+        status: Status::Ready,
+    };
+    let mut heap = BTreeMap::new(alloc);
+    for address in 0..count {
+        if heap.insert(address, object).is_err() {
+            return Err(AllocError);
+        }
+    }
+    Ok(heap)
+}
+
+/// The choices for so many rounds of `nop` and `goto 0`.
+fn rounds<'a>(alloc: Global, count: usize) -> Result<Vec<Choice<'a>>, AllocError> {
+    let mut choices = Vec::new(alloc);
+    for _ in 0..count {
+        choices.push(on(alloc))?;
+        choices.push(Choice::Go {
+            branch: Some(0),
+            answer: None,
+            fresh: Vec::new(alloc),
+        })?;
+    }
+    Ok(choices)
+}
+
+/// The walk of so many rounds of `nop` and `goto 0`, among so many objects.
+fn goes_round(alloc: Global, objects: u32, count: usize) -> Walk {
+    let mut bytes = BRANCHING;
+    bytes[90..94].copy_from_slice(&[0x00, 0xA7, 0xFF, 0xFF]);
+    let Ok(heap) = many(alloc, objects) else {
+        return Err(OUT_OF_MEMORY);
+    };
+    match rounds(alloc, count) {
+        Ok(choices) => walk_of(alloc, &bytes, &[], &heap, &choices),
+        Err(_) => Err(OUT_OF_MEMORY),
+    }
+}
+
+/// A heap is made, and a step taken, by looking up addresses: a test has 60 s, and a look at each object in each step would take longer.
+#[test]
+fn walk_among_many_objects(rt: HostRuntime) {
+    let walked = goes_round(rt.alloc(), 100_000, 50_000);
+    assert!(rt; walked == Ok((100_000, Stop::At(0, None))));
 }
