@@ -200,6 +200,6 @@ pub none_of : {X : Type 0} (o : Option X) → is_some o ≡ false → o ≡ None
 none_of None e = refl
 none_of (Some x) e = absurd (false≢true (sym e))
 
--- what is read at a place
+-- a read at a place
 pub read_at : {X : Type 0} (xs : List X) (i : ℕ) (x : X) → i < length xs → x ≡ get_or xs i x → slice_get xs i ≡ Some x
 read_at xs i x lt is = slice_get-get_or xs i x lt ∙ ap (λ y. Some y) (sym is)

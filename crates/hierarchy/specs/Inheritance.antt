@@ -1,4 +1,4 @@
--- What classes inherit, as it is kept: of each class which others stand above it, and which protected members it has, by versions of arrays.
+-- The inheritance of classes, as it is kept: which classes stand above each, and which protected members each has, by versions of arrays.
 -- Words of the code's own steps.
 use Rattle.std.specs.Prelude.{◌≡◌, ◌⊎◌, ℕ, ◌<◌, suc, true, false, List, length, slice_get, Option, Some, None, IsSome, find, if◌then◌else◌, MatchOption}
 use Rattle.std.specs.BTreeMap.{BTreeMap}
@@ -71,7 +71,7 @@ IsCoded classes all r name v = (o : Option ℕ) × (v ≡ option_map_or suc o 0)
 -- ---- classes
 
 module _ (classes all : List ClassFact) (numbers : MemberNumbers) (versions : Versions) (packages : BTreeMap (Bor (List ℕ)) ℕ) where
-  -- of a class: a version that tells of each class whether it is this one or stands above it, one with the values of the members, and the number of its package
+  -- a class has a version that tells of each class whether it is this one or stands above it, one with the values of the members, and the number of its package
   pub record Inherits (c : ClassFact) (i : Inherited) : Type 0 where
     pub is_chain : IsVersion versions i.ancestors
     pub is_members : IsVersion versions i.members
@@ -91,7 +91,7 @@ module _ (classes all : List ClassFact) (numbers : MemberNumbers) (versions : Ve
     pub named : AreNumbers packages
     pub each : (p : ℕ) (c : ClassFact) (i : Inherited) → slice_get all p ≡ Some c → slice_get of p ≡ Some i → Inherits c i
 
--- what all classes of an ancestry inherit
+-- all classes of an ancestry have their entries
 pub record IsInheritance (classes : List ClassFact) (h : Inheritance) : Type 0 where
   pub formed : 0 < length h.ancestry.classes.items → IsHierarchy classes
   pub ancestry : IsAncestry classes h.ancestry

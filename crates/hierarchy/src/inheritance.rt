@@ -1,4 +1,4 @@
-//! What classes inherit, found for many at once.
+//! The inheritance of classes, found for many at once.
 ghost use Rattle.std.specs.Prelude.{◌≡◌, ◌<◌, ◌↔◌, ◌+◌, List, [], length, map, slice_get, Some, IfOk, OnOk, IsTrue};
 ghost use Rattle.hierarchy.specs.Above.{class_above, number_of};
 ghost use Rattle.hierarchy.specs.Ancestry.{IsAncestry, facts_at};
@@ -23,7 +23,7 @@ use crate::versions::Versions;
 use std::alloc::{AllocError, Global};
 use std::collections::BTreeMap;
 
-/// What one class inherits.
+/// The versions and the number that tell of one class.
 #[derive(Clone, Copy)]
 pub struct Inherited {
     // The version that has 1 at the place of each class that is this one or stands above it.
@@ -34,7 +34,7 @@ pub struct Inherited {
     package_number: usize,
 }
 
-/// What classes inherit: which classes stand above each, and the nearest declarations of protected members.
+/// The inheritance of classes: which classes stand above each, and the nearest declarations of protected members.
 ///
 /// The time and the memory are those of the classes and their members, times a logarithm, however long the chains of superclasses are.
 #[derive(Drop)]
@@ -44,7 +44,7 @@ pub struct Inheritance<'k> {
     table: InheritanceTable<'k>,
 }
 
-/// What the classes of an ancestry inherit, so far.
+/// The entries of the first classes of an ancestry, and the versions that they name.
 #[derive(Drop)]
 pub struct InheritanceTable<'k> {
     versions: Versions,
@@ -121,7 +121,7 @@ impl<'k> InheritanceTable<'k> {
         })
     }
 
-    /// What the class directly above the next class of an ancestry inherits.
+    /// Returns the entry of the class directly above the next class of an ancestry.
     fn above<C: Classes>(
         &self,
         classes: &C,
@@ -147,7 +147,7 @@ impl<'k> InheritanceTable<'k> {
         }
     }
 
-    /// Adds what the next class of an ancestry inherits.
+    /// Adds the entry of the next class of an ancestry.
     fn next<C: Classes>(
         &mut self,
         classes: &C,
@@ -177,7 +177,7 @@ impl<'k> InheritanceTable<'k> {
     }
 }
 
-/// What the classes of an ancestry inherit.
+/// Makes the entries of all classes of an ancestry.
 fn inherited_by<'k, C: Classes>(
     alloc: Global,
     classes: &C,
@@ -198,7 +198,7 @@ fn inherited_by<'k, C: Classes>(
 }
 
 impl<'k> Inheritance<'k> {
-    /// What the classes of these names inherit, with all that stand above them. The only refusal is want of memory.
+    /// Finds the inheritance of the classes of these names and of all that stand above them. The only refusal is want of memory.
     pub fn new<C: Classes>(
         alloc: Global,
         classes: &'k C,

@@ -198,7 +198,7 @@ fn walks_by_what_a_call_answers(rt: HostRuntime) {
     assert!(rt; goes(alloc, &CALLING, raise(alloc, None)) == Ok((1, Stop::Ended)));
 }
 
-/// What is raised is alone on the stack at the handler.
+/// At the handler the raised object is alone on the stack.
 #[test]
 fn walk_to_a_handler(rt: HostRuntime) {
     let alloc = rt.alloc();
