@@ -1,11 +1,11 @@
 -- Classes with all that stand above them: a step upward, and one more class put behind the others.
-use Rattle.std.proofs.Common.{◌≡◌, ◌==◌, ℕ, suc, ◌+◌, ◌-◌, ◌<◌, ◌≤◌, Bool, true, false, cond, List, [], ◌∷◌, ◌++◌, get_or, length, slice_get, Option, Some, None, IsSome, is_some, MatchOption, refl, ap, sym, ◌∙◌, subst, arith}
+use Rattle.std.proofs.Common.{◌≡◌, ◌==◌, ℕ, suc, ◌+◌, ◌-◌, ◌<◌, ◌≤◌, Bool, true, false, cond, List, [], ◌∷◌, ◌++◌, get_or, length, slice_get, Option, Some, None, option_map, IsSome, is_some, MatchOption, refl, ap, sym, ◌∙◌, subst, arith}
 use Rattle.std.specs.Borrow.{Bor}
 use Rattle.std.specs.Option.{option_and_then}
 use Rattle.std.specs.Str.{bytes_eq}
 use Rattle.std.proofs.lemmas.Bool.{false≢true, eqb-true}
 use Rattle.std.proofs.lemmas.List.{length-append, length-map, map-append}
-use Rattle.std.proofs.lemmas.Option.{slice_get_within, slice_get-get_or}
+use Rattle.std.proofs.lemmas.Option.{slice_get_within, slice_get-get_or, slice_get-map}
 use Rattle.std.proofs.lemmas.Slice.Eq.{bytes_eq-Decides}
 use Rattle.hierarchy.specs.declared.ancestry.Ancestry.{Ancestry}
 use Rattle.hierarchy.specs.declared.summary.Summary.{Summary}
@@ -203,3 +203,7 @@ none_of (Some x) e = absurd (false≢true (sym e))
 -- a read at a place
 pub read_at : {X : Type 0} (xs : List X) (i : ℕ) (x : X) → i < length xs → x ≡ get_or xs i x → slice_get xs i ≡ Some x
 read_at xs i x lt is = slice_get-get_or xs i x lt ∙ ap (λ y. Some y) (sym is)
+
+-- the class that is read at a place
+pub class_read : (kept : List (Bor Summary)) (p : ℕ) (s : Bor Summary) → p < length kept → s ≡ get_or kept p s → slice_get (facts_at kept) p ≡ Some (fact_of s.now)
+class_read kept p s lt is = slice_get-map (λ (s : Bor Summary). fact_of s.now) kept p ∙ ap (option_map (λ (s : Bor Summary). fact_of s.now)) (read_at kept p s lt is)

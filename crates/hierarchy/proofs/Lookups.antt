@@ -99,9 +99,6 @@ module _ (classes : List ClassFact) (h : Inheritance) (is : IsInheritance classe
       pub start_at : (d : ClassFact) × (slice_get all start ≡ Some d) × (d.name ≡ r.class)
       start_at = is.ancestry.places.leads r.class start found
 
-      pub start_within : start < length h.table.of.items
-      start_within = within start start_at.0 start_at.1
-
       pub start_itself : start ≡ class → false ≡ is_guarded classes c.name r
       start_itself same =
           own_free classes (formed_at class c at) c r (ap (λ (x : ClassFact). x.name) (some_same (sym at ∙ ap (slice_get all) (sym same) ∙ start_at.1)) ∙ start_at.2)

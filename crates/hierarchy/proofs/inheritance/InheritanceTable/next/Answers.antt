@@ -1,13 +1,10 @@
-use Rattle.std.proofs.Common.{◌≡◌, ◌∙◌, ◌+◌, suc, map, Some, ap, option_map, refl, sym, subst, arith, slice_get}
-use Rattle.std.specs.Borrow.{Bor}
-use Rattle.std.proofs.lemmas.Option.{slice_get-map}
-use Rattle.hierarchy.specs.declared.summary.Summary.{Summary}
+use Rattle.std.proofs.Common.{◌≡◌, ◌∙◌, ◌+◌, suc, map, ap, refl, sym, subst, arith}
 use Rattle.hierarchy.specs.Ancestry.{facts_at}
 use Rattle.hierarchy.specs.Above.{number_of}
 use Rattle.hierarchy.specs.Inheritance.{Declares}
 use Rattle.hierarchy.specs.Summary.{fact_of, member_of}
 use Rattle.hierarchy.proofs.Descent.{chain_there, inherit_next, members_there}
-use Rattle.hierarchy.proofs.InOrder.{read_at}
+use Rattle.hierarchy.proofs.InOrder.{class_read}
 use Rattle.hierarchy.proofs.inheritance.InheritanceTable.next.Goals as goal
 
 pub put-requires-clause-there : goal.put-requires-clause-there
@@ -16,8 +13,7 @@ put-requires-clause-there g c =
     let a = c.args.ancestry.now in
     let was = c.args.self.now in
     let s = c.index-class.result.now in
-    let read = read_at a.classes.items c.len-place.result s (omega (arith, c.requires.left, c.len-place.ensures)) c.index-class.ensures in
-    let at : slice_get (facts_at a.classes.items) c.len-place.result ≡ Some (fact_of s.now) = slice_get-map (λ (s : Bor Summary). fact_of s.now) a.classes.items c.len-place.result ∙ ap (option_map (λ (s : Bor Summary). fact_of s.now)) read in
+    let at = class_read a.classes.items c.len-place.result s (omega (arith, c.requires.left, c.len-place.ensures)) c.index-class.ensures in
     chain_there classes (facts_at a.classes.items) a refl c.requires.good c.args.numbers.now c.len-place.result (fact_of s.now) at was.versions was.versions was.versions was.packages was.packages was.of.items
     c.requires.begun c.above-above.result (c.above-above.ensures c.args.numbers.now c.requires.begun)
 
@@ -27,8 +23,7 @@ declare-requires-clause-there g c =
     let a = c.args.ancestry.now in
     let was = c.args.self.now in
     let s = c.index-class.result.now in
-    let read = read_at a.classes.items c.len-place.result s (omega (arith, c.requires.left, c.len-place.ensures)) c.index-class.ensures in
-    let at : slice_get (facts_at a.classes.items) c.len-place.result ≡ Some (fact_of s.now) = slice_get-map (λ (s : Bor Summary). fact_of s.now) a.classes.items c.len-place.result ∙ ap (option_map (λ (s : Bor Summary). fact_of s.now)) read in
+    let at = class_read a.classes.items c.len-place.result s (omega (arith, c.requires.left, c.len-place.ensures)) c.index-class.ensures in
     c.in_ok-ancestors.ensures.puts.stays c.above-above.result.members
     (members_there classes (facts_at a.classes.items) a refl c.requires.good c.args.numbers.now c.len-place.result (fact_of s.now) at was.versions was.versions was.versions was.packages was.packages was.of.items
     c.requires.begun c.above-above.result (c.above-above.ensures c.args.numbers.now c.requires.begun))
@@ -40,8 +35,7 @@ returns-clause-begun g c =
     let was = c.args.self.now in
     let s = c.index-class.result.now in
     let place = c.len-place.result in
-    let read = read_at a.classes.items place s (omega (arith, c.requires.left, c.len-place.ensures)) c.index-class.ensures in
-    let at : slice_get (facts_at a.classes.items) place ≡ Some (fact_of s.now) = slice_get-map (λ (s : Bor Summary). fact_of s.now) a.classes.items place ∙ ap (option_map (λ (s : Bor Summary). fact_of s.now)) read in
+    let at = class_read a.classes.items place s (omega (arith, c.requires.left, c.len-place.ensures)) c.index-class.ensures in
     let number = c.in_ok-package_number.ensures in
     let next : place + 1 ≡ suc place = omega arith in
     inherit_next classes (facts_at a.classes.items) a refl c.requires.good c.args.numbers.now place (fact_of s.now) at was.versions c.put.new.self c.declare.new.versions was.packages c.number_of.new.numbers was.of.items
