@@ -42,10 +42,11 @@ class Folder:
 
 
 class Verifier:
-    """Calls the program, and keeps what `show` said of the names of a class and its superclass."""
+    """Calls the program, with --dynamic where that is asked for, and keeps what `show` said of the names of a class and its superclass."""
 
-    def __init__(self):
+    def __init__(self, dynamic=False):
         self.known, self.lock = {}, threading.Lock()
+        self.command = ["verify", "--dynamic"] if dynamic else ["verify"]
 
     @staticmethod
     def call(*words):
@@ -85,7 +86,7 @@ class Verifier:
         self.add(above, places, seen, files)
         while count != len(files):
             count = len(files)
-            lines, errors, status = self.call("verify", "--", file, *files)
+            lines, errors, status = self.call(*self.command, "--", file, *files)
             for line in lines:
                 if it := MISSING.search(line):
                     self.add(it[1], places, seen, files)

@@ -56,7 +56,7 @@ ROWS = """
 ()Ljava/lang/invoke/MethodType; 1 0 | ldc [method_type]; areturn | verified
 ()Ljava/lang/invoke/MethodHandle; 1 0 | ldc [handle]; areturn | verified
 ()LA; 1 0 | ldc [class A]; areturn | refused 77 at 2 missing java/lang/Class
-()V 1 0 | ldc [dynamic]; pop; return | refused 60 at 0
+()V 1 0 | ldc [computed I]; pop; return | refused 60 at 0
 ()V 2 0 | ldc [long]; pop2; return | refused 66 at 0
 ()V 1 0 | ldc [field A x I]; pop; return | refused 66 at 0
 ()V 1 0 | ldc 0; pop; return | refused 66 at 0
@@ -229,6 +229,9 @@ class Constants:
     def member(self, tag, owner, name, descriptor):
         return self.put(reference(tag, self.owner(owner), self.put(name_and_type(self.text(name), self.text(descriptor)))))
 
+    def dynamic(self, tag, name, descriptor):
+        return self.put(reference(tag, 0, self.put(name_and_type(self.text(name), self.text(descriptor)))))
+
     def named(self, words):
         """The index of the constant that these words name."""
         kind, *parts = words.split()
@@ -236,6 +239,10 @@ class Constants:
             return self.owner(*parts)
         if kind in ("field", "method", "interface"):
             return self.member({"field": 9, "method": 10, "interface": 11}[kind], *parts)
+        if kind == "site":
+            return self.dynamic(18, *parts)
+        if kind == "computed":
+            return self.dynamic(17, "d", *parts)
         return self.put(
             {
                 "int": lambda: integer(1),
@@ -244,7 +251,6 @@ class Constants:
                 "string": lambda: u1(8) + u2(self.text("K")),
                 "method_type": lambda: u1(16) + u2(self.text("()V")),
                 "handle": lambda: u1(15) + u1(6) + u2(self.member(10, "A", "f", "()V")),
-                "dynamic": lambda: reference(17, 0, self.put(name_and_type(self.text("d"), self.text("I")))),
             }[kind]()
         )
 

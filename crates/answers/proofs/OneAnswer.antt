@@ -7,30 +7,32 @@ use Rattle.answers.specs.Files.{refusal_status}
 use Rattle.answers.specs.Texts.{refusal_line}
 use Rattle.answers.specs.Laws.{OneAnswer}
 use Rattle.answers.specs.declared.command.Command.TheVariants.{Check, Show, Verify, Play}
+use Rattle.answers.specs.declared.command.Form.{Form}
+use Rattle.answers.specs.declared.command.Form.TheVariants.{Plain}
 use Rattle.answers.proofs.OneFile.{Laws, one_formed, not_refused, one_refusal}
 use Rattle.answers.proofs.OneVerify.{one_verify}
 use Rattle.answers.proofs.OnePlay.{one_play}
 
-one_said : Laws → (Tells : Class → List ℕ → ℕ → Type 0) → ((c : Class) (text other : List ℕ) (status next : ℕ) → Tells c text status → Tells c other next → (text ≡ other) × (status ≡ next))
+one_said : Laws → (form : Form) (Tells : Class → List ℕ → ℕ → Type 0) → ((c : Class) (text other : List ℕ) (status next : ℕ) → Tells c text status → Tells c other next → (text ≡ other) × (status ≡ next))
     → (read : Read) (text other : List ℕ) (status next : ℕ)
-    → FileSays Tells read text status → FileSays Tells read other next → (text ≡ other) × (status ≡ next)
-one_said laws Tells one read text other status next (inl (c, p, t)) (inl (d, q, u)) =
+    → FileSays form Tells read text status → FileSays form Tells read other next → (text ≡ other) × (status ≡ next)
+one_said laws form Tells one read text other status next (inl (c, p, t)) (inl (d, q, u)) =
     one c text other status next t (subst (λ x. Tells x other next) (one_formed laws read d c q p) u)
-one_said laws Tells one read text other status next (inl (c, p, t)) (inr (r, q, u, s)) = absurd (not_refused laws read c r p q)
-one_said laws Tells one read text other status next (inr (r, p, t, s)) (inl (c, q, u)) = absurd (not_refused laws read c r q p)
-one_said laws Tells one read text other status next (inr (r, p, t, s)) (inr (q, o, u, v)) =
+one_said laws form Tells one read text other status next (inl (c, p, t)) (inr (r, q, u, s)) = absurd (not_refused laws read c r p q)
+one_said laws form Tells one read text other status next (inr (r, p, t, s)) (inl (c, q, u)) = absurd (not_refused laws read c r q p)
+one_said laws form Tells one read text other status next (inr (r, p, t, s)) (inr (q, o, u, v)) =
     let same = one_refusal laws read r q p o in
-    (t ∙ ap refusal_line same ∙ sym u, s ∙ ap refusal_status same ∙ sym v)
+    (t ∙ ap (refusal_line form) same ∙ sym u, s ∙ ap refusal_status same ∙ sym v)
 
-one_check : (c : Class) (text other : List ℕ) (status next : ℕ) → CheckTells c text status → CheckTells c other next → (text ≡ other) × (status ≡ next)
-one_check c text other status next p q = (p.0 ∙ sym q.0, p.1 ∙ sym q.1)
+one_check : (form : Form) (c : Class) (text other : List ℕ) (status next : ℕ) → CheckTells form c text status → CheckTells form c other next → (text ≡ other) × (status ≡ next)
+one_check form c text other status next p q = (p.0 ∙ sym q.0, p.1 ∙ sym q.1)
 
 one_show : (c : Class) (text other : List ℕ) (status next : ℕ) → ShowTells c text status → ShowTells c other next → (text ≡ other) × (status ≡ next)
 one_show c text other status next p q = (p.0 ∙ sym q.0, p.1 ∙ sym q.1)
 
 pub same_answer : Laws → OneAnswer
 same_answer laws command [] text other status next p q = (p.0 ∙ sym q.0, p.1 ∙ sym q.1)
-same_answer laws Check (read ∷ others) text other status next p q = one_said laws CheckTells one_check read text other status next p q
-same_answer laws Show (read ∷ others) text other status next p q = one_said laws ShowTells one_show read text other status next p q
-same_answer laws Verify (read ∷ known) text other status next p q = one_verify laws read known text other status next p q
-same_answer laws Play (read ∷ others) text other status next p q = one_play laws (read ∷ others) text other status next p q
+same_answer laws (Check form) (read ∷ others) text other status next p q = one_said laws form (CheckTells form) (one_check form) read text other status next p q
+same_answer laws Show (read ∷ others) text other status next p q = one_said laws Plain ShowTells one_show read text other status next p q
+same_answer laws (Verify form profile) (read ∷ known) text other status next p q = one_verify laws form profile read known text other status next p q
+same_answer laws (Play profile) (read ∷ others) text other status next p q = one_play laws profile (read ∷ others) text other status next p q

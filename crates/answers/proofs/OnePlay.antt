@@ -3,9 +3,11 @@ use Rattle.std.proofs.Common.{◌≡◌, ℕ, zero, suc, ◌+◌, ◌<◌, List,
 use Rattle.std.specs.Prelude.{◌⊎◌, true, false, ◌++◌, slice_get, codes, decimal}
 use Rattle.std.proofs.lemmas.Bool.{cases_order}
 use Rattle.std.proofs.lemmas.Option.{none-some}
-use Rattle.classfile.specs.Values.{Class}
+use Rattle.classfile.specs.Methods.{JudgedClass}
+use Rattle.classfile.specs.CodeMethods.{judged}
+use Rattle.classfile.specs.declared.profile.Profile.{Profile}
 use Rattle.hierarchy.specs.Class.{ClassFact}
-use Rattle.hierarchy.specs.ClassSummary.{summary_of}
+use Rattle.verify.specs.Together.{facts_in}
 use Rattle.verify.specs.declared.verdict.Verdict.{Verdict}
 use Rattle.verify.specs.declared.verdict.Verdict.TheVariants.{Verified, NoCode, Refused}
 use Rattle.verify.specs.declared.report.MethodVerdict.{MethodVerdict}
@@ -18,6 +20,7 @@ use Rattle.verify.specs.Reports.{IsReport}
 use Rattle.verify.specs.Plays.{IsFineVerdict, IsFirstRefused, IsFine, HasRefused, Breaks, AreFine}
 use Rattle.answers.specs.Files.{refusal_status}
 use Rattle.answers.specs.Verdicts.{verdict_line}
+use Rattle.answers.specs.declared.command.Form.TheVariants.{Plain}
 use Rattle.answers.specs.Plays.{numbered_refusal, rule_refusal, BrokenSays, ClassesSay, TogetherSay, PlaySays}
 use Rattle.answers.proofs.OneFile.{Laws}
 use Rattle.answers.proofs.OneVerify.{same_refusal, same_line, one_list, one_first, none_refused}
@@ -49,7 +52,7 @@ fine_too NoCode NoCode e f = tt
 fine_too v (Refused at why) e f = absurd f
 fine_too _ _ e f = absurd e
 
-module _ (laws : Laws) (classes : List ClassFact) (cs : List Class) (place : ℕ) (c : Class) where
+module _ (laws : Laws) (classes : List ClassFact) (cs : List JudgedClass) (place : ℕ) (c : JudgedClass) where
   broken_fine : (rule : PlayRule) (rs : List MethodVerdict) → Breaks classes cs place c rule → IsFine classes cs place c rs → ⊥
   broken_fine NotInHierarchy rs b f = b f.report.listed
   broken_fine FinalSuper rs b f = false_true (sym f.not_final ∙ b.1)
@@ -85,11 +88,11 @@ module _ (laws : Laws) (classes : List ClassFact) (cs : List Class) (place : ℕ
       let (x, there) = item qs n (omega (arith, lt, within qs m o two.here)) in
       one.refused (fine_too r.verdict x.verdict (same.each n r x one.here there).verdict (two.before n x lt there))
 
-  one_line : (n m : ℕ) (r o : MethodVerdict) → HasRefused classes cs place c n r → HasRefused classes cs place c m o → verdict_line r ≡ verdict_line o
+  one_line : (n m : ℕ) (r o : MethodVerdict) → HasRefused classes cs place c n r → HasRefused classes cs place c m o → verdict_line Plain r ≡ verdict_line Plain o
   one_line n m r o (plain, first, (rs, p, one)) (even, before, (qs, q, two)) = by (cases_order n m)
     where
-      by : (n ≡ m) ⊎ ((n < m) ⊎ (m < n)) → verdict_line r ≡ verdict_line o
-      by (inl e) = same_line r o ((laws.one_report classes c rs qs p q).each n r o one.here (ap (slice_get qs) e ∙ two.here))
+      by : (n ≡ m) ⊎ ((n < m) ⊎ (m < n)) → verdict_line Plain r ≡ verdict_line Plain o
+      by (inl e) = same_line Plain r o ((laws.one_report classes c rs qs p q).each n r o one.here (ap (slice_get qs) e ∙ two.here))
       by (inr (inl lt)) = absurd (not_later rs qs n m r o p q one two lt)
       by (inr (inr lt)) = absurd (not_later qs rs m n o r q p two one lt)
 
@@ -110,9 +113,9 @@ module _ (laws : Laws) (classes : List ClassFact) (cs : List Class) (place : ℕ
 
 -- ---- of all classes
 
-module _ (laws : Laws) (classes : List ClassFact) (cs : List Class) where
+module _ (laws : Laws) (classes : List ClassFact) (cs : List JudgedClass) where
   -- of a class among those that break no rule
-  not_among : (place : ℕ) (c : Class) (text : List ℕ) (status : ℕ) (rs : List Report) → slice_get cs place ≡ Some c → BrokenSays classes cs place c text status
+  not_among : (place : ℕ) (c : JudgedClass) (text : List ℕ) (status : ℕ) (rs : List Report) → slice_get cs place ≡ Some c → BrokenSays classes cs place c text status
       → AreFine classes cs rs → place < length rs → ⊥
   not_among place c text status rs here b fine lt =
       let (r, at) = item rs place lt in
@@ -137,21 +140,21 @@ module _ (laws : Laws) (classes : List ClassFact) (cs : List Class) where
   one_classes text other status next (inr (rs, p, t, s)) (inr (qs, q, u, v)) = (t ∙ sym u, s ∙ sym v)
 
 module _ (laws : Laws) where
-  one_together : (cs : List Class) (text other : List ℕ) (status next : ℕ) → TogetherSay cs text status → TogetherSay cs other next → (text ≡ other) × (status ≡ next)
+  one_together : (cs : List JudgedClass) (text other : List ℕ) (status next : ℕ) → TogetherSay cs text status → TogetherSay cs other next → (text ≡ other) × (status ≡ next)
   one_together cs text other status next (inl (f, m, p, t, s)) (inl (g, n, q, u, v)) =
-      let same = laws.one_hierarchy_fault (map summary_of cs) f g m n p q in
-      (t ∙ same_refusal f g same.0 same.1 ∙ sym u, s ∙ sym v)
-  one_together cs text other status next (inl (f, m, p, t, s)) (inr (h, q)) = absurd (laws.not_hierarchy (map summary_of cs) f m p h)
-  one_together cs text other status next (inr (h, p)) (inl (g, n, q, u, v)) = absurd (laws.not_hierarchy (map summary_of cs) g n q h)
-  one_together cs text other status next (inr (h, p)) (inr (k, q)) = one_classes laws (map summary_of cs) cs text other status next p q
+      let same = laws.one_hierarchy_fault (facts_in cs) f g m n p q in
+      (t ∙ same_refusal Plain f g same.0 same.1 ∙ sym u, s ∙ sym v)
+  one_together cs text other status next (inl (f, m, p, t, s)) (inr (h, q)) = absurd (laws.not_hierarchy (facts_in cs) f m p h)
+  one_together cs text other status next (inr (h, p)) (inl (g, n, q, u, v)) = absurd (laws.not_hierarchy (facts_in cs) g n q h)
+  one_together cs text other status next (inr (h, p)) (inr (k, q)) = one_classes laws (facts_in cs) cs text other status next p q
 
-  pub one_play : (reads : List Read) (text other : List ℕ) (status next : ℕ) → PlaySays reads text status → PlaySays reads other next → (text ≡ other) × (status ≡ next)
-  one_play reads text other status next (inl (i, r, p, t, s)) (inl (j, o, q, u, v)) =
+  pub one_play : (profile : Profile) (reads : List Read) (text other : List ℕ) (status next : ℕ) → PlaySays profile reads text status → PlaySays profile reads other next → (text ≡ other) × (status ≡ next)
+  one_play profile reads text other status next (inl (i, r, p, t, s)) (inl (j, o, q, u, v)) =
       let same = one_first laws reads i j r o p q in (
         t ∙ ap (λ n. numbered_refusal (n + 1) r) same.0 ∙ ap (numbered_refusal (j + 1)) same.1 ∙ sym u,
         s ∙ ap refusal_status same.1 ∙ sym v,
       )
-  one_play reads text other status next (inl (i, r, p, t, s)) (inr (ds, q, k)) = absurd (none_refused laws reads ds i r q p)
-  one_play reads text other status next (inr (cs, p, h)) (inl (j, o, q, u, v)) = absurd (none_refused laws reads cs j o p q)
-  one_play reads text other status next (inr (cs, p, h)) (inr (ds, q, k)) =
-      one_together ds text other status next (subst (λ x. TogetherSay x text status) (one_list laws reads cs ds p q) h) k
+  one_play profile reads text other status next (inl (i, r, p, t, s)) (inr (ds, q, k)) = absurd (none_refused laws reads ds i r q p)
+  one_play profile reads text other status next (inr (cs, p, h)) (inl (j, o, q, u, v)) = absurd (none_refused laws reads cs j o p q)
+  one_play profile reads text other status next (inr (cs, p, h)) (inr (ds, q, k)) =
+      one_together (map (judged profile) ds) text other status next (subst (λ x. TogetherSay (map (judged profile) x) text status) (one_list laws reads cs ds p q) h) k

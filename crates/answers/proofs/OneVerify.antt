@@ -5,6 +5,9 @@ use Rattle.std.specs.List.{flat_map, list_any}
 use Rattle.std.proofs.lemmas.Bool.{cases_order}
 use Rattle.std.proofs.lemmas.Option.{none-some}
 use Rattle.classfile.specs.Values.{Class}
+use Rattle.classfile.specs.Methods.{JudgedClass}
+use Rattle.classfile.specs.CodeMethods.{judged}
+use Rattle.classfile.specs.declared.profile.Profile.{Profile}
 use Rattle.hierarchy.specs.declared.fault.HierarchyFault.{HierarchyFault}
 use Rattle.hierarchy.specs.declared.fault.HierarchyFault.TheVariants.{OutOfMemory}
 use Rattle.hierarchy.specs.Class.{ClassFact}
@@ -20,10 +23,14 @@ use Rattle.verify.specs.declared.report.MethodVerdict.{MethodVerdict}
 use Rattle.verify.specs.OneVerdict.{AreSameVerdict, IsSameLine}
 use Rattle.printing.specs.Faults.{at_text}
 use Rattle.printing.specs.Names.{name_text, spelled_text}
+use Rattle.printing.specs.Json.{Field, number, name, spelled, object_line}
+use Rattle.answers.specs.Texts.{kind, answer}
+use Rattle.answers.specs.declared.command.Form.{Form}
+use Rattle.answers.specs.declared.command.Form.TheVariants.{Plain, Json}
 use Rattle.verify.specs.declared.files.FileFault.{FileFault}
 use Rattle.verify.specs.Files.{Read, IsFormed, IsRefused, AreFormed, IsFirstRefused}
 use Rattle.answers.specs.Files.{refusal_status}
-use Rattle.answers.specs.Verdicts.{class_refusal, known_refusal, fault_name, hierarchy_refusal, reason_ending, verdict_text, verdict_line, is_refusal, ClassSays, HierarchySays, KnownSays, VerifySays}
+use Rattle.answers.specs.Verdicts.{class_refusal, known_refusal, fault_name, named_field, name_fields, hierarchy_refusal, reason_ending, reason_fields, verdict_text, verdict_fields, verdict_line, is_refusal, ClassSays, HierarchySays, KnownSays, VerifySays}
 use Rattle.answers.proofs.OneFile.{Laws, one_formed, not_refused, one_refusal}
 
 false_true : false ≡ true → ⊥
@@ -42,18 +49,32 @@ by_name : (f : HierarchyFault) → fault_name f ≡ name_behind (fault_class f)
 by_name OutOfMemory = refl
 by_name _ = refl
 
-pub same_refusal : (f g : HierarchyFault) → number_of f ≡ number_of g → fault_class f ≡ fault_class g → hierarchy_refusal f ≡ hierarchy_refusal g
-same_refusal f g number class =
+abbrev field_of : Option (List ℕ) → List Field
+field_of None = []
+field_of (Some name) = named_field name
+
+field_by_name : (f : HierarchyFault) → name_fields f ≡ field_of (fault_class f)
+field_by_name OutOfMemory = refl
+field_by_name _ = refl
+
+abbrev object_of : ℕ → List Field → List ℕ
+object_of n fields = object_line (kind (codes "hierarchy") ∷ answer (codes "refused") ∷ (codes "number", number n) ∷ fields)
+
+pub same_refusal : (form : Form) (f g : HierarchyFault) → number_of f ≡ number_of g → fault_class f ≡ fault_class g → hierarchy_refusal form f ≡ hierarchy_refusal form g
+same_refusal Plain f g told class =
     let name : fault_name f ≡ fault_name g = by_name f ∙ ap name_behind class ∙ sym (by_name g) in
-    ap (λ n. codes "hierarchy refused " ++ (decimal n ++ (fault_name f ++ codes "\n"))) number
+    ap (λ n. codes "hierarchy refused " ++ (decimal n ++ (fault_name f ++ codes "\n"))) told
     ∙ ap (λ n. codes "hierarchy refused " ++ (decimal (number_of g) ++ (n ++ codes "\n"))) name
+same_refusal Json f g told class =
+    let fields : name_fields f ≡ name_fields g = field_by_name f ∙ ap field_of class ∙ sym (field_by_name g) in
+    ap (λ n. object_of n (name_fields f)) told ∙ ap (object_of (number_of g)) fields
 
 -- ---- of verdicts
 
 abbrev ending_of : Refusing → List ℕ
-ending_of (reason number) = []
+ending_of (reason n) = []
 ending_of (class_missing name) = codes " missing " ++ spelled_text name
-ending_of (with_fault number fault) = codes " fault " ++ decimal fault
+ending_of (with_fault n fault) = codes " fault " ++ decimal fault
 
 by_view : (why : Reason) → reason_ending why ≡ ending_of (reason_view why)
 by_view reasons.OutOfMemory = refl
@@ -62,41 +83,75 @@ by_view _ = refl
 same_ending : (why other : Reason) → reason_view why ≡ reason_view other → reason_ending why ≡ reason_ending other
 same_ending why other e = by_view why ∙ ap ending_of e ∙ sym (by_view other)
 
-same_verdict : (v w : Verdict) → AreSameVerdict v w → (verdict_text v ≡ verdict_text w) × (is_refusal v ≡ is_refusal w)
-same_verdict Verified Verified e = (refl, refl)
-same_verdict NoCode NoCode e = (refl, refl)
-same_verdict (Refused at why) (Refused there other) e = (
-  ap (λ n. codes " refused " ++ (decimal n ++ (at_text at ++ reason_ending why))) e.1
+abbrev fields_of : Refusing → List Field
+fields_of (reason n) = []
+fields_of (class_missing name) = (codes "missing", spelled name) ∷ []
+fields_of (with_fault n fault) = (codes "fault", number fault) ∷ []
+
+fields_by_view : (why : Reason) → reason_fields why ≡ fields_of (reason_view why)
+fields_by_view reasons.OutOfMemory = refl
+fields_by_view _ = refl
+
+same_fields : (why other : Reason) → reason_view why ≡ reason_view other → reason_fields why ≡ reason_fields other
+same_fields why other e = fields_by_view why ∙ ap fields_of e ∙ sym (fields_by_view other)
+
+-- two verdicts that say the same
+record SameTexts (v w : Verdict) : Type 0 where
+  text : verdict_text v ≡ verdict_text w
+  fields : verdict_fields v ≡ verdict_fields w
+  refusal : is_refusal v ≡ is_refusal w
+
+abbrev refusal_fields_of : ℕ → ℕ → List Field → List Field
+refusal_fields_of n at ending = answer (codes "refused") ∷ (codes "number", number n) ∷ (codes "at", number at) ∷ ending
+
+same_verdict : (v w : Verdict) → AreSameVerdict v w → SameTexts v w
+same_verdict Verified Verified e = record { text = refl; fields = refl; refusal = refl }
+same_verdict NoCode NoCode e = record { text = refl; fields = refl; refusal = refl }
+same_verdict (Refused at why) (Refused there other) e = record {
+  text =
+      ap (λ n. codes " refused " ++ (decimal n ++ (at_text at ++ reason_ending why))) e.1
       ∙ ap (λ a. codes " refused " ++ (decimal (reason_number other) ++ (at_text a ++ reason_ending why))) e.0
-      ∙ ap (λ x. codes " refused " ++ (decimal (reason_number other) ++ (at_text there ++ x))) (same_ending why other e.2),
-  refl,
-)
+      ∙ ap (λ x. codes " refused " ++ (decimal (reason_number other) ++ (at_text there ++ x))) (same_ending why other e.2);
+  fields =
+      ap (λ n. refusal_fields_of n at (reason_fields why)) e.1
+      ∙ ap (λ a. refusal_fields_of (reason_number other) a (reason_fields why)) e.0
+      ∙ ap (refusal_fields_of (reason_number other) there) (same_fields why other e.2);
+  refusal = refl;
+}
 same_verdict _ _ e = absurd e
 
 abbrev line_of : List ℕ → List ℕ → List ℕ → List ℕ
 line_of name descriptor verdict =
     codes "method " ++ (name_text name ++ (codes " " ++ (name_text descriptor ++ (verdict ++ codes "\n"))))
 
-pub same_line : (r q : MethodVerdict) → IsSameLine r q → verdict_line r ≡ verdict_line q
-same_line r q e =
+abbrev object_line_of : List ℕ → List ℕ → List Field → List ℕ
+object_line_of called descriptor verdict =
+    object_line (kind (codes "method") ∷ (codes "name", name called) ∷ (codes "descriptor", name descriptor) ∷ verdict)
+
+pub same_line : (form : Form) (r q : MethodVerdict) → IsSameLine r q → verdict_line form r ≡ verdict_line form q
+same_line Plain r q e =
     ap (λ n. line_of n r.descriptor.bytes.now (verdict_text r.verdict)) e.name
     ∙ ap (λ d. line_of q.name.bytes.now d (verdict_text r.verdict)) e.descriptor
-    ∙ ap (line_of q.name.bytes.now q.descriptor.bytes.now) (same_verdict r.verdict q.verdict e.verdict).0
+    ∙ ap (line_of q.name.bytes.now q.descriptor.bytes.now) (same_verdict r.verdict q.verdict e.verdict).text
+same_line Json r q e =
+    ap (λ n. object_line_of n r.descriptor.bytes.now (verdict_fields r.verdict)) e.name
+    ∙ ap (λ d. object_line_of q.name.bytes.now d (verdict_fields r.verdict)) e.descriptor
+    ∙ ap (object_line_of q.name.bytes.now q.descriptor.bytes.now) (same_verdict r.verdict q.verdict e.verdict).fields
 
 abbrev has_refusal : List MethodVerdict → Bool
 has_refusal rs = list_any (λ r. is_refusal r.verdict) rs
 
-same_lines : (rs qs : List MethodVerdict) → length rs ≡ length qs
+same_lines : (form : Form) (rs qs : List MethodVerdict) → length rs ≡ length qs
     → ((number : ℕ) (r q : MethodVerdict) → slice_get rs number ≡ Some r → slice_get qs number ≡ Some q → IsSameLine r q)
-    → (flat_map verdict_line rs ≡ flat_map verdict_line qs) × (has_refusal rs ≡ has_refusal qs)
-same_lines [] [] e each = (refl, refl)
-same_lines [] (q ∷ qs) e each = absurd (omega (arith, e))
-same_lines (r ∷ rs) [] e each = absurd (omega (arith, e))
-same_lines (r ∷ rs) (q ∷ qs) e each =
+    → (flat_map (verdict_line form) rs ≡ flat_map (verdict_line form) qs) × (has_refusal rs ≡ has_refusal qs)
+same_lines form [] [] e each = (refl, refl)
+same_lines form [] (q ∷ qs) e each = absurd (omega (arith, e))
+same_lines form (r ∷ rs) [] e each = absurd (omega (arith, e))
+same_lines form (r ∷ rs) (q ∷ qs) e each =
     let here = each zero r q refl refl in
-    let rest = same_lines rs qs (omega (arith, e)) (λ n. each (suc n)) in (
-      ap (λ x. x ++ flat_map verdict_line rs) (same_line r q here) ∙ ap (λ x. verdict_line q ++ x) rest.0,
-      ap (λ x. x || has_refusal rs) (same_verdict r.verdict q.verdict here.verdict).1 ∙ ap (λ x. is_refusal q.verdict || x) rest.1,
+    let rest = same_lines form rs qs (omega (arith, e)) (λ n. each (suc n)) in (
+      ap (λ x. x ++ flat_map (verdict_line form) rs) (same_line form r q here) ∙ ap (λ x. verdict_line form q ++ x) rest.0,
+      ap (λ x. x || has_refusal rs) (same_verdict r.verdict q.verdict here.verdict).refusal ∙ ap (λ x. is_refusal q.verdict || x) rest.1,
     )
 
 module _ (laws : Laws) where
@@ -135,44 +190,44 @@ module _ (laws : Laws) where
 
   -- ---- what is said
 
-  one_class : (classes : List ClassFact) (c : Class) (text other : List ℕ) (status next : ℕ)
-      → ClassSays classes c text status → ClassSays classes c other next → (text ≡ other) × (status ≡ next)
-  one_class classes c text other status next (inl (f, t, s)) (inl (g, u, v)) = (t ∙ sym u, s ∙ sym v)
-  one_class classes c text other status next (inl (f, t, s)) (inr (g, q)) = absurd (false_true (sym g ∙ f))
-  one_class classes c text other status next (inr (f, p)) (inl (g, u, v)) = absurd (false_true (sym f ∙ g))
-  one_class classes c text other status next (inr (f, (rs, p, t, s))) (inr (g, (qs, q, u, v))) =
+  one_class : (form : Form) (classes : List ClassFact) (c : JudgedClass) (text other : List ℕ) (status next : ℕ)
+      → ClassSays form classes c text status → ClassSays form classes c other next → (text ≡ other) × (status ≡ next)
+  one_class form classes c text other status next (inl (f, t, s)) (inl (g, u, v)) = (t ∙ sym u, s ∙ sym v)
+  one_class form classes c text other status next (inl (f, t, s)) (inr (g, q)) = absurd (false_true (sym g ∙ f))
+  one_class form classes c text other status next (inr (f, p)) (inl (g, u, v)) = absurd (false_true (sym f ∙ g))
+  one_class form classes c text other status next (inr (f, (rs, p, t, s))) (inr (g, (qs, q, u, v))) =
       let report = laws.one_report classes c rs qs p q in
-      let same = same_lines rs qs report.all report.each in
+      let same = same_lines form rs qs report.all report.each in
       (t ∙ same.0 ∙ sym u, s ∙ ap (λ b. if b then 1 else 0) same.1 ∙ sym v)
 
-  one_judged : (classes : List ClassFact) (c : Class) (text other : List ℕ) (status next : ℕ)
-      → HierarchySays classes c text status → HierarchySays classes c other next → (text ≡ other) × (status ≡ next)
-  one_judged classes c text other status next (inl (f, m, p, t, s)) (inl (g, n, q, u, v)) =
+  one_judged : (form : Form) (classes : List ClassFact) (c : JudgedClass) (text other : List ℕ) (status next : ℕ)
+      → HierarchySays form classes c text status → HierarchySays form classes c other next → (text ≡ other) × (status ≡ next)
+  one_judged form classes c text other status next (inl (f, m, p, t, s)) (inl (g, n, q, u, v)) =
       let same = laws.one_hierarchy_fault classes f g m n p q in
-      (t ∙ same_refusal f g same.0 same.1 ∙ sym u, s ∙ sym v)
-  one_judged classes c text other status next (inl (f, m, p, t, s)) (inr (h, q)) = absurd (laws.not_hierarchy classes f m p h)
-  one_judged classes c text other status next (inr (h, p)) (inl (g, n, q, u, v)) = absurd (laws.not_hierarchy classes g n q h)
-  one_judged classes c text other status next (inr (h, p)) (inr (k, q)) = one_class classes c text other status next p q
+      (t ∙ same_refusal form f g same.0 same.1 ∙ sym u, s ∙ sym v)
+  one_judged form classes c text other status next (inl (f, m, p, t, s)) (inr (h, q)) = absurd (laws.not_hierarchy classes f m p h)
+  one_judged form classes c text other status next (inr (h, p)) (inl (g, n, q, u, v)) = absurd (laws.not_hierarchy classes g n q h)
+  one_judged form classes c text other status next (inr (h, p)) (inr (k, q)) = one_class form classes c text other status next p q
 
-  one_known : (c : Class) (known : List Read) (text other : List ℕ) (status next : ℕ)
-      → KnownSays c known text status → KnownSays c known other next → (text ≡ other) × (status ≡ next)
-  one_known c known text other status next (inl (i, r, p, t, s)) (inl (j, o, q, u, v)) =
+  one_known : (form : Form) (c : JudgedClass) (known : List Read) (text other : List ℕ) (status next : ℕ)
+      → KnownSays form c known text status → KnownSays form c known other next → (text ≡ other) × (status ≡ next)
+  one_known form c known text other status next (inl (i, r, p, t, s)) (inl (j, o, q, u, v)) =
       let same = one_first known i j r o p q in (
-        t ∙ ap (λ n. known_refusal (n + 1) r) same.0 ∙ ap (known_refusal (j + 1)) same.1 ∙ sym u,
+        t ∙ ap (λ n. known_refusal form (n + 1) r) same.0 ∙ ap (known_refusal form (j + 1)) same.1 ∙ sym u,
         s ∙ ap refusal_status same.1 ∙ sym v,
       )
-  one_known c known text other status next (inl (i, r, p, t, s)) (inr (ds, q, k)) = absurd (none_refused known ds i r q p)
-  one_known c known text other status next (inr (cs, p, h)) (inl (j, o, q, u, v)) = absurd (none_refused known cs j o p q)
-  one_known c known text other status next (inr (cs, p, h)) (inr (ds, q, k)) =
-      one_judged (map summary_of (c ∷ ds)) c text other status next
-      (subst (λ x. HierarchySays (map summary_of (c ∷ x)) c text status) (one_list known cs ds p q) h) k
+  one_known form c known text other status next (inl (i, r, p, t, s)) (inr (ds, q, k)) = absurd (none_refused known ds i r q p)
+  one_known form c known text other status next (inr (cs, p, h)) (inl (j, o, q, u, v)) = absurd (none_refused known cs j o p q)
+  one_known form c known text other status next (inr (cs, p, h)) (inr (ds, q, k)) =
+      one_judged form (map summary_of (c.file ∷ ds)) c text other status next
+      (subst (λ x. HierarchySays form (map summary_of (c.file ∷ x)) c text status) (one_list known cs ds p q) h) k
 
-  pub one_verify : (read : Read) (known : List Read) (text other : List ℕ) (status next : ℕ)
-      → VerifySays read known text status → VerifySays read known other next → (text ≡ other) × (status ≡ next)
-  one_verify read known text other status next (inl (r, p, t, s)) (inl (o, q, u, v)) =
+  pub one_verify : (form : Form) (profile : Profile) (read : Read) (known : List Read) (text other : List ℕ) (status next : ℕ)
+      → VerifySays form profile read known text status → VerifySays form profile read known other next → (text ≡ other) × (status ≡ next)
+  one_verify form profile read known text other status next (inl (r, p, t, s)) (inl (o, q, u, v)) =
       let same = one_refusal laws read r o p q in
-      (t ∙ ap class_refusal same ∙ sym u, s ∙ ap refusal_status same ∙ sym v)
-  one_verify read known text other status next (inl (r, p, t, s)) (inr (d, q, l)) = absurd (not_refused laws read d r q p)
-  one_verify read known text other status next (inr (c, p, k)) (inl (o, q, u, v)) = absurd (not_refused laws read c o p q)
-  one_verify read known text other status next (inr (c, p, k)) (inr (d, q, l)) =
-      one_known c known text other status next k (subst (λ x. KnownSays x known other next) (one_formed laws read d c q p) l)
+      (t ∙ ap (class_refusal form) same ∙ sym u, s ∙ ap refusal_status same ∙ sym v)
+  one_verify form profile read known text other status next (inl (r, p, t, s)) (inr (d, q, l)) = absurd (not_refused laws read d r q p)
+  one_verify form profile read known text other status next (inr (c, p, k)) (inl (o, q, u, v)) = absurd (not_refused laws read c o p q)
+  one_verify form profile read known text other status next (inr (c, p, k)) (inr (d, q, l)) =
+      one_known form (judged profile c) known text other status next k (subst (λ x. KnownSays form (judged profile x) known other next) (one_formed laws read d c q p) l)

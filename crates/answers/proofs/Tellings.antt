@@ -6,6 +6,7 @@ use Rattle.verify.specs.declared.files.FileFault.{FileFault}
 use Rattle.verify.specs.declared.files.FileFault.TheVariants as faults
 use Rattle.verify.specs.Files.{Read, IsFormed, IsRefused, OrMemory}
 use Rattle.answers.specs.Files.{refusal_status}
+use Rattle.answers.specs.declared.command.Form.{Form}
 use Rattle.answers.specs.Texts.{refusal_line}
 use Rattle.answers.specs.declared.fault.AnswerFault.{AnswerFault}
 use Rattle.answers.specs.declared.fault.AnswerFault.TheVariants.{OutOfMemory, WriteFailed}
@@ -17,11 +18,11 @@ answered_more P Q more old new (Err OutOfMemory) kept = kept
 answered_more P Q more old new (Err WriteFailed) (text, status, told, wrote) = (text, status, more text status told, wrote)
 
 -- of a class
-pub of_class : (Tells : Class → List ℕ → ℕ → Type 0) (read : Read) (c : Class) (P : List ℕ → ℕ → Type 0) → IsFormed read c
+pub of_class : (form : Form) (Tells : Class → List ℕ → ℕ → Type 0) (read : Read) (c : Class) (P : List ℕ → ℕ → Type 0) → IsFormed read c
     → ((text : List ℕ) (status : ℕ) → P text status → Tells c text status)
-    → (old new : Option (List ℕ)) (r : Result ℕ AnswerFault) → Answered P old new r → Answered (FileSays Tells read) old new r
-of_class Tells read c P formed tells old new r told =
-    answered_more P (FileSays Tells read) (λ text status p. inl (c, formed, tells text status p)) old new r told
+    → (old new : Option (List ℕ)) (r : Result ℕ AnswerFault) → Answered P old new r → Answered (FileSays form Tells read) old new r
+of_class form Tells read c P formed tells old new r told =
+    answered_more P (FileSays form Tells read) (λ text status p. inl (c, formed, tells text status p)) old new r told
 
 -- of a file that is refused
 refused : (read : Read) (fault : FileFault) → OrMemory read fault → fault ≢ faults.OutOfMemory → IsRefused read fault
@@ -30,10 +31,10 @@ refused read (faults.Unread e) p other = p
 refused read (faults.NoClass e) p other = p
 refused read (faults.Malformed rule place) p other = p
 
-pub of_refusal : (Tells : Class → List ℕ → ℕ → Type 0) (read : Read) (fault : FileFault) → OrMemory read fault
+pub of_refusal : (form : Form) (Tells : Class → List ℕ → ℕ → Type 0) (read : Read) (fault : FileFault) → OrMemory read fault
     → (old new : Option (List ℕ)) (r : Result ℕ AnswerFault)
-    → Answered (λ t s. (fault ≢ faults.OutOfMemory) × (t ≡ refusal_line fault) × (s ≡ refusal_status fault)) old new r
-    → Answered (FileSays Tells read) old new r
-of_refusal Tells read fault why old new r told =
-    answered_more (λ t s. (fault ≢ faults.OutOfMemory) × (t ≡ refusal_line fault) × (s ≡ refusal_status fault)) (FileSays Tells read)
+    → Answered (λ t s. (fault ≢ faults.OutOfMemory) × (t ≡ refusal_line form fault) × (s ≡ refusal_status fault)) old new r
+    → Answered (FileSays form Tells read) old new r
+of_refusal form Tells read fault why old new r told =
+    answered_more (λ t s. (fault ≢ faults.OutOfMemory) × (t ≡ refusal_line form fault) × (s ≡ refusal_status fault)) (FileSays form Tells read)
     (λ text status p. inr (fault, refused read fault why p.0, p.1, p.2)) old new r told

@@ -1,5 +1,5 @@
 -- The answer to a command: a text and a status.
-use Rattle.std.specs.Prelude.{◌≡◌, ◌⊎◌, ℕ, Bool, true, false, List, [], ◌∷◌, codes, if◌then◌else◌, Option, Result, Ok, Err}
+use Rattle.std.specs.Prelude.{◌≡◌, ◌⊎◌, ℕ, Bool, true, false, List, [], ◌∷◌, if◌then◌else◌, Option, Result, Ok, Err}
 use Rattle.std.specs.List.{list_any}
 use Rattle.std.specs.Io.KnownBytes.{Appends, Keeps}
 use Rattle.layout.specs.declared.fault.ReadFault.TheVariants as reading
@@ -11,21 +11,23 @@ use Rattle.verify.specs.Files.{Read, IsFormed, IsRefused}
 use Rattle.answers.specs.Files.{refusal_status}
 use Rattle.answers.specs.Verdicts.{VerifySays}
 use Rattle.answers.specs.Plays.{PlaySays}
-use Rattle.answers.specs.Texts.{refusal_line}
+use Rattle.answers.specs.Texts.{ok_line, refusal_line}
 use Rattle.answers.specs.declared.fault.AnswerFault.{AnswerFault}
 use Rattle.answers.specs.declared.fault.AnswerFault.TheVariants.{OutOfMemory, WriteFailed}
 use Rattle.answers.specs.declared.command.Command.{Command}
 use Rattle.answers.specs.declared.command.Command.TheVariants.{Check, Show, Verify, Play}
+use Rattle.answers.specs.declared.command.Form.{Form}
+use Rattle.answers.specs.declared.command.Form.TheVariants.{Plain}
 
 -- The answer about a file: what is told of its class, or why it has none.
-abbrev pub FileSays : (Class → List ℕ → ℕ → Type 0) → Read → List ℕ → ℕ → Type 0
-FileSays Tells read text status =
+abbrev pub FileSays : Form → (Class → List ℕ → ℕ → Type 0) → Read → List ℕ → ℕ → Type 0
+FileSays form Tells read text status =
     ((c : Class) × IsFormed read c × Tells c text status)
-    ⊎ ((r : FileFault) × IsRefused read r × (text ≡ refusal_line r) × (status ≡ refusal_status r))
+    ⊎ ((r : FileFault) × IsRefused read r × (text ≡ refusal_line form r) × (status ≡ refusal_status r))
 
 -- `check` tells of a class that it is well formed
-abbrev pub CheckTells : Class → List ℕ → ℕ → Type 0
-CheckTells c text status = (text ≡ codes "ok\n") × (status ≡ 0)
+abbrev pub CheckTells : Form → Class → List ℕ → ℕ → Type 0
+CheckTells form c text status = (text ≡ ok_line form) × (status ≡ 0)
 
 -- `show` tells what it holds, and by the status whether the code of a method is refused
 abbrev pub ShowTells : Class → List ℕ → ℕ → Type 0
@@ -34,10 +36,10 @@ ShowTells c text status = (text ≡ class_lines c) × (status ≡ (if has_refuse
 -- The answer about these files. Of no file nothing is said.
 abbrev pub Says : Command → List Read → List ℕ → ℕ → Type 0
 Says command [] text status = (text ≡ []) × (status ≡ 0)
-Says Check (read ∷ others) text status = FileSays CheckTells read text status
-Says Show (read ∷ others) text status = FileSays ShowTells read text status
-Says Verify (read ∷ known) text status = VerifySays read known text status
-Says Play (read ∷ others) text status = PlaySays (read ∷ others) text status
+Says (Check form) (read ∷ others) text status = FileSays form (CheckTells form) read text status
+Says Show (read ∷ others) text status = FileSays Plain ShowTells read text status
+Says (Verify form profile) (read ∷ known) text status = VerifySays form profile read known text status
+Says (Play profile) (read ∷ others) text status = PlaySays profile (read ∷ others) text status
 
 -- The bytes that a writer holds behind an answer: all of what is to be said was written; or nothing, where memory
 -- ran out; or a beginning of it, where a write failed.

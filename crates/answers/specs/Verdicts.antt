@@ -2,6 +2,9 @@
 use Rattle.std.specs.Prelude.{◌≡◌, ◌≢◌, ◌⊎◌, ℕ, ◌+◌, Bool, true, false, if◌then◌else◌, List, [], ◌∷◌, ◌++◌, map, codes, decimal}
 use Rattle.std.specs.List.{flat_map, list_any}
 use Rattle.classfile.specs.Values.{Class}
+use Rattle.classfile.specs.Methods.{JudgedClass}
+use Rattle.classfile.specs.CodeMethods.{judged}
+use Rattle.classfile.specs.declared.profile.Profile.{Profile}
 use Rattle.hierarchy.specs.declared.fault.HierarchyFault.{HierarchyFault}
 use Rattle.hierarchy.specs.declared.fault.HierarchyFault.TheVariants.{OutOfMemory, ClassTwice, Cycle, SuperMissing, NoObject, BadArrayInterface, TooManyClasses, InterfaceSuper}
 use Rattle.hierarchy.specs.Class.{ClassFact}
@@ -18,19 +21,25 @@ use Rattle.verify.specs.FinalSuper.{has_final_super}
 use Rattle.verify.specs.Reports.{IsReport}
 use Rattle.printing.specs.Faults.{at_text}
 use Rattle.printing.specs.Names.{name_text, spelled_text}
-use Rattle.answers.specs.Texts.{refusal_text}
+use Rattle.printing.specs.Json.{Field, number, spelled, name, object_line}
+use Rattle.answers.specs.Texts.{refusal_text, refusal_fields, kind, answer}
+use Rattle.answers.specs.declared.command.Form.{Form}
+use Rattle.answers.specs.declared.command.Form.TheVariants.{Plain, Json}
 use Rattle.verify.specs.declared.files.FileFault.{FileFault}
 use Rattle.verify.specs.Files.{Read, IsFormed, IsRefused, AreFormed, IsFirstRefused}
 use Rattle.answers.specs.Files.{refusal_status}
 
--- ---- texts
+-- ---- texts, in words or as objects of JSON
 
-abbrev pub class_refusal : FileFault → List ℕ
-class_refusal r = codes "class refused " ++ (refusal_text r ++ codes "\n")
+abbrev pub class_refusal : Form → FileFault → List ℕ
+class_refusal Plain r = codes "class refused " ++ (refusal_text r ++ codes "\n")
+class_refusal Json r = object_line (kind (codes "class") ∷ answer (codes "refused") ∷ refusal_fields r)
 
--- of the known class of this number; they count from 1
-abbrev pub known_refusal : ℕ → FileFault → List ℕ
-known_refusal number r = codes "known " ++ (decimal number ++ (codes " refused " ++ (refusal_text r ++ codes "\n")))
+-- of the known class at this position; they count from 1
+abbrev pub known_refusal : Form → ℕ → FileFault → List ℕ
+known_refusal Plain position r = codes "known " ++ (decimal position ++ (codes " refused " ++ (refusal_text r ++ codes "\n")))
+known_refusal Json position r =
+    object_line (kind (codes "known") ∷ (codes "position", number position) ∷ answer (codes "refused") ∷ refusal_fields r)
 
 -- the name of the class that has the fault, where it has one
 abbrev pub fault_name : HierarchyFault → List ℕ
@@ -43,12 +52,28 @@ fault_name (BadArrayInterface name) = codes " " ++ spelled_text name.now
 fault_name TooManyClasses = []
 fault_name (InterfaceSuper name) = codes " " ++ spelled_text name.now
 
-abbrev pub hierarchy_refusal : HierarchyFault → List ℕ
-hierarchy_refusal f = codes "hierarchy refused " ++ (decimal (number_of f) ++ (fault_name f ++ codes "\n"))
+abbrev pub named_field : List ℕ → List Field
+named_field bytes = (codes "name", spelled bytes) ∷ []
+
+abbrev pub name_fields : HierarchyFault → List Field
+name_fields OutOfMemory = []
+name_fields (ClassTwice name) = named_field name.now
+name_fields (Cycle name) = named_field name.now
+name_fields (SuperMissing name) = named_field name.now
+name_fields NoObject = []
+name_fields (BadArrayInterface name) = named_field name.now
+name_fields TooManyClasses = []
+name_fields (InterfaceSuper name) = named_field name.now
+
+abbrev pub hierarchy_refusal : Form → HierarchyFault → List ℕ
+hierarchy_refusal Plain f = codes "hierarchy refused " ++ (decimal (number_of f) ++ (fault_name f ++ codes "\n"))
+hierarchy_refusal Json f =
+    object_line (kind (codes "hierarchy") ∷ answer (codes "refused") ∷ (codes "number", number (number_of f)) ∷ name_fields f)
 
 -- the superclass of the class is final
-abbrev pub final_super_refusal : List ℕ
-final_super_refusal = codes "class refused 81\n"
+abbrev pub final_super_refusal : Form → List ℕ
+final_super_refusal Plain = codes "class refused 81\n"
+final_super_refusal Json = object_line (kind (codes "class") ∷ answer (codes "refused") ∷ (codes "number", number 81) ∷ [])
 
 -- behind a reason: the class that is missing, or the number of the fault in a stack map or in code
 abbrev pub reason_ending : Reason → List ℕ
@@ -57,13 +82,28 @@ reason_ending (BadStackMap fault) = codes " fault " ++ decimal fault
 reason_ending (BadCode fault) = codes " fault " ++ decimal fault
 reason_ending why = []
 
+abbrev pub reason_fields : Reason → List Field
+reason_fields (ClassMissing name) = (codes "missing", spelled name.now) ∷ []
+reason_fields (BadStackMap fault) = (codes "fault", number fault) ∷ []
+reason_fields (BadCode fault) = (codes "fault", number fault) ∷ []
+reason_fields why = []
+
 abbrev pub verdict_text : Verdict → List ℕ
 verdict_text Verified = codes " verified"
 verdict_text NoCode = codes " no code"
 verdict_text (Refused at why) = codes " refused " ++ (decimal (reason_number why) ++ (at_text at ++ reason_ending why))
 
-abbrev pub verdict_line : MethodVerdict → List ℕ
-verdict_line r = codes "method " ++ (name_text r.name.bytes.now ++ (codes " " ++ (name_text r.descriptor.bytes.now ++ (verdict_text r.verdict ++ codes "\n"))))
+abbrev pub verdict_fields : Verdict → List Field
+verdict_fields Verified = answer (codes "verified") ∷ []
+verdict_fields NoCode = answer (codes "no code") ∷ []
+verdict_fields (Refused at why) =
+    answer (codes "refused") ∷ (codes "number", number (reason_number why)) ∷ (codes "at", number at) ∷ reason_fields why
+
+abbrev pub verdict_line : Form → MethodVerdict → List ℕ
+verdict_line Plain r =
+    codes "method " ++ (name_text r.name.bytes.now ++ (codes " " ++ (name_text r.descriptor.bytes.now ++ (verdict_text r.verdict ++ codes "\n"))))
+verdict_line Json r =
+    object_line (kind (codes "method") ∷ (codes "name", name r.name.bytes.now) ∷ (codes "descriptor", name r.descriptor.bytes.now) ∷ verdict_fields r.verdict)
 
 abbrev pub is_refusal : Verdict → Bool
 is_refusal Verified = false
@@ -77,28 +117,29 @@ report_status rs = if list_any (λ r. is_refusal r.verdict) rs then 1 else 0
 -- ---- what is said
 
 -- the verdicts on the methods of a class
-abbrev pub ReportSays : List ClassFact → Class → List ℕ → ℕ → Type 0
-ReportSays classes c text status = (rs : List MethodVerdict) × IsReport classes c rs × (text ≡ flat_map verdict_line rs) × (status ≡ report_status rs)
+abbrev pub ReportSays : Form → List ClassFact → JudgedClass → List ℕ → ℕ → Type 0
+ReportSays form classes c text status = (rs : List MethodVerdict) × IsReport classes c rs × (text ≡ flat_map (verdict_line form) rs) × (status ≡ report_status rs)
 
 -- Of a class in a hierarchy: that its superclass is final, or the verdicts on its methods.
-abbrev pub ClassSays : List ClassFact → Class → List ℕ → ℕ → Type 0
-ClassSays classes c text status =
-    ((has_final_super classes (summary_of c) ≡ true) × (text ≡ final_super_refusal) × (status ≡ 1))
-    ⊎ ((has_final_super classes (summary_of c) ≡ false) × ReportSays classes c text status)
+abbrev pub ClassSays : Form → List ClassFact → JudgedClass → List ℕ → ℕ → Type 0
+ClassSays form classes c text status =
+    ((has_final_super classes (summary_of c.file) ≡ true) × (text ≡ final_super_refusal form) × (status ≡ 1))
+    ⊎ ((has_final_super classes (summary_of c.file) ≡ false) × ReportSays form classes c text status)
 
 -- Of a class and of the summaries of all: why they are no hierarchy, or what is said of the class in it.
-abbrev pub HierarchySays : List ClassFact → Class → List ℕ → ℕ → Type 0
-HierarchySays classes c text status =
-    ((f : HierarchyFault) × (f ≢ OutOfMemory) × FaultOf classes f × (text ≡ hierarchy_refusal f) × (status ≡ 1))
-    ⊎ (IsHierarchy classes × ClassSays classes c text status)
+abbrev pub HierarchySays : Form → List ClassFact → JudgedClass → List ℕ → ℕ → Type 0
+HierarchySays form classes c text status =
+    ((f : HierarchyFault) × (f ≢ OutOfMemory) × FaultOf classes f × (text ≡ hierarchy_refusal form f) × (status ≡ 1))
+    ⊎ (IsHierarchy classes × ClassSays form classes c text status)
 
 -- Of a class and the files of the known ones: the first of these that is refused, or what is said of all.
-abbrev pub KnownSays : Class → List Read → List ℕ → ℕ → Type 0
-KnownSays c known text status =
-    ((i : ℕ) × (r : FileFault) × IsFirstRefused known i r × (text ≡ known_refusal (i + 1) r) × (status ≡ refusal_status r))
-    ⊎ ((cs : List Class) × AreFormed known cs × HierarchySays (map summary_of (c ∷ cs)) c text status)
+abbrev pub KnownSays : Form → JudgedClass → List Read → List ℕ → ℕ → Type 0
+KnownSays form c known text status =
+    ((i : ℕ) × (r : FileFault) × IsFirstRefused known i r × (text ≡ known_refusal form (i + 1) r) × (status ≡ refusal_status r))
+    ⊎ ((cs : List Class) × AreFormed known cs × HierarchySays form (map summary_of (c.file ∷ cs)) c text status)
 
-abbrev pub VerifySays : Read → List Read → List ℕ → ℕ → Type 0
-VerifySays read known text status =
-    ((r : FileFault) × IsRefused read r × (text ≡ class_refusal r) × (status ≡ refusal_status r))
-    ⊎ ((c : Class) × IsFormed read c × KnownSays c known text status)
+-- by a profile
+abbrev pub VerifySays : Form → Profile → Read → List Read → List ℕ → ℕ → Type 0
+VerifySays form profile read known text status =
+    ((r : FileFault) × IsRefused read r × (text ≡ class_refusal form r) × (status ≡ refusal_status r))
+    ⊎ ((c : Class) × IsFormed read c × KnownSays form (judged profile c) known text status)

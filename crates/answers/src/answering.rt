@@ -36,10 +36,12 @@ pub fn answer<W: Write, S: BuildHasher + Drop>(
     match reads {
         [] => Ok(0),
         [read, known @ ..] => match command {
-            Command::Check => check(alloc, read, out),
+            Command::Check(form) => check(alloc, form, read, out),
             Command::Show => show(alloc, read, out),
-            Command::Verify => verify(alloc, read, known, hasher, out),
-            Command::Play => play(alloc, reads, hasher, out),
+            Command::Verify(form, profile) => verify(
+                alloc, form, profile, read, known, hasher, out,
+            ),
+            Command::Play(profile) => play(alloc, profile, reads, hasher, out),
         },
     }
 }

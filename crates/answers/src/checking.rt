@@ -1,26 +1,47 @@
 //! The command `check`: whether a file is a class file that is well formed.
 ghost use Rattle.answers.specs.Answers.{Answered, CheckTells, FileSays};
 ghost use Rattle.answers.specs.Files.{read_view};
+ghost use Rattle.answers.specs.Texts.{ok_line};
 
+use crate::command::Form;
 use crate::fault::AnswerFault;
 use crate::reads::file_read;
 use crate::telling::{refuse, tell};
 use layout::StreamFault;
-use printing::Word;
+use printing::{END, More, Object, Print, Quoted, Word, WriteFailed};
 use std::alloc::Global;
 use std::io::Write;
 use verify::class_file;
 
+/// The line of a class that is well formed.
+#[derive(Clone, Copy)]
+struct OkLine(Form);
+
+impl Print for OkLine {
+    ghost text = { λ t. ok_line t.0 };
+
+    fn put<W: Write>(&self, out: &mut W) -> Result<(), WriteFailed> {
+        match self.0 {
+            Form::Plain => Word("ok\n").put(out),
+            Form::Json => {
+                let ok = More("answer", Quoted("ok"), END);
+                Object("kind", Quoted("file"), ok).put(out)
+            }
+        }
+    }
+}
+
 /// Answers `check` of a file that was read so.
 pub fn check<W: Write>(
     alloc: Global,
+    form: Form,
     read: &Result<Vec<u8>, StreamFault>,
     out: &mut W,
 ) -> Result<u8, AnswerFault>
-    ensures { Answered (FileSays CheckTells (read_view read.now)) (W.contents out.old) (W.contents out.new) result }
+    ensures { Answered (FileSays form (CheckTells form) (read_view read.now)) (W.contents out.old) (W.contents out.new) result }
 {
     match class_file(alloc, file_read(read)) {
-        Ok(_class) => tell(&Word("ok\n"), 0, out),
-        Err(fault) => refuse(fault, out),
+        Ok(_class) => tell(&OkLine(form), 0, out),
+        Err(fault) => refuse(form, fault, out),
     }
 }

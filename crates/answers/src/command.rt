@@ -1,15 +1,26 @@
 //! The commands of the program.
+use classfile::Profile;
+
+/// The form that an answer is written in.
+#[derive(Clone, Copy, Debug, PartialEq, Eq)]
+pub enum Form {
+    /// Words for people.
+    Plain,
+    /// `--json`: objects of JSON (RFC 8259), each on a line of its own.
+    Json,
+}
 
 /// A question about class files.
 #[derive(Clone, Copy, Debug, PartialEq, Eq)]
 pub enum Command {
     /// `check FILE`: whether the file is a class file that is well formed.
-    Check,
+    Check(Form),
     /// `show FILE`: what the class file holds.
     Show,
     /// `verify CLASS KNOWN...`: the verdicts on the methods of the class in the first file, which may refer to the classes
-    /// in the others.
-    Verify,
-    /// `play CLASS...`: whether the classes in the files may run together, each method that has code verified.
-    Play,
+    /// in the others; with `--dynamic` by [`Profile::Dynamic`].
+    Verify(Form, Profile),
+    /// `play CLASS...`: whether the classes in the files may run together, each method that has code verified; with `--dynamic` by
+    /// [`Profile::Dynamic`].
+    Play(Profile),
 }

@@ -20,6 +20,6 @@ mod verdicts;
 mod verifying;
 
 pub use answering::answer;
-pub use command::Command;
+pub use command::{Command, Form};
 pub use fault::AnswerFault;
 pub use laws::one_answer;

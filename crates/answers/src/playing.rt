@@ -1,27 +1,30 @@
 //! The command `play`: whether classes may run together.
 ghost use Rattle.std.specs.Prelude.{◌≡◌, List, map};
+ghost use Rattle.classfile.specs.declared.profile.Profile.{Profile as ProfileFact};
 ghost use Rattle.verify.specs.Files.{Read};
 ghost use Rattle.verify.specs.Together.{NotTogether};
 ghost use Rattle.answers.specs.Files.{read_view};
 ghost use Rattle.answers.specs.Answers.{Answered};
 ghost use Rattle.answers.specs.Plays.{PlaySays};
 
+use crate::command::Form;
 use crate::fault::AnswerFault;
 use crate::plays::{MethodRefusal, NumberedRefusal, RuleRefusal};
 use crate::reads::file_reads;
 use crate::refusal::Refusal;
 use crate::telling::tell;
 use crate::verdicts::HierarchyRefusal;
+use classfile::Profile;
 use layout::StreamFault;
 use printing::Word;
 use std::alloc::Global;
 use std::hash::BuildHasher;
 use std::io::Write;
-use verify::{TogetherFault, verify_together};
+use verify::{TogetherFault, verify_together_under};
 
 /// Writes why the classes may not run together.
 fn refuse<W: Write>(fault: TogetherFault<'_>, out: &mut W) -> Result<u8, AnswerFault>
-    ensures { (reads : List Read) → NotTogether reads fault.entry → Answered (PlaySays reads) (W.contents out.old) (W.contents out.new) result }
+    ensures { (profile : ProfileFact) (reads : List Read) → NotTogether profile reads fault.entry → Answered (PlaySays profile reads) (W.contents out.old) (W.contents out.new) result }
 {
     match fault {
         TogetherFault::OutOfMemory => Err(AnswerFault::OutOfMemory),
@@ -30,7 +33,10 @@ fn refuse<W: Write>(fault: TogetherFault<'_>, out: &mut W) -> Result<u8, AnswerF
             let line = NumberedRefusal { number, refusal };
             tell(&line, refusal.status(), out)
         }
-        TogetherFault::NoHierarchy(fault) => tell(&HierarchyRefusal(fault), 1, out),
+        TogetherFault::NoHierarchy(fault) => {
+            let form = Form::Plain;
+            tell(&HierarchyRefusal { form, fault }, 1, out)
+        }
         TogetherFault::Broken { number, rule } => tell(&RuleRefusal { number, rule }, 1, out),
         TogetherFault::NotVerified { number, method } => {
             tell(&MethodRefusal { number, method }, 1, out)
@@ -38,20 +44,21 @@ fn refuse<W: Write>(fault: TogetherFault<'_>, out: &mut W) -> Result<u8, AnswerF
     }
 }
 
-/// Answers `play` of the files of classes, which were read so.
+/// Answers `play` of the files of classes, which were read so, by a profile.
 pub fn play<S: BuildHasher + Drop, W: Write>(
     alloc: Global,
+    profile: Profile,
     reads: &[Result<Vec<u8>, StreamFault>],
     hasher: S,
     out: &mut W,
 ) -> Result<u8, AnswerFault>
-    ensures { Answered (PlaySays (map read_view reads.now)) (W.contents out.old) (W.contents out.new) result }
+    ensures { Answered (PlaySays profile (map read_view reads.now)) (W.contents out.old) (W.contents out.new) result }
 {
     let files = match file_reads(alloc, reads) {
         Ok(files) => files,
         Err(fault) => return Err(fault),
     };
-    match verify_together(alloc, &files, hasher) {
+    match verify_together_under(alloc, profile, &files, hasher) {
         Ok(_) => tell(&Word("play verified\n"), 0, out),
         Err(fault) => refuse(fault, out),
     }

@@ -1,6 +1,7 @@
 //! The lines of `play`. Classes count from 1.
 ghost use Rattle.answers.specs.Plays.{numbered_refusal, rule_refusal, method_refusal};
 
+use crate::command::Form;
 use crate::refusal::Refusal;
 use crate::verdicts::VerdictLine;
 use printing::{Number, Print, Then, Word, WriteFailed};
@@ -58,7 +59,10 @@ impl<'a> Print for MethodRefusal<'a> {
     ghost text = { λ t. method_refusal t.number t.method };
 
     fn put<W: Write>(&self, out: &mut W) -> Result<(), WriteFailed> {
-        let line = VerdictLine(self.method);
+        let line = VerdictLine {
+            form: Form::Plain,
+            method: self.method,
+        };
         Then(
             Word("class "),
             Then(Number(self.number), Then(Word(" "), line)),

@@ -1,10 +1,14 @@
 //! Why a file is no class that is well formed.
 ghost use Rattle.std.specs.Prelude.{◌≡◌};
-ghost use Rattle.answers.specs.Texts.{refusal_text};
+ghost use Rattle.printing.specs.Json.{fields_behind};
+ghost use Rattle.answers.specs.Texts.{refusal_text, refusal_fields, refusal_line};
 ghost use Rattle.answers.specs.Files.{refusal_status};
 
+use crate::command::Form;
 use layout::ReadFault;
-use printing::{Number, Print, Then, Word, WriteFailed};
+use printing::{
+    END, FaultFields, More, Number, Object, PlaceFields, Print, Quoted, Then, Word, WriteFailed,
+};
 use std::io::Write;
 use verify::FileFault;
 
@@ -36,6 +40,46 @@ impl Print for Refusal {
             FileFault::Unread(fault) | FileFault::NoClass(fault) => fault.put(out),
             FileFault::Malformed { rule, place } => {
                 Then(Number(u64::from(rule.number())), place).put(out)
+            }
+        }
+    }
+}
+
+/// Why a file is no class that is well formed, as fields of an object.
+#[derive(Clone, Copy)]
+pub struct RefusalFields(pub FileFault);
+
+impl Print for RefusalFields {
+    ghost text = { λ t. fields_behind (refusal_fields t.0) };
+
+    fn put<W: Write>(&self, out: &mut W) -> Result<(), WriteFailed> {
+        match self.0 {
+            FileFault::OutOfMemory => More("number", Number(1_u64), END).put(out),
+            FileFault::Unread(fault) | FileFault::NoClass(fault) => FaultFields(fault).put(out),
+            FileFault::Malformed { rule, place } => {
+                let place = PlaceFields(place);
+                More("number", Number(u64::from(rule.number())), place).put(out)
+            }
+        }
+    }
+}
+
+/// The line of a file that is refused.
+#[derive(Clone, Copy)]
+pub struct RefusalLine {
+    pub form: Form,
+    pub refusal: Refusal,
+}
+
+impl Print for RefusalLine {
+    ghost text = { λ t. refusal_line t.form t.refusal.0 };
+
+    fn put<W: Write>(&self, out: &mut W) -> Result<(), WriteFailed> {
+        match self.form {
+            Form::Plain => Then(Word("refused "), Then(self.refusal, Word("\n"))).put(out),
+            Form::Json => {
+                let refused = More("answer", Quoted("refused"), RefusalFields(self.refusal.0));
+                Object("kind", Quoted("file"), refused).put(out)
             }
         }
     }

@@ -5,9 +5,10 @@ ghost use Rattle.answers.specs.Answers.{Answered};
 ghost use Rattle.answers.specs.Files.{refusal_status};
 ghost use Rattle.answers.specs.Texts.{refusal_line};
 
+use crate::command::Form;
 use crate::fault::AnswerFault;
-use crate::refusal::Refusal;
-use printing::{Print, Then, Word};
+use crate::refusal::{Refusal, RefusalLine};
+use printing::Print;
 use std::io::Write;
 use verify::FileFault;
 
@@ -22,13 +23,12 @@ pub fn tell<T: Print, W: Write>(text: &T, status: u8, out: &mut W) -> Result<u8,
 }
 
 /// Writes why a file is refused.
-pub fn refuse<W: Write>(fault: FileFault, out: &mut W) -> Result<u8, AnswerFault>
-    ensures { Answered (λ t s. (fault ≢ OutOfMemory) × (t ≡ refusal_line fault) × (s ≡ refusal_status fault)) (W.contents out.old) (W.contents out.new) result }
+pub fn refuse<W: Write>(form: Form, fault: FileFault, out: &mut W) -> Result<u8, AnswerFault>
+    ensures { Answered (λ t s. (fault ≢ OutOfMemory) × (t ≡ refusal_line form fault) × (s ≡ refusal_status fault)) (W.contents out.old) (W.contents out.new) result }
 {
     if let FileFault::OutOfMemory = fault {
         return Err(AnswerFault::OutOfMemory);
     }
     let refusal = Refusal(fault);
-    let line = Then(Word("refused "), Then(refusal, Word("\n")));
-    tell(&line, refusal.status(), out)
+    tell(&RefusalLine { form, refusal }, refusal.status(), out)
 }

@@ -2,47 +2,65 @@
 ghost use Rattle.std.specs.Prelude.{◌≡◌};
 ghost use Rattle.std.specs.List.{flat_map};
 ghost use Rattle.printing.specs.Writing.{Writes};
-ghost use Rattle.answers.specs.Verdicts.{class_refusal, known_refusal, fault_name, hierarchy_refusal, reason_ending, verdict_text, verdict_line, is_refusal, report_status};
+ghost use Rattle.printing.specs.Json.{fields_behind};
+ghost use Rattle.answers.specs.Verdicts.{class_refusal, known_refusal, fault_name, named_field, name_fields, hierarchy_refusal, final_super_refusal, reason_ending, reason_fields, verdict_text, verdict_fields, verdict_line, is_refusal, report_status};
 
-use crate::refusal::Refusal;
+use crate::command::Form;
+use crate::refusal::{Refusal, RefusalFields};
 use hierarchy::HierarchyFault;
-use printing::{Lines, Name, Number, Print, Spelled, Then, Word, WriteFailed, put_lines};
+use printing::{
+    END, Lines, More, Name, Number, Object, Print, Quoted, QuotedName, QuotedSpelled, Spelled,
+    Then, Word, WriteFailed, put_lines,
+};
 use rules::Reason;
 use std::io::Write;
 use verify::{MethodVerdict, Verdict};
 
 /// The class that is to be verified is refused.
 #[derive(Clone, Copy)]
-pub struct ClassRefusal(pub Refusal);
+pub struct ClassRefusal {
+    pub form: Form,
+    pub refusal: Refusal,
+}
 
 impl Print for ClassRefusal {
-    ghost text = { λ t. class_refusal t.0.0 };
+    ghost text = { λ t. class_refusal t.form t.refusal.0 };
 
     fn put<W: Write>(&self, out: &mut W) -> Result<(), WriteFailed> {
-        Then(Word("class refused "), Then(self.0, Word("\n"))).put(out)
+        match self.form {
+            Form::Plain => Then(Word("class refused "), Then(self.refusal, Word("\n"))).put(out),
+            Form::Json => {
+                let refused = More("answer", Quoted("refused"), RefusalFields(self.refusal.0));
+                Object("kind", Quoted("class"), refused).put(out)
+            }
+        }
     }
 }
 
 /// The known class of this number is refused.
 #[derive(Clone, Copy)]
 pub struct KnownRefusal {
+    pub form: Form,
     /// It counts from 1.
     pub number: usize,
     pub refusal: Refusal,
 }
 
 impl Print for KnownRefusal {
-    ghost text = { λ t. known_refusal t.number t.refusal.0 };
+    ghost text = { λ t. known_refusal t.form t.number t.refusal.0 };
 
     fn put<W: Write>(&self, out: &mut W) -> Result<(), WriteFailed> {
-        Then(
-            Word("known "),
-            Then(
-                Number(self.number),
-                Then(Word(" refused "), Then(self.refusal, Word("\n"))),
-            ),
-        )
-        .put(out)
+        let number = Number(self.number);
+        match self.form {
+            Form::Plain => {
+                let refused = Then(Word(" refused "), Then(self.refusal, Word("\n")));
+                Then(Word("known "), Then(number, refused)).put(out)
+            }
+            Form::Json => {
+                let refused = More("answer", Quoted("refused"), RefusalFields(self.refusal.0));
+                Object("kind", Quoted("known"), More("position", number, refused)).put(out)
+            }
+        }
     }
 }
 
@@ -67,20 +85,76 @@ impl<'a> Print for FaultName<'a> {
     }
 }
 
-/// The classes are no hierarchy.
-#[derive(Clone, Copy)]
-pub struct HierarchyRefusal<'a>(pub HierarchyFault<'a>);
+/// Writes the name of a class as the last field.
+fn put_named<W: Write>(out: &mut W, name: &[u8]) -> Result<(), WriteFailed>
+    ensures { Writes (W.contents out.old) (W.contents out.new) (fields_behind (named_field name.now)) result }
+{
+    More("name", QuotedSpelled(name), END).put(out)
+}
 
-impl<'a> Print for HierarchyRefusal<'a> {
-    ghost text = { λ t. hierarchy_refusal t.0 };
+/// The name of the class that has a fault, as a field where it has one.
+#[derive(Clone, Copy)]
+struct NameFields<'a>(HierarchyFault<'a>);
+
+impl<'a> Print for NameFields<'a> {
+    ghost text = { λ t. fields_behind (name_fields t.0) };
 
     fn put<W: Write>(&self, out: &mut W) -> Result<(), WriteFailed> {
-        let number = Number(u64::from(self.0.number()));
-        Then(
-            Word("hierarchy refused "),
-            Then(number, Then(FaultName(self.0), Word("\n"))),
-        )
-        .put(out)
+        match self.0 {
+            HierarchyFault::OutOfMemory => END.put(out),
+            HierarchyFault::ClassTwice { name } => put_named(out, name),
+            HierarchyFault::Cycle { name } => put_named(out, name),
+            HierarchyFault::SuperMissing { name } => put_named(out, name),
+            HierarchyFault::NoObject => END.put(out),
+            HierarchyFault::BadArrayInterface { name } => put_named(out, name),
+            HierarchyFault::TooManyClasses => END.put(out),
+            HierarchyFault::InterfaceSuper { name } => put_named(out, name),
+        }
+    }
+}
+
+/// The classes are no hierarchy.
+#[derive(Clone, Copy)]
+pub struct HierarchyRefusal<'a> {
+    pub form: Form,
+    pub fault: HierarchyFault<'a>,
+}
+
+impl<'a> Print for HierarchyRefusal<'a> {
+    ghost text = { λ t. hierarchy_refusal t.form t.fault };
+
+    fn put<W: Write>(&self, out: &mut W) -> Result<(), WriteFailed> {
+        let number = Number(u64::from(self.fault.number()));
+        match self.form {
+            Form::Plain => {
+                let name = Then(FaultName(self.fault), Word("\n"));
+                Then(Word("hierarchy refused "), Then(number, name)).put(out)
+            }
+            Form::Json => {
+                let number = More("number", number, NameFields(self.fault));
+                let refused = More("answer", Quoted("refused"), number);
+                Object("kind", Quoted("hierarchy"), refused).put(out)
+            }
+        }
+    }
+}
+
+/// The superclass of the class is final.
+#[derive(Clone, Copy)]
+pub struct FinalSuper(pub Form);
+
+impl Print for FinalSuper {
+    ghost text = { λ t. final_super_refusal t.0 };
+
+    fn put<W: Write>(&self, out: &mut W) -> Result<(), WriteFailed> {
+        match self.0 {
+            Form::Plain => Word("class refused 81\n").put(out),
+            Form::Json => {
+                let number = More("number", Number(81_u64), END);
+                let refused = More("answer", Quoted("refused"), number);
+                Object("kind", Quoted("class"), refused).put(out)
+            }
+        }
     }
 }
 
@@ -98,6 +172,24 @@ impl<'a> Print for ReasonEnding<'a> {
                 Then(Word(" fault "), Number(u64::from(fault))).put(out)
             }
             _ => Word("").put(out),
+        }
+    }
+}
+
+/// The end of a refusal, as a field where it has one.
+#[derive(Clone, Copy)]
+struct ReasonFields<'a>(Reason<'a>);
+
+impl<'a> Print for ReasonFields<'a> {
+    ghost text = { λ t. fields_behind (reason_fields t.0) };
+
+    fn put<W: Write>(&self, out: &mut W) -> Result<(), WriteFailed> {
+        match self.0 {
+            Reason::ClassMissing(name) => More("missing", QuotedSpelled(name), END).put(out),
+            Reason::BadStackMap { fault } | Reason::BadCode { fault } => {
+                More("fault", Number(u64::from(fault)), END).put(out)
+            }
+            _ => END.put(out),
         }
     }
 }
@@ -126,43 +218,79 @@ impl<'a> Print for VerdictText<'a> {
     }
 }
 
-/// The line of a method and the verdict on it.
+/// The verdict on a method, as fields behind its name.
 #[derive(Clone, Copy)]
-pub struct VerdictLine<'a>(pub MethodVerdict<'a>);
+struct VerdictFields<'a>(Verdict<'a>);
 
-impl<'a> Print for VerdictLine<'a> {
-    ghost text = { λ t. verdict_line t.0 };
+impl<'a> Print for VerdictFields<'a> {
+    ghost text = { λ t. fields_behind (verdict_fields t.0) };
 
     fn put<W: Write>(&self, out: &mut W) -> Result<(), WriteFailed> {
-        let verdict = Then(VerdictText(self.0.verdict), Word("\n"));
-        Then(
-            Word("method "),
-            Then(
-                Name(self.0.name),
-                Then(Word(" "), Then(Name(self.0.descriptor), verdict)),
-            ),
-        )
-        .put(out)
+        match self.0 {
+            Verdict::Verified => More("answer", Quoted("verified"), END).put(out),
+            Verdict::NoCode => More("answer", Quoted("no code"), END).put(out),
+            Verdict::Refused { at, reason } => {
+                let place = More("at", Number(at), ReasonFields(reason));
+                let number = More("number", Number(u64::from(reason.number())), place);
+                More("answer", Quoted("refused"), number).put(out)
+            }
+        }
+    }
+}
+
+/// The line of a method and the verdict on it.
+#[derive(Clone, Copy)]
+pub struct VerdictLine<'a> {
+    pub form: Form,
+    pub method: MethodVerdict<'a>,
+}
+
+impl<'a> Print for VerdictLine<'a> {
+    ghost text = { λ t. verdict_line t.form t.method };
+
+    fn put<W: Write>(&self, out: &mut W) -> Result<(), WriteFailed> {
+        let method = self.method;
+        match self.form {
+            Form::Plain => {
+                let verdict = Then(VerdictText(method.verdict), Word("\n"));
+                let descriptor = Then(Name(method.descriptor), verdict);
+                let name = Then(Name(method.name), Then(Word(" "), descriptor));
+                Then(Word("method "), name).put(out)
+            }
+            Form::Json => {
+                let verdict = VerdictFields(method.verdict);
+                let descriptor = More("descriptor", QuotedName(method.descriptor), verdict);
+                let name = More("name", QuotedName(method.name), descriptor);
+                Object("kind", Quoted("method"), name).put(out)
+            }
+        }
     }
 }
 
 /// The verdicts on the methods of a class.
 #[derive(Clone, Copy)]
-pub struct ReportText<'r, 'a>(pub &'r [MethodVerdict<'a>]);
+pub struct ReportText<'r, 'a> {
+    pub form: Form,
+    pub methods: &'r [MethodVerdict<'a>],
+}
 
 impl<'r, 'a> Lines<MethodVerdict<'a>> for ReportText<'r, 'a> {
-    ghost line = { λ t r. verdict_line r };
+    ghost line = { λ t r. verdict_line t.form r };
 
     fn put_line<W: Write>(&self, item: &MethodVerdict<'a>, out: &mut W) -> Result<(), WriteFailed> {
-        VerdictLine(*item).put(out)
+        VerdictLine {
+            form: self.form,
+            method: *item,
+        }
+        .put(out)
     }
 }
 
 impl<'r, 'a> Print for ReportText<'r, 'a> {
-    ghost text = { λ t. flat_map verdict_line t.0.now };
+    ghost text = { λ t. flat_map (verdict_line t.form) t.methods.now };
 
     fn put<W: Write>(&self, out: &mut W) -> Result<(), WriteFailed> {
-        put_lines(self, self.0, out)
+        put_lines(self, self.methods, out)
     }
 }
 
@@ -179,9 +307,9 @@ fn is_refusal(verdict: &Verdict<'_>) -> bool
 impl<'r, 'a> ReportText<'r, 'a> {
     /// The status that goes with it: 1 where a method is refused.
     pub fn status(&self) -> u8
-        ensures { result ≡ report_status self.now.0.now }
+        ensures { result ≡ report_status self.now.methods.now }
     {
-        for method in self.0 {
+        for method in self.methods {
             if is_refusal(&method.verdict) {
                 return 1;
             }

@@ -12,9 +12,9 @@ use Rattle.pool.specs.declared.fault.PoolFault.{PoolFault}
 use Rattle.pool.specs.Entries.{Entry}
 use Rattle.pool.specs.Lookups.{text_at}
 use Rattle.pool.specs.Members.{found, class_at}
-use Rattle.classfile.specs.Values.{CodeBody, Attribute, Member, Class}
+use Rattle.classfile.specs.Values.{CodeBody, Attribute, Member}
 use Rattle.classfile.specs.Flags.{has, STATIC}
-use Rattle.classfile.specs.Methods.{Method, ExceptionEntry, code_of, class_named, superclass_of, declared_fields, exception_entries, stack_map_of, member_type, method_with, method_from, method_of}
+use Rattle.classfile.specs.Methods.{JudgedClass, Method, ExceptionEntry, code_of, class_named, superclass_of, declared_fields, exception_entries, stack_map_of, member_type, method_with, method_from, method_of}
 use Rattle.classfile.specs.MethodParts.{or_empty, params_in, params_at, method_by_parts, IsMethod}
 use Rattle.classfile.specs.Indices.{on_found}
 use Rattle.classfile.specs.Naming.{is_init as is_init_name}
@@ -24,17 +24,17 @@ use Rattle.classfile.proofs.FormedMethods.{NamesMethod, formed_method}
 
 -- ---- what a method's parts are looked up from
 
-abbrev this_name : Class → Option (List ℕ)
-this_name c = class_named (class_at c.constant_pool c.this_class)
+abbrev this_name : JudgedClass → Option (List ℕ)
+this_name c = class_named (class_at c.file.constant_pool c.file.this_class)
 
-abbrev name_in : Class → Member → Option (List ℕ)
-name_in c m = found (text_at c.constant_pool m.name)
+abbrev name_in : JudgedClass → Member → Option (List ℕ)
+name_in c m = found (text_at c.file.constant_pool m.name)
 
-abbrev entries_in : Class → CodeBody → Option (List ExceptionEntry)
-entries_in c body = exception_entries c.constant_pool body.exception_table
+abbrev entries_in : JudgedClass → CodeBody → Option (List ExceptionEntry)
+entries_in c body = exception_entries c.file.constant_pool body.exception_table
 
-abbrev with_body : {A : Type 0} → Class → Member → List (ℕ × A) → CodeBody → Option (Method A)
-with_body c m code body = method_with c m code body (this_name c) (name_in c m) (member_type c.constant_pool m) (entries_in c body)
+abbrev with_body : {A : Type 0} → JudgedClass → Member → List (ℕ × A) → CodeBody → Option (Method A)
+with_body c m code body = method_with c m code body (this_name c) (name_in c m) (member_type c.file.constant_pool m) (entries_in c body)
 
 abbrev read_as : Member → List ℕ → Option MethodDescriptor
 read_as m text = found (method_answer (not (has m.access_flags STATIC)) text)
@@ -57,32 +57,33 @@ with_code code m = record {
   is_static = m.is_static;
   is_init = m.is_init;
   type = m.type;
+  dynamic = m.dynamic;
 }
 
 handed_with :
-    {A B : Type 0} (c : Class) (m : Member) (body : CodeBody) (class name : Option (List ℕ)) (type : Option MethodDescriptor)
+    {A B : Type 0} (c : JudgedClass) (m : Member) (body : CodeBody) (class name : Option (List ℕ)) (type : Option MethodDescriptor)
     (entries : Option (List ExceptionEntry)) (a : List (ℕ × A)) (b : List (ℕ × B))
     → method_with c m b body class name type entries ≡ option_map (with_code b) (method_with c m a body class name type entries)
 handed_with c m body (Some class) (Some name) (Some type) (Some entries) a b = refl
 handed_with c m body _ _ _ _ a b = refl
 
-handed_on : {A B : Type 0} (c : Class) (number : ℕ) (a : List (ℕ × A)) (b : List (ℕ × B))
+handed_on : {A B : Type 0} (c : JudgedClass) (number : ℕ) (a : List (ℕ × A)) (b : List (ℕ × B))
     → method_of c number b ≡ option_map (with_code b) (method_of c number a)
-handed_on c number a b = by_member (slice_get c.methods number)
+handed_on c number a b = by_member (slice_get c.file.methods number)
   where
     by_body : (m : Member) (body : Option CodeBody) →
         option_and_then (with_body c m b) body
         ≡ option_map (with_code b) (option_and_then (with_body c m a) body)
     by_body m None = refl
     by_body m (Some body) =
-        handed_with c m body (this_name c) (name_in c m) (member_type c.constant_pool m) (entries_in c body) a b
+        handed_with c m body (this_name c) (name_in c m) (member_type c.file.constant_pool m) (entries_in c body) a b
 
     by_member : (m : Option Member) → option_and_then (method_from c b) m ≡ option_map (with_code b) (option_and_then (method_from c a) m)
     by_member None = refl
     by_member (Some m) = by_body m (code_of m.attributes)
 
 -- the method of this number has the parts, with any code
-pub method_says : {A : Type 0} (c : Class) (number : ℕ) (body : CodeBody) (is_static is_init : Bool) (result : Option FieldDescriptor)
+pub method_says : {A : Type 0} (c : JudgedClass) (number : ℕ) (body : CodeBody) (is_static is_init : Bool) (result : Option FieldDescriptor)
     → IsMethod c number body is_static is_init result
     → (code : List (ℕ × A)) → method_of c number code ≡ Some (method_by_parts c number body is_static is_init result code)
 method_says {A} c number body is_static is_init result is code =
@@ -90,7 +91,7 @@ method_says {A} c number body is_static is_init result is code =
 
 -- ---- the parts of a method of a well-formed class
 
-abbrev assembled : Class → CodeBody → List ℕ → List ExceptionEntry → Bool → Bool → MethodDescriptor → Method ℕ
+abbrev assembled : JudgedClass → CodeBody → List ℕ → List ExceptionEntry → Bool → Bool → MethodDescriptor → Method ℕ
 assembled c body class entries is_static is_init type = record {
   code = [];
   code_length = length body.code;
@@ -98,65 +99,66 @@ assembled c body class entries is_static is_init type = record {
   max_locals = body.max_locals;
   exceptions = entries;
   stack_map = stack_map_of body.attributes;
-  constant_pool = c.constant_pool;
-  major_version = c.major_version;
+  constant_pool = c.file.constant_pool;
+  major_version = c.file.major_version;
   class = class;
-  superclass = superclass_of c.constant_pool c.super_class;
-  fields = declared_fields c.constant_pool c.fields;
+  superclass = superclass_of c.file.constant_pool c.file.super_class;
+  fields = declared_fields c.file.constant_pool c.file.fields;
   is_static = is_static;
   is_init = is_init;
   type = type;
+  dynamic = c.dynamic;
 }
 
-looked_up : (c : Class) (number : ℕ) (m : Member) (body : CodeBody) → slice_get c.methods number ≡ Some m
-    → code_of m.attributes ≡ Some body → (x : NamesMethod c m body)
+looked_up : (c : JudgedClass) (number : ℕ) (m : Member) (body : CodeBody) → slice_get c.file.methods number ≡ Some m
+    → code_of m.attributes ≡ Some body → (x : NamesMethod c.file m body)
     → method_of {A = ℕ} c number []
     ≡ Some (assembled c body x.class x.entries (has m.access_flags STATIC) (bytes_eq x.name init_name) x.type)
 looked_up c number m body here coded x =
-    let type : member_type c.constant_pool m ≡ Some x.type =
+    let type : member_type c.file.constant_pool m ≡ Some x.type =
     ap (λ (r : Result (List ℕ) PoolFault). option_and_then (read_as m) (found r)) x.descriptor_is
     ∙ ap (λ (r : Result MethodDescriptor NameFault). found r) x.type_is in
     let build : Option (List ℕ) → Option (List ℕ) → Option MethodDescriptor → Option (List ExceptionEntry) → Option (Method ℕ) =
     λ class name type entries. method_with c m [] body class name type entries in
     ap (option_and_then (method_from c [])) here
     ∙ ap (option_and_then (with_body c m [])) coded
-    ∙ ap (λ o. build o (name_in c m) (member_type c.constant_pool m) (entries_in c body)) x.class_is
-    ∙ ap (λ (r : Result (List ℕ) PoolFault). build (Some x.class) (found r) (member_type c.constant_pool m) (entries_in c body)) x.name_is
+    ∙ ap (λ o. build o (name_in c m) (member_type c.file.constant_pool m) (entries_in c body)) x.class_is
+    ∙ ap (λ (r : Result (List ℕ) PoolFault). build (Some x.class) (found r) (member_type c.file.constant_pool m) (entries_in c body)) x.name_is
     ∙ ap (λ o. build (Some x.class) (Some x.name) o (entries_in c body)) type
     ∙ ap (build (Some x.class) (Some x.name) (Some x.type)) x.entries_are
 
-params_are : (c : Class) (number : ℕ) (m : Member) (body : CodeBody) → slice_get c.methods number ≡ Some m → (x : NamesMethod c m body)
-    → params_at c number ≡ x.type.params
+params_are : (c : JudgedClass) (number : ℕ) (m : Member) (body : CodeBody) → slice_get c.file.methods number ≡ Some m → (x : NamesMethod c.file m body)
+    → params_at c.file number ≡ x.type.params
 params_are c number m body here x =
-    ap (λ (o : Option Member). params_in (option_and_then (member_type c.constant_pool) o)) here
+    ap (λ (o : Option Member). params_in (option_and_then (member_type c.file.constant_pool) o)) here
     ∙ ap (λ (r : Result (List ℕ) PoolFault). params_in (option_and_then (read_as m) (found r))) x.descriptor_is
     ∙ ap (λ (r : Result MethodDescriptor NameFault). params_in (found r)) x.type_is
 
-is_method : (c : Class) (number : ℕ) (m : Member) (body : CodeBody) (is_static is_init : Bool) (result : Option FieldDescriptor)
-    → slice_get c.methods number ≡ Some m → code_of m.attributes ≡ Some body
-    → (x : NamesMethod c m body) → is_static ≡ has m.access_flags STATIC → is_init ≡ bytes_eq x.name init_name
+is_method : (c : JudgedClass) (number : ℕ) (m : Member) (body : CodeBody) (is_static is_init : Bool) (result : Option FieldDescriptor)
+    → slice_get c.file.methods number ≡ Some m → code_of m.attributes ≡ Some body
+    → (x : NamesMethod c.file m body) → is_static ≡ has m.access_flags STATIC → is_init ≡ bytes_eq x.name init_name
     → result ≡ x.type.result → IsMethod c number body is_static is_init result
 is_method c number m body is_static is_init result here coded x static init type =
-    let class : x.class ≡ or_empty (class_named (class_at c.constant_pool c.this_class)) = ap or_empty (sym x.class_is) in
-    let entries : x.entries ≡ or_empty (exception_entries c.constant_pool body.exception_table) = ap or_empty (sym x.entries_are) in
-    let params : x.type.params ≡ params_at c number = sym (params_are c number m body here x) in
+    let class : x.class ≡ or_empty (class_named (class_at c.file.constant_pool c.file.this_class)) = ap or_empty (sym x.class_is) in
+    let entries : x.entries ≡ or_empty (exception_entries c.file.constant_pool body.exception_table) = ap or_empty (sym x.entries_are) in
+    let params : x.type.params ≡ params_at c.file number = sym (params_are c number m body here x) in
     looked_up c number m body here coded x
     ∙ (λ i. Some (assembled c body (class i) (entries i) (sym static i) (sym init i) (record { params = params i; result = sym type i })))
 
 -- the method of this number, by what was read of it
-pub method_there : (c : Class) → WellFormed c
+pub method_there : (c : JudgedClass) → WellFormed c.file
     → (number : ℕ) (m : Member) (body : CodeBody) (is_static is_init : Bool) (result : Option FieldDescriptor)
-    → slice_get c.methods number ≡ Some m → code_of m.attributes ≡ Some body
-    → is_static ≡ has m.access_flags STATIC → is_init ≡ is_instance_initializer c.constant_pool m
+    → slice_get c.file.methods number ≡ Some m → code_of m.attributes ≡ Some body
+    → is_static ≡ has m.access_flags STATIC → is_init ≡ is_instance_initializer c.file.constant_pool m
     → ((receiver : Bool) (t : MethodDescriptor)
-    → option_and_then (λ text. found (method_answer receiver text)) (found (text_at c.constant_pool m.descriptor)) ≡ Some t
+    → option_and_then (λ text. found (method_answer receiver text)) (found (text_at c.file.constant_pool m.descriptor)) ≡ Some t
     → result ≡ t.result)
     → IsMethod c number body is_static is_init result
 unfolding has is_instance_initializer
 method_there c formed number m body is_static is_init result here coded static init answers =
-    let x = formed_method c formed number m body here coded in
+    let x = formed_method c.file formed number m body here coded in
     let receiver = not (has m.access_flags STATIC) in
-    let type : option_and_then (λ text. found (method_answer receiver text)) (found (text_at c.constant_pool m.descriptor)) ≡ Some x.type =
+    let type : option_and_then (λ text. found (method_answer receiver text)) (found (text_at c.file.constant_pool m.descriptor)) ≡ Some x.type =
     ap (λ (r : Result (List ℕ) PoolFault). option_and_then (λ text. found (method_answer receiver text)) (found r)) x.descriptor_is
     ∙ ap (λ (r : Result MethodDescriptor NameFault). found r) x.type_is in
     let name = init ∙ ap (on_found is_init_name) x.name_is in
@@ -164,21 +166,21 @@ method_there c formed number m body is_static is_init result here coded static i
 
 -- ---- what a method tells of the member that it is
 
-pub record MemberOf (c : Class) (number : ℕ) (v : Method ℕ) : Type 0 where
+pub record MemberOf (c : JudgedClass) (number : ℕ) (v : Method ℕ) : Type 0 where
   pub member : Member
-  pub here : slice_get c.methods number ≡ Some member
-  pub type_is : member_type c.constant_pool member ≡ Some v.type
+  pub here : slice_get c.file.methods number ≡ Some member
+  pub type_is : member_type c.file.constant_pool member ≡ Some v.type
   pub static_is : v.is_static ≡ has member.access_flags STATIC
 
-pub member_of : (c : Class) (number : ℕ) (v : Method ℕ) → method_of c number [] ≡ Some v → MemberOf c number v
-member_of c number v e = by_member (slice_get c.methods number) refl e
+pub member_of : (c : JudgedClass) (number : ℕ) (v : Method ℕ) → method_of c number [] ≡ Some v → MemberOf c number v
+member_of c number v e = by_member (slice_get c.file.methods number) refl e
   where
     same : (a : Method ℕ) → (let x : Option (Method ℕ) = Some a in x) ≡ Some v → a ≡ v
     same a e = cc
 
-    by_parts : (m : Member) → slice_get c.methods number ≡ Some m
+    by_parts : (m : Member) → slice_get c.file.methods number ≡ Some m
         → (body : CodeBody) (class name : Option (List ℕ)) (type : Option MethodDescriptor) (entries : Option (List ExceptionEntry))
-        → member_type c.constant_pool m ≡ type → method_with c m [] body class name type entries ≡ Some v → MemberOf c number v
+        → member_type c.file.constant_pool m ≡ type → method_with c m [] body class name type entries ≡ Some v → MemberOf c number v
     by_parts m here body (Some class) (Some name) (Some type) (Some entries) is e =
         let v_is = same _ e in
         record {
@@ -189,14 +191,14 @@ member_of c number v e = by_member (slice_get c.methods number) refl e
         }
     by_parts m here body _ _ _ _ is e = absurd (none-some v e)
 
-    by_body : (m : Member) → slice_get c.methods number ≡ Some m → (body : Option CodeBody)
+    by_body : (m : Member) → slice_get c.file.methods number ≡ Some m → (body : Option CodeBody)
         → option_and_then (with_body c m []) body ≡ Some v
         → MemberOf c number v
     by_body m here None e = absurd (none-some v e)
     by_body m here (Some body) e =
-        by_parts m here body (this_name c) (name_in c m) (member_type c.constant_pool m) (entries_in c body) refl e
+        by_parts m here body (this_name c) (name_in c m) (member_type c.file.constant_pool m) (entries_in c body) refl e
 
-    by_member : (m : Option Member) → slice_get c.methods number ≡ m → option_and_then (method_from c []) m ≡ Some v → MemberOf c number v
+    by_member : (m : Option Member) → slice_get c.file.methods number ≡ m → option_and_then (method_from c []) m ≡ Some v → MemberOf c number v
     by_member None is e = absurd (none-some v e)
     by_member (Some m) is e = by_body m is (code_of m.attributes) e
 

@@ -7,7 +7,7 @@ use Rattle.names.specs.Descriptors.{FieldDescriptor, MethodDescriptor}
 use Rattle.names.specs.DescriptorCodes.{coded_type}
 use Rattle.pool.specs.Members.{class_at}
 use Rattle.classfile.specs.Values.{CodeBody, Class}
-use Rattle.classfile.specs.Methods.{Method, class_named, superclass_of, declared_fields, exception_entries, stack_map_of, code_of, member_type, method_of}
+use Rattle.classfile.specs.Methods.{JudgedClass, Method, class_named, superclass_of, declared_fields, exception_entries, stack_map_of, code_of, member_type, method_of}
 
 -- none where there is none
 abbrev pub or_empty : {A : Type 0} → Option (List A) → List A
@@ -27,26 +27,27 @@ abbrev pub code_at : Class → ℕ → Option CodeBody
 code_at c number = option_and_then (λ m. code_of m.attributes) (slice_get c.methods number)
 
 -- `code` is what its code says
-abbrev pub method_by_parts : {A : Type 0} → Class → ℕ → CodeBody → Bool → Bool → Option FieldDescriptor → List (ℕ × A) → Method A
+abbrev pub method_by_parts : {A : Type 0} → JudgedClass → ℕ → CodeBody → Bool → Bool → Option FieldDescriptor → List (ℕ × A) → Method A
 method_by_parts c number body is_static is_init result code = record {
   code = code;
   code_length = length body.code;
   max_stack = body.max_stack;
   max_locals = body.max_locals;
-  exceptions = or_empty (exception_entries c.constant_pool body.exception_table);
+  exceptions = or_empty (exception_entries c.file.constant_pool body.exception_table);
   stack_map = stack_map_of body.attributes;
-  constant_pool = c.constant_pool;
-  major_version = c.major_version;
-  class = or_empty (class_named (class_at c.constant_pool c.this_class));
-  superclass = superclass_of c.constant_pool c.super_class;
-  fields = declared_fields c.constant_pool c.fields;
+  constant_pool = c.file.constant_pool;
+  major_version = c.file.major_version;
+  class = or_empty (class_named (class_at c.file.constant_pool c.file.this_class));
+  superclass = superclass_of c.file.constant_pool c.file.super_class;
+  fields = declared_fields c.file.constant_pool c.file.fields;
   is_static = is_static;
   is_init = is_init;
-  type = record { params = params_at c number; result = result };
+  type = record { params = params_at c.file number; result = result };
+  dynamic = c.dynamic;
 }
 
 -- These are the parts of the method of this number. What its code says is only handed on, so that one list stands for all.
-abbrev pub IsMethod : Class → ℕ → CodeBody → Bool → Bool → Option FieldDescriptor → Type 0
+abbrev pub IsMethod : JudgedClass → ℕ → CodeBody → Bool → Bool → Option FieldDescriptor → Type 0
 IsMethod c number body is_static is_init result =
     method_of {A = ℕ} c number [] ≡ Some (method_by_parts c number body is_static is_init result [])
 
@@ -54,7 +55,7 @@ coded_method : Coded (Option (Method ℕ))
 coded_method = hlevel (coded_type, codes)
 
 pub is_method_prop :
-    (c : Class) (number : ℕ) (body : CodeBody) (is_static is_init : Bool) (result : Option FieldDescriptor)
+    (c : JudgedClass) (number : ℕ) (body : CodeBody) (is_static is_init : Bool) (result : Option FieldDescriptor)
     → IsProp (IsMethod c number body is_static is_init result)
 is_method_prop c number body is_static is_init result =
     Coded-set coded_method (method_of c number []) (Some (method_by_parts c number body is_static is_init result []))

@@ -18,6 +18,11 @@ pub record ExceptionEntry : Type 0 where
   pub handler : ℕ
   pub caught : ReferenceType
 
+-- A class file as its methods are judged: `invokedynamic` and dynamic constants too (4.4.10), or these are refused.
+pub record JudgedClass : Type 0 where
+  pub file : Class
+  pub dynamic : Bool
+
 -- The method; `A` is what is known of an instruction, each of which stands with its offset.
 pub record Method (A : Type 0) : Type 0 where
   pub code : List (ℕ × A)
@@ -37,6 +42,8 @@ pub record Method (A : Type 0) : Type 0 where
   pub is_static : Bool
   pub is_init : Bool
   pub type : MethodDescriptor
+  -- `invokedynamic` and dynamic constants are judged, and not refused
+  pub dynamic : Bool
 
 -- ---- words about a method
 
@@ -120,7 +127,7 @@ exception_entries pool (h ∷ hs) = entry_with h (caught_type pool h.catch_type)
 
 -- The parts of a method that hang on constants: the names of its class and of itself, its types, and its exception table.
 abbrev pub method_with :
-    {A : Type 0} → Class → Member → List (ℕ × A) → CodeBody → Option (List ℕ) → Option (List ℕ) → Option MethodDescriptor → Option (List ExceptionEntry) → Option (Method A)
+    {A : Type 0} → JudgedClass → Member → List (ℕ × A) → CodeBody → Option (List ℕ) → Option (List ℕ) → Option MethodDescriptor → Option (List ExceptionEntry) → Option (Method A)
 method_with c member code body (Some class) (Some name) (Some type) (Some exceptions) = Some (record {
   code = code;
   code_length = length body.code;
@@ -128,14 +135,15 @@ method_with c member code body (Some class) (Some name) (Some type) (Some except
   max_locals = body.max_locals;
   exceptions = exceptions;
   stack_map = stack_map_of body.attributes;
-  constant_pool = c.constant_pool;
-  major_version = c.major_version;
+  constant_pool = c.file.constant_pool;
+  major_version = c.file.major_version;
   class = class;
-  superclass = superclass_of c.constant_pool c.super_class;
-  fields = declared_fields c.constant_pool c.fields;
+  superclass = superclass_of c.file.constant_pool c.file.super_class;
+  fields = declared_fields c.file.constant_pool c.file.fields;
   is_static = has member.access_flags STATIC;
   is_init = bytes_eq name init_name;
   type = type;
+  dynamic = c.dynamic;
 })
 method_with c member code body _ _ _ _ = None
 
@@ -144,16 +152,16 @@ abbrev pub member_type : List Entry → Member → Option MethodDescriptor
 member_type pool member =
     option_and_then (λ text. found (method_answer (not (has member.access_flags STATIC)) text)) (found (text_at pool member.descriptor))
 
-abbrev pub method_from : {A : Type 0} → Class → List (ℕ × A) → Member → Option (Method A)
+abbrev pub method_from : {A : Type 0} → JudgedClass → List (ℕ × A) → Member → Option (Method A)
 method_from c code member =
     option_and_then (λ body. method_with c member code body
-    (class_named (class_at c.constant_pool c.this_class))
-    (found (text_at c.constant_pool member.name))
-    (member_type c.constant_pool member)
-    (exception_entries c.constant_pool body.exception_table))
+    (class_named (class_at c.file.constant_pool c.file.this_class))
+    (found (text_at c.file.constant_pool member.name))
+    (member_type c.file.constant_pool member)
+    (exception_entries c.file.constant_pool body.exception_table))
     (code_of member.attributes)
 
 -- The method of this number, if it has code, and of the constants that it names each is of its kind and form. `code` is what
 -- its code says.
-abbrev pub method_of : {A : Type 0} → Class → ℕ → List (ℕ × A) → Option (Method A)
-method_of c number code = option_and_then (method_from c code) (slice_get c.methods number)
+abbrev pub method_of : {A : Type 0} → JudgedClass → ℕ → List (ℕ × A) → Option (Method A)
+method_of c number code = option_and_then (method_from c code) (slice_get c.file.methods number)

@@ -36,7 +36,9 @@ pub struct CodeMethod<'c, 'a> {
     pub is_init: bool,
     /// The type of its result, `None` where it has none.
     pub result_type: Option<FieldType<'a>>,
-    pub ghost is_method: { IsMethod (class_view class.now) number (code_view code.now) is_static is_init (option_map type_of result_type) } by { is_method_prop (class_view class.now) number (code_view code.now) is_static is_init (option_map type_of result_type) },
+    /// Whether `invokedynamic` and dynamic constants are judged (JVMS 4.4.10); otherwise they are refused.
+    pub dynamic: bool,
+    pub ghost is_method: { IsMethod (record { file = class_view class.now; dynamic = dynamic }) number (code_view code.now) is_static is_init (option_map type_of result_type) } by { is_method_prop (record { file = class_view class.now; dynamic = dynamic }) number (code_view code.now) is_static is_init (option_map type_of result_type) },
 }
 
 impl<'a> Member<'a> {
@@ -86,17 +88,17 @@ fn result_at<'a>(pool: &Pool<'a>, index: u16) -> Option<FieldType<'a>>
 }
 
 impl<'c, 'a> Formed<'c, 'a> {
-    ghost use Rattle.classfile.specs.CodeMethods.{IsAt, TellsMethod};
+    ghost use Rattle.classfile.specs.CodeMethods.{judged_class, IsAt, TellsMethod};
 
     /// The method of this number, which counts from 0, if it has a Code attribute. Takes no memory.
     pub fn method(self, number: usize) -> Option<CodeMethod<'c, 'a>>
         requires { number < length self.class.now.methods.items }
         // None exactly where the method has no Code attribute.
         ensures code { option_map (λ m. code_view m.code.now) result ≡ code_at (class_view self.entry.class.now) number }
-        // It is the method of that number of this class.
-        ensures here { IfSome result (λ m. IsAt self.entry.class.now number m) }
+        // It is the method of that number of this class, and is judged as the class is.
+        ensures here { IfSome result (λ m. IsAt self.entry number m) }
         // So what the class file says of the method is what is answered, whatever its code says.
-        ensures told { TellsMethod (class_view self.entry.class.now) number result }
+        ensures told { TellsMethod (judged_class self.entry) number result }
     {
         let class = self.class();
         let member = &class.methods[number];
@@ -109,6 +111,7 @@ impl<'c, 'a> Formed<'c, 'a> {
             is_static: has(member.access_flags, STATIC),
             is_init: is_instance_initializer(pool, member),
             result_type: result_at(pool, member.descriptor),
+            dynamic: self.dynamic,
         })
     }
 }

@@ -1,5 +1,5 @@
 //! Whether a class file is well formed (JVMS 4.1 to 4.7).
-ghost use Rattle.std.specs.Prelude.{◌≡◌, IfOk, IfErr, MatchResult};
+ghost use Rattle.std.specs.Prelude.{◌≡◌, false, IfOk, IfErr, MatchResult};
 ghost use Rattle.classfile.specs.TextForms.{AreForms};
 ghost use Rattle.classfile.specs.Views.{class_view};
 ghost use Rattle.classfile.specs.WellFormed.{WellFormed, Passes, TellsFirst};
@@ -13,6 +13,7 @@ use crate::earlier::Earlier;
 use crate::flags::{INTERFACE, has};
 use crate::form_fault::{FormFault, Place};
 use crate::member_form::{field_rule, method_rule};
+use crate::profile::Profile;
 use crate::text_forms::TextForms;
 use std::alloc::Global;
 
@@ -20,16 +21,30 @@ use std::alloc::Global;
 #[derive(Clone, Copy)]
 pub struct Formed<'c, 'a> {
     class: &'c ClassFile<'a>,
+    pub(crate) dynamic: bool,
     pub ghost well_formed: { ∥ WellFormed (class_view class.now) ∥₁ },
 }
 
 impl<'c, 'a> Formed<'c, 'a> {
+    ghost use Rattle.classfile.specs.CodeMethods.{judged_class, judged};
+
     /// The class file.
     pub fn class(self) -> &'c ClassFile<'a>
         ensures same { result.now ≡ self.entry.class.now }
         ensures formed { WellFormed (class_view result.now) }
     {
         self.class
+    }
+
+    /// The class, whose methods are judged by this profile. [`form_check`] answers it as [`Profile::Default`] says.
+    pub fn under(self, profile: Profile) -> Formed<'c, 'a>
+        ensures class { result.class.now ≡ self.entry.class.now }
+        ensures judged { judged_class result ≡ judged profile (class_view self.entry.class.now) }
+    {
+        Formed {
+            class: self.class,
+            dynamic: profile.judges_dynamic(),
+        }
     }
 }
 
@@ -127,11 +142,16 @@ pub fn form_check<'c, 'a>(
     // The answer is this class, which is well formed.
     ensures same { IfOk result (λ f. f.class.now ≡ class.now) }
     ensures formed { IfOk result (λ _. WellFormed (class_view class.now)) }
+    // Its methods are judged by the default profile.
+    ensures default { IfOk result (λ f. f.dynamic ≡ false) }
     // A class that is well formed is answered, unless memory runs out.
     ensures only { WellFormed (class_view class.now) → IfErr result (λ e. e ≡ OutOfMemory) }
     // Which fault it is.
     ensures fault { IfErr result (TellsFirst (class_view class.now)) }
 {
     places_form(alloc, class)?;
-    Ok(Formed { class })
+    Ok(Formed {
+        class,
+        dynamic: false,
+    })
 }

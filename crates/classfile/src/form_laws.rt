@@ -2,8 +2,7 @@
 ghost use Rattle.classfile.specs.FormLaws.{LeastIsTold, NoneIsTold, FormedOrFaulty, OneFirstFault, NoFaultInFormed, FormedHasNames, NamesAreForms, DescriptorsAreSpellings};
 ghost use Rattle.std.specs.Prelude.{◌≡◌, ℕ, List, Some};
 ghost use Rattle.classfile.specs.Methods.{method_of};
-ghost use Rattle.classfile.specs.CodeMethods.{code_method_view};
-ghost use Rattle.classfile.specs.Views.{class_view};
+ghost use Rattle.classfile.specs.CodeMethods.{class_of, code_method_view};
 
 use crate::code_method::CodeMethod;
 use names::{field_answers, method_answers};
@@ -45,5 +44,5 @@ pub fn formed_has_names()
 
 /// A method is kept as the class file has it, whatever its code says: `A` is what is known of an instruction.
 pub fn method_is_told<A>(method: CodeMethod<'_, '_>)
-    ensures { (code : List (ℕ × A)) → method_of (class_view method.entry.class.now) method.entry.number code ≡ Some (code_method_view method.entry code) }
+    ensures { (code : List (ℕ × A)) → method_of (class_of method.entry) method.entry.number code ≡ Some (code_method_view method.entry code) }
 {}

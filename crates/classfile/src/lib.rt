@@ -24,6 +24,7 @@
 //! | `outline`, `reading` | [`read_class`], and how far a class reaches in a stream |
 //! | `laws` | that they undo one another |
 //! | `form` | [`form_check`], [`Formed`], and the places one after the other |
+//! | `profile` | [`Profile`], how the methods of a class are judged |
 //! | `form_fault` | [`FormRule`], [`Place`] and [`FormFault`] |
 //! | `constant_form`, `class_form`, `member_form`, `attribute_form` | which rule is broken at a place |
 //! | `number_form`, `once` | which rule is broken by an index in an attribute of numbers, and whether one stands twice |
@@ -66,6 +67,7 @@ mod numbers;
 mod once;
 mod outline;
 mod own_fields;
+mod profile;
 mod reading;
 mod record_form;
 mod signatures;
@@ -96,4 +98,5 @@ pub use member::Member;
 pub use nested::NestedAttribute;
 pub use numbers::Numbers;
 pub use own_fields::{OwnFields, declares_field};
+pub use profile::Profile;
 pub use reading::read_class;

@@ -1,12 +1,17 @@
 -- The command lines that the program knows, and what each asks for.
-use Rattle.std.specs.Prelude.{◌≡◌, true, List, [], map, codes, Option, Some, Result, Ok, Err, string_bytes, bytes_eq, if◌then◌else◌, ℕ, ◌++◌}
+use Rattle.std.specs.Prelude.{◌≡◌, Bool, true, false, List, [], ◌∷◌, map, codes, Option, Some, Result, Ok, Err, string_bytes, bytes_eq, if◌then◌else◌, ℕ, ◌++◌}
 use Rattle.std.specs.Option.{option_map, unwrap_or}
 use Rattle.clap.specs.Lexer.{usize_max}
+use Rattle.clap.specs.declared.builder.action.ArgAction.TheVariants.{SetTrue}
 use Rattle.clap.specs.declared.error.Error.{Error}
 use Rattle.clap.specs.declared.error.kind.ErrorKind.TheVariants as kind
 use Rattle.clap.specs.Words.{App, Row, Rule, Shape, Text, all_of, new_app, new_rule, with_rule, with_subcommand, subcommand_of, fault_of, Kinds, IsAmong, kind_of}
+use Rattle.classfile.specs.declared.profile.Profile.{Profile}
+use Rattle.classfile.specs.declared.profile.Profile.TheVariants.{Default, Dynamic}
 use Rattle.answers.specs.declared.command.Command.{Command}
 use Rattle.answers.specs.declared.command.Command.TheVariants.{Check, Show, Verify, Play}
+use Rattle.answers.specs.declared.command.Form.{Form}
+use Rattle.answers.specs.declared.command.Form.TheVariants.{Plain, Json}
 use Rattle.command_line.specs.declared.line.Request.{Request}
 use Rattle.command_line.specs.declared.line.LineFault.{LineFault}
 use Rattle.command_line.specs.declared.line.LineFault.TheVariants.{OutOfMemory, NoRequest}
@@ -15,9 +20,15 @@ use Rattle.command_line.specs.declared.line.LineFault.TheVariants.{OutOfMemory, 
 abbrev pub file : Rule
 file = record (new_rule (codes "FILE")) { required = true }
 
--- a command of one file
-abbrev pub of_file : List ℕ → Shape
-of_file name = (with_rule (new_app name) file).top
+-- `--json`: objects of JSON in place of words
+abbrev pub json : Rule
+json = record (new_rule (codes "json")) { long = Some (codes "json"); action = Some SetTrue }
+
+abbrev pub check : Shape
+check = (with_rule (with_rule (new_app (codes "check")) file) json).top
+
+abbrev pub show : Shape
+show = (with_rule (new_app (codes "show")) file).top
 
 -- the file of the class that is verified, and any number of files of classes that it may refer to
 abbrev pub class_file : Rule
@@ -26,15 +37,19 @@ class_file = record (new_rule (codes "CLASS")) { required = true }
 abbrev pub known_files : Rule
 known_files = record (new_rule (codes "KNOWN")) { range = Some (record { start_inclusive = 0; end_inclusive = usize_max }) }
 
+-- `--dynamic`: by the profile that judges dynamic calls and constants
+abbrev pub dynamic : Rule
+dynamic = record (new_rule (codes "dynamic")) { long = Some (codes "dynamic"); action = Some SetTrue }
+
 abbrev pub verify : Shape
-verify = (with_rule (with_rule (new_app (codes "verify")) class_file) known_files).top
+verify = (with_rule (with_rule (with_rule (with_rule (new_app (codes "verify")) class_file) known_files) dynamic) json).top
 
 -- the files of the classes that are in play, of which there is one at least
 abbrev pub class_files : Rule
 class_files = record (new_rule (codes "CLASS")) { required = true; range = Some (record { start_inclusive = 1; end_inclusive = usize_max }) }
 
 abbrev pub play : Shape
-play = (with_rule (new_app (codes "play")) class_files).top
+play = (with_rule (with_rule (new_app (codes "play")) class_files) dynamic).top
 
 -- the program itself, which tells its version, and of which a command must be asked
 abbrev pub program : App
@@ -42,7 +57,7 @@ program = record (new_app (codes "classck")) { top = record (new_app (codes "cla
 
 -- the commands of one file
 abbrev pub line_of_file : App
-line_of_file = with_subcommand (with_subcommand program (of_file (codes "check"))) (of_file (codes "show"))
+line_of_file = with_subcommand (with_subcommand program check) show
 
 -- the command of a class and known ones behind them
 abbrev pub line_with_known : App
@@ -57,22 +72,33 @@ words_for name rows = unwrap_or (all_of name rows) []
 
 -- the files that the words behind a command name
 abbrev pub files_in : Command → List Row → List Text
-files_in Check rows = words_for (codes "FILE") rows
+files_in (Check form) rows = words_for (codes "FILE") rows
 files_in Show rows = words_for (codes "FILE") rows
-files_in Verify rows = words_for (codes "CLASS") rows ++ words_for (codes "KNOWN") rows
-files_in Play rows = words_for (codes "CLASS") rows
+files_in (Verify form profile) rows = words_for (codes "CLASS") rows ++ words_for (codes "KNOWN") rows
+files_in (Play profile) rows = words_for (codes "CLASS") rows
 
--- the command of a name; `clap` takes no other name than theirs
-abbrev pub command_named : Text → Command
-command_named name =
+-- a flag is set where its one word is `true`
+abbrev pub is_true : List Text → Bool
+is_true (word ∷ []) = bytes_eq word (codes "true")
+is_true _ = false
+
+abbrev pub form_in : List Row → Form
+form_in rows = if is_true (words_for (codes "json") rows) then Json else Plain
+
+abbrev pub profile_in : List Row → Profile
+profile_in rows = if is_true (words_for (codes "dynamic") rows) then Dynamic else Default
+
+-- the command of a name, with the form and the profile that the words behind it ask for; `clap` takes no other name than theirs
+abbrev pub command_named : Text → List Row → Command
+command_named name rows =
     if bytes_eq name (codes "show") then Show
-    else if bytes_eq name (codes "verify") then Verify
-    else if bytes_eq name (codes "play") then Play
-    else Check
+    else if bytes_eq name (codes "verify") then Verify (form_in rows) (profile_in rows)
+    else if bytes_eq name (codes "play") then Play (profile_in rows)
+    else Check (form_in rows)
 
 -- what the matches of a line ask for
 abbrev pub asked : Option (Text × List Row) → Option (Command × List Text)
-asked = option_map (λ p. (command_named p.0, files_in (command_named p.0) p.1))
+asked = option_map (λ p. (command_named p.0 p.1, files_in (command_named p.0 p.1) p.1))
 
 -- a fault of one of these kinds; of want of memory nothing is said
 abbrev pub IsFault : Kinds → LineFault → Type 0

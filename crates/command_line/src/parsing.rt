@@ -2,11 +2,12 @@
 ghost use Rattle.std.specs.Prelude.{◌≡◌, ◌++◌, IfOk, OnOk, codes, false, map, string_bytes};
 ghost use Rattle.clap.specs.Words.{Kinds, HasKind, app_of, rule_of, rows_of, found_of, new_app, with_rule};
 ghost use Rattle.clap.specs.declared.builder.command.Command.TheViews.{out-Command};
-ghost use Rattle.command_line.specs.Line.{line, line_of_file, line_with_known, file, class_file, known_files, class_files, IsFault, ToldBy, Asks, command_named, words_for, files_in};
+ghost use Rattle.command_line.specs.Line.{line, line_of_file, line_with_known, file, json, class_file, known_files, class_files, dynamic, IsFault, ToldBy, Asks, is_true, form_in, profile_in, command_named, words_for, files_in};
 
 use crate::line::{LineFault, Request};
-use answers::Command;
-use clap::{Arg, ArgMatches, Command as Parser};
+use answers::{Command, Form};
+use clap::{Arg, ArgAction, ArgMatches, Command as Parser};
+use classfile::Profile;
 use std::alloc::{AllocError, Global};
 
 /// The part of the help that explains the status that the program ends with.
@@ -49,7 +50,8 @@ const VERIFY_EXAMPLE: &str = "Example:
   method mean (II)I verified
 
 Each method is `verified`, has `no code`, or is `refused NUMBER at OFFSET`, the offset counting bytes of its code. Behind 77 stands
-`missing NAME`: give the file of that class as well; examples/judge does so by itself. docs/REFUSALS.md explains the numbers 40 to 81.";
+`missing NAME`: give the file of that class as well; examples/judge does so by itself. A method with invokedynamic is refused 60 but with
+--dynamic. docs/REFUSALS.md explains the numbers 40 to 81.";
 
 /// The end of the help on `play`.
 const PLAY_EXAMPLE: &str = "Example:
@@ -71,12 +73,23 @@ fn one_file<'a>(alloc: Global, name: &'a str) -> Result<Parser<'a>, AllocError>
     Parser::new(alloc, name).arg(file)
 }
 
-/// `check FILE`
+/// `--json`
+fn json<'a>(alloc: Global) -> Arg<'a>
+    ensures rule { rule_of result ≡ json }
+    ensures local { result.global ≡ false }
+{
+    Arg::new(alloc, "json")
+        .long("json")
+        .action(ArgAction::SetTrue)
+        .help("Prints objects of JSON, each on a line of its own")
+}
+
+/// `check --json FILE`
 fn check<'a>(alloc: Global) -> Result<Parser<'a>, AllocError>
-    ensures app { IfOk result (λ c. app_of c ≡ with_rule (new_app (codes "check")) file) }
+    ensures app { IfOk result (λ c. app_of c ≡ with_rule (with_rule (new_app (codes "check")) file) json) }
     ensures local { IfOk result (λ c. (out-Command c).has_globals ≡ false) }
 {
-    let command = one_file(alloc, "check")?;
+    let command = one_file(alloc, "check")?.arg(json(alloc))?;
     Ok(
         command
             .about("Prints `ok`, or `refused` with the number of the first fault and its place")
@@ -117,6 +130,17 @@ fn known_files<'a>(alloc: Global) -> Arg<'a>
     )
 }
 
+/// `--dynamic`
+fn dynamic<'a>(alloc: Global) -> Arg<'a>
+    ensures rule { rule_of result ≡ dynamic }
+    ensures local { result.global ≡ false }
+{
+    Arg::new(alloc, "dynamic")
+        .long("dynamic")
+        .action(ArgAction::SetTrue)
+        .help("Judges invokedynamic and dynamic constants as well, which are refused 60 otherwise")
+}
+
 /// A command that takes the file of a class and those of known ones.
 fn class_and_known<'a>(alloc: Global) -> Result<Parser<'a>, AllocError>
     ensures app { IfOk result (λ c. app_of c ≡ with_rule (with_rule (new_app (codes "verify")) class_file) known_files) }
@@ -127,12 +151,14 @@ fn class_and_known<'a>(alloc: Global) -> Result<Parser<'a>, AllocError>
         .arg(known_files(alloc))
 }
 
-/// `verify CLASS KNOWN...`
+/// `verify --dynamic --json CLASS KNOWN...`
 fn verify<'a>(alloc: Global) -> Result<Parser<'a>, AllocError>
-    ensures app { IfOk result (λ c. app_of c ≡ with_rule (with_rule (new_app (codes "verify")) class_file) known_files) }
+    ensures app { IfOk result (λ c. app_of c ≡ with_rule (with_rule (with_rule (with_rule (new_app (codes "verify")) class_file) known_files) dynamic) json) }
     ensures local { IfOk result (λ c. (out-Command c).has_globals ≡ false) }
 {
-    let command = class_and_known(alloc)?;
+    let command = class_and_known(alloc)?
+        .arg(dynamic(alloc))?
+        .arg(json(alloc))?;
     Ok(
         command
             .about("Prints the verdict on each method of a class")
@@ -158,12 +184,12 @@ fn all_classes<'a>(alloc: Global) -> Result<Parser<'a>, AllocError>
     Parser::new(alloc, "play").arg(class_files(alloc))
 }
 
-/// `play CLASS...`
+/// `play --dynamic CLASS...`
 fn play<'a>(alloc: Global) -> Result<Parser<'a>, AllocError>
-    ensures app { IfOk result (λ c. app_of c ≡ with_rule (new_app (codes "play")) class_files) }
+    ensures app { IfOk result (λ c. app_of c ≡ with_rule (with_rule (new_app (codes "play")) class_files) dynamic) }
     ensures local { IfOk result (λ c. (out-Command c).has_globals ≡ false) }
 {
-    let command = all_classes(alloc)?;
+    let command = all_classes(alloc)?.arg(dynamic(alloc))?;
     Ok(
         command
             .about("Prints whether all methods of classes that run together are verified")
@@ -230,28 +256,71 @@ fn files(alloc: Global, command: Command, found: &ArgMatches<'_>) -> Result<Vec<
 {
     let mut files = Vec::new(alloc);
     match command {
-        Command::Check | Command::Show => add_words(alloc, found, "FILE", &mut files)?,
-        Command::Verify => {
+        Command::Check(_) | Command::Show => add_words(alloc, found, "FILE", &mut files)?,
+        Command::Verify(..) => {
             add_words(alloc, found, "CLASS", &mut files)?;
             add_words(alloc, found, "KNOWN", &mut files)?;
         }
-        Command::Play => add_words(alloc, found, "CLASS", &mut files)?,
+        Command::Play(_) => add_words(alloc, found, "CLASS", &mut files)?,
     }
     Ok(files)
 }
 
-/// The command of this name.
-fn command_named(name: &str) -> Command
-    ensures { result ≡ command_named name.now }
+/// Whether these are the words of a flag that is set: the one word `true`, as `clap` has it.
+fn is_true(words: &[&str]) -> bool
+    ensures { result ≡ is_true (map (λ w. w.now) words.now) }
+{
+    match words {
+        [word] => *word == "true",
+        _ => false,
+    }
+}
+
+/// Whether the flag of this name is set.
+#[tactic(auto, using(crate::proofs::Rows::raw_rows))]
+fn is_set(found: &ArgMatches<'_>, name: &str) -> bool
+    ensures { result ≡ is_true (words_for name.now (rows_of (found_of found.now))) }
+{
+    match found.get_strs(name) {
+        Some(words) => is_true(words),
+        None => false,
+    }
+}
+
+/// The form that the words behind a command ask for.
+fn form(found: &ArgMatches<'_>) -> Form
+    ensures { result ≡ form_in (rows_of (found_of found.now)) }
+{
+    if is_set(found, "json") {
+        Form::Json
+    } else {
+        Form::Plain
+    }
+}
+
+/// The profile that the words behind a command name.
+fn profile(found: &ArgMatches<'_>) -> Profile
+    ensures { result ≡ profile_in (rows_of (found_of found.now)) }
+{
+    if is_set(found, "dynamic") {
+        Profile::Dynamic
+    } else {
+        Profile::Default
+    }
+}
+
+/// The command of this name, with the form and the profile that the words behind it ask for.
+fn command_named(name: &str, found: &ArgMatches<'_>) -> Command
+    ensures { result ≡ command_named name.now (rows_of (found_of found.now)) }
 {
     if name == "show" {
         Command::Show
     } else if name == "verify" {
-        Command::Verify
+        Command::Verify(form(found), profile(found))
     } else if name == "play" {
-        Command::Play
+        Command::Play(profile(found))
     } else {
-        Command::Check
+        Command::Check(form(found))
     }
 }
 
@@ -278,7 +347,7 @@ pub fn request(alloc: Global, words: &[&str]) -> Result<Request, LineFault>
     };
     match matches.subcommand() {
         Some((name, found)) => {
-            let command = command_named(name);
+            let command = command_named(name, found);
             Ok(Request {
                 command,
                 files: files(alloc, command, found)?,

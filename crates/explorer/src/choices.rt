@@ -85,6 +85,7 @@ fn asks(act: &Act<'_>) -> bool {
             | Act::InvokeSpecial { .. }
             | Act::InvokeStatic { .. }
             | Act::InvokeInterface { .. }
+            | Act::InvokeDynamic { .. }
             | Act::New { .. }
             | Act::NewArray(_)
             | Act::NewReferenceArray { .. }

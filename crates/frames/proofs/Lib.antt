@@ -24,3 +24,6 @@ pub mod Sharing
 pub mod Units
 pub mod Fits
 pub mod Passing
+pub mod Holding
+pub mod LocalTypes
+pub mod LocalWrites

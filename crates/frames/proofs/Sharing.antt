@@ -12,7 +12,7 @@ use Rattle.frames.specs.Assignable.{type_answer}
 use Rattle.frames.specs.FrameAssignable.{both, slot_answer, item_answer, list_answer, stack_answer, flag_answer, frame_answer}
 use Rattle.frames.specs.FrameFact.{FrameFact}
 use Rattle.frames.specs.HeldFrames.{held_locals}
-use Rattle.frames.specs.Chains.{link_at, types_at, below_of, down, AreLinked, IsOn, LeadsTo, chain_answer, place, slots_at}
+use Rattle.frames.specs.Chains.{link_at, types_at, below_of, down, AreLinked, IsOn, LeadsTo, chain_answer, place}
 use Rattle.frames.specs.DeclaredViews.{locals_at, fact_of, IsInside}
 use Rattle.frames.specs.DeclaredTables.{declared_view, IsOf, AreOfOne, AreKept, AreFit}
 use Rattle.frames.specs.declared.chain.Link.{Link}
@@ -149,53 +149,6 @@ lower_yes : (f : VerificationType → VerificationType → Outcome) (place : Lis
 lower_yes f place xs [] ts e = e
 lower_yes f place xs (u ∷ us) ts e = lower_yes f place xs us ts (both_left (chain_answer f place xs (us ++ ts)) (f (get_or xs (place (us ++ ts)) top) u) e)
 
-take_tops : (n k : ℕ) → n ≤ k → take n (replicate k top) ≡ replicate n top
-take_tops zero k le = refl
-take_tops (suc n) zero le = absurd (omega (arith, le))
-take_tops (suc n) (suc k) le = ap (λ l. top ∷ l) (take_tops n k (omega (arith, le)))
-
-take_padded : (xs : List VerificationType) (n k : ℕ) → n ≤ length xs + k → take n (xs ++ replicate k top) ≡ take n xs ++ replicate (n - length xs) top
-take_padded [] zero k le = refl
-take_padded [] (suc n) k le = let e : suc n - 0 ≡ suc n = omega arith in rw e (take_tops (suc n) k (omega (arith, le)))
-take_padded (x ∷ xs) zero k le = let e : zero - length (x ∷ xs) ≡ 0 = omega arith in rw e refl
-take_padded (x ∷ xs) (suc n) k le =
-    let e : suc n - length (x ∷ xs) ≡ n - length xs = omega arith in
-    rw e (ap (λ l. x ∷ l) (take_padded xs n k (omega (arith, le))))
-
-tops : (k : ℕ) → map type_of (replicate k Top) ≡ replicate k top
-tops zero = refl
-tops (suc k) = ap (λ z. top ∷ z) (tops k)
-
-module _ (links : List Link) (k : AreLinked links) (n m : ℕ) (f : FrameTops) (shared : ℕ) (on : IsOn links f.locals shared) (locals : List VType) (same : held_locals locals m ≡ (fact_of links n f).locals) where
-  abbrev above : List VerificationType
-  above = (types_on links k f.locals shared on).0
-
-  abbrev pub lower : List VerificationType
-  lower = in_locals (reverse (types_at links shared))
-
-  abbrev rest : List VerificationType
-  rest = in_locals (reverse above) ++ replicate (n - length (in_locals (locals_at links f.locals))) top
-
-  parts : (fact_of links n f).locals ≡ lower ++ rest
-  unfolding fact_of locals_at
-  parts =
-      let e = (types_on links k f.locals shared on).1 in
-      ap (λ l. l ++ replicate (n - length (in_locals (reverse (types_at links f.locals)))) top)
-      (ap (λ ts. in_locals (reverse ts)) e ∙ ap in_locals (reverse-append above (types_at links shared)) ∙ in_append (reverse (types_at links shared)) (reverse above))
-      ∙ append_assoc lower (in_locals (reverse above)) (replicate (n - length (in_locals (reverse (types_at links f.locals)))) top)
-
-  pub kept_written : (u : ℕ) → u ≡ units_of (types_at links shared) → map type_of (take u locals ++ replicate (u - length locals) Top) ≡ lower
-  kept_written u e =
-      let xs = map type_of locals in
-      let size : u ≡ length lower = e ∙ sym (units_in (types_at links shared)) in
-      let long : u ≤ length xs + (m - length locals) =
-      omega (arith, size, length-append lower rest, ap length (same ∙ parts), length-append xs (replicate (m - length locals) top), length-replicate (m - length locals) top) in
-      map-append type_of (take u locals) (replicate (u - length locals) Top)
-      ∙ ap (λ l. l ++ map type_of (replicate (u - length locals) Top)) (sym (take-map type_of u locals))
-      ∙ ap (λ l. take u xs ++ l) (tops (u - length locals) ∙ ap (λ q. replicate (u - q) top) (sym (length-map locals type_of)))
-      ∙ sym (take_padded xs u (m - length locals) long)
-      ∙ ap (take u) (same ∙ parts) ∙ ap (λ q. take q (lower ++ rest)) size ∙ take-append_seam lower rest
-
 -- ---- frames of one table
 
 module _ (d : Declared) (m : ℕ) (locals : List VType) (shared : ℕ) where
@@ -205,10 +158,6 @@ module _ (d : Declared) (m : ℕ) (locals : List VType) (shared : ℕ) where
   -- where the locals are those of another frame, from this place down it shares them
   abbrev pub IsShared : Option Declared → Type 0
   IsShared kept = MatchOption kept (shared ≡ 0) (λ k. IsOn links k.tops.locals shared)
-
-  seen_here : (k : Declared) → AreKept d (held_locals locals m) k → held_locals locals m ≡ (fact_of links k.max_locals k.tops).locals
-  unfolding AreOfOne declared_view
-  seen_here k a = a.same ∙ ap (λ (l : List Link). (fact_of l k.max_locals k.tops).locals) a.of_one.0
 
   none_left : shared ≡ 0 → types_at links shared ≡ []
   none_left e = ap (types_at links) e ∙ types_bottom links
@@ -237,14 +186,6 @@ module _ (d : Declared) (m : ℕ) (locals : List VType) (shared : ℕ) where
       → chain_answer (slot_answer h false) (place false) (map type_of locals) (types_at links shared) ≡ yes
   shared_yes h None a e = ap (chain_answer (slot_answer h false) (place false) (map type_of locals)) (none_left e)
   shared_yes h (Some k) a e = fit_yes h k a e
-
-  pub shared_written : (u : ℕ) (kept : Option Declared) → u ≡ units_of (types_at links shared) → IfSome kept (AreKept d (held_locals locals m)) → IsShared kept
-      → map type_of (take u locals ++ replicate (u - length locals) Top) ≡ slots_at links true shared
-  shared_written u None q a e =
-      let none : u ≡ 0 = q ∙ ap units_of (none_left e) in
-      let rest : u - length locals ≡ 0 = omega (arith, none) in
-      rw (none_left e, rest, none) refl
-  shared_written u (Some k) q a e = kept_written links d.chains.now.linked k.max_locals m k.tops shared e locals (seen_here k a) u q
 
 pub are_of_one : (t : DeclaredFrames) (d e : Declared) → IsOf t d → IsOf t e → AreOfOne d e
 unfolding IsOf AreOfOne

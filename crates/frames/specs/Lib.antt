@@ -11,6 +11,11 @@ pub mod DeclaredFrames
 pub mod MapViews
 pub mod MapLaws
 pub mod HeldFrames
+pub mod Objects
+pub mod Holders
+pub mod ObjectHolders
+pub mod LocalTypes
+pub mod Locals
 pub mod Chains
 pub mod Rising
 pub mod DeclaredViews

@@ -10,8 +10,9 @@ use crate::after::FrameTops;
 use crate::chain::Chains;
 use crate::compare_frames::both;
 use crate::frame::Frame;
+use crate::locals::Locals;
 use crate::vtype::VType;
-use crate::walking::{chain_assignable, write_above};
+use crate::walking::{chain_assignable, write_locals, write_stack};
 use hierarchy::{Answer, Classes};
 use std::alloc::{AllocError, Global};
 
@@ -136,13 +137,16 @@ fn may_have_flag(from: bool, to: bool) -> bool
 }
 
 impl<'n, 'a> Declared<'n, 'a> {
-    ghost use Rattle.std.specs.Prelude.{◌≤◌, ◌-◌, ℕ, true, length, map, take, drop, replicate, reverse, OnOk, IfOk, IfSome, MatchOption};
+    ghost use Rattle.std.specs.Prelude.{◌<◌, ◌≤◌, ◌-◌, ℕ, true, length, map, take, drop, replicate, reverse, OnOk, IfOk, IfSome, MatchOption};
     ghost use Rattle.hierarchy.specs.Answer.{outcome_of};
     ghost use Rattle.frames.specs.VerificationType.{type_of, top};
-    ghost use Rattle.frames.specs.FrameAssignable.{frame_answer};
+    ghost use Rattle.frames.specs.Assignable.{type_answer};
+    ghost use Rattle.frames.specs.FrameAssignable.{list_answer, frame_answer};
     ghost use Rattle.frames.specs.FrameFact.{frame_of};
     ghost use Rattle.frames.specs.HeldFrames.{held_locals, held_frame};
-    ghost use Rattle.frames.specs.Chains.{IsOn};
+    ghost use Rattle.frames.specs.Slots.{units_of};
+    ghost use Rattle.frames.specs.Chains.{types_at, IsOn, AreTopFrom, AreBelow};
+    ghost use Rattle.frames.specs.Locals.{local, locals_in};
     ghost use Rattle.frames.specs.DeclaredTables.{declared_view, AreOfOne, AreKept, AreFit};
 
     /// Whether the own object is uninitialized.
@@ -170,6 +174,15 @@ impl<'n, 'a> Declared<'n, 'a> {
             Some(other) => self.chains.common(self.tops.locals, other.tops.locals),
             None => 0,
         }
+    }
+
+    /// Whether locals, all beyond them being top, may stand where those of this frame are declared. Takes no memory.
+    pub fn locals_answer<C: Classes>(&self, locals: &[VType<'a>], classes: &C) -> Answer<'a>
+        requires { length locals.now ≤ length (declared_view self.now).locals }
+        ensures { let d = declared_view self.now in
+            outcome_of result ≡ list_answer (type_answer (C.content classes.now)) (held_locals locals.now (length d.locals)) d.locals }
+    {
+        chain_assignable(locals, self.chains, self.tops.locals, 0, false, classes)
     }
 
     /// Whether a frame may stand where this one is declared (JVMS 4.10.1.4): one that has these locals, all beyond them
@@ -220,9 +233,9 @@ impl<'n, 'a> Declared<'n, 'a> {
     pub fn to_frame(&self, alloc: Global) -> Result<Frame<'a>, AllocError>
         ensures { IfOk result (λ f. frame_of f ≡ declared_view self.now) }
     {
-        let mut locals: Vec<VType<'a>> = Vec::new(alloc);
+        let mut locals = Locals::new(alloc);
         self.write_locals(None, &mut locals)?;
-        locals.resize(usize::from(self.max_locals), VType::Top)?;
+        let locals = locals.into_types(usize::from(self.max_locals))?;
         let mut stack: Vec<VType<'a>> = Vec::new(alloc);
         self.write_stack(&mut stack)?;
         Ok(Frame {
@@ -232,21 +245,44 @@ impl<'n, 'a> Declared<'n, 'a> {
         })
     }
 
-    /// Writes the locals to a vector in place of what it holds, by units: a long or double is its type and then top.
-    /// All locals beyond them are top. Where the vector holds the locals of another frame of the same stack map, this
-    /// one may be `kept`: then only the locals are written that the two frames do not share.
+    /// Gives locals the types of this frame, by units: a long or double is its type and then top, and all beyond are top. Where they are those
+    /// of another frame of the same stack map, this one may be `kept`: then only those are set that the two frames do not share.
     pub fn write_locals(
         &self,
         kept: Option<Declared<'_, 'a>>,
-        locals: &mut Vec<VType<'a>>,
+        locals: &mut Locals<'a>,
     ) -> Result<(), AllocError>
-        requires { IfSome kept (AreKept self.now (held_locals locals.old.items (length (declared_view self.now).locals))) }
-        ensures written { let d = declared_view self.now in OnOk result (held_locals locals.new.items (length d.locals) ≡ d.locals) }
-        ensures few { OnOk result (length locals.new.items ≤ length (declared_view self.now).locals) }
+        requires { IfSome kept (AreKept self.now (locals_in locals.old (length (declared_view self.now).locals))) }
+        ensures { let d = declared_view self.now in OnOk result (locals_in locals.new (length d.locals) ≡ d.locals) }
     {
         let shared = self.shared(kept);
-        locals.resize(self.chains.units(shared), VType::Top)?;
-        write_above(self.chains, self.tops.locals, shared, true, locals)
+        self.clear_above(kept, shared, locals)?;
+        write_locals(self.chains, self.tops.locals, shared, locals)
+    }
+
+    // Makes locals top that this frame does not have: all of them, where they are not known to be those of another frame. Those that the two
+    // share stay.
+    fn clear_above(
+        &self,
+        kept: Option<Declared<'_, 'a>>,
+        shared: usize,
+        locals: &mut Locals<'a>,
+    ) -> Result<(), AllocError>
+        requires kept { IfSome kept (AreKept self.now (locals_in locals.old (length (declared_view self.now).locals))) }
+        requires own { IsOn self.now.chains.now.links.items self.now.tops.locals shared }
+        requires other { MatchOption kept (shared ≡ 0) (λ k. IsOn self.now.chains.now.links.items k.tops.locals shared) }
+        ensures top { OnOk result (AreTopFrom (units_of (types_at self.now.chains.now.links.items self.now.tops.locals)) (length (declared_view self.now).locals) (local locals.new)) }
+        ensures below { OnOk result (AreBelow self.now.chains.now.links.items shared (local locals.new)) }
+    {
+        let Some(kept) = kept else {
+            locals.clear();
+            return Ok(());
+        };
+        let end = kept.chains.units(kept.tops.locals);
+        for place in self.chains.units(self.tops.locals)..end {
+            locals.set(place, VType::Top)?;
+        }
+        Ok(())
     }
 
     /// How many units of locals are in use: all beyond them are top.
@@ -271,7 +307,6 @@ impl<'n, 'a> Declared<'n, 'a> {
     pub fn write_stack(&self, stack: &mut Vec<VType<'a>>) -> Result<(), AllocError>
         ensures { OnOk result (reverse (map type_of stack.new.items) ≡ (declared_view self.now).stack) }
     {
-        stack.clear();
-        write_above(self.chains, self.tops.stack, 0, false, stack)
+        write_stack(self.chains, self.tops.stack, stack)
     }
 }

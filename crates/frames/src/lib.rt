@@ -13,9 +13,12 @@
 //! - `fitting`: which declared frames running locals are known to fit.
 //! - `frame`: frames.
 //! - `frame_fault`: why an entry is refused.
+//! - `holders`: the locals that came to hold objects that are not initialized.
 //! - `laws`: what the answers mean, by chains of superclasses and place by place.
+//! - `locals`: the local variables of a running frame.
 //! - `map_reading`, `map_writing`: the two directions of a stack map.
 //! - `naming`: the types of what descriptors and Class constants name.
+//! - `objects`: objects that are not initialized.
 //! - `packed`: frames with their slots, compared by lanes.
 //! - `packing`: types as slots of four bytes.
 //! - `refusing`: an entry judged.
@@ -38,10 +41,13 @@ mod declaring;
 mod fitting;
 mod frame;
 mod frame_fault;
+mod holders;
 pub mod laws;
+mod locals;
 mod map_reading;
 mod map_writing;
 mod naming;
+mod objects;
 mod packed;
 mod packing;
 mod refusing;
@@ -60,7 +66,10 @@ pub use declaring::declare;
 pub use fitting::Fitting;
 pub use frame::Frame;
 pub use frame_fault::FrameFault;
+pub use holders::Holder;
+pub use locals::Locals;
 pub use naming::{array_of, held_by, number_type, reference_to};
+pub use objects::{is_made_at, is_object, is_own};
 pub use packed::{Packed, packed_assignable};
 pub use packing::pack;
 pub use stack_map::{MapEntry, StackMap, TypeInfo, read_map};

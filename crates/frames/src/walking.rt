@@ -1,12 +1,15 @@
 //! Chains gone through from the top down.
-ghost use Rattle.std.specs.Prelude.{◌≡◌, ◌≤◌, ◌++◌, ◌∷◌, [], length, map, take, drop, reverse, get_or, OnOk};
+ghost use Rattle.std.specs.Prelude.{◌≡◌, ◌+◌, ◌++◌, ℕ, map, reverse, get_or, OnOk};
 ghost use Rattle.hierarchy.specs.Answer.{yes, outcome_of};
 ghost use Rattle.frames.specs.VerificationType.{type_of, top};
-ghost use Rattle.frames.specs.FrameAssignable.{slot_answer};
-ghost use Rattle.frames.specs.Chains.{types_at, chain_answer, place, as_slots, slots_at, IsOn, PutDown};
+ghost use Rattle.frames.specs.FrameAssignable.{slot_answer, width_of};
+ghost use Rattle.frames.specs.Slots.{units_of};
+ghost use Rattle.frames.specs.Locals.{local};
+ghost use Rattle.frames.specs.Chains.{types_at, chain_answer, place, IsOn, one_set, AreBelow, AreTopFrom, AreOfChain};
 
 use crate::chain::Chains;
 use crate::compare_frames::{both, slot_assignable, width};
+use crate::locals::Locals;
 use crate::vtype::VType;
 use hierarchy::{Answer, Classes};
 use std::alloc::AllocError;
@@ -62,61 +65,73 @@ pub fn chain_assignable<'a, C: Classes>(
     so_far
 }
 
-// Puts a type behind the others; where units are asked for, a long or double stands behind its second half.
-fn push_slots<'a>(t: VType<'a>, in_units: bool, out: &mut Vec<VType<'a>>) -> Result<(), AllocError>
-    ensures { OnOk result (map type_of out.new.items ≡ map type_of out.old.items ++ reverse (as_slots in_units (type_of t.entry ∷ []))) }
-{
-    if in_units && width(&t) == 2 {
-        out.push(VType::Top)?;
-    }
-    out.push(t)?;
-    Ok(())
-}
-
-// Puts the types of a chain above a floor behind the others, the top one first.
+// Puts the types of a chain behind the others, the top one first.
 fn write_down<'a>(
     chains: &Chains<'a>,
     top: usize,
-    floor: usize,
-    in_units: bool,
     out: &mut Vec<VType<'a>>,
 ) -> Result<(), AllocError>
-    requires { IsOn chains.now.links.items top floor }
-    ensures { OnOk result (PutDown chains.now.links.items in_units top floor out.old.items out.new.items) }
+    ensures { OnOk result (map type_of out.new.items ≡ map type_of out.old.items ++ types_at chains.now.links.items top) }
+{
+    let mut at = top;
+    while let Some(link) = chains.link(at) {
+        out.push(link.vtype)?;
+        at = link.below;
+    }
+    Ok(())
+}
+
+/// Writes the types of a chain to a vector in place of what it holds, from the bottom up.
+pub fn write_stack<'a>(
+    chains: &Chains<'a>,
+    top: usize,
+    out: &mut Vec<VType<'a>>,
+) -> Result<(), AllocError>
+    ensures { OnOk result (reverse (map type_of out.new.items) ≡ types_at chains.now.links.items top) }
+{
+    out.clear();
+    write_down(chains, top, out)?;
+    out.reverse();
+    Ok(())
+}
+
+// Gives a local a type; where that is a long or a double, the one behind it becomes top. It ends in front of a local.
+fn set_local<'a>(
+    place: usize,
+    end: usize,
+    t: VType<'a>,
+    locals: &mut Locals<'a>,
+) -> Result<(), AllocError>
+    requires { end ≡ place + width_of (type_of t) }
+    ensures { OnOk result ((i : ℕ) → local locals.new i ≡ one_set place (type_of t.entry) (local locals.old) i) }
+{
+    locals.set(place, t)?;
+    if place + 1 < end {
+        locals.set(place + 1, VType::Top)?;
+    }
+    Ok(())
+}
+
+/// Gives locals the types of a chain above a floor, by units: those below are of the chain, and those above are top.
+pub fn write_locals<'a>(
+    chains: &Chains<'a>,
+    top: usize,
+    floor: usize,
+    locals: &mut Locals<'a>,
+) -> Result<(), AllocError>
+    requires on { IsOn chains.now.links.items top floor }
+    requires below { AreBelow chains.now.links.items floor (local locals.old) }
+    ensures { (limit : ℕ) → AreTopFrom (units_of (types_at chains.now.links.items top)) limit (local locals.old)
+        → OnOk result (AreOfChain chains.now.links.items top limit (local locals.new)) }
 {
     let mut at = top;
     while let Some(link) = chains.link(at) {
         if at == floor {
             return Ok(());
         }
-        push_slots(link.vtype, in_units, out)?;
+        let end = chains.units(at);
+        set_local(chains.units(link.below), end, link.vtype, locals)?;
         at = link.below;
     }
-    Ok(())
-}
-
-fn turn_from(items: &mut [VType<'_>], from: usize)
-    requires { from ≤ length items.old }
-    ensures turned { items.new ≡ take from items.old ++ reverse (drop from items.old) }
-    ensures size { length items.new ≡ length items.old }
-{
-    items[from..].reverse();
-}
-
-/// Writes the types of a chain from the bottom up, where those from the floor down stand there already.
-pub fn write_above<'a>(
-    chains: &Chains<'a>,
-    top: usize,
-    floor: usize,
-    in_units: bool,
-    out: &mut Vec<VType<'a>>,
-) -> Result<(), AllocError>
-    requires on { IsOn chains.now.links.items top floor }
-    requires written { map type_of out.old.items ≡ slots_at chains.now.links.items in_units floor }
-    ensures { OnOk result (map type_of out.new.items ≡ slots_at chains.now.links.items in_units top) }
-{
-    let written = out.len();
-    write_down(chains, top, floor, in_units, out)?;
-    turn_from(out, written);
     Ok(())
 }

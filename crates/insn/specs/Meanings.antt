@@ -32,6 +32,7 @@ pub data Act : Type 0 where
   ReturnReference ReturnVoid : Act
   GetStatic PutStatic GetField PutField InvokeVirtual InvokeSpecial InvokeStatic : (index : ℕ) → Act
   InvokeInterface : (index count : ℕ) → Act
+  InvokeDynamic : (index : ℕ) → Act
   New : (index : ℕ) → Act
   LoadElement StoreElement : (element : Primitive) → Act
   LoadReferenceElement StoreReferenceElement ArrayLength : Act
@@ -136,6 +137,7 @@ act_of means.InvokeVirtual x = InvokeVirtual (index_of x)
 act_of means.InvokeSpecial x = InvokeSpecial (index_of x)
 act_of means.InvokeStatic x = InvokeStatic (index_of x)
 act_of means.InvokeInterface x = InvokeInterface (index_of x) (byte_of x)
+act_of means.InvokeDynamic x = InvokeDynamic (index_of x)
 act_of means.New x = New (index_of x)
 act_of (means.LoadElement element) x = LoadElement element
 act_of (means.StoreElement element) x = StoreElement element

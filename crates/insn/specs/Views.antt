@@ -100,6 +100,7 @@ act_view (acts.InvokeVirtual index) = means.InvokeVirtual index
 act_view (acts.InvokeSpecial index) = means.InvokeSpecial index
 act_view (acts.InvokeStatic index) = means.InvokeStatic index
 act_view (acts.InvokeInterface index count) = means.InvokeInterface index count
+act_view (acts.InvokeDynamic index) = means.InvokeDynamic index
 act_view (acts.New index) = means.New index
 act_view (acts.LoadElement element) = means.LoadElement element
 act_view (acts.StoreElement element) = means.StoreElement element

@@ -80,6 +80,7 @@ fn act_of<'a>(meaning: Meaning, parts: &Parts<'a>) -> Act<'a>
         Meaning::InvokeSpecial => Act::InvokeSpecial { index },
         Meaning::InvokeStatic => Act::InvokeStatic { index },
         Meaning::InvokeInterface => Act::InvokeInterface { index, count: byte },
+        Meaning::InvokeDynamic => Act::InvokeDynamic { index },
         Meaning::New => Act::New { index },
         Meaning::LoadElement(element) => Act::LoadElement(element),
         Meaning::StoreElement(element) => Act::StoreElement(element),

@@ -247,6 +247,8 @@ pub enum Act<'a> {
     InvokeStatic { index: u16 },
     /// `invokeinterface`
     InvokeInterface { index: u16, count: u8 },
+    /// `invokedynamic`
+    InvokeDynamic { index: u16 },
     /// `new`
     New { index: u16 },
     /// `iaload` to `saload`, but for `aaload`: the array's elements are of this type; `baload` has
@@ -274,7 +276,7 @@ pub enum Act<'a> {
     Throw,
     /// `monitorenter` and `monitorexit`
     Monitor,
-    /// `jsr`, `jsr_w`, `ret` and `invokedynamic`, which are decoded and not verified.
+    /// `jsr`, `jsr_w` and `ret`, which are decoded and not verified.
     Unsupported,
 }
 
@@ -318,6 +320,7 @@ pub enum Meaning {
     InvokeSpecial,
     InvokeStatic,
     InvokeInterface,
+    InvokeDynamic,
     New,
     LoadElement(Primitive),
     StoreElement(Primitive),

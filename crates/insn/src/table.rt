@@ -248,7 +248,7 @@ static ROWS: [Row; 202] = rows! {
     Invokespecial   "invokespecial"   Index           Meaning::InvokeSpecial;
     Invokestatic    "invokestatic"    Index           Meaning::InvokeStatic;
     Invokeinterface "invokeinterface" InvokeInterface Meaning::InvokeInterface;
-    Invokedynamic   "invokedynamic"   InvokeDynamic   Meaning::Unsupported;
+    Invokedynamic   "invokedynamic"   InvokeDynamic   Meaning::InvokeDynamic;
     New             "new"             Index           Meaning::New;
     Newarray        "newarray"        NewArray        Meaning::NewArray;
     Anewarray       "anewarray"       Index           Meaning::NewReferenceArray;

@@ -5,7 +5,7 @@ use Rattle.names.specs.Descriptors.{FieldDescriptor, primitive, class as class_d
 use Rattle.names.specs.ReferenceTypes.{ReferenceType, class_type, array_type}
 use Rattle.pool.specs.Entries as entries
 use Rattle.pool.specs.Entries.{Entry}
-use Rattle.pool.specs.Members.{constant_at, class_at, FieldConstant, field_at, MethodConstant, method_at}
+use Rattle.pool.specs.Members.{constant_at, class_at, FieldConstant, field_at, MethodConstant, method_at, dynamic_type_at, CallSite, call_site_at}
 use Rattle.classfile.specs.Methods.{Method}
 use Rattle.insn.specs.declared.operation.Kind.{Kind}
 use Rattle.insn.specs.Meanings as acts
@@ -22,19 +22,25 @@ where_allowed_flows : (b : Bool) (t : Task) → Flows t → Flows (tasks.where_a
 where_allowed_flows true t f = f
 where_allowed_flows false t f = tt
 
-load_constant_flows : (c : Option Entry) → Flows (tasks.load_constant c)
-load_constant_flows (Some (entries.Integer bits)) = inl refl
-load_constant_flows (Some (entries.Float bits)) = inl refl
-load_constant_flows (Some (entries.String text)) = inl refl
-load_constant_flows (Some (entries.Class name)) = inl refl
-load_constant_flows (Some (entries.MethodType d)) = inl refl
-load_constant_flows (Some (entries.MethodHandle k t)) = inl refl
-load_constant_flows _ = tt
+load_dynamic_flows : (judged : Bool) (units : ℕ) (t : Option FieldDescriptor) → Flows (tasks.load_dynamic judged units t)
+load_dynamic_flows judged units (Some t) = where_allowed_flows _ (tasks.operates [] None (tasks.gives_answer t) [] true) (inl refl)
+load_dynamic_flows judged units None = tt
 
-load_wide_constant_flows : (c : Option Entry) → Flows (tasks.load_wide_constant c)
-load_wide_constant_flows (Some (entries.Long high low)) = inl refl
-load_wide_constant_flows (Some (entries.Double high low)) = inl refl
-load_wide_constant_flows _ = tt
+load_constant_flows : (m : Method Act) (t : Option FieldDescriptor) (c : Option Entry) → Flows (tasks.load_constant m t c)
+load_constant_flows m t (Some (entries.Integer bits)) = inl refl
+load_constant_flows m t (Some (entries.Float bits)) = inl refl
+load_constant_flows m t (Some (entries.String text)) = inl refl
+load_constant_flows m t (Some (entries.Class name)) = inl refl
+load_constant_flows m t (Some (entries.MethodType d)) = inl refl
+load_constant_flows m t (Some (entries.MethodHandle k target)) = inl refl
+load_constant_flows m t (Some (entries.Dynamic bootstrap name)) = load_dynamic_flows m.dynamic 1 t
+load_constant_flows m t _ = tt
+
+load_wide_constant_flows : (m : Method Act) (t : Option FieldDescriptor) (c : Option Entry) → Flows (tasks.load_wide_constant m t c)
+load_wide_constant_flows m t (Some (entries.Long high low)) = inl refl
+load_wide_constant_flows m t (Some (entries.Double high low)) = inl refl
+load_wide_constant_flows m t (Some (entries.Dynamic bootstrap name)) = load_dynamic_flows m.dynamic 2 t
+load_wide_constant_flows m t _ = tt
 
 get_static_flows : (c : Option FieldConstant) → Flows (tasks.get_static c)
 get_static_flows (Some f) = inl refl
@@ -55,6 +61,10 @@ put_field_flows m None = tt
 static_flows : (n : ℕ) (c : Option MethodConstant) → Flows (tasks.invoke_static n c)
 static_flows n (Some c) = where_allowed_flows _ (tasks.static_call c) (inl refl)
 static_flows n None = tt
+
+site_flows : (m : Method Act) (c : Option CallSite) → Flows (tasks.invoke_dynamic m c)
+site_flows m (Some c) = where_allowed_flows _ (tasks.call_of c.type) (inl refl)
+site_flows m None = tt
 
 virtual_flows : (c : Option MethodConstant) → Flows (tasks.invoke_virtual c)
 virtual_flows (Some c) = where_allowed_flows _ (tasks.call_on c.class c) (inl refl)
@@ -117,8 +127,8 @@ pub flows : (m : Method Act) (a : Act) → Flows (task m a)
 flows m acts.Nothing = inl refl
 flows m (acts.Constant k) = inl refl
 flows m acts.ConstantNull = inl refl
-flows m (acts.LoadConstant i) = load_constant_flows (constant_at m.constant_pool i)
-flows m (acts.LoadWideConstant i) = load_wide_constant_flows (constant_at m.constant_pool i)
+flows m (acts.LoadConstant i) = load_constant_flows m (dynamic_type_at m.constant_pool i) (constant_at m.constant_pool i)
+flows m (acts.LoadWideConstant i) = load_wide_constant_flows m (dynamic_type_at m.constant_pool i) (constant_at m.constant_pool i)
 flows m (acts.Load k n) = tt
 flows m (acts.LoadReference n) = tt
 flows m (acts.Store k n) = tt
@@ -143,6 +153,7 @@ flows m (acts.InvokeVirtual i) = virtual_flows (method_at m.constant_pool i)
 flows m (acts.InvokeSpecial i) = special_flows m.major_version m.class (method_at m.constant_pool i)
 flows m (acts.InvokeStatic i) = static_flows m.major_version (method_at m.constant_pool i)
 flows m (acts.InvokeInterface i n) = interface_flows n (method_at m.constant_pool i)
+flows m (acts.InvokeDynamic i) = site_flows m (call_site_at m.constant_pool i)
 flows m (acts.New i) = new_flows (class_at m.constant_pool i)
 flows m (acts.LoadElement p) = inl refl
 flows m (acts.StoreElement p) = inl refl

@@ -6,7 +6,7 @@ use Rattle.names.specs.Descriptors.{FieldDescriptor, primitive, class as class_d
 use Rattle.names.specs.ReferenceTypes.{ReferenceType, class_type, array_type, descriptor_of}
 use Rattle.pool.specs.Entries as entries
 use Rattle.pool.specs.Entries.{Entry}
-use Rattle.pool.specs.Members.{constant_at, class_at, FieldConstant, field_at, MethodConstant, method_at}
+use Rattle.pool.specs.Members.{constant_at, class_at, FieldConstant, field_at, MethodConstant, method_at, dynamic_type_at, CallSite, call_site_at}
 use Rattle.classfile.specs.Methods.{Method}
 use Rattle.insn.specs.declared.operation.Kind.{Kind}
 use Rattle.insn.specs.Meanings as acts
@@ -116,19 +116,25 @@ where_allowed false t x q e = absurd (e refl)
 
 -- ---- constants
 
-constant_seen : (c : Option Entry) → Seen (tasks.load_constant c) (answers (by_act.constant_value c))
-constant_seen (Some (entries.Integer bits)) e = refl
-constant_seen (Some (entries.Float bits)) e = refl
-constant_seen (Some (entries.String text)) e = refl
-constant_seen (Some (entries.Class name)) e = refl
-constant_seen (Some (entries.MethodType d)) e = refl
-constant_seen (Some (entries.MethodHandle k t)) e = refl
-constant_seen _ e = absurd (e refl)
+computed_seen : (judged : Bool) (units : ℕ) (t : Option FieldDescriptor) → Seen (tasks.load_dynamic judged units t) (answers (by_act.computed_value t))
+computed_seen judged units (Some t) e = where_allowed _ (tasks.operates [] None (tasks.gives_answer t) [] true) (answers (by_act.computed_value (Some t))) refl e
+computed_seen judged units None e = absurd (e refl)
 
-wide_constant_seen : (c : Option Entry) → Seen (tasks.load_wide_constant c) (answers nothing)
-wide_constant_seen (Some (entries.Long high low)) e = refl
-wide_constant_seen (Some (entries.Double high low)) e = refl
-wide_constant_seen _ e = absurd (e refl)
+constant_seen : (m : Method Act) (t : Option FieldDescriptor) (c : Option Entry) → Seen (tasks.load_constant m t c) (answers (by_act.constant_value t c))
+constant_seen m t (Some (entries.Integer bits)) e = refl
+constant_seen m t (Some (entries.Float bits)) e = refl
+constant_seen m t (Some (entries.String text)) e = refl
+constant_seen m t (Some (entries.Class name)) e = refl
+constant_seen m t (Some (entries.MethodType d)) e = refl
+constant_seen m t (Some (entries.MethodHandle k target)) e = refl
+constant_seen m t (Some (entries.Dynamic bootstrap name)) e = computed_seen m.dynamic 1 t e
+constant_seen m t _ e = absurd (e refl)
+
+wide_constant_seen : (m : Method Act) (t : Option FieldDescriptor) (c : Option Entry) → Seen (tasks.load_wide_constant m t c) (answers (by_act.wide_constant_value t c))
+wide_constant_seen m t (Some (entries.Long high low)) e = refl
+wide_constant_seen m t (Some (entries.Double high low)) e = refl
+wide_constant_seen m t (Some (entries.Dynamic bootstrap name)) e = computed_seen m.dynamic 2 t e
+wide_constant_seen m t _ e = absurd (e refl)
 
 get_static_seen : (c : Option FieldConstant) → Seen (tasks.get_static c) (answers (by_act.field_value c 0))
 get_static_seen (Some f) e = refl
@@ -164,6 +170,13 @@ called c ns place =
 static_seen : (n : ℕ) (c : Option MethodConstant) → Seen (tasks.invoke_static n c) (answers (by_act.call_value c 0))
 static_seen n (Some c) e = where_allowed _ (tasks.static_call c) (answers (by_act.call_value (Some c) 0)) (called c [] None) e
 static_seen n None e = absurd (e refl)
+
+site_seen : (m : Method Act) (c : Option CallSite) → Seen (tasks.invoke_dynamic m c) (answers (by_act.site_value c))
+site_seen m (Some c) e =
+    let long = arguments_long c.type.params [] in
+    where_allowed _ (tasks.call_of c.type) (answers (by_act.site_value (Some c)))
+    (ap (on_object None) (reply_seen c.type.result (length (tasks.arguments_on c.type.params [])) (length c.type.params) (omega (arith, long)))) e
+site_seen m None e = absurd (e refl)
 
 abbrev on_receiver : Option MethodConstant → Outlook
 on_receiver c = on_object (by_act.beneath_arguments c) (by_act.call_value c 1)
@@ -240,8 +253,8 @@ pub seen : (m : Method Act) (a : Act) → Seen (task m a) (outlook m a)
 seen m acts.Nothing e = refl
 seen m (acts.Constant k) e = refl
 seen m acts.ConstantNull e = refl
-seen m (acts.LoadConstant i) e = constant_seen (constant_at m.constant_pool i) e
-seen m (acts.LoadWideConstant i) e = wide_constant_seen (constant_at m.constant_pool i) e
+seen m (acts.LoadConstant i) e = constant_seen m (dynamic_type_at m.constant_pool i) (constant_at m.constant_pool i) e
+seen m (acts.LoadWideConstant i) e = wide_constant_seen m (dynamic_type_at m.constant_pool i) (constant_at m.constant_pool i) e
 seen m (acts.Load k n) e = refl
 seen m (acts.LoadReference n) e = refl
 seen m (acts.Store k n) e = refl
@@ -266,6 +279,7 @@ seen m (acts.InvokeVirtual i) e = virtual_seen (method_at m.constant_pool i) e
 seen m (acts.InvokeSpecial i) e = special_seen m.major_version m.class (method_at m.constant_pool i) e
 seen m (acts.InvokeStatic i) e = static_seen m.major_version (method_at m.constant_pool i) e
 seen m (acts.InvokeInterface i n) e = interface_seen n (method_at m.constant_pool i) e
+seen m (acts.InvokeDynamic i) e = site_seen m (call_site_at m.constant_pool i) e
 seen m (acts.New i) e = new_seen (class_at m.constant_pool i) e
 seen m (acts.LoadElement p) e = refl
 seen m (acts.StoreElement p) e = refl

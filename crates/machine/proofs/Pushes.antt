@@ -6,7 +6,7 @@ use Rattle.names.specs.Descriptors.{FieldDescriptor, primitive, class as class_d
 use Rattle.names.specs.ReferenceTypes.{ReferenceType, class_type, array_type, descriptor_of}
 use Rattle.pool.specs.Entries as entries
 use Rattle.pool.specs.Entries.{Entry}
-use Rattle.pool.specs.Members.{constant_at, class_at, FieldConstant, field_at, MethodConstant, method_at}
+use Rattle.pool.specs.Members.{constant_at, class_at, FieldConstant, field_at, MethodConstant, method_at, dynamic_type_at, CallSite, call_site_at}
 use Rattle.classfile.specs.Methods.{Method}
 use Rattle.hierarchy.specs.World.{World}
 use Rattle.insn.specs.declared.operation.Kind.{Kind}
@@ -229,19 +229,25 @@ where_allowed : (b : Bool) (t : Task) (l : Leaves) → left_in t ≡ known l →
 where_allowed true t l q e = q
 where_allowed false t l q e = absurd (e refl)
 
-constant_seen : (c : Option Entry) → Seen (tasks.load_constant c) (the_answer 0)
-constant_seen (Some (entries.Integer bits)) e = refl
-constant_seen (Some (entries.Float bits)) e = refl
-constant_seen (Some (entries.String text)) e = refl
-constant_seen (Some (entries.Class name)) e = refl
-constant_seen (Some (entries.MethodType d)) e = refl
-constant_seen (Some (entries.MethodHandle k t)) e = refl
-constant_seen _ e = absurd (e refl)
+computed_seen : (judged : Bool) (units : ℕ) (t : Option FieldDescriptor) → Seen (tasks.load_dynamic judged units t) (the_answer 0)
+computed_seen judged units (Some t) e = where_allowed _ (tasks.operates [] None (tasks.gives_answer t) [] true) (the_answer 0) refl e
+computed_seen judged units None e = absurd (e refl)
 
-wide_constant_seen : (c : Option Entry) → Seen (tasks.load_wide_constant c) (by_act.wide_constant_left c)
-wide_constant_seen (Some (entries.Long high low)) e = refl
-wide_constant_seen (Some (entries.Double high low)) e = refl
-wide_constant_seen _ e = absurd (e refl)
+constant_seen : (m : Method Act) (t : Option FieldDescriptor) (c : Option Entry) → Seen (tasks.load_constant m t c) (the_answer 0)
+constant_seen m t (Some (entries.Integer bits)) e = refl
+constant_seen m t (Some (entries.Float bits)) e = refl
+constant_seen m t (Some (entries.String text)) e = refl
+constant_seen m t (Some (entries.Class name)) e = refl
+constant_seen m t (Some (entries.MethodType d)) e = refl
+constant_seen m t (Some (entries.MethodHandle k target)) e = refl
+constant_seen m t (Some (entries.Dynamic bootstrap name)) e = computed_seen m.dynamic 1 t e
+constant_seen m t _ e = absurd (e refl)
+
+wide_constant_seen : (m : Method Act) (t : Option FieldDescriptor) (c : Option Entry) → Seen (tasks.load_wide_constant m t c) (by_act.wide_constant_left c)
+wide_constant_seen m t (Some (entries.Long high low)) e = refl
+wide_constant_seen m t (Some (entries.Double high low)) e = refl
+wide_constant_seen m t (Some (entries.Dynamic bootstrap name)) e = computed_seen m.dynamic 2 t e
+wide_constant_seen m t _ e = absurd (e refl)
 
 get_static_seen : (c : Option FieldConstant) → Seen (tasks.get_static c) (the_answer 0)
 get_static_seen (Some f) e = refl
@@ -270,6 +276,13 @@ called c ns = reply_seen c.type.result (length (tasks.arguments_on c.type.params
 static_seen : (n : ℕ) (c : Option MethodConstant) → Seen (tasks.invoke_static n c) (by_act.call_left c 0)
 static_seen n (Some c) e = where_allowed _ (tasks.static_call c) (by_act.call_left (Some c) 0) (called c []) e
 static_seen n None e = absurd (e refl)
+
+site_seen : (m : Method Act) (c : Option CallSite) → Seen (tasks.invoke_dynamic m c) (by_act.site_left c)
+site_seen m (Some c) e =
+    let long = arguments_long c.type.params [] in
+    where_allowed _ (tasks.call_of c.type) (by_act.site_left (Some c))
+    (reply_seen c.type.result (length (tasks.arguments_on c.type.params [])) (length c.type.params) (omega (arith, long))) e
+site_seen m None e = absurd (e refl)
 
 virtual_seen : (c : Option MethodConstant) → Seen (tasks.invoke_virtual c) (by_act.call_left c 1)
 virtual_seen (Some c) e = where_allowed _ (tasks.call_on c.class c) (by_act.call_left (Some c) 1) (called c (tasks.of_type c.class ∷ [])) e
@@ -343,8 +356,8 @@ seen : (m : Method Act) (a : Act) → (task m a ≡ stuck → ⊥) → left_in (
 seen m acts.Nothing e = refl
 seen m (acts.Constant k) e = refl
 seen m acts.ConstantNull e = refl
-seen m (acts.LoadConstant i) e = constant_seen (constant_at m.constant_pool i) e
-seen m (acts.LoadWideConstant i) e = wide_constant_seen (constant_at m.constant_pool i) e
+seen m (acts.LoadConstant i) e = constant_seen m (dynamic_type_at m.constant_pool i) (constant_at m.constant_pool i) e
+seen m (acts.LoadWideConstant i) e = wide_constant_seen m (dynamic_type_at m.constant_pool i) (constant_at m.constant_pool i) e
 seen m (acts.Load k n) e = refl
 seen m (acts.LoadReference n) e = refl
 seen m (acts.Store k n) e = refl
@@ -369,6 +382,7 @@ seen m (acts.InvokeVirtual i) e = virtual_seen (method_at m.constant_pool i) e
 seen m (acts.InvokeSpecial i) e = special_seen m.major_version m.class (method_at m.constant_pool i) e
 seen m (acts.InvokeStatic i) e = static_seen m.major_version (method_at m.constant_pool i) e
 seen m (acts.InvokeInterface i n) e = interface_seen n (method_at m.constant_pool i) e
+seen m (acts.InvokeDynamic i) e = site_seen m (call_site_at m.constant_pool i) e
 seen m (acts.New i) e = new_seen (class_at m.constant_pool i) e
 seen m (acts.LoadElement p) e = refl
 seen m (acts.StoreElement p) e = refl

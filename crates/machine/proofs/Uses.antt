@@ -3,7 +3,7 @@ use Rattle.std.proofs.Common.{◌≡◌, ℕ, zero, suc, ◌+◌, Bool, true, fa
 use Rattle.names.specs.declared.base.Primitive.{Primitive}
 use Rattle.names.specs.Descriptors.{FieldDescriptor, primitive, class as class_descriptor, array as array_descriptor}
 use Rattle.names.specs.ReferenceTypes.{ReferenceType, class_type, array_type}
-use Rattle.pool.specs.Members.{class_at, FieldConstant, field_at, MethodConstant, method_at}
+use Rattle.pool.specs.Members.{class_at, FieldConstant, field_at, MethodConstant, method_at, CallSite, call_site_at}
 use Rattle.classfile.specs.Methods.{Method, is_own_field}
 use Rattle.hierarchy.specs.World.{World}
 use Rattle.insn.specs.Meanings as acts
@@ -15,7 +15,7 @@ use Rattle.machine.specs.Tasks as tasks
 use Rattle.machine.specs.Tasks.{Need, Task, task, stuck, needs_of}
 use Rattle.machine.specs.Demands.{State, Meets, AllMeet, MeetsRest, IsUsable, AllUsable, HasOperands, UsesReady}
 use Rattle.machine.specs.ByAct.{other_than_init}
-use Rattle.machine.specs.Uses.{with_place, argument_places, arguments_used, receiver_used, value_used, used, field_set, IsInitialized, MayBeSet, IsNullOr, UsesInitialized, UsesNoOther, OperandsAreInitialized, ObjectsAreInitialized}
+use Rattle.machine.specs.Uses.{with_place, argument_places, arguments_used, receiver_used, value_used, used, field_set, IsInitialized, MayBeSet, IsNullOr, UsesInitialized, UsesNoOther, OperandsAreInitialized, ObjectsAreInitialized, site_arguments_used}
 
 -- ---- needs that are met by null or by an object that is ready alone
 
@@ -154,6 +154,10 @@ static_uses : (n : ℕ) (c : Option MethodConstant) → Uses (tasks.invoke_stati
 static_uses n (Some c) e = where_allowed _ (tasks.static_call c) (argument_places c.type.params) (arguments_wanted c.type.params []) e
 static_uses n None e = absurd (e refl)
 
+site_uses : (m : Method Act) (c : Option CallSite) → Uses (tasks.invoke_dynamic m c) (site_arguments_used c)
+site_uses m (Some c) e = where_allowed _ (tasks.call_of c.type) (argument_places c.type.params) (arguments_wanted c.type.params []) e
+site_uses m None e = absurd (e refl)
+
 virtual_uses : (c : Option MethodConstant) → Uses (tasks.invoke_virtual c) (receiver_used c ++ arguments_used c)
 virtual_uses (Some c) e = where_allowed _ (tasks.call_on c.class c) (receiver_used (Some c) ++ arguments_used (Some c)) (called_wanted c c.class) e
 virtual_uses None e = absurd (e refl)
@@ -201,6 +205,7 @@ uses m (acts.InvokeVirtual i) e = virtual_uses (method_at m.constant_pool i) e
 uses m (acts.InvokeInterface i n) e = interface_uses n (method_at m.constant_pool i) e
 uses m (acts.InvokeSpecial i) e = special_uses m.major_version m.class (method_at m.constant_pool i) e
 uses m (acts.InvokeStatic i) e = static_uses m.major_version (method_at m.constant_pool i) e
+uses m (acts.InvokeDynamic i) e = site_uses m (call_site_at m.constant_pool i) e
 uses m (acts.LoadElement p) e = one_place _ 1 (wants_array (needs_of (task m (acts.LoadElement p))) 1 p refl)
 uses m (acts.StoreElement p) e = one_place _ 2 (wants_array (needs_of (task m (acts.StoreElement p))) 2 p refl)
 uses m acts.LoadReferenceElement e = one_place _ 1 (typed (needs_of (task m acts.LoadReferenceElement)) 1 tasks.objects refl)

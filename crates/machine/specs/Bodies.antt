@@ -45,4 +45,5 @@ method_view m =
       is_static = m.declared.is_static;
       is_init = m.declared.is_init;
       type = record { params = params_at c m.declared.number; result = option_map type_of m.declared.result_type };
+      dynamic = m.declared.dynamic;
     }

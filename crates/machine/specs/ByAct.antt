@@ -8,7 +8,7 @@ use Rattle.names.specs.ReferenceTypes.{ReferenceType, class_type, array_type, de
 use Rattle.names.specs.StandardNames.{init_name, string_name, class_name, method_type_name, method_handle_name}
 use Rattle.pool.specs.Entries as entries
 use Rattle.pool.specs.Entries.{Entry}
-use Rattle.pool.specs.Members.{constant_at, class_at, FieldConstant, field_at, MethodConstant, method_at}
+use Rattle.pool.specs.Members.{constant_at, class_at, FieldConstant, field_at, MethodConstant, method_at, dynamic_type_at, CallSite, call_site_at}
 use Rattle.classfile.specs.Methods.{Method}
 use Rattle.insn.specs.Meanings as acts
 use Rattle.insn.specs.Meanings.{Act}
@@ -98,15 +98,26 @@ pub data Asks : Type 0 where
   -- an address for this object
   an_address : (made_there : Object) (operands : ℕ) → Asks
 
+-- a Dynamic constant's value is of its own type (4.4.10)
+abbrev pub computed_value : Option FieldDescriptor → Asks
+computed_value (Some type) = a_value type 0
+computed_value None = nothing
+
 -- a constant's value is an int, a float or an object of a class (6.5, ldc)
-abbrev pub constant_value : Option Entry → Asks
-constant_value (Some (entries.Integer bits)) = a_value (primitive primitives.Int) 0
-constant_value (Some (entries.Float bits)) = a_value (primitive primitives.Float) 0
-constant_value (Some (entries.String text)) = a_value (class string_name) 0
-constant_value (Some (entries.Class name)) = a_value (class class_name) 0
-constant_value (Some (entries.MethodType descriptor)) = a_value (class method_type_name) 0
-constant_value (Some (entries.MethodHandle kind target)) = a_value (class method_handle_name) 0
-constant_value _ = nothing
+abbrev pub constant_value : Option FieldDescriptor → Option Entry → Asks
+constant_value computed (Some (entries.Integer bits)) = a_value (primitive primitives.Int) 0
+constant_value computed (Some (entries.Float bits)) = a_value (primitive primitives.Float) 0
+constant_value computed (Some (entries.String text)) = a_value (class string_name) 0
+constant_value computed (Some (entries.Class name)) = a_value (class class_name) 0
+constant_value computed (Some (entries.MethodType descriptor)) = a_value (class method_type_name) 0
+constant_value computed (Some (entries.MethodHandle kind target)) = a_value (class method_handle_name) 0
+constant_value computed (Some (entries.Dynamic bootstrap name)) = computed_value computed
+constant_value computed _ = nothing
+
+-- a long or a double is as the constant has it
+abbrev pub wide_constant_value : Option FieldDescriptor → Option Entry → Asks
+wide_constant_value computed (Some (entries.Dynamic bootstrap name)) = computed_value computed
+wide_constant_value computed _ = nothing
 
 abbrev pub field_value : Option FieldConstant → ℕ → Asks
 field_value (Some f) operands = a_value f.type operands
@@ -120,6 +131,11 @@ result_value None operands = nothing
 abbrev pub call_value : Option MethodConstant → ℕ → Asks
 call_value (Some c) receivers = result_value c.type.result (length c.type.params + receivers)
 call_value None receivers = nothing
+
+-- of a call without a receiver
+abbrev pub site_value : Option CallSite → Asks
+site_value (Some c) = result_value c.type.result (length c.type.params)
+site_value None = nothing
 
 -- an object of the class, on which no constructor was called
 abbrev pub new_object : Option ReferenceType → Asks
@@ -140,13 +156,15 @@ array_by_counts (Some type) counts = an_address (object type ready) counts
 array_by_counts None counts = nothing
 
 abbrev pub asks : Method Act → Act → Asks
-asks m (acts.LoadConstant i) = constant_value (constant_at m.constant_pool i)
+asks m (acts.LoadConstant i) = constant_value (dynamic_type_at m.constant_pool i) (constant_at m.constant_pool i)
+asks m (acts.LoadWideConstant i) = wide_constant_value (dynamic_type_at m.constant_pool i) (constant_at m.constant_pool i)
 asks m (acts.GetStatic i) = field_value (field_at m.constant_pool i) 0
 asks m (acts.GetField i) = field_value (field_at m.constant_pool i) 1
 asks m (acts.InvokeStatic i) = call_value (method_at m.constant_pool i) 0
 asks m (acts.InvokeVirtual i) = call_value (method_at m.constant_pool i) 1
 asks m (acts.InvokeInterface i count) = call_value (method_at m.constant_pool i) 1
 asks m (acts.InvokeSpecial i) = call_value (other_than_init (method_at m.constant_pool i)) 1
+asks m (acts.InvokeDynamic i) = site_value (call_site_at m.constant_pool i)
 asks m (acts.LoadElement element) = a_value (primitive element) 2
 asks m acts.LoadReferenceElement = an_element
 asks m (acts.New i) = new_object (class_at m.constant_pool i)

@@ -6,7 +6,7 @@ use Rattle.names.specs.ReferenceTypes.{ReferenceType}
 use Rattle.names.specs.StandardNames.{init_name}
 use Rattle.pool.specs.Entries as entries
 use Rattle.pool.specs.Entries.{Entry}
-use Rattle.pool.specs.Members.{constant_at, MethodConstant, method_at}
+use Rattle.pool.specs.Members.{constant_at, MethodConstant, method_at, CallSite, call_site_at}
 use Rattle.classfile.specs.Methods.{Method}
 use Rattle.hierarchy.specs.World.{World}
 use Rattle.insn.specs.declared.operation.Kind.{Kind}
@@ -41,6 +41,7 @@ pub data Leaves : Type 0 where
 abbrev pub wide_constant_left : Option Entry → Leaves
 wide_constant_left (Some (entries.Long high low)) = a_number kinds.Long 0
 wide_constant_left (Some (entries.Double high low)) = a_number kinds.Double 0
+wide_constant_left (Some (entries.Dynamic bootstrap name)) = the_answer 0
 wide_constant_left _ = nothing 0
 
 abbrev pub result_left : Option FieldDescriptor → ℕ → Leaves
@@ -51,6 +52,10 @@ result_left None operands = nothing operands
 abbrev pub call_left : Option MethodConstant → ℕ → Leaves
 call_left (Some c) receivers = result_left c.type.result (length c.type.params + receivers)
 call_left None receivers = nothing 0
+
+abbrev pub site_left : Option CallSite → Leaves
+site_left (Some c) = result_left c.type.result (length c.type.params)
+site_left None = nothing 0
 
 -- an instance initialization method has no result (2.9.1)
 abbrev pub special_left : Option MethodConstant → Leaves
@@ -84,6 +89,7 @@ leaves m (acts.InvokeStatic i) = call_left (method_at m.constant_pool i) 0
 leaves m (acts.InvokeVirtual i) = call_left (method_at m.constant_pool i) 1
 leaves m (acts.InvokeInterface i count) = call_left (method_at m.constant_pool i) 1
 leaves m (acts.InvokeSpecial i) = special_left (method_at m.constant_pool i)
+leaves m (acts.InvokeDynamic i) = site_left (call_site_at m.constant_pool i)
 leaves m (acts.New i) = the_answer 0
 leaves m (acts.LoadElement element) = the_answer 2
 leaves m (acts.StoreElement element) = nothing 3

@@ -2,13 +2,15 @@
 use Rattle.std.specs.Prelude.{ℕ, zero, suc, ℤ, Bool, true, false, not, ◌&&◌, ◌||◌, nat_lt, nat_eq, bytes_eq, if◌then◌else◌, List, [], ◌∷◌, map, length, Option, Some, None}
 use Rattle.names.specs.declared.base.Primitive.{Primitive}
 use Rattle.names.specs.declared.base.Primitive.TheVariants as primitives
-use Rattle.names.specs.Descriptors.{FieldDescriptor, primitive, class, array, method_width}
+use Rattle.names.specs.Names.{less_than}
+use Rattle.names.specs.Descriptors.{FieldDescriptor, MethodDescriptor, primitive, class, array, field_width, method_width}
 use Rattle.names.specs.ReferenceTypes.{ReferenceType, class_type, array_type, descriptor_of, dimensions_of, is_class_type}
 use Rattle.names.specs.StandardNames.{object_name, init_name, throwable_name, string_name, class_name, method_type_name, method_handle_name}
 use Rattle.pool.specs.Entries as entries
 use Rattle.pool.specs.Entries.{Entry}
-use Rattle.pool.specs.Members.{constant_at, class_at, FieldConstant, field_at, MethodConstant, method_at}
+use Rattle.pool.specs.Members.{constant_at, class_at, FieldConstant, field_at, MethodConstant, method_at, dynamic_type_at, CallSite, call_site_at}
 use Rattle.classfile.specs.Methods.{Method, is_own_field}
+use Rattle.classfile.specs.Naming.{begins_with}
 use Rattle.insn.specs.declared.operation.Kind.{Kind}
 use Rattle.insn.specs.declared.operation.Kind.TheVariants as kinds
 use Rattle.insn.specs.Acts.{kind_units, numeric_row, StackForm, stack_forms}
@@ -95,24 +97,34 @@ gives reply = operates [] None reply [] true
 abbrev branches : List Need → ℤ → Task
 branches needs offset = operates needs None no_reply (offset ∷ []) true
 
+abbrev pub where_allowed : Bool → Task → Task
+where_allowed allowed task = if allowed then task else stuck
+
 -- ---- constants
 
 abbrev object_of : List ℕ → Task
 object_of name = gives (gives_answer (class name))
 
-abbrev pub load_constant : Option Entry → Task
-load_constant (Some (entries.Integer bits)) = gives (gives_answer (primitive primitives.Int))
-load_constant (Some (entries.Float bits)) = gives (gives_answer (primitive primitives.Float))
-load_constant (Some (entries.String text)) = object_of string_name
-load_constant (Some (entries.Class name)) = object_of class_name
-load_constant (Some (entries.MethodType descriptor)) = object_of method_type_name
-load_constant (Some (entries.MethodHandle kind target)) = object_of method_handle_name
-load_constant _ = stuck
+-- the value of a Dynamic constant whose type takes so many units, where such constants are judged
+abbrev pub load_dynamic : Bool → ℕ → Option FieldDescriptor → Task
+load_dynamic judged units (Some type) = where_allowed (judged && nat_eq (field_width type) units) (gives (gives_answer type))
+load_dynamic judged units None = stuck
 
-abbrev pub load_wide_constant : Option Entry → Task
-load_wide_constant (Some (entries.Long high low)) = gives (gives_number kinds.Long)
-load_wide_constant (Some (entries.Double high low)) = gives (gives_number kinds.Double)
-load_wide_constant _ = stuck
+abbrev pub load_constant : Method Act → Option FieldDescriptor → Option Entry → Task
+load_constant m computed (Some (entries.Integer bits)) = gives (gives_answer (primitive primitives.Int))
+load_constant m computed (Some (entries.Float bits)) = gives (gives_answer (primitive primitives.Float))
+load_constant m computed (Some (entries.String text)) = object_of string_name
+load_constant m computed (Some (entries.Class name)) = object_of class_name
+load_constant m computed (Some (entries.MethodType descriptor)) = object_of method_type_name
+load_constant m computed (Some (entries.MethodHandle kind target)) = object_of method_handle_name
+load_constant m computed (Some (entries.Dynamic bootstrap name)) = load_dynamic m.dynamic 1 computed
+load_constant m computed _ = stuck
+
+abbrev pub load_wide_constant : Method Act → Option FieldDescriptor → Option Entry → Task
+load_wide_constant m computed (Some (entries.Long high low)) = gives (gives_number kinds.Long)
+load_wide_constant m computed (Some (entries.Double high low)) = gives (gives_number kinds.Double)
+load_wide_constant m computed (Some (entries.Dynamic bootstrap name)) = load_dynamic m.dynamic 2 computed
+load_wide_constant m computed _ = stuck
 
 -- ---- fields
 
@@ -138,9 +150,6 @@ put_field m None = stuck
 
 -- ---- calls
 
-abbrev pub where_allowed : Bool → Task → Task
-where_allowed allowed task = if allowed then task else stuck
-
 abbrev pub is_init_name : MethodConstant → Bool
 is_init_name c = bytes_eq c.name init_name
 
@@ -157,8 +166,12 @@ abbrev pub call_on : ReferenceType → MethodConstant → Task
 call_on receiver c =
     operates (arguments_on c.type.params (of_type receiver ∷ [])) (Some (length c.type.params)) (reply_of c.type.result) [] true
 
+-- without a receiver
+abbrev pub call_of : MethodDescriptor → Task
+call_of type = operates (arguments_on type.params []) None (reply_of type.result) [] true
+
 abbrev pub static_call : MethodConstant → Task
-static_call c = operates (arguments_on c.type.params []) None (reply_of c.type.result) [] true
+static_call c = call_of c.type
 
 abbrev pub invoke_static : ℕ → Option MethodConstant → Task
 invoke_static major (Some c) = where_allowed (is_class_type c.class && (not (is_init_name c) && may_name major c.interface)) (static_call c)
@@ -191,6 +204,15 @@ special_call major me c =
 abbrev pub invoke_special : ℕ → List ℕ → Option MethodConstant → Task
 invoke_special major me (Some c) = if is_init_name c then constructor_call c c.class else special_call major me c
 invoke_special major me None = stuck
+
+-- names that begin with '<', as `<init>` and `<clinit>`
+abbrev pub is_special_name : CallSite → Bool
+is_special_name c = begins_with less_than c.name
+
+-- where such calls are judged
+abbrev pub invoke_dynamic : Method Act → Option CallSite → Task
+invoke_dynamic m (Some c) = where_allowed (m.dynamic && not (is_special_name c)) (call_of c.type)
+invoke_dynamic m None = stuck
 
 -- ---- objects and arrays
 
@@ -250,9 +272,9 @@ task m (acts.Constant kind) = gives (gives_number kind)
 -- aconst_null
 task m acts.ConstantNull = gives gives_null
 -- ldc, ldc_w
-task m (acts.LoadConstant i) = load_constant (constant_at m.constant_pool i)
+task m (acts.LoadConstant i) = load_constant m (dynamic_type_at m.constant_pool i) (constant_at m.constant_pool i)
 -- ldc2_w
-task m (acts.LoadWideConstant i) = load_wide_constant (constant_at m.constant_pool i)
+task m (acts.LoadWideConstant i) = load_wide_constant m (dynamic_type_at m.constant_pool i) (constant_at m.constant_pool i)
 -- iload, iload_<n>, lload, lload_<n>, fload, fload_<n>, dload, dload_<n>
 task m (acts.Load kind n) = reads (of_kind kind) n
 -- aload, aload_<n>
@@ -303,6 +325,8 @@ task m (acts.InvokeSpecial i) = invoke_special m.major_version m.class (method_a
 task m (acts.InvokeStatic i) = invoke_static m.major_version (method_at m.constant_pool i)
 -- invokeinterface
 task m (acts.InvokeInterface i count) = invoke_interface count (method_at m.constant_pool i)
+-- invokedynamic
+task m (acts.InvokeDynamic i) = invoke_dynamic m (call_site_at m.constant_pool i)
 -- new
 task m (acts.New i) = new_object (class_at m.constant_pool i)
 -- iaload, laload, faload, daload, baload, caload, saload
@@ -330,7 +354,7 @@ task m (acts.InstanceOf i) = instance_of (class_at m.constant_pool i)
 task m acts.Throw = throws (of_type (class_type throwable_name))
 -- monitorenter, monitorexit
 task m acts.Monitor = operates (some_reference ∷ []) (Some 0) no_reply [] true
--- jsr, jsr_w, ret, invokedynamic
+-- jsr, jsr_w, ret
 task m acts.Unsupported = stuck
 
 -- what gives an instruction's task, in a method

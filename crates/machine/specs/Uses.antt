@@ -4,7 +4,7 @@
 use Rattle.std.specs.Prelude.{◌≡◌, ℕ, true, List, [], ◌∷◌, ◌++◌, length, slice_get, Option, Some, None, ◌⊎◌}
 use Rattle.names.specs.Descriptors.{FieldDescriptor, primitive, class, array}
 use Rattle.names.specs.ReferenceTypes.{ReferenceType}
-use Rattle.pool.specs.Members.{FieldConstant, field_at, MethodConstant, method_at}
+use Rattle.pool.specs.Members.{FieldConstant, field_at, MethodConstant, method_at, CallSite, call_site_at}
 use Rattle.classfile.specs.Methods.{Method, is_own_field}
 use Rattle.hierarchy.specs.World.{World}
 use Rattle.insn.specs.Meanings as acts
@@ -32,6 +32,10 @@ abbrev pub arguments_used : Option MethodConstant → List ℕ
 arguments_used (Some c) = argument_places c.type.params
 arguments_used None = []
 
+abbrev pub site_arguments_used : Option CallSite → List ℕ
+site_arguments_used (Some c) = argument_places c.type.params
+site_arguments_used None = []
+
 -- the receiver stands beneath the arguments
 abbrev pub receiver_used : Option MethodConstant → List ℕ
 receiver_used (Some c) = length c.type.params ∷ []
@@ -49,6 +53,7 @@ used m (acts.InvokeVirtual i) = receiver_used (method_at m.constant_pool i) ++ a
 used m (acts.InvokeInterface i count) = receiver_used (method_at m.constant_pool i) ++ arguments_used (method_at m.constant_pool i)
 used m (acts.InvokeSpecial i) = receiver_used (other_than_init (method_at m.constant_pool i)) ++ arguments_used (method_at m.constant_pool i)
 used m (acts.InvokeStatic i) = arguments_used (method_at m.constant_pool i)
+used m (acts.InvokeDynamic i) = site_arguments_used (call_site_at m.constant_pool i)
 used m (acts.LoadElement element) = 1 ∷ []
 used m (acts.StoreElement element) = 2 ∷ []
 used m acts.LoadReferenceElement = 1 ∷ []

@@ -3,20 +3,20 @@ ghost use Rattle.std.specs.Prelude.{◌≡◌, ◌++◌, [], ◌∷◌, length, 
 ghost use Rattle.names.specs.Descriptors.{MethodDescriptor, method_width};
 ghost use Rattle.names.specs.ReferenceTypes.{class_type, is_class_type};
 ghost use Rattle.names.specs.Types.{type_of, method_of};
-ghost use Rattle.pool.specs.Members.{method_at};
-ghost use Rattle.machine.specs.Tasks.{of_type, arguments_on, reply_of, is_init_name, may_name, static_call, call_on, invoke_static, invoke_virtual, may_invoke_interface, invoke_interface, constructor_call, special_call, invoke_special};
-ghost use Rattle.machine.specs.private.Constants.{constant_view};
+ghost use Rattle.pool.specs.Members.{method_at, call_site_at};
+ghost use Rattle.machine.specs.Tasks.{of_type, arguments_on, reply_of, is_init_name, may_name, call_of, call_on, invoke_static, invoke_virtual, may_invoke_interface, invoke_interface, constructor_call, special_call, invoke_special, is_special_name, invoke_dynamic};
+ghost use Rattle.machine.specs.private.Constants.{constant_view, site_view};
 ghost use Rattle.machine.specs.private.Deeds.{need_view, needs_view, reply_view, task_view};
 ghost use Rattle.machine.specs.Bodies.{method_view};
 ghost use Rattle.machine.specs.Views.{run_type_view};
 
 use crate::body::Method;
-use crate::constants::{MethodConstant, method_at};
+use crate::constants::{CallSite, MethodConstant, call_site_at, method_at};
 use crate::deed::{Deed, Need, Operation, Reply, operates};
 use crate::objects::RunType;
 use crate::operands::need_of;
 use insn::Branches;
-use names::{FieldType, INIT};
+use names::{FieldType, INIT, MethodType};
 use pool::Pool;
 use std::alloc::{AllocError, Global};
 
@@ -62,11 +62,10 @@ fn reply_of(result_type: Option<FieldType<'_>>) -> Reply<'_>
     }
 }
 
-// A call without a receiver.
-fn static_call<'a>(alloc: Global, constant: &MethodConstant<'a>) -> Result<Deed<'a>, AllocError>
-    ensures { IfOk result (λ d. task_view d ≡ static_call (constant_view constant.now)) }
+// A call of a method of these types, without a receiver.
+fn call_of<'a>(alloc: Global, called: &MethodType<'a>) -> Result<Deed<'a>, AllocError>
+    ensures { IfOk result (λ d. task_view d ≡ call_of (method_of called.now)) }
 {
-    let called = &constant.method_type;
     let needs = arguments_on(alloc, &called.params, None)?;
     Ok(operates(needs, None, reply_of(called.result)))
 }
@@ -133,7 +132,7 @@ pub fn invoke_static<'a>(
         && !is_init_name(&constant)
         && may_name(method.declared.class.major_version, constant.interface)
     {
-        static_call(alloc, &constant)
+        call_of(alloc, &constant.method_type)
     } else {
         Ok(Deed::Stuck)
     }
@@ -243,5 +242,33 @@ pub fn invoke_special<'a>(
         constructor_call(alloc, &constant)
     } else {
         special_call(alloc, method, &constant)
+    }
+}
+
+// Whether the name begins with '<', as `<init>` and `<clinit>`.
+fn is_special_name(site: &CallSite<'_>) -> bool
+    ensures { result ≡ is_special_name (site_view site.now) }
+{
+    match site.name {
+        [first, ..] => *first == b'<',
+        [] => false,
+    }
+}
+
+/// `invokedynamic`
+pub fn invoke_dynamic<'a>(
+    alloc: Global,
+    method: &Method<'_, 'a>,
+    index: u16,
+) -> Result<Deed<'a>, AllocError>
+    ensures { let m = method_view method.now in IfOk result (λ d. task_view d ≡ invoke_dynamic m (call_site_at m.constant_pool index)) }
+{
+    let Some(site) = call_site_at(alloc, method.pool(), index)? else {
+        return Ok(Deed::Stuck);
+    };
+    if method.declared.dynamic && !is_special_name(&site) {
+        call_of(alloc, &site.method_type)
+    } else {
+        Ok(Deed::Stuck)
     }
 }

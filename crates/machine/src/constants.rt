@@ -1,10 +1,10 @@
-//! The meaning of constants to an instruction that names them (JVMS 4.4.1, 4.4.2).
+//! The meaning of constants to an instruction that names them (JVMS 4.4.1, 4.4.2, 4.4.10).
 ghost use Rattle.std.specs.Prelude.{◌≡◌, IfOk, IfSome, Ok, option_map, false};
 ghost use Rattle.names.specs.Descriptors.{method_width};
 ghost use Rattle.names.specs.ReferenceTypes.{array_of, reference_type};
 ghost use Rattle.names.specs.Types.{type_of, method_of};
-ghost use Rattle.pool.specs.Members.{class_at, field_at, method_at};
-ghost use Rattle.machine.specs.private.Constants.{field_view, constant_view};
+ghost use Rattle.pool.specs.Members.{class_at, field_at, method_at, dynamic_type_at, call_site_at};
+ghost use Rattle.machine.specs.private.Constants.{field_view, constant_view, site_view};
 ghost use Rattle.machine.specs.Views.{run_type_view};
 
 use crate::objects::RunType;
@@ -32,6 +32,13 @@ pub struct MethodConstant<'a> {
     pub method_type: MethodType<'a>,
     /// How many units its arguments take, without a receiver.
     pub units: u16,
+}
+
+/// A call that has no receiver, as a constant names it.
+#[derive(Drop)]
+pub struct CallSite<'a> {
+    pub name: &'a [u8],
+    pub method_type: MethodType<'a>,
 }
 
 // An array of at least one dimension.
@@ -111,6 +118,37 @@ pub fn method_at<'a>(
             name: found.name.bytes(),
             descriptor: found.descriptor.bytes(),
             units: method_type.width(false),
+            method_type,
+        })),
+        Err(NameFault::OutOfMemory) => Err(AllocError),
+        Err(_) => Ok(None),
+    }
+}
+
+/// The type of the constant that the Dynamic at this index has computed. Takes no memory.
+pub fn dynamic_type_at<'a>(pool: &Pool<'a>, index: u16) -> Option<FieldType<'a>>
+    ensures { option_map type_of result ≡ dynamic_type_at pool.now index }
+{
+    match pool.dynamic(index) {
+        Ok(found) => field_type(found.descriptor).ok(),
+        Err(_) => None,
+    }
+}
+
+/// The call site that the InvokeDynamic at this index names.
+pub fn call_site_at<'a>(
+    alloc: Global,
+    pool: &Pool<'a>,
+    index: u16,
+) -> Result<Option<CallSite<'a>>, AllocError>
+    ensures { IfOk result (λ o. option_map site_view o ≡ call_site_at pool.now index) }
+{
+    let Ok(found) = pool.invoke_dynamic(index) else {
+        return Ok(None);
+    };
+    match method_type(alloc, found.descriptor, false) {
+        Ok(method_type) => Ok(Some(CallSite {
+            name: found.name.bytes(),
             method_type,
         })),
         Err(NameFault::OutOfMemory) => Err(AllocError),

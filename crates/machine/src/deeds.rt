@@ -6,15 +6,18 @@ ghost use Rattle.names.specs.StandardNames.{object_name};
 ghost use Rattle.insn.specs.Stacks.{computed_as};
 ghost use Rattle.insn.specs.declared.operation.Kind.TheVariants as kinds;
 ghost use Rattle.names.specs.Types.{type_of};
-ghost use Rattle.pool.specs.Members.{constant_at};
+ghost use Rattle.pool.specs.Members.{constant_at, dynamic_type_at};
 ghost use Rattle.insn.specs.Branching.{branches_view};
 ghost use Rattle.insn.specs.Views.{act_view};
-ghost use Rattle.machine.specs.Tasks.{of_kind, of_type, some_array_for, gives_answer, objects, operates, reads, writes, no_reply, task, return_number, return_reference, return_nothing, needs_of_kinds, load_constant, load_wide_constant};
+ghost use Rattle.machine.specs.Tasks.{of_kind, of_type, some_array_for, gives_answer, objects, operates, reads, writes, no_reply, task, return_number, return_reference, return_nothing, needs_of_kinds, load_dynamic, load_constant, load_wide_constant};
 ghost use Rattle.machine.specs.private.Deeds.{need_view, need_units, needs_view, task_view};
 ghost use Rattle.machine.specs.Bodies.{method_view};
 
 use crate::body::Method;
-use crate::calls::{invoke_interface, invoke_special, invoke_static, invoke_virtual};
+use crate::calls::{
+    invoke_dynamic, invoke_interface, invoke_special, invoke_static, invoke_virtual,
+};
+use crate::constants::dynamic_type_at;
 use crate::creations::{
     check_cast, instance_of, new_array, new_multi_array, new_object, new_reference_array,
 };
@@ -23,7 +26,7 @@ use crate::fields::{get_field, get_static, put_field, put_static};
 use crate::objects::{OBJECTS, RunType};
 use insn::{Act, Branches, Kind, computed_as};
 use names::{Base, FieldType, OBJECT, Primitive};
-use pool::{Constant, Pool};
+use pool::Constant;
 use std::alloc::{AllocError, Global};
 
 const INT: Need<'static> = Need::Number(Kind::Int);
@@ -90,11 +93,25 @@ fn number_of<'a>(number: Primitive) -> FieldType<'a>
     }
 }
 
-// `ldc` and `ldc_w`
-fn load_constant<'a>(alloc: Global, pool: &Pool<'a>, index: u16) -> Deed<'a>
-    ensures { task_view result ≡ load_constant (constant_at pool.now index) }
+// A load of the Dynamic constant at this index, of a type of so many units.
+fn load_dynamic<'a>(alloc: Global, method: &Method<'_, 'a>, units: u8, index: u16) -> Deed<'a>
+    ensures { let m = method_view method.now in task_view result ≡ load_dynamic m.dynamic units (dynamic_type_at m.constant_pool index) }
 {
-    let Ok(constant) = pool.get(index) else {
+    let Some(computed) = dynamic_type_at(method.pool(), index) else {
+        return Deed::Stuck;
+    };
+    if method.declared.dynamic && computed.width() == units {
+        gives(alloc, Reply::Answer(computed))
+    } else {
+        Deed::Stuck
+    }
+}
+
+// `ldc` and `ldc_w`
+fn load_constant<'a>(alloc: Global, method: &Method<'_, 'a>, index: u16) -> Deed<'a>
+    ensures { let m = method_view method.now in task_view result ≡ load_constant m (dynamic_type_at m.constant_pool index) (constant_at m.constant_pool index) }
+{
+    let Ok(constant) = method.pool().get(index) else {
         return Deed::Stuck;
     };
     let loaded = match constant {
@@ -104,21 +121,23 @@ fn load_constant<'a>(alloc: Global, pool: &Pool<'a>, index: u16) -> Deed<'a>
         Constant::Class { .. } => object_of(CLASS),
         Constant::MethodType { .. } => object_of(METHOD_TYPE),
         Constant::MethodHandle { .. } => object_of(METHOD_HANDLE),
+        Constant::Dynamic { .. } => return load_dynamic(alloc, method, 1, index),
         _ => return Deed::Stuck,
     };
     gives(alloc, Reply::Answer(loaded))
 }
 
 // `ldc2_w`
-fn load_wide_constant<'a>(alloc: Global, pool: &Pool<'a>, index: u16) -> Deed<'a>
-    ensures { task_view result ≡ load_wide_constant (constant_at pool.now index) }
+fn load_wide_constant<'a>(alloc: Global, method: &Method<'_, 'a>, index: u16) -> Deed<'a>
+    ensures { let m = method_view method.now in task_view result ≡ load_wide_constant m (dynamic_type_at m.constant_pool index) (constant_at m.constant_pool index) }
 {
-    let Ok(constant) = pool.get(index) else {
+    let Ok(constant) = method.pool().get(index) else {
         return Deed::Stuck;
     };
     let kind = match constant {
         Constant::Long { .. } => Kind::Long,
         Constant::Double { .. } => Kind::Double,
+        Constant::Dynamic { .. } => return load_dynamic(alloc, method, 2, index),
         _ => return Deed::Stuck,
     };
     gives(alloc, Reply::Number(kind))
@@ -233,8 +252,8 @@ pub fn deed_of<'a>(
         Act::Nothing => Ok(gives(alloc, Reply::Nothing)),
         Act::Constant(kind) => Ok(gives(alloc, Reply::Number(kind))),
         Act::ConstantNull => Ok(gives(alloc, Reply::Null)),
-        Act::LoadConstant { index } => Ok(load_constant(alloc, pool, index)),
-        Act::LoadWideConstant { index } => Ok(load_wide_constant(alloc, pool, index)),
+        Act::LoadConstant { index } => Ok(load_constant(alloc, method, index)),
+        Act::LoadWideConstant { index } => Ok(load_wide_constant(alloc, method, index)),
         Act::Load { kind, local } => Ok(reads(Need::Number(kind), local)),
         Act::LoadReference { local } => Ok(reads(Need::Reference, local)),
         Act::Store { kind, local } => Ok(writes(Need::Number(kind), local)),
@@ -268,6 +287,7 @@ pub fn deed_of<'a>(
         Act::InvokeSpecial { index } => invoke_special(alloc, method, index),
         Act::InvokeStatic { index } => invoke_static(alloc, method, index),
         Act::InvokeInterface { index, count } => invoke_interface(alloc, pool, index, count),
+        Act::InvokeDynamic { index } => invoke_dynamic(alloc, method, index),
         Act::New { index } => Ok(new_object(pool, index)),
         Act::LoadElement(element) => load_element(alloc, element),
         Act::StoreElement(element) => store_element(alloc, element),

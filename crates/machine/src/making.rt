@@ -1,5 +1,6 @@
 //! The method that runs is made.
 ghost use Rattle.std.specs.Prelude.{◌≡◌, ℕ, List, None, Some, IfOk, IfErr, IfSome, IsSome, MatchOption, map, option_map};
+ghost use Rattle.classfile.specs.CodeMethods.{judged_class};
 ghost use Rattle.classfile.specs.MethodParts.{code_at};
 ghost use Rattle.classfile.specs.Methods.{caught_type, exception_entries, method_of};
 ghost use Rattle.classfile.specs.Views.{class_view, code_view, handler_view};
@@ -90,7 +91,7 @@ impl<'c, 'a> Method<'c, 'a> {
     ) -> Result<Method<'c, 'a>, CodeFault>
         requires { IsSome (code_at (class_view formed.now.class.now) number) }
         // It is what the class file says of that method, with the instructions of its code.
-        ensures told { IfOk result (λ m. method_of (class_view formed.now.class.now) number (code_of m.list.items) ≡ Some (method_view m)) }
+        ensures told { IfOk result (λ m. method_of (judged_class formed.now) number (code_of m.list.items) ≡ Some (method_view m)) }
         // Its instructions are those of the Code attribute that the class has at this number, and of no other.
         ensures code { IfOk result (λ m. code_at (class_view formed.now.class.now) number ≡ Some (code_view m.declared.code.now)) }
         ensures list { IfOk result (λ m. SpellsCode 0 m.declared.code.now.code.now (views m.list.items)) }

@@ -1,6 +1,6 @@
 //! Bytes of one kind, sixteen or eight at a time.
 
-ghost use Rattle.std.specs.Prelude.{◌≡◌, ◌+◌, ◌≤◌, ℕ, Bool, true, length};
+ghost use Rattle.std.specs.Prelude.{◌≡◌, ◌+◌, ◌≤◌, ◌<◌, ℕ, Bool, true, length};
 ghost use Rattle.names.specs.Forms.{first_set, AreBetween, AreIn};
 
 /// A kind of bytes that are told by lanes. Bytes of the kind may be passed over, and no others are taken for such.
@@ -63,15 +63,37 @@ fn are_all_by_sixteen<K: ByLanes>(bytes: &[u8]) -> bool
     K::in_sixteen(bytes, last) == 16
 }
 
+/// Whether fewer than sixteen bytes are seen to be of the kind.
+fn are_all_of_few<K: ByLanes>(bytes: &[u8]) -> bool
+    requires { length bytes.now < 16 }
+    ensures { result ≡ true → AreBetween K.is bytes.now 0 (length bytes.now) }
+{
+    if bytes.len() >= 8 {
+        K::in_eight(bytes, 0) == 8 && K::in_eight(bytes, bytes.len() - 8) == 8
+    } else {
+        are_all_singly::<K>(bytes)
+    }
+}
+
 /// Whether all bytes are seen to be of the kind. Takes no memory.
 pub(crate) fn are_all<K: ByLanes>(bytes: &[u8]) -> bool
     ensures { result ≡ true → AreBetween K.is bytes.now 0 (length bytes.now) }
 {
     if bytes.len() >= 16 {
         are_all_by_sixteen::<K>(bytes)
-    } else if bytes.len() >= 8 {
-        K::in_eight(bytes, 0) == 8 && K::in_eight(bytes, bytes.len() - 8) == 8
     } else {
-        are_all_singly::<K>(bytes)
+        are_all_of_few::<K>(bytes)
+    }
+}
+
+/// Whether the bytes are fewer than thirty-two, and all are seen to be of the kind. Takes no memory.
+pub(crate) fn are_few<K: ByLanes>(bytes: &[u8]) -> bool
+    ensures { result ≡ true → AreBetween K.is bytes.now 0 (length bytes.now) }
+{
+    let n = bytes.len();
+    if n < 16 {
+        are_all_of_few::<K>(bytes)
+    } else {
+        n < 32 && K::in_sixteen(bytes, 0) == 16 && (n == 16 || K::in_sixteen(bytes, n - 16) == 16)
     }
 }

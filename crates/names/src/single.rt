@@ -14,7 +14,7 @@ impl ByLanes for Single {
     ghost is = { is_single };
 
     fn has(b: u8) -> bool {
-        matches!(b, 1..=127)
+        is_single(b)
     }
 
     fn in_sixteen(bytes: &[u8], at: usize) -> usize {
@@ -24,6 +24,14 @@ impl ByLanes for Single {
     fn in_eight(bytes: &[u8], at: usize) -> usize {
         single_of_eight(bytes, at)
     }
+}
+
+/// Whether a byte spells a unit by itself.
+#[inline(always)]
+pub(crate) fn is_single(b: u8) -> bool
+    ensures { result ≡ is_single b }
+{
+    matches!(b, 1..=127)
 }
 
 /// How many of the sixteen bytes from a place on spell a unit each, up to the first that does not.
@@ -46,4 +54,14 @@ fn single_of_eight(bytes: &[u8], at: usize) -> usize
     let v = u8x8::from_slice(&bytes[at..]);
     let stops = (v - u8x8::splat(1)).simd_ge(u8x8::splat(127));
     first_set(stops.to_bitmask(), 8)
+}
+
+/// How many of thirty-two bytes spell a unit each, up to the first that does not.
+#[inline(always)]
+pub(crate) fn single_in_block(block: u8x32) -> usize
+    requires { length block ≡ 32 }
+    ensures { AreIn is_single block 0 32 result }
+{
+    let stops = (block - u8x32::splat(1)).simd_ge(u8x32::splat(127));
+    first_set(stops.to_bitmask(), 32)
 }

@@ -1,14 +1,15 @@
 //! Texts: bytes that are well-spelled modified UTF-8 (JVMS 4.4.7).
 
-ghost use Rattle.std.specs.Prelude.{◌≡◌, ◌↔◌, ◌++◌, ℕ, List, [], length, IsTrue, IsOk, IfOk, OnOk, IfErr, IsOkUnless, MatchResult, Err, Some, None};
-ghost use Rattle.names.specs.Units.{unit_at, bad_text, units_of};
+ghost use Rattle.std.specs.Prelude.{◌≡◌, ◌↔◌, ◌++◌, ◌+◌, ◌<◌, ◌≤◌, ℕ, List, [], true, false, length, take, slice_index, IsTrue, IsOk, IfOk, OnOk, IfErr, IsOkUnless, MatchResult, Err, Some, None};
+ghost use Rattle.names.specs.Units.{unit_at, is_single, bad_text, units_of};
+ghost use Rattle.names.specs.Forms.{AreBetween};
 ghost use Rattle.names.specs.UnitsLeft.{units_left};
 ghost use Rattle.names.specs.Texts.{IsText, FirstBad, AreUnits, unit, spelling};
 ghost use Rattle.names.specs.declared.fault.NameFault.TheVariants.{BadText, OutOfMemory};
 
-use crate::by_lanes::are_all;
+use crate::by_lanes::are_few;
 use crate::fault::NameFault;
-use crate::single::Single;
+use crate::single::{Single, is_single, single_in_block};
 use std::alloc::{AllocError, Global};
 
 /// Bytes that are well-spelled modified UTF-8: each 16-bit unit in its shortest spelling, where 0 takes
@@ -80,14 +81,12 @@ impl<'a> Iterator for TextUnits<'a> {
     }
 }
 
-/// The unit that the bytes begin with, and how many bytes it takes.
-fn unit_at(bytes: &[u8]) -> Option<(u16, usize)>
+/// The unit that the bytes begin with, and how many bytes it takes, where these are more than one.
+fn longer_at(bytes: &[u8]) -> Option<(u16, usize)>
+    requires { is_single (slice_index bytes.now 0) ≡ false }
     ensures { result ≡ unit_at bytes.now }
 {
     match bytes {
-        [] => None,
-        [0, ..] => None,
-        [a @ 1..=127, ..] => Some((*a as u16, 1)),
         [a @ 192..=223, b @ 128..=191, ..] => {
             let unit = (*a as u16 - 192) * 64 + (*b as u16 - 128);
             if unit == 0 || unit >= 128 {
@@ -104,27 +103,95 @@ fn unit_at(bytes: &[u8]) -> Option<(u16, usize)>
     }
 }
 
-/// Where the first unit without a right spelling begins.
-fn first_bad(bytes: &[u8]) -> Option<usize>
+/// The unit that the bytes begin with, and how many bytes it takes.
+fn unit_at(bytes: &[u8]) -> Option<(u16, usize)>
+    ensures { result ≡ unit_at bytes.now }
+{
+    match bytes {
+        [a @ 1..=127, ..] => Some((*a as u16, 1)),
+        _ => longer_at(bytes),
+    }
+}
+
+/// Passes the unit at a place, which takes more bytes than one, and those behind it that do. `Err` has the place of the first unit
+/// without a right spelling.
+fn past_longer(bytes: &[u8], from: usize) -> Result<usize, usize>
+    requires within { from < length bytes.now }
+    requires longer { is_single (slice_index bytes.now from) ≡ false }
+    requires text { IsText (take from bytes.now) }
+    ensures { MatchResult result (λ at. (from < at) × (at ≤ length bytes.now) × IsText (take at bytes.now)) (λ at. bad_text bytes.now ≡ Some at) }
+{
+    let mut at = from;
+    'units: loop {
+        let (_, rest) = bytes.split_at(at);
+        match longer_at(rest) {
+            None => return Err(at),
+            Some((_, n)) => at += n,
+        }
+        if at == bytes.len() || is_single(bytes[at]) {
+            return Ok(at);
+        }
+    }
+}
+
+/// How many bytes from a place on spell a unit each, up to thirty-two, where so many are left.
+fn single_in_front(bytes: &[u8], at: usize) -> usize
+    requires { at ≤ length bytes.now }
+    ensures within { at + result ≤ length bytes.now }
+    ensures single { AreBetween is_single bytes.now at (at + result) }
+{
+    if bytes.len() - at < 32 {
+        return 0;
+    }
+    single_in_block(std::simd::u8x32::from_slice(&bytes[at..]))
+}
+
+/// Where the first unit without a right spelling begins, if the bytes in front of a place are a text. Lanes are asked where eight
+/// bytes in a row have spelled a unit each.
+fn first_bad(bytes: &[u8], from: usize) -> Option<usize>
+    requires within { from ≤ length bytes.now }
+    requires text { IsText (take from bytes.now) }
     ensures { result ≡ bad_text bytes.now }
 {
-    if are_all::<Single>(bytes) {
-        return None;
-    }
-    let mut at = 0;
+    let mut at = from;
+    let mut run: usize = 0;
     while at < bytes.len() {
-        let (_, rest) = bytes.split_at(at);
-        match unit_at(rest) {
-            None => return Some(at),
-            Some((_, n)) => at += n,
+        if !is_single(bytes[at]) {
+            match past_longer(bytes, at) {
+                Ok(end) => at = end,
+                Err(at) => return Some(at),
+            }
+            run = 0;
+        } else if run < 8 {
+            at += 1;
+            run += 1;
+        } else {
+            at += 1 + single_in_front(bytes, at + 1);
         }
     }
     None
 }
 
+/// The bytes as a text, or the refusal of the first unit without a right spelling. It ensures what [`check_text`] does.
+#[inline(always)]
+fn text_of(bytes: &[u8], bad: Option<usize>) -> Result<Text<'_>, NameFault>
+    requires { bad ≡ bad_text bytes.now }
+    ensures text { IfOk result (λ t. (t.bytes.now ≡ bytes.now) × IsText bytes.now) }
+    ensures accepted { IsText bytes.now → IsOk result }
+    ensures fault { IfErr result (λ e. (at : ℕ) × (e ≡ BadText at) × FirstBad bytes.now at) }
+    ensures refused { (at : ℕ) → FirstBad bytes.now at → result ≡ Err (BadText at) }
+    ensures exact { MatchResult result (λ _. bad_text bytes.now ≡ None) (λ e. (k : ℕ) × (e ≡ BadText k) × (bad_text bytes.now ≡ Some k)) }
+{
+    match bad {
+        None => Ok(Text { bytes }),
+        Some(at) => Err(NameFault::BadText { at }),
+    }
+}
+
 /// The bytes as a text (JVMS 4.4.7). Takes no memory.
 ///
-/// Refuses by 3 at the first byte of the first unit that has no right spelling there.
+/// Refuses by 3 at the first byte of the first unit that has no right spelling there. Thirty-two bytes that spell a unit each are
+/// passed by one comparison of lanes; the last thirty-two may begin before the others end.
 pub fn check_text(bytes: &[u8]) -> Result<Text<'_>, NameFault>
     // A text exactly where the bytes are the spelling of units.
     ensures text { IfOk result (λ t. (t.bytes.now ≡ bytes.now) × IsText bytes.now) }
@@ -137,10 +204,20 @@ pub fn check_text(bytes: &[u8]) -> Result<Text<'_>, NameFault>
     // So says the word that computes.
     ensures exact { MatchResult result (λ _. bad_text bytes.now ≡ None) (λ e. (k : ℕ) × (e ≡ BadText k) × (bad_text bytes.now ≡ Some k)) }
 {
-    match first_bad(bytes) {
-        None => Ok(Text { bytes }),
-        Some(at) => Err(NameFault::BadText { at }),
+    if are_few::<Single>(bytes) {
+        return text_of(bytes, None);
     }
+    let mut at = 0;
+    if bytes.len() >= 32 {
+        let last = bytes.len() - 32;
+        while at < last && single_in_block(std::simd::u8x32::from_slice(&bytes[at..])) == 32 {
+            at += 32;
+        }
+        if at >= last && single_in_block(std::simd::u8x32::from_slice(&bytes[last..])) == 32 {
+            return text_of(bytes, None);
+        }
+    }
+    text_of(bytes, first_bad(bytes, at))
 }
 
 /// Appends the one spelling of the unit.

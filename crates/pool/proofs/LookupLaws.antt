@@ -4,8 +4,8 @@ use Rattle.std.proofs.lemmas.Bool.{eqb-false, ne_eqb}
 use Rattle.std.specs.Prelude.{nat_eq, slice_get, ◌≢◌}
 use Rattle.pool.specs.declared.fault.PoolFault.{PoolFault}
 use Rattle.pool.specs.declared.fault.PoolFault.TheVariants.{BadIndex}
-use Rattle.pool.specs.Entries.{Entry, Utf8, Class, NameAndType, Fieldref, Methodref, InterfaceMethodref, Unusable}
-use Rattle.pool.specs.Lookups.{and_then, usable, entry_at, text_in, text_at, class_name_in, class_name_at, Named, named, name_and_type_in, name_and_type_at, FieldOf, member, field_ref_in, field_ref_at, MethodOf, method, method_ref_in, method_ref_at, StandsAt, HasText, HasClassName, HasNameAndType, HasMember, HasField, methodref, HasMethod}
+use Rattle.pool.specs.Entries.{Entry, Utf8, Class, NameAndType, Fieldref, Methodref, InterfaceMethodref, Dynamic, InvokeDynamic, Unusable}
+use Rattle.pool.specs.Lookups.{and_then, usable, entry_at, text_in, text_at, class_name_in, class_name_at, Named, named, name_and_type_in, name_and_type_at, FieldOf, member, field_ref_in, field_ref_at, MethodOf, method, method_ref_in, method_ref_at, dynamic_in, dynamic_at, invoke_dynamic_in, invoke_dynamic_at, StandsAt, HasText, HasClassName, HasNameAndType, HasDynamic, HasInvokeDynamic, HasMember, HasField, methodref, HasMethod}
 
 -- ---- two steps
 
@@ -123,6 +123,44 @@ unfolding name_and_type_at
 stands_name_and_type es index x s =
     then (entry_at es index) (name_and_type_in es index) (NameAndType s.name s.descriptor) x (stands_entry es index (NameAndType s.name s.descriptor) s.entry)
     (is_named es s.name s.descriptor x s.name_text s.descriptor_text)
+
+-- ---- computed constants and calls
+
+dynamic_is : (es : List Entry) (index : ℕ) (e : Entry) (x : Named) → dynamic_in es index e ≡ Ok x
+    → (bootstrap : ℕ) × (name_and_type : ℕ) × (e ≡ Dynamic bootstrap name_and_type) × (name_and_type_at es name_and_type ≡ Ok x)
+dynamic_is es index (Dynamic bootstrap name_and_type) x h = (bootstrap, name_and_type, refl, h)
+dynamic_is es index e x h = absurd cc
+
+pub dynamic_stands : (es : List Entry) (index : ℕ) (x : Named) → dynamic_at es index ≡ Ok x → HasDynamic es index x
+unfolding dynamic_at
+dynamic_stands es index x h =
+    let t = both (entry_at es index) (dynamic_in es index) x h in
+    let c = dynamic_is es index t.0 x t.2 in
+    record { bootstrap = c.0; name_and_type = c.1; entry = entry_stands es index (Dynamic c.0 c.1) (t.1 ∙ ap Ok c.2); named = name_and_type_stands es c.1 x c.3 }
+
+pub stands_dynamic : (es : List Entry) (index : ℕ) (x : Named) → HasDynamic es index x → dynamic_at es index ≡ Ok x
+unfolding dynamic_at
+stands_dynamic es index x s =
+    then (entry_at es index) (dynamic_in es index) (Dynamic s.bootstrap s.name_and_type) x (stands_entry es index (Dynamic s.bootstrap s.name_and_type) s.entry)
+    (stands_name_and_type es s.name_and_type x s.named)
+
+invoke_dynamic_is : (es : List Entry) (index : ℕ) (e : Entry) (x : Named) → invoke_dynamic_in es index e ≡ Ok x
+    → (bootstrap : ℕ) × (name_and_type : ℕ) × (e ≡ InvokeDynamic bootstrap name_and_type) × (name_and_type_at es name_and_type ≡ Ok x)
+invoke_dynamic_is es index (InvokeDynamic bootstrap name_and_type) x h = (bootstrap, name_and_type, refl, h)
+invoke_dynamic_is es index e x h = absurd cc
+
+pub invoke_dynamic_stands : (es : List Entry) (index : ℕ) (x : Named) → invoke_dynamic_at es index ≡ Ok x → HasInvokeDynamic es index x
+unfolding invoke_dynamic_at
+invoke_dynamic_stands es index x h =
+    let t = both (entry_at es index) (invoke_dynamic_in es index) x h in
+    let c = invoke_dynamic_is es index t.0 x t.2 in
+    record { bootstrap = c.0; name_and_type = c.1; entry = entry_stands es index (InvokeDynamic c.0 c.1) (t.1 ∙ ap Ok c.2); named = name_and_type_stands es c.1 x c.3 }
+
+pub stands_invoke_dynamic : (es : List Entry) (index : ℕ) (x : Named) → HasInvokeDynamic es index x → invoke_dynamic_at es index ≡ Ok x
+unfolding invoke_dynamic_at
+stands_invoke_dynamic es index x s =
+    then (entry_at es index) (invoke_dynamic_in es index) (InvokeDynamic s.bootstrap s.name_and_type) x (stands_entry es index (InvokeDynamic s.bootstrap s.name_and_type) s.entry)
+    (stands_name_and_type es s.name_and_type x s.named)
 
 -- ---- fields and methods
 

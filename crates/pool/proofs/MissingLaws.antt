@@ -3,9 +3,9 @@ use Rattle.std.proofs.Common.{◌≡◌, ℕ, ◌-◌, ◌⊎◌, inl, inr, Bool
 use Rattle.std.specs.Prelude.{nat_eq, slice_get}
 use Rattle.pool.specs.declared.fault.PoolFault.{PoolFault}
 use Rattle.pool.specs.declared.fault.PoolFault.TheVariants.{BadIndex, WrongKind}
-use Rattle.pool.specs.Entries.{Entry, Utf8, Class, NameAndType, Fieldref, Methodref, InterfaceMethodref, Unusable}
-use Rattle.pool.specs.Lookups.{and_then, usable, entry_at, text_in, text_at, class_name_in, class_name_at, Named, named, name_and_type_in, name_and_type_at, FieldOf, member, field_ref_in, field_ref_at, MethodOf, method, method_ref_in, method_ref_at, StandsAt}
-use Rattle.pool.specs.Missing.{Wanted, a_text, a_class, a_name_and_type, a_field, a_method, Step, leads, IsFirstMissing, nothing, unfit, behind}
+use Rattle.pool.specs.Entries.{Entry, Utf8, Class, NameAndType, Fieldref, Methodref, InterfaceMethodref, Dynamic, InvokeDynamic, Unusable}
+use Rattle.pool.specs.Lookups.{and_then, usable, entry_at, text_in, text_at, class_name_in, class_name_at, Named, named, name_and_type_in, name_and_type_at, FieldOf, member, field_ref_in, field_ref_at, MethodOf, method, method_ref_in, method_ref_at, dynamic_in, dynamic_at, invoke_dynamic_in, invoke_dynamic_at, StandsAt}
+use Rattle.pool.specs.Missing.{Wanted, a_text, a_class, a_name_and_type, a_field, a_method, a_dynamic, an_invoke_dynamic, Step, leads, IsFirstMissing, nothing, unfit, behind}
 use Rattle.pool.proofs.LookupLaws.{entry_stands, stands_entry, text_stands, class_stands}
 
 -- ---- two steps
@@ -122,6 +122,36 @@ name_and_type_missing es index rest fault h = by_part (refused (entry_at es inde
         → IsFirstMissing es ((index, a_name_and_type) ∷ rest) fault
     by_part (inl k) = entry_missing es index a_name_and_type rest fault k
     by_part (inr k) = name_and_type_unfit es index rest fault k.0 (entry_stands es index k.0 k.1) k.2
+
+-- ---- a computed constant, and a call
+
+dynamic_unfit : (es : List Entry) (index : ℕ) (rest : List Step) (fault : PoolFault) (e : Entry) → StandsAt es index e → dynamic_in es index e ≡ Err fault → IsFirstMissing es ((index, a_dynamic) ∷ rest) fault
+dynamic_unfit es index rest fault (Dynamic bootstrap name_and_type) s h =
+    behind index a_dynamic rest (Dynamic bootstrap name_and_type) ((name_and_type, a_name_and_type) ∷ []) fault s refl (name_and_type_missing es name_and_type rest fault h)
+dynamic_unfit es index rest fault e s h =
+    subst (λ f. IsFirstMissing es ((index, a_dynamic) ∷ rest) f) (same_fault (WrongKind index) fault h) (unfit index a_dynamic rest e s refl)
+
+pub dynamic_missing : (es : List Entry) (index : ℕ) (rest : List Step) (fault : PoolFault) → dynamic_at es index ≡ Err fault → IsFirstMissing es ((index, a_dynamic) ∷ rest) fault
+unfolding dynamic_at
+dynamic_missing es index rest fault h = by_part (refused (entry_at es index) (dynamic_in es index) fault h)
+  where
+    by_part : (entry_at es index ≡ Err fault) ⊎ ((e : Entry) × (entry_at es index ≡ Ok e) × (dynamic_in es index e ≡ Err fault)) → IsFirstMissing es ((index, a_dynamic) ∷ rest) fault
+    by_part (inl k) = entry_missing es index a_dynamic rest fault k
+    by_part (inr k) = dynamic_unfit es index rest fault k.0 (entry_stands es index k.0 k.1) k.2
+
+invoke_dynamic_unfit : (es : List Entry) (index : ℕ) (rest : List Step) (fault : PoolFault) (e : Entry) → StandsAt es index e → invoke_dynamic_in es index e ≡ Err fault → IsFirstMissing es ((index, an_invoke_dynamic) ∷ rest) fault
+invoke_dynamic_unfit es index rest fault (InvokeDynamic bootstrap name_and_type) s h =
+    behind index an_invoke_dynamic rest (InvokeDynamic bootstrap name_and_type) ((name_and_type, a_name_and_type) ∷ []) fault s refl (name_and_type_missing es name_and_type rest fault h)
+invoke_dynamic_unfit es index rest fault e s h =
+    subst (λ f. IsFirstMissing es ((index, an_invoke_dynamic) ∷ rest) f) (same_fault (WrongKind index) fault h) (unfit index an_invoke_dynamic rest e s refl)
+
+pub invoke_dynamic_missing : (es : List Entry) (index : ℕ) (rest : List Step) (fault : PoolFault) → invoke_dynamic_at es index ≡ Err fault → IsFirstMissing es ((index, an_invoke_dynamic) ∷ rest) fault
+unfolding invoke_dynamic_at
+invoke_dynamic_missing es index rest fault h = by_part (refused (entry_at es index) (invoke_dynamic_in es index) fault h)
+  where
+    by_part : (entry_at es index ≡ Err fault) ⊎ ((e : Entry) × (entry_at es index ≡ Ok e) × (invoke_dynamic_in es index e ≡ Err fault)) → IsFirstMissing es ((index, an_invoke_dynamic) ∷ rest) fault
+    by_part (inl k) = entry_missing es index an_invoke_dynamic rest fault k
+    by_part (inr k) = invoke_dynamic_unfit es index rest fault k.0 (entry_stands es index k.0 k.1) k.2
 
 -- ---- a field or a method of a class
 

@@ -3,7 +3,7 @@
 use Rattle.std.specs.Prelude.{◌≡◌, ◌≢◌, ℕ, ◌+◌, ◌-◌, Bool, true, false, List, nat_eq, if◌then◌else◌, Option, Some, None, Result, Ok, Err, slice_get}
 use Rattle.pool.specs.declared.fault.PoolFault.{PoolFault}
 use Rattle.pool.specs.declared.fault.PoolFault.TheVariants.{BadIndex, WrongKind}
-use Rattle.pool.specs.Entries.{Entry, Utf8, Class, NameAndType, Fieldref, Methodref, InterfaceMethodref, Unusable}
+use Rattle.pool.specs.Entries.{Entry, Utf8, Class, NameAndType, Fieldref, Methodref, InterfaceMethodref, Dynamic, InvokeDynamic, Unusable}
 
 -- the next step, behind one that found something
 abbrev pub and_then : {A B : Type 0} → Result A PoolFault → (A → Result B PoolFault) → Result B PoolFault
@@ -99,6 +99,22 @@ method_ref_in es index e = Err (WrongKind index)
 unfoldable pub method_ref_at : List Entry → ℕ → Result MethodOf PoolFault
 method_ref_at es index = and_then (entry_at es index) (method_ref_in es index)
 
+-- ---- a constant that is computed, and a call that is bound when it is first made, each by its name and descriptor (JVMS 4.4.10)
+
+abbrev pub dynamic_in : List Entry → ℕ → Entry → Result Named PoolFault
+dynamic_in es index (Dynamic bootstrap name_and_type) = name_and_type_at es name_and_type
+dynamic_in es index e = Err (WrongKind index)
+
+unfoldable pub dynamic_at : List Entry → ℕ → Result Named PoolFault
+dynamic_at es index = and_then (entry_at es index) (dynamic_in es index)
+
+abbrev pub invoke_dynamic_in : List Entry → ℕ → Entry → Result Named PoolFault
+invoke_dynamic_in es index (InvokeDynamic bootstrap name_and_type) = name_and_type_at es name_and_type
+invoke_dynamic_in es index e = Err (WrongKind index)
+
+unfoldable pub invoke_dynamic_at : List Entry → ℕ → Result Named PoolFault
+invoke_dynamic_at es index = and_then (entry_at es index) (invoke_dynamic_in es index)
+
 -- ---- the same by what stands where
 
 -- the entry stands at the index, counted from 1, and may be used
@@ -122,6 +138,18 @@ pub record HasNameAndType (es : List Entry) (index : ℕ) (x : Named) : Type 0 w
   pub entry : StandsAt es index (NameAndType name descriptor)
   pub name_text : HasText es name x.name
   pub descriptor_text : HasText es descriptor x.descriptor
+
+pub record HasDynamic (es : List Entry) (index : ℕ) (x : Named) : Type 0 where
+  pub bootstrap : ℕ
+  pub name_and_type : ℕ
+  pub entry : StandsAt es index (Dynamic bootstrap name_and_type)
+  pub named : HasNameAndType es name_and_type x
+
+pub record HasInvokeDynamic (es : List Entry) (index : ℕ) (x : Named) : Type 0 where
+  pub bootstrap : ℕ
+  pub name_and_type : ℕ
+  pub entry : StandsAt es index (InvokeDynamic bootstrap name_and_type)
+  pub named : HasNameAndType es name_and_type x
 
 pub record HasMember (es : List Entry) (class name_and_type : ℕ) (x : FieldOf) : Type 0 where
   pub class_name : HasClassName es class x.class

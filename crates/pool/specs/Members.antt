@@ -1,12 +1,12 @@
--- The meaning of constants to an instruction that names them (JVMS 4.4.1, 4.4.2): a reference type, a field or a method with its
--- types. None where the constant is of another kind, or its texts are not of their forms.
+-- The meaning of constants to an instruction that names them (JVMS 4.4.1, 4.4.2, 4.4.10): a reference type, a field or a method with its
+-- types, a constant that is computed, or a call site. None where the constant is of another kind, or its texts are not of their forms.
 use Rattle.std.specs.Prelude.{ℕ, Bool, false, List, Option, Some, None, Result, Ok, Err}
 use Rattle.std.specs.Option.{option_and_then}
 use Rattle.names.specs.Descriptors.{FieldDescriptor, MethodDescriptor}
 use Rattle.names.specs.ReferenceTypes.{ReferenceType, class_type, reference_type}
 use Rattle.names.specs.Reading.{field_answer, method_answer}
 use Rattle.pool.specs.Entries.{Entry}
-use Rattle.pool.specs.Lookups.{entry_at, class_name_at, FieldOf, field_ref_at, MethodOf, method_ref_at}
+use Rattle.pool.specs.Lookups.{entry_at, class_name_at, Named, FieldOf, field_ref_at, MethodOf, method_ref_at, dynamic_at, invoke_dynamic_at}
 
 -- what was found, if anything was
 abbrev pub found : {A E : Type 0} → Result A E → Option A
@@ -60,3 +60,28 @@ method_constant m = method_of_class m (reference_type m.class) (found (method_an
 
 abbrev pub method_at : List Entry → ℕ → Option MethodConstant
 method_at pool index = option_and_then method_constant (found (method_ref_at pool index))
+
+-- ---- a Dynamic: the type of the constant
+
+abbrev pub dynamic_type : Named → Option FieldDescriptor
+dynamic_type n = found (field_answer n.descriptor)
+
+abbrev pub dynamic_type_at : List Entry → ℕ → Option FieldDescriptor
+dynamic_type_at pool index = option_and_then dynamic_type (found (dynamic_at pool index))
+
+-- ---- an InvokeDynamic
+
+-- a call that has no receiver
+pub record CallSite : Type 0 where
+  pub name : List ℕ
+  pub type : MethodDescriptor
+
+abbrev pub site_with : List ℕ → Option MethodDescriptor → Option CallSite
+site_with name (Some type) = Some (record { name = name; type = type })
+site_with name None = None
+
+abbrev pub call_site : Named → Option CallSite
+call_site n = site_with n.name (found (method_answer false n.descriptor))
+
+abbrev pub call_site_at : List Entry → ℕ → Option CallSite
+call_site_at pool index = option_and_then call_site (found (invoke_dynamic_at pool index))

@@ -5,13 +5,13 @@ ghost use Rattle.names.specs.Types.{type_of, method_of};
 ghost use Rattle.names.specs.Reading.{field_answer, method_answer};
 ghost use Rattle.names.specs.ReferenceTypes.{reference_type};
 ghost use Rattle.names.specs.References.{reference_view};
-ghost use Rattle.pool.specs.Members.{found, class_at, field_at, field_constant, method_at, method_constant};
-ghost use Rattle.pool.specs.MemberViews.{field_constant_view, method_constant_view};
-ghost use Rattle.pool.specs.TextPlaces.{StandsIn, StandIn, member_view, method_view};
+ghost use Rattle.pool.specs.Members.{found, class_at, field_at, field_constant, method_at, method_constant, dynamic_type_at, call_site, call_site_at};
+ghost use Rattle.pool.specs.MemberViews.{field_constant_view, method_constant_view, call_site_view};
+ghost use Rattle.pool.specs.TextPlaces.{StandsIn, StandIn, named_view, member_view, method_view};
 
 use crate::constant_pool::Pool;
 use crate::lookups::{Member, TextAt};
-use crate::reference::{FieldConstant, MethodConstant};
+use crate::reference::{CallSite, FieldConstant, MethodConstant};
 use names::{
     FieldType, MethodType, NameFault, RefType, Text, field_type, method_type, reference_type,
 };
@@ -184,6 +184,24 @@ impl<'p, 'a> Descriptors<'p, 'a> {
         }))
     }
 
+    fn site_of(
+        &mut self,
+        name: Text<'a>,
+        descriptor: TextAt<'a>,
+    ) -> Result<Option<CallSite<'a>>, AllocError>
+        requires { StandsIn self.old descriptor }
+        ensures same { self.new ≡ self.old }
+        ensures found { IfOk result (λ o. option_map call_site_view o ≡ call_site (named_view (name.entry, descriptor.entry))) }
+    {
+        let Some(method_type) = self.method_type(descriptor)? else {
+            return Ok(None);
+        };
+        Ok(Some(CallSite {
+            name: name.bytes(),
+            method_type,
+        }))
+    }
+
     /// The type that the Class constant at this index names (JVMS 4.4.1); none where no other stands there, or its text is of
     /// neither form.
     pub fn class_type(&mut self, index: u16) -> Result<Option<RefType<'a>>, AllocError>
@@ -216,6 +234,29 @@ impl<'p, 'a> Descriptors<'p, 'a> {
     {
         match self.pool.method_member(index) {
             Ok((interface, method)) => self.method_of(interface, method),
+            Err(_) => Ok(None),
+        }
+    }
+    /// The type of the constant that the Dynamic at this index has computed (JVMS 4.4.10); none where another constant stands there, or its descriptor
+    /// is no field's.
+    pub fn dynamic_type(&mut self, index: u16) -> Result<Option<FieldType<'a>>, AllocError>
+        ensures same { self.new ≡ self.old }
+        ensures found { IfOk result (λ o. option_map type_of o ≡ dynamic_type_at self.old index) }
+    {
+        match self.pool.dynamic_texts(index) {
+            Ok((_, descriptor)) => self.field_type(descriptor),
+            Err(_) => Ok(None),
+        }
+    }
+
+    /// The call site that the InvokeDynamic at this index names (JVMS 4.4.10); none where another constant stands there, or its descriptor is no
+    /// method's.
+    pub fn call_site(&mut self, index: u16) -> Result<Option<CallSite<'a>>, AllocError>
+        ensures same { self.new ≡ self.old }
+        ensures found { IfOk result (λ o. option_map call_site_view o ≡ call_site_at self.old index) }
+    {
+        match self.pool.invoke_dynamic_texts(index) {
+            Ok((name, descriptor)) => self.site_of(name, descriptor),
             Err(_) => Ok(None),
         }
     }

@@ -6,14 +6,14 @@
 //!
 //! - `constant`: what stands at an index
 //! - `constant_pool`: the pool as one value, and as a part
-//! - `descriptors`: what a class, a field or a method is to the instructions that name it
+//! - `descriptors`: what a class, a field, a method, a computed constant or a call site is to the instructions that name it
 //! - `fault`: why a look-up fails
 //! - `kind`: the kinds of a method handle's reference
 //! - `laws`: what the look-ups find, by what stands where, without code
 //! - `lookups`: what stands at an index, and to which texts it leads
 //! - `members`: the type that a class constant names
 //! - `reading`: bytes to constants
-//! - `reference`: what a NameAndType, a Fieldref and a method's reference lead to
+//! - `reference`: what a NameAndType, a Fieldref, a method's reference and an InvokeDynamic lead to
 //! - `writing`: constants to bytes
 #![tactic(auto)]
 
@@ -36,5 +36,5 @@ pub use fault::PoolFault;
 pub use kind::ReferenceKind;
 pub use laws::{found_where_it_stands, refused_where_nothing_fits};
 pub use reading::read_pool;
-pub use reference::{FieldConstant, FieldRef, MethodConstant, MethodRef, NameAndType};
+pub use reference::{CallSite, FieldConstant, FieldRef, MethodConstant, MethodRef, NameAndType};
 pub use writing::put_pool;

@@ -1,6 +1,6 @@
 //! Looking up in the constant pool. No look-up takes memory.
 ghost use Rattle.std.specs.Prelude.{◌≡◌, ◌<◌, length, slice_get, Some, IfOk, MatchResult};
-ghost use Rattle.pool.specs.Lookups.{Answers, entry_at, text_at, class_name_at, named, name_and_type_at, member, field_ref_at, method, method_ref_at};
+ghost use Rattle.pool.specs.Lookups.{Answers, entry_at, text_at, class_name_at, named, name_and_type_at, member, field_ref_at, method, method_ref_at, dynamic_at, invoke_dynamic_at};
 ghost use Rattle.pool.specs.Views.{view, views, name_and_type_view, field_ref_view, method_ref_view};
 ghost use Rattle.pool.specs.TextPlaces.{StandsIn, StandIn, named_view, member_view, method_view};
 
@@ -179,6 +179,58 @@ impl<'a> Pool<'a> {
             class: method.class.text,
             name: method.name,
             descriptor: method.descriptor.text,
+        })
+    }
+
+    /// The texts that the Dynamic at this index leads to, the descriptor with its own; or 8 or 9 as [`dynamic`](Pool::dynamic).
+    #[tactic(auto, unfolding(crate::specs::Lookups::dynamic_at))]
+    pub(crate) fn dynamic_texts(&self, index: u16) -> Result<(Text<'a>, TextAt<'a>), PoolFault>
+        ensures found { Answers named_view (dynamic_at self.now index) result }
+        ensures stands { IfOk result (λ x. StandsIn self.now x.1) }
+    {
+        match self.get(index)? {
+            Constant::Dynamic { name_and_type, .. } => self.name_and_descriptor(name_and_type),
+            _ => Err(PoolFault::WrongKind { index }),
+        }
+    }
+
+    /// The texts of the Dynamic at this index (JVMS 4.4.10); or 8 or 9, with the first index at fault: this one, then those of the NameAndType, its
+    /// name and its descriptor.
+    pub fn dynamic(&self, index: u16) -> Result<NameAndType<'a>, PoolFault>
+        ensures { Answers name_and_type_view (dynamic_at self.now index) result }
+    {
+        let (name, descriptor) = self.dynamic_texts(index)?;
+        Ok(NameAndType {
+            name,
+            descriptor: descriptor.text,
+        })
+    }
+
+    /// The texts that the InvokeDynamic at this index leads to, the descriptor with its own; or 8 or 9 as [`invoke_dynamic`](Pool::invoke_dynamic).
+    #[tactic(auto, unfolding(crate::specs::Lookups::invoke_dynamic_at))]
+    pub(crate) fn invoke_dynamic_texts(
+        &self,
+        index: u16,
+    ) -> Result<(Text<'a>, TextAt<'a>), PoolFault>
+        ensures found { Answers named_view (invoke_dynamic_at self.now index) result }
+        ensures stands { IfOk result (λ x. StandsIn self.now x.1) }
+    {
+        match self.get(index)? {
+            Constant::InvokeDynamic { name_and_type, .. } => {
+                self.name_and_descriptor(name_and_type)
+            }
+            _ => Err(PoolFault::WrongKind { index }),
+        }
+    }
+
+    /// The texts of the InvokeDynamic at this index (JVMS 4.4.10); or 8 or 9 as [`dynamic`](Pool::dynamic).
+    pub fn invoke_dynamic(&self, index: u16) -> Result<NameAndType<'a>, PoolFault>
+        ensures { Answers name_and_type_view (invoke_dynamic_at self.now index) result }
+    {
+        let (name, descriptor) = self.invoke_dynamic_texts(index)?;
+        Ok(NameAndType {
+            name,
+            descriptor: descriptor.text,
         })
     }
 

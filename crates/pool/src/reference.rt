@@ -65,3 +65,13 @@ pub struct MethodConstant<'a> {
     pub method_type: MethodType<'a>,
     pub ghost few: { vec_len method_type.params ≤ 255 },
 }
+
+/// An InvokeDynamic whose texts are of their forms (JVMS 4.4.10).
+#[derive(Drop)]
+pub struct CallSite<'a> {
+    /// The name that the bootstrap method is asked for.
+    pub name: &'a [u8],
+    /// The types that the descriptor names. The parameters take at most 255 units; there is no receiver.
+    pub method_type: MethodType<'a>,
+    pub ghost few: { vec_len method_type.params ≤ 255 },
+}

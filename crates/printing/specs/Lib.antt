@@ -3,3 +3,5 @@ pub mod Faults
 pub mod Names
 pub mod Instructions
 pub mod Classes
+pub mod Json
+pub mod FaultFields

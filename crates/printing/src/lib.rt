@@ -6,7 +6,8 @@
 //!
 //! - `print`: the trait [`Print`], words, numbers, one text behind another, and lines of a list.
 //! - `name`: flags in hexadecimal digits, names with escapes, and texts of the constant pool.
-//! - `faults`: why something is refused, and where.
+//! - `faults`: why something is refused, and where; `fault_fields`: the same as fields of an object of JSON.
+//! - `json`: objects of JSON (RFC 8259), field by field.
 //! - `instruction`: the line of an instruction.
 //! - `code`: the lines of a method's code.
 //! - `class_attributes`: the lines of records and sealed classes.
@@ -15,12 +16,16 @@
 
 mod class_attributes;
 mod code;
+mod fault_fields;
 mod faults;
 mod instruction;
+mod json;
 mod listing;
 mod name;
 mod print;
 
+pub use fault_fields::{FaultFields, PlaceFields};
+pub use json::{END, More, Object, Quoted, QuotedName, QuotedSpelled};
 pub use listing::Listing;
 pub use name::{ClassName, ConstantText, Hexadecimal, Name, Spelled};
 pub use print::{Lines, Number, Print, Then, Word, WriteFailed, put_bytes, put_lines};

@@ -13,7 +13,7 @@ use std::io::Write;
 pub struct Hexadecimal(pub u16);
 
 /// The digit of a number below 16.
-fn digit(n: u16) -> u8
+pub fn digit(n: u16) -> u8
     requires { n < 16 }
     ensures { result ≡ digit n }
 {

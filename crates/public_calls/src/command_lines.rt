@@ -1,6 +1,7 @@
 //! The requests that lines make, and the complaints of the program.
-use answers::Command;
+use answers::{Command, Form};
 use clap::error::ErrorKind;
+use classfile::Profile;
 use command_line::{LineFault, MainFault, complaint, request};
 use std::alloc::Global;
 use std::test::*;
@@ -32,7 +33,7 @@ fn lines(rt: HostRuntime) {
         asks(
             alloc,
             &["classck", "check", "--", "-a"],
-            Command::Check,
+            Command::Check(Form::Plain),
             1,
             "-a"
         )
@@ -41,12 +42,65 @@ fn lines(rt: HostRuntime) {
         asks(
             alloc,
             &["classck", "verify", "K", "O", "P"],
-            Command::Verify,
+            Command::Verify(Form::Plain, Profile::Default),
             3,
             "P"
         )
     );
-    assert!(rt; asks(alloc, &["classck", "play", "K", "O"], Command::Play, 2, "O"));
+    assert!(rt;
+        asks(
+            alloc,
+            &["classck", "play", "K", "O"],
+            Command::Play(Profile::Default),
+            2,
+            "O"
+        )
+    );
+    assert!(rt;
+        asks(
+            alloc,
+            &["classck", "verify", "K", "--dynamic", "O"],
+            Command::Verify(Form::Plain, Profile::Dynamic),
+            2,
+            "O"
+        )
+    );
+    assert!(rt;
+        asks(
+            alloc,
+            &["classck", "play", "--dynamic", "K"],
+            Command::Play(Profile::Dynamic),
+            1,
+            "K"
+        )
+    );
+    assert!(rt;
+        asks(
+            alloc,
+            &["classck", "check", "--json", "K"],
+            Command::Check(Form::Json),
+            1,
+            "K"
+        )
+    );
+    assert!(rt;
+        asks(
+            alloc,
+            &["classck", "verify", "K", "O", "--json"],
+            Command::Verify(Form::Json, Profile::Default),
+            2,
+            "O"
+        )
+    );
+    assert!(rt;
+        asks(
+            alloc,
+            &["classck", "verify", "--json", "--dynamic", "K", "O"],
+            Command::Verify(Form::Json, Profile::Dynamic),
+            2,
+            "O"
+        )
+    );
     assert!(rt; misses(alloc, &["classck", "check"]));
     assert!(rt; misses(alloc, &["classck", "play"]));
 }

@@ -1,7 +1,8 @@
 use crate::making::K;
 use classfile::{ClassFile, decode};
 use frames::{
-    CodeStarts, Declared, Frame, FrameFault, MapEntry, StackMap, TypeInfo, VType, declare, declared,
+    CodeStarts, Declared, Frame, FrameFault, Locals, MapEntry, StackMap, TypeInfo, VType, declare,
+    declared,
 };
 use insn::decode_code;
 use pool::Descriptors;
@@ -32,11 +33,11 @@ fn has(
     locals: &[VType<'_>],
     stack: &[VType<'_>],
 ) -> Result<bool, AllocError> {
-    let mut found = Vec::new(alloc);
+    let mut found = Locals::new(alloc);
     frame.write_locals(None, &mut found)?;
-    let has_locals = found.as_slice() == locals;
-    frame.write_stack(&mut found)?;
-    Ok(has_locals && found.as_slice() == stack && !frame.flag())
+    let mut items = Vec::new(alloc);
+    frame.write_stack(&mut items)?;
+    Ok(found.below(5) == locals && items.as_slice() == stack && !frame.flag())
 }
 
 /// Whether the frames of the entries are found by their offsets.

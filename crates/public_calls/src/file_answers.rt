@@ -1,6 +1,7 @@
 //! The answer of each command on files, read or not, and how much of it a writer takes that fails.
 use crate::making::{K, O, hasher};
-use answers::{AnswerFault, Command, answer, one_answer};
+use answers::{AnswerFault, Command, Form, answer, one_answer};
+use classfile::Profile;
 use layout::{ReadFault, StreamFault};
 use std::alloc::{AllocError, Global};
 use std::io::{self, Write};
@@ -86,14 +87,25 @@ fn is_answered(alloc: Global, command: Command, reads: &[Read], left: usize, tex
 
 #[test]
 fn a_writer_that_fails(rt: HostRuntime) -> Result<(), Fail> {
-    let rows: [(Command, &[u8]); 4] = [
-        (Command::Check, b"ok\n"),
+    let rows: [(Command, &[u8]); 6] = [
+        (Command::Check(Form::Plain), b"ok\n"),
+        (
+            Command::Check(Form::Json),
+            b"{\"kind\":\"file\",\"answer\":\"ok\"}\n",
+        ),
         (
             Command::Show,
             b"class K major 52 minor 0 flags 0021\nsuper java/lang/Object\nmethod 0009 f ()V\n  stack 0 locals 0\n  0 return\n",
         ),
-        (Command::Verify, b"method f ()V verified\n"),
-        (Command::Play, b"play verified\n"),
+        (
+            Command::Verify(Form::Plain, Profile::Default),
+            b"method f ()V verified\n",
+        ),
+        (
+            Command::Verify(Form::Json, Profile::Dynamic),
+            b"{\"kind\":\"method\",\"name\":\"f\",\"descriptor\":\"()V\",\"answer\":\"verified\"}\n",
+        ),
+        (Command::Play(Profile::Dynamic), b"play verified\n"),
     ];
     let reads = both(rt.alloc())?;
     for (command, text) in rows {
@@ -109,7 +121,13 @@ fn unread(alloc: Global, why: ReadFault) -> Result<(Result<u8, AnswerFault>, Vec
     let mut reads = Vec::new(alloc);
     reads.push(Err(StreamFault { taken: 50, why }))?;
     let mut out: Vec<u8> = Vec::new(alloc);
-    let status = answer(alloc, Command::Check, &reads, hasher(), &mut out);
+    let status = answer(
+        alloc,
+        Command::Check(Form::Plain),
+        &reads,
+        hasher(),
+        &mut out,
+    );
     Ok((status, out))
 }
 
@@ -120,7 +138,13 @@ fn files_that_are_not_read(rt: HostRuntime) -> Result<(), Fail> {
     let (status, text) = unread(rt.alloc(), ReadFault::OutOfMemory)?;
     assert!(rt; matches!(status, Err(AnswerFault::OutOfMemory)) && text.is_empty());
     let mut out = Counted { taken: 0 };
-    let none = answer(rt.alloc(), Command::Verify, &[], hasher(), &mut out);
+    let none = answer(
+        rt.alloc(),
+        Command::Verify(Form::Plain, Profile::Default),
+        &[],
+        hasher(),
+        &mut out,
+    );
     assert!(rt; matches!(none, Ok(0)) && out.taken == 0);
     Ok(())
 }
@@ -131,7 +155,13 @@ fn is_whole_or_memory(alloc: Global) -> bool {
         return true;
     };
     let mut out = Counted { taken: 0 };
-    match answer(alloc, Command::Check, &reads, hasher(), &mut out) {
+    match answer(
+        alloc,
+        Command::Check(Form::Plain),
+        &reads,
+        hasher(),
+        &mut out,
+    ) {
         Ok(status) => status == 0 && out.taken == 3,
         Err(fault) => matches!(fault, AnswerFault::OutOfMemory) && out.taken == 0,
     }

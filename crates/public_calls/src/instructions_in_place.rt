@@ -10,8 +10,8 @@ use names::{Base, OBJECT};
 use pool::Descriptors;
 use rules::{
     Env, Members, Reason, Working, branches_by, check_member, constructs_own, first_reason,
-    goes_on, is_plain, keeps_locals, own_class, plans_go_as_acts, run, run_plain, stored_to,
-    together,
+    goes_on, is_plain, keeps_locals, own_class, plans_go_as_acts, replaced_object, run, run_plain,
+    stored_to, together,
 };
 use std::alloc::Global;
 use std::test::*;
@@ -21,7 +21,7 @@ use std::test::*;
 enum Asked<'a> {
     /// Whether `clone` may be called on an object of this type.
     Clones(VType<'a>),
-    /// Whether a constructor is called on the own object where this type is on the stack.
+    /// Whether a constructor is called on the own object where this type is on the stack, which is what it initializes.
     Constructs(VType<'a>),
     /// Whether an `int` is stored to the last local variable, and what it replaced put back.
     Stores,
@@ -63,7 +63,7 @@ fn clones<'a, C: Classes>(
     Ok(frame.stack().len() == 1)
 }
 
-/// Whether the constructor of Object is called on the own object.
+/// Whether the constructor of Object is called on the own object, and initializes it.
 fn constructs<'a, C: Classes>(
     alloc: Global,
     env: &Env<'_, '_, 'a, C>,
@@ -75,7 +75,8 @@ fn constructs<'a, C: Classes>(
     let mut constants = Descriptors::new(alloc, &env.method.class.constant_pool);
     let mut members = Members::new(alloc, env.method.class, env.classes);
     let named = members.named(&mut constants, &env.method, &act)?;
-    Ok(constructs_own(&env.method, &act, &named, &frame))
+    let replaced = replaced_object(&env.method, 0, &act, &named, &frame);
+    Ok(constructs_own(&env.method, &act, &named, &frame) && replaced == Some(object))
 }
 
 /// Whether a store of an `int` to the local variable 1 is seen there, and the local is top again when that is put back.

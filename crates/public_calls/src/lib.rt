@@ -5,6 +5,7 @@
 //! | `parts` | `layout`: numbers, lists, and what is written part by part |
 //! | `streams` | `layout` and `classfile`: what is read of readers that hand their bytes out in pieces, end early or fail |
 //! | `texts` | `names`: texts, names and descriptors |
+//! | `text_blocks` | `names`: texts of lengths around those that lanes take, with each wrong part at each place |
 //! | `constant_pools` | `pool`: pools, and look-ups in them |
 //! | `named_constants` | `pool`: what instructions name, read once |
 //! | `class_files`, `class_forms` | `classfile`: class files both ways, and which are well formed |
@@ -17,6 +18,7 @@
 //! | `assignability` | `frames`: one type or frame where another is wanted |
 //! | `packed_frames` | `frames`: types as slots, and frames compared by them |
 //! | `stack_maps`, `declared_frames` | `frames`: stack maps both ways, and the frames that they declare |
+//! | `running_locals` | `frames`: the local variables of a running frame, and the objects in them |
 //! | `instruction_rules` | `rules`: single instructions |
 //! | `instructions_in_place` | `rules`: instructions on a frame in place, the members that they name, and reasons taken together |
 //! | `machine_steps`, `object_steps` | `machine`: single steps |
@@ -24,6 +26,7 @@
 //! | `verdicts` | `verify`: verdicts and reports |
 //! | `verified_files` | `verify`: verdicts on the classes that files are, alone, among known ones and in play |
 //! | `classes_in_play` | `verify`: reports on classes that run together |
+//! | `dynamic_calls` | `pool`, `rules`, `verify`: `invokedynamic` and dynamic constants, looked up, judged by a profile, and run |
 //! | `verified_walks` | `verify`: walks of the machine through methods that are verified |
 //! | `printed_text` | `printing`: texts of class files, names and faults |
 //! | `file_answers` | `answers`: what each command answers of files, read or not |
@@ -59,6 +62,8 @@ mod constant_pools;
 #[cfg(test)]
 mod declared_frames;
 #[cfg(test)]
+mod dynamic_calls;
+#[cfg(test)]
 mod fault_texts;
 #[cfg(test)]
 mod file_answers;
@@ -83,11 +88,15 @@ mod parts;
 #[cfg(test)]
 mod printed_text;
 #[cfg(test)]
+mod running_locals;
+#[cfg(test)]
 mod stack_maps;
 #[cfg(test)]
 mod streams;
 #[cfg(test)]
 mod superclasses;
+#[cfg(test)]
+mod text_blocks;
 #[cfg(test)]
 mod texts;
 #[cfg(test)]

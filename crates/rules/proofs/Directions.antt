@@ -1,22 +1,22 @@
 -- Where the plan of an instruction goes: as its act says, whatever the method.
 use Rattle.std.proofs.Common.{◌≡◌, ◌∙◌, ℕ, Bool, true, false, List, [], ◌∷◌, Option, Some, None, refl, sym, if◌then◌else◌}
 use Rattle.names.specs.declared.base.Primitive.{Primitive}
-use Rattle.names.specs.Descriptors.{FieldDescriptor, primitive, class as class_descriptor, array as array_descriptor}
-use Rattle.std.specs.Prelude.{nat_lt, not, ◌&&◌}
+use Rattle.names.specs.Descriptors.{FieldDescriptor, MethodDescriptor, primitive, class as class_descriptor, array as array_descriptor, field_width}
+use Rattle.std.specs.Prelude.{nat_lt, nat_eq, not, ◌&&◌}
 use Rattle.names.specs.ReferenceTypes.{ReferenceType, class_type, array_type, descriptor_of, dimensions_of}
 use Rattle.classfile.specs.Methods.{Method}
 use Rattle.pool.specs.Entries as entries
 use Rattle.pool.specs.Entries.{Entry}
-use Rattle.pool.specs.Members.{constant_at, class_at, FieldConstant, field_at, MethodConstant, method_at}
+use Rattle.pool.specs.Members.{constant_at, class_at, FieldConstant, field_at, MethodConstant, method_at, dynamic_type_at, CallSite, call_site_at}
 use Rattle.insn.specs.declared.operation.Kind.{Kind}
 use Rattle.insn.specs.declared.operation.Kind.TheVariants.{Int}
 use Rattle.frames.specs.VerificationType.{array}
-use Rattle.frames.specs.Slots.{to_reference}
+use Rattle.frames.specs.Slots.{to_reference, descriptor_type}
 use Rattle.insn.specs.Meanings as acts
 use Rattle.insn.specs.Meanings.{Act}
 use Rattle.insn.specs.Stacks.{same_kind, computed_as}
-use Rattle.rules.specs.Plans.{Plan, pops, makes, constructs, calls_special, sizes, number, refuses, falls, offsets_of, where_allowed, arguments_on, class_want, result_types}
-use Rattle.rules.specs.Constants.{load_constant, load_wide_constant, get_static, put_static, get_field, put_field, invoke_static, invoke_virtual, invoke_interface, static_call, call_on, may_invoke_interface, new_array, new_reference_array, new_multi_array, check_cast, instance_of, is_init_name, constructor_call, special_call, invoke_special, new_object}
+use Rattle.rules.specs.Plans.{Plan, pops, makes, constructs, calls_special, sizes, number, refuses, falls, offsets_of, where_judged, where_allowed, call_of, gives, arguments_on, class_want, result_types}
+use Rattle.rules.specs.Constants.{load_dynamic, load_constant, load_wide_constant, get_static, put_static, get_field, put_field, invoke_static, invoke_virtual, invoke_interface, static_call, call_on, may_invoke_interface, new_array, new_reference_array, new_multi_array, check_cast, instance_of, is_init_name, constructor_call, special_call, invoke_special, is_special_name, dynamic_call, invoke_dynamic, new_object}
 use Rattle.rules.specs.Table.{plan, return_number, return_reference, return_nothing, leaves_with}
 use Rattle.rules.specs.Ways.{goes_on, branch_offsets}
 
@@ -41,47 +41,55 @@ direct a p e b = record { falls_on = e; branches = b }
 
 -- ---- constants
 
-loaded : (c : Option Entry) → GoesOn (load_constant c)
-loaded None = on (load_constant None) refl refl
-loaded (Some (entries.Utf8 text)) = on (load_constant (Some (entries.Utf8 text))) refl refl
-loaded (Some (entries.Integer bits)) = on (load_constant (Some (entries.Integer bits))) refl refl
-loaded (Some (entries.Float bits)) = on (load_constant (Some (entries.Float bits))) refl refl
-loaded (Some (entries.Long high low)) = on (load_constant (Some (entries.Long high low))) refl refl
-loaded (Some (entries.Double high low)) = on (load_constant (Some (entries.Double high low))) refl refl
-loaded (Some (entries.Class name)) = on (load_constant (Some (entries.Class name))) refl refl
-loaded (Some (entries.String text)) = on (load_constant (Some (entries.String text))) refl refl
-loaded (Some (entries.Fieldref class name_and_type)) = on (load_constant (Some (entries.Fieldref class name_and_type))) refl refl
-loaded (Some (entries.Methodref class name_and_type)) = on (load_constant (Some (entries.Methodref class name_and_type))) refl refl
-loaded (Some (entries.InterfaceMethodref class name_and_type)) = on (load_constant (Some (entries.InterfaceMethodref class name_and_type))) refl refl
-loaded (Some (entries.NameAndType name descriptor)) = on (load_constant (Some (entries.NameAndType name descriptor))) refl refl
-loaded (Some (entries.MethodHandle kind reference)) = on (load_constant (Some (entries.MethodHandle kind reference))) refl refl
-loaded (Some (entries.MethodType descriptor)) = on (load_constant (Some (entries.MethodType descriptor))) refl refl
-loaded (Some (entries.Dynamic bootstrap name)) = on (load_constant (Some (entries.Dynamic bootstrap name))) refl refl
-loaded (Some (entries.InvokeDynamic bootstrap name)) = on (load_constant (Some (entries.InvokeDynamic bootstrap name))) refl refl
-loaded (Some entries.Unusable) = on (load_constant (Some entries.Unusable)) refl refl
-
-loaded_wide : (c : Option Entry) → GoesOn (load_wide_constant c)
-loaded_wide None = on (load_wide_constant None) refl refl
-loaded_wide (Some (entries.Utf8 text)) = on (load_wide_constant (Some (entries.Utf8 text))) refl refl
-loaded_wide (Some (entries.Integer bits)) = on (load_wide_constant (Some (entries.Integer bits))) refl refl
-loaded_wide (Some (entries.Float bits)) = on (load_wide_constant (Some (entries.Float bits))) refl refl
-loaded_wide (Some (entries.Long high low)) = on (load_wide_constant (Some (entries.Long high low))) refl refl
-loaded_wide (Some (entries.Double high low)) = on (load_wide_constant (Some (entries.Double high low))) refl refl
-loaded_wide (Some (entries.Class name)) = on (load_wide_constant (Some (entries.Class name))) refl refl
-loaded_wide (Some (entries.String text)) = on (load_wide_constant (Some (entries.String text))) refl refl
-loaded_wide (Some (entries.Fieldref class name_and_type)) = on (load_wide_constant (Some (entries.Fieldref class name_and_type))) refl refl
-loaded_wide (Some (entries.Methodref class name_and_type)) = on (load_wide_constant (Some (entries.Methodref class name_and_type))) refl refl
-loaded_wide (Some (entries.InterfaceMethodref class name_and_type)) = on (load_wide_constant (Some (entries.InterfaceMethodref class name_and_type))) refl refl
-loaded_wide (Some (entries.NameAndType name descriptor)) = on (load_wide_constant (Some (entries.NameAndType name descriptor))) refl refl
-loaded_wide (Some (entries.MethodHandle kind reference)) = on (load_wide_constant (Some (entries.MethodHandle kind reference))) refl refl
-loaded_wide (Some (entries.MethodType descriptor)) = on (load_wide_constant (Some (entries.MethodType descriptor))) refl refl
-loaded_wide (Some (entries.Dynamic bootstrap name)) = on (load_wide_constant (Some (entries.Dynamic bootstrap name))) refl refl
-loaded_wide (Some (entries.InvokeDynamic bootstrap name)) = on (load_wide_constant (Some (entries.InvokeDynamic bootstrap name))) refl refl
-loaded_wide (Some entries.Unusable) = on (load_wide_constant (Some entries.Unusable)) refl refl
-
 allowed : (b : Bool) (p : Plan) → GoesOn p → GoesOn (where_allowed b p)
 allowed true p g = g
 allowed false p g = on (refuses 66) refl refl
+
+judged : (b : Bool) (p : Plan) → GoesOn p → GoesOn (where_judged b p)
+judged true p g = g
+judged false p g = on (refuses 60) refl refl
+
+computed : (units : ℕ) (type : Option FieldDescriptor) → GoesOn (load_dynamic units type)
+computed units None = on (refuses 66) refl refl
+computed units (Some type) = allowed (nat_eq (field_width type) units) (gives (descriptor_type type)) (record { falls_on = refl; nowhere = refl })
+
+loaded : (m : Method Act) (type : Option FieldDescriptor) (c : Option Entry) → GoesOn (load_constant m type c)
+loaded m type None = on (load_constant m type None) refl refl
+loaded m type (Some (entries.Utf8 text)) = on (load_constant m type (Some (entries.Utf8 text))) refl refl
+loaded m type (Some (entries.Integer bits)) = on (load_constant m type (Some (entries.Integer bits))) refl refl
+loaded m type (Some (entries.Float bits)) = on (load_constant m type (Some (entries.Float bits))) refl refl
+loaded m type (Some (entries.Long high low)) = on (load_constant m type (Some (entries.Long high low))) refl refl
+loaded m type (Some (entries.Double high low)) = on (load_constant m type (Some (entries.Double high low))) refl refl
+loaded m type (Some (entries.Class name)) = on (load_constant m type (Some (entries.Class name))) refl refl
+loaded m type (Some (entries.String text)) = on (load_constant m type (Some (entries.String text))) refl refl
+loaded m type (Some (entries.Fieldref class name_and_type)) = on (load_constant m type (Some (entries.Fieldref class name_and_type))) refl refl
+loaded m type (Some (entries.Methodref class name_and_type)) = on (load_constant m type (Some (entries.Methodref class name_and_type))) refl refl
+loaded m type (Some (entries.InterfaceMethodref class name_and_type)) = on (load_constant m type (Some (entries.InterfaceMethodref class name_and_type))) refl refl
+loaded m type (Some (entries.NameAndType name descriptor)) = on (load_constant m type (Some (entries.NameAndType name descriptor))) refl refl
+loaded m type (Some (entries.MethodHandle kind reference)) = on (load_constant m type (Some (entries.MethodHandle kind reference))) refl refl
+loaded m type (Some (entries.MethodType descriptor)) = on (load_constant m type (Some (entries.MethodType descriptor))) refl refl
+loaded m type (Some (entries.Dynamic bootstrap name)) = judged m.dynamic (load_dynamic 1 type) (computed 1 type)
+loaded m type (Some (entries.InvokeDynamic bootstrap name)) = on (load_constant m type (Some (entries.InvokeDynamic bootstrap name))) refl refl
+loaded m type (Some entries.Unusable) = on (load_constant m type (Some entries.Unusable)) refl refl
+
+loaded_wide : (m : Method Act) (type : Option FieldDescriptor) (c : Option Entry) → GoesOn (load_wide_constant m type c)
+loaded_wide m type None = on (load_wide_constant m type None) refl refl
+loaded_wide m type (Some (entries.Utf8 text)) = on (load_wide_constant m type (Some (entries.Utf8 text))) refl refl
+loaded_wide m type (Some (entries.Integer bits)) = on (load_wide_constant m type (Some (entries.Integer bits))) refl refl
+loaded_wide m type (Some (entries.Float bits)) = on (load_wide_constant m type (Some (entries.Float bits))) refl refl
+loaded_wide m type (Some (entries.Long high low)) = on (load_wide_constant m type (Some (entries.Long high low))) refl refl
+loaded_wide m type (Some (entries.Double high low)) = on (load_wide_constant m type (Some (entries.Double high low))) refl refl
+loaded_wide m type (Some (entries.Class name)) = on (load_wide_constant m type (Some (entries.Class name))) refl refl
+loaded_wide m type (Some (entries.String text)) = on (load_wide_constant m type (Some (entries.String text))) refl refl
+loaded_wide m type (Some (entries.Fieldref class name_and_type)) = on (load_wide_constant m type (Some (entries.Fieldref class name_and_type))) refl refl
+loaded_wide m type (Some (entries.Methodref class name_and_type)) = on (load_wide_constant m type (Some (entries.Methodref class name_and_type))) refl refl
+loaded_wide m type (Some (entries.InterfaceMethodref class name_and_type)) = on (load_wide_constant m type (Some (entries.InterfaceMethodref class name_and_type))) refl refl
+loaded_wide m type (Some (entries.NameAndType name descriptor)) = on (load_wide_constant m type (Some (entries.NameAndType name descriptor))) refl refl
+loaded_wide m type (Some (entries.MethodHandle kind reference)) = on (load_wide_constant m type (Some (entries.MethodHandle kind reference))) refl refl
+loaded_wide m type (Some (entries.MethodType descriptor)) = on (load_wide_constant m type (Some (entries.MethodType descriptor))) refl refl
+loaded_wide m type (Some (entries.Dynamic bootstrap name)) = judged m.dynamic (load_dynamic 2 type) (computed 2 type)
+loaded_wide m type (Some (entries.InvokeDynamic bootstrap name)) = on (load_wide_constant m type (Some (entries.InvokeDynamic bootstrap name))) refl refl
+loaded_wide m type (Some entries.Unusable) = on (load_wide_constant m type (Some entries.Unusable)) refl refl
 
 -- ---- fields
 
@@ -106,12 +114,19 @@ put_field_on m (Some c) = on (put_field m (Some c)) refl refl
 call_goes : (t : ReferenceType) (c : MethodConstant) → GoesOn (call_on t c)
 call_goes t c = record { falls_on = refl; nowhere = refl }
 
-static_goes : (c : MethodConstant) → GoesOn (static_call c)
-static_goes c = record { falls_on = refl; nowhere = refl }
+static_goes : (t : MethodDescriptor) → GoesOn (call_of t)
+static_goes t = record { falls_on = refl; nowhere = refl }
 
 static_on : (major : ℕ) (o : Option MethodConstant) → GoesOn (invoke_static major o)
 static_on major None = on (invoke_static major None) refl refl
-static_on major (Some c) = allowed _ (static_call c) (static_goes c)
+static_on major (Some c) = allowed _ (static_call c) (static_goes c.type)
+
+site_goes : (o : Option CallSite) → GoesOn (dynamic_call o)
+site_goes None = on (refuses 66) refl refl
+site_goes (Some c) = allowed (not (is_special_name c)) (call_of c.type) (static_goes c.type)
+
+site_on : (m : Method Act) (o : Option CallSite) → GoesOn (invoke_dynamic m o)
+site_on m o = judged m.dynamic (dynamic_call o) (site_goes o)
 
 virtual_on : (o : Option MethodConstant) → GoesOn (invoke_virtual o)
 virtual_on None = on (invoke_virtual None) refl refl
@@ -217,8 +232,12 @@ way_of m acts.ArrayLength = at_once m acts.ArrayLength refl refl
 way_of m acts.Throw = at_once m acts.Throw refl refl
 way_of m acts.Monitor = at_once m acts.Monitor refl refl
 way_of m acts.Unsupported = at_once m acts.Unsupported refl refl
-way_of m (acts.LoadConstant i) = plain (acts.LoadConstant i) (load_constant (constant_at m.constant_pool i)) refl refl (loaded (constant_at m.constant_pool i))
-way_of m (acts.LoadWideConstant i) = plain (acts.LoadWideConstant i) (load_wide_constant (constant_at m.constant_pool i)) refl refl (loaded_wide (constant_at m.constant_pool i))
+way_of m (acts.LoadConstant i) =
+    plain (acts.LoadConstant i) (load_constant m (dynamic_type_at m.constant_pool i) (constant_at m.constant_pool i)) refl refl
+    (loaded m (dynamic_type_at m.constant_pool i) (constant_at m.constant_pool i))
+way_of m (acts.LoadWideConstant i) =
+    plain (acts.LoadWideConstant i) (load_wide_constant m (dynamic_type_at m.constant_pool i) (constant_at m.constant_pool i)) refl refl
+    (loaded_wide m (dynamic_type_at m.constant_pool i) (constant_at m.constant_pool i))
 way_of m (acts.GetStatic i) = plain (acts.GetStatic i) (get_static (field_at m.constant_pool i)) refl refl (get_static_on (field_at m.constant_pool i))
 way_of m (acts.PutStatic i) = plain (acts.PutStatic i) (put_static (field_at m.constant_pool i)) refl refl (put_static_on (field_at m.constant_pool i))
 way_of m (acts.GetField i) = plain (acts.GetField i) (get_field (field_at m.constant_pool i)) refl refl (get_field_on (field_at m.constant_pool i))
@@ -226,6 +245,7 @@ way_of m (acts.PutField i) = plain (acts.PutField i) (put_field m (field_at m.co
 way_of m (acts.InvokeVirtual i) = plain (acts.InvokeVirtual i) (invoke_virtual (method_at m.constant_pool i)) refl refl (virtual_on (method_at m.constant_pool i))
 way_of m (acts.InvokeStatic i) = plain (acts.InvokeStatic i) (invoke_static m.major_version (method_at m.constant_pool i)) refl refl (static_on m.major_version (method_at m.constant_pool i))
 way_of m (acts.InvokeInterface i count) = plain (acts.InvokeInterface i count) (invoke_interface count (method_at m.constant_pool i)) refl refl (interface_on count (method_at m.constant_pool i))
+way_of m (acts.InvokeDynamic i) = plain (acts.InvokeDynamic i) (invoke_dynamic m (call_site_at m.constant_pool i)) refl refl (site_on m (call_site_at m.constant_pool i))
 way_of m (acts.NewArray element) = plain (acts.NewArray element) (new_array element) refl refl (array_on element)
 way_of m (acts.NewReferenceArray i) = plain (acts.NewReferenceArray i) (new_reference_array (class_at m.constant_pool i)) refl refl (references_on (class_at m.constant_pool i))
 way_of m (acts.NewMultiArray i n) = plain (acts.NewMultiArray i n) (new_multi_array n (class_at m.constant_pool i)) refl refl (multi_on n (class_at m.constant_pool i))

@@ -1,22 +1,22 @@
 -- An instruction that leaves the locals as they are: by its plan, whatever the method.
-use Rattle.std.proofs.Common.{◌≡◌, ℕ, Bool, true, false, Option, Some, None, not, ◌&&◌, nat_lt, [], ◌∷◌, refl, ap, if◌then◌else◌}
-use Rattle.names.specs.Descriptors.{FieldDescriptor, primitive, class as class_descriptor, array as array_descriptor}
+use Rattle.std.proofs.Common.{◌≡◌, ℕ, Bool, true, false, Option, Some, None, not, ◌&&◌, nat_lt, nat_eq, [], ◌∷◌, refl, ap, if◌then◌else◌}
+use Rattle.names.specs.Descriptors.{FieldDescriptor, primitive, class as class_descriptor, array as array_descriptor, field_width}
 use Rattle.names.specs.declared.base.Primitive.{Primitive}
 use Rattle.names.specs.ReferenceTypes.{ReferenceType, is_class_type, descriptor_of, dimensions_of}
 use Rattle.classfile.specs.Methods.{Method}
 use Rattle.pool.specs.Entries as entries
 use Rattle.pool.specs.Entries.{Entry}
-use Rattle.pool.specs.Members.{FieldConstant, MethodConstant, constant_at, class_at, field_at, method_at}
+use Rattle.pool.specs.Members.{FieldConstant, MethodConstant, CallSite, constant_at, class_at, field_at, method_at, dynamic_type_at, call_site_at}
 use Rattle.insn.specs.declared.operation.Kind.{Kind}
 use Rattle.insn.specs.declared.operation.Kind.TheVariants as kinds
 use Rattle.insn.specs.Meanings as acts
 use Rattle.insn.specs.Meanings.{Act}
 use Rattle.insn.specs.Stacks.{same_kind, computed_as}
 use Rattle.frames.specs.VerificationType.{array}
-use Rattle.frames.specs.Slots.{to_reference}
+use Rattle.frames.specs.Slots.{to_reference, descriptor_type}
 use Rattle.frames.specs.FrameFact.{FrameFact}
-use Rattle.rules.specs.Plans.{Plan, number, pops, loads, stores, counts, rearranges, loads_element, makes, constructs, calls_special, returns, refuses, sizes, where_allowed}
-use Rattle.rules.specs.Constants.{load_constant, load_wide_constant, get_static, put_static, get_field, put_field, is_init_name, may_name, has_room_for_receiver, static_call, call_on, may_invoke_interface, invoke_static, invoke_virtual, invoke_interface, new_array, new_reference_array, new_multi_array, check_cast, instance_of}
+use Rattle.rules.specs.Plans.{Plan, number, pops, loads, stores, counts, rearranges, loads_element, makes, constructs, calls_special, returns, refuses, gives, sizes, call_of, where_judged, where_allowed}
+use Rattle.rules.specs.Constants.{load_dynamic, load_constant, load_wide_constant, get_static, put_static, get_field, put_field, is_init_name, may_name, has_room_for_receiver, static_call, call_on, may_invoke_interface, invoke_static, invoke_virtual, invoke_interface, is_special_name, dynamic_call, invoke_dynamic, new_array, new_reference_array, new_multi_array, check_cast, instance_of}
 use Rattle.rules.specs.Table.{plan, leaves_with, return_number, return_reference, return_nothing}
 use Rattle.rules.specs.After.{after, stored}
 use Rattle.rules.specs.Ways.{keeps_locals, stored_to}
@@ -46,43 +46,51 @@ allowed : (b : Bool) (p : Plan) → changes_none p ≡ true → changes_none (wh
 allowed true p e = e
 allowed false p e = refl
 
-constant_none : (c : Option Entry) → changes_none (load_constant c) ≡ true
-constant_none None = refl
-constant_none (Some (entries.Utf8 text)) = refl
-constant_none (Some (entries.Integer bits)) = refl
-constant_none (Some (entries.Float bits)) = refl
-constant_none (Some (entries.Long high low)) = refl
-constant_none (Some (entries.Double high low)) = refl
-constant_none (Some (entries.Class name)) = refl
-constant_none (Some (entries.String text)) = refl
-constant_none (Some (entries.Fieldref class name_and_type)) = refl
-constant_none (Some (entries.Methodref class name_and_type)) = refl
-constant_none (Some (entries.InterfaceMethodref class name_and_type)) = refl
-constant_none (Some (entries.NameAndType name descriptor)) = refl
-constant_none (Some (entries.MethodHandle kind reference)) = refl
-constant_none (Some (entries.MethodType descriptor)) = refl
-constant_none (Some (entries.Dynamic bootstrap name)) = refl
-constant_none (Some (entries.InvokeDynamic bootstrap name)) = refl
-constant_none (Some entries.Unusable) = refl
+judged : (b : Bool) (p : Plan) → changes_none p ≡ true → changes_none (where_judged b p) ≡ true
+judged true p e = e
+judged false p e = refl
 
-wide_none : (c : Option Entry) → changes_none (load_wide_constant c) ≡ true
-wide_none None = refl
-wide_none (Some (entries.Utf8 text)) = refl
-wide_none (Some (entries.Integer bits)) = refl
-wide_none (Some (entries.Float bits)) = refl
-wide_none (Some (entries.Long high low)) = refl
-wide_none (Some (entries.Double high low)) = refl
-wide_none (Some (entries.Class name)) = refl
-wide_none (Some (entries.String text)) = refl
-wide_none (Some (entries.Fieldref class name_and_type)) = refl
-wide_none (Some (entries.Methodref class name_and_type)) = refl
-wide_none (Some (entries.InterfaceMethodref class name_and_type)) = refl
-wide_none (Some (entries.NameAndType name descriptor)) = refl
-wide_none (Some (entries.MethodHandle kind reference)) = refl
-wide_none (Some (entries.MethodType descriptor)) = refl
-wide_none (Some (entries.Dynamic bootstrap name)) = refl
-wide_none (Some (entries.InvokeDynamic bootstrap name)) = refl
-wide_none (Some entries.Unusable) = refl
+computed_none : (units : ℕ) (type : Option FieldDescriptor) → changes_none (load_dynamic units type) ≡ true
+computed_none units None = refl
+computed_none units (Some type) = allowed (nat_eq (field_width type) units) (gives (descriptor_type type)) refl
+
+constant_none : (m : Method Act) (type : Option FieldDescriptor) (c : Option Entry) → changes_none (load_constant m type c) ≡ true
+constant_none m type None = refl
+constant_none m type (Some (entries.Utf8 text)) = refl
+constant_none m type (Some (entries.Integer bits)) = refl
+constant_none m type (Some (entries.Float bits)) = refl
+constant_none m type (Some (entries.Long high low)) = refl
+constant_none m type (Some (entries.Double high low)) = refl
+constant_none m type (Some (entries.Class name)) = refl
+constant_none m type (Some (entries.String text)) = refl
+constant_none m type (Some (entries.Fieldref class name_and_type)) = refl
+constant_none m type (Some (entries.Methodref class name_and_type)) = refl
+constant_none m type (Some (entries.InterfaceMethodref class name_and_type)) = refl
+constant_none m type (Some (entries.NameAndType name descriptor)) = refl
+constant_none m type (Some (entries.MethodHandle kind reference)) = refl
+constant_none m type (Some (entries.MethodType descriptor)) = refl
+constant_none m type (Some (entries.Dynamic bootstrap name)) = judged m.dynamic (load_dynamic 1 type) (computed_none 1 type)
+constant_none m type (Some (entries.InvokeDynamic bootstrap name)) = refl
+constant_none m type (Some entries.Unusable) = refl
+
+wide_none : (m : Method Act) (type : Option FieldDescriptor) (c : Option Entry) → changes_none (load_wide_constant m type c) ≡ true
+wide_none m type None = refl
+wide_none m type (Some (entries.Utf8 text)) = refl
+wide_none m type (Some (entries.Integer bits)) = refl
+wide_none m type (Some (entries.Float bits)) = refl
+wide_none m type (Some (entries.Long high low)) = refl
+wide_none m type (Some (entries.Double high low)) = refl
+wide_none m type (Some (entries.Class name)) = refl
+wide_none m type (Some (entries.String text)) = refl
+wide_none m type (Some (entries.Fieldref class name_and_type)) = refl
+wide_none m type (Some (entries.Methodref class name_and_type)) = refl
+wide_none m type (Some (entries.InterfaceMethodref class name_and_type)) = refl
+wide_none m type (Some (entries.NameAndType name descriptor)) = refl
+wide_none m type (Some (entries.MethodHandle kind reference)) = refl
+wide_none m type (Some (entries.MethodType descriptor)) = refl
+wide_none m type (Some (entries.Dynamic bootstrap name)) = judged m.dynamic (load_dynamic 2 type) (computed_none 2 type)
+wide_none m type (Some (entries.InvokeDynamic bootstrap name)) = refl
+wide_none m type (Some entries.Unusable) = refl
 
 number_none : (kind : Kind) (b : Bool) → changes_none (if b then leaves_with (number kind) else refuses 76) ≡ true
 number_none kind true = refl
@@ -124,6 +132,13 @@ static_none : (major : ℕ) (c : Option MethodConstant) → changes_none (invoke
 static_none major None = refl
 static_none major (Some c) = allowed (is_class_type c.class && (not (is_init_name c) && may_name major c.interface)) (static_call c) refl
 
+dynamic_none : (c : Option CallSite) → changes_none (dynamic_call c) ≡ true
+dynamic_none None = refl
+dynamic_none (Some c) = allowed (not (is_special_name c)) (call_of c.type) refl
+
+site_none : (m : Method Act) (c : Option CallSite) → changes_none (invoke_dynamic m c) ≡ true
+site_none m c = judged m.dynamic (dynamic_call c) (dynamic_none c)
+
 virtual_none : (c : Option MethodConstant) → changes_none (invoke_virtual c) ≡ true
 virtual_none None = refl
 virtual_none (Some c) = allowed (not c.interface && (not (is_init_name c) && has_room_for_receiver c)) (call_on c.class c) refl
@@ -158,8 +173,8 @@ pub by_plan : (m : Method Act) (a : Act) → keeps_locals a ≡ true → changes
 by_plan m acts.Nothing e = refl
 by_plan m (acts.Constant kind) e = refl
 by_plan m acts.ConstantNull e = refl
-by_plan m (acts.LoadConstant i) e = constant_none (constant_at m.constant_pool i)
-by_plan m (acts.LoadWideConstant i) e = wide_none (constant_at m.constant_pool i)
+by_plan m (acts.LoadConstant i) e = constant_none m (dynamic_type_at m.constant_pool i) (constant_at m.constant_pool i)
+by_plan m (acts.LoadWideConstant i) e = wide_none m (dynamic_type_at m.constant_pool i) (constant_at m.constant_pool i)
 by_plan m (acts.Load kind n) e = refl
 by_plan m (acts.LoadReference n) e = refl
 by_plan m (acts.Store kind n) e = cc
@@ -184,6 +199,7 @@ by_plan m (acts.InvokeVirtual i) e = virtual_none (method_at m.constant_pool i)
 by_plan m (acts.InvokeSpecial i) e = cc
 by_plan m (acts.InvokeStatic i) e = static_none m.major_version (method_at m.constant_pool i)
 by_plan m (acts.InvokeInterface i count) e = interface_none count (method_at m.constant_pool i)
+by_plan m (acts.InvokeDynamic i) e = site_none m (call_site_at m.constant_pool i)
 by_plan m (acts.New i) e = cc
 by_plan m (acts.LoadElement p) e = refl
 by_plan m (acts.StoreElement p) e = refl
@@ -235,6 +251,7 @@ stored_by m at (acts.InvokeVirtual i) f n e = cc
 stored_by m at (acts.InvokeSpecial i) f n e = cc
 stored_by m at (acts.InvokeStatic i) f n e = cc
 stored_by m at (acts.InvokeInterface i count) f n e = cc
+stored_by m at (acts.InvokeDynamic i) f n e = cc
 stored_by m at (acts.New i) f n e = cc
 stored_by m at (acts.LoadElement p) f n e = cc
 stored_by m at (acts.StoreElement p) f n e = cc

@@ -1,6 +1,7 @@
 pub mod Elements
 mod Examples
 pub mod Going
+pub mod HeldLocals
 pub mod Holding
 pub mod Keeping
 pub mod Moving
@@ -10,6 +11,7 @@ pub mod Storing
 pub mod Taking
 pub mod Directions
 pub mod Arguments
+pub mod Changing
 pub mod Replaced
 pub mod Constructors
 pub mod SpecialCalls

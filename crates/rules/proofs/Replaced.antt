@@ -2,15 +2,13 @@
 use Rattle.std.proofs.Common.{◌≡◌, ℕ, zero, suc, ◌+◌, ◌-◌, ◌<◌, ◌≤◌, Bool, true, false, List, [], ◌∷◌, ◌++◌, length, get_or, set, drop, map, reverse, replicate, refl, sym, ◌∙◌, ap, arith, if◌then◌else◌}
 use Rattle.std.specs.Prelude.{◌==◌, ◌||◌}
 use Rattle.std.proofs.lemmas.List.{length-map, map-append, map-set, get_or-map, reverse-append, drop_more, drop_all}
-use Rattle.rules.specs.After.{is_made_at}
 use Rattle.rules.specs.Rules.{is_on_stack}
 use Rattle.frames.specs.declared.vtype.VType.{VType}
 use Rattle.frames.specs.VerificationType.{VerificationType, type_of, top, int, float, long, double, null, class, array, uninit_this, uninit}
 use Rattle.frames.specs.FrameAssignable.{width_of}
 use Rattle.frames.specs.Slots.{units_of}
-use Rattle.rules.specs.Replacing.{replaced}
-use Rattle.rules.specs.Views.{stack_of, locals_of}
-use Rattle.rules.specs.Working.{held_locals}
+use Rattle.frames.specs.Objects.{is_made_at, replaced}
+use Rattle.rules.specs.Views.{stack_of}
 use Rattle.rules.proofs.Arguments.{map_reversed}
 
 -- ---- one after the other
@@ -71,17 +69,6 @@ module _ (r : VerificationType → VerificationType) (old now : List VType) (e :
   pub stack_replaced : stack_of now ≡ map r (stack_of old)
   stack_replaced = ap reverse e ∙ sym (map_reversed r (map type_of old))
 
-  tops_stay : (k : ℕ) → r top ≡ top → map r (replicate k top) ≡ replicate k top
-  tops_stay zero s = refl
-  tops_stay (suc k) s = ap (λ t. t ∷ map r (replicate k top)) s ∙ ap (λ ts. top ∷ ts) (tops_stay k s)
-
-  pub held_replaced : (m : ℕ) → r top ≡ top → held_locals now m ≡ map r (held_locals old m)
-  held_replaced m s =
-      ap (λ k. locals_of now ++ replicate (m - k) top) replaced_length
-      ∙ ap (λ ts. ts ++ replicate (m - length old) top) e
-      ∙ ap (λ ts. map r (locals_of old) ++ ts) (sym (tops_stay (m - length old) s))
-      ∙ sym (map-append r (locals_of old) (replicate (m - length old) top))
-
   pub units_replaced : ((t : VerificationType) → width_of (r t) ≡ width_of t) → units_of (stack_of now) ≡ units_of (stack_of old)
   units_replaced w = ap units_of stack_replaced ∙ by (stack_of old)
     where
@@ -130,19 +117,6 @@ replaced_width (class n) name t = refl
 replaced_width (array c) name t = refl
 replaced_width uninit_this name t = by_own name t
 replaced_width (uninit offset) name t = by_made offset name t
-
--- no object is top
-pub top_stays : (object by : VerificationType) → replaced object by top ≡ top
-top_stays top by = refl
-top_stays int by = refl
-top_stays float by = refl
-top_stays long by = refl
-top_stays double by = refl
-top_stays null by = refl
-top_stays (class n) by = refl
-top_stays (array c) by = refl
-top_stays uninit_this by = refl
-top_stays (uninit offset) by = refl
 
 -- ---- one of a stack
 

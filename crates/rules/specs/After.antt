@@ -1,5 +1,5 @@
 -- The frame after an instruction (JVMS 4.10.1.9), where its rule does not refuse it.
-use Rattle.std.specs.Prelude.{ℕ, zero, suc, Bool, true, false, ◌&&◌, ◌==◌, if◌then◌else◌, List, [], ◌∷◌, ◌++◌, map, slice_get, Option, Some, None}
+use Rattle.std.specs.Prelude.{ℕ, zero, suc, Bool, true, false, ◌&&◌, if◌then◌else◌, List, [], ◌∷◌, ◌++◌, map, slice_get, Option, Some, None}
 use Rattle.names.specs.Descriptors.{FieldDescriptor, primitive, class as class_descriptor, array as array_descriptor}
 use Rattle.classfile.specs.Methods.{Method}
 use Rattle.insn.specs.declared.stack.StackPlace.{StackPlace}
@@ -10,6 +10,7 @@ use Rattle.insn.specs.Meanings.{Act}
 use Rattle.frames.specs.VerificationType.{VerificationType, top, int, float, long, double, null, class, array, uninit_this, uninit}
 use Rattle.frames.specs.FrameFact.{FrameFact}
 use Rattle.frames.specs.Slots.{is_wide}
+use Rattle.frames.specs.Objects.{is_made_at, is_initialized}
 use Rattle.rules.specs.Plans.{Want, Plan, pops, loads, stores, counts, rearranges, loads_element, makes, constructs, calls_special, returns, refuses}
 
 -- ---- the stack
@@ -101,28 +102,9 @@ element_of _ = top
 
 -- ---- objects that are not initialized
 
--- is it the object that the `new` at this offset has made
-abbrev pub is_made_at : ℕ → VerificationType → Bool
-is_made_at at top = false
-is_made_at at int = false
-is_made_at at float = false
-is_made_at at long = false
-is_made_at at double = false
-is_made_at at null = false
-is_made_at at (class name) = false
-is_made_at at (array component) = false
-is_made_at at uninit_this = false
-is_made_at at (uninit offset) = at == offset
-
 -- what a `new` at this offset leaves of what an earlier pass over it has made
 abbrev pub forgotten : ℕ → VerificationType → VerificationType
 forgotten at t = if is_made_at at t then top else t
-
--- is it the object that a constructor was called on
-abbrev pub is_initialized : VerificationType → VerificationType → Bool
-is_initialized uninit_this uninit_this = true
-is_initialized (uninit at) t = is_made_at at t
-is_initialized _ _ = false
 
 -- an object of which a constructor has returned is of its class from then on
 abbrev pub initialized : VerificationType → List ℕ → VerificationType → VerificationType

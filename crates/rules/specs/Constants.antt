@@ -1,37 +1,44 @@
 -- Plans of instructions that name constants (JVMS 4.10.1.9). A constant that an instruction may not name is refused by wrong_constant (66).
 use Rattle.std.specs.Prelude.{ℕ, Bool, true, false, not, ◌&&◌, ◌||◌, nat_lt, nat_eq, bytes_eq, if◌then◌else◌, List, [], ◌∷◌, Option, Some, None}
 use Rattle.names.specs.declared.base.Primitive.{Primitive}
-use Rattle.names.specs.Descriptors.{primitive, method_width}
+use Rattle.names.specs.Names.{less_than}
+use Rattle.names.specs.Descriptors.{FieldDescriptor, primitive, field_width, method_width}
 use Rattle.names.specs.ReferenceTypes.{ReferenceType, class_type, array_type, descriptor_of, dimensions_of, is_class_type}
 use Rattle.names.specs.StandardNames.{object_name, init_name, string_name, class_name, method_type_name, method_handle_name}
 use Rattle.pool.specs.Entries as entries
 use Rattle.pool.specs.Entries.{Entry}
-use Rattle.pool.specs.Members.{FieldConstant, MethodConstant}
+use Rattle.pool.specs.Members.{FieldConstant, MethodConstant, CallSite}
 use Rattle.classfile.specs.Methods.{Method, is_own_field}
+use Rattle.classfile.specs.Naming.{begins_with}
 use Rattle.insn.specs.declared.operation.Kind.TheVariants as kinds
 use Rattle.insn.specs.Meanings.{Act}
 use Rattle.frames.specs.VerificationType.{int, float, long, double, class, array}
 use Rattle.frames.specs.Slots.{to_reference, descriptor_type}
-use Rattle.rules.specs.ReasonNumbers.{not_supported, wrong_constant}
-use Rattle.rules.specs.Plans.{Want, number, own_or_assignable_to, Plan, pops, makes, constructs, calls_special, refuses, takes, gives, class_want, assignable_to, sizes, want_of, arguments_on, result_types, where_allowed}
+use Rattle.rules.specs.ReasonNumbers.{wrong_constant}
+use Rattle.rules.specs.Plans.{Want, number, own_or_assignable_to, Plan, pops, makes, constructs, calls_special, refuses, takes, gives, class_want, assignable_to, sizes, want_of, arguments_on, result_types, call_of, where_judged, where_allowed}
 
--- ---- ldc, ldc_w and ldc2_w; dynamic constants are not supported
+-- ---- ldc, ldc_w and ldc2_w; a Dynamic constant has a type of its own
 
-abbrev pub load_constant : Option Entry → Plan
-load_constant (Some (entries.Integer bits)) = gives int
-load_constant (Some (entries.Float bits)) = gives float
-load_constant (Some (entries.String text)) = gives (class string_name)
-load_constant (Some (entries.Class name)) = gives (class class_name)
-load_constant (Some (entries.MethodType descriptor)) = gives (class method_type_name)
-load_constant (Some (entries.MethodHandle kind target)) = gives (class method_handle_name)
-load_constant (Some (entries.Dynamic bootstrap name)) = refuses not_supported
-load_constant _ = refuses wrong_constant
+-- a value of a type that takes so many units
+abbrev pub load_dynamic : ℕ → Option FieldDescriptor → Plan
+load_dynamic units (Some type) = where_allowed (nat_eq (field_width type) units) (gives (descriptor_type type))
+load_dynamic units None = refuses wrong_constant
 
-abbrev pub load_wide_constant : Option Entry → Plan
-load_wide_constant (Some (entries.Long high low)) = gives long
-load_wide_constant (Some (entries.Double high low)) = gives double
-load_wide_constant (Some (entries.Dynamic bootstrap name)) = refuses not_supported
-load_wide_constant _ = refuses wrong_constant
+abbrev pub load_constant : Method Act → Option FieldDescriptor → Option Entry → Plan
+load_constant m type (Some (entries.Integer bits)) = gives int
+load_constant m type (Some (entries.Float bits)) = gives float
+load_constant m type (Some (entries.String text)) = gives (class string_name)
+load_constant m type (Some (entries.Class name)) = gives (class class_name)
+load_constant m type (Some (entries.MethodType descriptor)) = gives (class method_type_name)
+load_constant m type (Some (entries.MethodHandle kind target)) = gives (class method_handle_name)
+load_constant m type (Some (entries.Dynamic bootstrap name)) = where_judged m.dynamic (load_dynamic 1 type)
+load_constant m type _ = refuses wrong_constant
+
+abbrev pub load_wide_constant : Method Act → Option FieldDescriptor → Option Entry → Plan
+load_wide_constant m type (Some (entries.Long high low)) = gives long
+load_wide_constant m type (Some (entries.Double high low)) = gives double
+load_wide_constant m type (Some (entries.Dynamic bootstrap name)) = where_judged m.dynamic (load_dynamic 2 type)
+load_wide_constant m type _ = refuses wrong_constant
 
 -- ---- fields
 
@@ -72,7 +79,7 @@ abbrev pub call_on : ReferenceType → MethodConstant → Plan
 call_on receiver c = pops (arguments_on c.type.params (assignable_to receiver ∷ [])) (result_types c.type.result) [] true
 
 abbrev pub static_call : MethodConstant → Plan
-static_call c = pops (arguments_on c.type.params []) (result_types c.type.result) [] true
+static_call c = call_of c.type
 
 abbrev pub invoke_static : ℕ → Option MethodConstant → Plan
 invoke_static major (Some c) = where_allowed (is_class_type c.class && (not (is_init_name c) && may_name major c.interface)) (static_call c)
@@ -105,6 +112,17 @@ special_call major me c =
 abbrev pub invoke_special : ℕ → List ℕ → Option MethodConstant → Plan
 invoke_special major me (Some c) = if is_init_name c then constructor_call c c.class else special_call major me c
 invoke_special major me None = refuses wrong_constant
+
+-- `<init>`, `<clinit>` and other names that begin with '<' are not those of a call site
+abbrev pub is_special_name : CallSite → Bool
+is_special_name c = begins_with less_than c.name
+
+abbrev pub dynamic_call : Option CallSite → Plan
+dynamic_call (Some c) = where_allowed (not (is_special_name c)) (call_of c.type)
+dynamic_call None = refuses wrong_constant
+
+abbrev pub invoke_dynamic : Method Act → Option CallSite → Plan
+invoke_dynamic m c = where_judged m.dynamic (dynamic_call c)
 
 -- ---- objects and arrays
 

@@ -1,7 +1,14 @@
 -- The frame that is meant by one that instructions are run on.
+use Rattle.std.specs.Prelude.{ℕ}
 use Rattle.frames.specs.FrameFact.{FrameFact}
+use Rattle.frames.specs.Locals as frames
+use Rattle.frames.specs.Locals.{locals_in}
+use Rattle.rules.specs.Views.{stack_of}
 use Rattle.rules.specs.declared.working.Working.{Working}
-use Rattle.rules.specs.Working.{held_frame}
 
 abbrev pub held : Working → FrameFact
-held w = held_frame w.locals.items w.max_locals w.stack.items w.flag
+held w = record { locals = locals_in w.locals w.max_locals; stack = stack_of w.stack.items; flag = w.flag }
+
+-- the local is among those that came to hold an object which is not initialized, from a place on
+unfoldable pub IsHolder : Working → ℕ → ℕ → Type 0
+IsHolder w at i = frames.IsHolder w.locals at i

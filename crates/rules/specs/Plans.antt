@@ -1,7 +1,7 @@
 -- The plan of an instruction: what its rule asks of the frame before it and does to it, family by family (JVMS 4.10.1.9).
 use Rattle.std.specs.Prelude.{ℕ, zero, suc, ℤ, Bool, true, false, if◌then◌else◌, List, [], ◌∷◌, map, Option, Some, None, nat_eq, not}
 use Rattle.names.specs.declared.base.Primitive.{Primitive}
-use Rattle.names.specs.Descriptors.{FieldDescriptor, primitive, class as class_descriptor, array as array_descriptor}
+use Rattle.names.specs.Descriptors.{FieldDescriptor, MethodDescriptor, primitive, class as class_descriptor, array as array_descriptor}
 use Rattle.names.specs.ReferenceTypes.{ReferenceType, class_type, array_type}
 use Rattle.insn.specs.declared.operation.Kind.{Kind}
 use Rattle.insn.specs.declared.operation.Kind.TheVariants as kinds
@@ -10,7 +10,7 @@ use Rattle.insn.specs.Stacks.{computed_as}
 use Rattle.insn.specs.Offsets.{led_to}
 use Rattle.frames.specs.VerificationType.{VerificationType}
 use Rattle.frames.specs.Slots.{descriptor_type}
-use Rattle.rules.specs.ReasonNumbers.{wrong_constant, wrong_return}
+use Rattle.rules.specs.ReasonNumbers.{not_supported, wrong_constant, wrong_return}
 
 -- what is asked of the type of an operand or local variable
 pub data Want : Type 0 where
@@ -76,6 +76,14 @@ arguments_on (t ∷ ts) beneath = arguments_on ts (want_of t ∷ beneath)
 abbrev pub result_types : Option FieldDescriptor → List VerificationType
 result_types None = []
 result_types (Some t) = descriptor_type t ∷ []
+
+-- a call without a receiver
+abbrev pub call_of : MethodDescriptor → Plan
+call_of type = pops (arguments_on type.params []) (result_types type.result) [] true
+
+-- a plan where an instruction is judged, which is refused otherwise
+abbrev pub where_judged : Bool → Plan → Plan
+where_judged judged plan = if judged then plan else refuses not_supported
 
 -- a plan where a test holds, and otherwise the constant is refused
 abbrev pub where_allowed : Bool → Plan → Plan

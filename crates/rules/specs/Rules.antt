@@ -19,7 +19,8 @@ use Rattle.frames.specs.Conditions.{Reason, reason, class_missing, with_fault, C
 use Rattle.rules.specs.ReasonNumbers.{missing_operand, wrong_operand, wrong_local, local_out_of_range, stack_over, wrong_constant, own_object_not_ready}
 use Rattle.rules.specs.Plans.{Want, number, assignable_to, any_reference, any_array, any_array_for, own_or_assignable_to, Plan, pops, loads, stores, counts, rearranges, loads_element, makes, constructs, calls_special, returns, refuses}
 use Rattle.rules.specs.Table.{class_made_at, object_array}
-use Rattle.rules.specs.After.{top_of, local_of, form_for, is_made_at, after}
+use Rattle.frames.specs.Objects.{is_made_at}
+use Rattle.rules.specs.After.{top_of, local_of, form_for, after}
 
 -- ---- operands
 

@@ -3,7 +3,7 @@ use Rattle.std.specs.Prelude.{ℕ, true, false, if◌then◌else◌, List, [], �
 use Rattle.names.specs.Descriptors.{FieldDescriptor, primitive, class as class_descriptor, array as array_descriptor}
 use Rattle.names.specs.ReferenceTypes.{class_type, array_type}
 use Rattle.names.specs.StandardNames.{object_name, throwable_name}
-use Rattle.pool.specs.Members.{constant_at, class_at, field_at, method_at}
+use Rattle.pool.specs.Members.{constant_at, class_at, field_at, method_at, dynamic_type_at, call_site_at}
 use Rattle.classfile.specs.Methods.{Method}
 use Rattle.insn.specs.declared.operation.Kind.{Kind}
 use Rattle.insn.specs.declared.operation.Kind.TheVariants as kinds
@@ -16,7 +16,7 @@ use Rattle.frames.specs.VerificationType.{int, null}
 use Rattle.frames.specs.Slots.{number_type}
 use Rattle.rules.specs.ReasonNumbers.{not_supported, wrong_return}
 use Rattle.rules.specs.Plans.{Want, number, assignable_to, any_reference, any_array, any_array_for, Plan, pops, loads, stores, counts, rearranges, loads_element, makes, returns, refuses, takes, gives, class_want, numbers}
-use Rattle.rules.specs.Constants.{load_constant, load_wide_constant, get_static, put_static, get_field, put_field, invoke_static, invoke_virtual, invoke_interface, invoke_special, new_object, new_array, new_reference_array, new_multi_array, check_cast, instance_of}
+use Rattle.rules.specs.Constants.{load_constant, load_wide_constant, get_static, put_static, get_field, put_field, invoke_static, invoke_virtual, invoke_interface, invoke_special, invoke_dynamic, new_object, new_array, new_reference_array, new_multi_array, check_cast, instance_of}
 
 -- ---- returns: an instruction of another kind than the method's result is refused by wrong_return (76)
 
@@ -51,9 +51,9 @@ plan m (acts.Constant kind) = gives (number_type kind)
 -- aconst_null
 plan m acts.ConstantNull = gives null
 -- ldc, ldc_w
-plan m (acts.LoadConstant i) = load_constant (constant_at m.constant_pool i)
+plan m (acts.LoadConstant i) = load_constant m (dynamic_type_at m.constant_pool i) (constant_at m.constant_pool i)
 -- ldc2_w
-plan m (acts.LoadWideConstant i) = load_wide_constant (constant_at m.constant_pool i)
+plan m (acts.LoadWideConstant i) = load_wide_constant m (dynamic_type_at m.constant_pool i) (constant_at m.constant_pool i)
 -- iload, iload_<n>, lload, lload_<n>, fload, fload_<n>, dload, dload_<n>
 plan m (acts.Load kind n) = loads (number kind) n (kind_units kind)
 -- aload, aload_<n>
@@ -103,6 +103,8 @@ plan m (acts.InvokeSpecial i) = invoke_special m.major_version m.class (method_a
 plan m (acts.InvokeStatic i) = invoke_static m.major_version (method_at m.constant_pool i)
 -- invokeinterface
 plan m (acts.InvokeInterface i count) = invoke_interface count (method_at m.constant_pool i)
+-- invokedynamic
+plan m (acts.InvokeDynamic i) = invoke_dynamic m (call_site_at m.constant_pool i)
 -- new
 plan m (acts.New i) = new_object (class_at m.constant_pool i)
 -- iaload, laload, faload, daload, baload, caload, saload
@@ -129,7 +131,7 @@ plan m (acts.InstanceOf i) = instance_of (class_at m.constant_pool i)
 plan m acts.Throw = leaves_with (class_want throwable_name)
 -- monitorenter, monitorexit
 plan m acts.Monitor = takes (any_reference ∷ [])
--- jsr, jsr_w, ret, invokedynamic
+-- jsr, jsr_w, ret
 plan m acts.Unsupported = refuses not_supported
 
 -- what gives an instruction's plan, in a method

@@ -1,22 +1,14 @@
 -- The frame that instructions are run on: what its fields stand for.
-use Rattle.std.specs.Prelude.{◌≡◌, ◌≤◌, ℕ, ◌+◌, ◌-◌, Bool, List, [], ◌++◌, length, replicate}
+use Rattle.std.specs.Prelude.{◌≡◌, ℕ, ◌+◌, Bool, List, [], length, replicate}
 use Rattle.frames.specs.declared.vtype.VType.{VType}
 use Rattle.frames.specs.VerificationType.{VerificationType, top}
 use Rattle.frames.specs.FrameFact.{FrameFact}
 use Rattle.frames.specs.Slots.{units_of}
-use Rattle.rules.specs.Views.{stack_of, locals_of}
-
--- locals in use, all beyond them top
-abbrev pub held_locals : List VType → ℕ → List VerificationType
-held_locals locals max_locals = locals_of locals ++ replicate (max_locals - length locals) top
-
-abbrev pub held_frame : List VType → ℕ → List VType → Bool → FrameFact
-held_frame locals max_locals stack flag = record { locals = held_locals locals max_locals; stack = stack_of stack; flag = flag }
+use Rattle.rules.specs.Views.{stack_of}
 
 -- what is counted is how many items take two units
-pub record IsCounted (locals : List VType) (max_locals : ℕ) (stack : List VType) (wides : ℕ) : Type 0 where
+pub record IsCounted (stack : List VType) (wides : ℕ) : Type 0 where
   pub units : units_of (stack_of stack) ≡ length stack + wides
-  pub few : length locals ≤ max_locals
 
 abbrev pub empty_frame : ℕ → Bool → FrameFact
 empty_frame max_locals flag = record { locals = replicate max_locals top; stack = []; flag = flag }

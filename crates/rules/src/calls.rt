@@ -1,10 +1,10 @@
 //! Instructions that call methods.
 ghost use Rattle.std.specs.Prelude.{◌≡◌, ◌&&◌, ℕ, not, true, [], map, option_map, option_to_list, IfOk};
-ghost use Rattle.names.specs.Types.{type_of};
+ghost use Rattle.names.specs.Types.{type_of, method_of};
 ghost use Rattle.names.specs.ReferenceTypes.{is_class_type};
-ghost use Rattle.pool.specs.MemberViews.{method_constant_view};
+ghost use Rattle.pool.specs.MemberViews.{method_constant_view, call_site_view};
 ghost use Rattle.rules.specs.Plans.{arguments_on, pops, result_types, want_of};
-ghost use Rattle.rules.specs.Constants.{is_init_name, may_name, has_room_for_receiver, may_invoke_interface, invoke_static, invoke_virtual, invoke_interface};
+ghost use Rattle.rules.specs.Constants.{is_init_name, may_name, has_room_for_receiver, may_invoke_interface, invoke_static, invoke_virtual, invoke_interface, is_special_name, dynamic_call, invoke_dynamic};
 ghost use Rattle.rules.specs.After.{after};
 ghost use Rattle.rules.specs.Rules.{conditions};
 ghost use Rattle.rules.specs.Bodies.{method_view};
@@ -19,8 +19,8 @@ use crate::working::Working;
 use classfile::CodeMethod;
 use frames::{VType, held_by};
 use hierarchy::Classes;
-use names::{FieldType, INIT, RefType};
-use pool::MethodConstant;
+use names::{FieldType, INIT, MethodType, RefType};
+use pool::{CallSite, MethodConstant};
 use std::alloc::{AllocError, Global};
 
 /// The wants of parameters.
@@ -64,27 +64,21 @@ pub fn result_of<'a>(result_type: Option<FieldType<'a>>) -> Option<VType<'a>>
     }
 }
 
-/// A call with its arguments on a receiver, if it has one.
+/// A call of a method of these types, with its arguments on a receiver, if it has one.
 fn calls<'a, C: Classes>(
     alloc: Global,
     method: &CodeMethod<'_, 'a>,
-    called: &MethodConstant<'a>,
+    called: &MethodType<'a>,
     receiver: Option<Want<'a>>,
     frame: &mut Working<'a>,
     classes: &C,
 ) -> Result<(), Reason<'a>>
-    ensures { (at : ℕ) → let m = method_view method.now in let f = held frame.old in let c = method_constant_view called.now in
-        let p = pops (arguments_on c.type.params (option_to_list (option_map want_view receiver.entry))) (result_types c.type.result) [] true in
+    ensures { (at : ℕ) → let m = method_view method.now in let f = held frame.old in let t = method_of called.now in
+        let p = pops (arguments_on t.params (option_to_list (option_map want_view receiver.entry))) (result_types t.result) [] true in
         Done (conditions (C.content classes.now) m at p f) (after m at p f) (held frame.new) result }
 {
-    let wants = arguments_on(alloc, &called.method_type.params, receiver)?;
-    pops(
-        method,
-        &wants,
-        result_of(called.method_type.result),
-        frame,
-        classes,
-    )
+    let wants = arguments_on(alloc, &called.params, receiver)?;
+    pops(method, &wants, result_of(called.result), frame, classes)
 }
 
 /// Whether the method is an instance initialization method by its name (JVMS 2.9.1).
@@ -142,7 +136,7 @@ pub fn invoke_static<'a, C: Classes>(
         return Err(Reason::WrongConstant);
     };
     if may_invoke_static(method.class.major_version, called) {
-        calls(alloc, method, called, None, frame, classes)
+        calls(alloc, method, &called.method_type, None, frame, classes)
     } else {
         Err(Reason::WrongConstant)
     }
@@ -173,7 +167,7 @@ pub fn invoke_virtual<'a, C: Classes>(
     };
     if may_invoke_virtual(called) {
         let receiver = Some(Want::Assignable(called.class));
-        calls(alloc, method, called, receiver, frame, classes)
+        calls(alloc, method, &called.method_type, receiver, frame, classes)
     } else {
         Err(Reason::WrongConstant)
     }
@@ -209,8 +203,60 @@ pub fn invoke_interface<'a, C: Classes>(
     };
     if may_invoke_interface(count, called) {
         let receiver = Some(Want::Assignable(called.class));
-        calls(alloc, method, called, receiver, frame, classes)
+        calls(alloc, method, &called.method_type, receiver, frame, classes)
     } else {
         Err(Reason::WrongConstant)
+    }
+}
+
+/// Whether a call site has a name that does not begin with '<', as `<init>` and `<clinit>` do (JVMS 4.10.1.9, invokedynamic).
+fn may_be_called(site: &CallSite<'_>) -> bool
+    ensures { result ≡ not (is_special_name (call_site_view site.now)) }
+{
+    match site.name {
+        [first, ..] => *first != b'<',
+        [] => true,
+    }
+}
+
+/// A call of the call site that is named, where such calls are judged.
+fn dynamic_call<'a, C: Classes>(
+    alloc: Global,
+    method: &CodeMethod<'_, 'a>,
+    named: Option<&CallSite<'a>>,
+    frame: &mut Working<'a>,
+    classes: &C,
+) -> Result<(), Reason<'a>>
+    ensures { (at : ℕ) → let m = method_view method.now in let f = held frame.old in
+        let p = dynamic_call (option_map (λ c. call_site_view c.now) named.entry) in
+        Done (conditions (C.content classes.now) m at p f) (after m at p f) (held frame.new) result }
+{
+    let Some(site) = named else {
+        return Err(Reason::WrongConstant);
+    };
+    if may_be_called(site) {
+        calls(alloc, method, &site.method_type, None, frame, classes)
+    } else {
+        Err(Reason::WrongConstant)
+    }
+}
+
+/// `invokedynamic` of the call site that it names
+#[inline(never)]
+pub fn invoke_dynamic<'a, C: Classes>(
+    alloc: Global,
+    method: &CodeMethod<'_, 'a>,
+    named: Option<&CallSite<'a>>,
+    frame: &mut Working<'a>,
+    classes: &C,
+) -> Result<(), Reason<'a>>
+    ensures { (at : ℕ) → let m = method_view method.now in let f = held frame.old in
+        let p = invoke_dynamic m (option_map (λ c. call_site_view c.now) named.entry) in
+        Done (conditions (C.content classes.now) m at p f) (after m at p f) (held frame.new) result }
+{
+    if method.dynamic {
+        dynamic_call(alloc, method, named, frame, classes)
+    } else {
+        Err(Reason::NotSupported)
     }
 }

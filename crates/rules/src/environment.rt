@@ -1,6 +1,6 @@
 //! The surroundings in which an instruction is judged: the method, its instructions, and the classes around it.
 ghost use Rattle.std.specs.Prelude.{◌≡◌, Some, IsSome};
-ghost use Rattle.classfile.specs.CodeMethods.{IsAt};
+ghost use Rattle.classfile.specs.CodeMethods.{judged_class, IsAt};
 ghost use Rattle.classfile.specs.Methods.{method_of};
 ghost use Rattle.classfile.specs.MethodParts.{code_at};
 ghost use Rattle.classfile.specs.Values.{CodeBody};
@@ -41,9 +41,9 @@ impl<'e, 'c, 'a, C: Classes> Env<'e, 'c, 'a, C> {
         requires coded { IsSome (code_at (class_view formed.now.class.now) number) }
         requires listed { (body : CodeBody) → code_at (class_view formed.now.class.now) number ≡ Some body → SpellsCode 0 body.code (views list.now) }
         // It judges by what the class file says of that method, with the instructions of the list.
-        ensures method { method_of (class_view formed.now.class.now) number (acts (views list.now)) ≡ Some (method_view result.method) }
+        ensures method { method_of (judged_class formed.now) number (acts (views list.now)) ≡ Some (method_view result.method) }
         // It holds what it was made of.
-        ensures here { IsAt formed.now.class.now number result.method }
+        ensures here { IsAt formed.now number result.method }
         ensures list { result.list.now ≡ list.now }
         ensures classes { result.classes.now ≡ classes.now }
     {

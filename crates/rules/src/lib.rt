@@ -80,6 +80,7 @@ pub use naming::Named;
 pub use own_object::constructs_own;
 pub use protected::check_member;
 pub use reason::Reason;
+pub use replacing::replaced_object;
 pub use running::{run, run_plain};
 pub use ways::{
     branches, branches_by, falls, goes_on, is_plain, keeps_locals, plans_go_as_acts, stored_to,

@@ -1,22 +1,23 @@
 //! The constant that an instruction names.
 ghost use Rattle.std.specs.Prelude.{◌≡◌, ℕ, option_map, IfOk, IfSome};
 ghost use Rattle.insn.specs.Views.{act_view};
+ghost use Rattle.names.specs.Types.{type_of};
 ghost use Rattle.pool.specs.Members.{field_at};
-ghost use Rattle.pool.specs.MemberViews.{field_constant_view, method_constant_view};
+ghost use Rattle.pool.specs.MemberViews.{field_constant_view, method_constant_view, call_site_view};
 ghost use Rattle.rules.specs.Bodies.{method_view};
-ghost use Rattle.rules.specs.Naming.{IsNamed, is_own, kept_class, kept_field, kept_own, kept_method};
+ghost use Rattle.rules.specs.Naming.{IsNamed, is_own, kept_class, kept_field, kept_own, kept_method, kept_type, kept_site};
 
 use crate::declaring_class::own_class;
 use classfile::{CodeMethod, OwnFields};
 use insn::Act;
-use names::RefType;
-use pool::{Descriptors, FieldConstant, MethodConstant};
+use names::{FieldType, RefType};
+use pool::{CallSite, Descriptors, FieldConstant, MethodConstant};
 use std::alloc::AllocError;
 
 /// The thing that an instruction names, where the constant is one that it may name.
 #[derive(Drop)]
 pub enum Named<'a> {
-    /// The instruction names no class, field or method that is looked up, or it is `new`.
+    /// The instruction names nothing that is looked up, or it is `new`.
     Nothing,
     /// The type that its Class constant names.
     Class(Option<RefType<'a>>),
@@ -28,6 +29,10 @@ pub enum Named<'a> {
     },
     /// Its method.
     Method(Option<MethodConstant<'a>>),
+    /// The type of the constant that it loads, where that is a Dynamic.
+    Computed(Option<FieldType<'a>>),
+    /// Its call site.
+    Site(Option<CallSite<'a>>),
 }
 
 impl<'a> Named<'a> {
@@ -69,6 +74,26 @@ impl<'a> Named<'a> {
     {
         match self {
             Named::Method(Some(method)) => Some(method),
+            _ => None,
+        }
+    }
+
+    /// The type of the Dynamic constant that the instruction loads.
+    pub fn computed(&self) -> Option<FieldType<'a>>
+        ensures { result ≡ kept_type self.now }
+    {
+        match self {
+            Named::Computed(computed) => *computed,
+            _ => None,
+        }
+    }
+
+    /// The call site that the instruction names.
+    pub fn site(&self) -> Option<&CallSite<'a>>
+        ensures { option_map (λ c. call_site_view c.now) result ≡ option_map call_site_view (kept_site self.now) }
+    {
+        match self {
+            Named::Site(Some(site)) => Some(site),
             _ => None,
         }
     }
@@ -129,6 +154,10 @@ pub fn named_by<'a>(
         | Act::InvokeInterface { index, .. } => Ok(Named::Method(constants.method_constant(
             index,
         )?)),
+        Act::LoadConstant { index } | Act::LoadWideConstant { index } => {
+            Ok(Named::Computed(constants.dynamic_type(index)?))
+        }
+        Act::InvokeDynamic { index } => Ok(Named::Site(constants.call_site(index)?)),
         _ => Ok(Named::Nothing),
     }
 }

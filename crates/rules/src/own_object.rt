@@ -19,11 +19,10 @@ ghost use Rattle.rules.specs.Ways.{special_index};
 
 use crate::calls::{is_init, is_of_class};
 use crate::naming::Named;
-use crate::replacing::is_own;
 use crate::special::may_construct_by;
 use crate::working::Working;
 use classfile::CodeMethod;
-use frames::VType;
+use frames::{VType, is_own};
 use insn::Act;
 use pool::MethodConstant;
 
@@ -64,7 +63,7 @@ fn calls_on_own<'a>(named: Option<&MethodConstant<'a>>, frame: &Working<'a>) -> 
 }
 
 /// The index of the method that `invokespecial` names.
-fn special_index(act: &Act<'_>) -> Option<u16>
+pub fn special_index(act: &Act<'_>) -> Option<u16>
     ensures { result ≡ special_index (act_view act.now) }
 {
     match *act {

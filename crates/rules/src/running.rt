@@ -14,7 +14,7 @@ use crate::arrays::{
     check_cast, instance_of, load_element, load_reference_element, new_array, new_multi_array,
     new_reference_array, store_element, store_reference_element,
 };
-use crate::calls::{invoke_interface, invoke_static, invoke_virtual};
+use crate::calls::{invoke_dynamic, invoke_interface, invoke_static, invoke_virtual};
 use crate::computing::{
     array_length, computes, gives_null, gives_number, takes_int, takes_ints, takes_nothing,
     takes_reference, takes_references, throws,
@@ -81,6 +81,13 @@ pub fn run<'a, S: Starts, C: Classes>(
         Act::InvokeInterface { count, .. } => {
             invoke_interface(alloc, method, named.method(), count, frame, classes)
         }
+        Act::InvokeDynamic { .. } => invoke_dynamic(alloc, method, named.site(), frame, classes),
+        Act::LoadConstant { index } => {
+            load_constant(method, index, named.computed(), frame, classes)
+        }
+        Act::LoadWideConstant { index } => {
+            load_wide_constant(method, index, named.computed(), frame, classes)
+        }
         Act::NewReferenceArray { .. } => new_reference_array(method, named.class(), frame, classes),
         Act::NewMultiArray { dimensions, .. } => {
             new_multi_array(alloc, method, named.class(), dimensions, frame, classes)
@@ -109,8 +116,6 @@ pub fn run_plain<'a, C: Classes>(
         Act::Nothing => takes_nothing(method, frame, classes),
         Act::Constant(kind) => gives_number(method, kind, frame, classes),
         Act::ConstantNull => gives_null(method, frame, classes),
-        Act::LoadConstant { index } => load_constant(method, index, frame, classes),
-        Act::LoadWideConstant { index } => load_wide_constant(method, index, frame, classes),
         Act::Load { kind, local } => loads_number(method, kind, local, frame, classes),
         Act::LoadReference { local } => loads_reference(method, local, frame, classes),
         Act::Store { kind, local } => stores_number(method, kind, local, frame, classes),

@@ -52,8 +52,8 @@ pub fn stored_to(act: &Act<'_>) -> Option<u16>
     }
 }
 
-/// Whether an instruction that means this goes on to the next one and nowhere else, is no `new`, and names no class, field or method that is
-/// looked up.
+/// Whether an instruction that means this goes on to the next one and nowhere else, is no `new`, and names no class, field, method, dynamic
+/// constant or call site that is looked up.
 pub fn is_plain(act: &Act<'_>) -> bool
     ensures { result ≡ is_plain (act_view act.now) }
 {
@@ -62,8 +62,6 @@ pub fn is_plain(act: &Act<'_>) -> bool
         Act::Nothing
             | Act::Constant(_)
             | Act::ConstantNull
-            | Act::LoadConstant { .. }
-            | Act::LoadWideConstant { .. }
             | Act::Load { .. }
             | Act::LoadReference { .. }
             | Act::Store { .. }

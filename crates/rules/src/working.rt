@@ -1,37 +1,36 @@
 //! The frame that instructions are run on.
-ghost use Rattle.std.specs.Prelude.{◌≡◌, ◌≤◌, length, OnOk, IfSome};
+ghost use Rattle.std.specs.Prelude.{◌≡◌, ℕ, map, get_or, length, OnOk, IfSome};
 ghost use Rattle.frames.specs.DeclaredTables.{declared_view, AreKept};
-ghost use Rattle.frames.specs.VerificationType.{type_of};
+ghost use Rattle.frames.specs.Locals.{local, locals_in};
+ghost use Rattle.frames.specs.VerificationType.{type_of, top};
 ghost use Rattle.rules.specs.After.{flag_after};
 ghost use Rattle.rules.specs.Views.{stack_of};
-ghost use Rattle.rules.specs.Working.{IsCounted, held_locals};
+ghost use Rattle.rules.specs.Working.{IsCounted};
 
 use crate::moves::{rearrange, wides};
 use crate::replacing::{is_among, replace};
-use crate::slots::{is_wide, reach, store};
-use frames::{Declared, Frame, VType};
+use crate::slots::{is_wide, store};
+use frames::{Declared, Frame, Holder, Locals, VType};
 use hierarchy::{Answer, Classes};
 use insn::StackForm;
 use std::alloc::{AllocError, Global};
 
-/// A frame that instructions change in place. Locals beyond those in use take no room: they are top.
+/// A frame that instructions change in place.
 #[derive(Drop)]
 pub struct Working<'a> {
-    // The local variables in use, from 0 up.
-    locals: Vec<VType<'a>>,
+    locals: Locals<'a>,
     max_locals: u16,
     // From the bottom up.
     stack: Vec<VType<'a>>,
     // How many items of the stack are a long or a double.
     wides: usize,
     flag: bool,
-    ghost counted: { IsCounted locals.items max_locals stack.items wides },
+    ghost counted: { IsCounted stack.items wides },
 }
 
 impl<'a> Working<'a> {
-    ghost use Rattle.std.specs.Prelude.{◌≡◌, ◌<◌, ◌≤◌, ◌↔◌, [], ◌∷◌, IsTrue, nat_lt, length, map, set, MatchOption, OnOk, IfOk, IfSome};
+    ghost use Rattle.std.specs.Prelude.{◌<◌, ◌≤◌, ◌≢◌, ◌↔◌, ℕ, [], ◌∷◌, IsTrue, nat_lt, length, map, set, get_or, None, IsSome, MatchOption, OnOk, IfOk, IfSome};
     ghost use Rattle.frames.specs.Slots.{units_of, is_wide};
-    ghost use Rattle.frames.specs.VerificationType.{type_of};
     ghost use Rattle.insn.specs.Stacks.{rearranged};
     ghost use Rattle.insn.specs.Views.{stack_form_view};
     ghost use Rattle.frames.specs.FrameFact.{frame_of};
@@ -40,8 +39,10 @@ impl<'a> Working<'a> {
     ghost use Rattle.rules.specs.Rules.{is_on_stack};
     ghost use Rattle.rules.specs.Outcomes.{pushed};
     ghost use Rattle.rules.specs.Views.{stack_of};
-    ghost use Rattle.rules.specs.Working.{held_frame, held_locals, empty_frame, with_locals};
-    ghost use Rattle.rules.specs.Held.{held};
+    ghost use Rattle.rules.specs.Working.{empty_frame, with_locals};
+    ghost use Rattle.rules.specs.Held.{held, IsHolder};
+    ghost use Rattle.frames.specs.HeldFrames.{held_locals, held_frame};
+    ghost use Rattle.frames.specs.Holders.{number_of};
     ghost use Rattle.hierarchy.specs.Answer.{outcome_of};
     ghost use Rattle.frames.specs.FrameAssignable.{frame_answer};
     ghost use Rattle.frames.specs.DeclaredTables.{declared_view, AreKept, AreFit};
@@ -51,7 +52,7 @@ impl<'a> Working<'a> {
         ensures { held result ≡ empty_frame max_locals flag }
     {
         Working {
-            locals: Vec::new(alloc),
+            locals: Locals::new(alloc),
             max_locals,
             stack: Vec::new(alloc),
             wides: 0,
@@ -92,8 +93,8 @@ impl<'a> Working<'a> {
     pub fn local(&self, place: usize) -> VType<'a>
         ensures { type_of result ≡ local_of place (held self.now) }
     {
-        if place < self.locals.len() {
-            self.locals[place]
+        if place < usize::from(self.max_locals) {
+            self.locals.get(place)
         } else {
             VType::Top
         }
@@ -138,11 +139,28 @@ impl<'a> Working<'a> {
         self.flag
     }
 
-    /// Its local variables that are in use, from 0 up: all beyond them are top.
+    /// Its local variables, from 0 up: all beyond these are top.
     pub fn locals(&self) -> &[VType<'a>]
-        ensures { let f = held self.now in held_locals result.now (length f.locals) ≡ f.locals }
+        ensures same { let f = held self.now in held_locals result.now (length f.locals) ≡ f.locals }
+        ensures few { length result.now ≤ length (held self.now).locals }
     {
-        &self.locals
+        self.locals.below(usize::from(self.max_locals))
+    }
+
+    /// Where the locals begin that came to hold an object which is not initialized.
+    pub fn first_holder(&self, object: &VType<'_>) -> usize
+        ensures { (i : ℕ) → get_or (held self.now).locals i top ≡ type_of object.now → IsSome (number_of (type_of object.now)) → IsHolder self.now result i }
+    {
+        self.locals.first_holder(object)
+    }
+
+    /// One of these, and where the others begin.
+    pub fn holder(&self, at: usize) -> Option<Holder>
+        ensures down { IfSome result (λ h. h.next < at) }
+        ensures some { IfSome result (λ h. (i : ℕ) → i ≢ h.place → IsHolder self.now at i → IsHolder self.now h.next i) }
+        ensures none { result ≡ None → (i : ℕ) → IsHolder self.now at i → ⊥ }
+    {
+        self.locals.holder(at)
     }
 
     /// The stack from the bottom up.
@@ -167,8 +185,7 @@ impl<'a> Working<'a> {
         self.wides = 0;
         self.max_locals = max_locals;
         self.flag = flag;
-        self.locals.extend_from_slice(locals)?;
-        Ok(())
+        set_all(locals, &mut self.locals)
     }
 
     /// Whether this frame may stand where one is declared (JVMS 4.10.1.4). Where its locals are known to fit another frame of the same stack
@@ -183,7 +200,7 @@ impl<'a> Working<'a> {
         requires fits { IfSome fits (AreFit (C.content classes.now) declared.now (held self.now).locals) }
         ensures { outcome_of result ≡ frame_answer (C.content classes.now) (held self.now) (declared_view declared.now) }
     {
-        declared.assignable_from(&self.locals, &self.stack, self.flag, fits, classes)
+        declared.assignable_from(self.locals(), &self.stack, self.flag, fits, classes)
     }
 
     /// Becomes a declared frame, in the memory that it has. Where it has the locals of another frame of the same stack map, this one may be
@@ -198,7 +215,6 @@ impl<'a> Working<'a> {
         ensures { OnOk result (held self.new ≡ declared_view declared.now) }
     {
         if let Err(error) = write(declared, kept, &mut self.locals, &mut self.stack) {
-            self.locals.clear();
             self.stack.clear();
             self.wides = 0;
             return Err(error);
@@ -214,22 +230,17 @@ impl<'a> Working<'a> {
         requires { place < length (held self.old).locals }
         ensures { OnOk result (held self.new ≡ with_locals (held self.old) (stored_type (type_of t.entry) place (held self.old).locals)) }
     {
-        reach(place, usize::from(self.max_locals), &mut self.locals)?;
-        store(t, place, &mut self.locals);
-        Ok(())
+        store(t, place, usize::from(self.max_locals), &mut self.locals)
     }
 
     /// Gives a local variable the type that it had before it was changed, where there is such a local.
     pub fn put_back(&mut self, t: VType<'a>, place: usize) -> Result<(), AllocError>
         ensures { OnOk result (held self.new ≡ with_locals (held self.old) (set (held self.old).locals place (type_of t.entry))) }
     {
-        let limit = usize::from(self.max_locals);
-        if limit <= place {
+        if usize::from(self.max_locals) <= place {
             return Ok(());
         }
-        reach(place, limit, &mut self.locals)?;
-        self.locals[place] = t;
-        Ok(())
+        self.locals.set(place, t)
     }
 
     /// Whether the object that the `new` at this offset has made is on the stack.
@@ -243,14 +254,14 @@ impl<'a> Working<'a> {
     pub fn forget(&mut self, at: u16)
         ensures { held self.new ≡ with_locals (held self.old) (map (forgotten at) (held self.old).locals) }
     {
-        replace(&VType::Uninit(at), VType::Top, &mut self.locals);
+        self.locals.replace(&VType::Uninit(at), VType::Top);
     }
 
     /// Makes an object that was not initialized one of a class, wherever it stands.
     pub fn initialize(&mut self, object: &VType<'a>, class: &'a [u8])
         ensures { held self.new ≡ initialized_frame (type_of object.now) class.now (held self.old) }
     {
-        replace(object, VType::Class(class), &mut self.locals);
+        self.locals.replace(object, VType::Class(class));
         replace(object, VType::Class(class), &mut self.stack);
         self.flag = flag_after(object, self.flag);
     }
@@ -280,8 +291,8 @@ impl<'a> Working<'a> {
         requires { length frame.now.locals.items ≡ max_locals }
         ensures { IfOk result (λ w. held w ≡ frame_of frame.now) }
     {
-        let mut locals = Vec::new(alloc);
-        locals.extend_from_slice(&frame.locals)?;
+        let mut locals = Locals::new(alloc);
+        set_all(&frame.locals, &mut locals)?;
         let mut stack = Vec::new(alloc);
         stack.extend_from_slice(&frame.stack)?;
         let wides = wides(&stack);
@@ -305,8 +316,7 @@ impl<'a> Working<'a> {
             flag,
             ..
         } = self;
-        let mut locals = locals;
-        locals.resize(usize::from(max_locals), VType::Top)?;
+        let locals = locals.into_types(usize::from(max_locals))?;
         Ok(Frame {
             locals,
             stack,
@@ -329,13 +339,23 @@ fn flag_after(object: &VType<'_>, flag: bool) -> bool
 fn write<'a>(
     declared: &Declared<'_, 'a>,
     kept: Option<Declared<'_, 'a>>,
-    locals: &mut Vec<VType<'a>>,
+    locals: &mut Locals<'a>,
     stack: &mut Vec<VType<'a>>,
 ) -> Result<(), AllocError>
-    requires { IfSome kept (AreKept declared.now (held_locals locals.old.items (length (declared_view declared.now).locals))) }
-    ensures { let d = declared_view declared.now in
-        OnOk result ((held_locals locals.new.items (length d.locals) ≡ d.locals) × (length locals.new.items ≤ length d.locals) × (stack_of stack.new.items ≡ d.stack)) }
+    requires { IfSome kept (AreKept declared.now (locals_in locals.old (length (declared_view declared.now).locals))) }
+    ensures { let d = declared_view declared.now in OnOk result ((locals_in locals.new (length d.locals) ≡ d.locals) × (stack_of stack.new.items ≡ d.stack)) }
 {
     declared.write_locals(kept, locals)?;
     declared.write_stack(stack)
+}
+
+/// Gives locals these types, from 0 up, and makes all beyond them top.
+fn set_all<'a>(types: &[VType<'a>], locals: &mut Locals<'a>) -> Result<(), AllocError>
+    ensures { OnOk result ((i : ℕ) → local locals.new i ≡ get_or (map type_of types.now) i top) }
+{
+    locals.clear();
+    for i in 0..types.len() {
+        locals.set(i, types[i])?;
+    }
+    Ok(())
 }

@@ -2,8 +2,8 @@
 use Rattle.std.proofs.Common.{◌≡◌, ℕ, List, Some, None, Result, Ok, Err, refl, sym, ◌∙◌, ap, subst, inl, inr}
 use Rattle.std.specs.Prelude.{MatchResult}
 use Rattle.std.specs.Option.{option_and_then}
-use Rattle.classfile.specs.Values.{CodeBody, Class}
-use Rattle.classfile.specs.Methods.{Method, code_of, method_of}
+use Rattle.classfile.specs.Values.{CodeBody}
+use Rattle.classfile.specs.Methods.{JudgedClass, Method, code_of, method_of}
 use Rattle.classfile.specs.MethodParts.{code_at}
 use Rattle.classfile.specs.WellFormed.{WellFormed}
 use Rattle.hierarchy.specs.Class.{ClassFact}
@@ -37,10 +37,10 @@ use Rattle.verify.proofs.MethodCode.{code_is, has_code, some_code}
 some_same : {A : Type 0} (a b : A) → Some a ≡ Some b → a ≡ b
 some_same a b e = cc
 
-module _ (classes : List ClassFact) (c : Class) (number : ℕ) where
+module _ (classes : List ClassFact) (c : JudgedClass) (number : ℕ) where
   -- ---- a method with code
 
-  pub bad_code : (body : CodeBody) (fault : CodeFault) (r : Result Verdict VerifyFault) → code_at c number ≡ Some body
+  pub bad_code : (body : CodeBody) (fault : CodeFault) (r : Result Verdict VerifyFault) → code_at c.file number ≡ Some body
       → UnlessMemory fault (FaultyCode body.code fault) → RefusesCode fault r → AnswersCode classes c number r
   bad_code body fault (Ok v) has faulty x =
       subst (λ z. AnswersCode classes c number (Ok z)) (sym x.outcome.1)
@@ -65,7 +65,7 @@ module _ (classes : List ClassFact) (c : Class) (number : ℕ) where
   bad_code body fault (Err e) has faulty x = subst (λ z. AnswersCode classes c number (Err z)) (sym x.outcome.1) tt
 
   pub given : (body : CodeBody) (xs : List (ℕ × Instruction)) (method : Method Act) (r : Result Verdict VerifyFault)
-      → code_at c number ≡ Some body → SpellsCode 0 body.code xs
+      → code_at c.file number ≡ Some body → SpellsCode 0 body.code xs
       → method_of c number (acts xs) ≡ Some method → Gives (verdict plan classes method) r
       → AnswersCode classes c number r
   given body xs method (Ok Verified) has spelled says g =
@@ -81,17 +81,17 @@ module _ (classes : List ClassFact) (c : Class) (number : ℕ) where
   given body xs method (Err NotInHierarchy) has spelled says g = g
 
   -- what is verified is type-safe
-  pub type_safe_in : WellFormed c → HasVerdict classes c number verified → IsTypeSafeIn classes c number
+  pub type_safe_in : WellFormed c.file → HasVerdict classes c number verified → IsTypeSafeIn classes c number
   type_safe_in formed v =
       let code : v.method.code ≡ acts v.instructions =
       code_is c (acts v.instructions) v.method number v.says in
       let rise : StartsRise 0 (acts v.instructions) =
       decoded_rise 0 v.instructions (starts_rise 0 v.body.code v.instructions v.spelled) in
       let begins : IsStart (acts v.instructions) 0 =
-      decoded_begins v.body.code v.instructions v.spelled (some_code c formed number v.body v.has_code) in
+      decoded_begins v.body.code v.instructions v.spelled (some_code c.file formed number v.body v.has_code) in
       let safe : IsTypeSafe classes v.method =
       verified_is_type_safe plan classes v.method (subst (StartsRise 0) (sym code) rise) (subst (λ z. IsStart z 0) (sym code) begins) v.told in
-      let x = has_code c number v.body v.has_code in (
+      let x = has_code c.file number v.body v.has_code in (
         v.method,
         record {
           member = x.member;
@@ -106,7 +106,7 @@ module _ (classes : List ClassFact) (c : Class) (number : ℕ) where
         safe,
       )
 
-  pub answers_code : WellFormed c → IsListed classes c → (r : Result Verdict VerifyFault) → AnswersCode classes c number r
+  pub answers_code : WellFormed c.file → IsListed classes c.file → (r : Result Verdict VerifyFault) → AnswersCode classes c number r
       → Answers classes c number r
   answers_code formed listed (Ok Verified) a = (listed, type_safe_in formed a, a)
   answers_code formed listed (Ok NoCode) a = absurd a
@@ -129,14 +129,14 @@ module _ (classes : List ClassFact) (c : Class) (number : ℕ) where
   -- ---- what is type-safe is not refused
 
   module _ (m : Method Act) (i : IsMethod c number m) (safe : IsTypeSafe classes m) where
-    own_code : (body : CodeBody) → code_at c number ≡ Some body → i.body ≡ body
+    own_code : (body : CodeBody) → code_at c.file number ≡ Some body → i.body ≡ body
     own_code body e =
-        let x = has_code c number body e in
+        let x = has_code c.file number body e in
         some_same i.body body (sym i.has_code ∙ ap (λ z. code_of z.attributes) (some_same i.member x.member (sym i.numbered ∙ x.numbered))
         ∙ x.has_code)
 
-    none_absent : code_at c number ≡ None → ⊥
-    none_absent e = let there : code_at c number ≡ Some i.body =
+    none_absent : code_at c.file number ≡ None → ⊥
+    none_absent e = let there : code_at c.file number ≡ Some i.body =
         ap (option_and_then (λ z. code_of z.attributes)) i.numbered ∙ i.has_code in cc
 
     not_faulty : (at : ℕ) (why : RuleReason) → HasBadCode c number at why → ⊥
@@ -146,7 +146,7 @@ module _ (classes : List ClassFact) (c : Class) (number : ℕ) where
     code_there : m.code ≡ acts i.instructions
     code_there = code_is c (acts i.instructions) m number i.method
 
-    same_method : (body : CodeBody) (xs : List (ℕ × Instruction)) (n : Method Act) → code_at c number ≡ Some body
+    same_method : (body : CodeBody) (xs : List (ℕ × Instruction)) (n : Method Act) → code_at c.file number ≡ Some body
         → SpellsCode 0 body.code xs → method_of c number (acts xs) ≡ Some n → n ≡ m
     same_method body xs n has spelled says =
         let same : i.instructions ≡ xs =
@@ -174,7 +174,7 @@ module _ (classes : List ClassFact) (c : Class) (number : ℕ) where
     refused_never at why (inl x) = not_faulty at why x
     refused_never at why (inr x) = not_refused at why x
 
-    verifies : IsListed classes c → (r : Result Verdict VerifyFault) → Answers classes c number r
+    verifies : IsListed classes c.file → (r : Result Verdict VerifyFault) → Answers classes c number r
         → MatchResult r (λ v. v ≡ Verified) (λ e. e ≡ OutOfMemory)
     verifies listed (Ok Verified) a = refl
     verifies listed (Ok NoCode) a = absurd (none_absent a.1)

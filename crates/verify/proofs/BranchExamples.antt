@@ -28,6 +28,7 @@ method map code = record {
   is_static = true;
   is_init = false;
   type = record { params = []; result = None };
+  dynamic = false;
 }
 
 -- iconst_0; istore_0; iinc 0 1; iload_0; ifne -4; return

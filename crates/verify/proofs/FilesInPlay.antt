@@ -1,5 +1,8 @@
 -- Files that are classes, and all of them in play.
-use Rattle.std.proofs.Common.{◌≡◌, ℕ, zero, suc, ◌+◌, ◌<◌, ◌≤◌, List, [], ◌∷◌, ◌++◌, map, take, length, Option, Some, None, Result, Ok, Err, Vec, Global, refl, sym, ap, subst, arith}
+use Rattle.std.proofs.Common.{◌≡◌, ℕ, zero, suc, ◌+◌, ◌<◌, ◌≤◌, List, [], ◌∷◌, ◌++◌, map, take, length, Option, Some, None, Result, Ok, Err, Vec, Global, refl, sym, subst, arith}
+use Rattle.classfile.specs.declared.profile.Profile.{Profile}
+use Rattle.classfile.specs.Methods.{JudgedClass}
+use Rattle.classfile.specs.CodeMethods.{judged, judged_class}
 use Rattle.std.specs.Prelude.{slice_get, MatchResult, IfOk}
 use Rattle.std.proofs.lemmas.List.{take_all, map-append}
 use Rattle.classfile.specs.Values.{Class}
@@ -9,7 +12,6 @@ use Rattle.classfile.specs.declared.form.Formed.{Formed}
 use Rattle.classfile.specs.Views.{class_view}
 use Rattle.hierarchy.specs.Class.{ClassFact}
 use Rattle.hierarchy.specs.Rules.{IsHierarchy}
-use Rattle.hierarchy.specs.ClassSummary.{summary_of}
 use Rattle.verify.specs.declared.files.FileFault.{FileFault}
 use Rattle.verify.specs.declared.report.MethodVerdict.{MethodVerdict}
 use Rattle.verify.specs.declared.report.Report.{Report}
@@ -20,7 +22,7 @@ use Rattle.verify.specs.declared.together.TogetherFault.{TogetherFault}
 use Rattle.verify.specs.declared.together.TogetherFault.TheVariants.{OutOfMemory, Refused, NoHierarchy, Broken, NotVerified}
 use Rattle.verify.specs.Files.{Read, IsDecoded, IsRefused, AreFormed, IsFirstRefused}
 use Rattle.verify.specs.Plays.{IsStopped}
-use Rattle.verify.specs.Together.{HaveReports, HaveNone, ReportsTogether, NotTogether, ArePlayableFiles}
+use Rattle.verify.specs.Together.{facts_in, HaveReports, HaveNone, ReportsTogether, NotTogether, ArePlayableFiles}
 use Rattle.verify.specs.TogetherSteps.{AreDecoded, AreWellFormed, DecodesAll, views, IsWithin}
 use Rattle.verify.specs.ClassRunSafety.{ArePlayable}
 use Rattle.verify.proofs.Formed.{decoded_formed, earlier_formed}
@@ -78,26 +80,23 @@ first_refused reads cs i read fault le all formed here refused =
 
 -- ---- what is answered
 
-pub not_together : (reads : List Read) (cs : List Class) (fault : TogetherFault) → AreFormed reads cs → HaveNone cs fault → NotTogether reads fault
-not_together reads cs OutOfMemory all p = tt
-not_together reads cs (Refused number fault) all p = absurd p
-not_together reads cs (NoHierarchy fault) all p = (cs, all, p)
-not_together reads cs (Broken number rule) all p = (cs, all, p)
-not_together reads cs (NotVerified number method) all p = (cs, all, p)
+pub not_together : (profile : Profile) (reads : List Read) (cs : List Class) (fault : TogetherFault) → AreFormed reads cs → HaveNone (map (judged profile) cs) fault
+    → NotTogether profile reads fault
+not_together profile reads cs OutOfMemory all p = tt
+not_together profile reads cs (Refused number fault) all p = absurd p
+not_together profile reads cs (NoHierarchy fault) all p = (cs, all, p)
+not_together profile reads cs (Broken number rule) all p = (cs, all, p)
+not_together profile reads cs (NotVerified number method) all p = (cs, all, p)
 
 place_within : {A : Type 0} (xs : List A) (i : ℕ) (x : A) → slice_get xs i ≡ Some x → i < length xs
 place_within [] i x e = absurd (none_some x e)
 place_within (y ∷ xs) zero x e = omega arith
 place_within (y ∷ xs) (suc i) x e = let k = place_within xs i x e in omega (arith, k)
 
-pub stops_within : (classes : List ClassFact) (cs : List Class) (stop : PlayStop) → IsStopped classes cs stop → IsWithin (length cs) stop
+pub stops_within : (classes : List ClassFact) (cs : List JudgedClass) (stop : PlayStop) → IsStopped classes cs stop → IsWithin (length cs) stop
 stops_within classes cs stops.OutOfMemory p = tt
 stops_within classes cs (stops.Broken class rule) ((c, here, why), before) = place_within cs class c here
 stops_within classes cs (stops.Refused class number method) ((c, here, why), before) = place_within cs class c here
-
-pub classes_of : (all : List Formed) → map (λ f. class_view f.class.now) all ≡ views (map (λ f. f.class.now) all)
-classes_of [] = refl
-classes_of (f ∷ all) = ap (λ z. class_view f.class.now ∷ z) (classes_of all)
 
 -- ---- steps
 
@@ -111,35 +110,37 @@ pub first_behind : (reads : List Read) (cs : List Class) (read : Read) (fault : 
 first_behind reads cs read fault all formed here refused =
     first_refused reads cs (length cs) read fault (omega arith) all (subst AreWellFormed (sym (take_all (length cs) cs (omega arith))) formed) here refused
 
-pub broken_at : (cs : List Class) (stop : PlayStop) (class : ℕ) (rule : PlayRule) → stop ≡ stops.Broken class rule → IsHierarchy (map summary_of cs) → IsStopped (map summary_of cs) cs stop
+pub broken_at : (cs : List JudgedClass) (stop : PlayStop) (class : ℕ) (rule : PlayRule) → stop ≡ stops.Broken class rule → IsHierarchy (facts_in cs) → IsStopped (facts_in cs) cs stop
     → HaveNone cs (Broken (class + 1) rule)
-broken_at cs stop class rule e hierarchy p = (hierarchy, (class, refl, subst (IsStopped (map summary_of cs) cs) e p))
+broken_at cs stop class rule e hierarchy p = (hierarchy, (class, refl, subst (IsStopped (facts_in cs) cs) e p))
 
-pub refused_at : (cs : List Class) (stop : PlayStop) (class number : ℕ) (method : MethodVerdict) → stop ≡ stops.Refused class number method → IsHierarchy (map summary_of cs)
-    → IsStopped (map summary_of cs) cs stop → HaveNone cs (NotVerified (class + 1) method)
+pub refused_at : (cs : List JudgedClass) (stop : PlayStop) (class number : ℕ) (method : MethodVerdict) → stop ≡ stops.Refused class number method → IsHierarchy (facts_in cs)
+    → IsStopped (facts_in cs) cs stop → HaveNone cs (NotVerified (class + 1) method)
 refused_at cs stop class number method e hierarchy p =
-    let ((c, here, refused), before) = subst (IsStopped (map summary_of cs) cs) e p in
+    let ((c, here, refused), before) = subst (IsStopped (facts_in cs) cs) e p in
     (hierarchy, (class, refl, ((c, here, (number, refused)), before)))
 
 pub more_views : (old : List ClassFile) (x : ClassFile) → views (old ++ x ∷ []) ≡ views old ++ class_view x ∷ []
 more_views old x = map-append (λ c. class_view c) old (x ∷ [])
 
-pub more_classes : (old : List Formed) (x : Formed) → map (λ f. f.class.now) (old ++ x ∷ []) ≡ map (λ f. f.class.now) old ++ x.class.now ∷ []
-more_classes old x = map-append (λ f. f.class.now) old (x ∷ [])
+pub more_judged : (old : List Formed) (x : Formed) → map judged_class (old ++ x ∷ []) ≡ map judged_class old ++ judged_class x ∷ []
+more_judged old x = map-append judged_class old (x ∷ [])
 
 -- the reports on the classes are those on the files
-pub of_classes : (reads : List Read) (cs ds : List Class) (rs : List Report) → ds ≡ cs → AreFormed reads cs → HaveReports ds rs → ReportsTogether reads rs
-of_classes reads cs ds rs e all p = (cs, all, subst (λ k. HaveReports k rs) e p)
+pub of_classes : (profile : Profile) (reads : List Read) (cs : List Class) (ds : List JudgedClass) (rs : List Report) → ds ≡ map (judged profile) cs → AreFormed reads cs
+    → HaveReports ds rs → ReportsTogether profile reads rs
+of_classes profile reads cs ds rs e all p = (cs, all, subst (λ k. HaveReports k rs) e p)
 
-pub none_of_classes : (reads : List Read) (cs ds : List Class) (fault : TogetherFault) → ds ≡ cs → AreFormed reads cs → HaveNone ds fault → NotTogether reads fault
-none_of_classes reads cs ds fault e all p = not_together reads cs fault all (subst (λ k. HaveNone k fault) e p)
+pub none_of_classes : (profile : Profile) (reads : List Read) (cs : List Class) (ds : List JudgedClass) (fault : TogetherFault) → ds ≡ map (judged profile) cs → AreFormed reads cs
+    → HaveNone ds fault → NotTogether profile reads fault
+none_of_classes profile reads cs ds fault e all p = not_together profile reads cs fault all (subst (λ k. HaveNone k fault) e p)
 
-pub told : (reads : List Read) (cs ds : List Class) (r : Result (Vec Report Global) TogetherFault) → ds ≡ cs → AreFormed reads cs → MatchResult r (λ rs. HaveReports ds rs.items) (HaveNone ds)
-    → MatchResult r (λ rs. ReportsTogether reads rs.items) (NotTogether reads)
-told reads cs ds (Ok rs) e all p = of_classes reads cs ds rs.items e all p
-told reads cs ds (Err fault) e all p = none_of_classes reads cs ds fault e all p
+pub told : (profile : Profile) (reads : List Read) (cs : List Class) (ds : List JudgedClass) (r : Result (Vec Report Global) TogetherFault) → ds ≡ map (judged profile) cs → AreFormed reads cs
+    → MatchResult r (λ rs. HaveReports ds rs.items) (HaveNone ds) → MatchResult r (λ rs. ReportsTogether profile reads rs.items) (NotTogether profile reads)
+told profile reads cs ds (Ok rs) e all p = of_classes profile reads cs ds rs.items e all p
+told profile reads cs ds (Err fault) e all p = none_of_classes profile reads cs ds fault e all p
 
-pub playable : (reads : List Read) (cs ds : List Class) (r : Result (Vec Report Global) TogetherFault) → ds ≡ cs → AreFormed reads cs → IfOk r (λ rs. ArePlayable (map summary_of ds) ds)
-    → IfOk r (λ rs. ArePlayableFiles reads)
-playable reads cs ds (Ok rs) e all p = (cs, all, subst (λ k. ArePlayable (map summary_of k) k) e p)
-playable reads cs ds (Err fault) e all p = p
+pub playable : (profile : Profile) (reads : List Read) (cs : List Class) (ds : List JudgedClass) (r : Result (Vec Report Global) TogetherFault) → ds ≡ map (judged profile) cs → AreFormed reads cs
+    → IfOk r (λ rs. ArePlayable (facts_in ds) ds) → IfOk r (λ rs. ArePlayableFiles profile reads)
+playable profile reads cs ds (Ok rs) e all p = (cs, all, subst (λ k. ArePlayable (facts_in k) k) e p)
+playable profile reads cs ds (Err fault) e all p = p

@@ -1,5 +1,8 @@
 -- Files that are classes, one behind the other, and what is answered of them.
 use Rattle.std.proofs.Common.{◌≡◌, ℕ, true, false, zero, suc, ◌<◌, List, [], ◌∷◌, ◌++◌, map, take, Some, None, Result, Ok, Err, subst, arith}
+use Rattle.classfile.specs.declared.profile.Profile.{Profile}
+use Rattle.classfile.specs.CodeMethods.{judged}
+use Rattle.classfile.specs.Methods.{JudgedClass}
 use Rattle.std.specs.Prelude.{slice_get}
 use Rattle.classfile.specs.Values.{Class}
 use Rattle.classfile.specs.WellFormed.{WellFormed}
@@ -58,22 +61,22 @@ earlier_formed (r ∷ reads) (suc i) (c ∷ cs) all (suc j) lt other e = earlier
 
 -- ---- what is answered of them
 
-pub reports_formed : (c : Class) (known : List Read) (cs : List Class) (classes : List ClassFact) (r : Result Report AmongFault)
-    → AreFormed known cs → classes ≡ map summary_of (c ∷ cs) → ReportsSummaries classes c r → ReportsFormed c known r
+pub reports_formed : (c : JudgedClass) (known : List Read) (cs : List Class) (classes : List ClassFact) (r : Result Report AmongFault)
+    → AreFormed known cs → classes ≡ map summary_of (c.file ∷ cs) → ReportsSummaries classes c r → ReportsFormed c known r
 reports_formed c known cs classes (Ok report) all e (hierarchy, fine, is) =
-    (cs, all, subst IsHierarchy e hierarchy, subst (λ k. has_final_super k (summary_of c) ≡ false) e fine, subst (λ k. IsReport k c report.methods.items) e is)
+    (cs, all, subst IsHierarchy e hierarchy, subst (λ k. has_final_super k (summary_of c.file) ≡ false) e fine, subst (λ k. IsReport k c report.methods.items) e is)
 reports_formed c known cs classes (Err amongs.OutOfMemory) all e p = tt
 reports_formed c known cs classes (Err (amongs.Refused fault)) all e p = absurd p
 reports_formed c known cs classes (Err (amongs.KnownRefused number fault)) all e p = absurd p
 reports_formed c known cs classes (Err (amongs.NoHierarchy fault)) all e p = (cs, all, p.0, subst (λ k. FaultOf k fault) e p.1)
 reports_formed c known cs classes (Err amongs.FinalSuper) all e p =
-    (cs, all, subst IsHierarchy e p.0, subst (λ k. has_final_super k (summary_of c) ≡ true) e p.1)
+    (cs, all, subst IsHierarchy e p.0, subst (λ k. has_final_super k (summary_of c.file) ≡ true) e p.1)
 
-pub among_formed : (read : Read) (c : Class) (known : List Read) (r : Result Report AmongFault)
-    → IsFormed read c → ReportsFormed c known r → ReportsAmong read known r
-among_formed read c known (Ok report) formed (cs, all, hierarchy, fine, p) = (c, cs, formed, all, hierarchy, fine, p)
-among_formed read c known (Err amongs.OutOfMemory) formed p = tt
-among_formed read c known (Err (amongs.Refused fault)) formed p = absurd p
-among_formed read c known (Err (amongs.KnownRefused number fault)) formed (i, e, first) = (c, i, formed, e, first)
-among_formed read c known (Err (amongs.NoHierarchy fault)) formed (cs, all, other, p) = (c, cs, formed, all, other, p)
-among_formed read c known (Err amongs.FinalSuper) formed (cs, all, hierarchy, p) = (c, cs, formed, all, hierarchy, p)
+pub among_formed : (profile : Profile) (read : Read) (c : Class) (known : List Read) (r : Result Report AmongFault)
+    → IsFormed read c → ReportsFormed (judged profile c) known r → ReportsAmong profile read known r
+among_formed profile read c known (Ok report) formed (cs, all, hierarchy, fine, p) = (c, cs, formed, all, hierarchy, fine, p)
+among_formed profile read c known (Err amongs.OutOfMemory) formed p = tt
+among_formed profile read c known (Err (amongs.Refused fault)) formed p = absurd p
+among_formed profile read c known (Err (amongs.KnownRefused number fault)) formed (i, e, first) = (c, i, formed, e, first)
+among_formed profile read c known (Err (amongs.NoHierarchy fault)) formed (cs, all, other, p) = (c, cs, formed, all, other, p)
+among_formed profile read c known (Err amongs.FinalSuper) formed (cs, all, hierarchy, p) = (c, cs, formed, all, hierarchy, p)

@@ -134,6 +134,7 @@ ways m (acts.InvokeVirtual i) = nowhere m (acts.InvokeVirtual i) refl
 ways m (acts.InvokeSpecial i) = nowhere m (acts.InvokeSpecial i) refl
 ways m (acts.InvokeStatic i) = nowhere m (acts.InvokeStatic i) refl
 ways m (acts.InvokeInterface i count) = nowhere m (acts.InvokeInterface i count) refl
+ways m (acts.InvokeDynamic i) = nowhere m (acts.InvokeDynamic i) refl
 ways m (acts.New i) = nowhere m (acts.New i) refl
 ways m (acts.LoadElement p) = nowhere m (acts.LoadElement p) refl
 ways m (acts.StoreElement p) = nowhere m (acts.StoreElement p) refl

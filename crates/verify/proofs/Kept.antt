@@ -1,5 +1,5 @@
 -- Facts about the locals of the running frame.
-use Rattle.std.proofs.Common.{◌≡◌, ◌∙◌, ℕ, List, [], ◌∷◌, ◌++◌, get_or, set, length, Option, Some, None, IfSome, sym, ap, subst, refl, arith}
+use Rattle.std.proofs.Common.{◌≡◌, ◌∙◌, ℕ, zero, suc, List, [], ◌∷◌, ◌++◌, get_or, set, length, Option, Some, None, IfSome, sym, ap, subst, refl, arith}
 use Rattle.std.proofs.lemmas.List.{set-set, set-get_or, get_or-set_other, length-set}
 use Rattle.hierarchy.specs.Class.{ClassFact}
 use Rattle.frames.specs.FrameFact.{FrameFact}
@@ -9,9 +9,16 @@ use Rattle.frames.specs.DeclaredTables.{declared_view, IsOf, AreKept}
 use Rattle.frames.specs.declared.declared_frames.DeclaredFrames.{DeclaredFrames}
 use Rattle.frames.specs.declared.declared_frames.Declared.{Declared}
 use Rattle.frames.proofs.Sharing.{are_of_one}
+use Rattle.rules.specs.Views.{with_half_free}
 use Rattle.verify.specs.declared.keeping.Known.{Known}
 use Rattle.verify.specs.declared.keeping.Replaced.{Replaced}
 use Rattle.verify.specs.Keeping.{Keeps, IsKept, IsKnown, restored}
+
+pub free_length : (n : ℕ) (xs : List VerificationType) → length (with_half_free n xs) ≡ length xs
+free_length n [] = refl
+free_length zero (x ∷ xs) = refl
+free_length (suc zero) (x ∷ xs) = refl
+free_length (suc (suc n)) (x ∷ xs) = ap suc (free_length (suc n) xs)
 
 -- ---- what is put back
 

@@ -25,6 +25,7 @@ pub mod Parameters
 pub mod Summaries
 pub mod Judged
 pub mod Kept
+pub mod Replacing
 pub mod MethodCode
 pub mod Answering
 pub mod OneVerdict

@@ -6,7 +6,7 @@ use Rattle.std.specs.Option.{option_and_then}
 use Rattle.names.specs.Descriptors.{MethodDescriptor}
 use Rattle.classfile.specs.declared.form_fault.Place.TheVariants as places
 use Rattle.classfile.specs.Values.{of_parts, of_numbers, raw, CodeBody, Attribute, Member, Class}
-use Rattle.classfile.specs.Methods.{Method, ExceptionEntry, code_of, method_with, method_from, method_of}
+use Rattle.classfile.specs.Methods.{JudgedClass, Method, ExceptionEntry, code_of, method_with, method_from, method_of}
 use Rattle.classfile.specs.MethodParts.{code_at}
 use Rattle.classfile.specs.AttributeForm.{on_body, has_bad_length, have_bad_length}
 use Rattle.classfile.specs.WellFormed.{WellFormed, conditions_of_method}
@@ -64,7 +64,7 @@ little_code c formed number body e =
 
 -- ---- the code of a class's method
 
-module _ (c : Class) (code : List (ℕ × Act)) (m : Method Act) where
+module _ (c : JudgedClass) (code : List (ℕ × Act)) (m : Method Act) where
   with_code : (member : Member) (body : CodeBody) (class name : Option (List ℕ)) (type : Option MethodDescriptor)
       (exceptions : Option (List ExceptionEntry))
       → method_with c member code body class name type exceptions ≡ Some m → m.code ≡ code
@@ -84,4 +84,4 @@ module _ (c : Class) (code : List (ℕ × Act)) (m : Method Act) where
   member_code None e = cc
 
   pub code_is : (number : ℕ) → method_of c number code ≡ Some m → m.code ≡ code
-  code_is number e = member_code (slice_get c.methods number) e
+  code_is number e = member_code (slice_get c.file.methods number) e

@@ -2,8 +2,7 @@
 use Rattle.std.proofs.Common.{◌≡◌, ℕ, List, Some, None, Result, Ok, sym, ◌∙◌, ap, subst, inl, inr}
 use Rattle.pool.specs.declared.fault.PoolFault.{PoolFault}
 use Rattle.pool.specs.Lookups.{Named, named}
-use Rattle.classfile.specs.Values.{Class}
-use Rattle.classfile.specs.Methods.{method_of}
+use Rattle.classfile.specs.Methods.{JudgedClass, method_of}
 use Rattle.classfile.specs.MethodParts.{code_at}
 use Rattle.hierarchy.specs.Class.{ClassFact}
 use Rattle.insn.specs.Faults.{code_fault_number}
@@ -34,7 +33,7 @@ none_some a e = cc
 same_told : (x y : ℕ × conditions.Reason) → Some x ≡ Some y → (x.0 ≡ y.0) × (x.1 ≡ y.1)
 same_told x y e = let same = some_same x y e in (ap (λ z. z.0) same, ap (λ z. z.1) same)
 
-module _ (classes : List ClassFact) (c : Class) (number : ℕ) where
+module _ (classes : List ClassFact) (c : JudgedClass) (number : ℕ) where
   abbrev Same : ℕ → Reason → ℕ → Reason → Type 0
   Same at why there other = AreSameVerdict (Refused at why) (Refused there other)
 
@@ -92,7 +91,7 @@ module _ (classes : List ClassFact) (c : Class) (number : ℕ) where
 
   -- ---- a method without code is not refused
 
-  refused_code : (at : ℕ) (why : Reason) → code_at c number ≡ None → IsRefused classes c number at why → ⊥
+  refused_code : (at : ℕ) (why : Reason) → code_at c.file number ≡ None → IsRefused classes c number at why → ⊥
   refused_code at why none (inl x) = none_some x.body (sym none ∙ x.has_code)
   refused_code at why none (inr x) = none_some x.judged.body (sym none ∙ x.judged.has_code)
 
@@ -112,11 +111,11 @@ one_verdict classes c number (Refused at why) (Refused there other) p q = both_r
 ok_same : (a b : Named) → (let found : Result Named PoolFault = Ok a in found) ≡ Ok b → a ≡ b
 ok_same a b e = cc
 
-same_line : (classes : List ClassFact) (c : Class) (number : ℕ) (r other : MethodVerdict) → IsReported classes c number r
+same_line : (classes : List ClassFact) (c : JudgedClass) (number : ℕ) (r other : MethodVerdict) → IsReported classes c number r
     → IsReported classes c number other → IsSameLine r other
 same_line classes c number r other x y =
     let member : x.member ≡ y.member = some_same x.member y.member (sym x.numbered ∙ y.numbered) in
-    let called = ok_same _ _ (sym x.called ∙ ap (λ m. named c.constant_pool m.name m.descriptor) member ∙ y.called) in
+    let called = ok_same _ _ (sym x.called ∙ ap (λ m. named c.file.constant_pool m.name m.descriptor) member ∙ y.called) in
     record {
       name = ap (λ n. n.name) called;
       descriptor = ap (λ n. n.descriptor) called;

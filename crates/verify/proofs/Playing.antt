@@ -4,8 +4,8 @@ use Rattle.std.specs.Prelude.{slice_get}
 use Rattle.std.specs.Option.{option_and_then}
 use Rattle.std.specs.Str.{bytes_eq}
 use Rattle.std.proofs.lemmas.Slice.Eq.{bytes_eq-Decides}
-use Rattle.classfile.specs.Values.{Member, Class}
-use Rattle.classfile.specs.Methods.{Method, code_of}
+use Rattle.classfile.specs.Values.{Member}
+use Rattle.classfile.specs.Methods.{JudgedClass, Method, code_of}
 use Rattle.classfile.specs.MethodParts.{code_at}
 use Rattle.hierarchy.specs.Class.{ClassFact}
 use Rattle.hierarchy.specs.Rules.{IsHierarchy}
@@ -55,17 +55,17 @@ second_or : (a b : Bool) → b ≡ true → (a || b) ≡ true
 second_or true b e = refl
 second_or false b e = e
 
-pub none_met : (cs : List Class) (names : MetNames) → ((name : List ℕ) → is_met names name ≡ false) → AreMet cs 0 names
+pub none_met : (cs : List JudgedClass) (names : MetNames) → ((name : List ℕ) → is_met names name ≡ false) → AreMet cs 0 names
 none_met cs names none = record {
   only = λ name e. absurd (true_false (sym e ∙ none name));
   all = λ name (j, d, lt, at, is). absurd (omega (arith, lt));
 }
 
-pub one_more_met : (cs : List Class) (i : ℕ) (c : Class) (old new : MetNames) (before : Bool) → slice_get cs i ≡ Some c → AreMet cs i old → Meets old new (summary_of c).name before → AreMet cs (i + 1) new
+pub one_more_met : (cs : List JudgedClass) (i : ℕ) (c : JudgedClass) (old new : MetNames) (before : Bool) → slice_get cs i ≡ Some c → AreMet cs i old → Meets old new (summary_of c.file).name before → AreMet cs (i + 1) new
 one_more_met cs i c old new before here met step = record { only = only; all = all }
   where
     name : List ℕ
-    name = (summary_of c).name
+    name = (summary_of c.file).name
 
     told : (other : List ℕ) → (bytes_eq name other ≡ true) ⊎ (is_met old other ≡ true) → HasEarlier cs (i + 1) other
     told other (inl e) = (i, c, omega arith, here, name_same name other e)
@@ -76,10 +76,10 @@ one_more_met cs i c old new before here met step = record { only = only; all = a
     only : (other : List ℕ) → is_met new other ≡ true → HasEarlier cs (i + 1) other
     only other e = told other (either (bytes_eq name other) (is_met old other) (sym (step.behind other) ∙ e))
 
-    by : (other : List ℕ) (j : ℕ) (d : Class) → slice_get cs j ≡ Some d → (summary_of d).name ≡ other → (j ≡ i) ⊎ (j < i) → (bytes_eq name other || is_met old other) ≡ true
+    by : (other : List ℕ) (j : ℕ) (d : JudgedClass) → slice_get cs j ≡ Some d → (summary_of d.file).name ≡ other → (j ≡ i) ⊎ (j < i) → (bytes_eq name other || is_met old other) ≡ true
     by other j d at is (inl e) =
         let k : d ≡ c = some_same d c (sym at ∙ ap (slice_get cs) e ∙ here) in
-        first_or (bytes_eq name other) (is_met old other) ((bytes_eq-Decides name other).1 (ap (λ z. (summary_of z).name) (sym k) ∙ is))
+        first_or (bytes_eq name other) (is_met old other) ((bytes_eq-Decides name other).1 (ap (λ z. (summary_of z.file).name) (sym k) ∙ is))
     by other j d at is (inr l) = second_or (bytes_eq name other) (is_met old other) (met.all other (j, d, l, at, is))
 
     all : (other : List ℕ) → HasEarlier cs (i + 1) other → is_met new other ≡ true
@@ -88,11 +88,11 @@ one_more_met cs i c old new before here met step = record { only = only; all = a
         step.behind other ∙ by other j d at is (eq-or-lt_of_le le)
 
 -- the name of the class at a place stands before it, or does not
-pub stands_twice : (cs : List Class) (i : ℕ) (c : Class) (old new : MetNames) (before : Bool) → AreMet cs i old → Meets old new (summary_of c).name before → before ≡ true → HasEarlier cs i (summary_of c).name
-stands_twice cs i c old new before met step e = met.only (summary_of c).name (sym step.told ∙ e)
+pub stands_twice : (cs : List JudgedClass) (i : ℕ) (c : JudgedClass) (old new : MetNames) (before : Bool) → AreMet cs i old → Meets old new (summary_of c.file).name before → before ≡ true → HasEarlier cs i (summary_of c.file).name
+stands_twice cs i c old new before met step e = met.only (summary_of c.file).name (sym step.told ∙ e)
 
-pub stands_once : (cs : List Class) (i : ℕ) (c : Class) (old new : MetNames) (before : Bool) → AreMet cs i old → Meets old new (summary_of c).name before → before ≡ false → IsFirstOfName cs i c
-stands_once cs i c old new before met step e earlier = true_false (sym (met.all (summary_of c).name earlier) ∙ sym step.told ∙ e)
+pub stands_once : (cs : List JudgedClass) (i : ℕ) (c : JudgedClass) (old new : MetNames) (before : Bool) → AreMet cs i old → Meets old new (summary_of c.file).name before → before ≡ false → IsFirstOfName cs i c
+stands_once cs i c old new before met step e earlier = true_false (sym (met.all (summary_of c.file).name earlier) ∙ sym step.told ∙ e)
 
 -- ---- from the reports to the premise of the theorem
 
@@ -111,8 +111,8 @@ item_there (x ∷ xs) (y ∷ ys) (suc i) z e at =
     let k : i < length ys = p.2 in
     (p.0, p.1, omega arith)
 
-module _ (h : List ClassFact) (cs : List Class) (rs : List Report) (all : ArePlayed h cs rs) where
-  fine_class : (c : Class) → IsAmong c cs → (ms : List MethodVerdict) × (i : ℕ) × IsFine h cs i c ms
+module _ (h : List ClassFact) (cs : List JudgedClass) (rs : List Report) (all : ArePlayed h cs rs) where
+  fine_class : (c : JudgedClass) → IsAmong c cs → (ms : List MethodVerdict) × (i : ℕ) × IsFine h cs i c ms
   fine_class c a =
       let p = place_of c cs a in
       let r = item_there cs rs p.0 c all.0 p.1 in
@@ -120,17 +120,17 @@ module _ (h : List ClassFact) (cs : List Class) (rs : List Report) (all : ArePla
       let k : f.0 ≡ c = some_same f.0 c (sym f.1 ∙ p.1) in
       (r.0.methods.items, p.0, subst (λ z. IsFine h cs p.0 z r.0.methods.items) k f.2)
 
-  by_verdict : (c : Class) (n : ℕ) (m : Method Act) → IsMethod c n m → (v : Verdict) → IsFineVerdict v → Answers h c n (Ok v) → IsTypeSafe h m
+  by_verdict : (c : JudgedClass) (n : ℕ) (m : Method Act) → IsMethod c n m → (v : Verdict) → IsFineVerdict v → Answers h c n (Ok v) → IsTypeSafe h m
   by_verdict c n m i Verified f a = subst (IsTypeSafe h) (one_method c n a.1.0 m a.1.1 i) a.1.2
   by_verdict c n m i NoCode f a =
-      let e : code_at c n ≡ Some i.body = ap (option_and_then (λ (z : Member). code_of z.attributes)) i.numbered ∙ i.has_code in
+      let e : code_at c.file n ≡ Some i.body = ap (option_and_then (λ (z : Member). code_of z.attributes)) i.numbered ∙ i.has_code in
       absurd (none_some i.body (sym a.1 ∙ e))
   by_verdict c n m i (Refused at why) f a = elim f [ ]
 
-  safe_method : (c : Class) → IsAmong c cs → (n : ℕ) (m : Method Act) → IsMethod c n m → IsTypeSafe h m
+  safe_method : (c : JudgedClass) → IsAmong c cs → (n : ℕ) (m : Method Act) → IsMethod c n m → IsTypeSafe h m
   safe_method c a n m i =
       let f = fine_class c a in
-      let r = item_there c.methods f.0 n i.member f.2.report.all i.numbered in
+      let r = item_there c.file.methods f.0 n i.member f.2.report.all i.numbered in
       by_verdict c n m i r.0.verdict (f.2.verified n r.0 r.2 r.1) (f.2.report.each n r.0 r.1).exactly
 
   pub are_verified : AreVerified h cs
@@ -147,7 +147,7 @@ none_playable h w x (p ∷ (o ∷ os)) r q i a j = begins (o ∷ os) r.1
     begins (p ∷ []) r = elim r.in_play.among [ ]
     begins (p ∷ (o ∷ os)) r = begins (o ∷ os) r.1
 
-pub are_playable : (h : List ClassFact) (cs : List Class) (rs : List Report) → (0 < length cs → IsHierarchy h) → ArePlayed h cs rs → ArePlayable h cs
+pub are_playable : (h : List ClassFact) (cs : List JudgedClass) (rs : List Report) → (0 < length cs → IsHierarchy h) → ArePlayed h cs rs → ArePlayable h cs
 are_playable h [] rs hh all = none_playable h
 are_playable h (c ∷ cs) rs hh all = verified_is_playable h (hh (omega arith)) (c ∷ cs) (are_verified h (c ∷ cs) rs all)
 
@@ -168,7 +168,7 @@ more_fine rs n m all here fine k r lt at =
 
 -- ---- why there are no reports
 
-pub stopped : (h : List ClassFact) (cs : List Class) (i : ℕ) (c : Class) (names : MetNames) (stop : PlayStop) (rs : List Report) → slice_get cs i ≡ Some c → length rs ≡ i → AreFine h cs rs
+pub stopped : (h : List ClassFact) (cs : List JudgedClass) (i : ℕ) (c : JudgedClass) (names : MetNames) (stop : PlayStop) (rs : List Report) → slice_get cs i ≡ Some c → length rs ≡ i → AreFine h cs rs
     → Judges h cs i c names (Err stop) → IsStopped h cs stop
 stopped h cs i c names stops.OutOfMemory rs here many fine p = tt
 stopped h cs i c names (stops.Broken class rule) rs here many fine p =
@@ -176,7 +176,7 @@ stopped h cs i c names (stops.Broken class rule) rs here many fine p =
 stopped h cs i c names (stops.Refused class number method) rs here many fine p =
     subst (λ n. BreaksFirst h cs n (λ d. HasRefused h cs n d number method)) (sym p.0) ((c, here, p.1), (rs, many, fine))
 
-pub not_all_verified : (h : List ClassFact) (cs : List Class) (stop : PlayStop) (class number : ℕ) (method : MethodVerdict) → stop ≡ stops.Refused class number method
+pub not_all_verified : (h : List ClassFact) (cs : List JudgedClass) (stop : PlayStop) (class number : ℕ) (method : MethodVerdict) → stop ≡ stops.Refused class number method
     → IsStopped h cs stop → IsNotPlayed h cs (NotAllVerified class number)
 not_all_verified h cs stop class number method e p =
     let ((c, here, refused), before) = subst (IsStopped h cs) e p in

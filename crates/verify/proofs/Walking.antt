@@ -9,8 +9,8 @@ use Rattle.hierarchy.specs.World.{World, IsSubclassIn}
 use Rattle.hierarchy.specs.Class.{ClassFact, world_of}
 use Rattle.hierarchy.specs.Rules.{IsHierarchy}
 use Rattle.hierarchy.proofs.Worlds.{itself}
-use Rattle.classfile.specs.Values.{CodeBody, Member, Class}
-use Rattle.classfile.specs.Methods.{Method, Receiver, no_receiver, ready_receiver, own_receiver, receiver_of, code_of, method_of}
+use Rattle.classfile.specs.Values.{CodeBody, Member}
+use Rattle.classfile.specs.Methods.{JudgedClass, Method, Receiver, no_receiver, ready_receiver, own_receiver, receiver_of, code_of, method_of}
 use Rattle.classfile.specs.MethodParts.{IsMethod as HasParts, code_at, method_by_parts}
 use Rattle.classfile.proofs.MethodLaws.{method_says}
 use Rattle.insn.specs.Code.{SpellsCode}
@@ -83,10 +83,10 @@ receives_as w m n e h own own_receiver vs x =
     subst (λ k. (vs ≡ reference own ∷ []) × ((y : List ℕ) × (h own ≡ Some (object (class_type y) this)) × IsSubclassIn w y k)) e x
 
 -- where the answer is yes, the method with its instructions begins in the state, if its code is some
-abbrev pub Tells : {E : Type 0} → World → Class → ℕ → State → Result Bool E → Type 0
+abbrev pub Tells : {E : Type 0} → World → JudgedClass → ℕ → State → Result Bool E → Type 0
 Tells w c number s r = IfOk r (λ b. IsTrue b → (m : Method Act) → IsMethod c number m → IsInitial w m s)
 
-module _ (w : World) (c : Class) (number : ℕ) (body : CodeBody) (is_static is_init : Bool) (result : Option FieldDescriptor) (s : State) where
+module _ (w : World) (c : JudgedClass) (number : ℕ) (body : CodeBody) (is_static is_init : Bool) (result : Option FieldDescriptor) (s : State) where
   abbrev with_code : {A : Type 0} → List (ℕ × A) → Method A
   with_code code = method_by_parts c number body is_static is_init result code
 
@@ -121,7 +121,7 @@ module _ (w : World) (c : Class) (number : ℕ) (body : CodeBody) (is_static is_
 
 -- ---- whether a method begins in a state
 
-module _ (h : List ClassFact) (c : Class) (number : ℕ) (s : State) where
+module _ (h : List ClassFact) (c : JudgedClass) (number : ℕ) (s : State) where
   begins_as : (m : Method ℕ) → method_of {A = ℕ} c number [] ≡ Some m → (b : Bool) → IsTrue b ↔ IsInitial {A = ℕ} (world_of h) m s
       → IsTrue b ↔ BeginsIn h c number s
   begins_as m e b x = (
@@ -140,7 +140,7 @@ module _ (h : List ClassFact) (c : Class) (number : ℕ) (s : State) where
 
 -- ---- a method that is not verified
 
-module _ (h : List ClassFact) (c : Class) (number : ℕ) where
+module _ (h : List ClassFact) (c : JudgedClass) (number : ℕ) where
   -- another verdict denies that it is type-safe
   pub not_type_safe : (v : Verdict) → (v ≡ Verified → ⊥) → Answers h c number (Ok v) → VerifiesTypeSafe h c number (Ok v)
       → IsUnverified h c number NotVerified
@@ -156,10 +156,10 @@ module _ (h : List ClassFact) (c : Class) (number : ℕ) where
 
 -- ---- a walk of a method that is verified
 
-pub is_method : (c : Class) (number : ℕ) (body : CodeBody) (xs : List (ℕ × Instruction)) (m : Method Act) → code_at c number ≡ Some body
+pub is_method : (c : JudgedClass) (number : ℕ) (body : CodeBody) (xs : List (ℕ × Instruction)) (m : Method Act) → code_at c.file number ≡ Some body
     → SpellsCode 0 body.code xs → method_of c number (acts xs) ≡ Some m → IsMethod c number m
 is_method c number body xs m has spelled says =
-    let x = has_code c number body has in
+    let x = has_code c.file number body has in
     record {
       member = x.member;
       numbered = x.numbered;
@@ -170,10 +170,10 @@ is_method c number body xs m has spelled says =
       method = says;
     }
 
-pub coded : (c : Class) (number : ℕ) (m : Method Act) (x : IsMethod c number m) → code_at c number ≡ Some x.body
+pub coded : (c : JudgedClass) (number : ℕ) (m : Method Act) (x : IsMethod c number m) → code_at c.file number ≡ Some x.body
 coded c number m x = ap (option_and_then (λ (z : Member). code_of z.attributes)) x.numbered ∙ x.has_code
 
-module _ (h : List ClassFact) (hierarchy : IsHierarchy h) (c : Class) (number : ℕ) (s : State) (cs : List Choice)
+module _ (h : List ClassFact) (hierarchy : IsHierarchy h) (c : JudgedClass) (number : ℕ) (s : State) (cs : List Choice)
     (begins : (m : Method Act) → IsMethod c number m → IsInitial (world_of h) m s) (safe : IsSafeIn h c number) where
   -- By the theorem, of the run that the walk is.
   no_fault : (m : Method Act) → IsMethod c number m → (t : State) → Reaches (world_of h) m s cs t → IsNoFault (world_of h) m t

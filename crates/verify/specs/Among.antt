@@ -1,6 +1,8 @@
 -- The report on a class among the classes that it may refer to, or its fault (JVMS 4.10.1).
 use Rattle.std.specs.Prelude.{◌≡◌, ◌≢◌, ℕ, true, false, ◌+◌, List, ◌∷◌, map, Result, Ok, Err}
 use Rattle.classfile.specs.Values.{Class}
+use Rattle.classfile.specs.CodeMethods.{judged}
+use Rattle.classfile.specs.declared.profile.Profile.{Profile}
 use Rattle.hierarchy.specs.declared.fault.HierarchyFault.TheVariants as hierarchies
 use Rattle.hierarchy.specs.Rules.{IsHierarchy}
 use Rattle.hierarchy.specs.Faults.{FaultOf}
@@ -13,19 +15,20 @@ use Rattle.verify.specs.Reports.{IsReport}
 use Rattle.verify.specs.FinalSuper.{has_final_super}
 
 -- The first of these that applies: the class is refused; a known one is, by its number from 1 on, the first of those that are; they are
--- no hierarchy; the superclass of the class is final; and otherwise the verdicts on the methods of the class.
-abbrev pub ReportsAmong : Read → List Read → Result Report AmongFault → Type 0
-ReportsAmong read known (Ok report) =
+-- no hierarchy; the superclass of the class is final; and otherwise the verdicts on the methods of the class,
+-- by a profile.
+abbrev pub ReportsAmong : Profile → Read → List Read → Result Report AmongFault → Type 0
+ReportsAmong profile read known (Ok report) =
     (c : Class) × (cs : List Class) × IsFormed read c × AreFormed known cs
     × IsHierarchy (map summary_of (c ∷ cs)) × (has_final_super (map summary_of (c ∷ cs)) (summary_of c) ≡ false)
-    × IsReport (map summary_of (c ∷ cs)) c report.methods.items
-ReportsAmong read known (Err OutOfMemory) = Unit {0}
-ReportsAmong read known (Err (Refused fault)) = IsRefused read fault
-ReportsAmong read known (Err (KnownRefused number fault)) =
+    × IsReport (map summary_of (c ∷ cs)) (judged profile c) report.methods.items
+ReportsAmong profile read known (Err OutOfMemory) = Unit {0}
+ReportsAmong profile read known (Err (Refused fault)) = IsRefused read fault
+ReportsAmong profile read known (Err (KnownRefused number fault)) =
     (c : Class) × (i : ℕ) × IsFormed read c × (number ≡ i + 1) × IsFirstRefused known i fault
-ReportsAmong read known (Err (NoHierarchy fault)) =
+ReportsAmong profile read known (Err (NoHierarchy fault)) =
     (c : Class) × (cs : List Class) × IsFormed read c × AreFormed known cs
     × (fault ≢ hierarchies.OutOfMemory) × FaultOf (map summary_of (c ∷ cs)) fault
-ReportsAmong read known (Err FinalSuper) =
+ReportsAmong profile read known (Err FinalSuper) =
     (c : Class) × (cs : List Class) × IsFormed read c × AreFormed known cs
     × IsHierarchy (map summary_of (c ∷ cs)) × (has_final_super (map summary_of (c ∷ cs)) (summary_of c) ≡ true)

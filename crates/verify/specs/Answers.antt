@@ -1,7 +1,7 @@
 -- The answer about a method of a class (JVMS 4.10.1), by cases that exclude each other.
 use Rattle.std.specs.Prelude.{◌≡◌, ◌⊎◌, ℕ, List, Some, None, Result, Ok, Err, MatchResult, IfOk}
-use Rattle.classfile.specs.Values.{CodeBody, Class}
-use Rattle.classfile.specs.Methods.{Method, method_of}
+use Rattle.classfile.specs.Values.{CodeBody}
+use Rattle.classfile.specs.Methods.{JudgedClass, Method, method_of}
 use Rattle.classfile.specs.MethodParts.{code_at}
 use Rattle.hierarchy.specs.Class.{ClassFact}
 use Rattle.insn.specs.declared.fault.CodeFault.{CodeFault}
@@ -26,18 +26,18 @@ use Rattle.verify.specs.Steps.{place_of}
 use Rattle.verify.specs.Listed.{IsListed}
 
 -- Its bytes are no code: 79 where the first instruction at fault begins, with the number of its fault.
-pub record HasBadCode (c : Class) (number : ℕ) (at : ℕ) (why : Reason) : Type 0 where
+pub record HasBadCode (c : JudgedClass) (number : ℕ) (at : ℕ) (why : Reason) : Type 0 where
   pub body : CodeBody
-  pub has_code : code_at c number ≡ Some body
+  pub has_code : code_at c.file number ≡ Some body
   pub fault : CodeFault
   pub faulty : FaultyCode body.code fault
   pub there : at ≡ place_of fault
   pub told : why ≡ BadCode (code_fault_number fault)
 
 -- Its bytes are code, and this is the verdict.
-pub record HasVerdict (classes : List ClassFact) (c : Class) (number : ℕ) (v : verdicts.Verdict) : Type 0 where
+pub record HasVerdict (classes : List ClassFact) (c : JudgedClass) (number : ℕ) (v : verdicts.Verdict) : Type 0 where
   pub body : CodeBody
-  pub has_code : code_at c number ≡ Some body
+  pub has_code : code_at c.file number ≡ Some body
   pub instructions : List (ℕ × Instruction)
   pub spelled : SpellsCode 0 body.code instructions
   pub method : Method Act
@@ -45,16 +45,16 @@ pub record HasVerdict (classes : List ClassFact) (c : Class) (number : ℕ) (v :
   pub told : verdict plan classes method ≡ v
 
 -- The verdict refuses it, there and for this reason.
-pub record HasRefusal (classes : List ClassFact) (c : Class) (number : ℕ) (at : ℕ) (why : Reason) : Type 0 where
+pub record HasRefusal (classes : List ClassFact) (c : JudgedClass) (number : ℕ) (at : ℕ) (why : Reason) : Type 0 where
   pub refusal : verdicts.Verdict
   pub judged : HasVerdict classes c number refusal
   pub told : told_of refusal ≡ Some (at, reason_view why)
 
-abbrev pub IsRefused : List ClassFact → Class → ℕ → ℕ → Reason → Type 0
+abbrev pub IsRefused : List ClassFact → JudgedClass → ℕ → ℕ → Reason → Type 0
 IsRefused classes c number at why = HasBadCode c number at why ⊎ HasRefusal classes c number at why
 
 -- a method with a Code attribute
-abbrev pub AnswersCode : List ClassFact → Class → ℕ → Result Verdict VerifyFault → Type 0
+abbrev pub AnswersCode : List ClassFact → JudgedClass → ℕ → Result Verdict VerifyFault → Type 0
 AnswersCode classes c number (Ok Verified) = HasVerdict classes c number verified
 AnswersCode classes c number (Ok NoCode) = ⊥
 AnswersCode classes c number (Ok (Refused at why)) = IsRefused classes c number at why
@@ -62,19 +62,19 @@ AnswersCode classes c number (Err OutOfMemory) = Unit {0}
 AnswersCode classes c number (Err NotInHierarchy) = ⊥
 
 -- Any method. 80 where the hierarchy has not this class as it is; that goes first.
-abbrev pub Answers : List ClassFact → Class → ℕ → Result Verdict VerifyFault → Type 0
-Answers classes c number (Ok Verified) = IsListed classes c × IsTypeSafeIn classes c number × HasVerdict classes c number verified
-Answers classes c number (Ok NoCode) = IsListed classes c × (code_at c number ≡ None)
-Answers classes c number (Ok (Refused at why)) = IsListed classes c × IsRefused classes c number at why
+abbrev pub Answers : List ClassFact → JudgedClass → ℕ → Result Verdict VerifyFault → Type 0
+Answers classes c number (Ok Verified) = IsListed classes c.file × IsTypeSafeIn classes c number × HasVerdict classes c number verified
+Answers classes c number (Ok NoCode) = IsListed classes c.file × (code_at c.file number ≡ None)
+Answers classes c number (Ok (Refused at why)) = IsListed classes c.file × IsRefused classes c number at why
 Answers classes c number (Err OutOfMemory) = Unit {0}
-Answers classes c number (Err NotInHierarchy) = IsListed classes c → ⊥
+Answers classes c number (Err NotInHierarchy) = IsListed classes c.file → ⊥
 
 -- A method that is type-safe is verified, unless memory runs out.
-abbrev pub VerifiesTypeSafe : List ClassFact → Class → ℕ → Result Verdict VerifyFault → Type 0
+abbrev pub VerifiesTypeSafe : List ClassFact → JudgedClass → ℕ → Result Verdict VerifyFault → Type 0
 VerifiesTypeSafe classes c number r =
-    IsListed classes c → (m : Method Act) → IsMethod c number m → IsTypeSafe classes m
+    IsListed classes c.file → (m : Method Act) → IsMethod c number m → IsTypeSafe classes m
     → MatchResult r (λ v. v ≡ Verified) (λ e. e ≡ OutOfMemory)
 
 -- A method that is verified is safe, in all five parts of that and in every world that extends the hierarchy.
-abbrev pub VerifiedIsSafe : List ClassFact → Class → ℕ → Result Verdict VerifyFault → Type 0
+abbrev pub VerifiedIsSafe : List ClassFact → JudgedClass → ℕ → Result Verdict VerifyFault → Type 0
 VerifiedIsSafe classes c number r = IfOk r (λ v. v ≡ Verified → IsSafeIn classes c number)

@@ -7,8 +7,7 @@ use Rattle.names.specs.Descriptors.{class}
 use Rattle.names.specs.ReferenceTypes.{ReferenceType, class_type}
 use Rattle.names.specs.StandardNames.{init_name}
 use Rattle.pool.specs.Members.{MethodConstant, method_at}
-use Rattle.classfile.specs.Values.{Class}
-use Rattle.classfile.specs.Methods.{Method, own_receiver, receiver_of}
+use Rattle.classfile.specs.Methods.{JudgedClass, Method, own_receiver, receiver_of}
 use Rattle.hierarchy.specs.World.{World}
 use Rattle.insn.specs.Meanings as acts
 use Rattle.insn.specs.Meanings.{Act}
@@ -224,4 +223,4 @@ pub record HasClassRuns (world : World) (InPlay : Callee → Type 0) : Type 0 wh
 
 -- whatever the classes in play are
 abbrev pub ClassRunBreadth : Type 0
-ClassRunBreadth = (world : World) (cs : List Class) → HasClassRuns world (IsInPlay cs)
+ClassRunBreadth = (world : World) (cs : List JudgedClass) → HasClassRuns world (IsInPlay cs)

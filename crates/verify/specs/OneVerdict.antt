@@ -1,6 +1,6 @@
 -- A method has one verdict, and a class one report.
 use Rattle.std.specs.Prelude.{◌≡◌, ℕ, List, length, slice_get, Some, Ok}
-use Rattle.classfile.specs.Values.{Class}
+use Rattle.classfile.specs.Methods.{JudgedClass}
 use Rattle.hierarchy.specs.Class.{ClassFact}
 use Rattle.rules.specs.Reasons.{reason_number, reason_view}
 use Rattle.verify.specs.declared.verdict.Verdict.{Verdict}
@@ -20,7 +20,7 @@ AreSameVerdict _ _ = ⊥
 -- the class need not be one that is well formed
 abbrev pub OneVerdict : Type 0
 OneVerdict =
-    (classes : List ClassFact) (c : Class) (number : ℕ) (verdict other : Verdict)
+    (classes : List ClassFact) (c : JudgedClass) (number : ℕ) (verdict other : Verdict)
     → Answers classes c number (Ok verdict) → Answers classes c number (Ok other) → AreSameVerdict verdict other
 
 -- two answers say the same of a method
@@ -35,5 +35,5 @@ pub record IsSameReport (rs others : List MethodVerdict) : Type 0 where
 
 abbrev pub OneReport : Type 0
 OneReport =
-    (classes : List ClassFact) (c : Class) (rs others : List MethodVerdict) → IsReport classes c rs → IsReport classes c others
+    (classes : List ClassFact) (c : JudgedClass) (rs others : List MethodVerdict) → IsReport classes c rs → IsReport classes c others
     → IsSameReport rs others

@@ -1,6 +1,6 @@
 -- Words of the code's own steps through classes in play: nothing that a reader must believe rests on them.
 use Rattle.std.specs.Prelude.{◌≡◌, ℕ, ◌+◌, true, List, Result, Ok, Err}
-use Rattle.classfile.specs.Values.{Class}
+use Rattle.classfile.specs.Methods.{JudgedClass}
 use Rattle.hierarchy.specs.Class.{ClassFact}
 use Rattle.hierarchy.specs.Rules.{IsHierarchy}
 use Rattle.verify.specs.declared.met_names.MetNames.{MetNames}
@@ -11,12 +11,12 @@ use Rattle.verify.specs.MetNames.{is_met}
 use Rattle.verify.specs.Plays.{HasEarlier, IsFine, Breaks, HasRefused}
 
 -- the names of the classes before a place were met, and no others
-pub record AreMet (play : List Class) (place : ℕ) (names : MetNames) : Type 0 where
+pub record AreMet (play : List JudgedClass) (place : ℕ) (names : MetNames) : Type 0 where
   pub only : (name : List ℕ) → is_met names name ≡ true → HasEarlier play place name
   pub all : (name : List ℕ) → HasEarlier play place name → is_met names name ≡ true
 
 -- of the class at a place, whose name is met then
-abbrev pub Judges : List ClassFact → List Class → ℕ → Class → MetNames → Result Report PlayStop → Type 0
+abbrev pub Judges : List ClassFact → List JudgedClass → ℕ → JudgedClass → MetNames → Result Report PlayStop → Type 0
 Judges classes play place c names (Ok report) = IsHierarchy classes × IsFine classes play place c report.methods.items × AreMet play (place + 1) names
 Judges classes play place c names (Err OutOfMemory) = Unit {0}
 Judges classes play place c names (Err (Broken class rule)) = (class ≡ place) × Breaks classes play place c rule

@@ -1,6 +1,6 @@
 -- Classes in play: the reports on them, or the first class of the list that breaks a rule, and the least number that it breaks.
 use Rattle.std.specs.Prelude.{◌≡◌, ℕ, ◌<◌, true, false, List, length, slice_get, Some}
-use Rattle.classfile.specs.Values.{Class}
+use Rattle.classfile.specs.Methods.{JudgedClass}
 use Rattle.hierarchy.specs.Class.{ClassFact}
 use Rattle.hierarchy.specs.ClassSummary.{summary_of}
 use Rattle.verify.specs.declared.verdict.Verdict.{Verdict}
@@ -33,53 +33,53 @@ pub record IsFirstRefused (rs : List MethodVerdict) (n : ℕ) (r : MethodVerdict
   pub before : AreFineBelow rs n
 
 -- a class before this place has the name
-abbrev pub HasEarlier : List Class → ℕ → List ℕ → Type 0
-HasEarlier play place name = (j : ℕ) × (d : Class) × (j < place) × (slice_get play j ≡ Some d) × ((summary_of d).name ≡ name)
+abbrev pub HasEarlier : List JudgedClass → ℕ → List ℕ → Type 0
+HasEarlier play place name = (j : ℕ) × (d : JudgedClass) × (j < place) × (slice_get play j ≡ Some d) × ((summary_of d.file).name ≡ name)
 
-abbrev pub IsFirstOfName : List Class → ℕ → Class → Type 0
-IsFirstOfName play place c = HasEarlier play place (summary_of c).name → ⊥
+abbrev pub IsFirstOfName : List JudgedClass → ℕ → JudgedClass → Type 0
+IsFirstOfName play place c = HasEarlier play place (summary_of c.file).name → ⊥
 
 -- the class breaks no rule, and this is the report on it
-pub record IsFine (classes : List ClassFact) (play : List Class) (place : ℕ) (c : Class) (rs : List MethodVerdict) : Type 0 where
+pub record IsFine (classes : List ClassFact) (play : List JudgedClass) (place : ℕ) (c : JudgedClass) (rs : List MethodVerdict) : Type 0 where
   pub report : IsReport classes c rs
-  pub not_final : has_final_super classes (summary_of c) ≡ false
+  pub not_final : has_final_super classes (summary_of c.file) ≡ false
   pub first : IsFirstOfName play place c
   pub verified : AreFineBelow rs (length rs)
 
 -- the first rule that the class breaks
-abbrev pub Breaks : List ClassFact → List Class → ℕ → Class → PlayRule → Type 0
-Breaks classes play place c NotInHierarchy = IsListed classes c → ⊥
-Breaks classes play place c FinalSuper = IsListed classes c × (has_final_super classes (summary_of c) ≡ true)
+abbrev pub Breaks : List ClassFact → List JudgedClass → ℕ → JudgedClass → PlayRule → Type 0
+Breaks classes play place c NotInHierarchy = IsListed classes c.file → ⊥
+Breaks classes play place c FinalSuper = IsListed classes c.file × (has_final_super classes (summary_of c.file) ≡ true)
 Breaks classes play place c ClassInPlayTwice =
-    IsListed classes c × (has_final_super classes (summary_of c) ≡ false) × HasEarlier play place (summary_of c).name
+    IsListed classes c.file × (has_final_super classes (summary_of c.file) ≡ false) × HasEarlier play place (summary_of c.file).name
 
 -- the class breaks none of these rules, and this is its first method that is refused
-abbrev pub HasRefused : List ClassFact → List Class → ℕ → Class → ℕ → MethodVerdict → Type 0
+abbrev pub HasRefused : List ClassFact → List JudgedClass → ℕ → JudgedClass → ℕ → MethodVerdict → Type 0
 HasRefused classes play place c n r =
-    (has_final_super classes (summary_of c) ≡ false) × IsFirstOfName play place c
+    (has_final_super classes (summary_of c.file) ≡ false) × IsFirstOfName play place c
     × ((rs : List MethodVerdict) × IsReport classes c rs × IsFirstRefused rs n r)
 
 -- the first classes break no rule, and have these reports
-abbrev pub AreFine : List ClassFact → List Class → List Report → Type 0
+abbrev pub AreFine : List ClassFact → List JudgedClass → List Report → Type 0
 AreFine classes play rs =
-    (place : ℕ) (r : Report) → slice_get rs place ≡ Some r → (c : Class) × (slice_get play place ≡ Some c) × IsFine classes play place c r.methods.items
+    (place : ℕ) (r : Report) → slice_get rs place ≡ Some r → (c : JudgedClass) × (slice_get play place ≡ Some c) × IsFine classes play place c r.methods.items
 
 -- no class breaks a rule, and they have these reports
-abbrev pub ArePlayed : List ClassFact → List Class → List Report → Type 0
+abbrev pub ArePlayed : List ClassFact → List JudgedClass → List Report → Type 0
 ArePlayed classes play rs = (length rs ≡ length play) × AreFine classes play rs
 
 -- the class at a place is the first that breaks a rule, in this way
-abbrev pub BreaksFirst : List ClassFact → List Class → ℕ → (Class → Type 0) → Type 0
+abbrev pub BreaksFirst : List ClassFact → List JudgedClass → ℕ → (JudgedClass → Type 0) → Type 0
 BreaksFirst classes play place Way =
-    ((c : Class) × (slice_get play place ≡ Some c) × Way c) × ((rs : List Report) × (length rs ≡ place) × AreFine classes play rs)
+    ((c : JudgedClass) × (slice_get play place ≡ Some c) × Way c) × ((rs : List Report) × (length rs ≡ place) × AreFine classes play rs)
 
-abbrev pub IsNotPlayed : List ClassFact → List Class → PlayFault → Type 0
+abbrev pub IsNotPlayed : List ClassFact → List JudgedClass → PlayFault → Type 0
 IsNotPlayed classes play OutOfMemory = Unit {0}
 IsNotPlayed classes play (Broken place rule) = BreaksFirst classes play place (λ c. Breaks classes play place c rule)
 IsNotPlayed classes play (NotAllVerified place n) = BreaksFirst classes play place (λ c. (r : MethodVerdict) × HasRefused classes play place c n r)
 
 -- where a method is refused, this is the verdict on it
-abbrev pub IsStopped : List ClassFact → List Class → PlayStop → Type 0
+abbrev pub IsStopped : List ClassFact → List JudgedClass → PlayStop → Type 0
 IsStopped classes play stops.OutOfMemory = Unit {0}
 IsStopped classes play (stops.Broken place rule) = BreaksFirst classes play place (λ c. Breaks classes play place c rule)
 IsStopped classes play (stops.Refused place number method) = BreaksFirst classes play place (λ c. HasRefused classes play place c number method)

@@ -2,6 +2,9 @@
 use Rattle.std.specs.Prelude.{◌≡◌, ℕ, true, false, List, length, slice_get, Some, Result, Ok, Err}
 use Rattle.pool.specs.Lookups.{named}
 use Rattle.classfile.specs.Values.{Member, Class}
+use Rattle.classfile.specs.Methods.{JudgedClass}
+use Rattle.classfile.specs.CodeMethods.{judged}
+use Rattle.classfile.specs.declared.profile.Profile.{Profile}
 use Rattle.classfile.specs.ClassFile as class_files
 use Rattle.classfile.specs.ClassFile.{IsClass}
 use Rattle.classfile.specs.WellFormed.{WellFormed, IsFirstFault}
@@ -18,34 +21,34 @@ use Rattle.verify.specs.FinalSuper.{has_final_super}
 use Rattle.verify.specs.Answers.{Answers, VerifiesTypeSafe}
 
 -- what is answered of the method of this number
-pub record IsReported (classes : List ClassFact) (c : Class) (number : ℕ) (r : MethodVerdict) : Type 0 where
+pub record IsReported (classes : List ClassFact) (c : JudgedClass) (number : ℕ) (r : MethodVerdict) : Type 0 where
   pub member : Member
-  pub numbered : slice_get c.methods number ≡ Some member
-  pub called : named c.constant_pool member.name member.descriptor ≡ Ok (record { name = r.name.bytes.now; descriptor = r.descriptor.bytes.now })
+  pub numbered : slice_get c.file.methods number ≡ Some member
+  pub called : named c.file.constant_pool member.name member.descriptor ≡ Ok (record { name = r.name.bytes.now; descriptor = r.descriptor.bytes.now })
   pub exactly : Answers classes c number (Ok r.verdict)
   pub only : VerifiesTypeSafe classes c number (Ok r.verdict)
   -- a method that is verified is safe, in all five parts of that and in every world that extends the hierarchy
   pub safe : r.verdict ≡ Verified → IsSafeIn classes c number
 
 -- of a class that the hierarchy has as it is, also where it has no methods
-pub record IsReport (classes : List ClassFact) (c : Class) (rs : List MethodVerdict) : Type 0 where
-  pub listed : IsListed classes c
-  pub all : length rs ≡ length c.methods
+pub record IsReport (classes : List ClassFact) (c : JudgedClass) (rs : List MethodVerdict) : Type 0 where
+  pub listed : IsListed classes c.file
+  pub all : length rs ≡ length c.file.methods
   pub each : (number : ℕ) (r : MethodVerdict) → slice_get rs number ≡ Some r → IsReported classes c number r
 
 -- Of a class that is well formed: the first of these that holds. The hierarchy has it not as it is (80); its superclass is final
 -- there (81); and otherwise the verdicts on its methods.
-abbrev pub Reports : List ClassFact → Class → Result Report ClassFault → Type 0
-Reports classes c (Ok report) = (has_final_super classes (summary_of c) ≡ false) × IsReport classes c report.methods.items
+abbrev pub Reports : List ClassFact → JudgedClass → Result Report ClassFault → Type 0
+Reports classes c (Ok report) = (has_final_super classes (summary_of c.file) ≡ false) × IsReport classes c report.methods.items
 Reports classes c (Err OutOfMemory) = Unit {0}
-Reports classes c (Err NotInHierarchy) = IsListed classes c → ⊥
-Reports classes c (Err FinalSuper) = IsListed classes c × (has_final_super classes (summary_of c) ≡ true)
+Reports classes c (Err NotInHierarchy) = IsListed classes c.file → ⊥
+Reports classes c (Err FinalSuper) = IsListed classes c.file × (has_final_super classes (summary_of c.file) ≡ true)
 Reports classes c (Err (NoClass fault)) = ⊥
 Reports classes c (Err (Malformed rule place)) = ⊥
 
--- of bytes: their fault as a class file, or the rule that the class breaks first, or what is answered of a class that is well formed
-abbrev pub ReportsBytes : List ClassFact → List ℕ → Result Report ClassFault → Type 0
-ReportsBytes classes bytes (Err OutOfMemory) = Unit {0}
-ReportsBytes classes bytes (Err (NoClass fault)) = class_files.ClassFault bytes fault
-ReportsBytes classes bytes (Err (Malformed rule place)) = (c : Class) × IsClass bytes c × IsFirstFault c rule place
-ReportsBytes classes bytes answer = (c : Class) × IsClass bytes c × WellFormed c × Reports classes c answer
+-- by a profile, of bytes: their fault as a class file, or the rule that the class breaks first, or what is answered of a class that is well formed
+abbrev pub ReportsBytes : Profile → List ClassFact → List ℕ → Result Report ClassFault → Type 0
+ReportsBytes profile classes bytes (Err OutOfMemory) = Unit {0}
+ReportsBytes profile classes bytes (Err (NoClass fault)) = class_files.ClassFault bytes fault
+ReportsBytes profile classes bytes (Err (Malformed rule place)) = (c : Class) × IsClass bytes c × IsFirstFault c rule place
+ReportsBytes profile classes bytes answer = (c : Class) × IsClass bytes c × WellFormed c × Reports classes (judged profile c) answer

@@ -1,6 +1,7 @@
 -- Words of the code's own steps from files to classes in play: nothing that a reader must believe rests on them.
 use Rattle.std.specs.Prelude.{ℕ, ◌<◌, List, [], ◌∷◌, length, take, map, Option, Some, None}
 use Rattle.classfile.specs.Values.{Class}
+use Rattle.classfile.specs.declared.profile.Profile.{Profile}
 use Rattle.classfile.specs.declared.class_file.ClassFile.{ClassFile}
 use Rattle.classfile.specs.Views.{class_view}
 use Rattle.classfile.specs.WellFormed.{WellFormed}
@@ -23,7 +24,7 @@ AreWellFormed (c ∷ cs) = WellFormed c × AreWellFormed cs
 -- All files are classes. Or those in front of one are, and this is the fault of that one, unless one of those is not well formed.
 abbrev pub DecodesAll : List Read → List Class → Option TogetherFault → Type 0
 DecodesAll reads cs None = AreDecoded reads cs
-DecodesAll reads cs (Some fault) = AreDecoded (take (length cs) reads) cs × (AreWellFormed cs → NotTogether reads fault)
+DecodesAll reads cs (Some fault) = AreDecoded (take (length cs) reads) cs × (AreWellFormed cs → (profile : Profile) → NotTogether profile reads fault)
 
 abbrev pub views : List ClassFile → List Class
 views classes = map (λ c. class_view c) classes

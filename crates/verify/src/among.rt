@@ -1,6 +1,8 @@
 //! A class among the classes that it may refer to.
 ghost use Rattle.std.specs.Prelude.{◌≡◌, ℕ, ◌+◌, List, Err, map};
-ghost use Rattle.classfile.specs.Views.{class_view};
+ghost use Rattle.classfile.specs.CodeMethods.{judged_class};
+ghost use Rattle.classfile.specs.declared.profile.Profile.{Profile as ProfileFact};
+ghost use Rattle.classfile.specs.declared.profile.Profile.TheVariants.{Default};
 ghost use Rattle.hierarchy.specs.Class.{ClassFact};
 ghost use Rattle.hierarchy.specs.Summary.{facts_of};
 ghost use Rattle.verify.specs.Files.{Read, read_of, OrMemory, IsRefused, IsFirstRefused};
@@ -11,7 +13,7 @@ ghost use Rattle.verify.specs.declared.among.AmongFault.TheVariants.{OutOfMemory
 use crate::files::{FileFault, FileRead, class_in, formed, summary_in};
 use crate::final_super::has_final_super;
 use crate::report::{Report, report_listed};
-use classfile::Formed;
+use classfile::{Formed, Profile};
 use hierarchy::{HierarchyFault, Rows, Summary, summary_of};
 use std::alloc::{AllocError, AllocFailed, Global};
 use std::hash::BuildHasher;
@@ -74,8 +76,8 @@ fn report_in<'a, S: BuildHasher + Drop>(
     summaries: &[Summary<'a>],
     hasher: S,
 ) -> Result<Report<'a>, AmongFault<'a>>
-    requires { BeginWith (facts_of summaries.now) (class_view formed.now.class.now) }
-    ensures { ReportsSummaries (facts_of summaries.now) (class_view formed.now.class.now) result }
+    requires { BeginWith (facts_of summaries.now) (judged_class formed.now) }
+    ensures { ReportsSummaries (facts_of summaries.now) (judged_class formed.now) result }
 {
     let classes = match Rows::new(alloc, summaries, hasher) {
         Ok(classes) => classes,
@@ -98,7 +100,7 @@ fn report_formed<'a, S: BuildHasher + Drop>(
     known: &[FileRead<'a>],
     hasher: S,
 ) -> Result<Report<'a>, AmongFault<'a>>
-    ensures { ReportsFormed (class_view formed.now.class.now) (map read_of known.now) result }
+    ensures { ReportsFormed (judged_class formed.now) (map read_of known.now) result }
 {
     let mut summaries = Vec::with_capacity(alloc, known.len())?;
     summaries.push(summary_of(alloc, formed)?)?;
@@ -119,21 +121,34 @@ pub fn verify_among<'a, S: BuildHasher + Drop>(
     known: &[FileRead<'a>],
     hasher: S,
 ) -> Result<Report<'a>, AmongFault<'a>>
-    ensures { ReportsAmong (read_of class.entry) (map read_of known.now) result }
+    ensures { ReportsAmong Default (read_of class.entry) (map read_of known.now) result }
+{
+    verify_among_under(alloc, Profile::Default, class, known, hasher)
+}
+
+/// The verdicts on the methods of a class, by a profile, as [`verify_among`] gives them.
+pub fn verify_among_under<'a, S: BuildHasher + Drop>(
+    alloc: Global,
+    profile: Profile,
+    class: FileRead<'a>,
+    known: &[FileRead<'a>],
+    hasher: S,
+) -> Result<Report<'a>, AmongFault<'a>>
+    ensures { ReportsAmong profile (read_of class.entry) (map read_of known.now) result }
 {
     let class = match class_in(alloc, class) {
         Ok(class) => class,
         Err(fault) => return Err(refused(fault)),
     };
     match formed(alloc, &class) {
-        Ok(formed) => report_formed(alloc, &formed, known, hasher),
+        Ok(formed) => report_formed(alloc, &formed.under(profile), known, hasher),
         Err(fault) => Err(refused(fault)),
     }
 }
 
 /// The fault of the class itself where it is refused.
 fn refused<'a>(fault: FileFault) -> AmongFault<'a>
-    ensures { (read : Read) (known : List Read) → OrMemory read fault → ReportsAmong read known (Err result) }
+    ensures { (profile : ProfileFact) (read : Read) (known : List Read) → OrMemory read fault → ReportsAmong profile read known (Err result) }
 {
     match fault {
         FileFault::OutOfMemory => AmongFault::OutOfMemory,

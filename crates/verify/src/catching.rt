@@ -37,47 +37,24 @@ fn stack_answer<'a, C: Classes>(caught: RefType<'a>, stack: &[VType<'a>], classe
     }
 }
 
-/// The locals of a frame to these, all beyond them being top.
-fn locals_answer<'a, C: Classes>(
-    frame: &Working<'a>,
-    locals: &[VType<'a>],
-    classes: &C,
-) -> Answer<'a>
-    requires { length locals.now ≤ length (held frame.now).locals }
-    ensures { let f = held frame.now in
-        outcome_of result ≡ list_answer (type_answer (C.content classes.now)) f.locals (held_locals locals.now (length f.locals)) }
-{
-    let mut so_far = Answer::Yes;
-    for i in 0..locals.len() {
-        let answer = assignable(&frame.local(i), &locals[i], classes);
-        if let Answer::No = answer {
-            return Answer::No;
-        }
-        so_far = both(so_far, answer);
-    }
-    so_far
-}
-
 /// The locals of a frame to those of a declared one. They are not compared where they are known to fit them.
 fn declared_answer<'n, 'a, C: Classes>(
     frame: &Working<'a>,
     declared: &Declared<'n, 'a>,
     frames: &'n DeclaredFrames<'a>,
     known: &mut Known<'n, 'a>,
-    room: &mut Vec<VType<'a>>,
     classes: &C,
-) -> Result<Answer<'a>, AllocError>
+) -> Answer<'a>
     requires size { length (declared_view declared.now).locals ≡ length (held frame.now).locals }
     requires own { IsOf frames.now declared.now }
     requires known { IsKnown (C.content classes.now) frames.now (held frame.now) known.old }
-    ensures told { IfOk result (λ a. outcome_of a ≡ list_answer (type_answer (C.content classes.now)) (held frame.now).locals (declared_view declared.now).locals) }
+    ensures told { outcome_of result ≡ list_answer (type_answer (C.content classes.now)) (held frame.now).locals (declared_view declared.now).locals }
     ensures known { IsKnown (C.content classes.now) frames.now (held frame.now) known.new }
 {
     if known.fits(declared, frames, frame, classes) {
-        return Ok(Answer::Yes);
+        return Answer::Yes;
     }
-    declared.write_locals(None, room)?;
-    Ok(locals_answer(frame, room, classes))
+    declared.locals_answer(frame.locals(), classes)
 }
 
 /// The frame with what is caught alone on its stack, to a declared frame.
@@ -104,11 +81,11 @@ fn frame_answer<'n, 'a, C: Classes>(
     if let Answer::No = stack {
         return Ok(Answer::No);
     }
-    let locals = declared_answer(frame, declared, frames, known, room, classes)?;
+    let locals = declared_answer(frame, declared, frames, known, classes);
     Ok(both(locals, stack))
 }
 
-/// The frame with what an entry catches alone on its stack, to that of the handler. In `room` the handler's frame is written.
+/// The frame with what an entry catches alone on its stack, to that of the handler. In `room` the stack of the handler's frame is written.
 pub fn caught_answer<'n, 'a, C: Classes>(
     entry: &Entry<'a>,
     frame: &Working<'a>,

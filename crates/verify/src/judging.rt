@@ -38,7 +38,7 @@ use insn::{Act, Instructions};
 use pool::Descriptors;
 use rules::{
     Members, Named, Reason, Working, branches_by, check_member, constructs_own, first_reason,
-    goes_on, is_plain, keeps_locals, run, run_plain, together,
+    goes_on, is_plain, keeps_locals, replaced_object, run, run_plain, together,
 };
 use std::alloc::{AllocError, Global};
 
@@ -202,7 +202,8 @@ fn judge_wholly<'n, 'a, C: Classes>(
     let used = check_member(method, &act, &named, members, frame, classes);
     let caught = handlers.catch(at, frame, frames, known, classes);
     let before = together(used, caught);
-    known.behind(&act, frame)?;
+    let object = replaced_object(method, at, &act, &named, frame);
+    known.behind(&act, object, frame)?;
     handlers.behind(keeps_locals(&act))?;
     judge_named(
         alloc,
@@ -258,7 +259,7 @@ fn judge<'n, 'a, C: Classes>(
     ensures handlers { let m = method_view method.now in OnOk result (Follows (C.content classes.now) (frames_in frames.now) m.exceptions at (held frame.new) handlers.new) }
 {
     if !last && is_plain(act) && handlers.are_idle(at) {
-        known.behind(act, frame)?;
+        known.behind(act, None, frame)?;
         handlers.behind(keeps_locals(act))?;
         return run_plain(method, act, frame, classes);
     }

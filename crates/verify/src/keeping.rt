@@ -5,10 +5,10 @@ ghost use Rattle.frames.specs.FrameFact.{FrameFact};
 ghost use Rattle.frames.specs.VerificationType.{VerificationType, top};
 ghost use Rattle.frames.specs.declared.declared_frames.DeclaredFrames.{DeclaredFrames};
 
-use frames::{Declared, DeclaredFrames, Fitting, VType};
+use frames::{Declared, DeclaredFrames, Fitting, VType, is_object};
 use hierarchy::{Answer, Classes};
 use insn::Act;
-use rules::{Working, keeps_locals, stored_to};
+use rules::{Working, stored_to};
 use std::alloc::{AllocError, Global};
 
 /// A local variable that was changed.
@@ -32,7 +32,7 @@ pub struct Known<'n, 'a> {
 }
 
 impl<'n, 'a> Known<'n, 'a> {
-    ghost use Rattle.std.specs.Prelude.{◌≤◌, [], true, length, option_map, IfSome, IfOk};
+    ghost use Rattle.std.specs.Prelude.{◌≤◌, [], true, false, length, option_map, Some, None, IfSome, IfOk};
     ghost use Rattle.classfile.specs.Methods.{Method};
     ghost use Rattle.hierarchy.specs.Answer.{yes, outcome_of};
     ghost use Rattle.insn.specs.Meanings as acts;
@@ -41,9 +41,13 @@ impl<'n, 'a> Known<'n, 'a> {
     ghost use Rattle.frames.specs.Assignable.{type_answer};
     ghost use Rattle.frames.specs.FrameAssignable.{list_answer, frame_answer};
     ghost use Rattle.frames.specs.Fitting.{AreFitting};
+    ghost use Rattle.frames.specs.Objects.{is_initialized};
+    ghost use Rattle.frames.specs.VerificationType.{type_of};
     ghost use Rattle.rules.specs.After.{after, stored, top_of};
     ghost use Rattle.rules.specs.Held.{held};
+    ghost use Rattle.rules.specs.Replacing.{ChangesOnly};
     ghost use Rattle.rules.specs.Table.{plan};
+    ghost use Rattle.rules.specs.Ways.{stored_to};
     ghost use Rattle.rules.specs.Views.{with_half_free};
     ghost use Rattle.verify.specs.Verdict.{entered};
     ghost use Rattle.verify.specs.Keeping.{IsKnown, IsKept, IsSameBeneath, restored};
@@ -221,26 +225,58 @@ impl<'n, 'a> Known<'n, 'a> {
         self.fill_half(local, frame)
     }
 
-    // All locals are to be written.
-    fn forget(&mut self) -> Result<(), AllocError>
-        ensures { (cs : List ClassFact) (t : DeclaredFrames) (f g : FrameFact) → IsKnown cs t f self.old → OnOk result (IsKnown cs t g self.new) }
+    // A local is to be written, where it holds an object which is not initialized.
+    fn replace_object(
+        &mut self,
+        object: &VType<'a>,
+        place: usize,
+        frame: &Working<'a>,
+    ) -> Result<(), AllocError>
+        ensures { (cs : List ClassFact) (t : DeclaredFrames) (f g : FrameFact) (x : VerificationType)
+            → length f.locals ≡ length (held frame.now).locals → get_or f.locals place top ≡ get_or (held frame.now).locals place top → g.locals ≡ set f.locals place x
+            → (is_initialized (type_of object.now) (get_or f.locals place top) ≡ false → x ≡ get_or f.locals place top)
+            → IsKnown cs t f self.old → OnOk result (IsKnown cs t g self.new) }
     {
-        self.kept = None;
-        self.replaced.clear();
-        self.fitting.forget()
-    }
-
-    /// The facts about a frame become those about the one after an instruction that means this.
-    pub fn behind(&mut self, act: &Act<'_>, frame: &Working<'a>) -> Result<(), AllocError>
-        ensures { (cs : List ClassFact) (t : DeclaredFrames) (m : Method acts.Act) (at : ℕ) → let f = held frame.now in
-            IsKnown cs t f self.old → OnOk result (IsKnown cs t (after m at (plan m (act_view act.now)) f) self.new) }
-    {
-        if keeps_locals(act) {
+        if usize::from(frame.max_locals()) <= place {
             return Ok(());
         }
-        match stored_to(act) {
-            Some(local) => self.store(local, frame),
-            None => self.forget(),
+        if !is_object(object, &frame.local(place)) {
+            return Ok(());
+        }
+        self.replace(place as u16, frame)
+    }
+
+    // The locals that hold an object which is not initialized are to be written.
+    #[inline(never)]
+    fn replace_all(&mut self, object: &VType<'a>, frame: &Working<'a>) -> Result<(), AllocError>
+        ensures { (cs : List ClassFact) (t : DeclaredFrames) (g : FrameFact) → ChangesOnly (Some (type_of object.now)) (held frame.now) g
+            → IsKnown cs t (held frame.now) self.old → OnOk result (IsKnown cs t g self.new) }
+    {
+        let mut at = frame.first_holder(object);
+        while let Some(holder) = frame.holder(at) {
+            self.replace_object(object, holder.place, frame)?;
+            at = holder.next;
+        }
+        Ok(())
+    }
+
+    /// The facts about a frame become those about the one after an instruction that means this. Unless it is a store, it changes no other locals
+    /// than those that hold an object.
+    pub fn behind(
+        &mut self,
+        act: &Act<'_>,
+        object: Option<VType<'a>>,
+        frame: &Working<'a>,
+    ) -> Result<(), AllocError>
+        ensures { (cs : List ClassFact) (t : DeclaredFrames) (m : Method acts.Act) (at : ℕ) → let f = held frame.now in let g = after m at (plan m (act_view act.now)) f in
+            (stored_to (act_view act.now) ≡ None → ChangesOnly (option_map type_of object.entry) f g) → IsKnown cs t f self.old → OnOk result (IsKnown cs t g self.new) }
+    {
+        if let Some(local) = stored_to(act) {
+            return self.store(local, frame);
+        }
+        match object {
+            Some(object) => self.replace_all(&object, frame),
+            None => Ok(()),
         }
     }
 }

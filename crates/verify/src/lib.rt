@@ -49,7 +49,7 @@ mod together;
 mod verdict;
 mod verified_walk;
 
-pub use among::{AmongFault, verify_among};
+pub use among::{AmongFault, verify_among, verify_among_under};
 pub use files::{FileFault, FileRead, class_file};
 pub use laws::{
     class_run_breadth, fits_breadth, map_refused_where, one_report, one_verdict, refused_breaks,
@@ -57,8 +57,10 @@ pub use laws::{
 };
 pub use method::verify_method;
 pub use play::{PlayFault, PlayRule, verify_play};
-pub use report::{ClassFault, MethodVerdict, Report, verify_class, verify_methods};
+pub use report::{
+    ClassFault, MethodVerdict, Report, verify_class, verify_class_under, verify_methods,
+};
 pub use theorem::{type_safe_is_safe, verified_is_playable};
-pub use together::{TogetherFault, verify_together};
+pub use together::{TogetherFault, verify_together, verify_together_under};
 pub use verdict::{Verdict, VerifyFault};
 pub use verified_walk::{WalkFault, walk_verified};

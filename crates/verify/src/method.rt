@@ -3,7 +3,7 @@ ghost use Rattle.std.specs.Prelude.{◌≡◌, ◌<◌, ◌≤◌, ℕ, true, Li
 ghost use Rattle.layout.specs.declared.limits.TheConstants.{MAX_CODE_BYTES};
 ghost use Rattle.names.specs.Types.{type_of, method_of};
 ghost use Rattle.classfile.specs.MethodParts.{code_at};
-ghost use Rattle.classfile.specs.CodeMethods.{code_method_view, types_of};
+ghost use Rattle.classfile.specs.CodeMethods.{judged_class, class_of, code_method_view, types_of};
 ghost use Rattle.classfile.specs.Views.{class_view, code_view};
 ghost use Rattle.classfile.specs.WellFormed.{WellFormed};
 ghost use Rattle.insn.specs.Instructions.{Instruction};
@@ -146,7 +146,7 @@ fn verify_code<'a, C: Classes>(
     requires coded { code_at (class_view method.class.now) method.number ≡ Some (code_view method.code.now) }
     ensures same { constants.new ≡ constants.old }
     ensures same_members { members.new ≡ members.old }
-    ensures answered { AnswersCode (C.content classes.now) (class_view method.entry.class.now) method.entry.number result }
+    ensures answered { AnswersCode (C.content classes.now) (class_of method.entry) method.entry.number result }
 {
     let starts = match CodeStarts::new(alloc, method.code.code) {
         Ok(starts) => starts,
@@ -181,7 +181,7 @@ pub fn verify_listed<'a, C: Classes>(
     requires listed { IsListed (C.content classes.now) (class_view formed.now.class.now) }
     ensures same { constants.new ≡ constants.old }
     ensures same_members { members.new ≡ members.old }
-    ensures answered { Answers (C.content classes.now) (class_view formed.now.class.now) number result }
+    ensures answered { Answers (C.content classes.now) (judged_class formed.now) number result }
 {
     formed.class();
     match formed.method(number) {
@@ -192,7 +192,7 @@ pub fn verify_listed<'a, C: Classes>(
 
 /// The verdict on the method of this number, which counts from 0, of a class in a hierarchy (JVMS 4.10.1).
 ///
-/// A method without a Code attribute has none. The first of these steps that refuses says why and where:
+/// It is judged by the profile of its class (see [`Formed::under`]). A method without a Code attribute has none. The first of these steps that refuses says why and where:
 ///
 /// - 79 where the first instruction at fault begins, with the number of its fault (31 to 35);
 /// - 64 at 0: the receiver and the parameters do not fit into max_locals;
@@ -212,11 +212,11 @@ pub fn verify_method<'a, C: Classes>(
 ) -> Result<Verdict<'a>, VerifyFault>
     requires { number < length formed.now.class.now.methods.items }
     // Each answer exactly where it holds, unless memory runs out.
-    ensures exactly { Answers (C.content classes.now) (class_view formed.now.class.now) number result }
+    ensures exactly { Answers (C.content classes.now) (judged_class formed.now) number result }
     // Type-safe methods are verified.
-    ensures only { VerifiesTypeSafe (C.content classes.now) (class_view formed.now.class.now) number result }
+    ensures only { VerifiesTypeSafe (C.content classes.now) (judged_class formed.now) number result }
     // No run of a method that is verified meets a fault: operands, stack, control, objects and own object are right throughout.
-    ensures safe { VerifiedIsSafe (C.content classes.now) (class_view formed.now.class.now) number result }
+    ensures safe { VerifiedIsSafe (C.content classes.now) (judged_class formed.now) number result }
 {
     if !is_listed(alloc, formed, classes)? {
         return Err(VerifyFault::NotInHierarchy);

@@ -1,7 +1,7 @@
 //! Classes in play: the reports on classes whose methods may call each other.
 ghost use Rattle.std.specs.Prelude.{◌≡◌, ◌↔◌, ◌<◌, IsTrue, List, map, length, slice_get, Some, IfOk, MatchOption, MatchResult};
-ghost use Rattle.classfile.specs.Values.{Class};
-ghost use Rattle.classfile.specs.Views.{class_view};
+ghost use Rattle.classfile.specs.CodeMethods.{judged_class};
+ghost use Rattle.classfile.specs.Methods.{JudgedClass};
 ghost use Rattle.hierarchy.specs.Class.{ClassFact};
 ghost use Rattle.hierarchy.specs.Rules.{IsHierarchy};
 ghost use Rattle.verify.specs.Plays.{IsFineVerdict, IsFirstRefused, AreFineBelow, ArePlayed, IsNotPlayed, IsStopped, rule_number, play_fault_number};
@@ -139,7 +139,7 @@ fn judge<'a, C: Classes>(
     names: &mut MetNames<'a>,
     classes: &C,
 ) -> Result<Report<'a>, PlayStop<'a>>
-    ensures { (play : List Class) → slice_get play class ≡ Some (class_view formed.now.class.now) → AreMet play class names.old → Judges (C.content classes.now) play class (class_view formed.now.class.now) names.new result }
+    ensures { (play : List JudgedClass) → slice_get play class ≡ Some (judged_class formed.now) → AreMet play class names.old → Judges (C.content classes.now) play class (judged_class formed.now) names.new result }
 {
     let summary = summary_of(alloc, formed)?;
     if !has_summary(&summary, classes) {
@@ -173,7 +173,7 @@ fn reports_in_turn<'a, C: Classes>(
     play: &[Formed<'_, 'a>],
     classes: &C,
 ) -> Result<Vec<Report<'a>>, PlayStop<'a>>
-    ensures exactly { let cs = map (λ f. class_view f.class.now) play.now in MatchResult result (λ rs. ArePlayed (C.content classes.now) cs rs.items) (IsStopped (C.content classes.now) cs) }
+    ensures exactly { let cs = map judged_class play.now in MatchResult result (λ rs. ArePlayed (C.content classes.now) cs rs.items) (IsStopped (C.content classes.now) cs) }
     ensures hierarchy { IfOk result (λ rs. 0 < length rs.items → IsHierarchy (C.content classes.now)) }
 {
     let mut reports = Vec::with_capacity(alloc, play.len())?;
@@ -199,7 +199,7 @@ pub fn reports_in_play<'a, C: Classes>(
     play: &[Formed<'_, 'a>],
     classes: &C,
 ) -> Result<Vec<Report<'a>>, PlayStop<'a>>
-    ensures exactly { let cs = map (λ f. class_view f.class.now) play.now in MatchResult result (λ rs. ArePlayed (C.content classes.now) cs rs.items) (IsStopped (C.content classes.now) cs) }
+    ensures exactly { let cs = map judged_class play.now in MatchResult result (λ rs. ArePlayed (C.content classes.now) cs rs.items) (IsStopped (C.content classes.now) cs) }
     ensures hierarchy { IfOk result (λ rs. 0 < length rs.items → IsHierarchy (C.content classes.now)) }
 {
     let names = names_of(alloc, play)?;
@@ -209,7 +209,7 @@ pub fn reports_in_play<'a, C: Classes>(
 
 /// The fault of classes in play that have no reports.
 fn fault_of(stop: PlayStop<'_>) -> PlayFault
-    ensures { (classes : List ClassFact) (cs : List Class) → IsStopped classes cs stop.entry → IsNotPlayed classes cs result }
+    ensures { (classes : List ClassFact) (cs : List JudgedClass) → IsStopped classes cs stop.entry → IsNotPlayed classes cs result }
 {
     match stop {
         PlayStop::OutOfMemory => PlayFault::OutOfMemory,
@@ -222,7 +222,7 @@ fn fault_of(stop: PlayStop<'_>) -> PlayFault
 }
 
 /// The reports on classes that are in play together: any method of theirs may be entered where another calls it. They are in the order of the
-/// list, and each method that has code is verified.
+/// list, and each method that has code is verified, by the profile of its class (see [`Formed::under`]).
 ///
 /// Refused is the first class that breaks a rule, for the least number: 80 and 81 as by [`verify_methods`](crate::verify_methods), 83 where
 /// an earlier class has its name, 84 where one of its methods is refused. 1 where memory ran out.
@@ -234,8 +234,8 @@ pub fn verify_play<'a, C: Classes>(
     play: &[Formed<'_, 'a>],
     classes: &C,
 ) -> Result<Vec<Report<'a>>, PlayFault>
-    ensures exactly { let cs = map (λ f. class_view f.class.now) play.now in MatchResult result (λ rs. ArePlayed (C.content classes.now) cs rs.items) (IsNotPlayed (C.content classes.now) cs) }
-    ensures safe { IfOk result (λ _. ArePlayable (C.content classes.now) (map (λ f. class_view f.class.now) play.now)) }
+    ensures exactly { let cs = map judged_class play.now in MatchResult result (λ rs. ArePlayed (C.content classes.now) cs rs.items) (IsNotPlayed (C.content classes.now) cs) }
+    ensures safe { IfOk result (λ _. ArePlayable (C.content classes.now) (map judged_class play.now)) }
 {
     match reports_in_play(alloc, play, classes) {
         Ok(reports) => Ok(reports),

@@ -1,6 +1,8 @@
 //! The verdicts on the methods of a class.
 ghost use Rattle.std.specs.Prelude.{◌≡◌, ◌<◌, length, IfOk, IfErr};
+ghost use Rattle.classfile.specs.CodeMethods.{judged_class};
 ghost use Rattle.classfile.specs.Views.{class_view};
+ghost use Rattle.classfile.specs.declared.profile.Profile.TheVariants.{Default};
 ghost use Rattle.classfile.specs.WellFormed.{WellFormed};
 ghost use Rattle.hierarchy.specs.Rules.{IsHierarchy};
 ghost use Rattle.verify.specs.declared.verdict.VerifyFault.TheVariants.{OutOfMemory};
@@ -11,7 +13,7 @@ use crate::final_super::has_final_super;
 use crate::listing::has_summary;
 use crate::method::verify_listed;
 use crate::verdict::{Verdict, VerifyFault};
-use classfile::{FormFault, FormRule, Formed, Place, decode, form_check};
+use classfile::{FormFault, FormRule, Formed, Place, Profile, decode, form_check};
 use hierarchy::{Classes, summary_of};
 use layout::ReadFault;
 use names::Text;
@@ -85,7 +87,7 @@ fn report_on<'a, C: Classes>(
     requires listed { IsListed (C.content classes.now) (class_view formed.now.class.now) }
     ensures same { constants.new ≡ constants.old }
     ensures same_members { members.new ≡ members.old }
-    ensures found { IfOk result (IsReported (C.content classes.now) (class_view formed.now.class.now) number) }
+    ensures found { IfOk result (IsReported (C.content classes.now) (judged_class formed.now) number) }
     ensures memory { IfErr result (λ e. e ≡ OutOfMemory) }
 {
     let class = formed.class();
@@ -111,7 +113,7 @@ pub fn report_listed<'a, C: Classes>(
 ) -> Result<Report<'a>, VerifyFault>
     requires hierarchy { IsHierarchy (C.content classes.now) }
     requires listed { IsListed (C.content classes.now) (class_view formed.now.class.now) }
-    ensures found { IfOk result (λ r. IsReport (C.content classes.now) (class_view formed.now.class.now) r.methods.items) }
+    ensures found { IfOk result (λ r. IsReport (C.content classes.now) (judged_class formed.now) r.methods.items) }
     ensures memory { IfErr result (λ e. e ≡ OutOfMemory) }
 {
     let mut methods = Vec::new(alloc);
@@ -134,7 +136,7 @@ pub fn report_listed<'a, C: Classes>(
     Ok(Report { methods })
 }
 
-/// The verdicts on the methods of a class that is well formed, in a hierarchy and in the order of the file (JVMS 4.10.1), each as
+/// The verdicts on the methods of a class that is well formed, by its profile (see [`Formed::under`]), in a hierarchy and in the order of the file (JVMS 4.10.1), each as
 /// [`verify_method`](crate::verify_method) answers it. 80 where the hierarchy has not this class as it is, which is looked up once;
 /// otherwise 81 where the superclass is final there; or 1, where memory ran out.
 pub fn verify_methods<'a, C: Classes>(
@@ -142,7 +144,7 @@ pub fn verify_methods<'a, C: Classes>(
     formed: &Formed<'_, 'a>,
     classes: &C,
 ) -> Result<Report<'a>, ClassFault>
-    ensures { Reports (C.content classes.now) (class_view formed.now.class.now) result }
+    ensures { Reports (C.content classes.now) (judged_class formed.now) result }
 {
     let summary = summary_of(alloc, formed)?;
     if !has_summary(&summary, classes) {
@@ -164,7 +166,19 @@ pub fn verify_class<'a, C: Classes>(
     bytes: &'a [u8],
     classes: &C,
 ) -> Result<Report<'a>, ClassFault>
-    ensures { ReportsBytes (C.content classes.now) bytes.now result }
+    ensures { ReportsBytes Default (C.content classes.now) bytes.now result }
+{
+    verify_class_under(alloc, bytes, Profile::Default, classes)
+}
+
+/// The verdicts on the methods of the class that these bytes are, by a profile, as [`verify_class`] gives them.
+pub fn verify_class_under<'a, C: Classes>(
+    alloc: Global,
+    bytes: &'a [u8],
+    profile: Profile,
+    classes: &C,
+) -> Result<Report<'a>, ClassFault>
+    ensures { ReportsBytes profile (C.content classes.now) bytes.now result }
 {
     let class = match decode(alloc, bytes) {
         Ok(class) => class,
@@ -172,7 +186,7 @@ pub fn verify_class<'a, C: Classes>(
         Err(fault) => return Err(ClassFault::NoClass(fault)),
     };
     match form_check(alloc, &class) {
-        Ok(formed) => verify_methods(alloc, &formed, classes),
+        Ok(formed) => verify_methods(alloc, &formed.under(profile), classes),
         Err(FormFault::OutOfMemory) => Err(ClassFault::OutOfMemory),
         Err(FormFault::Broken { rule, place }) => Err(ClassFault::Malformed { rule, place }),
     }

@@ -1,20 +1,21 @@
 //! The classes that files are, in play together.
 ghost use Rattle.std.specs.Prelude.{◌≡◌, ℕ, ◌+◌, ◌<◌, List, length, map, take, IfOk, IfErr, MatchResult};
-ghost use Rattle.classfile.specs.Values.{Class};
-ghost use Rattle.classfile.specs.Views.{class_view};
+ghost use Rattle.classfile.specs.CodeMethods.{judged, judged_class};
+ghost use Rattle.classfile.specs.Methods.{JudgedClass};
+ghost use Rattle.classfile.specs.declared.profile.Profile.{Profile as ProfileFact};
+ghost use Rattle.classfile.specs.declared.profile.Profile.TheVariants.{Default};
 ghost use Rattle.hierarchy.specs.Rules.{IsHierarchy};
-ghost use Rattle.hierarchy.specs.ClassSummary.{summary_of};
 ghost use Rattle.hierarchy.specs.Summary.{facts_of};
 ghost use Rattle.verify.specs.Files.{Read, read_of, OrMemory, IsRefused, IsFirstRefused};
 ghost use Rattle.verify.specs.Plays.{IsStopped};
-ghost use Rattle.verify.specs.Together.{HaveReports, HaveNone, ReportsTogether, NotTogether, ArePlayableFiles};
+ghost use Rattle.verify.specs.Together.{facts_in, HaveReports, HaveNone, ReportsTogether, NotTogether, ArePlayableFiles};
 ghost use Rattle.verify.specs.TogetherSteps.{AreDecoded, AreWellFormed, DecodesAll, views, IsWithin};
 ghost use Rattle.verify.specs.ClassRunSafety.{ArePlayable};
 
 use crate::files::{FileFault, FileRead, class_in, formed};
 use crate::play::{PlayRule, PlayStop, reports_in_play};
 use crate::report::{MethodVerdict, Report};
-use classfile::{ClassFile, Formed};
+use classfile::{ClassFile, Formed, Profile};
 use hierarchy::{Classes, HierarchyFault, Rows, Summary, summary_of};
 use std::alloc::{AllocError, AllocFailed, Global};
 use std::hash::BuildHasher;
@@ -71,7 +72,7 @@ impl<'a, T: Drop> From<AllocFailed<T>> for TogetherFault<'a> {
 
 /// The fault of the file of this number, which is refused.
 fn refused<'a>(number: usize, fault: FileFault) -> TogetherFault<'a>
-    ensures { (reads : List Read) (read : Read) (i : ℕ) → number ≡ i + 1 → OrMemory read fault → (IsRefused read fault → IsFirstRefused reads i fault) → NotTogether reads result }
+    ensures { (reads : List Read) (read : Read) (i : ℕ) → number ≡ i + 1 → OrMemory read fault → (IsRefused read fault → IsFirstRefused reads i fault) → (profile : ProfileFact) → NotTogether profile reads result }
 {
     match fault {
         FileFault::OutOfMemory => TogetherFault::OutOfMemory,
@@ -108,18 +109,19 @@ fn decode_all<'a>(alloc: Global, files: &[FileRead<'a>]) -> Result<Decoded<'a>, 
     })
 }
 
-/// The classes as such that are well formed; or the first that breaks a rule.
+/// The classes as such that are well formed, which are judged by a profile; or the first that breaks a rule.
 fn form_all<'c, 'a>(
     alloc: Global,
+    profile: Profile,
     classes: &'c [ClassFile<'a>],
 ) -> Result<Vec<Formed<'c, 'a>>, TogetherFault<'a>>
-    ensures formed { IfOk result (λ v. (map (λ f. f.class.now) v.items ≡ classes.now) × AreWellFormed (views classes.now)) }
-    ensures refused { IfErr result (λ e. (reads : List Read) → AreDecoded (take (length (views classes.now)) reads) (views classes.now) → NotTogether reads e) }
+    ensures formed { IfOk result (λ v. (map judged_class v.items ≡ map (judged profile) (views classes.now)) × AreWellFormed (views classes.now)) }
+    ensures refused { IfErr result (λ e. (reads : List Read) → AreDecoded (take (length (views classes.now)) reads) (views classes.now) → (profile : ProfileFact) → NotTogether profile reads e) }
 {
     let mut all = Vec::with_capacity(alloc, classes.len())?;
     for i in 0..classes.len() {
         match formed(alloc, &classes[i]) {
-            Ok(class) => all.push(class)?,
+            Ok(class) => all.push(class.under(profile))?,
             Err(fault) => return Err(refused(i + 1, fault)),
         }
     }
@@ -128,7 +130,7 @@ fn form_all<'c, 'a>(
 
 /// The summaries of classes.
 fn summaries_of<'a>(alloc: Global, play: &[Formed<'_, 'a>]) -> Result<Vec<Summary<'a>>, AllocError>
-    ensures { IfOk result (λ v. facts_of v.items ≡ map summary_of (map (λ f. class_view f.class.now) play.now)) }
+    ensures { IfOk result (λ v. facts_of v.items ≡ facts_in (map judged_class play.now)) }
 {
     let mut summaries = Vec::with_capacity(alloc, play.len())?;
     for class in play {
@@ -140,7 +142,7 @@ fn summaries_of<'a>(alloc: Global, play: &[Formed<'_, 'a>]) -> Result<Vec<Summar
 /// Why the classes in play, of which there are so many, have no reports.
 fn stopped<'a>(stop: PlayStop<'a>, many: usize) -> TogetherFault<'a>
     requires { IsWithin many stop }
-    ensures { (cs : List Class) → IsHierarchy (map summary_of cs) → IsStopped (map summary_of cs) cs stop.entry → HaveNone cs result }
+    ensures { (cs : List JudgedClass) → IsHierarchy (facts_in cs) → IsStopped (facts_in cs) cs stop.entry → HaveNone cs result }
 {
     match stop {
         PlayStop::OutOfMemory => TogetherFault::OutOfMemory,
@@ -161,10 +163,10 @@ fn reports_under<'a, C: Classes>(
     play: &[Formed<'_, 'a>],
     classes: &C,
 ) -> Result<Vec<Report<'a>>, TogetherFault<'a>>
-    requires content { C.content classes.now ≡ map summary_of (map (λ f. class_view f.class.now) play.now) }
+    requires content { C.content classes.now ≡ facts_in (map judged_class play.now) }
     requires hierarchy { IsHierarchy (C.content classes.now) }
-    ensures exactly { let cs = map (λ f. class_view f.class.now) play.now in MatchResult result (λ rs. HaveReports cs rs.items) (HaveNone cs) }
-    ensures safe { let cs = map (λ f. class_view f.class.now) play.now in IfOk result (λ _. ArePlayable (map summary_of cs) cs) }
+    ensures exactly { let cs = map judged_class play.now in MatchResult result (λ rs. HaveReports cs rs.items) (HaveNone cs) }
+    ensures safe { let cs = map judged_class play.now in IfOk result (λ _. ArePlayable (facts_in cs) cs) }
 {
     match reports_in_play(alloc, play, classes) {
         Ok(reports) => Ok(reports),
@@ -179,9 +181,9 @@ fn reports_among<'a, S: BuildHasher + Drop>(
     summaries: &[Summary<'a>],
     hasher: S,
 ) -> Result<Vec<Report<'a>>, TogetherFault<'a>>
-    requires { facts_of summaries.now ≡ map summary_of (map (λ f. class_view f.class.now) play.now) }
-    ensures exactly { let cs = map (λ f. class_view f.class.now) play.now in MatchResult result (λ rs. HaveReports cs rs.items) (HaveNone cs) }
-    ensures safe { let cs = map (λ f. class_view f.class.now) play.now in IfOk result (λ _. ArePlayable (map summary_of cs) cs) }
+    requires { facts_of summaries.now ≡ facts_in (map judged_class play.now) }
+    ensures exactly { let cs = map judged_class play.now in MatchResult result (λ rs. HaveReports cs rs.items) (HaveNone cs) }
+    ensures safe { let cs = map judged_class play.now in IfOk result (λ _. ArePlayable (facts_in cs) cs) }
 {
     match Rows::new(alloc, summaries, hasher) {
         Ok(classes) => reports_under(alloc, play, &classes),
@@ -196,24 +198,25 @@ fn reports_on<'a, S: BuildHasher + Drop>(
     play: &[Formed<'_, 'a>],
     hasher: S,
 ) -> Result<Vec<Report<'a>>, TogetherFault<'a>>
-    ensures exactly { let cs = map (λ f. class_view f.class.now) play.now in MatchResult result (λ rs. HaveReports cs rs.items) (HaveNone cs) }
-    ensures safe { let cs = map (λ f. class_view f.class.now) play.now in IfOk result (λ _. ArePlayable (map summary_of cs) cs) }
+    ensures exactly { let cs = map judged_class play.now in MatchResult result (λ rs. HaveReports cs rs.items) (HaveNone cs) }
+    ensures safe { let cs = map judged_class play.now in IfOk result (λ _. ArePlayable (facts_in cs) cs) }
 {
     let summaries = summaries_of(alloc, play)?;
     reports_among(alloc, play, &summaries, hasher)
 }
 
-/// The reports on the classes of files, which were decoded so.
+/// The reports on the classes of files, which were decoded so, by a profile.
 fn reports_decoded<'a, S: BuildHasher + Drop>(
     alloc: Global,
+    profile: Profile,
     classes: &[ClassFile<'a>],
     fault: Option<TogetherFault<'a>>,
     hasher: S,
 ) -> Result<Vec<Report<'a>>, TogetherFault<'a>>
-    ensures exactly { (reads : List Read) → DecodesAll reads (views classes.now) fault.entry → MatchResult result (λ rs. ReportsTogether reads rs.items) (NotTogether reads) }
-    ensures safe { (reads : List Read) → DecodesAll reads (views classes.now) fault.entry → IfOk result (λ _. ArePlayableFiles reads) }
+    ensures exactly { (reads : List Read) → DecodesAll reads (views classes.now) fault.entry → MatchResult result (λ rs. ReportsTogether profile reads rs.items) (NotTogether profile reads) }
+    ensures safe { (reads : List Read) → DecodesAll reads (views classes.now) fault.entry → IfOk result (λ _. ArePlayableFiles profile reads) }
 {
-    let play = match form_all(alloc, classes) {
+    let play = match form_all(alloc, profile, classes) {
         Ok(play) => play,
         Err(broken) => return Err(broken),
     };
@@ -235,9 +238,22 @@ pub fn verify_together<'a, S: BuildHasher + Drop>(
     files: &[FileRead<'a>],
     hasher: S,
 ) -> Result<Vec<Report<'a>>, TogetherFault<'a>>
-    ensures exactly { MatchResult result (λ rs. ReportsTogether (map read_of files.now) rs.items) (NotTogether (map read_of files.now)) }
-    ensures safe { IfOk result (λ _. ArePlayableFiles (map read_of files.now)) }
+    ensures exactly { MatchResult result (λ rs. ReportsTogether Default (map read_of files.now) rs.items) (NotTogether Default (map read_of files.now)) }
+    ensures safe { IfOk result (λ _. ArePlayableFiles Default (map read_of files.now)) }
+{
+    verify_together_under(alloc, Profile::Default, files, hasher)
+}
+
+/// The reports on the classes that these files are, by a profile, as [`verify_together`] gives them.
+pub fn verify_together_under<'a, S: BuildHasher + Drop>(
+    alloc: Global,
+    profile: Profile,
+    files: &[FileRead<'a>],
+    hasher: S,
+) -> Result<Vec<Report<'a>>, TogetherFault<'a>>
+    ensures exactly { MatchResult result (λ rs. ReportsTogether profile (map read_of files.now) rs.items) (NotTogether profile (map read_of files.now)) }
+    ensures safe { IfOk result (λ _. ArePlayableFiles profile (map read_of files.now)) }
 {
     let decoded = decode_all(alloc, files)?;
-    reports_decoded(alloc, &decoded.classes, decoded.fault, hasher)
+    reports_decoded(alloc, profile, &decoded.classes, decoded.fault, hasher)
 }

@@ -1,5 +1,6 @@
 //! Walks of methods that are verified.
 ghost use Rattle.std.specs.Prelude.{◌≡◌, ◌≢◌, ◌↔◌, ◌<◌, IsTrue, map, length, IfOk, IfErr};
+ghost use Rattle.classfile.specs.CodeMethods.{judged_class};
 ghost use Rattle.classfile.specs.Methods.{Method as MethodFact};
 ghost use Rattle.classfile.specs.Views.{class_view};
 ghost use Rattle.hierarchy.specs.Class.{world_of};
@@ -86,9 +87,9 @@ fn begins_in<'a, C: Classes>(
     state: &State<'a>,
 ) -> Result<bool, AllocError>
     requires { number < length formed.now.class.now.methods.items }
-    ensures begins { IfOk result (λ b. IsTrue b ↔ BeginsIn (C.content classes.now) (class_view formed.now.class.now) number (state_view state.now)) }
+    ensures begins { IfOk result (λ b. IsTrue b ↔ BeginsIn (C.content classes.now) (judged_class formed.now) number (state_view state.now)) }
     // So the method with its instructions begins there, if its code is some.
-    ensures so { IfOk result (λ b. IsTrue b → (m : MethodFact Act) → IsMethod (class_view formed.now.class.now) number m → IsInitial (world_of (C.content classes.now)) m (state_view state.now)) }
+    ensures so { IfOk result (λ b. IsTrue b → (m : MethodFact Act) → IsMethod (judged_class formed.now) number m → IsInitial (world_of (C.content classes.now)) m (state_view state.now)) }
 {
     match formed.method(number) {
         None => Ok(false),
@@ -114,10 +115,10 @@ fn check_verified<C: Classes>(
 ) -> Result<(), WalkFault>
     requires { number < length formed.now.class.now.methods.items }
     ensures listed { IfOk result (λ _. IsListed (C.content classes.now) (class_view formed.now.class.now)) }
-    ensures type_safe { IfOk result (λ _. IsTypeSafeIn (C.content classes.now) (class_view formed.now.class.now) number) }
+    ensures type_safe { IfOk result (λ _. IsTypeSafeIn (C.content classes.now) (judged_class formed.now) number) }
     // By the theorem no run of it meets a fault.
-    ensures safe { IfOk result (λ _. IsSafeIn (C.content classes.now) (class_view formed.now.class.now) number) }
-    ensures refused { IfErr result (IsUnverified (C.content classes.now) (class_view formed.now.class.now) number) }
+    ensures safe { IfOk result (λ _. IsSafeIn (C.content classes.now) (judged_class formed.now) number) }
+    ensures refused { IfErr result (IsUnverified (C.content classes.now) (judged_class formed.now) number) }
 {
     let verdict = verify_method(alloc, formed, number, classes)?;
     if !is_verified(&verdict) {
@@ -136,8 +137,8 @@ fn walk_method<'a, C: Classes>(
     choices: &[Choice<'a>],
 ) -> Result<Walked<'a>, AllocError>
     requires within { number < length formed.now.class.now.methods.items }
-    requires coded { (m : MethodFact Act) × IsMethod (class_view formed.now.class.now) number m }
-    ensures walks { IfOk result (λ w. WalksIn (C.content classes.now) (class_view formed.now.class.now) number (state_view state.now) (map choice_view choices.now) w.taken (stop_view w.last)) }
+    requires coded { (m : MethodFact Act) × IsMethod (judged_class formed.now) number m }
+    ensures walks { IfOk result (λ w. WalksIn (C.content classes.now) (judged_class formed.now) number (state_view state.now) (map choice_view choices.now) w.taken (stop_view w.last)) }
     ensures hierarchy { IsHierarchy (C.content classes.now) }
 {
     let _object = classes.find(OBJECT);
@@ -170,11 +171,11 @@ pub fn walk_verified<'a, C: Classes>(
 ) -> Result<Walked<'a>, WalkFault>
     requires { number < length formed.now.class.now.methods.items }
     // Each answer exactly where it holds, unless memory runs out.
-    ensures exactly { WalksVerified (C.content classes.now) (class_view formed.now.class.now) number (state_view state.now) (map choice_view choices.now) result }
+    ensures exactly { WalksVerified (C.content classes.now) (judged_class formed.now) number (state_view state.now) (map choice_view choices.now) result }
     // It never stops at a fault.
     ensures no_fault { IfOk result (λ w. w.last ≢ Fault) }
     // Nor is any state on the way one.
-    ensures safe { IfOk result (λ w. IsSafeWalk (C.content classes.now) (class_view formed.now.class.now) number (state_view state.now) (map choice_view choices.now) (stop_view w.last)) }
+    ensures safe { IfOk result (λ w. IsSafeWalk (C.content classes.now) (judged_class formed.now) number (state_view state.now) (map choice_view choices.now) (stop_view w.last)) }
 {
     if !begins_in(alloc, formed, number, classes, state)? {
         return Err(WalkFault::NotInitial);

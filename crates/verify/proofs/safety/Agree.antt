@@ -1,11 +1,11 @@
 -- The rules and the machine take each instruction for the same: they name the same operands, results and offsets.
-use Rattle.std.proofs.Common.{◌≡◌, ℕ, zero, suc, ℤ, Bool, true, false, ◌&&◌, List, [], ◌∷◌, Option, Some, None, if◌then◌else◌, refl}
+use Rattle.std.proofs.Common.{◌≡◌, ℕ, zero, suc, ℤ, Bool, true, false, not, ◌&&◌, nat_eq, List, [], ◌∷◌, Option, Some, None, if◌then◌else◌, refl}
 use Rattle.names.specs.declared.base.Primitive.{Primitive}
-use Rattle.names.specs.Descriptors.{FieldDescriptor, primitive, class as class_descriptor, array as array_descriptor}
+use Rattle.names.specs.Descriptors.{FieldDescriptor, primitive, class as class_descriptor, array as array_descriptor, MethodDescriptor, field_width}
 use Rattle.names.specs.ReferenceTypes.{ReferenceType, class_type, array_type, descriptor_of}
 use Rattle.pool.specs.Entries as entries
 use Rattle.pool.specs.Entries.{Entry}
-use Rattle.pool.specs.Members.{constant_at, class_at, FieldConstant, field_at, MethodConstant, method_at}
+use Rattle.pool.specs.Members.{constant_at, class_at, FieldConstant, field_at, MethodConstant, method_at, dynamic_type_at, CallSite, call_site_at}
 use Rattle.classfile.specs.Methods.{Method, is_own_field}
 use Rattle.insn.specs.declared.operation.Kind.{Kind}
 use Rattle.insn.specs.declared.operation.Kind.TheVariants as kinds
@@ -115,21 +115,37 @@ allowed : (b : Bool) (p : Plan) (t : Task) → Agrees p t → Agrees (rules.wher
 allowed true p t a = a
 allowed false p t a = tt
 
+-- the same, where the instruction is judged
+judged : (d b : Bool) (p : Plan) (t : Task) → Agrees p t → Agrees (rules.where_judged d (rules.where_allowed b p)) (tasks.where_allowed (d && b) t)
+judged true b p t a = allowed b p t a
+judged false b p t a = tt
+
+none_judged : (d : Bool) → Agrees (rules.where_judged d (rules.refuses 66)) tasks.stuck
+none_judged true = tt
+none_judged false = tt
+
 -- ---- constants
 
-load_constant_agree : (c : Option Entry) → Agrees (constants.load_constant c) (tasks.load_constant c)
-load_constant_agree (Some (entries.Integer bits)) = record { needs = tt; reply = refl; offsets = refl; falls = refl }
-load_constant_agree (Some (entries.Float bits)) = record { needs = tt; reply = refl; offsets = refl; falls = refl }
-load_constant_agree (Some (entries.String text)) = record { needs = tt; reply = refl; offsets = refl; falls = refl }
-load_constant_agree (Some (entries.Class name)) = record { needs = tt; reply = refl; offsets = refl; falls = refl }
-load_constant_agree (Some (entries.MethodType d)) = record { needs = tt; reply = refl; offsets = refl; falls = refl }
-load_constant_agree (Some (entries.MethodHandle k t)) = record { needs = tt; reply = refl; offsets = refl; falls = refl }
-load_constant_agree _ = tt
+computed_agree : (d : Bool) (units : ℕ) (t : Option FieldDescriptor) → Agrees (rules.where_judged d (constants.load_dynamic units t)) (tasks.load_dynamic d units t)
+computed_agree d units (Some t) =
+    judged d (nat_eq (field_width t) units) (rules.gives (descriptor_type t)) (tasks.operates [] None (tasks.gives_answer t) [] true) (record { needs = tt; reply = refl; offsets = refl; falls = refl })
+computed_agree d units None = none_judged d
 
-load_wide_constant_agree : (c : Option Entry) → Agrees (constants.load_wide_constant c) (tasks.load_wide_constant c)
-load_wide_constant_agree (Some (entries.Long high low)) = record { needs = tt; reply = refl; offsets = refl; falls = refl }
-load_wide_constant_agree (Some (entries.Double high low)) = record { needs = tt; reply = refl; offsets = refl; falls = refl }
-load_wide_constant_agree _ = tt
+load_constant_agree : (m : Method Act) (t : Option FieldDescriptor) (c : Option Entry) → Agrees (constants.load_constant m t c) (tasks.load_constant m t c)
+load_constant_agree m t (Some (entries.Integer bits)) = record { needs = tt; reply = refl; offsets = refl; falls = refl }
+load_constant_agree m t (Some (entries.Float bits)) = record { needs = tt; reply = refl; offsets = refl; falls = refl }
+load_constant_agree m t (Some (entries.String text)) = record { needs = tt; reply = refl; offsets = refl; falls = refl }
+load_constant_agree m t (Some (entries.Class name)) = record { needs = tt; reply = refl; offsets = refl; falls = refl }
+load_constant_agree m t (Some (entries.MethodType d)) = record { needs = tt; reply = refl; offsets = refl; falls = refl }
+load_constant_agree m t (Some (entries.MethodHandle k target)) = record { needs = tt; reply = refl; offsets = refl; falls = refl }
+load_constant_agree m t (Some (entries.Dynamic bootstrap name)) = computed_agree m.dynamic 1 t
+load_constant_agree m t _ = tt
+
+load_wide_constant_agree : (m : Method Act) (t : Option FieldDescriptor) (c : Option Entry) → Agrees (constants.load_wide_constant m t c) (tasks.load_wide_constant m t c)
+load_wide_constant_agree m t (Some (entries.Long high low)) = record { needs = tt; reply = refl; offsets = refl; falls = refl }
+load_wide_constant_agree m t (Some (entries.Double high low)) = record { needs = tt; reply = refl; offsets = refl; falls = refl }
+load_wide_constant_agree m t (Some (entries.Dynamic bootstrap name)) = computed_agree m.dynamic 2 t
+load_wide_constant_agree m t _ = tt
 
 get_static_agree : (c : Option FieldConstant) → Agrees (constants.get_static c) (tasks.get_static c)
 get_static_agree (Some f) = record { needs = tt; reply = refl; offsets = refl; falls = refl }
@@ -154,8 +170,15 @@ put_field_agree : (m : Method Act) (c : Option FieldConstant) → Agrees (consta
 put_field_agree m (Some f) = record { needs = (want_need f.type, (target_agree m f, tt)); reply = tt; offsets = refl; falls = refl }
 put_field_agree m None = tt
 
+receiverless_agree : (t : MethodDescriptor) → Agrees (rules.call_of t) (tasks.call_of t)
+receiverless_agree t = record { needs = arguments t.params [] [] tt; reply = results t.result; offsets = refl; falls = refl }
+
+site_agree : (m : Method Act) (c : Option CallSite) → Agrees (constants.invoke_dynamic m c) (tasks.invoke_dynamic m c)
+site_agree m (Some c) = judged m.dynamic (not (constants.is_special_name c)) (rules.call_of c.type) (tasks.call_of c.type) (receiverless_agree c.type)
+site_agree m None = none_judged m.dynamic
+
 static_agree : (n : ℕ) (c : Option MethodConstant) → Agrees (constants.invoke_static n c) (tasks.invoke_static n c)
-static_agree n (Some c) = allowed _ (constants.static_call c) (tasks.static_call c) (record { needs = arguments c.type.params [] [] tt; reply = results c.type.result; offsets = refl; falls = refl })
+static_agree n (Some c) = allowed _ (constants.static_call c) (tasks.static_call c) (receiverless_agree c.type)
 static_agree n None = tt
 
 call_agree : (r : ReferenceType) (c : MethodConstant) → Agrees (constants.call_on r c) (tasks.call_on r c)
@@ -235,8 +258,8 @@ pub agree : (m : Method Act) (a : Act) → Agrees (table.plan m a) (tasks.task m
 agree m acts.Nothing = record { needs = tt; reply = tt; offsets = refl; falls = refl }
 agree m (acts.Constant k) = record { needs = tt; reply = refl; offsets = refl; falls = refl }
 agree m acts.ConstantNull = record { needs = tt; reply = refl; offsets = refl; falls = refl }
-agree m (acts.LoadConstant i) = load_constant_agree (constant_at m.constant_pool i)
-agree m (acts.LoadWideConstant i) = load_wide_constant_agree (constant_at m.constant_pool i)
+agree m (acts.LoadConstant i) = load_constant_agree m (dynamic_type_at m.constant_pool i) (constant_at m.constant_pool i)
+agree m (acts.LoadWideConstant i) = load_wide_constant_agree m (dynamic_type_at m.constant_pool i) (constant_at m.constant_pool i)
 agree m (acts.Load k n) = (refl, refl)
 agree m (acts.LoadReference n) = (tt, refl)
 agree m (acts.Store k n) = (refl, refl, refl, refl)
@@ -261,6 +284,7 @@ agree m (acts.InvokeVirtual i) = virtual_agree (method_at m.constant_pool i)
 agree m (acts.InvokeSpecial i) = special_agree m.major_version m.class (method_at m.constant_pool i)
 agree m (acts.InvokeStatic i) = static_agree m.major_version (method_at m.constant_pool i)
 agree m (acts.InvokeInterface i n) = interface_agree n (method_at m.constant_pool i)
+agree m (acts.InvokeDynamic i) = site_agree m (call_site_at m.constant_pool i)
 agree m (acts.New i) = new_agree (class_at m.constant_pool i)
 agree m (acts.LoadElement p) = record { needs = (refl, (refl, tt)); reply = refl; offsets = refl; falls = refl }
 agree m (acts.StoreElement p) = record { needs = (refl, (refl, (refl, tt))); reply = tt; offsets = refl; falls = refl }

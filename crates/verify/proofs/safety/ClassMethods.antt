@@ -15,9 +15,9 @@ use Rattle.pool.specs.Entries.{Entry}
 use Rattle.pool.specs.Lookups.{text_at, class_name_at}
 use Rattle.pool.specs.Members.{found, class_at}
 use Rattle.classfile.specs.Flags.{has, STATIC}
-use Rattle.classfile.specs.Values.{CodeBody, Member, Class}
+use Rattle.classfile.specs.Values.{CodeBody, Member}
 use Rattle.classfile.specs.Methods as methods
-use Rattle.classfile.specs.Methods.{Method, ExceptionEntry, code_of, class_named, member_type, exception_entries, method_with, method_from, method_of}
+use Rattle.classfile.specs.Methods.{JudgedClass, Method, ExceptionEntry, code_of, class_named, member_type, exception_entries, method_with, method_from, method_of}
 use Rattle.hierarchy.specs.World.{Entry as WorldEntry, World, superclass_in, IsSubclassIn, same, above}
 use Rattle.hierarchy.specs.Class.{ClassFact, entry_of, world_of}
 use Rattle.hierarchy.specs.ClassSummary.{class_name_of, superclass_name, summary_of}
@@ -86,48 +86,48 @@ super_is pool i s e = go (nat_eq i 0) refl
 
 -- ---- a method by the parts of its class file
 
-pub record Parts (c : Class) (member : Member) (m : Method Act) : Type 0 where
-  pub class : class_named (class_at c.constant_pool c.this_class) ≡ Some m.class
-  pub init : (n : List ℕ) → found (text_at c.constant_pool member.name) ≡ Some n → m.is_init ≡ bytes_eq n init_name
-  pub type : member_type c.constant_pool member ≡ Some m.type
-  pub super : m.superclass ≡ methods.superclass_of c.constant_pool c.super_class
+pub record Parts (c : JudgedClass) (member : Member) (m : Method Act) : Type 0 where
+  pub class : class_named (class_at c.file.constant_pool c.file.this_class) ≡ Some m.class
+  pub init : (n : List ℕ) → found (text_at c.file.constant_pool member.name) ≡ Some n → m.is_init ≡ bytes_eq n init_name
+  pub type : member_type c.file.constant_pool member ≡ Some m.type
+  pub super : m.superclass ≡ methods.superclass_of c.file.constant_pool c.file.super_class
 
-with_parts : (c : Class) (member : Member) (code : List (ℕ × Act)) (body : CodeBody) (oc on : Option (List ℕ)) (ot : Option MethodDescriptor) (oe : Option (List ExceptionEntry)) (m : Method Act) → method_with c member code body oc on ot oe ≡ Some m
-    → (oc ≡ Some m.class) × ((n : List ℕ) → on ≡ Some n → m.is_init ≡ bytes_eq n init_name) × (ot ≡ Some m.type) × (m.superclass ≡ methods.superclass_of c.constant_pool c.super_class)
+with_parts : (c : JudgedClass) (member : Member) (code : List (ℕ × Act)) (body : CodeBody) (oc on : Option (List ℕ)) (ot : Option MethodDescriptor) (oe : Option (List ExceptionEntry)) (m : Method Act) → method_with c member code body oc on ot oe ≡ Some m
+    → (oc ≡ Some m.class) × ((n : List ℕ) → on ≡ Some n → m.is_init ≡ bytes_eq n init_name) × (ot ≡ Some m.type) × (m.superclass ≡ methods.superclass_of c.file.constant_pool c.file.super_class)
 with_parts c member code body (Some k) (Some name) (Some type) (Some exceptions) m e =
     let p = some_same _ m e in
     (ap (λ z. Some z.class) p, (λ n q. sym (ap (λ z. z.is_init) p) ∙ ap (λ z. bytes_eq z init_name) (some_same name n q)), ap (λ z. Some z.type) p, sym (ap (λ z. z.superclass) p))
 with_parts c member code body _ _ _ _ m e = cc
 
-pub parts : (c : Class) (number : ℕ) (m : Method Act) → (i : IsMethod c number m) → Parts c i.member m
+pub parts : (c : JudgedClass) (number : ℕ) (m : Method Act) → (i : IsMethod c number m) → Parts c i.member m
 parts c number m i =
     let code = acts i.instructions in
-    let pool = c.constant_pool in
+    let pool = c.file.constant_pool in
     let e : option_and_then (method_from c code) (Some i.member) ≡ Some m = sym (ap (option_and_then (method_from c code)) i.numbered) ∙ i.method in
-    let build : CodeBody → Option (Method Act) = λ body. method_with c i.member code body (class_named (class_at pool c.this_class)) (found (text_at pool i.member.name)) (member_type pool i.member) (exception_entries pool body.exception_table) in
+    let build : CodeBody → Option (Method Act) = λ body. method_with c i.member code body (class_named (class_at pool c.file.this_class)) (found (text_at pool i.member.name)) (member_type pool i.member) (exception_entries pool body.exception_table) in
     let f : build i.body ≡ Some m = sym (ap (option_and_then build) i.has_code) ∙ e in
-    let p = with_parts c i.member code i.body (class_named (class_at pool c.this_class)) (found (text_at pool i.member.name)) (member_type pool i.member) (exception_entries pool i.body.exception_table) m f in
+    let p = with_parts c i.member code i.body (class_named (class_at pool c.file.this_class)) (found (text_at pool i.member.name)) (member_type pool i.member) (exception_entries pool i.body.exception_table) m f in
     record { class = p.0; init = p.1; type = p.2; super = p.3 }
 
 -- ---- a method in play
 
-pub played : (h : List ClassFact) (cs : List Class) (v : AreVerified h cs) (w : World) (x : Extends w h) (k : Callee) → IsInPlay cs k → IsPlayed h w k
+pub played : (h : List ClassFact) (cs : List JudgedClass) (v : AreVerified h cs) (w : World) (x : Extends w h) (k : Callee) → IsInPlay cs k → IsPlayed h w k
 played h cs v w x k i =
     let p = parts i.class i.number k.method i.method in
-    let pool = i.class.constant_pool in
+    let pool = i.class.file.constant_pool in
     let static = not (has i.method.member.access_flags STATIC) in
     let typed : found (method_answer static k.descriptor) ≡ Some k.method.type = sym (ap (option_and_then (λ text. found (method_answer static text))) i.descriptor) ∙ p.type in
     record {
       safe = v.safe i.class i.among i.number k.method i.method;
-      super = λ s e. above_it s e (named_is pool i.class.this_class k.method.class p.class) (super_is pool i.class.super_class s (sym p.super ∙ e));
+      super = λ s e. above_it s e (named_is pool i.class.file.this_class k.method.class p.class) (super_is pool i.class.file.super_class s (sym p.super ∙ e));
       init = p.init k.name i.name;
       type = λ t e. one_type static false k.descriptor k.method.type t typed e;
     }
   where
-    above_it : (s : List ℕ) → k.method.superclass ≡ Some s → (summary_of i.class).name ≡ k.method.class → (summary_of i.class).superclass ≡ Some s → IsSubclassIn w k.method.class s
+    above_it : (s : List ℕ) → k.method.superclass ≡ Some s → (summary_of i.class.file).name ≡ k.method.class → (summary_of i.class.file).superclass ≡ Some s → IsSubclassIn w k.method.class s
     above_it s e n q =
-        let f : WorldEntry = entry_of (summary_of i.class) in
-        let l : world_of h (summary_of i.class).name ≡ Some f = ap (option_map entry_of) (v.listed i.class i.among) in
-        let u : w k.method.class ≡ Some f = subst (λ z. w z ≡ Some f) n (x.keeps (summary_of i.class).name f l) in
+        let f : WorldEntry = entry_of (summary_of i.class.file) in
+        let l : world_of h (summary_of i.class.file).name ≡ Some f = ap (option_map entry_of) (v.listed i.class i.among) in
+        let u : w k.method.class ≡ Some f = subst (λ z. w z ≡ Some f) n (x.keeps (summary_of i.class.file).name f l) in
         let r : superclass_in w k.method.class ≡ Some s = ap (λ o. option_and_then (λ d. d.superclass) o) u ∙ q in
         above r same

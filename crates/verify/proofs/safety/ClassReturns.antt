@@ -1,10 +1,10 @@
 -- A method's answer fits its result, and the caller goes on with it.
 use Rattle.std.proofs.Common.{◌≡◌, ℕ, ◌+◌, Bool, true, false, not, ◌&&◌, nat_eq, nat_lt, List, [], ◌∷◌, ◌++◌, length, slice_get, Option, Some, None, option_map, ◌⊎◌, inl, inr, if◌then◌else◌, sym, ap, refl, ◌∙◌, subst, arith, eqb-true}
-use Rattle.names.specs.Descriptors.{FieldDescriptor, primitive, class, array}
+use Rattle.names.specs.Descriptors.{FieldDescriptor, primitive, class, array, field_width}
 use Rattle.names.specs.ReferenceTypes.{ReferenceType, class_type, array_type, dimensions_of, descriptor_of, is_class_type}
 use Rattle.pool.specs.Entries as entries
 use Rattle.pool.specs.Entries.{Entry}
-use Rattle.pool.specs.Members.{FieldConstant, MethodConstant, constant_at, class_at, field_at, method_at}
+use Rattle.pool.specs.Members.{FieldConstant, MethodConstant, constant_at, class_at, field_at, method_at, dynamic_type_at, CallSite, call_site_at}
 use Rattle.names.specs.declared.base.Primitive.{Primitive}
 use Rattle.classfile.specs.Methods.{Method}
 use Rattle.hierarchy.specs.World.{World}
@@ -67,21 +67,27 @@ no_allowed : (b : Bool) (t : Task) → (IsLast t → ⊥) → IsLast (where_allo
 no_allowed true t n l = n l
 no_allowed false t n l = l
 
-no_constant : (o : Option Entry) → IsLast (tasks.load_constant o) → ⊥
-no_constant None l = l
-no_constant (Some (entries.Integer bits)) l = l
-no_constant (Some (entries.Float bits)) l = l
-no_constant (Some (entries.String text)) l = l
-no_constant (Some (entries.Class name)) l = l
-no_constant (Some (entries.MethodType descriptor)) l = l
-no_constant (Some (entries.MethodHandle kind target)) l = l
-no_constant (Some _) l = l
+no_computed : (judged : Bool) (units : ℕ) (t : Option FieldDescriptor) → IsLast (tasks.load_dynamic judged units t) → ⊥
+no_computed judged units None l = l
+no_computed judged units (Some t) l = no_allowed (judged && nat_eq (field_width t) units) (tasks.operates [] None (tasks.gives_answer t) [] true) (λ k. k) l
 
-no_wide_constant : (o : Option Entry) → IsLast (tasks.load_wide_constant o) → ⊥
-no_wide_constant None l = l
-no_wide_constant (Some (entries.Long high low)) l = l
-no_wide_constant (Some (entries.Double high low)) l = l
-no_wide_constant (Some _) l = l
+no_constant : (m : Method Act) (t : Option FieldDescriptor) (o : Option Entry) → IsLast (tasks.load_constant m t o) → ⊥
+no_constant m t None l = l
+no_constant m t (Some (entries.Integer bits)) l = l
+no_constant m t (Some (entries.Float bits)) l = l
+no_constant m t (Some (entries.String text)) l = l
+no_constant m t (Some (entries.Class name)) l = l
+no_constant m t (Some (entries.MethodType descriptor)) l = l
+no_constant m t (Some (entries.MethodHandle kind target)) l = l
+no_constant m t (Some (entries.Dynamic bootstrap name)) l = no_computed m.dynamic 1 t l
+no_constant m t (Some _) l = l
+
+no_wide_constant : (m : Method Act) (t : Option FieldDescriptor) (o : Option Entry) → IsLast (tasks.load_wide_constant m t o) → ⊥
+no_wide_constant m t None l = l
+no_wide_constant m t (Some (entries.Long high low)) l = l
+no_wide_constant m t (Some (entries.Double high low)) l = l
+no_wide_constant m t (Some (entries.Dynamic bootstrap name)) l = no_computed m.dynamic 2 t l
+no_wide_constant m t (Some _) l = l
 
 no_get_static : (o : Option FieldConstant) → IsLast (tasks.get_static o) → ⊥
 no_get_static None l = l
@@ -102,6 +108,10 @@ no_put_field m (Some f) l = l
 no_static : (n : ℕ) (o : Option MethodConstant) → IsLast (tasks.invoke_static n o) → ⊥
 no_static n None l = l
 no_static n (Some c) l = no_allowed (is_class_type c.class && (not (tasks.is_init_name c) && tasks.may_name n c.interface)) (tasks.static_call c) (λ k. k) l
+
+no_site : (m : Method Act) (o : Option CallSite) → IsLast (tasks.invoke_dynamic m o) → ⊥
+no_site m None l = l
+no_site m (Some c) l = no_allowed (m.dynamic && not (tasks.is_special_name c)) (tasks.call_of c.type) (λ k. k) l
 
 no_virtual : (o : Option MethodConstant) → IsLast (tasks.invoke_virtual o) → ⊥
 no_virtual None l = l
@@ -155,8 +165,8 @@ pub returned_fits : (w : World) (h : Heap) (m : Method Act) (a : Act) (vs : List
 returned_fits w h m (acts.Return k) vs l f = number_back w h m.type.result k vs l f
 returned_fits w h m acts.ReturnReference vs l f = reference_back w h m.type.result vs l f
 returned_fits w h m acts.ReturnVoid vs l f = nothing_back w h m.type.result vs l
-returned_fits w h m (acts.LoadConstant i) vs l f = absurd (no_constant (constant_at m.constant_pool i) l)
-returned_fits w h m (acts.LoadWideConstant i) vs l f = absurd (no_wide_constant (constant_at m.constant_pool i) l)
+returned_fits w h m (acts.LoadConstant i) vs l f = absurd (no_constant m (dynamic_type_at m.constant_pool i) (constant_at m.constant_pool i) l)
+returned_fits w h m (acts.LoadWideConstant i) vs l f = absurd (no_wide_constant m (dynamic_type_at m.constant_pool i) (constant_at m.constant_pool i) l)
 returned_fits w h m (acts.GetStatic i) vs l f = absurd (no_get_static (field_at m.constant_pool i) l)
 returned_fits w h m (acts.PutStatic i) vs l f = absurd (no_put_static (field_at m.constant_pool i) l)
 returned_fits w h m (acts.GetField i) vs l f = absurd (no_get_field (field_at m.constant_pool i) l)
@@ -165,6 +175,7 @@ returned_fits w h m (acts.InvokeVirtual i) vs l f = absurd (no_virtual (method_a
 returned_fits w h m (acts.InvokeSpecial i) vs l f = absurd (no_special m.major_version m.class (method_at m.constant_pool i) l)
 returned_fits w h m (acts.InvokeStatic i) vs l f = absurd (no_static m.major_version (method_at m.constant_pool i) l)
 returned_fits w h m (acts.InvokeInterface i n) vs l f = absurd (no_interface n (method_at m.constant_pool i) l)
+returned_fits w h m (acts.InvokeDynamic i) vs l f = absurd (no_site m (call_site_at m.constant_pool i) l)
 returned_fits w h m (acts.New i) vs l f = absurd (no_new (class_at m.constant_pool i) l)
 returned_fits w h m (acts.NewArray p) vs l f = absurd (no_new_array p l)
 returned_fits w h m (acts.NewReferenceArray i) vs l f = absurd (no_reference_array (class_at m.constant_pool i) l)

@@ -14,7 +14,8 @@ use Rattle.frames.specs.Conditions.{NoneHolds}
 use Rattle.rules.specs.Plans as rules
 use Rattle.rules.specs.Plans.{Want}
 use Rattle.rules.specs.Table.{class_made_at}
-use Rattle.rules.specs.After.{popped, top_of, rest_of, is_made_at, forgotten, initialized, class_after, flag_after, after}
+use Rattle.frames.specs.Objects.{is_made_at}
+use Rattle.rules.specs.After.{popped, top_of, rest_of, forgotten, initialized, class_after, flag_after, after}
 use Rattle.rules.specs.Rules.{is_short, is_on_stack, may_construct, conditions}
 use Rattle.machine.specs.Values.{Value, number, null, reference}
 use Rattle.machine.specs.Heap.{Status, ready, made, this, Object, object, Heap, with_object, FitsReference, IsFresh, with_fresh}

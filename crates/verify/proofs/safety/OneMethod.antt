@@ -1,7 +1,6 @@
 -- A class file has one method of a number at most.
 use Rattle.std.proofs.Common.{◌≡◌, ℕ, List, Some, sym, ap, ◌∙◌, subst}
-use Rattle.classfile.specs.Values.{Class}
-use Rattle.classfile.specs.Methods.{Method, code_of, method_of}
+use Rattle.classfile.specs.Methods.{JudgedClass, Method, code_of, method_of}
 use Rattle.insn.specs.Code.{SpellsCode}
 use Rattle.insn.specs.Meanings.{Act}
 use Rattle.insn.specs.Offsets.{acts}
@@ -14,7 +13,7 @@ use Rattle.verify.proofs.safety.Run.{type_safe_is_safe}
 some_same : {A : Type 0} (a b : A) → Some a ≡ Some b → a ≡ b
 some_same a b e = cc
 
-pub one_method : (c : Class) (number : ℕ) (a b : Method Act) → IsMethod c number a → IsMethod c number b → a ≡ b
+pub one_method : (c : JudgedClass) (number : ℕ) (a b : Method Act) → IsMethod c number a → IsMethod c number b → a ≡ b
 one_method c number a b x y =
     let member : x.member ≡ y.member = some_same x.member y.member (sym x.numbered ∙ y.numbered) in
     let body : x.body ≡ y.body = some_same x.body y.body (sym x.has_code ∙ ap (λ z. code_of z.attributes) member ∙ y.has_code) in

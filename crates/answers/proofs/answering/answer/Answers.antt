@@ -33,7 +33,7 @@ returns-in-Verify-clause-answered g c =
     let all : take (length reads - 1) (drop 1 reads) ≡ drop 1 reads = take_all (length reads - 1) (drop 1 reads) (omega (arith, length-drop 1 reads)) in
     rw (split read_view reads read c.in-len1-up.len_at_least c.read-item.is)
     (subst (λ command. Answered (Says command (read_view read ∷ map read_view (drop 1 reads))) (held c.args.out.now) (held c.verify.new.out) c.verify.result) (sym c.in-Verify.is)
-    (subst (λ known. Answered (VerifySays (read_view read) (map read_view known)) (held c.args.out.now) (held c.verify.new.out) c.verify.result) all c.verify.ensures))
+    (subst (λ known. Answered (VerifySays c.in-Verify.form c.in-Verify.profile (read_view read) (map read_view known)) (held c.args.out.now) (held c.verify.new.out) c.verify.result) all c.verify.ensures))
 
 pub returns-in-Play-clause-answered : goal.returns-in-Play-clause-answered
 returns-in-Play-clause-answered g c =
@@ -42,7 +42,7 @@ returns-in-Play-clause-answered g c =
     let read = c.read-item.result in
     let e = split read_view reads read c.in-len1-up.len_at_least c.read-item.is in
     let behind = read_view read ∷ map read_view (drop 1 reads) in
-    let told : Answered (PlaySays behind) (held c.args.out.now) (held c.play.new.out) c.play.result = subst (λ rs. Answered (PlaySays rs) (held c.args.out.now) (held c.play.new.out) c.play.result) e c.play.ensures in
+    let told : Answered (PlaySays c.in-Play.profile behind) (held c.args.out.now) (held c.play.new.out) c.play.result = subst (λ rs. Answered (PlaySays c.in-Play.profile rs) (held c.args.out.now) (held c.play.new.out) c.play.result) e c.play.ensures in
     rw e (subst (λ command. Answered (Says command behind) (held c.args.out.now) (held c.play.new.out) c.play.result) (sym c.in-Play.is) told)
 
 pub returns-in-Check-clause-memory : goal.returns-in-Check-clause-memory

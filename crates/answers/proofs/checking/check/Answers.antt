@@ -12,7 +12,7 @@ returns-in-Ok g c =
     let read = read_view c.args.read.now in
     let class = class_view c.in-Ok._class in
     let formed : IsFormed read class = subst (λ r. IsFormed r class) c.file_read.ensures c.in-Ok.ensures in
-    of_class CheckTells read class (CheckTells class) formed (λ text status told. told)
+    of_class c.args.form (CheckTells c.args.form) read class (CheckTells c.args.form class) formed (λ text status told. told)
     (held c.args.out.now) (held c.tell.new.out) c.tell.result c.tell.ensures
 
 pub returns-in-Err : goal.returns-in-Err
@@ -20,4 +20,4 @@ returns-in-Err g c =
     let held = g.W.Write.contents in
     let read = read_view c.args.read.now in
     let why : OrMemory read c.in-Err.fault = subst (λ r. OrMemory r c.in-Err.fault) c.file_read.ensures c.in-Err.ensures in
-    of_refusal CheckTells read c.in-Err.fault why (held c.args.out.now) (held c.refuse.new.out) c.refuse.result c.refuse.ensures
+    of_refusal c.args.form (CheckTells c.args.form) read c.in-Err.fault why (held c.args.out.now) (held c.refuse.new.out) c.refuse.result c.refuse.ensures

@@ -1,5 +1,6 @@
 use Rattle.std.proofs.Common.{◌≡◌, ◌∙◌, ◌∷◌, Ok, Err, map, inr, ap, sym, subst}
 use Rattle.std.specs.List.{flat_map}
+use Rattle.classfile.specs.CodeMethods.{judged}
 use Rattle.hierarchy.specs.ClassSummary.{summary_of}
 use Rattle.verify.specs.Files.{read_of}
 use Rattle.verify.specs.Among.{ReportsAmong}
@@ -9,20 +10,20 @@ use Rattle.answers.specs.Verdicts.{verdict_line, VerifySays}
 use Rattle.answers.proofs.Tellings.{answered_more}
 use Rattle.answers.proofs.verifying.verify.Goals as goal
 
-pub returns-in-Ok-verify_among : goal.returns-in-Ok-verify_among
-returns-in-Ok-verify_among g c =
+pub returns-in-Ok-verify_among_under : goal.returns-in-Ok-verify_among_under
+returns-in-Ok-verify_among_under g c =
     let held = g.W.Write.contents in
     let read = read_view c.args.read.now in
     let known = map read_view c.args.known.now in
-    let report = c.in-Ok-verify_among.report in
+    let report = c.in-Ok-verify_among_under.report in
     let same : map read_of c.deref.result.now ≡ known = ap (map read_of) c.deref.ensures.value ∙ c.in-Ok.ensures.found in
-    let told : ReportsAmong read known (Ok report) =
-    subst (λ r. ReportsAmong r known (Ok report)) c.file_read.ensures
-    (subst (λ k. ReportsAmong (read_of c.file_read.result) k (Ok report)) same c.in-Ok-verify_among.ensures) in
+    let told : ReportsAmong c.args.profile read known (Ok report) =
+    subst (λ r. ReportsAmong c.args.profile r known (Ok report)) c.file_read.ensures
+    (subst (λ k. ReportsAmong c.args.profile (read_of c.file_read.result) k (Ok report)) same c.in-Ok-verify_among_under.ensures) in
     let (class, cs, formed, all, hierarchy, fine, is) = told in
-    let rs = c.deref-in-Ok-verify_among.result.now in
-    let here : IsReport (map summary_of (class ∷ cs)) class rs = subst (IsReport (map summary_of (class ∷ cs)) class) (sym c.deref-in-Ok-verify_among.ensures.value) is in
-    answered_more (λ t s. (t ≡ flat_map verdict_line rs) × (s ≡ c.status.result)) (VerifySays read known)
+    let rs = c.deref-in-Ok-verify_among_under.result.now in
+    let here : IsReport (map summary_of (class ∷ cs)) (judged c.args.profile class) rs = subst (IsReport (map summary_of (class ∷ cs)) (judged c.args.profile class)) (sym c.deref-in-Ok-verify_among_under.ensures.value) is in
+    answered_more (λ t s. (t ≡ flat_map (verdict_line c.args.form) rs) × (s ≡ c.status.result)) (VerifySays c.args.form c.args.profile read known)
     (λ text status p. inr (class, formed, inr (cs, all, inr (hierarchy, inr (fine, (rs, here, p.0, p.1 ∙ c.status.ensures))))))
     (held c.args.out.now) (held c.tell.new.out) c.tell.result c.tell.ensures
 
@@ -30,8 +31,8 @@ pub returns : goal.returns
 returns g c =
     let read = read_view c.args.read.now in
     let known = map read_view c.args.known.now in
-    let fault = c.in-Err-verify_among.fault in
+    let fault = c.in-Err-verify_among_under.fault in
     let same : map read_of c.deref.result.now ≡ known = ap (map read_of) c.deref.ensures.value ∙ c.in-Ok.ensures.found in
-    c.refuse.ensures read known
-    (subst (λ r. ReportsAmong r known (Err fault)) c.file_read.ensures
-    (subst (λ k. ReportsAmong (read_of c.file_read.result) k (Err fault)) same c.in-Err-verify_among.ensures))
+    c.refuse.ensures c.args.profile read known
+    (subst (λ r. ReportsAmong c.args.profile r known (Err fault)) c.file_read.ensures
+    (subst (λ k. ReportsAmong c.args.profile (read_of c.file_read.result) k (Err fault)) same c.in-Err-verify_among_under.ensures))

@@ -1,9 +1,18 @@
 use Rattle.std.proofs.Common.{◌∙◌, ap}
 use Rattle.clap.specs.Simple.{app_of_fields}
+use Rattle.clap.specs.Words.{app_of, with_rule}
+use Rattle.command_line.specs.Line.{json}
+use Rattle.command_line.proofs.Lines.{neither}
 use Rattle.command_line.proofs.parsing.check.Goals as goal
 
 pub returns-clause-app : goal.returns-clause-app
-returns-clause-app c = ap app_of_fields c.after_help.ensures ∙ ap app_of_fields c.about.ensures ∙ c.in_ok-command.ensures.app
+returns-clause-app c =
+    let first = c.in_ok-one_file.field-0 in
+    ap app_of_fields c.after_help.ensures ∙ ap app_of_fields c.about.ensures
+    ∙ c.in_ok-command.ensures.shape c.json.ensures.local ∙ ap (with_rule (app_of first)) c.json.ensures.rule
+    ∙ ap (λ o. with_rule o json) c.in_ok-one_file.ensures.app
 
 pub returns-clause-local : goal.returns-clause-local
-returns-clause-local c = ap (λ f. f.has_globals) c.after_help.ensures ∙ ap (λ f. f.has_globals) c.about.ensures ∙ c.in_ok-command.ensures.local
+returns-clause-local c =
+    ap (λ f. f.has_globals) c.after_help.ensures ∙ ap (λ f. f.has_globals) c.about.ensures
+    ∙ c.in_ok-command.ensures.globals ∙ neither _ _ c.in_ok-one_file.ensures.local c.json.ensures.local

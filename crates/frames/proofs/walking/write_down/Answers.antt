@@ -1,12 +1,9 @@
-use Rattle.std.proofs.Common.{◌∙◌, ap, sym}
+use Rattle.std.proofs.Common.{◌≡◌, ◌∙◌, ◌++◌, ◌∷◌, [], map, ap, sym, append_assoc}
+use Rattle.std.proofs.lemmas.List.{append-nil, map-append}
+use Rattle.frames.specs.VerificationType.{type_of}
 use Rattle.frames.specs.Chains.{types_at}
-use Rattle.frames.proofs.Chains.{linked_lower}
-use Rattle.frames.proofs.Sharing.{on_step, on_end}
-use Rattle.frames.proofs.Writing.{put_none, put_more, put_at}
+use Rattle.frames.proofs.Chains.{linked_lower, types_step, types_none}
 use Rattle.frames.proofs.walking.write_down.Goals as goal
-
-pub loop-link-init : goal.loop-link-init
-loop-link-init c = record { on = c.requires; put = put_none c.args.chains.now.links.items c.args.in_units c.args.top c.args.out.now.items }
 
 pub loop-link-smaller : goal.loop-link-smaller
 loop-link-smaller c = linked_lower c.args.chains.now.links.items c.args.chains.now.linked c.loop-link.at c.in-Some.link (sym c.link.ensures ∙ c.in-Some.is)
@@ -14,21 +11,16 @@ loop-link-smaller c = linked_lower c.args.chains.now.links.items c.args.chains.n
 pub loop-link-preserved : goal.loop-link-preserved
 loop-link-preserved c =
     let chains = c.args.chains.now in
-    let here = sym c.link.ensures ∙ c.in-Some.is in
-    record {
-      on = on_step chains.links.items c.loop-link.at c.args.floor c.in-Some.link here c.if-at-floor.false c.loop-link.invariant.on;
-      put =
-          put_more chains.links.items chains.linked c.loop-link.at c.args.top c.in-Some.link c.args.in_units c.args.out.now.items c.loop-link.out.items c.push_slots.new.out.items here
-          c.in_ok-push_slots.ensures c.loop-link.invariant.put;
-    }
-
-pub returns-then-at-floor : goal.returns-then-at-floor
-returns-then-at-floor c =
-    let links = c.args.chains.now.links.items in
-    put_at links c.loop-link.at c.args.top c.args.floor c.args.in_units c.args.out.now.items c.loop-link.out.items (ap (types_at links) c.if-at-floor.true) c.loop-link.invariant.put
+    let l = c.in-Some.link in
+    let out = map type_of c.loop-link.out.items in
+    let below = types_at chains.links.items l.below in
+    ap (λ xs. map type_of xs ++ below) c.in_ok-push.ensures.items
+    ∙ ap (λ ts. ts ++ below) (map-append type_of c.loop-link.out.items (l.vtype ∷ []))
+    ∙ append_assoc out (type_of l.vtype ∷ []) below
+    ∙ ap (λ ts. out ++ ts) (sym (types_step chains.links.items chains.linked c.loop-link.at l (sym c.link.ensures ∙ c.in-Some.is)))
+    ∙ c.loop-link.invariant
 
 pub returns : goal.returns
 returns c =
-    let links = c.args.chains.now.links.items in
-    put_at links c.loop-link.at c.args.top c.args.floor c.args.in_units c.args.out.now.items c.loop-link.out.items
-    (on_end links c.loop-link.at c.args.floor (sym c.link.ensures ∙ c.in_default.is) c.loop-link.invariant.on) c.loop-link.invariant.put
+    let out = map type_of c.loop-link.out.items in
+    sym (append-nil out) ∙ ap (λ ts. out ++ ts) (sym (types_none c.args.chains.now.links.items c.loop-link.at (sym c.link.ensures ∙ c.in_default.is))) ∙ c.loop-link.invariant

@@ -1,11 +1,10 @@
-use Rattle.frames.specs.Chains.{IsOn, PutDown}
+use Rattle.std.proofs.Common.{◌≡◌, ◌++◌, map}
+use Rattle.frames.specs.VerificationType.{type_of}
+use Rattle.frames.specs.Chains.{types_at}
 use Rattle.frames.proofs.walking.write_down.Given as goal
 
 abbrev pub invariant-loop-link : goal.invariant-loop-link
-invariant-loop-link l = record {
-  on : IsOn l.chains.links.items l.at l.fn.floor;
-  put : PutDown l.chains.links.items l.in_units l.fn.top l.at l.fn.out.items l.out.items;
-}
+invariant-loop-link l = map type_of l.out.items ++ types_at l.chains.links.items l.at ≡ map type_of l.fn.out.items ++ types_at l.chains.links.items l.fn.top
 
 abbrev pub decreases-loop-link : goal.decreases-loop-link
 decreases-loop-link l = l.at

@@ -1,22 +1,30 @@
-use Rattle.std.proofs.Common.{ℕ, Err, refl, sym, ap, ◌∙◌}
-use Rattle.names.specs.declared.fault.NameFault.TheVariants.{BadText}
-use Rattle.names.proofs.UnitLaws.{good_is_text, text_is_good, bad_is_first, first_bad_is_found, not_both, same_place}
+use Rattle.std.proofs.Common.{◌≡◌, ◌+◌, ◌-◌, ◌≤◌, length, sym, arith}
+use Rattle.std.proofs.lemmas.Simd.{length-chunk}
+use Rattle.names.proofs.SingleUnits.{lanes_between, read_from, read_is_good, read_lanes, single_is_good}
 use Rattle.names.proofs.text.check_text.Goals as goal
 
-pub invariant_of-result : goal.invariant_of-result
-invariant_of-result c = let t = good_is_text c.args.bytes.now (sym c.in-None.ensures) in record { well_spelled = ∣ t ∣₁ }
+pub text_of-requires : goal.text_of-requires
+text_of-requires c = sym (single_is_good c.args.bytes.now (c.are_few.ensures c.if-are_few.true))
 
-pub returns-in-None-clause-text : goal.returns-in-None-clause-text
-returns-in-None-clause-text c = (refl, good_is_text c.args.bytes.now (sym c.in-None.ensures))
+pub single_in_block-requires : goal.single_in_block-requires
+single_in_block-requires c = length-chunk c.loop-at.at 32 c.args.bytes.now (omega (arith, c.loop-at-test.true))
 
-pub returns-in-None-clause-refused : goal.returns-in-None-clause-refused
-returns-in-None-clause-refused c = λ at bad. absurd (not_both at (c.in-None.ensures ∙ first_bad_is_found c.args.bytes.now at bad))
+pub loop-at-preserved : goal.loop-at-preserved
+loop-at-preserved c =
+    let bytes = c.args.bytes.now in
+    let at = c.loop-at.at in
+    let within : at + 32 ≤ length bytes = omega (arith, c.loop-at-test.true) in
+    let all : c.single_in_block.result ≡ 32 = c.if-single_in_block-eq32.true in
+    record { within = within; read = rw (← all) (read_lanes bytes at 32 c.single_in_block.result c.loop-at.invariant.read within c.single_in_block.ensures) }
 
-pub returns-in-Some-clause-accepted : goal.returns-in-Some-clause-accepted
-returns-in-Some-clause-accepted c = λ t. absurd (not_both c.in-Some.at (sym (text_is_good c.args.bytes.now t) ∙ sym c.in-Some.ensures))
+pub single_in_block-requires-then-at-last : goal.single_in_block-requires-then-at-last
+single_in_block-requires-then-at-last c = length-chunk (length c.args.bytes.now - 32) 32 c.args.bytes.now (omega (arith, c.if-bytes-ge32.true))
 
-pub returns-in-Some-clause-fault : goal.returns-in-Some-clause-fault
-returns-in-Some-clause-fault c = (c.in-Some.at, refl, bad_is_first c.args.bytes.now c.in-Some.at (sym c.in-Some.ensures))
-
-pub returns-in-Some-clause-refused : goal.returns-in-Some-clause-refused
-returns-in-Some-clause-refused c = λ at bad. ap (λ (k : ℕ). Err (BadText k)) (same_place c.in-Some.at at (c.in-Some.ensures ∙ first_bad_is_found c.args.bytes.now at bad))
+pub text_of-requires-then-single_in_block-eq32-2 : goal.text_of-requires-then-single_in_block-eq32-2
+text_of-requires-then-single_in_block-eq32-2 c =
+    let bytes = c.args.bytes.now in
+    let n = length bytes in
+    let all : c.single_in_block-then-at-last.result ≡ 32 = c.if-single_in_block-eq32-2.true in
+    let last = lanes_between bytes (n - 32) 32 c.single_in_block-then-at-last.result c.single_in_block-then-at-last.ensures in
+    let read = read_from bytes c.loop-at.at n c.loop-at.invariant.read c.loop-at.invariant.within (omega arith) (λ k from to. last k (omega (arith, from, c.if-at-last.true)) (omega (arith, to, all, c.if-bytes-ge32.true))) in
+    sym (read_is_good bytes n read (omega arith))

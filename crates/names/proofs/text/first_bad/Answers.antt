@@ -1,24 +1,25 @@
-use Rattle.std.proofs.Common.{◌≡◌, drop, sym, Some, None}
-use Rattle.names.specs.Units.{unit_at}
-use Rattle.names.proofs.UnitLaws.{read_all, text_is_good, bad_is_found, read_on, stays_within}
-use Rattle.names.proofs.SingleUnits.{single_is_good}
+use Rattle.std.proofs.Common.{◌≡◌, ◌+◌, sym, subst, ◌∙◌, arith}
+use Rattle.names.proofs.UnitLaws.{ReadTo}
+use Rattle.names.proofs.SingleUnits.{read_run, read_single, read_is_good}
 use Rattle.names.proofs.text.first_bad.Goals as goal
 
-pub returns-then-are_all : goal.returns-then-are_all
-returns-then-are_all c = sym (single_is_good c.args.bytes.now (c.are_all.ensures c.if-are_all.true))
-
-pub returns-in-None : goal.returns-in-None
-returns-in-None c =
-    let none : unit_at (drop c.loop-at.at c.args.bytes.now) ≡ None = cc (c.in-None.ensures) in
-    sym (bad_is_found c.args.bytes.now c.loop-at.at c.loop-at.invariant.read c.loop-at-test.true none)
+pub loop-at-preserved-then-run-lt8 : goal.loop-at-preserved-then-run-lt8
+loop-at-preserved-then-run-lt8 c =
+    let is = sym c.is_single.ensures ∙ c.if-not-is_single.false in
+    record { within = omega (arith, c.loop-at-test.true); read = read_single c.args.bytes.now c.loop-at.at c.loop-at.invariant.read c.loop-at-test.true is }
 
 pub loop-at-preserved : goal.loop-at-preserved
 loop-at-preserved c =
-    let some : unit_at (drop c.loop-at.at c.args.bytes.now) ≡ Some (c.in-Some.field-0-0, c.in-Some.n) = cc (c.in-Some.ensures) in
+    let bytes = c.args.bytes.now in
+    let at = c.loop-at.at in
+    let n = c.single_in_front.result in
+    let is = sym c.is_single.ensures ∙ c.if-not-is_single.false in
+    let more = c.single_in_front.ensures in
+    let there : at + 1 + n ≡ at + (1 + n) = omega arith in
     record {
-      within = stays_within c.args.bytes.now c.loop-at.at c.in-Some.field-0-0 c.in-Some.n c.loop-at-test.true some;
-      read = read_on c.args.bytes.now c.loop-at.at c.in-Some.field-0-0 c.in-Some.n c.loop-at.invariant.read some;
+      within = omega (arith, more.within);
+      read = subst (ReadTo bytes) there (read_run n bytes (at + 1) (read_single bytes at c.loop-at.invariant.read c.loop-at-test.true is) more.within more.single);
     }
 
 pub returns : goal.returns
-returns c = sym (text_is_good c.args.bytes.now (read_all c.args.bytes.now c.loop-at.at c.loop-at.invariant.read c.loop-at-test.false))
+returns c = sym (read_is_good c.args.bytes.now c.loop-at.at c.loop-at.invariant.read c.loop-at-test.false)

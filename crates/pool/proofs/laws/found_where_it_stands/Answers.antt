@@ -1,4 +1,4 @@
-use Rattle.pool.proofs.LookupLaws.{entry_stands, stands_entry, text_stands, stands_text, class_stands, stands_class, name_and_type_stands, stands_name_and_type, field_stands, stands_field, method_stands, stands_method}
+use Rattle.pool.proofs.LookupLaws.{entry_stands, stands_entry, text_stands, stands_text, class_stands, stands_class, name_and_type_stands, stands_name_and_type, field_stands, stands_field, method_stands, stands_method, dynamic_stands, stands_dynamic, invoke_dynamic_stands, stands_invoke_dynamic}
 use Rattle.pool.proofs.laws.found_where_it_stands.Goals as goal
 
 pub returns-clause-entry : goal.returns-clause-entry
@@ -18,3 +18,9 @@ returns-clause-field_ref c = λ es index x. (field_stands es index x, stands_fie
 
 pub returns-clause-method_ref : goal.returns-clause-method_ref
 returns-clause-method_ref c = λ es index x. (method_stands es index x, stands_method es index x)
+
+pub returns-clause-dynamic : goal.returns-clause-dynamic
+returns-clause-dynamic c = λ es index x. (dynamic_stands es index x, stands_dynamic es index x)
+
+pub returns-clause-invoke_dynamic : goal.returns-clause-invoke_dynamic
+returns-clause-invoke_dynamic c = λ es index x. (invoke_dynamic_stands es index x, stands_invoke_dynamic es index x)

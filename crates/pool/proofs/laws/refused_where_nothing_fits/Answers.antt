@@ -1,5 +1,5 @@
 use Rattle.std.proofs.Common.{[]}
-use Rattle.pool.proofs.MissingLaws.{text_missing, class_missing, named_missing, name_and_type_missing, field_missing, method_missing, one_missing}
+use Rattle.pool.proofs.MissingLaws.{text_missing, class_missing, named_missing, name_and_type_missing, field_missing, method_missing, dynamic_missing, invoke_dynamic_missing, one_missing}
 use Rattle.pool.proofs.laws.refused_where_nothing_fits.Goals as goal
 
 pub returns-clause-refused : goal.returns-clause-refused
@@ -10,6 +10,8 @@ returns-clause-refused c = record {
   name_and_type = λ es index fault h. name_and_type_missing es index [] fault h;
   field_ref = λ es index fault h. field_missing es index [] fault h;
   method_ref = λ es index fault h. method_missing es index [] fault h;
+  dynamic = λ es index fault h. dynamic_missing es index [] fault h;
+  invoke_dynamic = λ es index fault h. invoke_dynamic_missing es index [] fault h;
 }
 
 pub returns-clause-one : goal.returns-clause-one

@@ -1,6 +1,6 @@
 use Rattle.std.proofs.Common.{arith}
 use Rattle.frames.specs.VerificationType.{type_of}
-use Rattle.rules.specs.Replacing.{replaced}
+use Rattle.frames.specs.Objects.{replaced}
 use Rattle.rules.proofs.Replaced.{replaced_next, replaced_end}
 use Rattle.rules.proofs.replacing.replace.Goals as goal
 

@@ -1,5 +1,5 @@
 use Rattle.frames.specs.VerificationType.{type_of}
-use Rattle.rules.specs.Replacing.{replaced}
+use Rattle.frames.specs.Objects.{replaced}
 use Rattle.rules.proofs.Replaced.{Replaced}
 use Rattle.rules.proofs.replacing.replace.Given as goal
 

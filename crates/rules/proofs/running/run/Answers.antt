@@ -9,14 +9,16 @@ use Rattle.std.specs.Option.{option_and_then}
 use Rattle.names.specs.References.{reference_view}
 use Rattle.names.specs.declared.references.RefType.{RefType}
 use Rattle.pool.specs.declared.reference.FieldConstant.{FieldConstant}
-use Rattle.pool.specs.Members.{class_at, field_at, method_at}
-use Rattle.pool.specs.MemberViews.{field_constant_view, method_constant_view}
+use Rattle.names.specs.declared.descriptor.FieldType.{FieldType}
+use Rattle.names.specs.Types.{type_of}
+use Rattle.pool.specs.Members.{constant_at, class_at, field_at, method_at, dynamic_type_at, call_site_at}
+use Rattle.pool.specs.MemberViews.{field_constant_view, method_constant_view, call_site_view}
 use Rattle.classfile.specs.Methods.{Method}
 use Rattle.insn.specs.Meanings as acts
 use Rattle.insn.specs.declared.operation.Act.{Act}
 use Rattle.rules.specs.declared.naming.Named.{Named}
-use Rattle.rules.specs.Naming.{IsNamed, class_index, field_index, method_index, kept_class, kept_field, kept_method}
-use Rattle.rules.specs.Constants.{get_static, put_static, get_field, put_field, invoke_static, invoke_virtual, invoke_special, invoke_interface, new_reference_array, new_multi_array, check_cast, instance_of}
+use Rattle.rules.specs.Naming.{IsNamed, class_index, field_index, method_index, loaded_index, site_index, kept_class, kept_field, kept_method, kept_type, kept_site}
+use Rattle.rules.specs.Constants.{get_static, put_static, get_field, put_field, invoke_static, invoke_virtual, invoke_special, invoke_interface, invoke_dynamic, load_constant, load_wide_constant, new_reference_array, new_multi_array, check_cast, instance_of}
 use Rattle.rules.proofs.Plainly.{plain_else}
 use Rattle.rules.proofs.running.run.Goals as goal
 
@@ -32,6 +34,15 @@ field_is m act other n r k h e =
 method_is : (m : Method acts.Act) (act other : Act) (n : Named) → IsNamed m (act_view act) n → act ≡ other
     → option_map method_constant_view (kept_method n) ≡ option_and_then (method_at m.constant_pool) (method_index (act_view other))
 method_is m act other n h e = h.method ∙ ap (λ a. option_and_then (method_at m.constant_pool) (method_index (act_view a))) e
+
+computed_is : (m : Method acts.Act) (act other : Act) (n : Named) (t : Option FieldType) → t ≡ kept_type n → IsNamed m (act_view act) n → act ≡ other
+    → option_map type_of t ≡ option_and_then (dynamic_type_at m.constant_pool) (loaded_index (act_view other))
+computed_is m act other n t k h e =
+    ap (option_map type_of) k ∙ h.computed ∙ ap (λ a. option_and_then (dynamic_type_at m.constant_pool) (loaded_index (act_view a))) e
+
+site_is : (m : Method acts.Act) (act other : Act) (n : Named) → IsNamed m (act_view act) n → act ≡ other
+    → option_map call_site_view (kept_site n) ≡ option_and_then (call_site_at m.constant_pool) (site_index (act_view other))
+site_is m act other n h e = h.site ∙ ap (λ a. option_and_then (call_site_at m.constant_pool) (site_index (act_view a))) e
 
 pub returns-in-ReturnReference : goal.returns-in-ReturnReference
 returns-in-ReturnReference g c =
@@ -81,6 +92,24 @@ returns-in-InvokeInterface g c =
     by_plan m c.args.at (plan m (act_view c.args.act)) _ (g.C.Classes.content c.args.classes.now) (held c.args.frame.now) (held c.invoke_interface.new.frame) c.invoke_interface.result
     (ap (λ a. plan m (act_view a)) c.in-InvokeInterface.is ∙ sym (ap (invoke_interface c.in-InvokeInterface.count) (c.method-in-InvokeInterface.ensures ∙ method_is m c.args.act _ c.args.named.now c.requires.named c.in-InvokeInterface.is))) (c.invoke_interface.ensures c.args.at)
 
+pub returns-in-InvokeDynamic : goal.returns-in-InvokeDynamic
+returns-in-InvokeDynamic g c =
+    let m = method_view c.args.method.now in
+    by_plan m c.args.at (plan m (act_view c.args.act)) _ (g.C.Classes.content c.args.classes.now) (held c.args.frame.now) (held c.invoke_dynamic.new.frame) c.invoke_dynamic.result
+    (ap (λ a. plan m (act_view a)) c.in-InvokeDynamic.is ∙ sym (ap (invoke_dynamic m) (c.site.ensures ∙ site_is m c.args.act _ c.args.named.now c.requires.named c.in-InvokeDynamic.is))) (c.invoke_dynamic.ensures c.args.at)
+
+pub returns-in-LoadConstant : goal.returns-in-LoadConstant
+returns-in-LoadConstant g c =
+    let m = method_view c.args.method.now in
+    by_plan m c.args.at (plan m (act_view c.args.act)) _ (g.C.Classes.content c.args.classes.now) (held c.args.frame.now) (held c.load_constant.new.frame) c.load_constant.result
+    (ap (λ a. plan m (act_view a)) c.in-LoadConstant.is ∙ sym (ap (λ t. load_constant m t (constant_at m.constant_pool c.in-LoadConstant.index)) (computed_is m c.args.act _ c.args.named.now c.computed.result c.computed.ensures c.requires.named c.in-LoadConstant.is))) (c.load_constant.ensures c.args.at)
+
+pub returns-in-LoadWideConstant : goal.returns-in-LoadWideConstant
+returns-in-LoadWideConstant g c =
+    let m = method_view c.args.method.now in
+    by_plan m c.args.at (plan m (act_view c.args.act)) _ (g.C.Classes.content c.args.classes.now) (held c.args.frame.now) (held c.load_wide_constant.new.frame) c.load_wide_constant.result
+    (ap (λ a. plan m (act_view a)) c.in-LoadWideConstant.is ∙ sym (ap (λ t. load_wide_constant m t (constant_at m.constant_pool c.in-LoadWideConstant.index)) (computed_is m c.args.act _ c.args.named.now c.computed-in-LoadWideConstant.result c.computed-in-LoadWideConstant.ensures c.requires.named c.in-LoadWideConstant.is))) (c.load_wide_constant.ensures c.args.at)
+
 pub returns-in-NewReferenceArray : goal.returns-in-NewReferenceArray
 returns-in-NewReferenceArray g c =
     let m = method_view c.args.method.now in
@@ -126,7 +155,7 @@ returns-in-New g c =
     (ap (λ a. plan m (act_view a)) c.in-New.is) (c.new_object.ensures (g.C.Classes.content c.args.classes.now))
 
 pub run_plain-requires-clause-plain : goal.run_plain-requires-clause-plain
-run_plain-requires-clause-plain g c = plain_else c.args.act c.in_default.not-Goto c.in_default.not-IfInt c.in_default.not-Switch c.in_default.not-IfInts c.in_default.not-IfReferences c.in_default.not-IfNull c.in_default.not-Return c.in_default.not-ReturnReference c.in_default.not-ReturnVoid c.in_default.not-Throw c.in_default.not-GetStatic c.in_default.not-PutStatic c.in_default.not-GetField c.in_default.not-PutField c.in_default.not-InvokeVirtual c.in_default.not-InvokeSpecial c.in_default.not-InvokeStatic c.in_default.not-InvokeInterface c.in_default.not-NewReferenceArray c.in_default.not-NewMultiArray c.in_default.not-CheckCast c.in_default.not-InstanceOf c.in_default.not-New
+run_plain-requires-clause-plain g c = plain_else c.args.act c.in_default.not-Goto c.in_default.not-IfInt c.in_default.not-Switch c.in_default.not-IfInts c.in_default.not-IfReferences c.in_default.not-IfNull c.in_default.not-Return c.in_default.not-ReturnReference c.in_default.not-ReturnVoid c.in_default.not-Throw c.in_default.not-GetStatic c.in_default.not-PutStatic c.in_default.not-GetField c.in_default.not-PutField c.in_default.not-InvokeVirtual c.in_default.not-InvokeSpecial c.in_default.not-InvokeStatic c.in_default.not-InvokeInterface c.in_default.not-InvokeDynamic c.in_default.not-LoadConstant c.in_default.not-LoadWideConstant c.in_default.not-NewReferenceArray c.in_default.not-NewMultiArray c.in_default.not-CheckCast c.in_default.not-InstanceOf c.in_default.not-New
 
 pub returns-in_default : goal.returns-in_default
 returns-in_default g c = c.run_plain.ensures c.args.at

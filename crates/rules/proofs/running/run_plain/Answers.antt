@@ -25,18 +25,6 @@ returns-in-ConstantNull g c =
     let cs = g.C.Classes.content c.args.classes.now in
     λ at. by_plan m at (plan m (act_view c.args.act.now)) _ cs (held c.args.frame.now) (held c.gives_null.new.frame) c.gives_null.result (ap (λ a. plan m (act_view a)) c.in-ConstantNull.is) c.gives_null.ensures
 
-pub returns-in-LoadConstant : goal.returns-in-LoadConstant
-returns-in-LoadConstant g c =
-    let m = method_view c.args.method.now in
-    let cs = g.C.Classes.content c.args.classes.now in
-    λ at. by_plan m at (plan m (act_view c.args.act.now)) _ cs (held c.args.frame.now) (held c.load_constant.new.frame) c.load_constant.result (ap (λ a. plan m (act_view a)) c.in-LoadConstant.is) (c.load_constant.ensures at)
-
-pub returns-in-LoadWideConstant : goal.returns-in-LoadWideConstant
-returns-in-LoadWideConstant g c =
-    let m = method_view c.args.method.now in
-    let cs = g.C.Classes.content c.args.classes.now in
-    λ at. by_plan m at (plan m (act_view c.args.act.now)) _ cs (held c.args.frame.now) (held c.load_wide_constant.new.frame) c.load_wide_constant.result (ap (λ a. plan m (act_view a)) c.in-LoadWideConstant.is) (c.load_wide_constant.ensures at)
-
 pub returns-in-Load : goal.returns-in-Load
 returns-in-Load g c =
     let m = method_view c.args.method.now in
@@ -122,4 +110,4 @@ returns-in-Monitor g c =
     λ at. by_plan m at (plan m (act_view c.args.act.now)) _ cs (held c.args.frame.now) (held c.takes_reference.new.frame) c.takes_reference.result (ap (λ a. plan m (act_view a)) c.in-Monitor.is) c.takes_reference.ensures
 
 pub unreachable-requires : goal.unreachable-requires
-unreachable-requires g c = absurd (plain_among c.args.act.now c.requires.plain c.in_default.not-Nothing c.in_default.not-Constant c.in_default.not-ConstantNull c.in_default.not-LoadConstant c.in_default.not-LoadWideConstant c.in_default.not-Load c.in_default.not-LoadReference c.in_default.not-Store c.in_default.not-StoreReference c.in_default.not-Increment c.in_default.not-Numeric c.in_default.not-Stack c.in_default.not-LoadElement c.in_default.not-StoreElement c.in_default.not-LoadReferenceElement c.in_default.not-StoreReferenceElement c.in_default.not-ArrayLength c.in_default.not-NewArray c.in_default.not-Monitor c.in_default.not-Unsupported)
+unreachable-requires g c = absurd (plain_among c.args.act.now c.requires.plain c.in_default.not-Nothing c.in_default.not-Constant c.in_default.not-ConstantNull c.in_default.not-Load c.in_default.not-LoadReference c.in_default.not-Store c.in_default.not-StoreReference c.in_default.not-Increment c.in_default.not-Numeric c.in_default.not-Stack c.in_default.not-LoadElement c.in_default.not-StoreElement c.in_default.not-LoadReferenceElement c.in_default.not-StoreReferenceElement c.in_default.not-ArrayLength c.in_default.not-NewArray c.in_default.not-Monitor c.in_default.not-Unsupported)

@@ -1,4 +1,5 @@
 use Rattle.std.proofs.Common.{◌≡◌, ◌∙◌, ◌++◌, ◌∷◌, [], map, ap}
+use Rattle.classfile.specs.CodeMethods.{judged_class}
 use Rattle.classfile.specs.Views.{class_view}
 use Rattle.hierarchy.specs.ClassSummary.{summary_of}
 use Rattle.hierarchy.specs.Summary.{facts_of}
@@ -24,4 +25,4 @@ returns g c =
     let facts : facts_of c.deref.result.now ≡ map summary_of (class ∷ cs) =
     ap facts_of c.deref.ensures.value ∙ more
     ∙ ap (λ fs. fs ++ map summary_of cs) (ap facts_of c.in_ok-push.ensures.items ∙ ap (λ xs. facts_of (xs ++ s ∷ [])) c.in_ok-summaries.ensures.items ∙ ap (λ f. f ∷ []) c.in_ok-summary_of.ensures) in
-    reports_formed class (map read_of c.args.known.now) cs (facts_of c.deref.result.now) c.report_in.result all facts c.report_in.ensures
+    reports_formed (judged_class c.args.formed.now) (map read_of c.args.known.now) cs (facts_of c.deref.result.now) c.report_in.result all facts c.report_in.ensures

@@ -1,6 +1,6 @@
 use Rattle.std.specs.Option.{option_map}
 use Rattle.names.specs.Types.{type_of}
-use Rattle.classfile.specs.CodeMethods.{code_method_view}
+use Rattle.classfile.specs.CodeMethods.{class_of, code_method_view}
 use Rattle.classfile.specs.Views.{class_view, code_view}
 use Rattle.classfile.proofs.MethodLaws.{method_says}
 use Rattle.insn.specs.Code.{SpellsCode}
@@ -23,7 +23,7 @@ new-requires g c = let m = c.args.method in
 pub returns-in-Err-clause-answered : goal.returns-in-Err-clause-answered
 returns-in-Err-clause-answered g c =
     let m = c.args.method in
-    bad_code (g.C.Classes.content c.args.classes.now) (class_view m.class.now) m.number (code_view m.code.now) c.in-Err.fault c.refuse_code.result c.requires.coded
+    bad_code (g.C.Classes.content c.args.classes.now) (class_of m) m.number (code_view m.code.now) c.in-Err.fault c.refuse_code.result c.requires.coded
     c.in-Err.ensures.fault c.refuse_code.ensures
 
 pub returns-clause-answered : goal.returns-clause-answered
@@ -32,8 +32,8 @@ returns-clause-answered g c =
     let xs = instructions_in m.code.now.code.now in
     let spelled : SpellsCode 0 (code_view m.code.now).code xs =
     read_spelled (code_view m.code.now).code c.in-Ok.ensures.spelled.0 c.in-Ok.ensures.spelled.1 in
-    given (g.C.Classes.content c.args.classes.now) (class_view m.class.now) m.number (code_view m.code.now) xs
+    given (g.C.Classes.content c.args.classes.now) (class_of m) m.number (code_view m.code.now) xs
     (code_method_view {A = Act} m (acts xs)) c.judge_body.result c.requires.coded spelled
-    (method_says {A = Act} (class_view m.class.now) m.number (code_view m.code.now) m.is_static m.is_init
+    (method_says {A = Act} (class_of m) m.number (code_view m.code.now) m.is_static m.is_init
     (option_map type_of m.result_type) m.is_method (acts xs))
     c.judge_body.ensures.judged

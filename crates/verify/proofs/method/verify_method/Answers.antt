@@ -1,4 +1,4 @@
-use Rattle.classfile.specs.Views.{class_view}
+use Rattle.classfile.specs.CodeMethods.{judged_class}
 use Rattle.verify.proofs.Answering.{only_then, safe_then}
 use Rattle.verify.proofs.method.verify_method.Goals as goal
 
@@ -7,11 +7,11 @@ verify_listed-requires-clause-listed g c = c.in_ok-is_listed.ensures.found.0 c.i
 
 pub returns-clause-only : goal.returns-clause-only
 returns-clause-only g c =
-    only_then (g.C.Classes.content c.args.classes.now) (class_view c.args.formed.now.class.now) c.args.number c.verify_listed.result
+    only_then (g.C.Classes.content c.args.classes.now) (judged_class c.args.formed.now) c.args.number c.verify_listed.result
     c.verify_listed.ensures.answered
 
 pub returns-clause-safe : goal.returns-clause-safe
 returns-clause-safe g c =
-    safe_then (g.C.Classes.content c.args.classes.now) (class_view c.args.formed.now.class.now) c.args.number
+    safe_then (g.C.Classes.content c.args.classes.now) (judged_class c.args.formed.now) c.args.number
     c.in_ok-is_listed.ensures.formed c.verify_listed.result
     c.verify_listed.ensures.answered

@@ -1,8 +1,8 @@
 use Rattle.std.proofs.Common.{◌≡◌, ◌∙◌, ◌++◌, ◌+◌, ◌<◌, ◌∷◌, [], Some, map, length, ap, sym, subst}
 use Rattle.std.specs.Prelude.{slice_get}
 use Rattle.std.proofs.lemmas.List.{length-append}
-use Rattle.classfile.specs.Values.{Class}
-use Rattle.classfile.specs.Views.{class_view}
+use Rattle.classfile.specs.Methods.{JudgedClass}
+use Rattle.classfile.specs.CodeMethods.{judged_class}
 use Rattle.classfile.proofs.Places.{viewed_at}
 use Rattle.verify.specs.Plays.{IsFine}
 use Rattle.verify.proofs.Named.{one_more_item}
@@ -12,19 +12,19 @@ use Rattle.verify.proofs.play.reports_in_turn.Goals as goal
 pub loop-class-preserved : goal.loop-class-preserved
 loop-class-preserved g c =
     let h = g.C.Classes.content c.args.classes.now in
-    let cs = map (λ f. class_view f.class.now) c.args.play.now in
+    let cs = map judged_class c.args.play.now in
     let f = c.index-play-class.result in
-    let here : slice_get cs c.loop-class.class ≡ Some (class_view f.class.now) =
-    viewed_at (λ f. class_view f.class.now) c.args.play.now c.loop-class.class f c.loop-class-test.true c.index-play-class.is in
+    let here : slice_get cs c.loop-class.class ≡ Some (judged_class f) =
+    viewed_at judged_class c.args.play.now c.loop-class.class f c.loop-class-test.true c.index-play-class.is in
     let (hierarchy, fine, met) = c.in-Ok.ensures cs here c.loop-class.invariant.2 in
     let old = c.loop-class.reports.items in
     let x = c.in-Ok.report in
     let is : c.push.new.self.items ≡ old ++ x ∷ [] = c.in_ok-push-in-Ok.ensures.items in
     let count : length old ≡ c.loop-class.class = c.loop-class.invariant.0 in
-    let last = subst (λ n. (d : Class) × (slice_get cs n ≡ Some d) × IsFine h cs n d x.methods.items) (sym count) (class_view f.class.now, here, fine) in (
+    let last = subst (λ n. (d : JudgedClass) × (slice_get cs n ≡ Some d) × IsFine h cs n d x.methods.items) (sym count) (judged_class f, here, fine) in (
       ap length is ∙ length-append old (x ∷ []) ∙ ap (λ n. n + 1) count,
       λ n r e.
-          one_more_item old x (λ n r. (d : Class) × (slice_get cs n ≡ Some d) × IsFine h cs n d r.methods.items) c.loop-class.invariant.1 last n r (ap (λ xs. slice_get xs n) (sym is) ∙ e),
+          one_more_item old x (λ n r. (d : JudgedClass) × (slice_get cs n ≡ Some d) × IsFine h cs n d r.methods.items) c.loop-class.invariant.1 last n r (ap (λ xs. slice_get xs n) (sym is) ∙ e),
       met,
       λ some. hierarchy,
     )
@@ -32,11 +32,11 @@ loop-class-preserved g c =
 pub returns-in-Err-clause-exactly : goal.returns-in-Err-clause-exactly
 returns-in-Err-clause-exactly g c =
     let h = g.C.Classes.content c.args.classes.now in
-    let cs = map (λ f. class_view f.class.now) c.args.play.now in
+    let cs = map judged_class c.args.play.now in
     let f = c.index-play-class.result in
-    let here : slice_get cs c.loop-class.class ≡ Some (class_view f.class.now) =
-    viewed_at (λ f. class_view f.class.now) c.args.play.now c.loop-class.class f c.loop-class-test.true c.index-play-class.is in
-    stopped h cs c.loop-class.class (class_view f.class.now) c.judge.new.names c.in-Err.stop c.loop-class.reports.items here c.loop-class.invariant.0 c.loop-class.invariant.1
+    let here : slice_get cs c.loop-class.class ≡ Some (judged_class f) =
+    viewed_at judged_class c.args.play.now c.loop-class.class f c.loop-class-test.true c.index-play-class.is in
+    stopped h cs c.loop-class.class (judged_class f) c.judge.new.names c.in-Err.stop c.loop-class.reports.items here c.loop-class.invariant.0 c.loop-class.invariant.1
     (c.in-Err.ensures cs here c.loop-class.invariant.2)
 
 pub returns-clause-hierarchy : goal.returns-clause-hierarchy

@@ -1,6 +1,6 @@
 -- Each class so far breaks no rule, and its name was met.
 use Rattle.std.proofs.Common.{◌≡◌, ◌<◌, length, map}
-use Rattle.classfile.specs.Views.{class_view}
+use Rattle.classfile.specs.CodeMethods.{judged_class}
 use Rattle.hierarchy.specs.Rules.{IsHierarchy}
 use Rattle.verify.specs.Plays.{AreFine}
 use Rattle.verify.specs.PlaySteps.{AreMet}
@@ -9,6 +9,6 @@ use Rattle.verify.proofs.play.reports_in_turn.Given as goal
 abbrev pub invariant-loop-class : goal.invariant-loop-class
 invariant-loop-class g l =
     (length l.reports.items ≡ l.class)
-    × AreFine (g.C.Classes.content l.classes) (map (λ f. class_view f.class.now) l.play) l.reports.items
-    × AreMet (map (λ f. class_view f.class.now) l.play) l.class l.names
+    × AreFine (g.C.Classes.content l.classes) (map judged_class l.play) l.reports.items
+    × AreMet (map judged_class l.play) l.class l.names
     × (0 < l.class → IsHierarchy (g.C.Classes.content l.classes))

@@ -1,7 +1,7 @@
 use Rattle.std.proofs.Common.{◌≡◌, ◌∙◌, ◌++◌, ◌+◌, ◌∷◌, [], ap, sym, subst, length}
 use Rattle.std.specs.Prelude.{slice_get}
 use Rattle.std.proofs.lemmas.List.{length-append}
-use Rattle.classfile.specs.Views.{class_view}
+use Rattle.classfile.specs.CodeMethods.{judged_class}
 use Rattle.verify.specs.Reports.{IsReported}
 use Rattle.verify.proofs.Named.{one_more_item}
 use Rattle.verify.proofs.report.report_listed.Goals as goal
@@ -9,7 +9,7 @@ use Rattle.verify.proofs.report.report_listed.Goals as goal
 pub loop-number-preserved : goal.loop-number-preserved
 loop-number-preserved g c =
     let classes = g.C.Classes.content c.args.classes.now in
-    let class = class_view c.args.formed.now.class.now in
+    let class = judged_class c.args.formed.now in
     let old = c.loop-number.methods.items in
     let x = c.in_ok-verdict.verdict in
     let is : c.push.new.self.items ≡ old ++ x ∷ [] = c.in_ok-push.ensures.items in

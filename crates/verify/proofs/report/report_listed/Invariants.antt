@@ -1,7 +1,7 @@
 -- Each method so far was answered.
 use Rattle.std.proofs.Common.{◌≡◌, ℕ, length, Some}
 use Rattle.std.specs.Prelude.{slice_get}
-use Rattle.classfile.specs.Views.{class_view}
+use Rattle.classfile.specs.CodeMethods.{judged_class}
 use Rattle.verify.specs.declared.report.MethodVerdict.{MethodVerdict}
 use Rattle.verify.specs.Reports.{IsReported}
 use Rattle.verify.proofs.report.report_listed.Given as goal
@@ -11,4 +11,4 @@ invariant-loop-number g l =
     (l.constants ≡ l.formed.class.now.constant_pool)
     × (l.members ≡ record { class = l.formed.class.now; classes = g.C.Classes.content l.classes })
     × (length l.methods.items ≡ l.number)
-    × ((n : ℕ) (r : MethodVerdict) → slice_get l.methods.items n ≡ Some r → IsReported (g.C.Classes.content l.classes) (class_view l.formed.class.now) n r)
+    × ((n : ℕ) (r : MethodVerdict) → slice_get l.methods.items n ≡ Some r → IsReported (g.C.Classes.content l.classes) (judged_class l.formed) n r)

@@ -1,4 +1,5 @@
 use Rattle.std.proofs.Common.{◌≡◌, ◌<◌, length, map, Some, Ok, sym, subst}
+use Rattle.classfile.specs.Methods.{JudgedClass}
 use Rattle.std.specs.Prelude.{slice_get}
 use Rattle.pool.specs.Lookups.{text_at, Answers as Finds}
 use Rattle.classfile.specs.Views.{class_view, member_view}
@@ -42,13 +43,15 @@ returns-in-Ok-clause-found g c =
     let name : text_at class.constant_pool member.name ≡ Ok c.unwrap-name.result.bytes.now = subst (Finds (λ t. t.bytes.now) (text_at class.constant_pool member.name)) c.unwrap-name.ensures c.text.ensures in
     let descriptor : text_at class.constant_pool member.descriptor ≡ Ok c.unwrap-descriptor.result.bytes.now = subst (Finds (λ t. t.bytes.now) (text_at class.constant_pool member.descriptor)) c.unwrap-descriptor.ensures c.text-2.ensures in
     let classes = g.C.Classes.content c.args.classes.now in
-    let answers : Answers classes class c.args.number (Ok c.in-Ok.verdict) = subst (λ k. Answers classes (class_view k) c.args.number (Ok c.in-Ok.verdict)) (sym c.class-class.ensures.same) c.in-Ok.ensures.answered in
-    subst (λ k. IsReported classes (class_view k) c.args.number (record { name = c.unwrap-name.result; descriptor = c.unwrap-descriptor.result; verdict = c.in-Ok.verdict })) c.class-class.ensures.same
+    let d = c.args.formed.now.dynamic in
+    let judged : JudgedClass = record { file = class; dynamic = d } in
+    let answers : Answers classes judged c.args.number (Ok c.in-Ok.verdict) = subst (λ k. Answers classes (record { file = class_view k; dynamic = d }) c.args.number (Ok c.in-Ok.verdict)) (sym c.class-class.ensures.same) c.in-Ok.ensures.answered in
+    subst (λ k. IsReported classes (record { file = class_view k; dynamic = d }) c.args.number (record { name = c.unwrap-name.result; descriptor = c.unwrap-descriptor.result; verdict = c.in-Ok.verdict })) c.class-class.ensures.same
     (record {
       member = member_view member;
       numbered = here;
       called = both_named class.constant_pool member.name member.descriptor c.unwrap-name.result.bytes.now c.unwrap-descriptor.result.bytes.now name descriptor;
       exactly = answers;
-      only = only_then classes class c.args.number (Ok c.in-Ok.verdict) answers;
-      safe = safe_then classes class c.args.number c.requires.hierarchy (Ok c.in-Ok.verdict) answers;
+      only = only_then classes judged c.args.number (Ok c.in-Ok.verdict) answers;
+      safe = safe_then classes judged c.args.number c.requires.hierarchy (Ok c.in-Ok.verdict) answers;
     })

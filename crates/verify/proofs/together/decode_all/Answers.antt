@@ -47,7 +47,7 @@ returns-in-Err c =
     let long : length cs ≡ i = length-map c.loop-i.classes.items (λ k. class_view k) ∙ count in
     let front : AreDecoded (take (length cs) reads) cs = subst (λ n. AreDecoded (take n reads) cs) (sym long) all in (
       front,
-      λ formed.
+      λ formed profile.
           c.refused.ensures reads read (length cs) (ap (λ n. n + 1) (sym long)) c.in-Err.ensures
-          (λ why. first_behind reads cs read c.in-Err.fault front formed (ap (slice_get reads) long ∙ here) why),
+          (λ why. first_behind reads cs read c.in-Err.fault front formed (ap (slice_get reads) long ∙ here) why) profile,
     )

@@ -1,7 +1,8 @@
 -- The classes so far are well formed.
 use Rattle.std.proofs.Common.{◌≡◌, map, take}
+use Rattle.classfile.specs.CodeMethods.{judged, judged_class}
 use Rattle.verify.specs.TogetherSteps.{AreWellFormed, views}
 use Rattle.verify.proofs.together.form_all.Given as goal
 
 abbrev pub invariant-loop-i : goal.invariant-loop-i
-invariant-loop-i l = (map (λ f. f.class.now) l.all.items ≡ take l.i l.classes) × AreWellFormed (take l.i (views l.classes))
+invariant-loop-i l = (map judged_class l.all.items ≡ map (judged l.profile) (take l.i (views l.classes))) × AreWellFormed (take l.i (views l.classes))

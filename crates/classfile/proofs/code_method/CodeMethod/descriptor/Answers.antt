@@ -7,8 +7,8 @@ use Rattle.pool.specs.declared.fault.PoolFault.{PoolFault}
 use Rattle.pool.specs.Lookups.{Answers, text_at}
 use Rattle.classfile.specs.Values.{Member}
 use Rattle.classfile.specs.Flags.{has, STATIC}
-use Rattle.classfile.specs.Views.{class_view, member_view}
-use Rattle.classfile.specs.CodeMethods.{code_method_view, types_of}
+use Rattle.classfile.specs.Views.{member_view}
+use Rattle.classfile.specs.CodeMethods.{class_of, code_method_view, types_of}
 use Rattle.classfile.proofs.Places.{viewed_at}
 use Rattle.classfile.proofs.MethodLaws.{member_of, read_from}
 use Rattle.classfile.proofs.code_method.CodeMethod.descriptor.Goals as goal
@@ -24,7 +24,7 @@ returns c =
     let m = c.args.self in
     let pool = m.class.now.constant_pool in
     let methods = m.class.now.methods.items in
-    let is = member_of (class_view m.class.now) m.number (code_method_view m []) m.is_method in
+    let is = member_of (class_of m) m.number (code_method_view m []) m.is_method in
     let from = read_from pool is.member (types_of m) is.type_is in
     let read = member_view c.index-member.result.now in
     let bytes = c.unwrap.result.bytes.now in

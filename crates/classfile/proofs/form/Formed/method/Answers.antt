@@ -24,7 +24,7 @@ invariant_of-result c =
     let init = c.is_instance_initializer in
     let formed = c.class-class.ensures.formed in
     record {
-      is_method = method_there k formed c.args.number m body static.result init.result _ here coded static.ensures init.ensures c.result_at.ensures;
+      is_method = method_there (record { file = k; dynamic = c.args.self.dynamic }) formed c.args.number m body static.result init.result _ here coded static.ensures init.ensures c.result_at.ensures;
     }
 
 pub returns-clause-code : goal.returns-clause-code

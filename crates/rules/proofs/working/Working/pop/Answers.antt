@@ -7,8 +7,5 @@ overflow_sub-self c = popped_some c.args.self.now.stack.items c.pop.new.self.ite
 
 pub invariant_of-self-then-is_wide : goal.invariant_of-self-then-is_wide
 invariant_of-self-then-is_wide c = record {
-  counted = record {
-    units = popped_wide c.args.self.now.stack.items c.pop.new.self.items c.in_ok-t.t c.args.self.now.wides c.in_ok-t.ensures.items c.args.self.now.counted.units (sym c.is_wide.ensures ∙ c.if-is_wide.true);
-    few = c.args.self.now.counted.few;
-  };
+  counted = record { units = popped_wide c.args.self.now.stack.items c.pop.new.self.items c.in_ok-t.t c.args.self.now.wides c.in_ok-t.ensures.items c.args.self.now.counted.units (sym c.is_wide.ensures ∙ c.if-is_wide.true) };
 }

@@ -15,10 +15,7 @@ invariant_of-self-2 c =
     let b = length old - length c.args.form.takes.now in
     let fits : length c.args.form.takes.now ≤ length old = omega (arith, c.requires, stack_length old) in
     record {
-      counted = record {
-        units = wides_then old c.rearrange.new.stack.items b c.args.self.now.wides c.wides-before.result c.wides.result c.in_default.ensures.kept (omega arith) c.in_default.ensures.above c.args.self.now.counted.units (above_units old c.deref.result.now b _ c.wides-before.result c.deref.ensures.value (omega arith) c.wides-before.ensures) (above_units c.rearrange.new.stack.items c.deref-2.result.now b _ c.wides.result c.deref-2.ensures.value (omega arith) c.wides.ensures);
-        few = c.args.self.now.counted.few;
-      };
+      counted = record { units = wides_then old c.rearrange.new.stack.items b c.args.self.now.wides c.wides-before.result c.wides.result c.in_default.ensures.kept (omega arith) c.in_default.ensures.above c.args.self.now.counted.units (above_units old c.deref.result.now b _ c.wides-before.result c.deref.ensures.value (omega arith) c.wides-before.ensures) (above_units c.rearrange.new.stack.items c.deref-2.result.now b _ c.wides.result c.deref-2.ensures.value (omega arith) c.wides.ensures) };
     }
 
 pub overflow_add-self : goal.overflow_add-self

@@ -4,9 +4,8 @@ use Rattle.frames.specs.VerificationType.{top}
 use Rattle.rules.specs.After.{top_of, stored}
 use Rattle.rules.specs.Held.{held}
 use Rattle.rules.specs.Views.{with_half_free}
-use Rattle.rules.proofs.Storing.{free_length}
 use Rattle.rules.proofs.Written.{stored_narrow_is, stored_wide_is, freed_behind}
-use Rattle.verify.proofs.Kept.{known_by}
+use Rattle.verify.proofs.Kept.{free_length, known_by}
 use Rattle.verify.proofs.keeping.Known.fill_half.Goals as goal
 
 pub returns-then-not-has_wide_top : goal.returns-then-not-has_wide_top

@@ -8,7 +8,7 @@ use Rattle.verify.proofs.keeping.Known.fits.Goals as goal
 pub fits-requires : goal.fits-requires
 fits-requires g c =
     let declared = (declared_view c.args.declared.now).locals in
-    let same : held_locals c.locals.result.now (length declared) ≡ (held c.args.frame.now).locals = ap (held_locals c.locals.result.now) c.requires.size ∙ c.locals.ensures in
+    let same : held_locals c.locals.result.now (length declared) ≡ (held c.args.frame.now).locals = ap (held_locals c.locals.result.now) c.requires.size ∙ c.locals.ensures.same in
     record {
       table = c.args.frames.now;
       own = c.requires.own;

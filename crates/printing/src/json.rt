@@ -1,0 +1,161 @@
+//! Objects of JSON (RFC 8259), each on a line of its own, written field by field.
+ghost use Rattle.std.specs.Prelude.{◌++◌, codes};
+ghost use Rattle.printing.specs.Writing.{Writes};
+ghost use Rattle.printing.specs.Json.{character_text, string_text};
+
+use crate::name::digit;
+use crate::print::{Lines, Print, Then, Word, WriteFailed, put_bytes, put_lines};
+use names::{Text, check_text};
+use std::io::Write;
+
+/// Writes a unit of a string: printable ASCII as it is, and any other unit, the quotation mark and the backslash as `\u` and
+/// four small hexadecimal digits.
+fn put_character<W: Write>(out: &mut W, unit: u16) -> Result<(), WriteFailed>
+    ensures { Writes (W.contents out.old) (W.contents out.new) (character_text unit) result }
+{
+    if unit >= 32 && unit <= 126 && unit != 92 && unit != 34 {
+        put_bytes(out, &[unit as u8])
+    } else {
+        put_bytes(
+            out,
+            &[
+                b'\\',
+                b'u',
+                digit(unit / 4096),
+                digit(unit / 256 % 16),
+                digit(unit / 16 % 16),
+                digit(unit % 16),
+            ],
+        )
+    }
+}
+
+/// Bytes of ASCII, each a unit of a string.
+#[derive(Clone, Copy)]
+struct Ascii;
+
+impl Lines<u8> for Ascii {
+    ghost line = { λ t byte. character_text byte };
+
+    fn put_line<W: Write>(&self, item: &u8, out: &mut W) -> Result<(), WriteFailed> {
+        put_character(out, u16::from(*item))
+    }
+}
+
+/// The characters of a word of ASCII in a string.
+#[derive(Clone, Copy)]
+struct WordCharacters<'a>(&'a str);
+
+impl<'a> Print for WordCharacters<'a> {
+    ghost use Rattle.std.specs.List.{flat_map};
+
+    ghost text = { λ t. flat_map character_text t.0.now };
+
+    fn put<W: Write>(&self, out: &mut W) -> Result<(), WriteFailed> {
+        put_lines(&Ascii, self.0.as_bytes(), out)
+    }
+}
+
+/// The units of a name, each a unit of a string.
+#[derive(Clone, Copy)]
+struct NameCharacters<'a>(Text<'a>);
+
+impl<'a> Print for NameCharacters<'a> {
+    ghost use Rattle.std.specs.List.{flat_map};
+    ghost use Rattle.names.specs.Units.{units_of};
+
+    ghost text = { λ t. flat_map character_text (units_of t.0.bytes.now) };
+
+    fn put<W: Write>(&self, out: &mut W) -> Result<(), WriteFailed> {
+        for unit in self.0.iter() {
+            match put_character(out, unit) {
+                Ok(()) => {}
+                Err(failed) => return Err(failed),
+            }
+        }
+        Ok(())
+    }
+}
+
+/// A word of ASCII as a string (RFC 8259, 7).
+#[derive(Clone, Copy)]
+pub struct Quoted<'a>(pub &'a str);
+
+impl<'a> Print for Quoted<'a> {
+    ghost text = { λ t. string_text t.0.now };
+
+    fn put<W: Write>(&self, out: &mut W) -> Result<(), WriteFailed> {
+        Then(Word("\""), Then(WordCharacters(self.0), Word("\""))).put(out)
+    }
+}
+
+/// A name (JVMS 4.4.7) as a string (RFC 8259, 7), unit by unit of UTF-16: printable ASCII as it is, and any other unit, the quotation
+/// mark and the backslash as `\u` and four small hexadecimal digits.
+#[derive(Clone, Copy)]
+pub struct QuotedName<'a>(pub Text<'a>);
+
+impl<'a> Print for QuotedName<'a> {
+    ghost use Rattle.names.specs.Units.{units_of};
+
+    ghost text = { λ t. string_text (units_of t.0.bytes.now) };
+
+    fn put<W: Write>(&self, out: &mut W) -> Result<(), WriteFailed> {
+        Then(Word("\""), Then(NameCharacters(self.0), Word("\""))).put(out)
+    }
+}
+
+/// Bytes that spell a text, as a [`QuotedName`]. Of other bytes it is the empty string.
+#[derive(Clone, Copy)]
+pub struct QuotedSpelled<'a>(pub &'a [u8]);
+
+impl<'a> Print for QuotedSpelled<'a> {
+    ghost use Rattle.printing.specs.Json.{spelled_units};
+
+    ghost text = { λ t. string_text (spelled_units t.0.now) };
+
+    fn put<W: Write>(&self, out: &mut W) -> Result<(), WriteFailed> {
+        match check_text(self.0) {
+            Ok(text) => QuotedName(text).put(out),
+            Err(_) => Quoted("").put(out),
+        }
+    }
+}
+
+/// A field of an object (RFC 8259, 4): its name, a word of ASCII, and its value.
+#[derive(Clone, Copy)]
+struct Field<'a, V>(&'a str, V);
+
+impl<'a, V: Print + Copy> Print for Field<'a, V> {
+    ghost text = { λ t. string_text t.0.now ++ (codes ":" ++ V.text t.1) };
+
+    fn put<W: Write>(&self, out: &mut W) -> Result<(), WriteFailed> {
+        Then(Quoted(self.0), Then(Word(":"), self.1)).put(out)
+    }
+}
+
+/// An object on a line: the name and the value of its first field, and then its fields behind this one, up to the line's end.
+#[derive(Clone, Copy)]
+pub struct Object<'a, V, B>(pub &'a str, pub V, pub B);
+
+impl<'a, V: Print + Copy, B: Print + Copy> Print for Object<'a, V, B> {
+    ghost text = { λ t. codes "{" ++ ((string_text t.0.now ++ (codes ":" ++ V.text t.1)) ++ B.text t.2) };
+
+    fn put<W: Write>(&self, out: &mut W) -> Result<(), WriteFailed> {
+        Then(Word("{"), Then(Field(self.0, self.1), self.2)).put(out)
+    }
+}
+
+/// A field behind another, by its name and its value, and then what stands behind it, up to the line's end.
+#[derive(Clone, Copy)]
+pub struct More<'a, V, B>(pub &'a str, pub V, pub B);
+
+impl<'a, V: Print + Copy, B: Print + Copy> Print for More<'a, V, B> {
+    ghost text = { λ t. codes "," ++ ((string_text t.0.now ++ (codes ":" ++ V.text t.1)) ++ B.text t.2) };
+
+    fn put<W: Write>(&self, out: &mut W) -> Result<(), WriteFailed> {
+        Then(Word(","), Then(Field(self.0, self.1), self.2)).put(out)
+    }
+}
+
+/// The end of an object and of its line.
+pub const END: Word<'static> = Word("}\n");

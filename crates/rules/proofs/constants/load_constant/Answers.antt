@@ -1,0 +1,21 @@
+use Rattle.std.proofs.Common.{◌≡◌, ◌∙◌, Some, ap}
+use Rattle.std.specs.Prelude.{option_map}
+use Rattle.names.specs.Types.{type_of}
+use Rattle.pool.specs.Entries as entries
+use Rattle.pool.specs.Members.{found, constant_at}
+use Rattle.pool.specs.Views.{view}
+use Rattle.rules.specs.Bodies.{method_view}
+use Rattle.rules.specs.Constants.{load_dynamic, load_constant}
+use Rattle.rules.specs.Held.{held}
+use Rattle.rules.specs.Plans.{where_judged}
+use Rattle.rules.proofs.Settling.{by_plan}
+use Rattle.rules.proofs.constants.load_constant.Goals as goal
+
+pub returns-in-Ok-Dynamic : goal.returns-in-Ok-Dynamic
+returns-in-Ok-Dynamic g c = λ at.
+    let m = method_view c.args.method.now in
+    let computed = option_map type_of c.args.computed in
+    let d = c.in-Ok-Dynamic in
+    let constant : constant_at m.constant_pool c.args.index ≡ Some (entries.Dynamic d.field-0-0 d.field-0-1) = ap found d.ensures ∙ ap (λ k. Some (view k)) d.field-0-is in
+    by_plan m at (load_constant m computed (constant_at m.constant_pool c.args.index)) (where_judged m.dynamic (load_dynamic 1 computed)) (g.C.Classes.content c.args.classes.now) (held c.args.frame.now)
+    (held c.load_dynamic.new.frame) c.load_dynamic.result (ap (load_constant m computed) constant) (c.load_dynamic.ensures at)
