@@ -7,14 +7,14 @@ const K: VType<'static> = VType::Class(b"K");
 const MADE: VType<'static> = VType::Uninit(7);
 
 /// Local 1 is an int, and local 3 a long.
-fn numbers<'a>(alloc: Global) -> Result<Locals<'a>, AllocError> {
+fn numbers(alloc: Global) -> Result<Locals<'static>, AllocError> {
     let mut locals = Locals::new(alloc);
     locals.set(1, VType::Int)?;
     locals.set(3, VType::Long)?;
     Ok(locals)
 }
 
-fn are_numbers(locals: &Locals<'_>) -> bool {
+fn are_numbers(locals: &Locals<'static>) -> bool {
     let first = [VType::Top, VType::Int];
     locals.get(3) == VType::Long
         && locals.get(9) == VType::Top
