@@ -25,10 +25,6 @@ judges_dynamic Dynamic = true
 abbrev pub judged : Profile → Class → JudgedClass
 judged profile c = record { file = c; dynamic = judges_dynamic profile }
 
--- and where nothing is said of a profile
-abbrev pub by_default : Class → JudgedClass
-by_default = judged Default
-
 -- the class of a method
 abbrev pub class_of : CodeMethod → JudgedClass
 class_of m = record { file = class_view m.class.now; dynamic = m.dynamic }

@@ -26,11 +26,11 @@ pub struct DescriptorForm {
     pub field: bool,
     /// The descriptor of a method, within the limits without a receiver.
     pub method: bool,
-    /// The same, and there is no result.
+    /// Such a descriptor without a result.
     pub void: bool,
     /// The descriptor of a method, within the limits with a receiver.
     pub receiver_method: bool,
-    /// The same, and there is no result.
+    /// Such a descriptor without a result.
     pub receiver_void: bool,
 }
 
