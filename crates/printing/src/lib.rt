@@ -24,6 +24,7 @@ mod listing;
 mod name;
 mod print;
 
+pub use code::{Handlers, InstructionAt, Sizes};
 pub use fault_fields::{FaultFields, PlaceFields};
 pub use json::{END, More, Object, Quoted, QuotedName, QuotedSpelled};
 pub use listing::Listing;
