@@ -2,4 +2,5 @@ pub mod OneFile
 pub mod OneVerify
 pub mod OneAnswer
 pub mod Tellings
+pub mod Explaining
 pub mod OnePlay
