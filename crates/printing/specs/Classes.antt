@@ -12,6 +12,7 @@ use Rattle.insn.specs.Readings.{Reading, reading_of}
 use Rattle.printing.specs.Faults.{code_fault_text}
 use Rattle.printing.specs.Names.{hexadecimal, constant_text, class_text}
 use Rattle.printing.specs.Instructions.{instruction_line}
+use Rattle.printing.specs.Constants.{named_line}
 
 -- ---- code
 
@@ -27,6 +28,11 @@ reading_lines (Err fault) = codes "  code refused " ++ (code_fault_text fault ++
 abbrev pub line_at : Reading → ℕ → List ℕ
 line_at (Ok instructions) at = option_map_or (λ instruction. instruction_line (at, instruction)) (at_offset instructions at) []
 line_at (Err fault) at = []
+
+-- the line of the constant that it names, if it names one
+abbrev pub named_at : List Entry → Reading → ℕ → List ℕ
+named_at pool (Ok instructions) at = option_map_or (named_line pool) (at_offset instructions at) []
+named_at pool (Err fault) at = []
 
 -- 0 stands for all classes
 abbrev pub caught_text : List Entry → ℕ → List ℕ

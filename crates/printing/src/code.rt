@@ -8,9 +8,11 @@ ghost use Rattle.insn.specs.Readings.{reading_of};
 ghost use Rattle.insn.specs.Views.{view};
 ghost use Rattle.classfile.specs.Views.{handler_view, code_view};
 ghost use Rattle.printing.specs.Writing.{Writes};
-ghost use Rattle.printing.specs.Classes.{sizes_line, reading_lines, line_at, fault_of, caught_text, range_text, catch_line, code_lines};
+ghost use Rattle.printing.specs.Classes.{sizes_line, reading_lines, line_at, named_at, fault_of, caught_text, range_text, catch_line, code_lines};
 ghost use Rattle.printing.specs.Instructions.{instruction_line};
+ghost use Rattle.printing.specs.Constants.{named_line};
 
+use crate::constants::{ConstantLine, index_in};
 use crate::instruction::Located;
 use crate::name::ClassName;
 use crate::print::{Lines, Number, Print, Then, Word, WriteFailed, put_lines};
@@ -104,6 +106,53 @@ impl<'a> Print for InstructionAt<'a> {
         match code_fault(self.code) {
             Some(_) => Word("").put(out),
             None => put_found(out, self.at, found_at(self.code, self.at)),
+        }
+    }
+}
+
+/// Writes the line of the constant that an instruction names; nothing where it names none.
+fn put_constant<W: Write>(out: &mut W, pool: &Pool<'_>, insn: &Insn<'_>) -> Result<(), WriteFailed>
+    ensures { Writes (W.contents out.old) (W.contents out.new) (named_line pool.now (view insn.now)) result }
+{
+    match index_in(&insn.operands) {
+        Some(index) => {
+            let index = usize::from(index);
+            ConstantLine { pool, index }.put(out)
+        }
+        None => Word("").put(out),
+    }
+}
+
+/// Writes the line of the constant that an instruction names which was found, if one was.
+fn put_named<W: Write>(
+    out: &mut W,
+    pool: &Pool<'_>,
+    found: Option<Insn<'_>>,
+) -> Result<(), WriteFailed>
+    ensures { Writes (W.contents out.old) (W.contents out.new) (option_map_or (λ i. named_line pool.now (view i)) found.entry []) result }
+{
+    match found {
+        Some(insn) => put_constant(out, pool, &insn),
+        None => Word("").put(out),
+    }
+}
+
+/// The line of the constant that the instruction names which begins at an offset of code; nothing where it names none, where none begins
+/// there, or where the code is refused.
+#[derive(Clone, Copy)]
+pub struct NamedAt<'p, 'a> {
+    pub pool: &'p Pool<'a>,
+    pub code: &'a [u8],
+    pub at: usize,
+}
+
+impl<'p, 'a> Print for NamedAt<'p, 'a> {
+    ghost text = { λ t. named_at t.pool.now (reading_of t.code.now) t.at };
+
+    fn put<W: Write>(&self, out: &mut W) -> Result<(), WriteFailed> {
+        match code_fault(self.code) {
+            Some(_) => Word("").put(out),
+            None => put_named(out, self.pool, found_at(self.code, self.at)),
         }
     }
 }
