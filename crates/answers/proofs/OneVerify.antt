@@ -1,5 +1,5 @@
 -- The answer of `verify` is one.
-use Rattle.std.proofs.Common.{◌≡◌, ℕ, zero, suc, ◌+◌, ◌<◌, List, [], ◌∷◌, ◌++◌, length, map, Option, Some, None, refl, sym, ◌∙◌, ap, subst, inl, inr, arith}
+use Rattle.std.proofs.Common.{◌≡◌, ℕ, zero, suc, ◌+◌, ◌<◌, List, [], ◌∷◌, ◌++◌, length, map, Option, Some, None, Ok, Err, refl, sym, ◌∙◌, ap, subst, inl, inr, arith}
 use Rattle.std.specs.Prelude.{◌⊎◌, ◌||◌, Bool, true, false, if◌then◌else◌, slice_get, codes, decimal}
 use Rattle.std.specs.List.{flat_map, list_any}
 use Rattle.std.proofs.lemmas.Bool.{cases_order}
@@ -30,12 +30,15 @@ use Rattle.answers.specs.declared.command.Form.{Form}
 use Rattle.answers.specs.declared.command.Form.TheVariants.{Plain, Json}
 use Rattle.answers.specs.declared.manner.Manner.{Manner}
 use Rattle.answers.specs.declared.manner.Manner.TheVariants.{Told, Explained}
-use Rattle.answers.specs.Sentences.{sentence_line, fault_line, reason_lines}
+use Rattle.printing.specs.Parts.{part_lines}
+use Rattle.answers.specs.Sentences.{sentence_line, fault_line, reason_lines, file_fault_number}
 use Rattle.answers.specs.Explanations.{code_part, explanation, explanations}
 use Rattle.verify.specs.declared.files.FileFault.{FileFault}
+use Rattle.verify.specs.declared.files.FileFault.TheVariants as files
+use Rattle.verify.specs.declared.files.FileFault.TheVariants.{Malformed}
 use Rattle.verify.specs.Files.{Read, IsFormed, IsRefused, AreFormed, IsFirstRefused}
 use Rattle.answers.specs.Files.{refusal_status}
-use Rattle.answers.specs.Verdicts.{class_told, known_told, hierarchy_told, report_told, fault_name, named_field, name_fields, hierarchy_refusal, reason_ending, reason_fields, verdict_text, verdict_fields, verdict_line, is_refusal, ClassSays, HierarchySays, KnownSays, VerifySays}
+use Rattle.answers.specs.Verdicts.{IsPart, IsExplained, IsTold, hierarchy_told, report_told, fault_name, named_field, name_fields, hierarchy_refusal, reason_ending, reason_fields, verdict_text, verdict_fields, verdict_line, is_refusal, ClassSays, HierarchySays, KnownSays, VerifySays}
 use Rattle.answers.proofs.OneFile.{Laws, one_formed, not_refused, one_refusal}
 
 false_true : false ≡ true → ⊥
@@ -241,6 +244,33 @@ module _ (laws : Laws) where
       let formed = formed_at reads cs i first.read all first.here in
       not_refused laws first.read formed.0 r formed.1 first.refused
 
+  -- ---- files that are refused
+
+  one_part : (read : Read) (r : FileFault) (text other : List ℕ) → IsPart read r text → IsPart read r other → text ≡ other
+  one_part (Ok bytes) (Malformed rule place) text other (c, p, e) (d, q, f) =
+      e ∙ ap (λ (x : Class). part_lines x place) (laws.one_class bytes c d p q) ∙ sym f
+  one_part (Err fault) (Malformed rule place) text other (c, p, e) q = absurd p
+  one_part read files.OutOfMemory text other p q = p ∙ sym q
+  one_part read (files.Unread fault) text other p q = p ∙ sym q
+  one_part read (files.NoClass fault) text other p q = p ∙ sym q
+
+  one_told : (manner : Manner) (read : Read) (r : FileFault) (line : Form → List ℕ) (text other : List ℕ)
+      → IsTold manner read r line text → IsTold manner read r line other → text ≡ other
+  one_told (Told form) read r line text other p q = p ∙ sym q
+  one_told Explained read r line text other (a, p, e) (b, q, f) =
+      e ∙ ap (λ x. line Plain ++ (sentence_line (file_fault_number r) ++ x)) (one_part read r a b p q) ∙ sym f
+
+  -- of two that are the same
+  same_known : (manner : Manner) (reads : List Read) (i j : ℕ) (r s : FileFault) (p : IsFirstRefused reads i r) (q : IsFirstRefused reads j s) (text other : List ℕ)
+      → IsTold manner p.read r (λ form. known_refusal form (i + 1) r) text → IsTold manner q.read s (λ form. known_refusal form (j + 1) s) other → text ≡ other
+  same_known manner reads i j r s p q text other t u =
+      let same = one_first reads i j r s p q in
+      let read : p.read ≡ q.read = some_same p.read q.read (sym p.here ∙ ap (slice_get reads) same.0 ∙ q.here) in
+      let first : IsTold manner q.read r (λ form. known_refusal form (i + 1) r) text = subst (λ x. IsTold manner x r (λ form. known_refusal form (i + 1) r) text) read t in
+      let second : IsTold manner q.read s (λ form. known_refusal form (i + 1) s) text = subst (λ x. IsTold manner q.read x (λ form. known_refusal form (i + 1) x) text) same.1 first in
+      one_told manner q.read s (λ form. known_refusal form (j + 1) s) text other
+      (subst (λ n. IsTold manner q.read s (λ form. known_refusal form (n + 1) s) text) same.0 second) u
+
   -- ---- what is said
 
   one_class : (manner : Manner) (classes : List ClassFact) (c : JudgedClass) (text other : List ℕ) (status next : ℕ)
@@ -265,10 +295,7 @@ module _ (laws : Laws) where
   one_known : (manner : Manner) (c : JudgedClass) (known : List Read) (text other : List ℕ) (status next : ℕ)
       → KnownSays manner c known text status → KnownSays manner c known other next → (text ≡ other) × (status ≡ next)
   one_known manner c known text other status next (inl (i, r, p, t, s)) (inl (j, o, q, u, v)) =
-      let same = one_first known i j r o p q in (
-        t ∙ ap (λ n. known_told manner (n + 1) r) same.0 ∙ ap (known_told manner (j + 1)) same.1 ∙ sym u,
-        s ∙ ap refusal_status same.1 ∙ sym v,
-      )
+      (same_known manner known i j r o p q text other t u, s ∙ ap refusal_status (one_first known i j r o p q).1 ∙ sym v)
   one_known manner c known text other status next (inl (i, r, p, t, s)) (inr (ds, q, k)) = absurd (none_refused known ds i r q p)
   one_known manner c known text other status next (inr (cs, p, h)) (inl (j, o, q, u, v)) = absurd (none_refused known cs j o p q)
   one_known manner c known text other status next (inr (cs, p, h)) (inr (ds, q, k)) =
@@ -278,8 +305,10 @@ module _ (laws : Laws) where
   pub one_verify : (manner : Manner) (profile : Profile) (read : Read) (known : List Read) (text other : List ℕ) (status next : ℕ)
       → VerifySays manner profile read known text status → VerifySays manner profile read known other next → (text ≡ other) × (status ≡ next)
   one_verify manner profile read known text other status next (inl (r, p, t, s)) (inl (o, q, u, v)) =
-      let same = one_refusal laws read r o p q in
-      (t ∙ ap (class_told manner) same ∙ sym u, s ∙ ap refusal_status same ∙ sym v)
+      let same = one_refusal laws read r o p q in (
+        one_told manner read o (λ form. class_refusal form o) text other (subst (λ x. IsTold manner read x (λ form. class_refusal form x) text) same t) u,
+        s ∙ ap refusal_status same ∙ sym v,
+      )
   one_verify manner profile read known text other status next (inl (r, p, t, s)) (inr (d, q, l)) = absurd (not_refused laws read d r q p)
   one_verify manner profile read known text other status next (inr (c, p, k)) (inl (o, q, u, v)) = absurd (not_refused laws read c o p q)
   one_verify manner profile read known text other status next (inr (c, p, k)) (inr (d, q, l)) =

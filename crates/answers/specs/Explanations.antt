@@ -6,7 +6,7 @@ use Rattle.classfile.specs.Values.{CodeBody, Member}
 use Rattle.classfile.specs.Methods.{code_of}
 use Rattle.insn.specs.Readings.{reading_of}
 use Rattle.rules.specs.Reasons.{reason_number}
-use Rattle.printing.specs.Classes.{sizes_line, line_at, catch_line}
+use Rattle.printing.specs.Classes.{sizes_line, line_at, named_at, catch_line}
 use Rattle.verify.specs.declared.verdict.Verdict.{Verdict}
 use Rattle.verify.specs.declared.verdict.Verdict.TheVariants.{Verified, NoCode, Refused}
 use Rattle.verify.specs.declared.report.MethodVerdict.{MethodVerdict}
@@ -19,10 +19,11 @@ is_of_table n = nat_eq n 72 || nat_eq n 73 || nat_eq n 75
 abbrev pub entries_for : ℕ → List Entry → CodeBody → List ℕ
 entries_for n pool body = if is_of_table n then flat_map (catch_line pool) body.exception_table else []
 
--- of the code, as `show` has it: its sizes, the instruction at the offset, and the exception table where a number is about it
+-- of the code, as `show` has it: its sizes, the instruction at the offset with the constant that it names, and the exception table where
+-- a number is about it
 abbrev pub code_part : ℕ → List Entry → Option CodeBody → ℕ → List ℕ
 code_part n pool None at = []
-code_part n pool (Some body) at = sizes_line body ++ (line_at (reading_of body.code) at ++ entries_for n pool body)
+code_part n pool (Some body) at = sizes_line body ++ (line_at (reading_of body.code) at ++ (named_at pool (reading_of body.code) at ++ entries_for n pool body))
 
 -- of a method with this line and this verdict
 abbrev pub explanation : List Entry → Option CodeBody → List ℕ → Verdict → List ℕ

@@ -29,8 +29,10 @@ use Rattle.answers.specs.declared.manner.Manner.{Manner}
 use Rattle.answers.specs.declared.manner.Manner.TheVariants.{Told, Explained}
 use Rattle.answers.specs.Sentences.{sentence_line, file_fault_number}
 use Rattle.answers.specs.Explanations.{explanations}
+use Rattle.printing.specs.Parts.{part_lines}
 use Rattle.verify.specs.declared.files.FileFault.{FileFault}
-use Rattle.verify.specs.Files.{Read, IsFormed, IsRefused, AreFormed, IsFirstRefused}
+use Rattle.verify.specs.declared.files.FileFault.TheVariants.{Malformed}
+use Rattle.verify.specs.Files.{Read, IsDecoded, IsFormed, IsRefused, AreFormed, IsFirstRefused}
 use Rattle.answers.specs.Files.{refusal_status}
 
 -- ---- texts, in words or as objects of JSON
@@ -120,13 +122,19 @@ report_status rs = if list_any (λ r. is_refusal r.verdict) rs then 1 else 0
 
 -- ---- in the manner of `verify`, or in that of `explain`, which has behind each refusal what its number says
 
-abbrev pub class_told : Manner → FileFault → List ℕ
-class_told (Told form) r = class_refusal form r
-class_told Explained r = class_refusal Plain r ++ sentence_line (file_fault_number r)
+-- where a class breaks a rule: the part of it where that is
+abbrev pub IsPart : Read → FileFault → List ℕ → Type 0
+IsPart read (Malformed rule place) text = (c : Class) × IsDecoded read c × (text ≡ part_lines c place)
+IsPart read r text = text ≡ []
 
-abbrev pub known_told : Manner → ℕ → FileFault → List ℕ
-known_told (Told form) position r = known_refusal form position r
-known_told Explained position r = known_refusal Plain position r ++ sentence_line (file_fault_number r)
+-- of a file with this line that is refused
+abbrev pub IsExplained : Read → FileFault → List ℕ → List ℕ → Type 0
+IsExplained read r line text = (part : List ℕ) × IsPart read r part × (text ≡ line ++ (sentence_line (file_fault_number r) ++ part))
+
+-- of a file that is refused, and has a line in each form
+abbrev pub IsTold : Manner → Read → FileFault → (Form → List ℕ) → List ℕ → Type 0
+IsTold (Told form) read r line text = text ≡ line form
+IsTold Explained read r line text = IsExplained read r (line Plain) text
 
 abbrev pub hierarchy_told : Manner → HierarchyFault → List ℕ
 hierarchy_told (Told form) f = hierarchy_refusal form f
@@ -162,11 +170,11 @@ HierarchySays manner classes c text status =
 -- Of a class and the files of the known ones: the first of these that is refused, or what is said of all.
 abbrev pub KnownSays : Manner → JudgedClass → List Read → List ℕ → ℕ → Type 0
 KnownSays manner c known text status =
-    ((i : ℕ) × (r : FileFault) × IsFirstRefused known i r × (text ≡ known_told manner (i + 1) r) × (status ≡ refusal_status r))
+    ((i : ℕ) × (r : FileFault) × (first : IsFirstRefused known i r) × IsTold manner first.read r (λ form. known_refusal form (i + 1) r) text × (status ≡ refusal_status r))
     ⊎ ((cs : List Class) × AreFormed known cs × HierarchySays manner (map summary_of (c.file ∷ cs)) c text status)
 
 -- by a profile
 abbrev pub VerifySays : Manner → Profile → Read → List Read → List ℕ → ℕ → Type 0
 VerifySays manner profile read known text status =
-    ((r : FileFault) × IsRefused read r × (text ≡ class_told manner r) × (status ≡ refusal_status r))
+    ((r : FileFault) × IsRefused read r × IsTold manner read r (λ form. class_refusal form r) text × (status ≡ refusal_status r))
     ⊎ ((c : Class) × IsFormed read c × KnownSays manner (judged profile c) known text status)

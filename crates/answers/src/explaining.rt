@@ -12,7 +12,7 @@ use crate::sentences::ReasonSentences;
 use crate::verdicts::VerdictLine;
 use classfile::{CodeAttr, Member};
 use pool::Pool;
-use printing::{Handlers, InstructionAt, Print, Sizes, Then, Word, WriteFailed};
+use printing::{Handlers, InstructionAt, NamedAt, Print, Sizes, Then, Word, WriteFailed};
 use rules::Reason;
 use std::io::Write;
 use verify::{MethodVerdict, Verdict};
@@ -67,16 +67,17 @@ impl<'m, 'a> Print for CodePart<'m, 'a> {
         match self.member.code() {
             None => Word("").put(out),
             Some(body) => {
-                let instruction = InstructionAt {
-                    code: body.code,
-                    at: self.at,
-                };
+                let code = body.code;
+                let at = self.at;
+                let pool = self.pool;
                 let entries = Entries {
                     reason: self.reason,
-                    pool: self.pool,
+                    pool,
                     body,
                 };
-                Then(Sizes(body), Then(instruction, entries)).put(out)
+                let named = NamedAt { pool, code, at };
+                let behind = Then(InstructionAt { code, at }, Then(named, entries));
+                Then(Sizes(body), behind).put(out)
             }
         }
     }

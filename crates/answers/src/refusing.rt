@@ -1,71 +1,13 @@
-//! Why there are no verdicts, in the manner of `verify` or in that of `explain`.
-ghost use Rattle.answers.specs.Verdicts.{class_told, known_told, hierarchy_told, final_super_told};
+//! Why there are no verdicts on a class that is well formed, in the manner of `verify` or in that of `explain`.
+ghost use Rattle.answers.specs.Verdicts.{hierarchy_told, final_super_told};
 
 use crate::command::Form;
 use crate::manner::Manner;
-use crate::refusal::Refusal;
-use crate::sentences::{FileSentence, HierarchySentence};
-use crate::verdicts::{ClassRefusal, FinalSuper, HierarchyRefusal, KnownRefusal};
+use crate::sentences::HierarchySentence;
+use crate::verdicts::{FinalSuper, HierarchyRefusal};
 use hierarchy::HierarchyFault;
 use printing::{Print, Then, Word, WriteFailed};
 use std::io::Write;
-
-/// The class that is to be verified is refused.
-#[derive(Clone, Copy)]
-pub struct ClassTold {
-    pub manner: Manner,
-    pub refusal: Refusal,
-}
-
-impl Print for ClassTold {
-    ghost text = { λ t. class_told t.manner t.refusal.0 };
-
-    fn put<W: Write>(&self, out: &mut W) -> Result<(), WriteFailed> {
-        let refusal = self.refusal;
-        match self.manner {
-            Manner::Told(form) => ClassRefusal { form, refusal }.put(out),
-            Manner::Explained => {
-                let form = Form::Plain;
-                Then(ClassRefusal { form, refusal }, FileSentence(refusal.0)).put(out)
-            }
-        }
-    }
-}
-
-/// The known class of this number is refused.
-#[derive(Clone, Copy)]
-pub struct KnownTold {
-    pub manner: Manner,
-    /// It counts from 1.
-    pub number: usize,
-    pub refusal: Refusal,
-}
-
-impl KnownTold {
-    /// Its line in a form of `verify`.
-    fn line(&self, form: Form) -> KnownRefusal
-        ensures { result ≡ record { form = form; number = self.now.number; refusal = self.now.refusal } }
-    {
-        KnownRefusal {
-            form,
-            number: self.number,
-            refusal: self.refusal,
-        }
-    }
-}
-
-impl Print for KnownTold {
-    ghost text = { λ t. known_told t.manner t.number t.refusal.0 };
-
-    fn put<W: Write>(&self, out: &mut W) -> Result<(), WriteFailed> {
-        match self.manner {
-            Manner::Told(form) => self.line(form).put(out),
-            Manner::Explained => {
-                Then(self.line(Form::Plain), FileSentence(self.refusal.0)).put(out)
-            }
-        }
-    }
-}
 
 /// The classes are no hierarchy.
 #[derive(Clone, Copy)]
