@@ -4,31 +4,32 @@ use Rattle.std.specs.Option.{option_map_or}
 use Rattle.pool.specs.declared.fault.PoolFault.{PoolFault}
 use Rattle.pool.specs.Entries.{Entry, Utf8, Integer, Float, Long, Double, Class, String, Fieldref, Methodref, InterfaceMethodref, NameAndType, MethodHandle, MethodType, Dynamic, InvokeDynamic, Unusable}
 use Rattle.pool.specs.Kinds.{kind_number}
-use Rattle.pool.specs.Lookups.{Named, name_and_type_at}
+use Rattle.pool.specs.Lookups.{Named, text_at, class_name_at, name_and_type_at}
 use Rattle.insn.specs.Instructions.{Instruction, Operands, constant, index, invoke_interface, invoke_dynamic, multi_new_array}
-use Rattle.printing.specs.Names.{name_text, constant_text, class_text}
+use Rattle.printing.specs.Names.{name_text}
 use Rattle.printing.specs.Instructions.{number_text, index_text}
 
--- a name and a descriptor, each behind a blank; nothing where there are none
-abbrev pub naming : Result Named PoolFault → List ℕ
-naming (Ok n) = codes " " ++ (name_text n.name ++ (codes " " ++ name_text n.descriptor))
-naming (Err fault) = []
+-- a text behind a blank; nothing where there is none
+abbrev pub behind : Result (List ℕ) PoolFault → List ℕ
+behind (Ok bytes) = codes " " ++ name_text bytes
+behind (Err fault) = []
 
-abbrev pub naming_text : List Entry → ℕ → List ℕ
-naming_text pool i = naming (name_and_type_at pool i)
+abbrev pub both_behind : Result Named PoolFault → List ℕ
+both_behind (Ok n) = codes " " ++ (name_text n.name ++ (codes " " ++ name_text n.descriptor))
+both_behind (Err fault) = []
 
 -- the text at an index, behind the index
 abbrev pub text_behind : List Entry → ℕ → List ℕ
-text_behind pool i = index_text i ++ (codes " " ++ constant_text pool i)
+text_behind pool i = index_text i ++ behind (text_at pool i)
 
--- a member of a class
+-- a member of a class, behind two indices
 abbrev pub member_behind : List Entry → ℕ → ℕ → List ℕ
 member_behind pool class name_and_type =
-    index_text class ++ (index_text name_and_type ++ (codes " " ++ (class_text pool class ++ naming_text pool name_and_type)))
+    index_text class ++ (index_text name_and_type ++ (behind (class_name_at pool class) ++ both_behind (name_and_type_at pool name_and_type)))
 
 -- by the number of a bootstrap method
 abbrev pub bootstrap_behind : List Entry → ℕ → ℕ → List ℕ
-bootstrap_behind pool bootstrap name_and_type = number_text bootstrap ++ (index_text name_and_type ++ naming_text pool name_and_type)
+bootstrap_behind pool bootstrap name_and_type = number_text bootstrap ++ (index_text name_and_type ++ both_behind (name_and_type_at pool name_and_type))
 
 abbrev pub entry_text : List Entry → Entry → List ℕ
 entry_text pool (Utf8 bytes) = codes "Utf8 " ++ name_text bytes
@@ -42,7 +43,7 @@ entry_text pool (Fieldref class name_and_type) = codes "Fieldref" ++ member_behi
 entry_text pool (Methodref class name_and_type) = codes "Methodref" ++ member_behind pool class name_and_type
 entry_text pool (InterfaceMethodref class name_and_type) = codes "InterfaceMethodref" ++ member_behind pool class name_and_type
 entry_text pool (NameAndType name descriptor) =
-    codes "NameAndType" ++ (index_text name ++ (index_text descriptor ++ (codes " " ++ (constant_text pool name ++ (codes " " ++ constant_text pool descriptor)))))
+    codes "NameAndType" ++ (index_text name ++ (index_text descriptor ++ (behind (text_at pool name) ++ behind (text_at pool descriptor))))
 entry_text pool (MethodHandle kind reference) = codes "MethodHandle" ++ (number_text (kind_number kind) ++ index_text reference)
 entry_text pool (MethodType descriptor) = codes "MethodType" ++ text_behind pool descriptor
 entry_text pool (Dynamic bootstrap name_and_type) = codes "Dynamic" ++ bootstrap_behind pool bootstrap name_and_type

@@ -1,26 +1,63 @@
 //! The line of a constant of the constant pool (JVMS 4.4).
 ghost use Rattle.std.specs.Prelude.{◌≡◌, ◌++◌, option_map};
 ghost use Rattle.pool.specs.Views.{view};
+ghost use Rattle.pool.specs.Lookups.{text_at, class_name_at, name_and_type_at};
 ghost use Rattle.insn.specs.Views.{operands_view};
 ghost use Rattle.printing.specs.Writing.{Writes};
-ghost use Rattle.printing.specs.Constants.{naming_text, text_behind, member_behind, bootstrap_behind, entry_text, standing, constant_line, index_in};
+ghost use Rattle.printing.specs.Constants.{behind, both_behind, text_behind, member_behind, bootstrap_behind, entry_text, standing, constant_line, index_in};
 
 use crate::instruction::{Index, Value};
-use crate::name::{ClassName, ConstantText, Name};
+use crate::name::Name;
 use crate::print::{Number, Print, Then, Word, WriteFailed};
 use insn::Operands;
 use pool::{Constant, Pool};
 use std::io::Write;
 
-/// The name and the descriptor of the NameAndType at an index, each behind a blank; nothing where there is none.
+/// The text at an index, behind a blank; nothing where there is none.
 #[derive(Clone, Copy)]
-struct Naming<'p, 'a> {
+struct TextBehind<'p, 'a> {
     pool: &'p Pool<'a>,
     index: u16,
 }
 
-impl<'p, 'a> Print for Naming<'p, 'a> {
-    ghost text = { λ t. naming_text t.pool.now t.index };
+impl<'p, 'a> Print for TextBehind<'p, 'a> {
+    ghost text = { λ t. behind (text_at t.pool.now t.index) };
+
+    fn put<W: Write>(&self, out: &mut W) -> Result<(), WriteFailed> {
+        match self.pool.text(self.index) {
+            Ok(text) => Then(Word(" "), Name(text)).put(out),
+            Err(_) => Word("").put(out),
+        }
+    }
+}
+
+/// The name of the class at an index, behind a blank; nothing where there is none.
+#[derive(Clone, Copy)]
+struct ClassBehind<'p, 'a> {
+    pool: &'p Pool<'a>,
+    index: u16,
+}
+
+impl<'p, 'a> Print for ClassBehind<'p, 'a> {
+    ghost text = { λ t. behind (class_name_at t.pool.now t.index) };
+
+    fn put<W: Write>(&self, out: &mut W) -> Result<(), WriteFailed> {
+        match self.pool.class_name(self.index) {
+            Ok(text) => Then(Word(" "), Name(text)).put(out),
+            Err(_) => Word("").put(out),
+        }
+    }
+}
+
+/// The name and the descriptor of the NameAndType at an index, each behind a blank; nothing where there is none.
+#[derive(Clone, Copy)]
+struct BothBehind<'p, 'a> {
+    pool: &'p Pool<'a>,
+    index: u16,
+}
+
+impl<'p, 'a> Print for BothBehind<'p, 'a> {
+    ghost text = { λ t. both_behind (name_and_type_at t.pool.now t.index) };
 
     fn put<W: Write>(&self, out: &mut W) -> Result<(), WriteFailed> {
         match self.pool.name_and_type(self.index) {
@@ -42,7 +79,7 @@ fn put_text<W: Write>(
 ) -> Result<(), WriteFailed>
     ensures { Writes (W.contents out.old) (W.contents out.new) (kind.now ++ text_behind pool.now index) result }
 {
-    let text = Then(Word(" "), ConstantText { pool, index });
+    let text = TextBehind { pool, index };
     Then(Word(kind), Then(Index(index), text)).put(out)
 }
 
@@ -56,13 +93,13 @@ fn put_reference<W: Write>(
 ) -> Result<(), WriteFailed>
     ensures { Writes (W.contents out.old) (W.contents out.new) (kind.now ++ member_behind pool.now class name_and_type) result }
 {
-    let naming = Naming {
+    let both = BothBehind {
         pool,
         index: name_and_type,
     };
-    let names = Then(ClassName { pool, index: class }, naming);
-    let behind = Then(Index(name_and_type), Then(Word(" "), names));
-    Then(Word(kind), Then(Index(class), behind)).put(out)
+    let names = Then(ClassBehind { pool, index: class }, both);
+    let indices = Then(Index(class), Then(Index(name_and_type), names));
+    Then(Word(kind), indices).put(out)
 }
 
 /// Writes a kind, the number of a bootstrap method, and a name and a descriptor behind their index.
@@ -75,11 +112,11 @@ fn put_dynamic<W: Write>(
 ) -> Result<(), WriteFailed>
     ensures { Writes (W.contents out.old) (W.contents out.new) (kind.now ++ bootstrap_behind pool.now bootstrap name_and_type) result }
 {
-    let naming = Naming {
+    let both = BothBehind {
         pool,
         index: name_and_type,
     };
-    let behind = Then(Index(name_and_type), naming);
+    let behind = Then(Index(name_and_type), both);
     Then(Word(kind), Then(Value(bootstrap), behind)).put(out)
 }
 
@@ -116,13 +153,13 @@ impl<'p, 'a> Print for Entry<'p, 'a> {
                 name_and_type,
             } => put_reference(out, "InterfaceMethodref", pool, class, name_and_type),
             Constant::NameAndType { name, descriptor } => {
-                let second = ConstantText {
+                let second = TextBehind {
                     pool,
                     index: descriptor,
                 };
-                let texts = Then(ConstantText { pool, index: name }, Then(Word(" "), second));
-                let behind = Then(Index(descriptor), Then(Word(" "), texts));
-                Then(Word("NameAndType"), Then(Index(name), behind)).put(out)
+                let texts = Then(TextBehind { pool, index: name }, second);
+                let indices = Then(Index(name), Then(Index(descriptor), texts));
+                Then(Word("NameAndType"), indices).put(out)
             }
             Constant::MethodHandle { kind, reference } => Then(
                 Word("MethodHandle"),
