@@ -94,6 +94,11 @@ def text(lines):
     return "".join(("  " if i else "") + it.strip() + "\n" for i, it in enumerate(lines))
 
 
+def refusals(lines):
+    """The lines of `verify` of which `explain` has explanations."""
+    return [it for it in lines.splitlines() if "refused" in it]
+
+
 def of_code(number, line):
     """What is told of the example of a fault of code or of a stack map."""
     head = "78 BadStackMap: the stack map is refused" if "refused 78" in line else "79 BadCode: the code is refused at this instruction"
