@@ -8,6 +8,7 @@ ghost use Rattle.frames.specs.DeclaredViews.{IsInside, AreInside, facts_of};
 
 use crate::after::FrameTops;
 use crate::chain::Chains;
+use crate::compare::assignable;
 use crate::compare_frames::both;
 use crate::frame::Frame;
 use crate::locals::Locals;
@@ -137,7 +138,7 @@ fn may_have_flag(from: bool, to: bool) -> bool
 }
 
 impl<'n, 'a> Declared<'n, 'a> {
-    ghost use Rattle.std.specs.Prelude.{◌<◌, ◌≤◌, ◌-◌, ℕ, true, length, map, take, drop, replicate, reverse, OnOk, IfOk, IfSome, MatchOption};
+    ghost use Rattle.std.specs.Prelude.{◌<◌, ◌≤◌, ◌-◌, ℕ, true, length, get_or, map, take, drop, replicate, reverse, OnOk, IfOk, IfSome, MatchOption};
     ghost use Rattle.hierarchy.specs.Answer.{outcome_of};
     ghost use Rattle.frames.specs.VerificationType.{type_of, top};
     ghost use Rattle.frames.specs.Assignable.{type_answer};
@@ -183,6 +184,21 @@ impl<'n, 'a> Declared<'n, 'a> {
             outcome_of result ≡ list_answer (type_answer (C.content classes.now)) (held_locals locals.now (length d.locals)) d.locals }
     {
         chain_assignable(locals, self.chains, self.tops.locals, 0, false, classes)
+    }
+
+    /// Whether a type may stand for the local variable of a number where those of this frame are declared (JVMS 4.10.1.2). Takes no memory.
+    pub fn local_answer<C: Classes>(
+        &self,
+        number: usize,
+        vtype: &VType<'a>,
+        classes: &C,
+    ) -> Answer<'a>
+        ensures { outcome_of result ≡ type_answer (C.content classes.now) (type_of vtype.now) (get_or (declared_view self.now).locals number top) }
+    {
+        match self.chains.type_at_unit(self.tops.locals, number) {
+            Some(declared) => assignable(vtype, &declared, classes),
+            None => Answer::Yes,
+        }
     }
 
     /// Whether a frame may stand where this one is declared (JVMS 4.10.1.4): one that has these locals, all beyond them

@@ -14,6 +14,7 @@ pub mod Decoded
 pub mod Caught
 pub mod Tracking
 pub mod InTurn
+pub mod Changes
 pub mod TableEntries
 pub mod Comparing
 pub mod Going

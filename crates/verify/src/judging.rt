@@ -38,7 +38,7 @@ use insn::{Act, Instructions};
 use pool::Descriptors;
 use rules::{
     Members, Named, Reason, Working, branches_by, check_member, constructs_own, first_reason,
-    goes_on, is_plain, keeps_locals, replaced_object, run, run_plain, together,
+    goes_on, is_plain, replaced_object, run, run_plain, together,
 };
 use std::alloc::{AllocError, Global};
 
@@ -111,7 +111,7 @@ fn take_up<'n, 'a, C: Classes>(
     let declared = frames.find(u32::from(at));
     let same = known.keeps(frame.flag(), declared);
     enter(comes, declared, frames, known, frame, classes)?;
-    handlers.behind(same)?;
+    handlers.take_on(same)?;
     Ok(())
 }
 
@@ -204,7 +204,7 @@ fn judge_wholly<'n, 'a, C: Classes>(
     let before = together(used, caught);
     let object = replaced_object(method, at, &act, &named, frame);
     known.behind(&act, object, frame)?;
-    handlers.behind(keeps_locals(&act))?;
+    handlers.behind(&act, frame, frames, classes)?;
     judge_named(
         alloc,
         method,
@@ -260,7 +260,7 @@ fn judge<'n, 'a, C: Classes>(
 {
     if !last && is_plain(act) && handlers.are_idle(at) {
         known.behind(act, None, frame)?;
-        handlers.behind(keeps_locals(act))?;
+        handlers.behind(act, frame, frames, classes)?;
         return run_plain(method, act, frame, classes);
     }
     judge_wholly(

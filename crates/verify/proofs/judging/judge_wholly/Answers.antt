@@ -10,7 +10,6 @@ use Rattle.rules.specs.Protected.{member_conditions}
 use Rattle.rules.specs.Table.{plan}
 use Rattle.verify.specs.Handling.{Follows}
 use Rattle.verify.specs.Verdict.{at_conditions, handler_conditions}
-use Rattle.verify.proofs.Comparing.{same_behind}
 use Rattle.verify.proofs.InTurn.{on_ok, when_ok}
 use Rattle.verify.proofs.judging.judge_wholly.Goals as goal
 
@@ -55,5 +54,4 @@ returns-clause-handlers g c =
     let ok = subst (λ (r : Result Unit _). OnOk r (IsOk c.together-before.result)) is c.judge_named.ensures.before in
     let both = when_ok (IsOk c.check_member-used.result × IsOk c.catch-caught.result) c.together-before.result ok c.together-before.ensures.both in
     let caught = when_ok (Follows classes frames m.exceptions c.args.at f c.catch-caught.new.self) c.catch-caught.result both.1 (c.catch-caught.ensures.caught m.exceptions looked.1 looked.2).followed in
-    let same = λ (e : c.keeps_locals.result ≡ true). same_behind m c.args.at (act_view c.args.act) f now (sym c.keeps_locals.ensures ∙ e) done.outcome.1 in
-    c.in_ok-behind-2.ensures classes frames m.exceptions c.args.at f now same caught)
+    subst (λ x. Follows classes frames m.exceptions c.args.at x c.behind-2.new.self) (sym done.outcome.1) (c.in_ok-behind-2.ensures m.exceptions m c.args.at caught))

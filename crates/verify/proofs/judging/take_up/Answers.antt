@@ -11,4 +11,4 @@ returns-clause-handlers g c = λ es place t.
     let came = c.in_ok-enter.ensures.entered.outcome in
     let same = λ (e : c.keeps-same.result ≡ true).
     subst (IsSameBeneath f) (sym came.1) (c.keeps-same.ensures c.args.frames.now f e (sym c.flag.ensures) c.find-declared.ensures.own c.requires.known.kept) in
-    c.in_ok-behind.ensures classes (frames_in c.args.frames.now) es place f (held c.enter.new.frame) same t
+    c.in_ok-take_on.ensures classes (frames_in c.args.frames.now) es place f (held c.enter.new.frame) same t

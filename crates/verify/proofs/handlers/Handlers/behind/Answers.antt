@@ -1,8 +1,26 @@
-use Rattle.verify.specs.Handling.{IsSettled}
-use Rattle.verify.proofs.InTurn.{again_by}
+use Rattle.std.proofs.Common.{◌≡◌, ◌∙◌, true, sym, subst, refl}
+use Rattle.insn.specs.Views.{act_view}
+use Rattle.frames.specs.DeclaredTables.{frames_in}
+use Rattle.rules.specs.After.{after}
+use Rattle.rules.specs.Held.{held}
+use Rattle.rules.specs.Table.{plan}
+use Rattle.rules.proofs.Keeping.{stored_by}
+use Rattle.verify.proofs.Comparing.{same_behind}
+use Rattle.verify.proofs.InTurn.{on_ok}
+use Rattle.verify.specs.Handling.{Follows}
 use Rattle.verify.proofs.handlers.Handlers.behind.Goals as goal
 
-pub returns : goal.returns
-returns c = λ cs frames es at f g same t.
-    again_by es at (IsSettled cs frames at f) (IsSettled cs frames at g) c.args.self.now.by_start.items c.args.self.now.begun c.args.self.now.fresh.items c.args.self.now.settled.items
-    c.append.new.self.items c.append.new.other.items c.append.result c.append.ensures.items c.append.ensures.other_items t
+pub returns-in-Some : goal.returns-in-Some
+returns-in-Some g c = λ es m at k.
+    let f = held c.args.frame.now in
+    let classes = g.C.Classes.content c.args.classes.now in
+    let frames = frames_in c.args.frames.now in
+    let is = stored_by m at (act_view c.args.act.now) f c.in-Some.local (sym c.stored_to.ensures ∙ c.in-Some.is) in
+    on_ok c.store.result (λ u e. subst (λ x. Follows classes frames es at x c.store.new.self) (sym is) (c.in_ok-store.ensures es at k))
+
+pub returns-in-None : goal.returns-in-None
+returns-in-None g c = λ es m at k.
+    let f = held c.args.frame.now in
+    let a = act_view c.args.act.now in
+    let g' = after m at (plan m a) f in
+    c.take_on.ensures (g.C.Classes.content c.args.classes.now) (frames_in c.args.frames.now) es at f g' (λ e. same_behind m at a f g' (sym c.keeps_locals.ensures ∙ e) refl) k
