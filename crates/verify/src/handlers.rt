@@ -1,17 +1,19 @@
 //! The exception handlers of a method, while a pass goes over its code (JVMS 4.10.1.6).
-ghost use Rattle.std.specs.Prelude.{◌≡◌, true};
+ghost use Rattle.std.specs.Prelude.{◌≡◌, true, false, option_map};
+ghost use Rattle.frames.specs.FrameFact.{FrameFact};
 ghost use Rattle.frames.specs.VerificationType.{type_of};
 ghost use Rattle.rules.specs.After.{top_of};
 ghost use Rattle.rules.specs.Held.{held};
+ghost use Rattle.rules.specs.Replacing.{ChangesOnly};
 ghost use Rattle.verify.specs.Handling.{IsEarlier, IsAmong};
 
 use crate::catching::{caught_answer, takes};
 use crate::exceptions::Entry;
 use crate::keeping::Known;
-use frames::{DeclaredFrames, VType};
+use frames::{DeclaredFrames, VType, is_object};
 use hierarchy::{Answer, Classes};
 use insn::Act;
-use rules::{Reason, Working, keeps_locals, stored_to};
+use rules::{Reason, Working, stored_to};
 use std::alloc::{AllocError, Global};
 
 // So many changes are kept that all settled entries took.
@@ -92,6 +94,23 @@ fn top_of<'a>(frame: &Working<'a>) -> VType<'a>
     }
 }
 
+/// Whether a local holds the object, if there is one.
+fn is_in_a_local<'a>(object: Option<VType<'a>>, frame: &Working<'a>) -> bool
+    ensures { (g : FrameFact) → result ≡ false → ChangesOnly (option_map type_of object.entry) (held frame.now) g → g.locals ≡ (held frame.now).locals }
+{
+    let Some(object) = object else {
+        return false;
+    };
+    let mut at = frame.first_holder(&object);
+    while let Some(holder) = frame.holder(at) {
+        if is_object(&object, &frame.local(holder.place)) {
+            return true;
+        }
+        at = holder.next;
+    }
+    false
+}
+
 impl<'a> Handlers<'a> {
     ghost use Rattle.std.specs.Prelude.{◌<◌, ◌≤◌, ℕ, List, length, map, set, slice_index_or, None, IfSome, IfOk, OnOk, All};
     ghost use Rattle.std.specs.List.Sorted.{IsNonDecreasingBy};
@@ -99,11 +118,11 @@ impl<'a> Handlers<'a> {
     ghost use Rattle.classfile.specs.Methods.{ExceptionEntry, Method};
     ghost use Rattle.insn.specs.Meanings as acts;
     ghost use Rattle.insn.specs.Views.{act_view};
-    ghost use Rattle.frames.specs.FrameFact.{FrameFact};
     ghost use Rattle.frames.specs.DeclaredTables.{frames_in, locals_in};
     ghost use Rattle.rules.specs.After.{after, stored};
     ghost use Rattle.rules.specs.Table.{plan};
     ghost use Rattle.rules.specs.Views.{with_half_free};
+    ghost use Rattle.rules.specs.Ways.{stored_to};
     ghost use Rattle.verify.specs.TypeSafety.{Frames};
     ghost use Rattle.verify.specs.Keeping.{IsKnown, IsSameBeneath};
     ghost use Rattle.verify.specs.ExceptionTables.{entry_view, AreNumbered};
@@ -285,20 +304,25 @@ impl<'a> Handlers<'a> {
     }
 
     /// The frame becomes the one after an instruction that means this. Behind a store, entries whose handlers' frames take the type are not
-    /// compared again.
+    /// compared again. Another instruction changes no other locals than those that hold an object, and the flag where it is a constructor's
+    /// call on the own one.
     pub fn behind<C: Classes>(
         &mut self,
         act: &Act<'_>,
+        object: Option<VType<'a>>,
+        own: bool,
         frame: &Working<'a>,
         frames: &DeclaredFrames<'a>,
         classes: &C,
     ) -> Result<(), AllocError>
         ensures { let cs = C.content classes.now in let t = frames_in frames.now in (es : List ExceptionEntry) (m : Method acts.Act) (at : ℕ)
-            → let f = held frame.now in Follows cs t es at f self.old → OnOk result (Follows cs t es at (after m at (plan m (act_view act.now)) f) self.new) }
+            → let f = held frame.now in let g = after m at (plan m (act_view act.now)) f in
+            (stored_to (act_view act.now) ≡ None → ChangesOnly (option_map type_of object.entry) f g) → (own ≡ false → g.flag ≡ f.flag)
+            → Follows cs t es at f self.old → OnOk result (Follows cs t es at g self.new) }
     {
         match stored_to(act) {
             Some(local) => self.store(local, frame, frames, classes),
-            None => self.take_on(keeps_locals(act)),
+            None => self.take_on(!own && !is_in_a_local(object, frame)),
         }
     }
 

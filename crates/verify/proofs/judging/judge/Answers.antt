@@ -12,7 +12,8 @@ use Rattle.rules.proofs.Keeping.{locals_kept}
 use Rattle.verify.specs.Keeping.{IsKnown}
 use Rattle.verify.specs.Handling.{Follows}
 use Rattle.verify.proofs.InTurn.{on_ok}
-use Rattle.verify.proofs.Plain.{plain_done}
+use Rattle.verify.proofs.Comparing.{flag_kept}
+use Rattle.verify.proofs.Plain.{plain_done, constructs_none}
 use Rattle.verify.proofs.judging.judge.Goals as goal
 
 pub returns-then-are_idle-clause-judged : goal.returns-then-are_idle-clause-judged
@@ -47,4 +48,6 @@ returns-then-are_idle-clause-handlers g c =
     let now = held c.run_plain.new.frame in
     on_ok c.run_plain.result (λ u is.
     let done = subst (Done (conditions classes m c.args.at p f) (after m c.args.at p f) now) is (c.run_plain.ensures c.args.at) in
-    subst (λ x. Follows classes frames m.exceptions c.args.at x c.behind-2.new.self) (sym done.outcome.1) (c.in_ok-behind-2.ensures m.exceptions m c.args.at c.requires.handlers))
+    subst (λ x. Follows classes frames m.exceptions c.args.at x c.behind-2.new.self) (sym done.outcome.1) (c.in_ok-behind-2.ensures m.exceptions m c.args.at
+    (λ none. let a = act_view c.args.act.now in locals_kept m c.args.at a f (plain_keeps a (sym c.is_plain.ensures ∙ c.if-is_plain.true) none))
+    (λ e. flag_kept m c.args.at p f (constructs_none m (act_view c.args.act.now) f (sym c.is_plain.ensures ∙ c.if-is_plain.true))) c.requires.handlers))
