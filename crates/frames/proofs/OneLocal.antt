@@ -2,10 +2,7 @@
 use Rattle.std.proofs.Common.{◌≡◌, ◌≢◌, ◌∙◌, ℕ, ◌+◌, ◌<◌, ◌≤◌, ◌⊎◌, inl, inr, Bool, true, false, cond, eqb, List, [], ◌∷◌, get_or, Option, Some, None, refl, sym, ap, arith}
 use Rattle.std.specs.Prelude.{nat_lt}
 use Rattle.std.proofs.lemmas.Bool.Decides.{nat_tests, eqb_tells}
-use Rattle.hierarchy.specs.Class.{ClassFact}
-use Rattle.hierarchy.specs.Answer.{yes}
 use Rattle.frames.specs.VerificationType.{VerificationType, top}
-use Rattle.frames.specs.Assignable.{type_answer}
 use Rattle.frames.specs.FrameAssignable.{width_of}
 use Rattle.frames.specs.Slots.{is_wide, units_of}
 use Rattle.frames.specs.Chains.{types_at, type_at_unit, local_in}
@@ -13,10 +10,10 @@ use Rattle.frames.specs.DeclaredTables.{declared_view}
 use Rattle.frames.specs.declared.declared_frames.Declared.{Declared}
 use Rattle.frames.proofs.LocalWrites.{in_lower, in_past, in_here, in_half, fact_local}
 use Rattle.frames.proofs.Units.{at_start, at_lower, none_above}
-use Rattle.frames.proofs.Walks.{width_is, top_yes}
+use Rattle.frames.proofs.Walks.{width_is}
 
 -- the type that begins at a unit, and top where none does
-abbrev or_top : Option VerificationType → VerificationType
+abbrev pub or_top : Option VerificationType → VerificationType
 or_top None = top
 or_top (Some t) = t
 
@@ -50,15 +47,9 @@ local_at_unit (t ∷ ts) i = by (eqb_tells (units_of ts) i)
     by (inl h) = in_here t ts i (sym h.1) ∙ ap or_top (sym (at_start t ts i h.1))
     by (inr h) = other (nat_lt i (units_of ts)) refl h.1
 
-module _ (classes : List ClassFact) (d : Declared) (i : ℕ) (x : VerificationType) where
-  local_is : (o : Option VerificationType) → o ≡ type_at_unit i (types_at d.chains.now.links.items d.tops.locals) → get_or (declared_view d).locals i top ≡ or_top o
-  unfolding declared_view
-  local_is o e =
-      let links = d.chains.now.links.items in
-      fact_local links d.max_locals d.tops i ∙ local_at_unit (types_at links d.tops.locals) i ∙ ap or_top (sym e)
-
-  pub declared_local : (t : VerificationType) → Some t ≡ type_at_unit i (types_at d.chains.now.links.items d.tops.locals) → type_answer classes x t ≡ type_answer classes x (get_or (declared_view d).locals i top)
-  declared_local t e = ap (type_answer classes x) (sym (local_is (Some t) e))
-
-  pub no_local : None ≡ type_at_unit i (types_at d.chains.now.links.items d.tops.locals) → yes ≡ type_answer classes x (get_or (declared_view d).locals i top)
-  no_local e = sym (ap (type_answer classes x) (local_is None e) ∙ top_yes classes x)
+-- the local of a declared frame is the one that begins at a unit of its chain
+pub declared_local : (d : Declared) (i : ℕ) (o : Option VerificationType) → o ≡ type_at_unit i (types_at d.chains.now.links.items d.tops.locals) → or_top o ≡ get_or (declared_view d).locals i top
+unfolding declared_view
+declared_local d i o e =
+    let links = d.chains.now.links.items in
+    sym (fact_local links d.max_locals d.tops i ∙ local_at_unit (types_at links d.tops.locals) i ∙ ap or_top (sym e))

@@ -8,7 +8,6 @@ ghost use Rattle.frames.specs.DeclaredViews.{IsInside, AreInside, facts_of};
 
 use crate::after::FrameTops;
 use crate::chain::Chains;
-use crate::compare::assignable;
 use crate::compare_frames::both;
 use crate::frame::Frame;
 use crate::locals::Locals;
@@ -186,18 +185,13 @@ impl<'n, 'a> Declared<'n, 'a> {
         chain_assignable(locals, self.chains, self.tops.locals, 0, false, classes)
     }
 
-    /// Whether a type may stand for the local variable of a number where those of this frame are declared (JVMS 4.10.1.2). Takes no memory.
-    pub fn local_answer<C: Classes>(
-        &self,
-        number: usize,
-        vtype: &VType<'a>,
-        classes: &C,
-    ) -> Answer<'a>
-        ensures { outcome_of result ≡ type_answer (C.content classes.now) (type_of vtype.now) (get_or (declared_view self.now).locals number top) }
+    /// The type of the local variable of a number: top at the second half of a long or double, and beyond those in use. Takes no memory.
+    pub fn local(&self, number: usize) -> VType<'a>
+        ensures { type_of result ≡ get_or (declared_view self.now).locals number top }
     {
         match self.chains.type_at_unit(self.tops.locals, number) {
-            Some(declared) => assignable(vtype, &declared, classes),
-            None => Answer::Yes,
+            Some(vtype) => vtype,
+            None => VType::Top,
         }
     }
 

@@ -122,8 +122,8 @@ pub fn takes<'a, C: Classes>(
     match frames.find(u32::from(entry.handler)) {
         None => false,
         Some(declared) => {
-            let answer = declared.local_answer(usize::from(local), vtype, classes);
-            matches!(answer, Answer::Yes)
+            let wanted = declared.local(usize::from(local));
+            matches!(assignable(vtype, &wanted, classes), Answer::Yes)
         }
     }
 }
