@@ -34,18 +34,18 @@ module _ (t : VerificationType) (ts : List VerificationType) (i : ℕ) where
       by (inl h) = in_half t ts i h.1
       by (inr h) = in_past (t ∷ ts) i (omega (arith, lt, h.1, two_units t))
 
-pub local_at_unit : (ts : List VerificationType) (i : ℕ) → local_in ts i ≡ or_top (type_at_unit i ts)
-local_at_unit [] i = in_past [] i (omega arith)
-local_at_unit (t ∷ ts) i = by (eqb_tells (units_of ts) i)
-  where
-    other : (b : Bool) → nat_lt i (units_of ts) ≡ b → units_of ts ≢ i → local_in (t ∷ ts) i ≡ or_top (type_at_unit i (t ∷ ts))
-    other true e ne =
-        in_lower (t ∷ []) ts i (grind (arith, nat_tests, e)) ∙ local_at_unit ts i ∙ ap or_top (sym (at_lower t ts i ne))
-    other false e ne = behind t ts i (let le : units_of ts ≤ i = grind (arith, nat_tests, e) in omega (arith, le, ne))
+module _ (t : VerificationType) (ts : List VerificationType) (i : ℕ) (lower : local_in ts i ≡ or_top (type_at_unit i ts)) where
+  elsewhere : (b : Bool) → nat_lt i (units_of ts) ≡ b → units_of ts ≢ i → local_in (t ∷ ts) i ≡ or_top (type_at_unit i (t ∷ ts))
+  elsewhere true e ne = in_lower (t ∷ []) ts i (grind (arith, nat_tests, e)) ∙ lower ∙ ap or_top (sym (at_lower t ts i ne))
+  elsewhere false e ne = behind t ts i (let le : units_of ts ≤ i = grind (arith, nat_tests, e) in omega (arith, le, ne))
 
-    by : ((eqb (units_of ts) i ≡ true) × (units_of ts ≡ i)) ⊎ ((eqb (units_of ts) i ≡ false) × (units_of ts ≢ i)) → local_in (t ∷ ts) i ≡ or_top (type_at_unit i (t ∷ ts))
-    by (inl h) = in_here t ts i (sym h.1) ∙ ap or_top (sym (at_start t ts i h.1))
-    by (inr h) = other (nat_lt i (units_of ts)) refl h.1
+  one_more : ((eqb (units_of ts) i ≡ true) × (units_of ts ≡ i)) ⊎ ((eqb (units_of ts) i ≡ false) × (units_of ts ≢ i)) → local_in (t ∷ ts) i ≡ or_top (type_at_unit i (t ∷ ts))
+  one_more (inl h) = in_here t ts i (sym h.1) ∙ ap or_top (sym (at_start t ts i h.1))
+  one_more (inr h) = elsewhere (nat_lt i (units_of ts)) refl h.1
+
+local_at_unit : (ts : List VerificationType) (i : ℕ) → local_in ts i ≡ or_top (type_at_unit i ts)
+local_at_unit [] i = in_past [] i (omega arith)
+local_at_unit (t ∷ ts) i = one_more t ts i (local_at_unit ts i) (eqb_tells (units_of ts) i)
 
 -- the local of a declared frame is the one that begins at a unit of its chain
 pub declared_local : (d : Declared) (i : ℕ) (o : Option VerificationType) → o ≡ type_at_unit i (types_at d.chains.now.links.items d.tops.locals) → or_top o ≡ get_or (declared_view d).locals i top

@@ -1,5 +1,5 @@
 -- A local that is given a type, and the entries that were compared before.
-use Rattle.std.proofs.Common.{◌≡◌, ◌∙◌, ◌⊎◌, inl, inr, ℕ, zero, suc, Bool, true, false, List, [], ◌∷◌, ◌++◌, get_or, set, Option, Some, None, refl, sym, ap, subst, arith, append_assoc}
+use Rattle.std.proofs.Common.{◌≡◌, ◌∙◌, ◌⊎◌, inl, inr, ℕ, zero, suc, Bool, true, false, List, [], ◌∷◌, ◌++◌, length, get_or, set, Option, Some, None, refl, sym, ap, subst, arith, append_assoc}
 use Rattle.std.specs.Prelude.{All, Contains, IfSome}
 use Rattle.std.proofs.lemmas.List.Elements.{All-nil, All-push, All-append, All-pop, All-contains, Contains-append_left, Contains-append_right, Contains-append_cases, Contains-push, Contains-push_cases}
 use Rattle.classfile.specs.Methods.{ExceptionEntry}
@@ -11,6 +11,7 @@ use Rattle.frames.specs.VerificationType.{VerificationType, type_of, top}
 use Rattle.frames.specs.Slots.{to_reference}
 use Rattle.frames.specs.Assignable.{type_answer}
 use Rattle.frames.specs.FrameAssignable.{both, item_answer, list_answer, stack_answer, flag_answer, frame_answer}
+use Rattle.frames.proofs.Passing.{joined}
 use Rattle.frames.proofs.Sharing.{both_left, both_right}
 use Rattle.verify.specs.declared.exceptions.Entry.{Entry}
 use Rattle.verify.specs.declared.handlers.Change.{Change}
@@ -61,6 +62,25 @@ pub follows_same : (classes : List ClassFact) (frames : Frames) (es : List Excep
 follows_same classes frames es at f g h l b t =
     tracked_later es at (IsSettled classes frames h.taken.items at f) h.by_start.items h.begun h.fresh.items h.settled.items at (IsSettled classes frames h.taken.items at g) (omega arith)
     (settled_same classes frames h.taken.items at f g (record { locals = l; flag = b })) t
+
+-- where no entry was compared, nothing is known of the frame
+pub follows_alone : (classes : List ClassFact) (frames : Frames) (es : List ExceptionEntry) (at : ℕ) (f g : FrameFact) (h : Handlers) → h.settled.items ≡ []
+    → Follows classes frames es at f h → Follows classes frames es at g h
+follows_alone classes frames es at f g h none t =
+    let now_so = IsSettled classes frames h.taken.items at g in
+    tracked_so es at (IsSettled classes frames h.taken.items at f) h.by_start.items h.begun h.fresh.items h.settled.items now_so (subst (All now_so) (sym none) (All-nil now_so)) t
+
+-- ---- from one list of locals to another
+
+pub joined_set : (n : ℕ) (to from : List VerificationType) → length to ≡ length from → joined (suc n) to from ≡ set (joined n to from) n (get_or to n top)
+joined_set zero [] [] e = refl
+joined_set zero [] (y ∷ ys) e = absurd (omega (arith, e))
+joined_set zero (x ∷ xs) [] e = absurd (omega (arith, e))
+joined_set zero (x ∷ xs) (y ∷ ys) e = refl
+joined_set (suc n) [] [] e = refl
+joined_set (suc n) [] (y ∷ ys) e = absurd (omega (arith, e))
+joined_set (suc n) (x ∷ xs) [] e = absurd (omega (arith, e))
+joined_set (suc n) (x ∷ xs) (y ∷ ys) e = ap (λ zs. x ∷ zs) (joined_set n xs ys (omega (arith, e)))
 
 -- ---- a change that all took before
 

@@ -9,15 +9,15 @@ ghost use Rattle.verify.specs.Handling.{IsEarlier, IsAmong};
 
 use crate::catching::{caught_answer, takes};
 use crate::exceptions::Entry;
-use crate::keeping::Known;
-use frames::{DeclaredFrames, VType, is_object};
+use crate::keeping::{Known, Replaced};
+use frames::{Declared, DeclaredFrames, VType, is_object};
 use hierarchy::{Answer, Classes};
 use insn::Act;
 use rules::{Reason, Working, stored_to};
 use std::alloc::{AllocError, Global};
 
 // So many changes are kept that all settled entries took.
-const MOST_TAKEN: usize = 8;
+const MOST_TAKEN: usize = 16;
 
 /// The class that is missing for the entry that stands first in the table, of those whose comparison needs one.
 #[derive(Clone, Copy)]
@@ -118,17 +118,18 @@ impl<'a> Handlers<'a> {
     ghost use Rattle.classfile.specs.Methods.{ExceptionEntry, Method};
     ghost use Rattle.insn.specs.Meanings as acts;
     ghost use Rattle.insn.specs.Views.{act_view};
-    ghost use Rattle.frames.specs.DeclaredTables.{frames_in, locals_in};
+    ghost use Rattle.frames.specs.DeclaredTables.{frames_in, locals_in, declared_view, IsOf, AreOfOne};
     ghost use Rattle.rules.specs.After.{after, stored};
     ghost use Rattle.rules.specs.Table.{plan};
     ghost use Rattle.rules.specs.Views.{with_half_free};
     ghost use Rattle.rules.specs.Ways.{stored_to};
+    ghost use Rattle.rules.specs.Working.{with_locals};
     ghost use Rattle.verify.specs.TypeSafety.{Frames};
-    ghost use Rattle.verify.specs.Keeping.{IsKnown, IsSameBeneath};
+    ghost use Rattle.verify.specs.Keeping.{IsKnown, IsKept, restored};
     ghost use Rattle.verify.specs.ExceptionTables.{entry_view, AreNumbered};
     ghost use Rattle.verify.specs.Handling.{Follows, Takes, AreAhead, Settles, Catches};
     ghost use Rattle.frames.specs.Conditions.{least};
-    ghost use Rattle.verify.specs.Verdict.{is_covered, handler_conditions};
+    ghost use Rattle.verify.specs.Verdict.{entered, is_covered, handler_conditions};
     ghost use Rattle.verify.specs.declared.exceptions.Entry as entries;
 
     /// The handlers of this table, before the first instruction.
@@ -184,14 +185,11 @@ impl<'a> Handlers<'a> {
         self.fresh.is_empty() && self.next(at).is_none()
     }
 
-    /// The frame becomes another one: unless its locals and its flag are the same, all are to be compared again.
-    pub fn take_on(&mut self, same: bool) -> Result<(), AllocError>
-        ensures { (cs : List ClassFact) (frames : Frames) (es : List ExceptionEntry) (at : ℕ) (f g : FrameFact) → (same ≡ true → IsSameBeneath f g)
+    // The frame becomes another one, with which all are to be compared.
+    fn compare_again(&mut self) -> Result<(), AllocError>
+        ensures { (cs : List ClassFact) (frames : Frames) (es : List ExceptionEntry) (at : ℕ) (f g : FrameFact)
             → Follows cs frames es at f self.old → OnOk result (Follows cs frames es at g self.new) }
     {
-        if same {
-            return Ok(());
-        }
         self.fresh.append(&mut self.settled)
     }
 
@@ -320,10 +318,83 @@ impl<'a> Handlers<'a> {
             (stored_to (act_view act.now) ≡ None → ChangesOnly (option_map type_of object.entry) f g) → (own ≡ false → g.flag ≡ f.flag)
             → Follows cs t es at f self.old → OnOk result (Follows cs t es at g self.new) }
     {
-        match stored_to(act) {
-            Some(local) => self.store(local, frame, frames, classes),
-            None => self.take_on(!own && !is_in_a_local(object, frame)),
+        if self.settled.is_empty() {
+            return Ok(());
         }
+        if let Some(local) = stored_to(act) {
+            return self.store(local, frame, frames, classes);
+        }
+        if own || is_in_a_local(object, frame) {
+            return self.compare_again();
+        }
+        Ok(())
+    }
+
+    // The locals of a frame that were replaced are put back, the latest first.
+    fn put_back<C: Classes>(
+        &mut self,
+        replaced: &[Replaced<'a>],
+        frames: &DeclaredFrames<'a>,
+        classes: &C,
+    ) -> Result<(), AllocError>
+        ensures { let cs = C.content classes.now in let t = frames_in frames.now in (es : List ExceptionEntry) (at : ℕ) (f : FrameFact)
+            → Follows cs t es at f self.old → OnOk result (Follows cs t es at (with_locals f (restored replaced.now f.locals)) self.new) }
+    {
+        let mut left = replaced.len();
+        while left > 0 {
+            left -= 1;
+            let one = replaced[left];
+            self.change(one.place, one.was, frames, classes)?;
+        }
+        Ok(())
+    }
+
+    // The locals of one declared frame become those of another one of the same stack map.
+    fn pass<C: Classes>(
+        &mut self,
+        from: &Declared<'_, 'a>,
+        to: &Declared<'_, 'a>,
+        frames: &DeclaredFrames<'a>,
+        classes: &C,
+    ) -> Result<(), AllocError>
+        requires { AreOfOne from.now to.now }
+        ensures { let cs = C.content classes.now in let t = frames_in frames.now in (es : List ExceptionEntry) (at : ℕ) (f : FrameFact)
+            → f.locals ≡ (declared_view from.now).locals → Follows cs t es at f self.old → OnOk result (Follows cs t es at (with_locals f (declared_view to.now).locals) self.new) }
+    {
+        let end = from.units().max(to.units());
+        for place in to.shared_units(from)..end {
+            let vtype = to.local(usize::from(place));
+            self.change(place, vtype, frames, classes)?;
+        }
+        Ok(())
+    }
+
+    /// The frame, of which this is known, becomes a declared one, if one is. Where few locals become others, entries whose handlers' frames take
+    /// them are not compared again.
+    pub fn enter<'n, C: Classes>(
+        &mut self,
+        known: &Known<'n, 'a>,
+        frame: &Working<'a>,
+        declared: Option<Declared<'n, 'a>>,
+        frames: &DeclaredFrames<'a>,
+        classes: &C,
+    ) -> Result<(), AllocError>
+        requires own { IfSome declared (IsOf frames.now) }
+        requires kept { IsKept frames.now (held frame.now) known.now }
+        ensures { let cs = C.content classes.now in let t = frames_in frames.now in let f = held frame.now in (es : List ExceptionEntry) (at : ℕ)
+            → Follows cs t es at f self.old → OnOk result (Follows cs t es at (entered f (option_map declared_view declared.entry)) self.new) }
+    {
+        let Some(to) = declared else {
+            return Ok(());
+        };
+        if self.settled.is_empty() {
+            return Ok(());
+        }
+        let Some(from) = known.near(&to, frame.flag()) else {
+            return self.compare_again();
+        };
+        self.put_back(&known.replaced, frames, classes)?;
+        self.pass(&from, &to, frames, classes)
     }
 
     // Compares those that are to be compared, but for one against which there is a reason.

@@ -110,9 +110,8 @@ fn take_up<'n, 'a, C: Classes>(
         Follows cs t es place (held frame.old) handlers.old → OnOk result (Follows cs t es place (held frame.new) handlers.new) }
 {
     let declared = frames.find(u32::from(at));
-    let same = known.keeps(frame.flag(), declared);
+    handlers.enter(known, frame, declared, frames, classes)?;
     enter(comes, declared, frames, known, frame, classes)?;
-    handlers.take_on(same)?;
     Ok(())
 }
 
