@@ -37,7 +37,8 @@ fn has(
     frame.write_locals(None, &mut found)?;
     let mut items = Vec::new(alloc);
     frame.write_stack(&mut items)?;
-    Ok(found.below(5) == locals && items.as_slice() == stack && !frame.flag())
+    let alike = frame.local(1) == found.get(1) && frame.local(2) == VType::Top;
+    Ok(alike && found.below(5) == locals && items.as_slice() == stack && !frame.flag())
 }
 
 /// Whether the frames of the entries are found by their offsets.

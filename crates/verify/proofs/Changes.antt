@@ -10,6 +10,9 @@ use Rattle.frames.specs.FrameFact.{FrameFact}
 use Rattle.frames.specs.VerificationType.{VerificationType, type_of, top}
 use Rattle.frames.specs.Slots.{to_reference}
 use Rattle.frames.specs.Assignable.{type_answer}
+use Rattle.frames.specs.DeclaredTables.{IsOf, AreOfOne}
+use Rattle.frames.specs.declared.declared_frames.DeclaredFrames.{DeclaredFrames}
+use Rattle.frames.specs.declared.declared_frames.Declared.{Declared}
 use Rattle.frames.specs.FrameAssignable.{both, item_answer, list_answer, stack_answer, flag_answer, frame_answer}
 use Rattle.frames.proofs.Passing.{joined}
 use Rattle.frames.proofs.Sharing.{both_left, both_right}
@@ -19,7 +22,8 @@ use Rattle.verify.specs.declared.handlers.Handlers.{Handlers}
 use Rattle.verify.specs.TypeSafety.{Frames, caught_frame}
 use Rattle.verify.specs.ExceptionTables.{entry_view}
 use Rattle.verify.specs.Catching.{answer_at}
-use Rattle.verify.specs.Keeping.{IsSameBeneath}
+use Rattle.verify.specs.Keeping.{Keeps, IsSameBeneath}
+use Rattle.verify.specs.declared.keeping.Replaced.{Replaced}
 use Rattle.verify.specs.Handling.{Tracks, Takes, IsAmong, IsSettled, Follows, HasBegun}
 use Rattle.verify.proofs.InTurn.{same_settled}
 use Rattle.verify.proofs.Tracking.{tracked_again, tracked_later, tracked_settled, tracked_moved, tracked_so}
@@ -178,3 +182,13 @@ pub taken_none : (classes : List ClassFact) (frames : Frames) (es : List Excepti
 taken_none classes frames es taken at g by_start begun fresh settled t =
     tracked_so es at (IsSettled classes frames taken at g) by_start begun fresh settled (IsSettled classes frames [] at g)
     (λ k d lt. record { comes = (t.so k d lt).comes; takes = All-nil (λ (c : Change). Takes classes frames (get_or settled k d) c.local (type_of c.vtype)) }) t
+
+-- ---- the frame that is kept
+
+pub all_of_one : (t : DeclaredFrames) (f : FrameFact) (rs : List Replaced) (to : Declared) → IsOf t to → (o : Option Declared) → IfSome o (Keeps t f rs) → IfSome o (λ from. AreOfOne from to)
+unfolding IsOf AreOfOne
+all_of_one t f rs to own None k = tt
+all_of_one t f rs to own (Some from) k = (k.0.0 ∙ sym own.0, k.0.1 ∙ sym own.1)
+
+pub kept_is : (t : DeclaredFrames) (f : FrameFact) (rs : List Replaced) (o : Option Declared) (from : Declared) → o ≡ Some from → IfSome o (Keeps t f rs) → Keeps t f rs from
+kept_is t f rs o from e k = subst (λ p. IfSome p (Keeps t f rs)) e k

@@ -75,6 +75,9 @@ impl<'n, 'a> Known<'n, 'a> {
         if to.flag() != flag {
             return None;
         }
+        if self.replaced.is_empty() && to.keeps_locals_of(&from) {
+            return Some(from);
+        }
         let end = from.units().max(to.units());
         let others = end.saturating_sub(to.shared_units(&from));
         if self.replaced.len() + usize::from(others) > FEW {
