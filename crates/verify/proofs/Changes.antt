@@ -1,6 +1,7 @@
 -- A local that is given a type, and the entries that were compared before.
 use Rattle.std.proofs.Common.{◌≡◌, ◌∙◌, ◌⊎◌, inl, inr, ℕ, zero, suc, Bool, true, false, List, [], ◌∷◌, ◌++◌, length, get_or, set, Option, Some, None, refl, sym, ap, subst, arith, append_assoc}
 use Rattle.std.specs.Prelude.{All, Contains, IfSome}
+use Rattle.std.proofs.lemmas.List.{get_or_default}
 use Rattle.std.proofs.lemmas.List.Elements.{All-nil, All-push, All-append, All-pop, All-contains, Contains-append_left, Contains-append_right, Contains-append_cases, Contains-push, Contains-push_cases}
 use Rattle.classfile.specs.Methods.{ExceptionEntry}
 use Rattle.hierarchy.specs.Class.{ClassFact}
@@ -27,6 +28,9 @@ use Rattle.verify.specs.declared.keeping.Replaced.{Replaced}
 use Rattle.verify.specs.Handling.{Tracks, Takes, IsAmong, IsSettled, Follows, HasBegun}
 use Rattle.verify.proofs.InTurn.{same_settled}
 use Rattle.verify.proofs.Tracking.{tracked_again, tracked_later, tracked_settled, tracked_moved, tracked_so}
+
+all_of : {X : Type 0} (P : X → Type 0) (xs : List X) → ((x : X) → Contains xs x → P x) → All P xs
+all_of P xs h = λ k d lt. h (get_or xs k d) (k, lt, get_or_default xs k (get_or xs k d) d lt)
 
 -- one local that fits in the place of another
 list_set : (answer : VerificationType → VerificationType → Outcome) (xs ds : List VerificationType) (n : ℕ) (t : VerificationType) → list_answer answer xs ds ≡ yes → answer t (get_or ds n top) ≡ yes
@@ -59,7 +63,7 @@ module _ (classes : List ClassFact) (frames : Frames) (taken : List Change) (at 
     settled_stays e takes s = record { comes = λ lt. stays_at (entry_view e) (at_offset frames e.handler) takes (s.comes lt); takes = s.takes }
 
   pub settled_same : IsSameBeneath f g → (e : Entry) → IsSettled classes frames taken at f e → IsSettled classes frames taken at g e
-  settled_same same e s = record { comes = same_settled classes frames at f g same e s.comes; takes = s.takes }
+  settled_same same e s = record { comes = same_settled classes frames [] at f g same e s.comes; takes = s.takes }
 
 pub follows_same : (classes : List ClassFact) (frames : Frames) (es : List ExceptionEntry) (at : ℕ) (f g : FrameFact) (h : Handlers) → f.locals ≡ g.locals → f.flag ≡ g.flag
     → Follows classes frames es at f h → Follows classes frames es at g h
@@ -131,7 +135,7 @@ module _ (classes : List ClassFact) (frames : Frames) (es : List ExceptionEntry)
           take = All-push (λ e. Takes classes frames e n t) settled x p.take takes;
         }
 
-    again_among : (e : Entry) → Contains (fresh ++ moved ++ x ∷ []) e → Contains ((fresh ++ x ∷ []) ++ moved) e
+    again_among : (e : Entry) → Contains (fresh ++ (moved ++ x ∷ [])) e → Contains ((fresh ++ x ∷ []) ++ moved) e
     again_among e c = by (Contains-append_cases fresh (moved ++ x ∷ []) e c)
       where
         last : Contains moved e ⊎ (x ≡ e) → Contains ((fresh ++ x ∷ []) ++ moved) e
@@ -143,25 +147,22 @@ module _ (classes : List ClassFact) (frames : Frames) (es : List ExceptionEntry)
         by (inr c) = last (Contains-push_cases moved x e c)
 
     again_begun : All (HasBegun es at) ((fresh ++ x ∷ []) ++ moved)
-    again_begun = λ k d lt. by d (Contains-append_cases (fresh ++ x ∷ []) moved (get_or ((fresh ++ x ∷ []) ++ moved) k d) (k, lt, refl))
+    again_begun = all_of (HasBegun es at) ((fresh ++ x ∷ []) ++ moved) (λ e c. All-contains (HasBegun es at) (fresh ++ (moved ++ x ∷ [])) e p.tracks.begun_fresh (was_among e c))
       where
-        all : All (HasBegun es at) (fresh ++ moved ++ x ∷ [])
-        all = p.tracks.begun_fresh
+        near : (e : Entry) → Contains fresh e ⊎ (x ≡ e) → Contains (fresh ++ (moved ++ x ∷ [])) e
+        near e (inl c) = Contains-append_left fresh (moved ++ x ∷ []) e c
+        near e (inr same) = Contains-append_right fresh (moved ++ x ∷ []) e (subst (Contains (moved ++ x ∷ [])) same (Contains-push moved x))
 
-        from : (e : Entry) → Contains (fresh ++ moved ++ x ∷ []) e → HasBegun es at e
-        from e c = All-contains (HasBegun es at) (fresh ++ moved ++ x ∷ []) e all c
+        by : (e : Entry) → Contains (fresh ++ x ∷ []) e ⊎ Contains moved e → Contains (fresh ++ (moved ++ x ∷ [])) e
+        by e (inl c) = near e (Contains-push_cases fresh x e c)
+        by e (inr c) = Contains-append_right fresh (moved ++ x ∷ []) e (Contains-append_left moved (x ∷ []) e c)
 
-        near : (e : Entry) → Contains fresh e ⊎ (x ≡ e) → HasBegun es at e
-        near e (inl c) = from e (Contains-append_left fresh (moved ++ x ∷ []) e c)
-        near e (inr same) = from e (Contains-append_right fresh (moved ++ x ∷ []) e (subst (Contains (moved ++ x ∷ [])) same (Contains-push moved x)))
-
-        by : {e : Entry} (d : Entry) → Contains (fresh ++ x ∷ []) e ⊎ Contains moved e → HasBegun es at e
-        by {e} d (inl c) = near e (Contains-push_cases fresh x e c)
-        by {e} d (inr c) = from e (Contains-append_right fresh (moved ++ x ∷ []) e (Contains-append_left moved (x ∷ []) e c))
+        was_among : (e : Entry) → Contains ((fresh ++ x ∷ []) ++ moved) e → Contains (fresh ++ (moved ++ x ∷ [])) e
+        was_among e c = by e (Contains-append_cases (fresh ++ x ∷ []) moved e c)
 
     pub parted_again : AreParted (fresh ++ x ∷ []) moved settled
     parted_again = record {
-      tracks = tracked_moved es at (IsSettled classes frames taken at g) by_start begun (fresh ++ moved ++ x ∷ []) ((fresh ++ x ∷ []) ++ moved) settled again_begun again_among p.tracks;
+      tracks = tracked_moved es at (IsSettled classes frames taken at g) by_start begun (fresh ++ (moved ++ x ∷ [])) ((fresh ++ x ∷ []) ++ moved) settled again_begun again_among p.tracks;
       left = others_so;
       take = p.take;
     }
@@ -182,6 +183,14 @@ pub taken_none : (classes : List ClassFact) (frames : Frames) (es : List Excepti
 taken_none classes frames es taken at g by_start begun fresh settled t =
     tracked_so es at (IsSettled classes frames taken at g) by_start begun fresh settled (IsSettled classes frames [] at g)
     (λ k d lt. record { comes = (t.so k d lt).comes; takes = All-nil (λ (c : Change). Takes classes frames (get_or settled k d) c.local (type_of c.vtype)) }) t
+
+-- all entries that were compared take one more change
+pub follows_more : (classes : List ClassFact) (frames : Frames) (es : List ExceptionEntry) (at : ℕ) (g : FrameFact) (h : Handlers) (x : Change) (pushed : List Change) → pushed ≡ h.taken.items ++ x ∷ []
+    → Follows classes frames es at g h × All (λ e. Takes classes frames e x.local (type_of x.vtype)) h.settled.items
+    → Tracks es at (IsSettled classes frames pushed at g) h.by_start.items h.begun h.fresh.items h.settled.items
+follows_more classes frames es at g h x pushed e p =
+    subst (λ ts. Tracks es at (IsSettled classes frames ts at g) h.by_start.items h.begun h.fresh.items h.settled.items) (sym e)
+    (taken_more classes frames es h.taken.items at g x h.by_start.items h.begun h.fresh.items h.settled.items p.1 p.0)
 
 -- ---- the frame that is kept
 

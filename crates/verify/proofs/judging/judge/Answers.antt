@@ -48,6 +48,6 @@ returns-then-are_idle-clause-handlers g c =
     let now = held c.run_plain.new.frame in
     on_ok c.run_plain.result (λ u is.
     let done = subst (Done (conditions classes m c.args.at p f) (after m c.args.at p f) now) is (c.run_plain.ensures c.args.at) in
-    subst (λ x. Follows classes frames m.exceptions c.args.at x c.behind-2.new.self) (sym done.outcome.1) (c.in_ok-behind-2.ensures m.exceptions m c.args.at
+    subst (λ x. Follows classes frames m.exceptions c.args.at x c.behind-then-are_idle.new.self) (sym done.outcome.1) (c.in_ok-behind-2.ensures m.exceptions m c.args.at
     (λ none. let a = act_view c.args.act.now in locals_kept m c.args.at a f (plain_keeps a (sym c.is_plain.ensures ∙ c.if-is_plain.true) none))
     (λ e. flag_kept m c.args.at p f (constructs_none m (act_view c.args.act.now) f (sym c.is_plain.ensures ∙ c.if-is_plain.true))) c.requires.handlers))

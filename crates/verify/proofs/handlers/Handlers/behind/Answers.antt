@@ -1,5 +1,5 @@
-use Rattle.std.proofs.Common.{◌≡◌, ◌∙◌, Bool, true, false, arith, refl, sym, subst}
-use Rattle.std.specs.Prelude.{◌||◌}
+use Rattle.std.proofs.Common.{◌≡◌, ◌∙◌, true, false, arith, sym, subst}
+use Rattle.std.specs.Prelude.{OnOk}
 use Rattle.std.proofs.lemmas.Bool.Decides.{nat_tests}
 use Rattle.insn.specs.Views.{act_view}
 use Rattle.frames.specs.DeclaredTables.{frames_in}
@@ -8,14 +8,9 @@ use Rattle.rules.specs.Held.{held}
 use Rattle.rules.specs.Table.{plan}
 use Rattle.rules.proofs.Keeping.{stored_by}
 use Rattle.verify.proofs.Changes.{follows_alone, follows_same}
-use Rattle.verify.proofs.InTurn.{on_ok, none_left}
+use Rattle.verify.proofs.InTurn.{none_left}
 use Rattle.verify.specs.Handling.{Follows}
 use Rattle.verify.proofs.handlers.Handlers.behind.Goals as goal
-
-neither : (a b : Bool) → (a || b) ≡ false → (a ≡ false) × (b ≡ false)
-neither true b e = cc
-neither false true e = cc
-neither false false e = (refl, refl)
 
 pub returns-then-is_empty : goal.returns-then-is_empty
 returns-then-is_empty g c = λ es m at changes flag k.
@@ -31,13 +26,17 @@ returns-in-Some g c = λ es m at changes flag k.
     let classes = g.C.Classes.content c.args.classes.now in
     let frames = frames_in c.args.frames.now in
     let is = stored_by m at (act_view c.args.act.now) f c.in-Some.local (sym c.stored_to.ensures ∙ c.in-Some.is) in
-    on_ok c.store.result (λ u e. subst (λ x. Follows classes frames es at x c.store.new.self) (sym is) (c.in_ok-store.ensures es at k))
+    subst (λ x. OnOk c.store.result (Follows classes frames es at x c.store.new.self)) (sym is) (c.store.ensures es at k)
 
 pub returns : goal.returns
 returns g c = λ es m at changes flag k.
     let f = held c.args.frame.now in
     let a = act_view c.args.act.now in
     let behind = after m at (plan m a) f in
-    let both = neither c.args.own c.is_in_a_local.result c.if-own-is_in_a_local.false in
     follows_same (g.C.Classes.content c.args.classes.now) (frames_in c.args.frames.now) es at f behind c.args.self.now
-    (sym (c.is_in_a_local.ensures behind both.1 (changes (sym c.stored_to.ensures ∙ c.in_default.is)))) (sym (flag both.0)) k
+    (sym (c.is_in_a_local.ensures behind c.if-is_in_a_local.false (changes (sym c.stored_to.ensures ∙ c.in_default.is)))) (sym (flag c.if-own.false)) k
+
+pub returns-then-own : goal.returns-then-own
+returns-then-own g c = λ es m at changes flag k.
+    let f = held c.args.frame.now in
+    c.compare_again.ensures (g.C.Classes.content c.args.classes.now) (frames_in c.args.frames.now) es at f (after m at (plan m (act_view c.args.act.now)) f) k

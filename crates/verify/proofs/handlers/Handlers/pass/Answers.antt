@@ -1,4 +1,4 @@
-use Rattle.std.proofs.Common.{◌≡◌, ◌∙◌, suc, ◌+◌, ◌-◌, length, replicate, set, refl, sym, ap, subst, arith}
+use Rattle.std.proofs.Common.{◌≡◌, ◌∙◌, suc, ◌+◌, ◌-◌, length, replicate, get_or, set, refl, sym, ap, subst, arith}
 use Rattle.frames.specs.VerificationType.{top}
 use Rattle.frames.specs.DeclaredTables.{frames_in, declared_view}
 use Rattle.frames.proofs.Passing.{joined, joined_first, joined_last, as_many}
@@ -20,7 +20,7 @@ loop-place-preserved g c = λ es at f is k.
     let to = (declared_view c.args.to.now).locals in
     let next : suc c.loop-place.place ≡ c.loop-place.place + 1 = omega arith in
     let size = as_many c.args.to.now c.args.from.now c.requires in
-    let one = ap (λ n. joined n to from) (sym next) ∙ joined_set c.loop-place.place to from size ∙ ap (set (joined c.loop-place.place to from) c.loop-place.place) (sym c.local-vtype.ensures) in
+    let one = ap (λ n. joined n to from) (sym next) ∙ joined_set c.loop-place.place to from size ∙ ap (set (joined c.loop-place.place to from) c.loop-place.place) (ap (λ n. get_or to n top) (sym c.from.ensures) ∙ sym c.local-vtype.ensures) in
     c.in_ok-change.ensures es at (with_locals f (joined c.loop-place.place to from)) (with_locals f (joined (c.loop-place.place + 1) to from)) refl one (c.loop-place.invariant es at f is k)
 
 pub returns : goal.returns

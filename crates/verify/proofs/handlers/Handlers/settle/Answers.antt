@@ -1,5 +1,6 @@
 use Rattle.std.proofs.Common.{◌<◌, List, Some, sym, ◌∙◌, ap, subst, arith, inr}
 use Rattle.std.specs.Prelude.{IfSome}
+use Rattle.std.proofs.lemmas.Bool.Decides.{nat_tests}
 use Rattle.std.proofs.lemmas.List.{append-nil}
 use Rattle.hierarchy.specs.Answer.{outcome_of}
 use Rattle.frames.specs.DeclaredTables.{frames_in}
@@ -29,6 +30,13 @@ loop-entry-preserved-then-entry-at g c =
             lacks = was.lacks;
           };
     }
+
+pub returns-then-is_empty-clause-settled : goal.returns-then-is_empty-clause-settled
+returns-then-is_empty-clause-settled g c = λ es t ahead.
+    let h = c.args.self.now in
+    let is = sym c.is_empty.ensures ∙ c.if-is_empty.true in
+    let none = none_left h.fresh.items h.fresh.len h.fresh.ok.0 (grind (arith, nat_tests, is)) in
+    turn_none (g.C.Classes.content c.args.classes.now) (frames_in c.args.frames.now) es c.args.at (held c.args.frame.now) h none t ahead
 
 pub returns-in-No-clause-settled : goal.returns-in-No-clause-settled
 returns-in-No-clause-settled g c = λ es t ahead.
