@@ -37,3 +37,5 @@ pub mod Formed
 pub mod Playing
 pub mod FilesInPlay
 pub mod Walking
+pub mod Standings
+pub mod OneMore
