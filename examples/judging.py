@@ -80,7 +80,7 @@ class Verifier:
 
     def __init__(self, dynamic=False):
         self.known, self.lock = {}, threading.Lock()
-        self.command = ["verify", "--dynamic"] if dynamic else ["verify"]
+        self.flags = ["--dynamic"] if dynamic else []
 
     @staticmethod
     def call(*words):
@@ -120,7 +120,7 @@ class Verifier:
         self.add(above, places, seen, files)
         while count != len(files):
             count = len(files)
-            lines, errors, status = self.call(*self.command, "--", file, *files)
+            lines, errors, status = self.call("verify", *self.flags, "--", file, *files)
             for line in lines:
                 if it := MISSING.search(line):
                     self.add(it[1], places, seen, files)
@@ -128,7 +128,7 @@ class Verifier:
 
     def each(self, files, known):
         """From one process, of each class in these files its name and the lines of the answer; None where it gives none."""
-        words = ["verify-each", *(["--known", *map(os.path.abspath, known)] if known else []), "--", *files]
+        words = ["verify-each", *self.flags, *(["--known", *map(os.path.abspath, known)] if known else []), "--", *files]
         if not fits([PROGRAM, *words]):
             return None
         lines, errors, _ = self.call(*words)
