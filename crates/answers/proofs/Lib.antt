@@ -3,3 +3,5 @@ pub mod OneVerify
 pub mod OneAnswer
 pub mod Tellings
 pub mod OnePlay
+pub mod OneEach
+pub mod Numbering

@@ -4,3 +4,4 @@ pub mod Texts
 pub mod Files
 pub mod Verdicts
 pub mod Plays
+pub mod Judgements

@@ -10,6 +10,7 @@ use crate::fault::AnswerFault;
 use crate::playing::play;
 use crate::showing::show;
 use crate::verifying::verify;
+use crate::verifying_each::verify_each;
 use layout::{ReadFault, StreamFault};
 use std::alloc::Global;
 use std::hash::BuildHasher;
@@ -42,6 +43,9 @@ pub fn answer<W: Write, S: BuildHasher + Drop>(
                 alloc, form, profile, read, known, hasher, out,
             ),
             Command::Play(profile) => play(alloc, profile, reads, hasher, out),
+            Command::VerifyEach { profile, classes } => verify_each(
+                alloc, profile, classes, reads, hasher, out,
+            ),
         },
     }
 }

@@ -101,6 +101,18 @@ fn lines(rt: HostRuntime) {
             "O"
         )
     );
+    assert!(rt;
+        asks(
+            alloc,
+            &["classck", "verify-each", "K", "L", "--known", "O"],
+            Command::VerifyEach {
+                profile: Profile::Default,
+                classes: 2,
+            },
+            3,
+            "O"
+        )
+    );
     assert!(rt; misses(alloc, &["classck", "check"]));
     assert!(rt; misses(alloc, &["classck", "play"]));
 }

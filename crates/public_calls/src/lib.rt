@@ -25,6 +25,7 @@
 //! | `walks`, `walk_choices` | `machine`: steps by a list of choices, from where a method begins |
 //! | `verdicts` | `verify`: verdicts and reports |
 //! | `verified_files` | `verify`: verdicts on the classes that files are, alone, among known ones and in play |
+//! | `judged_files` | `verify`: verdicts on the classes that many files are, each among all of them |
 //! | `classes_in_play` | `verify`: reports on classes that run together |
 //! | `dynamic_calls` | `pool`, `rules`, `verify`: `invokedynamic` and dynamic constants, looked up, judged by a profile, and run |
 //! | `verified_walks` | `verify`: walks of the machine through methods that are verified |
@@ -73,6 +74,8 @@ mod guarded_members;
 mod instruction_rules;
 #[cfg(test)]
 mod instructions_in_place;
+#[cfg(test)]
+mod judged_files;
 #[cfg(test)]
 mod machine_steps;
 #[cfg(test)]

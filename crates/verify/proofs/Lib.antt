@@ -38,3 +38,5 @@ pub mod Formed
 pub mod Playing
 pub mod FilesInPlay
 pub mod Walking
+pub mod Standings
+pub mod OneMore

@@ -7,5 +7,8 @@ returns-then-eq-2 c = search rules
 pub returns-then-eq-3 : goal.returns-then-eq-3
 returns-then-eq-3 c = search rules
 
-pub returns-else-eq-3 : goal.returns-else-eq-3
-returns-else-eq-3 c = search rules
+pub returns-then-eq-4 : goal.returns-then-eq-4
+returns-then-eq-4 c = search rules
+
+pub returns-else-eq-4 : goal.returns-else-eq-4
+returns-else-eq-4 c = search rules
