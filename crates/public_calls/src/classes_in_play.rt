@@ -1,5 +1,5 @@
 //! Reports on classes in play that no program shows.
-use crate::making::{K, hasher, object};
+use library_calls::making::{K, hasher, object};
 use classfile::{ClassFile, Formed, decode, form_check};
 use hierarchy::{Rows, summary_of};
 use std::alloc::Global;

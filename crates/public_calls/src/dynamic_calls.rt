@@ -1,5 +1,5 @@
 //! Dynamic calls and constants: looked up, and judged and run where a profile asks for it.
-use crate::making::{K, O, OUT_OF_MEMORY, hasher, object};
+use library_calls::making::{K, O, OUT_OF_MEMORY, hasher, object};
 use crate::walks::{Stop, Walk, on, stop_of};
 use classfile::{ClassFile, Formed, Profile, decode, form_check};
 use hierarchy::{Classes, Rows, summary_of};

@@ -1,4 +1,4 @@
-use crate::making::is_shown;
+use library_calls::making::is_shown;
 use answers::AnswerFault;
 use classfile::{FormFault, FormRule, Place};
 use command_line::{LineFault, MainFault};

@@ -1,5 +1,5 @@
 //! The answer of each command on files, read or not, and how much of it a writer takes that fails.
-use crate::making::{K, O, hasher};
+use library_calls::making::{K, O, hasher};
 use answers::{AnswerFault, Command, Form, answer, one_answer};
 use classfile::Profile;
 use layout::{ReadFault, StreamFault};

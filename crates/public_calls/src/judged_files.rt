@@ -1,5 +1,5 @@
 //! Verdicts on the classes that many files are, each judged among all of them and known ones.
-use crate::making::{K, O, OUT_OF_MEMORY, hasher};
+use library_calls::making::{K, O, OUT_OF_MEMORY, hasher};
 use crate::verified_files::{UNREAD, falling, final_object, malformed, number_of};
 use classfile::Profile;
 use std::alloc::Global;

@@ -1,5 +1,5 @@
 //! Verdicts on the classes that files are: alone, among known classes, and in play together.
-use crate::making::{K, O, OUT_OF_MEMORY, hasher};
+use library_calls::making::{K, O, OUT_OF_MEMORY, hasher};
 use layout::ReadFault;
 use std::alloc::Global;
 use std::test::*;

@@ -1,6 +1,6 @@
 //! Walks of methods that are verified, and of those that are not.
 use crate::machine_steps::machine_method;
-use crate::making::{K, OUT_OF_MEMORY, hasher, object};
+use library_calls::making::{K, OUT_OF_MEMORY, hasher, object};
 use crate::walks::{Stop, Walk, on, stop_of, walk_from};
 use classfile::{ClassFile, Formed, decode, form_check};
 use hierarchy::{Rows, summary_of};
