@@ -5,3 +5,4 @@ pub mod Tellings
 pub mod OnePlay
 pub mod OneEach
 pub mod Numbering
+pub mod Parting

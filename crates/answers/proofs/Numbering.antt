@@ -1,5 +1,5 @@
 -- Answers on files, one behind the other.
-use Rattle.std.proofs.Common.{◌≡◌, ℕ, ◌+◌, ◌<◌, List, [], ◌∷◌, ◌++◌, length, drop, slice_index_or, ◌∙◌, ap, sym, ◌≤◌, Bool, true, false, nat_lt, cond, refl, arith}
+use Rattle.std.proofs.Common.{◌≡◌, ℕ, ◌+◌, ◌<◌, List, ◌++◌, length, drop, slice_index_or, ◌∙◌, ap, sym, ◌≤◌, Bool, true, false, nat_lt, cond, refl, arith}
 use Rattle.std.proofs.lemmas.Bool.{ltb-false, ltb-true}
 use Rattle.std.proofs.lemmas.List.{at_drop_more}
 use Rattle.verify.specs.declared.each.Judgement.{Judgement}

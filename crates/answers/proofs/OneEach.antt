@@ -1,6 +1,6 @@
 -- The answer of `verify-each` is one.
 use Rattle.std.proofs.Common.{◌≡◌, ℕ, ◌+◌, true, false, List, [], ◌∷◌, ◌++◌, Ok, Err, Result, refl, sym, ◌∙◌, ap, subst, inl, inr}
-use Rattle.std.specs.Prelude.{◌⊎◌, codes, decimal}
+use Rattle.std.specs.Prelude.{codes, decimal}
 use Rattle.classfile.specs.Values.{Class}
 use Rattle.classfile.specs.CodeMethods.{judged}
 use Rattle.classfile.specs.Methods.{JudgedClass}

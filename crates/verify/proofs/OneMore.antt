@@ -1,5 +1,5 @@
 -- One file more, among those whose classes are gathered, and among those that are judged.
-use Rattle.std.proofs.Common.{◌≡◌, List, [], ◌∷◌, ◌++◌, refl, sym, subst}
+use Rattle.std.proofs.Common.{List, [], ◌∷◌, ◌++◌, refl, subst}
 use Rattle.classfile.specs.declared.profile.Profile.{Profile}
 use Rattle.hierarchy.specs.Class.{ClassFact}
 use Rattle.verify.specs.declared.each.Judgement.{Judgement}

@@ -6,7 +6,7 @@ use Rattle.std.specs.Borrow.{Bor}
 use Rattle.std.specs.Str.{bytes_eq}
 use Rattle.std.proofs.lemmas.Bool.{cases_lt}
 use Rattle.std.proofs.lemmas.List.{length-map}
-use Rattle.std.proofs.lemmas.Option.{slice_get-map, slice_get-get_or, slice_get_past, slice_get_within}
+use Rattle.std.proofs.lemmas.Option.{slice_get-map, slice_get-get_or, slice_get_past}
 use Rattle.std.proofs.lemmas.Slice.Eq.{bytes_eq-Decides}
 use Rattle.classfile.proofs.Places.{take_one_more}
 use Rattle.hierarchy.specs.declared.summary.Summary.{Summary}
@@ -15,7 +15,7 @@ use Rattle.hierarchy.specs.Ancestors.{place_after}
 use Rattle.hierarchy.specs.Class.{ClassFact, class_of}
 use Rattle.hierarchy.proofs.Doubling.{appended}
 use Rattle.hierarchy.proofs.Names.{found_class, found_some, slice_none, some_same, none_some, same_some}
-use Rattle.verify.specs.Standing.{is_root, onward, next, ahead, stands, standing}
+use Rattle.verify.specs.Standing.{is_root, onward, next, ahead, stands}
 use Rattle.verify.specs.Each.{with_class}
 use Rattle.verify.specs.EachSteps.{place_kept, ArePlaced, next_place, class_at, LeadsAhead}
 

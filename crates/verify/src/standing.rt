@@ -149,10 +149,7 @@ fn flags(alloc: Global, gathered: &Gathered<'_>) -> Result<Vec<bool>, AllocError
 }
 
 /// The classes that stand, in their order.
-pub fn standing<'a>(
-    alloc: Global,
-    gathered: Gathered<'a>,
-) -> Result<Vec<Summary<'a>>, AllocError>
+pub fn standing<'a>(alloc: Global, gathered: Gathered<'a>) -> Result<Vec<Summary<'a>>, AllocError>
     requires { ArePlaced (facts_of gathered.classes.items) gathered.places }
     ensures { IfOk result (λ kept. facts_of kept.items ≡ standing (facts_of gathered.entry.classes.items)) }
 {

@@ -1,4 +1,4 @@
-use Rattle.std.proofs.Common.{◌≡◌, ◌∙◌, Err, map, inl, inr, ap, subst, sym}
+use Rattle.std.proofs.Common.{◌≡◌, ◌∙◌, map, inl, inr, ap, subst, sym}
 use Rattle.verify.specs.Files.{read_of}
 use Rattle.verify.specs.Each.{JudgesEach, JudgesNone}
 use Rattle.verify.specs.declared.each.EachFault.TheVariants.{NoHierarchy}

@@ -1,4 +1,4 @@
-use Rattle.std.proofs.Common.{◌≡◌, ◌∙◌, ◌+◌, ◌^◌, map, ap, sym, subst, arith, pow-add}
+use Rattle.std.proofs.Common.{◌≡◌, ◌∙◌, ◌+◌, ◌^◌, map, ap, subst, arith, pow-add}
 use Rattle.hierarchy.specs.Ancestors.{place_after}
 use Rattle.hierarchy.specs.Summary.{fact_of, facts_of}
 use Rattle.hierarchy.proofs.Ancestors.{table_of}

@@ -1,8 +1,8 @@
-use Rattle.std.proofs.Common.{◌≡◌, ◌∙◌, ◌^◌, false, List, map, Result, Ok, Err, Vec, ap, subst}
+use Rattle.std.proofs.Common.{◌∙◌, false, map, Result, Ok, Err, ap}
 use Rattle.std.specs.Prelude.{IfOk}
 use Rattle.std.specs.Option.{option_map_or}
 use Rattle.hierarchy.specs.Summary.{facts_of}
-use Rattle.verify.specs.Standing.{is_root, stands}
+use Rattle.verify.specs.Standing.{is_root}
 use Rattle.verify.specs.EachSteps.{class_at}
 use Rattle.verify.proofs.Standings.{which_stand}
 use Rattle.verify.proofs.standing.flags.Goals as goal

@@ -1,6 +1,6 @@
-use Rattle.std.proofs.Common.{◌≡◌, ◌∙◌, Result, Ok, Err, ap, sym, refl, inl, inr}
+use Rattle.std.proofs.Common.{◌∙◌, Result, Ok, Err, ap, refl, inl, inr}
 use Rattle.std.specs.Prelude.{OnOk}
-use Rattle.hierarchy.specs.Summary.{fact_of, facts_of}
+use Rattle.hierarchy.specs.Summary.{facts_of}
 use Rattle.verify.specs.Files.{read_of}
 use Rattle.verify.specs.Each.{with_class}
 use Rattle.verify.proofs.gathering.Gathered.add_file.Goals as goal
