@@ -1,4 +1,3 @@
-use library_calls::making::is_shown;
 use answers::AnswerFault;
 use classfile::{FormFault, FormRule, Place};
 use command_line::{LineFault, MainFault};
@@ -6,6 +5,7 @@ use frames::FrameFault;
 use hierarchy::HierarchyFault;
 use insn::CodeFault;
 use layout::{ReadFault, StreamFault, WriteFault};
+use library_calls::making::is_shown;
 use machine::StepFault;
 use names::NameFault;
 use pool::PoolFault;

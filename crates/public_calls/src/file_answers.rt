@@ -1,8 +1,8 @@
 //! The answer of each command on files, read or not, and how much of it a writer takes that fails.
-use library_calls::making::{K, O, hasher};
 use answers::{AnswerFault, Command, Form, answer, one_answer};
 use classfile::Profile;
 use layout::{ReadFault, StreamFault};
+use library_calls::making::{K, O, hasher};
 use std::alloc::{AllocError, Global};
 use std::io::{self, Write};
 use std::test::*;

@@ -26,12 +26,12 @@ returns g c = λ es at f n b l k.
     let h = c.if-len-eq-MOST_TAKEN.self in
     let all : known h = elim c.if-len-eq-MOST_TAKEN.branch [
       | then-len-eq-MOST_TAKEN w ↦
-        let was = c.part.new.self in
-        subst known (sym w.self-is) (
-          subst (λ (ts : List Change). Tracks es at (IsSettled cs frames ts at n) was.by_start.items was.begun was.fresh.items was.settled.items) (sym w.clear.ensures.items)
-          (taken_none cs frames es was.taken.items at n was.by_start.items was.begun was.fresh.items was.settled.items parted.0),
-          parted.1,
-        )
+          let was = c.part.new.self in
+          subst known (sym w.self-is) (
+            subst (λ (ts : List Change). Tracks es at (IsSettled cs frames ts at n) was.by_start.items was.begun was.fresh.items was.settled.items) (sym w.clear.ensures.items)
+                (taken_none cs frames es was.taken.items at n was.by_start.items was.begun was.fresh.items was.settled.items parted.0),
+            parted.1,
+          )
       | else-len-eq-MOST_TAKEN w ↦ subst known (sym w.self-is) parted
     ] in
     follows_more cs frames es at n h change c.push.new.self.items c.in_ok-push.ensures.items all
