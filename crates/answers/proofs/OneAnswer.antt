@@ -6,9 +6,10 @@ use Rattle.verify.specs.Files.{Read}
 use Rattle.answers.specs.Files.{refusal_status}
 use Rattle.answers.specs.Texts.{refusal_line}
 use Rattle.answers.specs.Laws.{OneAnswer}
-use Rattle.answers.specs.declared.command.Command.TheVariants.{Check, Show, Verify, Play, VerifyEach}
+use Rattle.answers.specs.declared.command.Command.TheVariants.{Check, Show, Verify, Explain, Play, VerifyEach}
 use Rattle.answers.specs.declared.command.Form.{Form}
 use Rattle.answers.specs.declared.command.Form.TheVariants.{Plain}
+use Rattle.answers.specs.declared.manner.Manner.TheVariants.{Told, Explained}
 use Rattle.answers.proofs.OneFile.{Laws, one_formed, not_refused, one_refusal}
 use Rattle.answers.proofs.OneVerify.{one_verify}
 use Rattle.answers.proofs.OnePlay.{one_play}
@@ -35,7 +36,8 @@ pub same_answer : Laws → OneAnswer
 same_answer laws command [] text other status next p q = (p.0 ∙ sym q.0, p.1 ∙ sym q.1)
 same_answer laws (Check form) (read ∷ others) text other status next p q = one_said laws form (CheckTells form) (one_check form) read text other status next p q
 same_answer laws Show (read ∷ others) text other status next p q = one_said laws Plain ShowTells one_show read text other status next p q
-same_answer laws (Verify form profile) (read ∷ known) text other status next p q = one_verify laws form profile read known text other status next p q
+same_answer laws (Verify form profile) (read ∷ known) text other status next p q = one_verify laws (Told form) profile read known text other status next p q
+same_answer laws (Explain profile) (read ∷ known) text other status next p q = one_verify laws Explained profile read known text other status next p q
 same_answer laws (Play profile) (read ∷ others) text other status next p q = one_play laws profile (read ∷ others) text other status next p q
 same_answer laws (VerifyEach profile classes) (read ∷ others) text other status next p q =
     one_each laws profile (take classes (read ∷ others)) (drop classes (read ∷ others)) text other status next p q

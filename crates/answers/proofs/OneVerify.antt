@@ -1,11 +1,12 @@
 -- The answer of `verify` is one.
-use Rattle.std.proofs.Common.{◌≡◌, ℕ, zero, suc, ◌+◌, ◌<◌, List, [], ◌∷◌, ◌++◌, length, map, Option, Some, None, refl, sym, ◌∙◌, ap, subst, inl, inr, arith}
+use Rattle.std.proofs.Common.{◌≡◌, ℕ, zero, suc, ◌+◌, ◌<◌, List, [], ◌∷◌, ◌++◌, length, map, Option, Some, None, Ok, Err, refl, sym, ◌∙◌, ap, subst, inl, inr, arith}
 use Rattle.std.specs.Prelude.{◌⊎◌, ◌||◌, Bool, true, false, if◌then◌else◌, slice_get, codes, decimal}
 use Rattle.std.specs.List.{flat_map, list_any}
 use Rattle.std.proofs.lemmas.Bool.{cases_order}
 use Rattle.std.proofs.lemmas.Option.{none-some}
-use Rattle.classfile.specs.Values.{Class}
-use Rattle.classfile.specs.Methods.{JudgedClass}
+use Rattle.pool.specs.Entries.{Entry}
+use Rattle.classfile.specs.Values.{CodeBody, Member, Class}
+use Rattle.classfile.specs.Methods.{JudgedClass, code_of}
 use Rattle.classfile.specs.CodeMethods.{judged}
 use Rattle.classfile.specs.declared.profile.Profile.{Profile}
 use Rattle.hierarchy.specs.declared.fault.HierarchyFault.{HierarchyFault}
@@ -27,10 +28,17 @@ use Rattle.printing.specs.Json.{Field, number, name, spelled, object_line}
 use Rattle.answers.specs.Texts.{kind, answer}
 use Rattle.answers.specs.declared.command.Form.{Form}
 use Rattle.answers.specs.declared.command.Form.TheVariants.{Plain, Json}
+use Rattle.answers.specs.declared.manner.Manner.{Manner}
+use Rattle.answers.specs.declared.manner.Manner.TheVariants.{Told, Explained}
+use Rattle.printing.specs.Parts.{part_lines}
+use Rattle.answers.specs.Sentences.{sentence_line, fault_line, reason_lines, file_fault_number}
+use Rattle.answers.specs.Explanations.{code_part, explanation, explanations}
 use Rattle.verify.specs.declared.files.FileFault.{FileFault}
+use Rattle.verify.specs.declared.files.FileFault.TheVariants as files
+use Rattle.verify.specs.declared.files.FileFault.TheVariants.{Malformed}
 use Rattle.verify.specs.Files.{Read, IsFormed, IsRefused, AreFormed, IsFirstRefused}
 use Rattle.answers.specs.Files.{refusal_status}
-use Rattle.answers.specs.Verdicts.{class_refusal, known_refusal, fault_name, named_field, name_fields, hierarchy_refusal, reason_ending, reason_fields, verdict_text, verdict_fields, verdict_line, is_refusal, ClassSays, HierarchySays, KnownSays, VerifySays}
+use Rattle.answers.specs.Verdicts.{IsPart, IsExplained, IsTold, hierarchy_told, report_told, fault_name, named_field, name_fields, hierarchy_refusal, reason_ending, reason_fields, verdict_text, verdict_fields, verdict_line, is_refusal, ClassSays, HierarchySays, KnownSays, VerifySays}
 use Rattle.answers.proofs.OneFile.{Laws, one_formed, not_refused, one_refusal}
 
 false_true : false ≡ true → ⊥
@@ -68,6 +76,11 @@ same_refusal Plain f g told class =
 same_refusal Json f g told class =
     let fields : name_fields f ≡ name_fields g = field_by_name f ∙ ap field_of class ∙ sym (field_by_name g) in
     ap (λ n. object_of n (name_fields f)) told ∙ ap (object_of (number_of g)) fields
+
+same_told : (manner : Manner) (f g : HierarchyFault) → number_of f ≡ number_of g → fault_class f ≡ fault_class g → hierarchy_told manner f ≡ hierarchy_told manner g
+same_told (Told form) f g told class = same_refusal form f g told class
+same_told Explained f g told class =
+    ap (λ l. l ++ sentence_line (number_of f)) (same_refusal Plain f g told class) ∙ ap (λ n. hierarchy_refusal Plain g ++ sentence_line n) told
 
 -- ---- of verdicts
 
@@ -138,6 +151,28 @@ same_line Json r q e =
     ∙ ap (λ d. object_line_of q.name.bytes.now d (verdict_fields r.verdict)) e.descriptor
     ∙ ap (object_line_of q.name.bytes.now q.descriptor.bytes.now) (same_verdict r.verdict q.verdict e.verdict).fields
 
+-- ---- of explanations
+
+abbrev lines_of : Refusing → List ℕ
+lines_of (reason n) = sentence_line n
+lines_of (class_missing name) = sentence_line 77
+lines_of (with_fault n fault) = sentence_line n ++ fault_line fault
+
+lines_by_view : (why : Reason) → reason_lines why ≡ lines_of (reason_view why)
+lines_by_view reasons.OutOfMemory = refl
+lines_by_view _ = refl
+
+same_explanation : (pool : List Entry) (body : Option CodeBody) (line : List ℕ) (v w : Verdict) → AreSameVerdict v w
+    → explanation pool body line v ≡ explanation pool body line w
+same_explanation pool body line Verified Verified e = refl
+same_explanation pool body line NoCode NoCode e = refl
+same_explanation pool body line (Refused at why) (Refused there other) e =
+    let lines : reason_lines why ≡ reason_lines other = lines_by_view why ∙ ap lines_of e.2 ∙ sym (lines_by_view other) in
+    ap (λ x. line ++ (x ++ code_part (reason_number why) pool body at)) lines
+    ∙ ap (λ n. line ++ (reason_lines other ++ code_part n pool body at)) e.1
+    ∙ ap (λ a. line ++ (reason_lines other ++ code_part (reason_number other) pool body a)) e.0
+same_explanation pool body line _ _ e = absurd e
+
 abbrev has_refusal : List MethodVerdict → Bool
 has_refusal rs = list_any (λ r. is_refusal r.verdict) rs
 
@@ -153,6 +188,27 @@ same_lines form (r ∷ rs) (q ∷ qs) e each =
       ap (λ x. x ++ flat_map (verdict_line form) rs) (same_line form r q here) ∙ ap (λ x. verdict_line form q ++ x) rest.0,
       ap (λ x. x || has_refusal rs) (same_verdict r.verdict q.verdict here.verdict).refusal ∙ ap (λ x. is_refusal q.verdict || x) rest.1,
     )
+
+same_explanations : (pool : List Entry) (ms : List Member) (rs qs : List MethodVerdict) → length rs ≡ length qs
+    → ((number : ℕ) (r q : MethodVerdict) → slice_get rs number ≡ Some r → slice_get qs number ≡ Some q → IsSameLine r q)
+    → explanations (verdict_line Plain) pool ms rs ≡ explanations (verdict_line Plain) pool ms qs
+same_explanations pool [] rs qs e each = refl
+same_explanations pool (m ∷ ms) [] [] e each = refl
+same_explanations pool (m ∷ ms) [] (q ∷ qs) e each = absurd (omega (arith, e))
+same_explanations pool (m ∷ ms) (r ∷ rs) [] e each = absurd (omega (arith, e))
+same_explanations pool (m ∷ ms) (r ∷ rs) (q ∷ qs) e each =
+    let here = each zero r q refl refl in
+    let body = code_of m.attributes in
+    let one : explanation pool body (verdict_line Plain r) r.verdict ≡ explanation pool body (verdict_line Plain q) q.verdict =
+    ap (λ l. explanation pool body l r.verdict) (same_line Plain r q here) ∙ same_explanation pool body (verdict_line Plain q) r.verdict q.verdict here.verdict in
+    ap (λ x. x ++ explanations (verdict_line Plain) pool ms rs) one
+    ∙ ap (λ x. explanation pool body (verdict_line Plain q) q.verdict ++ x) (same_explanations pool ms rs qs (omega (arith, e)) (λ n. each (suc n)))
+
+same_report : (manner : Manner) (c : Class) (rs qs : List MethodVerdict) → length rs ≡ length qs
+    → ((number : ℕ) (r q : MethodVerdict) → slice_get rs number ≡ Some r → slice_get qs number ≡ Some q → IsSameLine r q)
+    → (report_told manner c rs ≡ report_told manner c qs) × (has_refusal rs ≡ has_refusal qs)
+same_report (Told form) c rs qs e each = same_lines form rs qs e each
+same_report Explained c rs qs e each = (same_explanations c.constant_pool c.methods rs qs e each, (same_lines Plain rs qs e each).1)
 
 module _ (laws : Laws) where
   -- ---- of files
@@ -188,46 +244,72 @@ module _ (laws : Laws) where
       let formed = formed_at reads cs i first.read all first.here in
       not_refused laws first.read formed.0 r formed.1 first.refused
 
+  -- ---- files that are refused
+
+  one_part : (read : Read) (r : FileFault) (text other : List ℕ) → IsPart read r text → IsPart read r other → text ≡ other
+  one_part (Ok bytes) (Malformed rule place) text other (c, p, e) (d, q, f) =
+      e ∙ ap (λ (x : Class). part_lines x place) (laws.one_class bytes c d p q) ∙ sym f
+  one_part (Err fault) (Malformed rule place) text other (c, p, e) q = absurd p
+  one_part read files.OutOfMemory text other p q = p ∙ sym q
+  one_part read (files.Unread fault) text other p q = p ∙ sym q
+  one_part read (files.NoClass fault) text other p q = p ∙ sym q
+
+  one_told : (manner : Manner) (read : Read) (r : FileFault) (line : Form → List ℕ) (text other : List ℕ)
+      → IsTold manner read r line text → IsTold manner read r line other → text ≡ other
+  one_told (Told form) read r line text other p q = p ∙ sym q
+  one_told Explained read r line text other (a, p, e) (b, q, f) =
+      e ∙ ap (λ x. line Plain ++ (sentence_line (file_fault_number r) ++ x)) (one_part read r a b p q) ∙ sym f
+
+  -- of two that are the same
+  same_known : (manner : Manner) (reads : List Read) (i j : ℕ) (r s : FileFault) (p : IsFirstRefused reads i r) (q : IsFirstRefused reads j s) (text other : List ℕ)
+      → IsTold manner p.read r (λ form. known_refusal form (i + 1) r) text → IsTold manner q.read s (λ form. known_refusal form (j + 1) s) other → text ≡ other
+  same_known manner reads i j r s p q text other t u =
+      let same = one_first reads i j r s p q in
+      let read : p.read ≡ q.read = some_same p.read q.read (sym p.here ∙ ap (slice_get reads) same.0 ∙ q.here) in
+      let first : IsTold manner q.read r (λ form. known_refusal form (i + 1) r) text = subst (λ x. IsTold manner x r (λ form. known_refusal form (i + 1) r) text) read t in
+      let second : IsTold manner q.read s (λ form. known_refusal form (i + 1) s) text = subst (λ x. IsTold manner q.read x (λ form. known_refusal form (i + 1) x) text) same.1 first in
+      one_told manner q.read s (λ form. known_refusal form (j + 1) s) text other
+      (subst (λ n. IsTold manner q.read s (λ form. known_refusal form (n + 1) s) text) same.0 second) u
+
   -- ---- what is said
 
-  pub one_class : (form : Form) (classes : List ClassFact) (c : JudgedClass) (text other : List ℕ) (status next : ℕ)
-      → ClassSays form classes c text status → ClassSays form classes c other next → (text ≡ other) × (status ≡ next)
-  one_class form classes c text other status next (inl (f, t, s)) (inl (g, u, v)) = (t ∙ sym u, s ∙ sym v)
-  one_class form classes c text other status next (inl (f, t, s)) (inr (g, q)) = absurd (false_true (sym g ∙ f))
-  one_class form classes c text other status next (inr (f, p)) (inl (g, u, v)) = absurd (false_true (sym f ∙ g))
-  one_class form classes c text other status next (inr (f, (rs, p, t, s))) (inr (g, (qs, q, u, v))) =
+  pub one_class : (manner : Manner) (classes : List ClassFact) (c : JudgedClass) (text other : List ℕ) (status next : ℕ)
+      → ClassSays manner classes c text status → ClassSays manner classes c other next → (text ≡ other) × (status ≡ next)
+  one_class manner classes c text other status next (inl (f, t, s)) (inl (g, u, v)) = (t ∙ sym u, s ∙ sym v)
+  one_class manner classes c text other status next (inl (f, t, s)) (inr (g, q)) = absurd (false_true (sym g ∙ f))
+  one_class manner classes c text other status next (inr (f, p)) (inl (g, u, v)) = absurd (false_true (sym f ∙ g))
+  one_class manner classes c text other status next (inr (f, (rs, p, t, s))) (inr (g, (qs, q, u, v))) =
       let report = laws.one_report classes c rs qs p q in
-      let same = same_lines form rs qs report.all report.each in
+      let same = same_report manner c.file rs qs report.all report.each in
       (t ∙ same.0 ∙ sym u, s ∙ ap (λ b. if b then 1 else 0) same.1 ∙ sym v)
 
-  one_judged : (form : Form) (classes : List ClassFact) (c : JudgedClass) (text other : List ℕ) (status next : ℕ)
-      → HierarchySays form classes c text status → HierarchySays form classes c other next → (text ≡ other) × (status ≡ next)
-  one_judged form classes c text other status next (inl (f, m, p, t, s)) (inl (g, n, q, u, v)) =
+  one_judged : (manner : Manner) (classes : List ClassFact) (c : JudgedClass) (text other : List ℕ) (status next : ℕ)
+      → HierarchySays manner classes c text status → HierarchySays manner classes c other next → (text ≡ other) × (status ≡ next)
+  one_judged manner classes c text other status next (inl (f, m, p, t, s)) (inl (g, n, q, u, v)) =
       let same = laws.one_hierarchy_fault classes f g m n p q in
-      (t ∙ same_refusal form f g same.0 same.1 ∙ sym u, s ∙ sym v)
-  one_judged form classes c text other status next (inl (f, m, p, t, s)) (inr (h, q)) = absurd (laws.not_hierarchy classes f m p h)
-  one_judged form classes c text other status next (inr (h, p)) (inl (g, n, q, u, v)) = absurd (laws.not_hierarchy classes g n q h)
-  one_judged form classes c text other status next (inr (h, p)) (inr (k, q)) = one_class form classes c text other status next p q
+      (t ∙ same_told manner f g same.0 same.1 ∙ sym u, s ∙ sym v)
+  one_judged manner classes c text other status next (inl (f, m, p, t, s)) (inr (h, q)) = absurd (laws.not_hierarchy classes f m p h)
+  one_judged manner classes c text other status next (inr (h, p)) (inl (g, n, q, u, v)) = absurd (laws.not_hierarchy classes g n q h)
+  one_judged manner classes c text other status next (inr (h, p)) (inr (k, q)) = one_class manner classes c text other status next p q
 
-  one_known : (form : Form) (c : JudgedClass) (known : List Read) (text other : List ℕ) (status next : ℕ)
-      → KnownSays form c known text status → KnownSays form c known other next → (text ≡ other) × (status ≡ next)
-  one_known form c known text other status next (inl (i, r, p, t, s)) (inl (j, o, q, u, v)) =
-      let same = one_first known i j r o p q in (
-        t ∙ ap (λ n. known_refusal form (n + 1) r) same.0 ∙ ap (known_refusal form (j + 1)) same.1 ∙ sym u,
-        s ∙ ap refusal_status same.1 ∙ sym v,
+  one_known : (manner : Manner) (c : JudgedClass) (known : List Read) (text other : List ℕ) (status next : ℕ)
+      → KnownSays manner c known text status → KnownSays manner c known other next → (text ≡ other) × (status ≡ next)
+  one_known manner c known text other status next (inl (i, r, p, t, s)) (inl (j, o, q, u, v)) =
+      (same_known manner known i j r o p q text other t u, s ∙ ap refusal_status (one_first known i j r o p q).1 ∙ sym v)
+  one_known manner c known text other status next (inl (i, r, p, t, s)) (inr (ds, q, k)) = absurd (none_refused known ds i r q p)
+  one_known manner c known text other status next (inr (cs, p, h)) (inl (j, o, q, u, v)) = absurd (none_refused known cs j o p q)
+  one_known manner c known text other status next (inr (cs, p, h)) (inr (ds, q, k)) =
+      one_judged manner (map summary_of (c.file ∷ ds)) c text other status next
+      (subst (λ x. HierarchySays manner (map summary_of (c.file ∷ x)) c text status) (one_list known cs ds p q) h) k
+
+  pub one_verify : (manner : Manner) (profile : Profile) (read : Read) (known : List Read) (text other : List ℕ) (status next : ℕ)
+      → VerifySays manner profile read known text status → VerifySays manner profile read known other next → (text ≡ other) × (status ≡ next)
+  one_verify manner profile read known text other status next (inl (r, p, t, s)) (inl (o, q, u, v)) =
+      let same = one_refusal laws read r o p q in (
+        one_told manner read o (λ form. class_refusal form o) text other (subst (λ x. IsTold manner read x (λ form. class_refusal form x) text) same t) u,
+        s ∙ ap refusal_status same ∙ sym v,
       )
-  one_known form c known text other status next (inl (i, r, p, t, s)) (inr (ds, q, k)) = absurd (none_refused known ds i r q p)
-  one_known form c known text other status next (inr (cs, p, h)) (inl (j, o, q, u, v)) = absurd (none_refused known cs j o p q)
-  one_known form c known text other status next (inr (cs, p, h)) (inr (ds, q, k)) =
-      one_judged form (map summary_of (c.file ∷ ds)) c text other status next
-      (subst (λ x. HierarchySays form (map summary_of (c.file ∷ x)) c text status) (one_list known cs ds p q) h) k
-
-  pub one_verify : (form : Form) (profile : Profile) (read : Read) (known : List Read) (text other : List ℕ) (status next : ℕ)
-      → VerifySays form profile read known text status → VerifySays form profile read known other next → (text ≡ other) × (status ≡ next)
-  one_verify form profile read known text other status next (inl (r, p, t, s)) (inl (o, q, u, v)) =
-      let same = one_refusal laws read r o p q in
-      (t ∙ ap (class_refusal form) same ∙ sym u, s ∙ ap refusal_status same ∙ sym v)
-  one_verify form profile read known text other status next (inl (r, p, t, s)) (inr (d, q, l)) = absurd (not_refused laws read d r q p)
-  one_verify form profile read known text other status next (inr (c, p, k)) (inl (o, q, u, v)) = absurd (not_refused laws read c o p q)
-  one_verify form profile read known text other status next (inr (c, p, k)) (inr (d, q, l)) =
-      one_known form (judged profile c) known text other status next k (subst (λ x. KnownSays form (judged profile x) known other next) (one_formed laws read d c q p) l)
+  one_verify manner profile read known text other status next (inl (r, p, t, s)) (inr (d, q, l)) = absurd (not_refused laws read d r q p)
+  one_verify manner profile read known text other status next (inr (c, p, k)) (inl (o, q, u, v)) = absurd (not_refused laws read c o p q)
+  one_verify manner profile read known text other status next (inr (c, p, k)) (inr (d, q, l)) =
+      one_known manner (judged profile c) known text other status next k (subst (λ x. KnownSays manner (judged profile x) known other next) (one_formed laws read d c q p) l)

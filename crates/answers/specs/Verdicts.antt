@@ -25,8 +25,14 @@ use Rattle.printing.specs.Json.{Field, number, spelled, name, object_line}
 use Rattle.answers.specs.Texts.{refusal_text, refusal_fields, kind, answer}
 use Rattle.answers.specs.declared.command.Form.{Form}
 use Rattle.answers.specs.declared.command.Form.TheVariants.{Plain, Json}
+use Rattle.answers.specs.declared.manner.Manner.{Manner}
+use Rattle.answers.specs.declared.manner.Manner.TheVariants.{Told, Explained}
+use Rattle.answers.specs.Sentences.{sentence_line, file_fault_number}
+use Rattle.answers.specs.Explanations.{explanations}
+use Rattle.printing.specs.Parts.{part_lines}
 use Rattle.verify.specs.declared.files.FileFault.{FileFault}
-use Rattle.verify.specs.Files.{Read, IsFormed, IsRefused, AreFormed, IsFirstRefused}
+use Rattle.verify.specs.declared.files.FileFault.TheVariants.{Malformed}
+use Rattle.verify.specs.Files.{Read, IsDecoded, IsFormed, IsRefused, AreFormed, IsFirstRefused}
 use Rattle.answers.specs.Files.{refusal_status}
 
 -- ---- texts, in words or as objects of JSON
@@ -114,32 +120,61 @@ is_refusal (Refused at why) = true
 abbrev pub report_status : List MethodVerdict → ℕ
 report_status rs = if list_any (λ r. is_refusal r.verdict) rs then 1 else 0
 
+-- ---- in the manner of `verify`, or in that of `explain`, which has behind each refusal what its number says
+
+-- where a class breaks a rule: the part of it where that is
+abbrev pub IsPart : Read → FileFault → List ℕ → Type 0
+IsPart read (Malformed rule place) text = (c : Class) × IsDecoded read c × (text ≡ part_lines c place)
+IsPart read r text = text ≡ []
+
+-- of a file with this line that is refused
+abbrev pub IsExplained : Read → FileFault → List ℕ → List ℕ → Type 0
+IsExplained read r line text = (part : List ℕ) × IsPart read r part × (text ≡ line ++ (sentence_line (file_fault_number r) ++ part))
+
+-- of a file that is refused, and has a line in each form
+abbrev pub IsTold : Manner → Read → FileFault → (Form → List ℕ) → List ℕ → Type 0
+IsTold (Told form) read r line text = text ≡ line form
+IsTold Explained read r line text = IsExplained read r (line Plain) text
+
+abbrev pub hierarchy_told : Manner → HierarchyFault → List ℕ
+hierarchy_told (Told form) f = hierarchy_refusal form f
+hierarchy_told Explained f = hierarchy_refusal Plain f ++ sentence_line (number_of f)
+
+abbrev pub final_super_told : Manner → List ℕ
+final_super_told (Told form) = final_super_refusal form
+final_super_told Explained = final_super_refusal Plain ++ sentence_line 81
+
+-- the verdicts on the methods of a class; `explain` tells those that refuse
+abbrev pub report_told : Manner → Class → List MethodVerdict → List ℕ
+report_told (Told form) c rs = flat_map (verdict_line form) rs
+report_told Explained c rs = explanations (verdict_line Plain) c.constant_pool c.methods rs
+
 -- ---- what is said
 
 -- the verdicts on the methods of a class
-abbrev pub ReportSays : Form → List ClassFact → JudgedClass → List ℕ → ℕ → Type 0
-ReportSays form classes c text status = (rs : List MethodVerdict) × IsReport classes c rs × (text ≡ flat_map (verdict_line form) rs) × (status ≡ report_status rs)
+abbrev pub ReportSays : Manner → List ClassFact → JudgedClass → List ℕ → ℕ → Type 0
+ReportSays manner classes c text status = (rs : List MethodVerdict) × IsReport classes c rs × (text ≡ report_told manner c.file rs) × (status ≡ report_status rs)
 
 -- Of a class in a hierarchy: that its superclass is final, or the verdicts on its methods.
-abbrev pub ClassSays : Form → List ClassFact → JudgedClass → List ℕ → ℕ → Type 0
-ClassSays form classes c text status =
-    ((has_final_super classes (summary_of c.file) ≡ true) × (text ≡ final_super_refusal form) × (status ≡ 1))
-    ⊎ ((has_final_super classes (summary_of c.file) ≡ false) × ReportSays form classes c text status)
+abbrev pub ClassSays : Manner → List ClassFact → JudgedClass → List ℕ → ℕ → Type 0
+ClassSays manner classes c text status =
+    ((has_final_super classes (summary_of c.file) ≡ true) × (text ≡ final_super_told manner) × (status ≡ 1))
+    ⊎ ((has_final_super classes (summary_of c.file) ≡ false) × ReportSays manner classes c text status)
 
 -- Of a class and of the summaries of all: why they are no hierarchy, or what is said of the class in it.
-abbrev pub HierarchySays : Form → List ClassFact → JudgedClass → List ℕ → ℕ → Type 0
-HierarchySays form classes c text status =
-    ((f : HierarchyFault) × (f ≢ OutOfMemory) × FaultOf classes f × (text ≡ hierarchy_refusal form f) × (status ≡ 1))
-    ⊎ (IsHierarchy classes × ClassSays form classes c text status)
+abbrev pub HierarchySays : Manner → List ClassFact → JudgedClass → List ℕ → ℕ → Type 0
+HierarchySays manner classes c text status =
+    ((f : HierarchyFault) × (f ≢ OutOfMemory) × FaultOf classes f × (text ≡ hierarchy_told manner f) × (status ≡ 1))
+    ⊎ (IsHierarchy classes × ClassSays manner classes c text status)
 
 -- Of a class and the files of the known ones: the first of these that is refused, or what is said of all.
-abbrev pub KnownSays : Form → JudgedClass → List Read → List ℕ → ℕ → Type 0
-KnownSays form c known text status =
-    ((i : ℕ) × (r : FileFault) × IsFirstRefused known i r × (text ≡ known_refusal form (i + 1) r) × (status ≡ refusal_status r))
-    ⊎ ((cs : List Class) × AreFormed known cs × HierarchySays form (map summary_of (c.file ∷ cs)) c text status)
+abbrev pub KnownSays : Manner → JudgedClass → List Read → List ℕ → ℕ → Type 0
+KnownSays manner c known text status =
+    ((i : ℕ) × (r : FileFault) × (first : IsFirstRefused known i r) × IsTold manner first.read r (λ form. known_refusal form (i + 1) r) text × (status ≡ refusal_status r))
+    ⊎ ((cs : List Class) × AreFormed known cs × HierarchySays manner (map summary_of (c.file ∷ cs)) c text status)
 
 -- by a profile
-abbrev pub VerifySays : Form → Profile → Read → List Read → List ℕ → ℕ → Type 0
-VerifySays form profile read known text status =
-    ((r : FileFault) × IsRefused read r × (text ≡ class_refusal form r) × (status ≡ refusal_status r))
-    ⊎ ((c : Class) × IsFormed read c × KnownSays form (judged profile c) known text status)
+abbrev pub VerifySays : Manner → Profile → Read → List Read → List ℕ → ℕ → Type 0
+VerifySays manner profile read known text status =
+    ((r : FileFault) × IsRefused read r × IsTold manner read r (λ form. class_refusal form r) text × (status ≡ refusal_status r))
+    ⊎ ((c : Class) × IsFormed read c × KnownSays manner (judged profile c) known text status)

@@ -7,6 +7,7 @@ ghost use Rattle.answers.specs.declared.fault.AnswerFault.TheVariants.{OutOfMemo
 use crate::checking::check;
 use crate::command::Command;
 use crate::fault::AnswerFault;
+use crate::manner::Manner;
 use crate::playing::play;
 use crate::showing::show;
 use crate::verifying::verify;
@@ -39,9 +40,14 @@ pub fn answer<W: Write, S: BuildHasher + Drop>(
         [read, known @ ..] => match command {
             Command::Check(form) => check(alloc, form, read, out),
             Command::Show => show(alloc, read, out),
-            Command::Verify(form, profile) => verify(
-                alloc, form, profile, read, known, hasher, out,
-            ),
+            Command::Verify(form, profile) => {
+                let manner = Manner::Told(form);
+                verify(alloc, manner, profile, read, known, hasher, out)
+            }
+            Command::Explain(profile) => {
+                let manner = Manner::Explained;
+                verify(alloc, manner, profile, read, known, hasher, out)
+            }
             Command::Play(profile) => play(alloc, profile, reads, hasher, out),
             Command::VerifyEach { profile, classes } => verify_each(
                 alloc, profile, classes, reads, hasher, out,

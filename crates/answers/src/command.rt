@@ -20,6 +20,9 @@ pub enum Command {
     /// `verify CLASS KNOWN...`: the verdicts on the methods of the class in the first file, which may refer to the classes
     /// in the others; with `--dynamic` by [`Profile::Dynamic`].
     Verify(Form, Profile),
+    /// `explain CLASS KNOWN...`: the methods that `verify` refuses, and of each what its number says and what stands there; with
+    /// `--dynamic` by [`Profile::Dynamic`].
+    Explain(Profile),
     /// `play CLASS...`: whether the classes in the files may run together, each method that has code verified; with `--dynamic` by
     /// [`Profile::Dynamic`].
     Play(Profile),

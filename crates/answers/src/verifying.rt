@@ -1,37 +1,112 @@
-//! The command `verify`: the verdicts on the methods of a class.
-ghost use Rattle.std.specs.Prelude.{◌≡◌, List, Err, map};
+//! The commands `verify` and `explain`: the verdicts on the methods of a class.
+ghost use Rattle.std.specs.Prelude.{◌≡◌, Err, IfOk, IfErr, length, map};
+ghost use Rattle.classfile.specs.Values.{Class};
+ghost use Rattle.classfile.specs.Views.{class_view};
 ghost use Rattle.classfile.specs.declared.profile.Profile.{Profile as ProfileFact};
-ghost use Rattle.verify.specs.Files.{Read};
+ghost use Rattle.verify.specs.Files.{IsDecoded, IsFormed};
 ghost use Rattle.verify.specs.Among.{ReportsAmong};
-ghost use Rattle.answers.specs.Files.{read_view};
+ghost use Rattle.answers.specs.Files.{read_view, refusal_status, CountsKnown};
 ghost use Rattle.answers.specs.Answers.{Answered};
-ghost use Rattle.answers.specs.Verdicts.{VerifySays};
+ghost use Rattle.answers.specs.Verdicts.{VerifySays, class_refusal, known_refusal, IsExplained, IsTold, report_told, report_status};
+ghost use Rattle.answers.specs.declared.fault.AnswerFault.TheVariants.{OutOfMemory};
+ghost use Rattle.answers.specs.declared.manner.Manner.TheVariants.{Explained};
 
 use crate::command::Form;
+use crate::explaining::Explanations;
 use crate::fault::AnswerFault;
+use crate::manner::Manner;
 use crate::reads::{file_read, file_reads};
 use crate::refusal::Refusal;
+use crate::refusing::{FinalSuperTold, HierarchyTold};
+use crate::sentences::FileSentence;
 use crate::telling::tell;
-use crate::verdicts::{ClassRefusal, FinalSuper, HierarchyRefusal, KnownRefusal, ReportText};
-use classfile::Profile;
+use crate::verdicts::{ClassRefusal, KnownRefusal, ReportText};
+use classfile::{ClassFile, Profile, decode, one_class};
 use layout::StreamFault;
+use printing::{PartLines, Print, Then, Word};
 use std::alloc::Global;
 use std::hash::BuildHasher;
 use std::io::Write;
-use verify::{AmongFault, verify_among_under};
+use verify::{AmongFault, FileFault, MethodVerdict, class_file, verify_among_under};
 
-/// Writes why there are no verdicts.
-fn refuse<W: Write>(form: Form, fault: AmongFault<'_>, out: &mut W) -> Result<u8, AnswerFault>
-    ensures { (profile : ProfileFact) (read : Read) (known : List Read) → ReportsAmong profile read known (Err fault.entry) → Answered (VerifySays form profile read known) (W.contents out.old) (W.contents out.new) result }
+/// The class that a file is, which was read so; 1 where memory runs out. The file is a class.
+fn file_class<'a>(
+    alloc: Global,
+    read: &'a Result<Vec<u8>, StreamFault>,
+) -> Result<ClassFile<'a>, AnswerFault>
+    ensures class { IfOk result (λ c. IsDecoded (read_view read.now) (class_view c)) }
+    ensures memory { IfErr result (λ e. e ≡ OutOfMemory) }
 {
+    match read {
+        Ok(bytes) => match decode(alloc, bytes) {
+            Ok(class) => Ok(class),
+            Err(_) => Err(AnswerFault::OutOfMemory),
+        },
+        Err(_) => Err(AnswerFault::OutOfMemory),
+    }
+}
+
+/// Writes the line of a file that is refused, which was read so, and explains it.
+fn explain_file<T: Print + Copy, W: Write>(
+    alloc: Global,
+    line: T,
+    read: &Result<Vec<u8>, StreamFault>,
+    fault: FileFault,
+    out: &mut W,
+) -> Result<u8, AnswerFault>
+    ensures { Answered (λ t s. IsExplained (read_view read.now) fault (T.text line) t × (s ≡ refusal_status fault)) (W.contents out.old) (W.contents out.new) result }
+{
+    let sentence = FileSentence(fault);
     match fault {
-        AmongFault::OutOfMemory => Err(AnswerFault::OutOfMemory),
-        AmongFault::Refused(fault) => {
-            let refusal = Refusal(fault);
-            tell(&ClassRefusal { form, refusal }, refusal.status(), out)
+        FileFault::Malformed { place, .. } => match file_class(alloc, read) {
+            Ok(class) => {
+                let class = &class;
+                let part = PartLines { class, place };
+                tell(&Then(line, Then(sentence, part)), 1, out)
+            }
+            Err(fault) => Err(fault),
+        },
+        FileFault::OutOfMemory | FileFault::Unread(_) | FileFault::NoClass(_) => {
+            let text = Then(line, Then(sentence, Word("")));
+            tell(&text, Refusal(fault).status(), out)
         }
-        AmongFault::KnownRefused { number, fault } => {
-            let refusal = Refusal(fault);
+    }
+}
+
+/// Writes why the class that is to be verified is refused, whose file was read so.
+fn refuse_class<W: Write>(
+    alloc: Global,
+    manner: Manner,
+    read: &Result<Vec<u8>, StreamFault>,
+    fault: FileFault,
+    out: &mut W,
+) -> Result<u8, AnswerFault>
+    ensures { Answered (λ t s. IsTold manner (read_view read.now) fault (λ form. class_refusal form fault) t × (s ≡ refusal_status fault)) (W.contents out.old) (W.contents out.new) result }
+{
+    let refusal = Refusal(fault);
+    match manner {
+        Manner::Told(form) => tell(&ClassRefusal { form, refusal }, refusal.status(), out),
+        Manner::Explained => {
+            let form = Form::Plain;
+            explain_file(alloc, ClassRefusal { form, refusal }, read, fault, out)
+        }
+    }
+}
+
+/// Writes why the known class of this number is refused, whose file was read so.
+fn refuse_known<W: Write>(
+    alloc: Global,
+    manner: Manner,
+    number: usize,
+    read: &Result<Vec<u8>, StreamFault>,
+    fault: FileFault,
+    out: &mut W,
+) -> Result<u8, AnswerFault>
+    ensures { Answered (λ t s. IsTold manner (read_view read.now) fault (λ form. known_refusal form number fault) t × (s ≡ refusal_status fault)) (W.contents out.old) (W.contents out.new) result }
+{
+    let refusal = Refusal(fault);
+    match manner {
+        Manner::Told(form) => {
             let line = KnownRefusal {
                 form,
                 number,
@@ -39,35 +114,110 @@ fn refuse<W: Write>(form: Form, fault: AmongFault<'_>, out: &mut W) -> Result<u8
             };
             tell(&line, refusal.status(), out)
         }
-        AmongFault::NoHierarchy(fault) => tell(&HierarchyRefusal { form, fault }, 1, out),
-        AmongFault::FinalSuper => tell(&FinalSuper(form), 1, out),
+        Manner::Explained => {
+            let line = KnownRefusal {
+                form: Form::Plain,
+                number,
+                refusal,
+            };
+            explain_file(alloc, line, read, fault, out)
+        }
     }
 }
 
-/// Answers `verify` of the file of a class and of the files of the classes that it may refer to, which were read so, by a profile.
+/// Writes why there are no verdicts, of the class in the first file and of those in the known files, which were read so.
+fn refuse<W: Write>(
+    alloc: Global,
+    manner: Manner,
+    read: &Result<Vec<u8>, StreamFault>,
+    known: &[Result<Vec<u8>, StreamFault>],
+    fault: AmongFault<'_>,
+    out: &mut W,
+) -> Result<u8, AnswerFault>
+    requires { CountsKnown fault.entry (length known.now) }
+    ensures { (profile : ProfileFact) → ReportsAmong profile (read_view read.now) (map read_view known.now) (Err fault.entry) → Answered (VerifySays manner profile (read_view read.now) (map read_view known.now)) (W.contents out.old) (W.contents out.new) result }
+{
+    match fault {
+        AmongFault::OutOfMemory => Err(AnswerFault::OutOfMemory),
+        AmongFault::Refused(fault) => refuse_class(alloc, manner, read, fault, out),
+        AmongFault::KnownRefused { number, fault } => {
+            let read = &known[number - 1];
+            refuse_known(alloc, manner, number, read, fault, out)
+        }
+        AmongFault::NoHierarchy(fault) => tell(&HierarchyTold { manner, fault }, 1, out),
+        AmongFault::FinalSuper => tell(&FinalSuperTold(manner), 1, out),
+    }
+}
+
+/// Writes the explanations of the methods of a class, whose file was read so.
+fn explain<'a, W: Write>(
+    alloc: Global,
+    read: &'a Result<Vec<u8>, StreamFault>,
+    methods: &[MethodVerdict<'a>],
+    status: u8,
+    out: &mut W,
+) -> Result<u8, AnswerFault>
+    ensures { (c : Class) → IsFormed (read_view read.now) c
+        → Answered (λ t s. (t ≡ report_told Explained c methods.now) × (s ≡ status)) (W.contents out.old) (W.contents out.new) result }
+{
+    one_class();
+    match class_file(alloc, file_read(read)) {
+        Ok(class) => {
+            let explanations = Explanations {
+                pool: &class.constant_pool,
+                members: &class.methods,
+                methods,
+            };
+            tell(&explanations, status, out)
+        }
+        // The file is a class that is well formed, so nothing but memory is wanting.
+        Err(_) => Err(AnswerFault::OutOfMemory),
+    }
+}
+
+/// Writes the verdicts on the methods of a class, whose file was read so.
+fn report<'a, W: Write>(
+    alloc: Global,
+    manner: Manner,
+    read: &'a Result<Vec<u8>, StreamFault>,
+    methods: &[MethodVerdict<'a>],
+    out: &mut W,
+) -> Result<u8, AnswerFault>
+    ensures { (c : Class) → IsFormed (read_view read.now) c
+        → Answered (λ t s. (t ≡ report_told manner c methods.now) × (s ≡ report_status methods.now)) (W.contents out.old) (W.contents out.new) result }
+{
+    match manner {
+        Manner::Told(form) => {
+            let text = ReportText { form, methods };
+            tell(&text, text.status(), out)
+        }
+        Manner::Explained => {
+            let form = Form::Plain;
+            let status = ReportText { form, methods }.status();
+            explain(alloc, read, methods, status, out)
+        }
+    }
+}
+
+/// Answers `verify`, or `explain`, of the file of a class and of the files of the classes that it may refer to, which were read so, by a
+/// profile.
 pub fn verify<'a, S: BuildHasher + Drop, W: Write>(
     alloc: Global,
-    form: Form,
+    manner: Manner,
     profile: Profile,
     read: &'a Result<Vec<u8>, StreamFault>,
     known: &'a [Result<Vec<u8>, StreamFault>],
     hasher: S,
     out: &mut W,
 ) -> Result<u8, AnswerFault>
-    ensures { Answered (VerifySays form profile (read_view read.now) (map read_view known.now)) (W.contents out.old) (W.contents out.new) result }
+    ensures { Answered (VerifySays manner profile (read_view read.now) (map read_view known.now)) (W.contents out.old) (W.contents out.new) result }
 {
     let files = match file_reads(alloc, known) {
         Ok(files) => files,
         Err(fault) => return Err(fault),
     };
     match verify_among_under(alloc, profile, file_read(read), &files, hasher) {
-        Ok(report) => {
-            let text = ReportText {
-                form,
-                methods: &report.methods,
-            };
-            tell(&text, text.status(), out)
-        }
-        Err(fault) => refuse(form, fault, out),
+        Ok(found) => report(alloc, manner, read, &found.methods, out),
+        Err(fault) => refuse(alloc, manner, read, known, fault, out),
     }
 }

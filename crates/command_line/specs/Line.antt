@@ -9,7 +9,7 @@ use Rattle.clap.specs.Words.{App, Row, Rule, Shape, Text, all_of, new_app, new_r
 use Rattle.classfile.specs.declared.profile.Profile.{Profile}
 use Rattle.classfile.specs.declared.profile.Profile.TheVariants.{Default, Dynamic}
 use Rattle.answers.specs.declared.command.Command.{Command}
-use Rattle.answers.specs.declared.command.Command.TheVariants.{Check, Show, Verify, Play, VerifyEach}
+use Rattle.answers.specs.declared.command.Command.TheVariants.{Check, Show, Verify, Explain, Play, VerifyEach}
 use Rattle.answers.specs.declared.command.Form.{Form}
 use Rattle.answers.specs.declared.command.Form.TheVariants.{Plain, Json}
 use Rattle.command_line.specs.declared.line.Request.{Request}
@@ -44,6 +44,10 @@ dynamic = record (new_rule (codes "dynamic")) { long = Some (codes "dynamic"); a
 abbrev pub verify : Shape
 verify = (with_rule (with_rule (with_rule (with_rule (new_app (codes "verify")) class_file) known_files) dynamic) json).top
 
+-- `explain` takes the same files
+abbrev pub explain : Shape
+explain = (with_rule (with_rule (with_rule (new_app (codes "explain")) class_file) known_files) dynamic).top
+
 -- the files of the classes that are in play, of which there is one at least
 abbrev pub class_files : Rule
 class_files = record (new_rule (codes "CLASS")) { required = true; range = Some (record { start_inclusive = 1; end_inclusive = usize_max }) }
@@ -66,9 +70,9 @@ program = record (new_app (codes "classck")) { top = record (new_app (codes "cla
 abbrev pub line_of_file : App
 line_of_file = with_subcommand (with_subcommand program check) show
 
--- the command of a class and known ones behind them
+-- the commands of a class and known ones behind them
 abbrev pub line_with_known : App
-line_with_known = with_subcommand line_of_file verify
+line_with_known = with_subcommand (with_subcommand line_of_file verify) explain
 
 -- and that of classes in play
 abbrev pub line_with_play : App
@@ -86,6 +90,7 @@ abbrev pub files_in : Command → List Row → List Text
 files_in (Check form) rows = words_for (codes "FILE") rows
 files_in Show rows = words_for (codes "FILE") rows
 files_in (Verify form profile) rows = words_for (codes "CLASS") rows ++ words_for (codes "KNOWN") rows
+files_in (Explain profile) rows = words_for (codes "CLASS") rows ++ words_for (codes "KNOWN") rows
 files_in (Play profile) rows = words_for (codes "CLASS") rows
 files_in (VerifyEach profile classes) rows = words_for (codes "CLASS") rows ++ words_for (codes "KNOWN") rows
 
@@ -105,6 +110,7 @@ abbrev pub command_named : Text → List Row → Command
 command_named name rows =
     if bytes_eq name (codes "show") then Show
     else if bytes_eq name (codes "verify") then Verify (form_in rows) (profile_in rows)
+    else if bytes_eq name (codes "explain") then Explain (profile_in rows)
     else if bytes_eq name (codes "play") then Play (profile_in rows)
     else if bytes_eq name (codes "verify-each") then VerifyEach (profile_in rows) (length (words_for (codes "CLASS") rows))
     else Check (form_in rows)

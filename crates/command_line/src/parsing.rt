@@ -53,6 +53,18 @@ Each method is `verified`, has `no code`, or is `refused NUMBER at OFFSET`, the 
 `missing NAME`: give the file of that class as well; examples/judge does so by itself. A method with invokedynamic is refused 60 but with
 --dynamic. docs/REFUSALS.md explains the numbers 40 to 81.";
 
+/// The end of the help on `explain`.
+const EXPLAIN_EXAMPLE: &str = "Example:
+  $ classck explain Bad.class java.lang.Object.class
+  method mean (II)I refused 62 at 2
+    62 WrongOperand: an operand is of another type than the instruction takes
+    stack 2 locals 2
+    2 ladd
+
+Each method that is refused has its line as by `verify`, a line that says what its number means, and of its code, as by `show`, the sizes,
+the instruction at the offset and, for 72, 73 and 75, the exception table. Behind 78 and 79 the fault is explained too. Where the files
+themselves are refused, the line of `verify` is followed by what its number means.";
+
 /// The end of the help on `play`.
 const PLAY_EXAMPLE: &str = "Example:
   $ classck play Sums.class java.lang.Object.class
@@ -153,12 +165,12 @@ fn dynamic<'a>(alloc: Global) -> Arg<'a>
         .help("Judges invokedynamic and dynamic constants as well, which are refused 60 otherwise")
 }
 
-/// A command that takes the file of a class and those of known ones.
-fn class_and_known<'a>(alloc: Global) -> Result<Parser<'a>, AllocError>
-    ensures app { IfOk result (λ c. app_of c ≡ with_rule (with_rule (new_app (codes "verify")) class_file) known_files) }
+/// A command of this name that takes the file of a class and those of known ones.
+fn class_and_known<'a>(alloc: Global, name: &'a str) -> Result<Parser<'a>, AllocError>
+    ensures app { IfOk result (λ c. app_of c ≡ with_rule (with_rule (new_app name.now) class_file) known_files) }
     ensures local { IfOk result (λ c. (out-Command c).has_globals ≡ false) }
 {
-    Parser::new(alloc, "verify")
+    Parser::new(alloc, name)
         .arg(class_file(alloc))?
         .arg(known_files(alloc))
 }
@@ -168,13 +180,26 @@ fn verify<'a>(alloc: Global) -> Result<Parser<'a>, AllocError>
     ensures app { IfOk result (λ c. app_of c ≡ with_rule (with_rule (with_rule (with_rule (new_app (codes "verify")) class_file) known_files) dynamic) json) }
     ensures local { IfOk result (λ c. (out-Command c).has_globals ≡ false) }
 {
-    let command = class_and_known(alloc)?
+    let command = class_and_known(alloc, "verify")?
         .arg(dynamic(alloc))?
         .arg(json(alloc))?;
     Ok(
         command
             .about("Prints the verdict on each method of a class")
             .after_help(VERIFY_EXAMPLE),
+    )
+}
+
+/// `explain --dynamic CLASS KNOWN...`
+fn explain<'a>(alloc: Global) -> Result<Parser<'a>, AllocError>
+    ensures app { IfOk result (λ c. app_of c ≡ with_rule (with_rule (with_rule (new_app (codes "explain")) class_file) known_files) dynamic) }
+    ensures local { IfOk result (λ c. (out-Command c).has_globals ≡ false) }
+{
+    let command = class_and_known(alloc, "explain")?.arg(dynamic(alloc))?;
+    Ok(
+        command
+            .about("Prints each method of a class that is refused, and why")
+            .after_help(EXPLAIN_EXAMPLE),
     )
 }
 
@@ -257,11 +282,13 @@ fn commands_of_files<'a>(alloc: Global) -> Result<Parser<'a>, AllocError>
         .subcommand(show(alloc)?)
 }
 
-/// The command lines of one file, and that of a class and known ones.
+/// The command lines of one file, and those of a class and known ones.
 fn with_known<'a>(alloc: Global) -> Result<Parser<'a>, AllocError>
     ensures { IfOk result (λ c. app_of c ≡ line_with_known) }
 {
-    commands_of_files(alloc)?.subcommand(verify(alloc)?)
+    commands_of_files(alloc)?
+        .subcommand(verify(alloc)?)?
+        .subcommand(explain(alloc)?)
 }
 
 /// These command lines, and that of classes in play.
@@ -311,7 +338,7 @@ fn files(alloc: Global, command: Command, found: &ArgMatches<'_>) -> Result<Vec<
     let mut files = Vec::new(alloc);
     match command {
         Command::Check(_) | Command::Show => add_words(alloc, found, "FILE", &mut files)?,
-        Command::Verify(..) | Command::VerifyEach { .. } => {
+        Command::Verify(..) | Command::Explain(_) | Command::VerifyEach { .. } => {
             add_words(alloc, found, "CLASS", &mut files)?;
             add_words(alloc, found, "KNOWN", &mut files)?;
         }
@@ -381,6 +408,8 @@ fn command_named(name: &str, found: &ArgMatches<'_>) -> Command
         Command::Show
     } else if name == "verify" {
         Command::Verify(form(found), profile(found))
+    } else if name == "explain" {
+        Command::Explain(profile(found))
     } else if name == "play" {
         Command::Play(profile(found))
     } else if name == "verify-each" {

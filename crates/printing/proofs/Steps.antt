@@ -1,9 +1,11 @@
 -- Code that is gone through instruction by instruction.
-use Rattle.std.proofs.Common.{◌≡◌, ℕ, List, [], ◌∷◌, ◌∙◌, Some, None, Result, Ok, Err, refl, sym, ap, subst}
+use Rattle.std.proofs.Common.{◌≡◌, ℕ, List, [], ◌∷◌, ◌∙◌, Some, None, Result, Ok, Err, refl, sym, ap, subst, arith}
+use Rattle.std.proofs.lemmas.Bool.Decides.{nat_tests}
 use Rattle.layout.specs.Place.{Place}
 use Rattle.insn.specs.declared.fault.CodeFault.{CodeFault}
 use Rattle.insn.specs.Instructions.{Instruction}
 use Rattle.insn.specs.Code.{StepsThrough}
+use Rattle.insn.specs.Offsets.{at_offset}
 use Rattle.insn.specs.Readings.{Reading, behind}
 use Rattle.insn.proofs.Readings.{reading_at, step_reads, stop_reads, end_reads}
 use Rattle.printing.specs.Classes.{fault_of}
@@ -51,3 +53,11 @@ is_list (Err f) e = absurd cc
 pub is_fault : (r : Reading) (e : CodeFault) → fault_of r ≡ Some e → r ≡ Err e
 is_fault (Ok xs) e f = absurd cc
 is_fault (Err d) e f = let same : d ≡ e = cc in ap Err same
+
+-- ---- the instruction at an offset
+
+pub here_found : (x : ℕ × Instruction) (xs : List (ℕ × Instruction)) (at : ℕ) → x.0 ≡ at → at_offset (x ∷ xs) at ≡ Some x.1
+here_found x xs at e = grind (arith, nat_tests, e)
+
+pub here_passed : (x : ℕ × Instruction) (xs : List (ℕ × Instruction)) (at : ℕ) → (x.0 ≡ at → ⊥) → at_offset (x ∷ xs) at ≡ at_offset xs at
+here_passed x xs at other = grind (arith, nat_tests, other)

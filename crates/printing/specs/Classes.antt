@@ -1,15 +1,18 @@
 -- The lines of a class file: its parts in the order of the file, and of each method with code the lines of its code.
 use Rattle.std.specs.Prelude.{ℕ, Bool, false, is_some, nat_eq, if◌then◌else◌, List, [], ◌++◌, codes, decimal, Option, Some, None, Ok, Err}
 use Rattle.std.specs.List.{flat_map, list_any}
+use Rattle.std.specs.Option.{option_map_or}
 use Rattle.pool.specs.Entries.{Entry}
 use Rattle.classfile.specs.ClassAttributes.{components_of, permitted_of}
 use Rattle.classfile.specs.Values.{Handler, CodeBody, Member, Component, ClassAttribute, Class}
 use Rattle.classfile.specs.Methods.{code_of}
 use Rattle.insn.specs.declared.fault.CodeFault.{CodeFault}
+use Rattle.insn.specs.Offsets.{at_offset}
 use Rattle.insn.specs.Readings.{Reading, reading_of}
 use Rattle.printing.specs.Faults.{code_fault_text}
 use Rattle.printing.specs.Names.{hexadecimal, constant_text, class_text}
 use Rattle.printing.specs.Instructions.{instruction_line}
+use Rattle.printing.specs.Constants.{named_line}
 
 -- ---- code
 
@@ -20,6 +23,16 @@ sizes_line body = codes "  stack " ++ (decimal body.max_stack ++ (codes " locals
 abbrev pub reading_lines : Reading → List ℕ
 reading_lines (Ok instructions) = flat_map instruction_line instructions
 reading_lines (Err fault) = codes "  code refused " ++ (code_fault_text fault ++ codes "\n")
+
+-- the line of the instruction that begins at this offset, if one does and the code is not refused
+abbrev pub line_at : Reading → ℕ → List ℕ
+line_at (Ok instructions) at = option_map_or (λ instruction. instruction_line (at, instruction)) (at_offset instructions at) []
+line_at (Err fault) at = []
+
+-- the line of the constant that it names, if it names one
+abbrev pub named_at : List Entry → Reading → ℕ → List ℕ
+named_at pool (Ok instructions) at = option_map_or (named_line pool) (at_offset instructions at) []
+named_at pool (Err fault) at = []
 
 -- 0 stands for all classes
 abbrev pub caught_text : List Entry → ℕ → List ℕ

@@ -5,3 +5,5 @@ pub mod Instructions
 pub mod Classes
 pub mod Json
 pub mod FaultFields
+pub mod Constants
+pub mod Parts

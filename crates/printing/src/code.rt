@@ -1,18 +1,23 @@
 //! The lines of a method's code (JVMS 4.7.3).
-ghost use Rattle.std.specs.Prelude.{◌≡◌, ℕ, List, Ok, map};
+ghost use Rattle.std.specs.Prelude.{◌≡◌, ℕ, List, [], Ok, map, option_map};
+ghost use Rattle.std.specs.Option.{option_map_or};
 ghost use Rattle.std.specs.List.{flat_map};
 ghost use Rattle.insn.specs.Instructions.{Instruction};
+ghost use Rattle.insn.specs.Offsets.{at_offset};
 ghost use Rattle.insn.specs.Readings.{reading_of};
+ghost use Rattle.insn.specs.Views.{view};
 ghost use Rattle.classfile.specs.Views.{handler_view, code_view};
 ghost use Rattle.printing.specs.Writing.{Writes};
-ghost use Rattle.printing.specs.Classes.{reading_lines, fault_of, caught_text, range_text, catch_line, code_lines};
+ghost use Rattle.printing.specs.Classes.{sizes_line, reading_lines, line_at, named_at, fault_of, caught_text, range_text, catch_line, code_lines};
 ghost use Rattle.printing.specs.Instructions.{instruction_line};
+ghost use Rattle.printing.specs.Constants.{named_line};
 
+use crate::constants::{ConstantLine, index_in};
 use crate::instruction::Located;
 use crate::name::ClassName;
 use crate::print::{Lines, Number, Print, Then, Word, WriteFailed, put_lines};
 use classfile::{CodeAttr, ExceptionHandler};
-use insn::{CodeFault, Instructions};
+use insn::{CodeFault, Insn, Instructions};
 use pool::Pool;
 use std::io::Write;
 
@@ -60,6 +65,98 @@ impl<'a> Print for Instructed<'a> {
     }
 }
 
+/// The instruction that begins at an offset of code that is not refused. Takes no memory.
+fn found_at(code: &[u8], at: usize) -> Option<Insn<'_>>
+    ensures { (xs : List (ℕ × Instruction)) → reading_of code.now ≡ Ok xs → option_map view result ≡ at_offset xs at }
+{
+    for step in Instructions::new(code) {
+        match step {
+            Ok((here, insn)) => {
+                if here == at {
+                    return Some(insn);
+                }
+            }
+            Err(_) => return None,
+        }
+    }
+    None
+}
+
+/// Writes the line of an instruction that was found at an offset, if one was.
+fn put_found<W: Write>(out: &mut W, at: usize, found: Option<Insn<'_>>) -> Result<(), WriteFailed>
+    ensures { Writes (W.contents out.old) (W.contents out.new) (option_map_or (λ i. instruction_line (at, view i)) found.entry []) result }
+{
+    match found {
+        Some(insn) => Located { at, insn }.put(out),
+        None => Word("").put(out),
+    }
+}
+
+/// The line of the instruction that begins at an offset of code; nothing where none does, or where the code is refused.
+#[derive(Clone, Copy)]
+pub struct InstructionAt<'a> {
+    pub code: &'a [u8],
+    pub at: usize,
+}
+
+impl<'a> Print for InstructionAt<'a> {
+    ghost text = { λ t. line_at (reading_of t.code.now) t.at };
+
+    fn put<W: Write>(&self, out: &mut W) -> Result<(), WriteFailed> {
+        match code_fault(self.code) {
+            Some(_) => Word("").put(out),
+            None => put_found(out, self.at, found_at(self.code, self.at)),
+        }
+    }
+}
+
+/// Writes the line of the constant that an instruction names; nothing where it names none.
+fn put_constant<W: Write>(out: &mut W, pool: &Pool<'_>, insn: &Insn<'_>) -> Result<(), WriteFailed>
+    ensures { Writes (W.contents out.old) (W.contents out.new) (named_line pool.now (view insn.now)) result }
+{
+    match index_in(&insn.operands) {
+        Some(index) => {
+            let index = usize::from(index);
+            ConstantLine { pool, index }.put(out)
+        }
+        None => Word("").put(out),
+    }
+}
+
+/// Writes the line of the constant that an instruction names which was found, if one was.
+fn put_named<W: Write>(
+    out: &mut W,
+    pool: &Pool<'_>,
+    found: Option<Insn<'_>>,
+) -> Result<(), WriteFailed>
+    ensures { Writes (W.contents out.old) (W.contents out.new) (option_map_or (λ i. named_line pool.now (view i)) found.entry []) result }
+{
+    match found {
+        Some(insn) => put_constant(out, pool, &insn),
+        None => Word("").put(out),
+    }
+}
+
+/// The line of the constant that the instruction names which begins at an offset of code; nothing where it names none, where none begins
+/// there, or where the code is refused.
+#[derive(Clone, Copy)]
+pub struct NamedAt<'p, 'a> {
+    pub pool: &'p Pool<'a>,
+    pub code: &'a [u8],
+    pub at: usize,
+}
+
+impl<'p, 'a> Print for NamedAt<'p, 'a> {
+    ghost text = { λ t. named_at t.pool.now (reading_of t.code.now) t.at };
+
+    fn put<W: Write>(&self, out: &mut W) -> Result<(), WriteFailed> {
+        match code_fault(self.code) {
+            Some(_) => Word("").put(out),
+            None => put_named(out, self.pool, found_at(self.code, self.at)),
+        }
+    }
+}
+
 /// The class that an entry of an exception table catches, or `any`.
 #[derive(Clone, Copy)]
 struct Caught<'p, 'a>(ClassName<'p, 'a>);
@@ -100,9 +197,9 @@ impl Print for Range {
 
 /// An exception table, whose classes are in this pool.
 #[derive(Clone, Copy)]
-struct Handlers<'p, 'a> {
-    pool: &'p Pool<'a>,
-    table: &'p [ExceptionHandler],
+pub struct Handlers<'p, 'a> {
+    pub pool: &'p Pool<'a>,
+    pub table: &'p [ExceptionHandler],
 }
 
 impl<'p, 'a> Lines<ExceptionHandler> for Handlers<'p, 'a> {
@@ -129,6 +226,20 @@ impl<'p, 'a> Print for Handlers<'p, 'a> {
     }
 }
 
+/// The sizes of the stack and of the local variables of code.
+#[derive(Clone, Copy)]
+pub struct Sizes<'p, 'a>(pub &'p CodeAttr<'a>);
+
+impl<'p, 'a> Print for Sizes<'p, 'a> {
+    ghost text = { λ t. sizes_line (code_view t.0.now) };
+
+    fn put<W: Write>(&self, out: &mut W) -> Result<(), WriteFailed> {
+        let locals = Then(Number(self.0.max_locals), Word("\n"));
+        let stack = Then(Number(self.0.max_stack), Then(Word(" locals "), locals));
+        Then(Word("  stack "), stack).put(out)
+    }
+}
+
 /// The lines of a method's code, whose classes are in this pool.
 #[derive(Clone, Copy)]
 pub struct Code<'p, 'a> {
@@ -140,20 +251,10 @@ impl<'p, 'a> Print for Code<'p, 'a> {
     ghost text = { λ t. code_lines t.pool.now (code_view t.body.now) };
 
     fn put<W: Write>(&self, out: &mut W) -> Result<(), WriteFailed> {
-        let sizes = Then(
-            Word("  stack "),
-            Then(
-                Number(self.body.max_stack),
-                Then(
-                    Word(" locals "),
-                    Then(Number(self.body.max_locals), Word("\n")),
-                ),
-            ),
-        );
         let handlers = Handlers {
             pool: self.pool,
             table: &self.body.exception_table,
         };
-        Then(sizes, Then(Instructed(self.body.code), handlers)).put(out)
+        Then(Sizes(self.body), Then(Instructed(self.body.code), handlers)).put(out)
     }
 }

@@ -12,7 +12,7 @@ use std::io::Write;
 
 /// A number behind a blank.
 #[derive(Clone, Copy)]
-struct Value<I>(I);
+pub struct Value<I>(pub I);
 
 impl<I: Integer> Print for Value<I> {
     ghost text = { λ t. codes " " ++ I.text t.0 };
@@ -24,7 +24,7 @@ impl<I: Integer> Print for Value<I> {
 
 /// An index into the constant pool.
 #[derive(Clone, Copy)]
-struct Index(u16);
+pub struct Index(pub u16);
 
 impl Print for Index {
     ghost use Rattle.printing.specs.Instructions.{index_text};

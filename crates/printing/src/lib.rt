@@ -9,23 +9,28 @@
 //! - `faults`: why something is refused, and where; `fault_fields`: the same as fields of an object of JSON.
 //! - `json`: objects of JSON (RFC 8259), field by field.
 //! - `instruction`: the line of an instruction.
-//! - `code`: the lines of a method's code.
+//! - `code`: the lines of a method's code, and those of one instruction of it.
+//! - `constants`: the line of a constant; `parts`: the part of a class file at a place.
 //! - `class_attributes`: the lines of records and sealed classes.
 //! - `listing`: the lines of a class file.
 #![tactic(auto)]
 
 mod class_attributes;
 mod code;
+mod constants;
 mod fault_fields;
 mod faults;
 mod instruction;
 mod json;
 mod listing;
 mod name;
+mod parts;
 mod print;
 
+pub use code::{Handlers, InstructionAt, NamedAt, Sizes};
 pub use fault_fields::{FaultFields, PlaceFields};
 pub use json::{END, More, Object, Quoted, QuotedName, QuotedSpelled};
 pub use listing::Listing;
 pub use name::{ClassName, ConstantText, Hexadecimal, Name, Spelled};
+pub use parts::PartLines;
 pub use print::{Lines, Number, Print, Then, Word, WriteFailed, put_bytes, put_lines};

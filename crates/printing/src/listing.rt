@@ -16,10 +16,10 @@ use std::io::Write;
 
 /// The line of a field or a method, behind the word for it.
 #[derive(Clone, Copy)]
-struct MemberLine<'p, 'a> {
-    kind: &'static str,
-    pool: &'p Pool<'a>,
-    member: &'p Member<'a>,
+pub struct MemberLine<'p, 'a> {
+    pub kind: &'static str,
+    pub pool: &'p Pool<'a>,
+    pub member: &'p Member<'a>,
 }
 
 impl<'p, 'a> Print for MemberLine<'p, 'a> {
@@ -165,7 +165,7 @@ pub struct Listing<'c, 'a>(pub &'c ClassFile<'a>);
 
 /// The lines of the class itself.
 #[derive(Clone, Copy)]
-struct Head<'c, 'a>(&'c ClassFile<'a>);
+pub struct Head<'c, 'a>(pub &'c ClassFile<'a>);
 
 impl<'c, 'a> Print for Head<'c, 'a> {
     ghost text = { λ t. class_line (class_view t.0.now) };
@@ -209,7 +209,7 @@ impl<'c, 'a> Print for Superclass<'c, 'a> {
 
 /// The line of the superclass.
 #[derive(Clone, Copy)]
-struct Above<'c, 'a>(&'c ClassFile<'a>);
+pub struct Above<'c, 'a>(pub &'c ClassFile<'a>);
 
 impl<'c, 'a> Print for Above<'c, 'a> {
     ghost text = { λ t. super_line (class_view t.0.now) };

@@ -113,6 +113,24 @@ fn lines(rt: HostRuntime) {
             "O"
         )
     );
+    assert!(rt;
+        asks(
+            alloc,
+            &["classck", "explain", "K", "O"],
+            Command::Explain(Profile::Default),
+            2,
+            "O"
+        )
+    );
+    assert!(rt;
+        asks(
+            alloc,
+            &["classck", "explain", "--dynamic", "K"],
+            Command::Explain(Profile::Dynamic),
+            1,
+            "K"
+        )
+    );
     assert!(rt; misses(alloc, &["classck", "check"]));
     assert!(rt; misses(alloc, &["classck", "play"]));
 }

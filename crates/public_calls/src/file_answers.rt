@@ -123,6 +123,49 @@ fn a_writer_that_fails(rt: HostRuntime) -> Result<(), Fail> {
     Ok(())
 }
 
+/// K with another byte at this place, and `java/lang/Object`, as they were read.
+fn with_byte(alloc: Global, place: usize, byte: u8) -> Result<Vec<Read>, AllocError> {
+    let mut bytes = K.to_vec(alloc)?;
+    if place < bytes.len() {
+        bytes[place] = byte;
+    }
+    let mut reads = Vec::new(alloc);
+    reads.push(Ok(bytes))?;
+    reads.push(Ok(O.to_vec(alloc)?))?;
+    Ok(reads)
+}
+
+/// Whether `explain` answers this text with status 1, or so many bytes of it where the writer takes no more.
+fn is_explained(alloc: Global, reads: &[Read], left: usize, text: &[u8]) -> bool {
+    let mut out = Slow {
+        left,
+        taken: Vec::new(alloc),
+    };
+    let command = Command::Explain(Profile::Default);
+    let answered = match answer(alloc, command, reads, hasher(), &mut out) {
+        Ok(status) => left >= text.len() && status == 1,
+        Err(fault) => left < text.len() && matches!(fault, AnswerFault::WriteFailed),
+    };
+    answered && out.taken.as_slice() == &text[..left.min(text.len())]
+}
+
+/// A method whose code is one `nop`, and a class whose name is at an index past the constant pool.
+#[test]
+fn explanations_that_are_cut(rt: HostRuntime) -> Result<(), Fail> {
+    let falls =
+        b"method f ()V refused 71 at 0\n  71 FallsOff: the last instruction of the code goes on\n  stack 0 locals 0\n  0 nop\n";
+    let broken =
+        b"class refused 20 pool 1\n  20 BadIndex: an index is 0 where it may not be, past the constant pool, or the second one of a Long or Double\n  constant 1 Class #9\n";
+    let rows: [(usize, u8, &[u8]); 2] = [(90, 0, falls), (12, 9, broken)];
+    for (place, byte, text) in rows {
+        let reads = with_byte(rt.alloc(), place, byte)?;
+        for left in 0..180 {
+            assert!(rt; is_explained(rt.alloc(), &reads, left, text));
+        }
+    }
+    Ok(())
+}
+
 /// The status and the text of `check` for a file that was not read.
 fn unread(alloc: Global, why: ReadFault) -> Result<(Result<u8, AnswerFault>, Vec<u8>), AllocError> {
     let mut reads = Vec::new(alloc);
@@ -172,6 +215,25 @@ fn is_whole_or_memory(alloc: Global) -> bool {
         Ok(status) => status == 0 && out.taken == 3,
         Err(fault) => matches!(fault, AnswerFault::OutOfMemory) && out.taken == 0,
     }
+}
+
+/// Where memory runs out nothing is written, and otherwise the whole explanation of a file.
+fn is_explained_or_memory(alloc: Global, place: usize, byte: u8, size: usize) -> bool {
+    let Ok(reads) = with_byte(alloc, place, byte) else {
+        return true;
+    };
+    let mut out = Counted { taken: 0 };
+    let command = Command::Explain(Profile::Default);
+    match answer(alloc, command, &reads, hasher(), &mut out) {
+        Ok(status) => status == 1 && out.taken == size,
+        Err(fault) => matches!(fault, AnswerFault::OutOfMemory) && out.taken == 0,
+    }
+}
+
+#[test]
+fn memory_runs_out_for_an_explanation(rt: HostRuntime) {
+    assert!(rt; is_explained_or_memory(rt.alloc(), 90, 0, 112));
+    assert!(rt; is_explained_or_memory(rt.alloc(), 12, 9, 158));
 }
 
 #[test]

@@ -5,6 +5,7 @@ use Rattle.answers.specs.Plays.{PlaySays}
 use Rattle.answers.specs.Judgements.{EachSays}
 use Rattle.answers.specs.Answers.{Answered, Says}
 use Rattle.answers.specs.Files.{read_view}
+use Rattle.answers.specs.declared.manner.Manner.TheVariants.{Told, Explained}
 use Rattle.answers.proofs.answering.answer.Goals as goal
 
 first : {X Y : Type 0} (f : X → Y) (xs : List X) (d : X) → 1 ≤ length xs → map f xs ≡ f (slice_index_or xs 0 d) ∷ map f (drop 1 xs)
@@ -34,7 +35,17 @@ returns-in-Verify-clause-answered g c =
     let all : take (length reads - 1) (drop 1 reads) ≡ drop 1 reads = take_all (length reads - 1) (drop 1 reads) (omega (arith, length-drop 1 reads)) in
     rw (split read_view reads read c.in-len1-up.len_at_least c.read-item.is)
     (subst (λ command. Answered (Says command (read_view read ∷ map read_view (drop 1 reads))) (held c.args.out.now) (held c.verify.new.out) c.verify.result) (sym c.in-Verify.is)
-    (subst (λ known. Answered (VerifySays c.in-Verify.form c.in-Verify.profile (read_view read) (map read_view known)) (held c.args.out.now) (held c.verify.new.out) c.verify.result) all c.verify.ensures))
+    (subst (λ known. Answered (VerifySays (Told c.in-Verify.form) c.in-Verify.profile (read_view read) (map read_view known)) (held c.args.out.now) (held c.verify.new.out) c.verify.result) all c.verify.ensures))
+
+pub returns-in-Explain-clause-answered : goal.returns-in-Explain-clause-answered
+returns-in-Explain-clause-answered g c =
+    let held = g.W.Write.contents in
+    let reads = c.args.reads.now in
+    let read = c.read-item.result in
+    let all : take (length reads - 1) (drop 1 reads) ≡ drop 1 reads = take_all (length reads - 1) (drop 1 reads) (omega (arith, length-drop 1 reads)) in
+    rw (split read_view reads read c.in-len1-up.len_at_least c.read-item.is)
+    (subst (λ command. Answered (Says command (read_view read ∷ map read_view (drop 1 reads))) (held c.args.out.now) (held c.verify-in-Explain.new.out) c.verify-in-Explain.result) (sym c.in-Explain.is)
+    (subst (λ known. Answered (VerifySays Explained c.in-Explain.profile (read_view read) (map read_view known)) (held c.args.out.now) (held c.verify-in-Explain.new.out) c.verify-in-Explain.result) all c.verify-in-Explain.ensures))
 
 pub returns-in-Play-clause-answered : goal.returns-in-Play-clause-answered
 returns-in-Play-clause-answered g c =
@@ -67,6 +78,9 @@ returns-in-Show-clause-memory g c = search rules
 
 pub returns-in-Verify-clause-memory : goal.returns-in-Verify-clause-memory
 returns-in-Verify-clause-memory g c = search rules
+
+pub returns-in-Explain-clause-memory : goal.returns-in-Explain-clause-memory
+returns-in-Explain-clause-memory g c = search rules
 
 pub returns-in-Play-clause-memory : goal.returns-in-Play-clause-memory
 returns-in-Play-clause-memory g c = search rules

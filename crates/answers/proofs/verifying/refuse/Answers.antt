@@ -1,45 +1,59 @@
-use Rattle.std.proofs.Common.{◌≡◌, ◌∙◌, inl, inr, Err, ap, subst}
+use Rattle.std.proofs.Common.{◌≡◌, ◌∙◌, inl, inr, map, Err, ap, sym, subst}
 use Rattle.verify.specs.declared.among.AmongFault.TheVariants.{Refused, KnownRefused, NoHierarchy, FinalSuper}
 use Rattle.verify.specs.Among.{ReportsAmong}
-use Rattle.answers.specs.Verdicts.{class_refusal, known_refusal, hierarchy_refusal, final_super_refusal, VerifySays}
+use Rattle.answers.specs.Files.{read_view, refusal_status}
+use Rattle.answers.specs.Verdicts.{class_refusal, known_refusal, hierarchy_told, final_super_told, IsTold, VerifySays}
+use Rattle.answers.proofs.Refusing.{read_there}
 use Rattle.answers.proofs.Tellings.{answered_more}
 use Rattle.answers.proofs.verifying.refuse.Goals as goal
 
 pub returns-in-Refused : goal.returns-in-Refused
-returns-in-Refused g c = λ profile read known told.
+returns-in-Refused g c = λ profile told.
     let held = g.W.Write.contents in
+    let read = read_view c.args.read.now in
+    let known = map read_view c.args.known.now in
     let fault = c.in-Refused.fault in
     let why : ReportsAmong profile read known (Err (Refused fault)) = subst (λ e. ReportsAmong profile read known (Err e)) c.in-Refused.is told in
-    answered_more (λ t s. (t ≡ class_refusal c.args.form fault) × (s ≡ c.status.result)) (VerifySays c.args.form profile read known)
-    (λ text status p. inl (fault, why, p.0, p.1 ∙ c.status.ensures))
-    (held c.args.out.now) (held c.tell.new.out) c.tell.result c.tell.ensures
+    answered_more (λ t s. IsTold c.args.manner read fault (λ form. class_refusal form fault) t × (s ≡ refusal_status fault)) (VerifySays c.args.manner profile read known)
+    (λ text status p. inl (fault, why, p.0, p.1))
+    (held c.args.out.now) (held c.refuse_class.new.out) c.refuse_class.result c.refuse_class.ensures
 
 pub returns-in-KnownRefused : goal.returns-in-KnownRefused
-returns-in-KnownRefused g c = λ profile read known told.
+returns-in-KnownRefused g c = λ profile told.
     let held = g.W.Write.contents in
+    let read = read_view c.args.read.now in
+    let known = map read_view c.args.known.now in
     let number = c.in-KnownRefused.number in
     let fault = c.in-KnownRefused.fault in
     let why : ReportsAmong profile read known (Err (KnownRefused number fault)) = subst (λ e. ReportsAmong profile read known (Err e)) c.in-KnownRefused.is told in
     let (class, i, formed, counted, first) = why in
-    answered_more (λ t s. (t ≡ known_refusal c.args.form number fault) × (s ≡ c.status-in-KnownRefused.result)) (VerifySays c.args.form profile read known)
-    (λ text status p. inr (class, formed, inl (i, fault, first, p.0 ∙ ap (λ n. known_refusal c.args.form n fault) counted, p.1 ∙ c.status-in-KnownRefused.ensures)))
-    (held c.args.out.now) (held c.tell-in-KnownRefused.new.out) c.tell-in-KnownRefused.result c.tell-in-KnownRefused.ensures
+    let here = c.index-known-in-KnownRefused.result in
+    let same : read_view here.now ≡ first.read = ? in
+    answered_more (λ t s. IsTold c.args.manner (read_view here.now) fault (λ form. known_refusal form number fault) t × (s ≡ refusal_status fault)) (VerifySays c.args.manner profile read known)
+    (λ text status p. inr (class, formed, inl (i, fault, first,
+      subst (λ n. IsTold c.args.manner first.read fault (λ form. known_refusal form n fault) text) counted (subst (λ r. IsTold c.args.manner r fault (λ form. known_refusal form number fault) text) same p.0),
+      p.1)))
+    (held c.args.out.now) (held c.refuse_known.new.out) c.refuse_known.result c.refuse_known.ensures
 
 pub returns-in-NoHierarchy : goal.returns-in-NoHierarchy
-returns-in-NoHierarchy g c = λ profile read known told.
+returns-in-NoHierarchy g c = λ profile told.
     let held = g.W.Write.contents in
+    let read = read_view c.args.read.now in
+    let known = map read_view c.args.known.now in
     let fault = c.in-NoHierarchy.fault in
     let why : ReportsAmong profile read known (Err (NoHierarchy fault)) = subst (λ e. ReportsAmong profile read known (Err e)) c.in-NoHierarchy.is told in
     let (class, cs, formed, all, other, is) = why in
-    answered_more (λ t s. (t ≡ hierarchy_refusal c.args.form fault) × (s ≡ 1)) (VerifySays c.args.form profile read known)
+    answered_more (λ t s. (t ≡ hierarchy_told c.args.manner fault) × (s ≡ 1)) (VerifySays c.args.manner profile read known)
     (λ text status p. inr (class, formed, inr (cs, all, inl (fault, other, is, p.0, p.1))))
-    (held c.args.out.now) (held c.tell-in-NoHierarchy.new.out) c.tell-in-NoHierarchy.result c.tell-in-NoHierarchy.ensures
+    (held c.args.out.now) (held c.tell.new.out) c.tell.result c.tell.ensures
 
 pub returns-in-FinalSuper : goal.returns-in-FinalSuper
-returns-in-FinalSuper g c = λ profile read known told.
+returns-in-FinalSuper g c = λ profile told.
     let held = g.W.Write.contents in
+    let read = read_view c.args.read.now in
+    let known = map read_view c.args.known.now in
     let why : ReportsAmong profile read known (Err FinalSuper) = subst (λ e. ReportsAmong profile read known (Err e)) c.in-FinalSuper.is told in
     let (class, cs, formed, all, hierarchy, final) = why in
-    answered_more (λ t s. (t ≡ final_super_refusal c.args.form) × (s ≡ 1)) (VerifySays c.args.form profile read known)
+    answered_more (λ t s. (t ≡ final_super_told c.args.manner) × (s ≡ 1)) (VerifySays c.args.manner profile read known)
     (λ text status p. inr (class, formed, inr (cs, all, inr (hierarchy, inl (final, p.0, p.1)))))
     (held c.args.out.now) (held c.tell-in-FinalSuper.new.out) c.tell-in-FinalSuper.result c.tell-in-FinalSuper.ensures

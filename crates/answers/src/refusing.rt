@@ -1,0 +1,50 @@
+//! Why there are no verdicts on a class that is well formed, in the manner of `verify` or in that of `explain`.
+ghost use Rattle.answers.specs.Verdicts.{hierarchy_told, final_super_told};
+
+use crate::command::Form;
+use crate::manner::Manner;
+use crate::sentences::HierarchySentence;
+use crate::verdicts::{FinalSuper, HierarchyRefusal};
+use hierarchy::HierarchyFault;
+use printing::{Print, Then, Word, WriteFailed};
+use std::io::Write;
+
+/// The classes are no hierarchy.
+#[derive(Clone, Copy)]
+pub struct HierarchyTold<'a> {
+    pub manner: Manner,
+    pub fault: HierarchyFault<'a>,
+}
+
+impl<'a> Print for HierarchyTold<'a> {
+    ghost text = { λ t. hierarchy_told t.manner t.fault };
+
+    fn put<W: Write>(&self, out: &mut W) -> Result<(), WriteFailed> {
+        let fault = self.fault;
+        match self.manner {
+            Manner::Told(form) => HierarchyRefusal { form, fault }.put(out),
+            Manner::Explained => {
+                let form = Form::Plain;
+                Then(HierarchyRefusal { form, fault }, HierarchySentence(fault)).put(out)
+            }
+        }
+    }
+}
+
+/// The superclass of the class is final.
+#[derive(Clone, Copy)]
+pub struct FinalSuperTold(pub Manner);
+
+impl Print for FinalSuperTold {
+    ghost text = { λ t. final_super_told t.0 };
+
+    fn put<W: Write>(&self, out: &mut W) -> Result<(), WriteFailed> {
+        match self.0 {
+            Manner::Told(form) => FinalSuper(form).put(out),
+            Manner::Explained => {
+                let sentence = Word("  81 FinalSuper: the superclass of the class is final\n");
+                Then(FinalSuper(Form::Plain), sentence).put(out)
+            }
+        }
+    }
+}

@@ -1,0 +1,277 @@
+//! The name of each number of a refusal and, in one sentence, what holds.
+ghost use Rattle.std.specs.Prelude.{◌≡◌};
+ghost use Rattle.layout.specs.Refusals.{read_fault_number};
+ghost use Rattle.classfile.specs.Conditions.{rule_number};
+ghost use Rattle.hierarchy.specs.Faults.{number_of};
+ghost use Rattle.rules.specs.Reasons.{reason_number};
+ghost use Rattle.answers.specs.Sentences.{sentence, fault_sentence, numbered_line, sentence_line, fault_line, reason_lines, file_fault_number};
+
+use classfile::FormRule;
+use hierarchy::HierarchyFault;
+use layout::ReadFault;
+use printing::{Number, Print, Then, Word, WriteFailed};
+use rules::Reason;
+use std::io::Write;
+use verify::FileFault;
+
+/// The sentence on a fault of bytes.
+fn read_sentence(fault: &ReadFault) -> &'static str
+    ensures { result.now ≡ sentence (read_fault_number fault.now) }
+{
+    match fault {
+        ReadFault::OutOfMemory => "OutOfMemory: memory ran out",
+        ReadFault::EndsEarly { .. } =>
+            "EndsEarly: the number or part that begins there is not whole",
+        ReadFault::BadText { .. } => "BadText: a text is no modified UTF-8 from this byte on",
+        ReadFault::BadTag { .. } =>
+            "BadTag: the byte is no tag that a constant may have there, or no kind of a method handle",
+        ReadFault::BadMagic => "BadMagic: the file does not begin with CAFEBABE",
+        ReadFault::BadVersion { .. } =>
+            "BadVersion: the version is none of 51 to 55, nor of 56 to 61 with minor version 0",
+        ReadFault::AttributeLength { .. } =>
+            "AttributeLength: the attribute that begins there does not use exactly its length",
+        ReadFault::BytesAfter { .. } => "BytesAfter: bytes stand behind the class",
+        ReadFault::TooLong { .. } =>
+            "TooLong: the part that begins there would pass 16,777,216 bytes",
+        ReadFault::ReadFailed { .. } => "ReadFailed: the file could not be read on from there",
+        ReadFault::BadPoolCount { .. } => "BadPoolCount: the count of the constant pool is 0",
+        ReadFault::BadFrameType { .. } =>
+            "BadFrameType: the byte there is no frame type of a stack map",
+        ReadFault::BadTypeTag { .. } =>
+            "BadTypeTag: the byte there is no tag of a verification type",
+    }
+}
+
+/// The sentence on a rule of well-formed classes that is broken.
+fn rule_sentence(rule: FormRule) -> &'static str
+    ensures { result.now ≡ sentence (rule_number rule) }
+{
+    match rule {
+        FormRule::BadIndex =>
+            "BadIndex: an index is 0 where it may not be, past the constant pool, or the second one of a Long or Double",
+        FormRule::WrongKind =>
+            "WrongKind: an index leads to another kind of constant than it should, or a Dynamic stands in a class below major version 55",
+        FormRule::BadName => "BadName: a name is not of its form, or is none that may stand there",
+        FormRule::BadDescriptor =>
+            "BadDescriptor: a descriptor is not of its form, passes its limits, or is none that the method may have",
+        FormRule::BadFlags =>
+            "BadFlags: access flags stand together that may not, or one stands without another that it needs",
+        FormRule::Twice => "Twice: an earlier field or method has this name and descriptor",
+        FormRule::CodeMissing => "CodeMissing: the method has no Code attribute and must have one",
+        FormRule::CodeNotAllowed =>
+            "CodeNotAllowed: the method has a Code attribute and may have none",
+        FormRule::BadSuper =>
+            "BadSuper: the superclass is missing, or is none that the class may have",
+        FormRule::BadCodeLength => "BadCodeLength: the length of the code is not 1 to 65,535 bytes",
+        FormRule::AttributeTwice =>
+            "AttributeTwice: two attributes stand of a kind of which there may be one",
+    }
+}
+
+/// The sentence on a fault of a hierarchy.
+fn hierarchy_sentence(fault: &HierarchyFault<'_>) -> &'static str
+    ensures { result.now ≡ sentence (number_of fault.now) }
+{
+    match fault {
+        HierarchyFault::OutOfMemory => "OutOfMemory: memory ran out",
+        HierarchyFault::ClassTwice { .. } =>
+            "ClassTwice: the files have more than one class of this name",
+        HierarchyFault::Cycle { .. } =>
+            "Cycle: the class stands on the chain of its own superclasses",
+        HierarchyFault::SuperMissing { .. } =>
+            "SuperMissing: the superclass of the class is not among the files",
+        HierarchyFault::NoObject =>
+            "NoObject: java/lang/Object is absent, is an interface, or has a superclass",
+        HierarchyFault::BadArrayInterface { .. } =>
+            "BadArrayInterface: java/lang/Cloneable or java/io/Serializable is no interface",
+        HierarchyFault::TooManyClasses => "TooManyClasses: there are more than 65,535 classes",
+        HierarchyFault::InterfaceSuper { .. } =>
+            "InterfaceSuper: the superclass of the interface is not java/lang/Object",
+    }
+}
+
+/// The sentence on a reason.
+fn reason_sentence(reason: &Reason<'_>) -> &'static str
+    ensures { result.now ≡ sentence (reason_number reason.now) }
+{
+    match reason {
+        Reason::OutOfMemory => "OutOfMemory: memory ran out",
+        Reason::NotSupported =>
+            "NotSupported: the instruction is jsr, jsr_w or ret, or one that only --dynamic judges",
+        Reason::MissingOperand =>
+            "MissingOperand: the stack holds fewer operands than the instruction takes",
+        Reason::WrongOperand =>
+            "WrongOperand: an operand is of another type than the instruction takes",
+        Reason::WrongLocal =>
+            "WrongLocal: the local variable that the instruction reads is of another type",
+        Reason::LocalOutOfRange =>
+            "LocalOutOfRange: the local variable, or at 0 the receiver with the parameters, passes max_locals",
+        Reason::StackOver => "StackOver: the stack after the instruction passes max_stack",
+        Reason::WrongConstant =>
+            "WrongConstant: the constant, or the byte, is none that the instruction may have",
+        Reason::NoFrameAtTarget =>
+            "NoFrameAtTarget: the stack map declares no frame at a target of the instruction",
+        Reason::NotAssignableAtTarget =>
+            "NotAssignableAtTarget: the frame after the instruction is not assignable to the one that is declared at a target",
+        Reason::NotAssignable =>
+            "NotAssignable: the frame that comes to the instruction is not assignable to the one that is declared there",
+        Reason::NoFrame =>
+            "NoFrame: the instruction before never goes on, and the stack map declares no frame here",
+        Reason::FallsOff => "FallsOff: the last instruction of the code goes on",
+        Reason::BadException =>
+            "BadException: an entry of the exception table has a wrong range or handler, or catches what is no Throwable",
+        Reason::HandlerNotAssignable =>
+            "HandlerNotAssignable: the frame before the instruction is not assignable to the one that is declared at a handler which covers it",
+        Reason::OwnObjectNotReady =>
+            "OwnObjectNotReady: the constructor returns before its own object is initialized",
+        Reason::ConstructorCovered =>
+            "ConstructorCovered: an entry of the exception table covers the call of a constructor on the own object",
+        Reason::WrongReturn =>
+            "WrongReturn: the return is of another kind than the result of the method",
+        Reason::ClassMissing(_) =>
+            "ClassMissing: a comparison of types needs the class of this name, which is not among the files",
+        Reason::BadStackMap { .. } => "BadStackMap: the stack map is refused",
+        Reason::BadCode { .. } => "BadCode: the code is refused at this instruction",
+        Reason::ProtectedMember =>
+            "ProtectedMember: a protected member of another package is used on an object that is not assignable to the current class",
+    }
+}
+
+/// The sentence on the fault of a stack map (behind 78) or of code (behind 79) that has this number.
+fn fault_sentence(number: u8) -> &'static str
+    ensures { result.now ≡ fault_sentence number }
+{
+    match number {
+        2 => "EndsEarly: the stack map ends within an entry",
+        8 =>
+            "BadIndex: an index is 0, past the constant pool, or the second one of a Long or Double",
+        9 => "WrongKind: a constant of another kind than Class stands at an index",
+        12 => "AttributeLength: bytes stand behind the last entry",
+        31 => "BadOpcode: the byte is no opcode",
+        32 => "CutInstruction: the code ends inside the instruction",
+        33 => "BadSwitch: low is over high, the count is negative, or the keys do not rise",
+        34 => "BadWide: wide stands before an opcode that it may not modify",
+        35 => "NonZeroByte: a byte of invokeinterface or invokedynamic that must be 0 is not",
+        47 => "BadFrameType: a byte is no frame type",
+        48 => "BadTypeTag: a byte is no tag of a verification type",
+        49 => "LocalsOver: the locals of an entry are more units than max_locals",
+        50 => "StackOver: the stack of an entry is more units than max_stack",
+        51 => "ChopTooMany: an entry chops more locals than the entry before it left",
+        52 => "NotAStart: the offset of an entry is that of no instruction",
+        53 => "NotANew: an entry names an uninitialized object by the offset of no new",
+        _ => "",
+    }
+}
+
+/// The line of a number and of what it says.
+#[derive(Clone, Copy)]
+struct NumberedLine {
+    number: u8,
+    text: &'static str,
+}
+
+impl Print for NumberedLine {
+    ghost text = { λ t. numbered_line t.number t.text.now };
+
+    fn put<W: Write>(&self, out: &mut W) -> Result<(), WriteFailed> {
+        let text = Then(Word(" "), Then(Word(self.text), Word("\n")));
+        Then(Word("  "), Then(Number(self.number), text)).put(out)
+    }
+}
+
+/// The line that says why a file is refused.
+#[derive(Clone, Copy)]
+pub struct FileSentence(pub FileFault);
+
+impl FileSentence {
+    /// The number of the refusal, and its sentence.
+    fn line(&self) -> NumberedLine
+        ensures number { result.number ≡ file_fault_number self.now.0 }
+        ensures text { result.text.now ≡ sentence (file_fault_number self.now.0) }
+    {
+        match self.0 {
+            FileFault::OutOfMemory => NumberedLine {
+                number: 1,
+                text: "OutOfMemory: memory ran out",
+            },
+            FileFault::Unread(fault) | FileFault::NoClass(fault) => NumberedLine {
+                number: fault.number(),
+                text: read_sentence(&fault),
+            },
+            FileFault::Malformed { rule, .. } => NumberedLine {
+                number: rule.number(),
+                text: rule_sentence(rule),
+            },
+        }
+    }
+}
+
+impl Print for FileSentence {
+    ghost text = { λ t. sentence_line (file_fault_number t.0) };
+
+    fn put<W: Write>(&self, out: &mut W) -> Result<(), WriteFailed> {
+        self.line().put(out)
+    }
+}
+
+/// The line that says why classes are no hierarchy.
+#[derive(Clone, Copy)]
+pub struct HierarchySentence<'a>(pub HierarchyFault<'a>);
+
+impl<'a> Print for HierarchySentence<'a> {
+    ghost text = { λ t. sentence_line (number_of t.0) };
+
+    fn put<W: Write>(&self, out: &mut W) -> Result<(), WriteFailed> {
+        NumberedLine {
+            number: self.0.number(),
+            text: hierarchy_sentence(&self.0),
+        }
+        .put(out)
+    }
+}
+
+/// The line on the fault of a stack map or of code that has this number.
+#[derive(Clone, Copy)]
+struct FaultSentence(u8);
+
+impl Print for FaultSentence {
+    ghost text = { λ t. fault_line t.0 };
+
+    fn put<W: Write>(&self, out: &mut W) -> Result<(), WriteFailed> {
+        NumberedLine {
+            number: self.0,
+            text: fault_sentence(self.0),
+        }
+        .put(out)
+    }
+}
+
+/// The lines that say why a method is refused.
+#[derive(Clone, Copy)]
+pub struct ReasonSentences<'a>(pub Reason<'a>);
+
+impl<'a> ReasonSentences<'a> {
+    /// The line of its number.
+    fn line(&self) -> NumberedLine
+        ensures number { result.number ≡ reason_number self.now.0 }
+        ensures text { result.text.now ≡ sentence (reason_number self.now.0) }
+    {
+        NumberedLine {
+            number: self.0.number(),
+            text: reason_sentence(&self.0),
+        }
+    }
+}
+
+impl<'a> Print for ReasonSentences<'a> {
+    ghost text = { λ t. reason_lines t.0 };
+
+    fn put<W: Write>(&self, out: &mut W) -> Result<(), WriteFailed> {
+        match self.0 {
+            Reason::BadStackMap { fault } | Reason::BadCode { fault } => {
+                Then(self.line(), FaultSentence(fault)).put(out)
+            }
+            _ => self.line().put(out),
+        }
+    }
+}

@@ -1,0 +1,12 @@
+-- Of code that is not refused, what is left is read, and the instruction is not among those that are gone.
+use Rattle.std.proofs.Common.{◌≡◌, ℕ, List, Ok}
+use Rattle.insn.specs.Instructions.{Instruction}
+use Rattle.insn.specs.Offsets.{at_offset}
+use Rattle.insn.specs.Readings.{reading_of}
+use Rattle.insn.proofs.Readings.{reading_at}
+use Rattle.printing.proofs.code.found_at.Given as goal
+
+abbrev pub invariant-loop-step : goal.invariant-loop-step
+invariant-loop-step l =
+    (xs : List (ℕ × Instruction)) → reading_of l.code ≡ Ok xs
+    → (left : List (ℕ × Instruction)) × (reading_at l.step-iterator ≡ Ok left) × (at_offset xs l.at ≡ at_offset left l.at)
