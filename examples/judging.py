@@ -3,6 +3,9 @@
 `Verifier` calls the program: it gives the classes above a class, and then each class that an answer misses, until no place has a missing one.
 A place is a folder with class files by their names, as java/lang/Object.class, or classes of a jar; of two with one name that in the first
 place counts. No name leads out of a place: a class whose own name or constants hold a dot is not well formed, and is refused 22.
+
+`judge_each` asks one process for many classes among all that places have. It gives the answers that `judge` gives, and where that is to be seen in none
+of these, it gives no answer.
 """
 import collections
 import os
@@ -19,6 +22,11 @@ PROGRAM = BUILT if WRAPPER.is_file() else INSTALLED
 HEAD = re.compile(r"class (.*) major \d+ minor \d+ flags [0-9a-f]{4}")
 MISSING = re.compile(r" refused 77 at \d+ missing (.*)$")
 REFUSED = re.compile(r"method .* refused (\d+) at \d+(?: missing .*| fault \d+)?$")
+HEADER = re.compile(r"file \d+(?: (.*))?")
+# What stands below one of these is no class by the name that leads to it.
+OTHER_ROOT = re.compile(r"[A-Z]+-INF/")
+# One process reads so many known classes while the processes for one class run.
+READ_MEANWHILE = 40
 # The status of answers in which nothing is refused but what has no rule (60).
 WITHOUT_RULE = 3
 
@@ -40,13 +48,39 @@ class Folder:
         file = os.path.join(self.path, *name.split("/")) + ".class"
         return file if os.path.isfile(file) else None
 
+    def classes(self):
+        """The names of its classes, and their files."""
+        below = len(os.path.join(self.path, ""))
+        for folder, _, files in os.walk(self.path):
+            for it in files:
+                if it.endswith(".class") and it != "module-info.class":
+                    file = os.path.join(folder, it)
+                    yield file[below:-len(".class")].replace(os.sep, "/"), file
+
+
+def known_files(folders, most):
+    """The names of the classes of the folders and their files, of two with one name that in the first folder; None where there are more than so many."""
+    known = {}
+    for folder in folders:
+        for name, file in folder.classes():
+            known.setdefault(name, file)
+            if len(known) > most:
+                return None
+    return known
+
+
+def fits(words):
+    """Whether a process can be given these words: they, the environment and a pointer to each have to fit."""
+    given = [*words, *(f"{name}={value}" for name, value in os.environ.items())]
+    return sum(len(os.fsencode(it)) + 9 for it in given) + 4096 < os.sysconf("SC_ARG_MAX")
+
 
 class Verifier:
     """Calls the program, with --dynamic where that is asked for, and keeps what `show` said of the names of a class and its superclass."""
 
     def __init__(self, dynamic=False):
         self.known, self.lock = {}, threading.Lock()
-        self.command = ["verify", "--dynamic"] if dynamic else ["verify"]
+        self.flags = ["--dynamic"] if dynamic else []
 
     @staticmethod
     def call(*words):
@@ -86,11 +120,55 @@ class Verifier:
         self.add(above, places, seen, files)
         while count != len(files):
             count = len(files)
-            lines, errors, status = self.call(*self.command, "--", file, *files)
+            lines, errors, status = self.call("verify", *self.flags, "--", file, *files)
             for line in lines:
                 if it := MISSING.search(line):
                     self.add(it[1], places, seen, files)
         return [*self.told(lines, [file, *files]), *(self.opened(it, [file, *files]) for it in errors)], status
+
+    def each(self, files, known):
+        """From one process, of each class in these files its name and the lines of the answer; None where it gives none."""
+        words = ["verify-each", *self.flags, *(["--known", *map(os.path.abspath, known)] if known else []), "--", *files]
+        if not fits([PROGRAM, *words]):
+            return None
+        lines, errors, _ = self.call(*words)
+        answers = []
+        for line in lines:
+            it = HEADER.fullmatch(line) if line.startswith("file ") else None
+            if it:
+                answers.append((it[1], []))
+            elif answers:
+                answers[-1][1].append(line)
+        return answers if not errors and len(answers) == len(files) else None
+
+    def judge_each(self, files, folders):
+        """The answers on the classes in these files, which have these names, each among the others and the classes of the folders; for each file.
+
+        No answer is given on a class that a folder has as well, or that has another name: none of the others sees it. None is given where the class
+        is refused as a whole, or one of the places has a class that the answer misses: such a class is damaged, or below one that is.
+        """
+        known = known_files(folders, READ_MEANWHILE * len(files))
+        if known is None:
+            return {}
+        own = {name: file for name, file in files.items() if name not in known}
+        for _ in range(2):
+            answers = self.each(list(own.values()), [file for name, file in known.items() if not OTHER_ROOT.match(name)]) if own else None
+            if answers is None:
+                return {}
+            other = [name for name, (told, _) in zip(own, answers) if told not in (None, name)]
+            if not other:
+                return {own[name]: (lines, self.status(lines)) for name, (_, lines) in zip(own, answers) if self.is_settled(lines, files.keys() | known.keys())}
+            own = {name: file for name, file in own.items() if name not in other}
+        return {}
+
+    @staticmethod
+    def is_settled(lines, names):
+        missing = (MISSING.search(it) for it in lines if " missing " in it)
+        return all(it.startswith("method ") for it in lines) and not any(it and it[1] in names for it in missing)
+
+    @staticmethod
+    def status(lines):
+        return int(any(" refused " in it and REFUSED.fullmatch(it) is not None for it in lines))
 
     def told(self, lines, files):
         """The lines, with the superclass that is absent behind a 42."""
@@ -120,7 +198,7 @@ class Count:
         self.status = 2 if 2 in (status, self.status) else max(status, self.status)
         refusing = []
         for line in lines:
-            it = REFUSED.fullmatch(line)
+            it = REFUSED.fullmatch(line) if " refused " in line else None
             self.verified += line.startswith("method ") and line.endswith(" verified")
             self.no_code += line.startswith("method ") and line.endswith(" no code")
             if it:

@@ -1,5 +1,5 @@
 """Worked examples of what classck answers, one table, from the texts of names to the verdicts on constructors: what the program shows of class files and
-code, given by their bytes. What only a library's call shows has the name of its test in crates/public_calls."""
+code, given by their bytes. What only a library's call shows has the name of its test in crates/library_calls or crates/public_calls."""
 from dataclasses import replace
 
 from assembler import OBJECT, STATIC, ClassFile, attribute, class_info, code_attribute, member, name_and_type, named, reference, utf8
@@ -12,7 +12,7 @@ K = bytes.fromhex(
 O = bytes.fromhex("cafebabe 00000034 0003 070002 0100106a6176612f6c616e672f4f626a656374 0021 0001 0000 0000 0000 0000 0000")
 FINAL_OBJECT = O[:33] + b"\x31" + O[34:]
 
-# Which test of crates/public_calls shows it.
+# Which test of these crates shows it.
 CALLS = """
 a text of three units, one of them 0 and two a pair of surrogates, is spelled and read | texts::a_text_both_ways
 bytes that no unit has for its spelling, in a text | texts::a_text_both_ways

@@ -5,3 +5,6 @@ pub mod Tellings
 pub mod Refusing
 pub mod Explaining
 pub mod OnePlay
+pub mod OneEach
+pub mod Numbering
+pub mod Parting

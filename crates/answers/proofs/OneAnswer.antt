@@ -1,18 +1,19 @@
 -- A command has one answer.
-use Rattle.std.proofs.Common.{◌≡◌, ℕ, List, [], ◌∷◌, inl, inr, sym, ap, subst, ◌∙◌}
+use Rattle.std.proofs.Common.{◌≡◌, ℕ, List, [], ◌∷◌, take, drop, inl, inr, sym, ap, subst, ◌∙◌}
 use Rattle.classfile.specs.Values.{Class}
 use Rattle.answers.specs.Answers.{FileSays, CheckTells, ShowTells}
 use Rattle.verify.specs.Files.{Read}
 use Rattle.answers.specs.Files.{refusal_status}
 use Rattle.answers.specs.Texts.{refusal_line}
 use Rattle.answers.specs.Laws.{OneAnswer}
-use Rattle.answers.specs.declared.command.Command.TheVariants.{Check, Show, Verify, Explain, Play}
+use Rattle.answers.specs.declared.command.Command.TheVariants.{Check, Show, Verify, Explain, Play, VerifyEach}
 use Rattle.answers.specs.declared.command.Form.{Form}
 use Rattle.answers.specs.declared.command.Form.TheVariants.{Plain}
 use Rattle.answers.specs.declared.manner.Manner.TheVariants.{Told, Explained}
 use Rattle.answers.proofs.OneFile.{Laws, one_formed, not_refused, one_refusal}
 use Rattle.answers.proofs.OneVerify.{one_verify}
 use Rattle.answers.proofs.OnePlay.{one_play}
+use Rattle.answers.proofs.OneEach.{one_each}
 
 one_said : Laws → (form : Form) (Tells : Class → List ℕ → ℕ → Type 0) → ((c : Class) (text other : List ℕ) (status next : ℕ) → Tells c text status → Tells c other next → (text ≡ other) × (status ≡ next))
     → (read : Read) (text other : List ℕ) (status next : ℕ)
@@ -38,3 +39,5 @@ same_answer laws Show (read ∷ others) text other status next p q = one_said la
 same_answer laws (Verify form profile) (read ∷ known) text other status next p q = one_verify laws (Told form) profile read known text other status next p q
 same_answer laws (Explain profile) (read ∷ known) text other status next p q = one_verify laws Explained profile read known text other status next p q
 same_answer laws (Play profile) (read ∷ others) text other status next p q = one_play laws profile (read ∷ others) text other status next p q
+same_answer laws (VerifyEach profile classes) (read ∷ others) text other status next p q =
+    one_each laws profile (take classes (read ∷ others)) (drop classes (read ∷ others)) text other status next p q

@@ -273,7 +273,7 @@ module _ (laws : Laws) where
 
   -- ---- what is said
 
-  one_class : (manner : Manner) (classes : List ClassFact) (c : JudgedClass) (text other : List ℕ) (status next : ℕ)
+  pub one_class : (manner : Manner) (classes : List ClassFact) (c : JudgedClass) (text other : List ℕ) (status next : ℕ)
       → ClassSays manner classes c text status → ClassSays manner classes c other next → (text ≡ other) × (status ≡ next)
   one_class manner classes c text other status next (inl (f, t, s)) (inl (g, u, v)) = (t ∙ sym u, s ∙ sym v)
   one_class manner classes c text other status next (inl (f, t, s)) (inr (g, q)) = absurd (false_true (sym g ∙ f))

@@ -1,5 +1,5 @@
 -- The answer to a command: a text and a status.
-use Rattle.std.specs.Prelude.{◌≡◌, ◌⊎◌, ℕ, Bool, true, false, List, [], ◌∷◌, if◌then◌else◌, Option, Result, Ok, Err}
+use Rattle.std.specs.Prelude.{◌≡◌, ◌⊎◌, ℕ, Bool, true, false, List, [], ◌∷◌, take, drop, if◌then◌else◌, Option, Result, Ok, Err}
 use Rattle.std.specs.List.{list_any}
 use Rattle.std.specs.Io.KnownBytes.{Appends, Keeps}
 use Rattle.layout.specs.declared.fault.ReadFault.TheVariants as reading
@@ -11,11 +11,12 @@ use Rattle.verify.specs.Files.{Read, IsFormed, IsRefused}
 use Rattle.answers.specs.Files.{refusal_status}
 use Rattle.answers.specs.Verdicts.{VerifySays}
 use Rattle.answers.specs.Plays.{PlaySays}
+use Rattle.answers.specs.Judgements.{EachSays}
 use Rattle.answers.specs.Texts.{ok_line, refusal_line}
 use Rattle.answers.specs.declared.fault.AnswerFault.{AnswerFault}
 use Rattle.answers.specs.declared.fault.AnswerFault.TheVariants.{OutOfMemory, WriteFailed}
 use Rattle.answers.specs.declared.command.Command.{Command}
-use Rattle.answers.specs.declared.command.Command.TheVariants.{Check, Show, Verify, Explain, Play}
+use Rattle.answers.specs.declared.command.Command.TheVariants.{Check, Show, Verify, Explain, Play, VerifyEach}
 use Rattle.answers.specs.declared.command.Form.{Form}
 use Rattle.answers.specs.declared.command.Form.TheVariants.{Plain}
 use Rattle.answers.specs.declared.manner.Manner.TheVariants.{Told, Explained}
@@ -42,6 +43,8 @@ Says Show (read ∷ others) text status = FileSays Plain ShowTells read text sta
 Says (Verify form profile) (read ∷ known) text status = VerifySays (Told form) profile read known text status
 Says (Explain profile) (read ∷ known) text status = VerifySays Explained profile read known text status
 Says (Play profile) (read ∷ others) text status = PlaySays profile (read ∷ others) text status
+Says (VerifyEach profile classes) (read ∷ others) text status =
+    EachSays profile (take classes (read ∷ others)) (drop classes (read ∷ others)) text status
 
 -- The bytes that a writer holds behind an answer: all of what is to be said was written; or nothing, where memory
 -- ran out; or a beginning of it, where a write failed.

@@ -6,3 +6,4 @@ pub mod Explanations
 pub mod Files
 pub mod Verdicts
 pub mod Plays
+pub mod Judgements

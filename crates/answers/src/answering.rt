@@ -11,6 +11,7 @@ use crate::manner::Manner;
 use crate::playing::play;
 use crate::showing::show;
 use crate::verifying::verify;
+use crate::verifying_each::verify_each;
 use layout::{ReadFault, StreamFault};
 use std::alloc::Global;
 use std::hash::BuildHasher;
@@ -48,6 +49,9 @@ pub fn answer<W: Write, S: BuildHasher + Drop>(
                 verify(alloc, manner, profile, read, known, hasher, out)
             }
             Command::Play(profile) => play(alloc, profile, reads, hasher, out),
+            Command::VerifyEach { profile, classes } => verify_each(
+                alloc, profile, classes, reads, hasher, out,
+            ),
         },
     }
 }

@@ -26,4 +26,7 @@ pub enum Command {
     /// `play CLASS...`: whether the classes in the files may run together, each method that has code verified; with `--dynamic` by
     /// [`Profile::Dynamic`].
     Play(Profile),
+    /// `verify-each CLASS... --known KNOWN...`: the verdicts on the methods of each of the classes in the first so many files, which may
+    /// refer to one another and to the classes in the others; with `--dynamic` by [`Profile::Dynamic`].
+    VerifyEach { profile: Profile, classes: usize },
 }

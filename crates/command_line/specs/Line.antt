@@ -1,15 +1,15 @@
 -- The command lines that the program knows, and what each asks for.
-use Rattle.std.specs.Prelude.{◌≡◌, Bool, true, false, List, [], ◌∷◌, map, codes, Option, Some, Result, Ok, Err, string_bytes, bytes_eq, if◌then◌else◌, ℕ, ◌++◌}
+use Rattle.std.specs.Prelude.{◌≡◌, Bool, true, false, List, [], ◌∷◌, map, codes, Option, Some, Result, Ok, Err, string_bytes, bytes_eq, if◌then◌else◌, ℕ, ◌++◌, length}
 use Rattle.std.specs.Option.{option_map, unwrap_or}
 use Rattle.clap.specs.Lexer.{usize_max}
-use Rattle.clap.specs.declared.builder.action.ArgAction.TheVariants.{SetTrue}
+use Rattle.clap.specs.declared.builder.action.ArgAction.TheVariants.{SetTrue, Append}
 use Rattle.clap.specs.declared.error.Error.{Error}
 use Rattle.clap.specs.declared.error.kind.ErrorKind.TheVariants as kind
 use Rattle.clap.specs.Words.{App, Row, Rule, Shape, Text, all_of, new_app, new_rule, with_rule, with_subcommand, subcommand_of, fault_of, Kinds, IsAmong, kind_of}
 use Rattle.classfile.specs.declared.profile.Profile.{Profile}
 use Rattle.classfile.specs.declared.profile.Profile.TheVariants.{Default, Dynamic}
 use Rattle.answers.specs.declared.command.Command.{Command}
-use Rattle.answers.specs.declared.command.Command.TheVariants.{Check, Show, Verify, Explain, Play}
+use Rattle.answers.specs.declared.command.Command.TheVariants.{Check, Show, Verify, Explain, Play, VerifyEach}
 use Rattle.answers.specs.declared.command.Form.{Form}
 use Rattle.answers.specs.declared.command.Form.TheVariants.{Plain, Json}
 use Rattle.command_line.specs.declared.line.Request.{Request}
@@ -55,6 +55,13 @@ class_files = record (new_rule (codes "CLASS")) { required = true; range = Some 
 abbrev pub play : Shape
 play = (with_rule (with_rule (new_app (codes "play")) class_files) dynamic).top
 
+-- any number of files of other classes that they may refer to, behind `--known`
+abbrev pub known_option : Rule
+known_option = record (new_rule (codes "KNOWN")) { long = Some (codes "known"); action = Some Append; range = Some (record { start_inclusive = 1; end_inclusive = usize_max }) }
+
+abbrev pub verify_each : Shape
+verify_each = (with_rule (with_rule (with_rule (new_app (codes "verify-each")) class_files) known_option) dynamic).top
+
 -- the program itself, which tells its version, and of which a command must be asked
 abbrev pub program : App
 program = record (new_app (codes "classck")) { top = record (new_app (codes "classck")).top { has_version = true; subcommand_required = true } }
@@ -67,8 +74,12 @@ line_of_file = with_subcommand (with_subcommand program check) show
 abbrev pub line_with_known : App
 line_with_known = with_subcommand (with_subcommand line_of_file verify) explain
 
+-- and that of classes in play
+abbrev pub line_with_play : App
+line_with_play = with_subcommand line_with_known play
+
 abbrev pub line : App
-line = with_subcommand line_with_known play
+line = with_subcommand line_with_play verify_each
 
 -- the words for the argument of this name
 abbrev pub words_for : Text → List Row → List Text
@@ -81,6 +92,7 @@ files_in Show rows = words_for (codes "FILE") rows
 files_in (Verify form profile) rows = words_for (codes "CLASS") rows ++ words_for (codes "KNOWN") rows
 files_in (Explain profile) rows = words_for (codes "CLASS") rows ++ words_for (codes "KNOWN") rows
 files_in (Play profile) rows = words_for (codes "CLASS") rows
+files_in (VerifyEach profile classes) rows = words_for (codes "CLASS") rows ++ words_for (codes "KNOWN") rows
 
 -- a flag is set where its one word is `true`
 abbrev pub is_true : List Text → Bool
@@ -93,13 +105,14 @@ form_in rows = if is_true (words_for (codes "json") rows) then Json else Plain
 abbrev pub profile_in : List Row → Profile
 profile_in rows = if is_true (words_for (codes "dynamic") rows) then Dynamic else Default
 
--- the command of a name, with the form and the profile that the words behind it ask for; `clap` takes no other name than theirs
+-- the command of a name, with the form, the profile and the classes that the words behind it ask for; `clap` takes no other name than theirs
 abbrev pub command_named : Text → List Row → Command
 command_named name rows =
     if bytes_eq name (codes "show") then Show
     else if bytes_eq name (codes "verify") then Verify (form_in rows) (profile_in rows)
     else if bytes_eq name (codes "explain") then Explain (profile_in rows)
     else if bytes_eq name (codes "play") then Play (profile_in rows)
+    else if bytes_eq name (codes "verify-each") then VerifyEach (profile_in rows) (length (words_for (codes "CLASS") rows))
     else Check (form_in rows)
 
 -- what the matches of a line ask for

@@ -1,8 +1,8 @@
 //! Reads a command line.
-ghost use Rattle.std.specs.Prelude.{◌≡◌, ◌++◌, IfOk, OnOk, codes, false, map, string_bytes};
+ghost use Rattle.std.specs.Prelude.{◌≡◌, ◌++◌, IfOk, OnOk, codes, false, length, map, string_bytes};
 ghost use Rattle.clap.specs.Words.{Kinds, HasKind, app_of, rule_of, rows_of, found_of, new_app, with_rule};
 ghost use Rattle.clap.specs.declared.builder.command.Command.TheViews.{out-Command};
-ghost use Rattle.command_line.specs.Line.{line, line_of_file, line_with_known, file, json, class_file, known_files, class_files, dynamic, IsFault, ToldBy, Asks, is_true, form_in, profile_in, command_named, words_for, files_in};
+ghost use Rattle.command_line.specs.Line.{line, line_of_file, line_with_known, line_with_play, file, json, class_file, known_files, class_files, known_option, dynamic, IsFault, ToldBy, Asks, is_true, form_in, profile_in, command_named, words_for, files_in};
 
 use crate::line::{LineFault, Request};
 use answers::{Command, Form};
@@ -73,6 +73,18 @@ const PLAY_EXAMPLE: &str = "Example:
 The hierarchy is these classes, so give each class above one of them as well, up to java/lang/Object. The first class that is at fault is
 told: `class NUMBER refused NUMBER`, classes counting from 1, or `class NUMBER method NAME DESCRIPTOR refused NUMBER at OFFSET` as by
 `verify`. docs/REFUSALS.md explains the numbers 40 to 84.";
+
+/// The end of the help on `verify-each`.
+const EACH_EXAMPLE: &str = "Example:
+  $ classck verify-each A.class B.class --known java.lang.Object.class
+  file 1 A
+  method <init> ()V verified
+  file 2
+  class refused 2 at 400
+
+Behind `file NUMBER CLASS` stand the lines that `verify` prints of the class, where all classes of the line are known; of two of one name the
+first counts. A class that is refused is left out. So is a class below it, or below a class that is not given: it is refused 80, and
+`verify` of it alone says why. docs/REFUSALS.md explains the numbers.";
 
 /// A command that takes one file: `NAME FILE`.
 fn one_file<'a>(alloc: Global, name: &'a str) -> Result<Parser<'a>, AllocError>
@@ -222,6 +234,41 @@ fn play<'a>(alloc: Global) -> Result<Parser<'a>, AllocError>
     )
 }
 
+/// Any number of files of classes, behind `--known`.
+fn known_option<'a>(alloc: Global) -> Arg<'a>
+    ensures rule { rule_of result ≡ known_option }
+    ensures local { result.global ≡ false }
+{
+    Arg::new(alloc, "KNOWN")
+        .long("known")
+        .action(ArgAction::Append)
+        .num_args(1..)
+        .help("The paths of the files of other classes that they may refer to, java/lang/Object among them")
+}
+
+/// A command that takes the files of classes and, behind `--known`, those of others.
+fn classes_and_known<'a>(alloc: Global) -> Result<Parser<'a>, AllocError>
+    ensures app { IfOk result (λ c. app_of c ≡ with_rule (with_rule (new_app (codes "verify-each")) class_files) known_option) }
+    ensures local { IfOk result (λ c. (out-Command c).has_globals ≡ false) }
+{
+    Parser::new(alloc, "verify-each")
+        .arg(class_files(alloc))?
+        .arg(known_option(alloc))
+}
+
+/// `verify-each --dynamic CLASS... --known KNOWN...`
+fn verify_each<'a>(alloc: Global) -> Result<Parser<'a>, AllocError>
+    ensures app { IfOk result (λ c. app_of c ≡ with_rule (with_rule (with_rule (new_app (codes "verify-each")) class_files) known_option) dynamic) }
+    ensures local { IfOk result (λ c. (out-Command c).has_globals ≡ false) }
+{
+    let command = classes_and_known(alloc)?.arg(dynamic(alloc))?;
+    Ok(
+        command
+            .about("Prints the verdict on each method of each of many classes")
+            .after_help(EACH_EXAMPLE),
+    )
+}
+
 /// The command lines of one file.
 fn commands_of_files<'a>(alloc: Global) -> Result<Parser<'a>, AllocError>
     ensures { IfOk result (λ c. app_of c ≡ line_of_file) }
@@ -244,11 +291,18 @@ fn with_known<'a>(alloc: Global) -> Result<Parser<'a>, AllocError>
         .subcommand(explain(alloc)?)
 }
 
+/// These command lines, and that of classes in play.
+fn with_play<'a>(alloc: Global) -> Result<Parser<'a>, AllocError>
+    ensures { IfOk result (λ c. app_of c ≡ line_with_play) }
+{
+    with_known(alloc)?.subcommand(play(alloc)?)
+}
+
 /// The command lines that the program knows.
 fn parser<'a>(alloc: Global) -> Result<Parser<'a>, AllocError>
     ensures { IfOk result (λ c. app_of c ≡ line) }
 {
-    with_known(alloc)?.subcommand(play(alloc)?)
+    with_play(alloc)?.subcommand(verify_each(alloc)?)
 }
 
 /// Adds copies of the words.
@@ -284,7 +338,7 @@ fn files(alloc: Global, command: Command, found: &ArgMatches<'_>) -> Result<Vec<
     let mut files = Vec::new(alloc);
     match command {
         Command::Check(_) | Command::Show => add_words(alloc, found, "FILE", &mut files)?,
-        Command::Verify(..) | Command::Explain(_) => {
+        Command::Verify(..) | Command::Explain(_) | Command::VerifyEach { .. } => {
             add_words(alloc, found, "CLASS", &mut files)?;
             add_words(alloc, found, "KNOWN", &mut files)?;
         }
@@ -336,7 +390,17 @@ fn profile(found: &ArgMatches<'_>) -> Profile
     }
 }
 
-/// The command of this name, with the form and the profile that the words behind it ask for.
+/// How many words there are for the argument of this name.
+fn count_words(found: &ArgMatches<'_>, name: &str) -> usize
+    ensures { result ≡ length (words_for name.now (rows_of (found_of found.now))) }
+{
+    match found.get_strs(name) {
+        Some(words) => words.len(),
+        None => 0,
+    }
+}
+
+/// The command of this name, with the form, the profile and the classes that the words behind it ask for.
 fn command_named(name: &str, found: &ArgMatches<'_>) -> Command
     ensures { result ≡ command_named name.now (rows_of (found_of found.now)) }
 {
@@ -348,6 +412,11 @@ fn command_named(name: &str, found: &ArgMatches<'_>) -> Command
         Command::Explain(profile(found))
     } else if name == "play" {
         Command::Play(profile(found))
+    } else if name == "verify-each" {
+        Command::VerifyEach {
+            profile: profile(found),
+            classes: count_words(found, "CLASS"),
+        }
     } else {
         Command::Check(form(found))
     }

@@ -27,3 +27,4 @@ pub mod Passing
 pub mod Holding
 pub mod LocalTypes
 pub mod LocalWrites
+pub mod OneLocal

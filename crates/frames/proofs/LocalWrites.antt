@@ -1,10 +1,10 @@
 -- Locals that are given the types of a chain, from its top down.
-use Rattle.std.proofs.Common.{◌≡◌, ◌≢◌, ◌∙◌, ℕ, zero, suc, ◌+◌, ◌-◌, ◌<◌, ◌≤◌, Bool, true, false, cond, if◌then◌else◌, List, [], ◌∷◌, ◌++◌, length, get_or, map, reverse, replicate, Option, Some, None, IfSome, MatchOption, IsSome, refl, sym, ap, subst, arith, append_assoc}
+use Rattle.std.proofs.Common.{◌≡◌, ◌≢◌, ◌∙◌, ℕ, zero, suc, ◌+◌, ◌-◌, ◌<◌, ◌≤◌, Bool, true, false, cond, if◌then◌else◌, List, [], ◌∷◌, ◌++◌, length, get_or, reverse, replicate, Some, refl, sym, ap, subst, arith}
 use Rattle.std.specs.Prelude.{◌&&◌, nat_eq, nat_lt}
 use Rattle.std.proofs.lemmas.Bool.Decides.{nat_tests}
-use Rattle.std.proofs.lemmas.List.{length-append, reverse-append, get_or_append_left, get_or-append-add, get_or_past}
+use Rattle.std.proofs.lemmas.List.{reverse-append, get_or_append_left, get_or-append-add, get_or_past}
 use Rattle.frames.specs.VerificationType.{VerificationType, type_of, top}
-use Rattle.frames.specs.Slots.{is_wide, units_of, in_locals, all_locals}
+use Rattle.frames.specs.Slots.{is_wide, units_of, in_locals}
 use Rattle.frames.specs.FrameAssignable.{width_of}
 use Rattle.frames.specs.Chains.{link_at, types_at, AreLinked, IsOn, local_in, one_set, AreTopFrom, AreBelow, AreOfChain, AreWritten}
 use Rattle.frames.specs.DeclaredViews.{locals_at, fact_of, IsInside}
@@ -14,7 +14,7 @@ use Rattle.frames.specs.declared.chain.Link.{Link}
 use Rattle.frames.specs.declared.after.FrameTops.{FrameTops}
 use Rattle.frames.specs.declared.locals.Locals.{Locals}
 use Rattle.frames.specs.declared.declared_frames.Declared.{Declared}
-use Rattle.frames.proofs.Chains.{types_step, types_bottom}
+use Rattle.frames.proofs.Chains.{types_step}
 use Rattle.frames.proofs.Sharing.{types_on}
 use Rattle.frames.proofs.Walks.{in_append, in_top, units_in, width_is}
 use Rattle.frames.proofs.Finding.{locals_filled}

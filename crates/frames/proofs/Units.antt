@@ -30,7 +30,7 @@ pub at_lower : (t : VerificationType) (ts : List VerificationType) (unit : ℕ) 
 at_lower t ts unit ne = ap (λ b. if b then Some t else type_at_unit unit ts) (ne_eqb (units_of ts) unit ne)
 
 -- all of them begin below the unit
-none_above : (ts : List VerificationType) (unit : ℕ) → units_of ts ≤ unit → type_at_unit unit ts ≡ None
+pub none_above : (ts : List VerificationType) (unit : ℕ) → units_of ts ≤ unit → type_at_unit unit ts ≡ None
 none_above [] unit le = refl
 none_above (t ∷ ts) unit le =
     let lower : units_of ts < unit = omega (arith, le, not_empty t) in

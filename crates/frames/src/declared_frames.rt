@@ -137,7 +137,7 @@ fn may_have_flag(from: bool, to: bool) -> bool
 }
 
 impl<'n, 'a> Declared<'n, 'a> {
-    ghost use Rattle.std.specs.Prelude.{◌<◌, ◌≤◌, ◌-◌, ℕ, true, length, map, take, drop, replicate, reverse, OnOk, IfOk, IfSome, MatchOption};
+    ghost use Rattle.std.specs.Prelude.{◌<◌, ◌≤◌, ◌-◌, ℕ, true, length, get_or, map, take, drop, replicate, reverse, OnOk, IfOk, IfSome, MatchOption};
     ghost use Rattle.hierarchy.specs.Answer.{outcome_of};
     ghost use Rattle.frames.specs.VerificationType.{type_of, top};
     ghost use Rattle.frames.specs.Assignable.{type_answer};
@@ -183,6 +183,16 @@ impl<'n, 'a> Declared<'n, 'a> {
             outcome_of result ≡ list_answer (type_answer (C.content classes.now)) (held_locals locals.now (length d.locals)) d.locals }
     {
         chain_assignable(locals, self.chains, self.tops.locals, 0, false, classes)
+    }
+
+    /// The type of the local variable of a number: top at the second half of a long or double, and beyond those in use. Takes no memory.
+    pub fn local(&self, number: usize) -> VType<'a>
+        ensures { type_of result ≡ get_or (declared_view self.now).locals number top }
+    {
+        match self.chains.type_at_unit(self.tops.locals, number) {
+            Some(vtype) => vtype,
+            None => VType::Top,
+        }
     }
 
     /// Whether a frame may stand where this one is declared (JVMS 4.10.1.4): one that has these locals, all beyond them

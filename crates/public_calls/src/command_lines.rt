@@ -104,6 +104,18 @@ fn lines(rt: HostRuntime) {
     assert!(rt;
         asks(
             alloc,
+            &["classck", "verify-each", "K", "L", "--known", "O"],
+            Command::VerifyEach {
+                profile: Profile::Default,
+                classes: 2,
+            },
+            3,
+            "O"
+        )
+    );
+    assert!(rt;
+        asks(
+            alloc,
             &["classck", "explain", "K", "O"],
             Command::Explain(Profile::Default),
             2,

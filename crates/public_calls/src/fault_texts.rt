@@ -1,4 +1,3 @@
-use crate::making::is_shown;
 use answers::AnswerFault;
 use classfile::{FormFault, FormRule, Place};
 use command_line::{LineFault, MainFault};
@@ -6,13 +5,15 @@ use frames::FrameFault;
 use hierarchy::HierarchyFault;
 use insn::CodeFault;
 use layout::{ReadFault, StreamFault, WriteFault};
+use library_calls::making::is_shown;
 use machine::StepFault;
 use names::NameFault;
 use pool::PoolFault;
 use std::alloc::Global;
 use std::fmt::Display;
 use verify::{
-    AmongFault, ClassFault, FileFault, PlayFault, PlayRule, TogetherFault, VerifyFault, WalkFault,
+    AmongFault, ClassFault, EachFault, FileFault, PlayFault, PlayRule, TogetherFault, VerifyFault,
+    WalkFault,
 };
 
 /// Whether each fault is displayed as the text beside it.
@@ -322,6 +323,18 @@ fn faults_of_files_in_play(rt: HostRuntime) {
         (
             TogetherFault::Broken { number: 1, rule },
             "class 1 refused 81",
+        ),
+    ];
+    assert!(rt; are_shown(rt.alloc(), &rows));
+}
+
+#[test]
+fn faults_of_each_file(rt: HostRuntime) {
+    let rows = [
+        (EachFault::OutOfMemory, "refused 1"),
+        (
+            EachFault::NoHierarchy(HierarchyFault::TooManyClasses),
+            "hierarchy refused 45",
         ),
     ];
     assert!(rt; are_shown(rt.alloc(), &rows));

@@ -1,8 +1,8 @@
 //! The answer of each command on files, read or not, and how much of it a writer takes that fails.
-use crate::making::{K, O, hasher};
 use answers::{AnswerFault, Command, Form, answer, one_answer};
 use classfile::Profile;
 use layout::{ReadFault, StreamFault};
+use library_calls::making::{K, O, hasher};
 use std::alloc::{AllocError, Global};
 use std::io::{self, Write};
 use std::test::*;
@@ -87,7 +87,7 @@ fn is_answered(alloc: Global, command: Command, reads: &[Read], left: usize, tex
 
 #[test]
 fn a_writer_that_fails(rt: HostRuntime) -> Result<(), Fail> {
-    let rows: [(Command, &[u8]); 6] = [
+    let rows: [(Command, &[u8]); 7] = [
         (Command::Check(Form::Plain), b"ok\n"),
         (
             Command::Check(Form::Json),
@@ -106,6 +106,13 @@ fn a_writer_that_fails(rt: HostRuntime) -> Result<(), Fail> {
             b"{\"kind\":\"method\",\"name\":\"f\",\"descriptor\":\"()V\",\"answer\":\"verified\"}\n",
         ),
         (Command::Play(Profile::Dynamic), b"play verified\n"),
+        (
+            Command::VerifyEach {
+                profile: Profile::Default,
+                classes: 1,
+            },
+            b"file 1 K\nmethod f ()V verified\n",
+        ),
     ];
     let reads = both(rt.alloc())?;
     for (command, text) in rows {

@@ -1,6 +1,6 @@
 //! Verdicts on the classes that files are: alone, among known classes, and in play together.
-use crate::making::{K, O, OUT_OF_MEMORY, hasher};
 use layout::ReadFault;
+use library_calls::making::{K, O, OUT_OF_MEMORY, hasher};
 use std::alloc::Global;
 use std::test::*;
 use verify::{
@@ -11,10 +11,10 @@ use verify::{
 type Told = Result<usize, (usize, u8)>;
 
 /// A file that could not be read behind its first three bytes.
-const UNREAD: FileRead<'static> = FileRead::Unread(ReadFault::ReadFailed { at: 3 });
+pub const UNREAD: FileRead<'static> = FileRead::Unread(ReadFault::ReadFailed { at: 3 });
 
 /// K as a class that is final and abstract.
-fn malformed() -> [u8; 97] {
+pub fn malformed() -> [u8; 97] {
     let mut bytes = K;
     bytes[56] = 0x04;
     bytes[57] = 0x31;
@@ -22,20 +22,21 @@ fn malformed() -> [u8; 97] {
 }
 
 /// K with `nop` in the place of the `return` of its method, so that code runs off its end.
-fn falling() -> [u8; 97] {
+pub fn falling() -> [u8; 97] {
     let mut bytes = K;
     bytes[90] = 0;
     bytes
 }
 
 /// A final `java/lang/Object`.
-fn final_object() -> [u8; 46] {
+pub fn final_object() -> [u8; 46] {
     let mut bytes = O;
     bytes[33] = 0x31;
     bytes
 }
 
-fn number_of(fault: &FileFault) -> u8 {
+/// The number by which a file is refused.
+pub fn number_of(fault: &FileFault) -> u8 {
     match fault {
         FileFault::OutOfMemory => OUT_OF_MEMORY,
         FileFault::Unread(fault) | FileFault::NoClass(fault) => fault.number(),

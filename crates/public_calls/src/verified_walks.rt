@@ -1,9 +1,9 @@
 //! Walks of methods that are verified, and of those that are not.
 use crate::machine_steps::machine_method;
-use crate::making::{K, OUT_OF_MEMORY, hasher, object};
 use crate::walks::{Stop, Walk, on, stop_of, walk_from};
 use classfile::{ClassFile, Formed, decode, form_check};
 use hierarchy::{Rows, summary_of};
+use library_calls::making::{K, OUT_OF_MEMORY, hasher, object};
 use machine::{Choice, State, Value};
 use std::alloc::{AllocError, Global};
 use std::collections::BTreeMap;

@@ -1,9 +1,9 @@
 //! Walks by what a call answers, a branch takes and a handler catches, and among many objects; and the arguments with which a method begins.
 use crate::machine_steps::machine_method;
-use crate::making::{OUT_OF_MEMORY, hasher, object, summary};
 use crate::walks::on;
 use classfile::{Formed, decode, form_check};
 use hierarchy::{Classes, Rows, Summary};
+use library_calls::making::{OUT_OF_MEMORY, hasher, object, summary};
 use machine::{Choice, Last, Method, Object, RunType, Status, Value, initial, walk};
 use names::{Base, OBJECT, Primitive, THROWABLE};
 use std::alloc::{AllocError, Global};

@@ -1,15 +1,18 @@
 -- Entries that cover an instruction, compared one after the other.
 use Rattle.std.proofs.Common.{◌≡◌, ◌⊎◌, ℕ, ◌≤◌, ◌<◌, true, List, [], ◌∷◌, ◌++◌, length, Option, Some, None, Result, Ok, Err, refl, sym, ◌∙◌, ap, subst, arith, inl, inr, slice_get}
-use Rattle.std.specs.Prelude.{IfSome, OnOk, IsOk, is_ok, if◌then◌else◌}
+use Rattle.std.specs.Prelude.{All, IfSome, OnOk, IsOk, is_ok, if◌then◌else◌}
+use Rattle.std.proofs.lemmas.List.Elements.{All-nil}
 use Rattle.classfile.specs.Methods.{ExceptionEntry, covers}
 use Rattle.hierarchy.specs.Class.{ClassFact}
 use Rattle.hierarchy.specs.Answer.{Outcome, yes, no, missing}
 use Rattle.frames.specs.FrameFact.{FrameFact}
+use Rattle.frames.specs.VerificationType.{type_of}
 use Rattle.frames.specs.Conditions.{least}
 use Rattle.rules.specs.declared.reason.Reason.{Reason}
 use Rattle.rules.specs.declared.reason.Reason.TheVariants.{HandlerNotAssignable, ClassMissing}
 use Rattle.rules.specs.Reasons.{reason_view}
 use Rattle.verify.specs.declared.exceptions.Entry.{Entry}
+use Rattle.verify.specs.declared.handlers.Change.{Change}
 use Rattle.verify.specs.declared.handlers.Handlers.{Handlers}
 use Rattle.verify.specs.declared.handlers.Missing.{Missing}
 use Rattle.verify.specs.TypeSafety.{Frames}
@@ -17,7 +20,7 @@ use Rattle.verify.specs.Verdict.{handler_conditions}
 use Rattle.verify.specs.Keeping.{IsSameBeneath}
 use Rattle.verify.specs.ExceptionTables.{entry_view}
 use Rattle.verify.specs.Catching.{caught_answer}
-use Rattle.verify.specs.Handling.{Tracks, IsSettled, Follows, AreAhead, IsEarlier, IsLater, IsJudged, IsMissing, Settles, Catches}
+use Rattle.verify.specs.Handling.{Tracks, Takes, MayCome, IsSettled, Follows, AreAhead, IsEarlier, IsLater, IsJudged, IsMissing, Settles, Catches}
 use Rattle.verify.proofs.Caught.{none_against, one_against, first_missing, AreLacking}
 use Rattle.verify.proofs.Tracking.{tracked_again, tracked_later, tracked_without, tracked_settled, taken_begun, covered_compared, covered_ends, begun_covers}
 
@@ -34,8 +37,8 @@ module _ (classes : List ClassFact) (frames : Frames) (es : List ExceptionEntry)
   pub turn_first : (h : Handlers) → Follows classes frames es at f h → AreAhead at h → InTurn classes frames es at f None h
   turn_first h t ahead = record {
     tracks =
-        tracked_later es at (IsSettled classes frames at f) h.by_start.items h.begun h.fresh.items h.settled.items at (IsJudged classes frames at f None) (omega arith)
-        (λ e s lt. inl (s lt)) t;
+        tracked_later es at (IsSettled classes frames h.taken.items at f) h.by_start.items h.begun h.fresh.items h.settled.items at (IsJudged classes frames at f None) (omega arith)
+        (λ e s lt. inl (s.comes lt)) t;
     ahead = ahead;
     lacks = tt;
   }
@@ -93,26 +96,32 @@ module _ (classes : List ClassFact) (frames : Frames) (es : List ExceptionEntry)
 
   -- ---- all were compared
 
-  pub turn_done : (so_far : Option Missing) (h : Handlers) → h.fresh.items ≡ [] → InTurn classes frames es at f so_far h → Settles classes frames es at f h (Ok so_far)
-  turn_done None h none t = record { outcome = (nothing, all_settled) }
+  is_yes : (e : Entry) → (answer (entry_view e) ≡ yes) ⊎ IsLater None e (answer (entry_view e)) → answer (entry_view e) ≡ yes
+  is_yes e (inl y) = y
+  is_yes e (inr l) = absurd l
+
+  -- none is against the instruction
+  pub turn_nothing : (h : Handlers) → h.fresh.items ≡ [] → InTurn classes frames es at f None h → least (handler_conditions classes frames at f es) ≡ None
+  turn_nothing h none t = none_against classes frames at f es (λ place e i c.
+      let tracks = subst (λ xs. Tracks es at (IsJudged classes frames at f None) h.by_start.items h.begun xs h.settled.items) none t.tracks in
+      let k = covered_compared es at (IsJudged classes frames at f None) h.by_start.items h.begun h.settled.items tracks t.ahead place e i c in
+      ap answer (sym k.is) ∙ is_yes k.entry (k.so (subst (λ (z : ExceptionEntry). at < z.to) (sym k.is) (covered_ends e at c))))
+
+  -- there were none to compare
+  pub turn_none : (h : Handlers) → h.fresh.items ≡ [] → Follows classes frames es at f h → AreAhead at h → Settles classes frames es at f h (Ok None)
+  turn_none h none t ahead = record { outcome = (turn_nothing h none (turn_first h t ahead), t) }
+
+  pub turn_done : (so_far : Option Missing) (h : Handlers) → h.fresh.items ≡ [] → h.taken.items ≡ [] → InTurn classes frames es at f so_far h → Settles classes frames es at f h (Ok so_far)
+  turn_done None h none untaken t = record { outcome = (turn_nothing h none t, all_settled) }
     where
-      tracks : Tracks es at (IsJudged classes frames at f None) h.by_start.items h.begun [] h.settled.items
-      tracks = subst (λ xs. Tracks es at (IsJudged classes frames at f None) h.by_start.items h.begun xs h.settled.items) none t.tracks
-
-      is_yes : (e : Entry) → (answer (entry_view e) ≡ yes) ⊎ IsLater None e (answer (entry_view e)) → answer (entry_view e) ≡ yes
-      is_yes e (inl y) = y
-      is_yes e (inr l) = absurd l
-
-      nothing : least (handler_conditions classes frames at f es) ≡ None
-      nothing = none_against classes frames at f es (λ place e i c.
-          let k = covered_compared es at (IsJudged classes frames at f None) h.by_start.items h.begun h.settled.items tracks t.ahead place e i c in
-          ap answer (sym k.is) ∙ is_yes k.entry (k.so (subst (λ (z : ExceptionEntry). at < z.to) (sym k.is) (covered_ends e at c))))
+      taken : (e : Entry) → All (λ (c : Change). Takes classes frames e c.local (type_of c.vtype)) h.taken.items
+      taken e = subst (All (λ (c : Change). Takes classes frames e c.local (type_of c.vtype))) (sym untaken) (All-nil (λ (c : Change). Takes classes frames e c.local (type_of c.vtype)))
 
       all_settled : Follows classes frames es at f h
       all_settled =
-          tracked_later es at (IsJudged classes frames at f None) h.by_start.items h.begun h.fresh.items h.settled.items at (IsSettled classes frames at f) (omega arith)
-          (λ e j lt. is_yes e (j lt)) t.tracks
-  turn_done (Some m) h none t = record { outcome = first_missing classes frames at f es m.place t.lacks.entry m.name.now t.lacks.here t.lacks.covered t.lacks.answer lacking }
+          tracked_later es at (IsJudged classes frames at f None) h.by_start.items h.begun h.fresh.items h.settled.items at (IsSettled classes frames h.taken.items at f) (omega arith)
+          (λ e j. record { comes = λ lt. is_yes e (j lt); takes = taken e }) t.tracks
+  turn_done (Some m) h none untaken t = record { outcome = first_missing classes frames at f es m.place t.lacks.entry m.name.now t.lacks.here t.lacks.covered t.lacks.answer lacking }
     where
       tracks : Tracks es at (IsJudged classes frames at f (Some m)) h.by_start.items h.begun [] h.settled.items
       tracks = subst (λ xs. Tracks es at (IsJudged classes frames at f (Some m)) h.by_start.items h.begun xs h.settled.items) none t.tracks
@@ -145,7 +154,7 @@ module _ (classes : List ClassFact) (frames : Frames) (es : List ExceptionEntry)
 
   -- ---- behind a change of the frame
 
-  pub same_settled : (g : FrameFact) → IsSameBeneath f g → (e : Entry) → IsSettled classes frames at f e → IsSettled classes frames at g e
+  pub same_settled : (g : FrameFact) → IsSameBeneath f g → (e : Entry) → MayCome classes frames at f e → MayCome classes frames at g e
   same_settled g same e s = λ lt. by f g same.locals same.flag (s lt)
     where
       by : (f g : FrameFact) → f.locals ≡ g.locals → f.flag ≡ g.flag → caught_answer classes frames f (entry_view e) ≡ yes → caught_answer classes frames g (entry_view e) ≡ yes
@@ -170,8 +179,8 @@ none_left (x ∷ xs) n e z = absurd (omega (arith, e, z))
 pub follows_later : (classes : List ClassFact) (frames : Frames) (es : List ExceptionEntry) (at to : ℕ) (f : FrameFact) (h : Handlers) → at ≤ to
     → Follows classes frames es at f h → Follows classes frames es to f h
 follows_later classes frames es at to f h le t =
-    tracked_later es at (IsSettled classes frames at f) h.by_start.items h.begun h.fresh.items h.settled.items to (IsSettled classes frames to f) le
-    (λ e s lt. s (omega (arith, le, lt))) t
+    tracked_later es at (IsSettled classes frames h.taken.items at f) h.by_start.items h.begun h.fresh.items h.settled.items to (IsSettled classes frames h.taken.items to f) le
+    (λ e s. record { comes = λ lt. s.comes (omega (arith, le, lt)); takes = s.takes }) t
 
 pub when_ok : {T E : Type 0} (P : Type 0) (r : Result T E) → IsOk r → OnOk r P → P
 when_ok P (Ok x) e p = p

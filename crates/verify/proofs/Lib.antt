@@ -14,6 +14,7 @@ pub mod Decoded
 pub mod Caught
 pub mod Tracking
 pub mod InTurn
+pub mod Changes
 pub mod TableEntries
 pub mod Comparing
 pub mod Going
@@ -37,3 +38,5 @@ pub mod Formed
 pub mod Playing
 pub mod FilesInPlay
 pub mod Walking
+pub mod Standings
+pub mod OneMore

@@ -47,7 +47,7 @@ first_three a e = left_holds (first_two a && is_none (made_index a)) (names_noth
 pub nowhere : (a : Act) → is_plain a ≡ true → branch_offsets a ≡ []
 nowhere a e = is_nil (branch_offsets a) (right_holds (goes_on a) (nat_eq (length (branch_offsets a)) 0) (left_holds (first_two a) (is_none (made_index a)) (first_three a e)))
 
-constructs_none : (m : Method Act) (a : Act) (f : FrameFact) → is_plain a ≡ true → constructs_own (plan m a) f ≡ false
+pub constructs_none : (m : Method Act) (a : Act) (f : FrameFact) → is_plain a ≡ true → constructs_own (plan m a) f ≡ false
 constructs_none m (acts.Store kind n) f e = refl
 constructs_none m (acts.StoreReference n) f e = refl
 constructs_none m (acts.InvokeSpecial i) f e = cc

@@ -1,7 +1,7 @@
 -- Locals that hold an object are written one after the other.
-use Rattle.std.proofs.Common.{◌≡◌, ◌≢◌, ◌∙◌, ◌⊎◌, inl, inr, ℕ, zero, suc, ◌≤◌, ◌<◌, Bool, true, false, List, [], ◌∷◌, get_or, set, length, Some, None, refl, sym, ap, subst, arith}
+use Rattle.std.proofs.Common.{◌≡◌, ◌≢◌, ◌∙◌, ◌⊎◌, inl, inr, ℕ, zero, suc, ◌≤◌, ◌<◌, Bool, true, false, eqb, List, [], ◌∷◌, get_or, set, length, Some, None, refl, sym, ap, subst, arith}
 use Rattle.std.specs.Prelude.{nat_eq, is_some, IsSome}
-use Rattle.std.proofs.lemmas.Bool.Decides.{nat_tests}
+use Rattle.std.proofs.lemmas.Bool.Decides.{nat_tests, eqb_tells}
 use Rattle.std.proofs.lemmas.List.{same_lists, length-set, set-set, set-get_or, get_or-set_same, get_or-set_other, get_or_default}
 use Rattle.hierarchy.specs.Class.{ClassFact}
 use Rattle.frames.specs.FrameFact.{FrameFact}
@@ -30,14 +30,35 @@ same_locals : (xs ys : List VerificationType) → length xs ≡ length ys → ((
 same_locals xs ys size e = same_lists xs ys size (λ k d lt. get_or_default xs k d top lt ∙ e k ∙ get_or_default ys k top d (omega (arith, lt, size)))
 
 -- at the beginning all are open
+pub open_first : (object : VerificationType) (f : FrameFact) (ahead : ℕ → Type 0) → ((i : ℕ) → get_or f.locals i top ≡ object → IsSome (number_of object) → ahead i) → (i : ℕ) → IsOpen object f ahead i
+open_first object f ahead first i = by (is_initialized object (get_or f.locals i top)) refl
+  where
+    by : (b : Bool) → is_initialized object (get_or f.locals i top) ≡ b → IsOpen object f ahead i
+    by true e = inr (first i (same_object object (get_or f.locals i top) e) (has_number object (get_or f.locals i top) e))
+    by false e = inl e
+
+-- one that is not the object is not open behind it
+pub open_next : (object : VerificationType) (f : FrameFact) (ahead behind : ℕ → Type 0) (place : ℕ) → ((i : ℕ) → i ≢ place → ahead i → behind i) → is_initialized object (get_or f.locals place top) ≡ false
+    → (i : ℕ) → IsOpen object f ahead i → IsOpen object f behind i
+open_next object f ahead behind place rest other i (inl e) = inl e
+open_next object f ahead behind place rest other i (inr h) = by (eqb_tells i place)
+  where
+    by : ((eqb i place ≡ true) × (i ≡ place)) ⊎ ((eqb i place ≡ false) × (i ≢ place)) → IsOpen object f behind i
+    by (inl q) = inl (ap (λ n. is_initialized object (get_or f.locals n top)) q.1 ∙ other)
+    by (inr q) = inr (rest i q.1 h)
+
+-- where none is the object, the locals stay
+pub open_last : (object : VerificationType) (f g : FrameFact) (ahead : ℕ → Type 0) → ((i : ℕ) → ahead i → ⊥) → ((i : ℕ) → IsOpen object f ahead i) → ChangesOnly (Some object) f g → g.locals ≡ f.locals
+open_last object f g ahead none all changes = same_locals g.locals f.locals changes.0 (λ i. changes.1 i (by i (all i)))
+  where
+    by : (i : ℕ) → IsOpen object f ahead i → is_initialized object (get_or f.locals i top) ≡ false
+    by i (inl e) = e
+    by i (inr h) = absurd (none i h)
+
 pub replaced_none : (object : VerificationType) (f : FrameFact) (ahead : ℕ → Type 0) (known : Known) → ((i : ℕ) → get_or f.locals i top ≡ object → IsSome (number_of object) → ahead i)
     → AreReplaced object f ahead known known
 replaced_none object f ahead known first cs t g size same k =
-    known_by t cs f g known (sym (same_locals g.locals f.locals size (λ i. same i (case i (is_initialized object (get_or f.locals i top)) refl)))) k
-  where
-    case : (i : ℕ) (b : Bool) → is_initialized object (get_or f.locals i top) ≡ b → IsOpen object f ahead i
-    case i true e = inr (first i (same_object object (get_or f.locals i top) e) (has_number object (get_or f.locals i top) e))
-    case i false e = inl e
+    known_by t cs f g known (sym (same_locals g.locals f.locals size (λ i. same i (open_first object f ahead first i)))) k
 
 -- one more is written, which may be the object
 pub replaced_more : (object : VerificationType) (f : FrameFact) (ahead behind : ℕ → Type 0) (place : ℕ) (old now new : Known)

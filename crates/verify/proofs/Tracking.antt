@@ -122,6 +122,34 @@ module _ (es : List ExceptionEntry) (at : ℕ) (is_so : Entry → Type 0) (by_st
       every = λ place e i lt. again_on place (t.every place e i lt);
     }
 
+  -- those that are to be compared stand in another order
+  pub tracked_moved : (fresh other settled : List Entry) → All (HasBegun es at) other → ((e : Entry) → Contains fresh e → Contains other e)
+      → Tracks es at is_so by_start begun fresh settled → Tracks es at is_so by_start begun other settled
+  tracked_moved fresh other settled starts moved t = record {
+    own = t.own;
+    rises = t.rises;
+    begun_fresh = starts;
+    begun_settled = t.begun_settled;
+    so = t.so;
+    every = λ place e i lt. by place (t.every place e i lt);
+  }
+    where
+      by : (place : ℕ) → IsToCome by_start begun place ⊎ (Holds fresh place ⊎ Holds settled place) → IsToCome by_start begun place ⊎ (Holds other place ⊎ Holds settled place)
+      by place (inl c) = inl c
+      by place (inr (inl h)) = inr (inl (record { entry = h.entry; among = moved h.entry h.among; placed = h.placed }))
+      by place (inr (inr h)) = inr (inr h)
+
+  -- something else is so of those that were compared
+  pub tracked_so : (fresh settled : List Entry) (now_so : Entry → Type 0) → All now_so settled → Tracks es at is_so by_start begun fresh settled → Tracks es at now_so by_start begun fresh settled
+  tracked_so fresh settled now_so so t = record {
+    own = t.own;
+    rises = t.rises;
+    begun_fresh = t.begun_fresh;
+    begun_settled = t.begun_settled;
+    so = so;
+    every = t.every;
+  }
+
   -- at a later offset, of which less is said
   pub tracked_later : (fresh settled : List Entry) (to : ℕ) (now_so : Entry → Type 0) → at ≤ to → ((e : Entry) → is_so e → now_so e)
       → Tracks es at is_so by_start begun fresh settled → Tracks es to now_so by_start begun fresh settled

@@ -1,15 +1,19 @@
 -- The entries of an exception table while a pass goes over the code: which are to come, and which are compared with the frame as it is.
-use Rattle.std.specs.Prelude.{◌≡◌, ◌⊎◌, ℕ, ◌≤◌, ◌<◌, true, List, length, slice_get, slice_index_or, Option, Some, None, Result, IfSome, OnOk, MatchResult, MatchOption, All, Contains}
+use Rattle.std.specs.Prelude.{◌≡◌, ◌⊎◌, ℕ, ◌≤◌, ◌<◌, true, List, length, get_or, slice_get, slice_index_or, Option, Some, None, Result, IfSome, OnOk, MatchResult, MatchOption, All, Contains}
 use Rattle.std.specs.List.Sorted.{IsNonDecreasingBy}
 use Rattle.classfile.specs.Methods.{ExceptionEntry, covers}
 use Rattle.hierarchy.specs.Class.{ClassFact}
 use Rattle.hierarchy.specs.Answer.{Outcome, yes, missing}
+use Rattle.insn.specs.Offsets.{at_offset}
+use Rattle.frames.specs.Assignable.{type_answer}
 use Rattle.frames.specs.FrameFact.{FrameFact}
+use Rattle.frames.specs.VerificationType.{VerificationType, type_of, top}
 use Rattle.frames.specs.Conditions.{class_missing, least}
 use Rattle.rules.specs.declared.reason.Reason.{Reason}
 use Rattle.rules.specs.declared.reason.Reason.TheVariants.{OutOfMemory}
 use Rattle.rules.specs.Reasons.{reason_view}
 use Rattle.verify.specs.declared.exceptions.Entry.{Entry}
+use Rattle.verify.specs.declared.handlers.Change.{Change}
 use Rattle.verify.specs.declared.handlers.Handlers.{Handlers}
 use Rattle.verify.specs.declared.handlers.Missing.{Missing}
 use Rattle.verify.specs.TypeSafety.{Frames}
@@ -49,13 +53,27 @@ pub record Tracks (es : List ExceptionEntry) (at : ℕ) (is_so : Entry → Type 
   pub every : (place : ℕ) (e : ExceptionEntry) → slice_get es place ≡ Some e → at < e.to
       → IsToCome by_start begun place ⊎ (Holds fresh place ⊎ Holds settled place)
 
+-- the frame of an entry's handler takes this type as the local of a number
+abbrev pub Takes : List ClassFact → Frames → Entry → ℕ → VerificationType → Type 0
+Takes classes frames e n t = IfSome (at_offset frames e.handler) (λ d. type_answer classes t (get_or d.locals n top) ≡ yes)
+
+-- a local of this number was given this type
+abbrev pub IsAmong : List Change → ℕ → VerificationType → Type 0
+IsAmong changes n t = (c : Change) × Contains changes c × (c.local ≡ n) × (type_of c.vtype ≡ t)
+
 -- unless its range has ended, the frame may come to its handler
-abbrev pub IsSettled : List ClassFact → Frames → ℕ → FrameFact → Entry → Type 0
-IsSettled classes frames at f e = at < e.to → caught_answer classes frames f (entry_view e) ≡ yes
+abbrev pub MayCome : List ClassFact → Frames → ℕ → FrameFact → Entry → Type 0
+MayCome classes frames at f e = at < e.to → caught_answer classes frames f (entry_view e) ≡ yes
+
+-- and the handler's frame takes each of these changes
+pub record IsSettled (classes : List ClassFact) (frames : Frames) (taken : List Change) (at : ℕ) (f : FrameFact) (e : Entry) : Type 0 where
+  pub comes : MayCome classes frames at f e
+  pub takes : All (λ (c : Change). Takes classes frames e c.local (type_of c.vtype)) taken
 
 -- those that were compared are so with the frame as it is
 abbrev pub Follows : List ClassFact → Frames → List ExceptionEntry → ℕ → FrameFact → Handlers → Type 0
-Follows classes frames es at f h = Tracks es at (IsSettled classes frames at f) h.by_start.items h.begun h.fresh.items h.settled.items
+Follows classes frames es at f h =
+    Tracks es at (IsSettled classes frames h.taken.items at f) h.by_start.items h.begun h.fresh.items h.settled.items
 
 -- those that are to come begin behind the offset
 abbrev pub AreAhead : ℕ → Handlers → Type 0

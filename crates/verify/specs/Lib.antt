@@ -26,6 +26,9 @@ pub mod Files
 pub mod FileSteps
 pub mod Among
 pub mod AmongSteps
+pub mod Standing
+pub mod Each
+pub mod EachSteps
 pub mod Turns
 pub mod PlaceSets
 pub mod Targets

@@ -1,5 +1,5 @@
 //! The frame in which an instruction raises, where an entry of the exception table leads (JVMS 4.10.1.6).
-ghost use Rattle.std.specs.Prelude.{◌≡◌, ◌≤◌, ◌∷◌, [], ℕ, length, map, reverse, option_map, IfOk, IfSome, OnOk};
+ghost use Rattle.std.specs.Prelude.{◌≡◌, ◌≤◌, ◌∷◌, [], ℕ, true, length, map, reverse, option_map, IfOk, IfSome, OnOk};
 ghost use Rattle.hierarchy.specs.Answer.{outcome_of};
 ghost use Rattle.names.specs.References.{reference_view};
 ghost use Rattle.frames.specs.VerificationType.{type_of};
@@ -12,6 +12,7 @@ ghost use Rattle.rules.specs.After.{with_stack};
 ghost use Rattle.rules.specs.Held.{held};
 ghost use Rattle.verify.specs.ExceptionTables.{entry_view};
 ghost use Rattle.verify.specs.Catching.{caught_answer};
+ghost use Rattle.verify.specs.Handling.{Takes};
 ghost use Rattle.verify.specs.Keeping.{IsKnown};
 
 use crate::exceptions::Entry;
@@ -103,6 +104,26 @@ pub fn caught_answer<'n, 'a, C: Classes>(
         None => Ok(Answer::No),
         Some(declared) => {
             frame_answer(entry.caught, frame, &declared, frames, known, room, classes)
+        }
+    }
+}
+
+/// Whether the frame of an entry's handler takes a type as the local of a number, so that a frame which may come there still may where its
+/// local is given that type.
+pub fn takes<'a, C: Classes>(
+    entry: &Entry<'a>,
+    local: u16,
+    vtype: &VType<'a>,
+    frames: &DeclaredFrames<'a>,
+    classes: &C,
+) -> bool
+    ensures { result ≡ true → Takes (C.content classes.now) (frames_in frames.now) entry.now local (type_of vtype.now) }
+{
+    match frames.find(u32::from(entry.handler)) {
+        None => false,
+        Some(declared) => {
+            let wanted = declared.local(usize::from(local));
+            matches!(assignable(vtype, &wanted, classes), Answer::Yes)
         }
     }
 }

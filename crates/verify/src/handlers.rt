@@ -1,13 +1,23 @@
 //! The exception handlers of a method, while a pass goes over its code (JVMS 4.10.1.6).
-ghost use Rattle.verify.specs.Handling.{IsEarlier};
+ghost use Rattle.std.specs.Prelude.{◌≡◌, true, false, option_map};
+ghost use Rattle.frames.specs.FrameFact.{FrameFact};
+ghost use Rattle.frames.specs.VerificationType.{type_of};
+ghost use Rattle.rules.specs.After.{top_of};
+ghost use Rattle.rules.specs.Held.{held};
+ghost use Rattle.rules.specs.Replacing.{ChangesOnly};
+ghost use Rattle.verify.specs.Handling.{IsEarlier, IsAmong};
 
-use crate::catching::caught_answer;
+use crate::catching::{caught_answer, takes};
 use crate::exceptions::Entry;
-use crate::keeping::Known;
-use frames::{DeclaredFrames, VType};
+use crate::keeping::{Known, Replaced};
+use frames::{Declared, DeclaredFrames, VType, is_object};
 use hierarchy::{Answer, Classes};
-use rules::{Reason, Working};
+use insn::Act;
+use rules::{Reason, Working, stored_to};
 use std::alloc::{AllocError, Global};
+
+// So many changes are kept that all settled entries took.
+const MOST_TAKEN: usize = 16;
 
 /// The class that is missing for the entry that stands first in the table, of those whose comparison needs one.
 #[derive(Clone, Copy)]
@@ -18,8 +28,17 @@ pub struct Missing<'a> {
     pub name: &'a [u8],
 }
 
-/// The entries of an exception table. Each is compared with the frame when its range begins, and again when the locals have changed, as long
-/// as its range has not ended.
+/// A local variable that was given a type.
+#[derive(Clone, Copy)]
+pub struct Change<'a> {
+    /// Its number.
+    pub local: u16,
+    /// The type.
+    pub vtype: VType<'a>,
+}
+
+/// The entries of an exception table. Each is compared with the frame when its range begins, and again when a local was given a type that its
+/// handler's frame does not take, as long as its range has not ended.
 #[derive(Drop)]
 pub struct Handlers<'a> {
     // By where their ranges begin.
@@ -30,8 +49,24 @@ pub struct Handlers<'a> {
     fresh: Vec<Entry<'a>>,
     // Entries already checked against the current locals.
     settled: Vec<Entry<'a>>,
+    // Changes that the frames of their handlers take, so that another one of these is not compared.
+    taken: Vec<Change<'a>>,
+    // Those that are gone through.
+    moved: Vec<Entry<'a>>,
     // Where the frame of a handler is written.
     room: Vec<VType<'a>>,
+}
+
+/// Whether a change is one of these.
+fn is_among(change: &Change<'_>, taken: &[Change<'_>]) -> bool
+    ensures { result ≡ true → IsAmong taken.now change.now.local (type_of change.now.vtype) }
+{
+    for one in taken {
+        if one.local == change.local && one.vtype == change.vtype {
+            return true;
+        }
+    }
+    false
 }
 
 /// The first of these, by their places.
@@ -49,20 +84,52 @@ fn earlier<'a>(one: Option<Missing<'a>>, place: usize, name: &'a [u8]) -> Missin
     }
 }
 
+/// The type on top of a frame's stack.
+fn top_of<'a>(frame: &Working<'a>) -> VType<'a>
+    ensures { type_of result ≡ top_of (held frame.now).stack }
+{
+    match frame.stack().last() {
+        Some(t) => *t,
+        None => VType::Top,
+    }
+}
+
+/// Whether a local holds the object, if there is one.
+fn is_in_a_local<'a>(object: Option<VType<'a>>, frame: &Working<'a>) -> bool
+    ensures { (g : FrameFact) → result ≡ false → ChangesOnly (option_map type_of object.entry) (held frame.now) g → g.locals ≡ (held frame.now).locals }
+{
+    let Some(object) = object else {
+        return false;
+    };
+    let mut at = frame.first_holder(&object);
+    while let Some(holder) = frame.holder(at) {
+        if is_object(&object, &frame.local(holder.place)) {
+            return true;
+        }
+        at = holder.next;
+    }
+    false
+}
+
 impl<'a> Handlers<'a> {
-    ghost use Rattle.std.specs.Prelude.{◌≡◌, ◌<◌, ◌≤◌, ℕ, true, List, length, map, slice_index_or, None, IfSome, IfOk, OnOk};
+    ghost use Rattle.std.specs.Prelude.{◌<◌, ◌≤◌, ℕ, List, length, map, set, slice_index_or, None, IfSome, IfOk, OnOk, All};
     ghost use Rattle.std.specs.List.Sorted.{IsNonDecreasingBy};
     ghost use Rattle.hierarchy.specs.Class.{ClassFact};
-    ghost use Rattle.classfile.specs.Methods.{ExceptionEntry};
-    ghost use Rattle.frames.specs.FrameFact.{FrameFact};
-    ghost use Rattle.frames.specs.DeclaredTables.{frames_in, locals_in};
-    ghost use Rattle.rules.specs.Held.{held};
+    ghost use Rattle.classfile.specs.Methods.{ExceptionEntry, Method};
+    ghost use Rattle.insn.specs.Meanings as acts;
+    ghost use Rattle.insn.specs.Views.{act_view};
+    ghost use Rattle.frames.specs.DeclaredTables.{frames_in, locals_in, declared_view, IsOf, AreOfOne};
+    ghost use Rattle.rules.specs.After.{after, stored};
+    ghost use Rattle.rules.specs.Table.{plan};
+    ghost use Rattle.rules.specs.Views.{with_half_free};
+    ghost use Rattle.rules.specs.Ways.{stored_to};
+    ghost use Rattle.rules.specs.Working.{with_locals};
     ghost use Rattle.verify.specs.TypeSafety.{Frames};
-    ghost use Rattle.verify.specs.Keeping.{IsKnown, IsSameBeneath};
+    ghost use Rattle.verify.specs.Keeping.{IsKnown, IsKept, restored};
     ghost use Rattle.verify.specs.ExceptionTables.{entry_view, AreNumbered};
-    ghost use Rattle.verify.specs.Handling.{Follows, AreAhead, Settles, Catches};
+    ghost use Rattle.verify.specs.Handling.{Follows, Takes, AreAhead, Settles, Catches};
     ghost use Rattle.frames.specs.Conditions.{least};
-    ghost use Rattle.verify.specs.Verdict.{is_covered, handler_conditions};
+    ghost use Rattle.verify.specs.Verdict.{entered, is_covered, handler_conditions};
     ghost use Rattle.verify.specs.declared.exceptions.Entry as entries;
 
     /// The handlers of this table, before the first instruction.
@@ -77,6 +144,8 @@ impl<'a> Handlers<'a> {
             begun: 0,
             fresh: Vec::new(alloc),
             settled: Vec::new(alloc),
+            taken: Vec::new(alloc),
+            moved: Vec::new(alloc),
             room: Vec::new(alloc),
         })
     }
@@ -116,15 +185,216 @@ impl<'a> Handlers<'a> {
         self.fresh.is_empty() && self.next(at).is_none()
     }
 
-    /// Behind a change of the frame: unless its locals and its flag are the same, all are to be compared again.
-    pub fn behind(&mut self, same: bool) -> Result<(), AllocError>
-        ensures { (cs : List ClassFact) (frames : Frames) (es : List ExceptionEntry) (at : ℕ) (f g : FrameFact) → (same ≡ true → IsSameBeneath f g)
+    // The frame becomes another one, with which all are to be compared.
+    fn compare_again(&mut self) -> Result<(), AllocError>
+        ensures { (cs : List ClassFact) (frames : Frames) (es : List ExceptionEntry) (at : ℕ) (f g : FrameFact)
             → Follows cs frames es at f self.old → OnOk result (Follows cs frames es at g self.new) }
     {
-        if same {
+        self.fresh.append(&mut self.settled)
+    }
+
+    // A local is given a type: each entry whose handler's frame does not take it is to be compared again.
+    fn part<C: Classes>(
+        &mut self,
+        change: &Change<'a>,
+        frames: &DeclaredFrames<'a>,
+        classes: &C,
+    ) -> Result<(), AllocError>
+        ensures { let cs = C.content classes.now in let t = frames_in frames.now in (es : List ExceptionEntry) (at : ℕ) (f g : FrameFact)
+            → g.flag ≡ f.flag → g.locals ≡ set f.locals change.now.local (type_of change.now.vtype)
+            → Follows cs t es at f self.old → OnOk result (Follows cs t es at g self.new × All (λ e. Takes cs t e change.now.local (type_of change.now.vtype)) self.new.settled.items) }
+    {
+        self.moved.clear();
+        self.moved.append(&mut self.settled)?;
+        while let Some(entry) = self.moved.pop() {
+            if takes(&entry, change.local, &change.vtype, frames, classes) {
+                self.settled.push(entry)?;
+            } else {
+                self.fresh.push(entry)?;
+            }
+        }
+        Ok(())
+    }
+
+    // A local is given a type. Where it was given that before, nothing is compared.
+    fn change<C: Classes>(
+        &mut self,
+        local: u16,
+        vtype: VType<'a>,
+        frames: &DeclaredFrames<'a>,
+        classes: &C,
+    ) -> Result<(), AllocError>
+        ensures { let cs = C.content classes.now in let t = frames_in frames.now in (es : List ExceptionEntry) (at : ℕ) (f g : FrameFact)
+            → g.flag ≡ f.flag → g.locals ≡ set f.locals local (type_of vtype.entry)
+            → Follows cs t es at f self.old → OnOk result (Follows cs t es at g self.new) }
+    {
+        let change = Change { local, vtype };
+        if is_among(&change, &self.taken) {
             return Ok(());
         }
-        self.fresh.append(&mut self.settled)
+        self.part(&change, frames, classes)?;
+        if self.taken.len() == MOST_TAKEN {
+            self.taken.clear();
+        }
+        self.taken.push(change)?;
+        Ok(())
+    }
+
+    // The local in front of one that is to be stored to becomes top, where it is a long or double.
+    fn free_half<C: Classes>(
+        &mut self,
+        local: u16,
+        frame: &Working<'a>,
+        frames: &DeclaredFrames<'a>,
+        classes: &C,
+    ) -> Result<(), AllocError>
+        ensures { let cs = C.content classes.now in let t = frames_in frames.now in (es : List ExceptionEntry) (at : ℕ) (g : FrameFact)
+            → g.flag ≡ (held frame.now).flag → g.locals ≡ with_half_free local (held frame.now).locals
+            → Follows cs t es at (held frame.now) self.old → OnOk result (Follows cs t es at g self.new) }
+    {
+        if local == 0 {
+            return Ok(());
+        }
+        let before = local - 1;
+        if !frame.is_wide_at(usize::from(before)) {
+            return Ok(());
+        }
+        self.change(before, VType::Top, frames, classes)
+    }
+
+    // The local behind one that is to be stored to becomes top, where a long or double is stored.
+    fn fill_half<C: Classes>(
+        &mut self,
+        local: u16,
+        frame: &Working<'a>,
+        frames: &DeclaredFrames<'a>,
+        classes: &C,
+    ) -> Result<(), AllocError>
+        ensures { let cs = C.content classes.now in let t = frames_in frames.now in let f = held frame.now in (es : List ExceptionEntry) (at : ℕ) (g : FrameFact)
+            → g.flag ≡ f.flag → g.locals ≡ set (with_half_free local f.locals) local (top_of f.stack)
+            → Follows cs t es at g self.old → OnOk result (Follows cs t es at (stored local f) self.new) }
+    {
+        if !frame.has_wide_top() {
+            return Ok(());
+        }
+        let limit = frame.max_locals();
+        if limit <= local {
+            return Ok(());
+        }
+        self.change(local + 1, VType::Top, frames, classes)
+    }
+
+    // The top of the frame's stack is to be stored to a local.
+    #[inline(never)]
+    fn store<C: Classes>(
+        &mut self,
+        local: u16,
+        frame: &Working<'a>,
+        frames: &DeclaredFrames<'a>,
+        classes: &C,
+    ) -> Result<(), AllocError>
+        ensures { let cs = C.content classes.now in let t = frames_in frames.now in (es : List ExceptionEntry) (at : ℕ)
+            → Follows cs t es at (held frame.now) self.old → OnOk result (Follows cs t es at (stored local (held frame.now)) self.new) }
+    {
+        self.free_half(local, frame, frames, classes)?;
+        self.change(local, top_of(frame), frames, classes)?;
+        self.fill_half(local, frame, frames, classes)
+    }
+
+    /// The frame becomes the one after an instruction that means this. Behind a store, entries whose handlers' frames take the type are not
+    /// compared again. Another instruction changes no other locals than those that hold an object, and the flag where it is a constructor's
+    /// call on the own one.
+    pub fn behind<C: Classes>(
+        &mut self,
+        act: &Act<'_>,
+        object: Option<VType<'a>>,
+        own: bool,
+        frame: &Working<'a>,
+        frames: &DeclaredFrames<'a>,
+        classes: &C,
+    ) -> Result<(), AllocError>
+        ensures { let cs = C.content classes.now in let t = frames_in frames.now in (es : List ExceptionEntry) (m : Method acts.Act) (at : ℕ)
+            → let f = held frame.now in let g = after m at (plan m (act_view act.now)) f in
+            (stored_to (act_view act.now) ≡ None → ChangesOnly (option_map type_of object.entry) f g) → (own ≡ false → g.flag ≡ f.flag)
+            → Follows cs t es at f self.old → OnOk result (Follows cs t es at g self.new) }
+    {
+        if self.settled.is_empty() {
+            return Ok(());
+        }
+        if let Some(local) = stored_to(act) {
+            return self.store(local, frame, frames, classes);
+        }
+        if own || is_in_a_local(object, frame) {
+            return self.compare_again();
+        }
+        Ok(())
+    }
+
+    // The locals of a frame that were replaced are put back, the latest first.
+    fn put_back<C: Classes>(
+        &mut self,
+        replaced: &[Replaced<'a>],
+        frames: &DeclaredFrames<'a>,
+        classes: &C,
+    ) -> Result<(), AllocError>
+        ensures { let cs = C.content classes.now in let t = frames_in frames.now in (es : List ExceptionEntry) (at : ℕ) (f : FrameFact)
+            → Follows cs t es at f self.old → OnOk result (Follows cs t es at (with_locals f (restored replaced.now f.locals)) self.new) }
+    {
+        let mut left = replaced.len();
+        while left > 0 {
+            left -= 1;
+            let one = replaced[left];
+            self.change(one.place, one.was, frames, classes)?;
+        }
+        Ok(())
+    }
+
+    // The locals of one declared frame become those of another one of the same stack map.
+    fn pass<C: Classes>(
+        &mut self,
+        from: &Declared<'_, 'a>,
+        to: &Declared<'_, 'a>,
+        frames: &DeclaredFrames<'a>,
+        classes: &C,
+    ) -> Result<(), AllocError>
+        requires { AreOfOne from.now to.now }
+        ensures { let cs = C.content classes.now in let t = frames_in frames.now in (es : List ExceptionEntry) (at : ℕ) (f : FrameFact)
+            → f.locals ≡ (declared_view from.now).locals → Follows cs t es at f self.old → OnOk result (Follows cs t es at (with_locals f (declared_view to.now).locals) self.new) }
+    {
+        let end = from.units().max(to.units());
+        for place in to.shared_units(from)..end {
+            let vtype = to.local(usize::from(place));
+            self.change(place, vtype, frames, classes)?;
+        }
+        Ok(())
+    }
+
+    /// The frame, of which this is known, becomes a declared one, if one is. Where few locals become others, entries whose handlers' frames take
+    /// them are not compared again.
+    pub fn enter<'n, C: Classes>(
+        &mut self,
+        known: &Known<'n, 'a>,
+        frame: &Working<'a>,
+        declared: Option<Declared<'n, 'a>>,
+        frames: &DeclaredFrames<'a>,
+        classes: &C,
+    ) -> Result<(), AllocError>
+        requires own { IfSome declared (IsOf frames.now) }
+        requires kept { IsKept frames.now (held frame.now) known.now }
+        ensures { let cs = C.content classes.now in let t = frames_in frames.now in let f = held frame.now in (es : List ExceptionEntry) (at : ℕ)
+            → Follows cs t es at f self.old → OnOk result (Follows cs t es at (entered f (option_map declared_view declared.entry)) self.new) }
+    {
+        let Some(to) = declared else {
+            return Ok(());
+        };
+        if self.settled.is_empty() {
+            return Ok(());
+        }
+        let Some(from) = known.near(&to, frame.flag()) else {
+            return self.compare_again();
+        };
+        self.put_back(&known.replaced, frames, classes)?;
+        self.pass(&from, &to, frames, classes)
     }
 
     // Compares those that are to be compared, but for one against which there is a reason.
@@ -144,6 +414,10 @@ impl<'a> Handlers<'a> {
             → Settles cs (frames_in frames.now) es at (held frame.now) self.new result }
     {
         let mut missing = None;
+        if self.fresh.is_empty() {
+            return Ok(missing);
+        }
+        self.taken.clear();
         while let Some(entry) = self.fresh.pop() {
             if entry.to <= at {
                 continue;

@@ -5,6 +5,7 @@ ghost use Rattle.insn.specs.Instructions.{Instruction};
 ghost use Rattle.insn.specs.Code.{SpellsCode};
 ghost use Rattle.insn.specs.Offsets.{at_offset};
 ghost use Rattle.insn.specs.Views.{act_view};
+ghost use Rattle.frames.specs.FrameFact.{FrameFact};
 ghost use Rattle.frames.specs.DeclaredTables.{frames_in, locals_in};
 ghost use Rattle.frames.specs.MarkedCode.{code_in};
 ghost use Rattle.rules.specs.Table.{plan};
@@ -38,7 +39,7 @@ use insn::{Act, Instructions};
 use pool::Descriptors;
 use rules::{
     Members, Named, Reason, Working, branches_by, check_member, constructs_own, first_reason,
-    goes_on, is_plain, keeps_locals, replaced_object, run, run_plain, together,
+    goes_on, is_plain, replaced_object, run, run_plain, together,
 };
 use std::alloc::{AllocError, Global};
 
@@ -109,9 +110,8 @@ fn take_up<'n, 'a, C: Classes>(
         Follows cs t es place (held frame.old) handlers.old → OnOk result (Follows cs t es place (held frame.new) handlers.new) }
 {
     let declared = frames.find(u32::from(at));
-    let same = known.keeps(frame.flag(), declared);
+    handlers.enter(known, frame, declared, frames, classes)?;
     enter(comes, declared, frames, known, frame, classes)?;
-    handlers.behind(same)?;
     Ok(())
 }
 
@@ -139,23 +139,13 @@ fn arrive<'n, 'a, C: Classes>(
     take_up(at, comes, frames, known, handlers, frame, classes)
 }
 
-/// Whether an entry of the exception table covers an instruction that calls a constructor on the own object. The entries have come to its
-/// offset.
-fn covers_constructor<'a>(
-    method: &CodeMethod<'_, 'a>,
-    at: u16,
-    act: &Act<'a>,
-    named: &Named<'a>,
-    handlers: &mut Handlers<'a>,
-    frame: &Working<'a>,
-) -> Result<bool, AllocError>
-    requires { IsNamed (method_view method.now) (act_view act.now) named.now }
-    ensures { (cs : List ClassFact) (frames : Frames) (es : List ExceptionEntry) → let f = held frame.now in
-        Follows cs frames es at f handlers.old → AreAhead at handlers.old
-        → IfOk result (λ covered. (covered ≡ (constructs_own (plan (method_view method.now) (act_view act.now)) f && is_covered es at))
-        × Follows cs frames es at f handlers.new × AreAhead at handlers.new) }
+/// Whether an entry of the exception table covers an instruction that calls a constructor on the own object, if it is one. The entries have
+/// come to its offset.
+fn covers_constructor(own: bool, at: u16, handlers: &mut Handlers<'_>) -> Result<bool, AllocError>
+    ensures { (cs : List ClassFact) (frames : Frames) (es : List ExceptionEntry) (f : FrameFact) → Follows cs frames es at f handlers.old → AreAhead at handlers.old
+        → IfOk result (λ covered. (covered ≡ (own && is_covered es at)) × Follows cs frames es at f handlers.new × AreAhead at handlers.new) }
 {
-    if !constructs_own(method, act, named, frame) {
+    if !own {
         return Ok(false);
     }
     handlers.covers(at)
@@ -198,13 +188,14 @@ fn judge_wholly<'n, 'a, C: Classes>(
 {
     handlers.come_to(at)?;
     let named = members.named(constants, method, &act)?;
-    let covered = covers_constructor(method, at, &act, &named, handlers, frame)?;
+    let own = constructs_own(method, &act, &named, frame);
+    let covered = covers_constructor(own, at, handlers)?;
     let used = check_member(method, &act, &named, members, frame, classes);
     let caught = handlers.catch(at, frame, frames, known, classes);
     let before = together(used, caught);
     let object = replaced_object(method, at, &act, &named, frame);
     known.behind(&act, object, frame)?;
-    handlers.behind(keeps_locals(&act))?;
+    handlers.behind(&act, object, own, frame, frames, classes)?;
     judge_named(
         alloc,
         method,
@@ -260,7 +251,7 @@ fn judge<'n, 'a, C: Classes>(
 {
     if !last && is_plain(act) && handlers.are_idle(at) {
         known.behind(act, None, frame)?;
-        handlers.behind(keeps_locals(act))?;
+        handlers.behind(act, None, false, frame, frames, classes)?;
         return run_plain(method, act, frame, classes);
     }
     judge_wholly(

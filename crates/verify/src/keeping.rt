@@ -11,6 +11,9 @@ use insn::Act;
 use rules::{Working, stored_to};
 use std::alloc::{AllocError, Global};
 
+// So many locals are few.
+const FEW: usize = 8;
+
 /// A local variable that was changed.
 #[derive(Clone, Copy)]
 pub struct Replaced<'a> {
@@ -37,7 +40,7 @@ impl<'n, 'a> Known<'n, 'a> {
     ghost use Rattle.hierarchy.specs.Answer.{yes, outcome_of};
     ghost use Rattle.insn.specs.Meanings as acts;
     ghost use Rattle.insn.specs.Views.{act_view};
-    ghost use Rattle.frames.specs.DeclaredTables.{declared_view, IsOf};
+    ghost use Rattle.frames.specs.DeclaredTables.{declared_view, IsOf, AreOfOne};
     ghost use Rattle.frames.specs.Assignable.{type_answer};
     ghost use Rattle.frames.specs.FrameAssignable.{list_answer, frame_answer};
     ghost use Rattle.frames.specs.Fitting.{AreFitting};
@@ -49,8 +52,7 @@ impl<'n, 'a> Known<'n, 'a> {
     ghost use Rattle.rules.specs.Table.{plan};
     ghost use Rattle.rules.specs.Ways.{stored_to};
     ghost use Rattle.rules.specs.Views.{with_half_free};
-    ghost use Rattle.verify.specs.Verdict.{entered};
-    ghost use Rattle.verify.specs.Keeping.{IsKnown, IsKept, IsSameBeneath, restored};
+    ghost use Rattle.verify.specs.Keeping.{IsKnown, IsKept, restored};
 
     /// Nothing of the locals and the frames of a table.
     pub fn new(alloc: Global, frames: &'n DeclaredFrames<'a>) -> Result<Known<'n, 'a>, AllocError>
@@ -63,25 +65,25 @@ impl<'n, 'a> Known<'n, 'a> {
         })
     }
 
-    /// Whether a declared frame has the locals that the running one is known to have.
-    fn are_those_of(&self, declared: &Declared<'n, 'a>) -> bool
-        ensures { (t : DeclaredFrames) (f : FrameFact) → result ≡ true → IsOf t declared.now → IsKept t f self.now → f.locals ≡ (declared_view declared.now).locals }
+    /// The declared frame that the locals of a frame are those of, but for what was replaced, if it is known, few of them are others in another
+    /// declared frame, and that one has this flag.
+    pub fn near(&self, to: &Declared<'n, 'a>, flag: bool) -> Option<Declared<'n, 'a>>
+        requires { IfSome self.now.kept (λ from. AreOfOne from to.now) }
+        ensures { IfSome result (λ from. (self.now.kept ≡ Some from) × ((declared_view to.now).flag ≡ flag)) }
     {
-        match self.kept {
-            Some(kept) => self.replaced.is_empty() && declared.keeps_locals_of(&kept),
-            None => false,
+        let from = self.kept?;
+        if to.flag() != flag {
+            return None;
         }
-    }
-
-    /// Whether a frame with this flag keeps its locals and the flag where a frame is declared and taken on, or none is.
-    pub fn keeps(&self, flag: bool, declared: Option<Declared<'n, 'a>>) -> bool
-        ensures { (t : DeclaredFrames) (f : FrameFact) → result ≡ true → f.flag ≡ flag → IfSome declared.entry (IsOf t) → IsKept t f self.now
-            → IsSameBeneath f (entered f (option_map declared_view declared.entry)) }
-    {
-        match declared {
-            Some(frame) => self.are_those_of(&frame) && frame.flag() == flag,
-            None => true,
+        if self.replaced.is_empty() && to.keeps_locals_of(&from) {
+            return Some(from);
         }
+        let end = from.units().max(to.units());
+        let others = end.saturating_sub(to.shared_units(&from));
+        if self.replaced.len() + usize::from(others) > FEW {
+            return None;
+        }
+        Some(from)
     }
 
     /// Whether the locals of a frame are seen to fit those of a declared one. They may fit where the answer is no.

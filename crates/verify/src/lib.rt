@@ -6,6 +6,7 @@
 //! - `report`: the verdicts on the methods of a class.
 //! - `files`: from a file as it was read to a class that is well formed.
 //! - `among`: a class among the classes that it may refer to; `together`: the classes of files in play together.
+//! - `each`: the classes of many files, each judged among all; `gathering`: the classes that files are; `standing`: those of them that stand.
 //! - `listing`: whether a hierarchy has a class as it is.
 //! - `final_super`: whether the superclass of a class is final.
 //! - `refusal`: verdicts that refuse.
@@ -27,10 +28,12 @@
 mod among;
 mod branching;
 mod catching;
+mod each;
 mod exceptions;
 mod files;
 mod final_super;
 mod flow;
+mod gathering;
 mod handlers;
 mod initial;
 mod judging;
@@ -44,12 +47,14 @@ mod play;
 mod refusal;
 mod report;
 mod stack_maps;
+mod standing;
 mod theorem;
 mod together;
 mod verdict;
 mod verified_walk;
 
 pub use among::{AmongFault, verify_among, verify_among_under};
+pub use each::{EachFault, Judgement, verify_each};
 pub use files::{FileFault, FileRead, class_file};
 pub use laws::{
     class_run_breadth, fits_breadth, map_refused_where, one_report, one_verdict, refused_breaks,

@@ -2,6 +2,7 @@ use Rattle.std.proofs.Common.{rules, ◌≡◌, ◌≤◌, ◌∙◌, ◌-◌, t
 use Rattle.std.proofs.lemmas.List.{take_all, length-drop}
 use Rattle.answers.specs.Verdicts.{VerifySays}
 use Rattle.answers.specs.Plays.{PlaySays}
+use Rattle.answers.specs.Judgements.{EachSays}
 use Rattle.answers.specs.Answers.{Answered, Says}
 use Rattle.answers.specs.Files.{read_view}
 use Rattle.answers.specs.declared.manner.Manner.TheVariants.{Told, Explained}
@@ -56,6 +57,19 @@ returns-in-Play-clause-answered g c =
     let told : Answered (PlaySays c.in-Play.profile behind) (held c.args.out.now) (held c.play.new.out) c.play.result = subst (λ rs. Answered (PlaySays c.in-Play.profile rs) (held c.args.out.now) (held c.play.new.out) c.play.result) e c.play.ensures in
     rw e (subst (λ command. Answered (Says command behind) (held c.args.out.now) (held c.play.new.out) c.play.result) (sym c.in-Play.is) told)
 
+pub returns-in-VerifyEach-clause-answered : goal.returns-in-VerifyEach-clause-answered
+returns-in-VerifyEach-clause-answered g c =
+    let held = g.W.Write.contents in
+    let reads = c.args.reads.now in
+    let read = c.read-item.result in
+    let profile = c.in-VerifyEach.profile in
+    let n = c.in-VerifyEach.classes in
+    let e = split read_view reads read c.in-len1-up.len_at_least c.read-item.is in
+    let behind = read_view read ∷ map read_view (drop 1 reads) in
+    let told : Answered (EachSays profile (take n behind) (drop n behind)) (held c.args.out.now) (held c.verify_each.new.out) c.verify_each.result =
+    subst (λ rs. Answered (EachSays profile (take n rs) (drop n rs)) (held c.args.out.now) (held c.verify_each.new.out) c.verify_each.result) e c.verify_each.ensures in
+    rw e (subst (λ command. Answered (Says command behind) (held c.args.out.now) (held c.verify_each.new.out) c.verify_each.result) (sym c.in-VerifyEach.is) told)
+
 pub returns-in-Check-clause-memory : goal.returns-in-Check-clause-memory
 returns-in-Check-clause-memory g c = search rules
 
@@ -70,3 +84,6 @@ returns-in-Explain-clause-memory g c = search rules
 
 pub returns-in-Play-clause-memory : goal.returns-in-Play-clause-memory
 returns-in-Play-clause-memory g c = search rules
+
+pub returns-in-VerifyEach-clause-memory : goal.returns-in-VerifyEach-clause-memory
+returns-in-VerifyEach-clause-memory g c = search rules

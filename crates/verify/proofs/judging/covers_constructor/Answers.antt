@@ -1,9 +1,4 @@
 use Rattle.std.proofs.Common.{◌≡◌, ◌&&◌, Bool, true, Result, Ok, Err, IfOk, sym, ap, ◌∙◌}
-use Rattle.insn.specs.Views.{act_view}
-use Rattle.rules.specs.Bodies.{method_view}
-use Rattle.rules.specs.Held.{held}
-use Rattle.rules.specs.Rules.{constructs_own}
-use Rattle.rules.specs.Table.{plan}
 use Rattle.verify.specs.Handling.{Follows, AreAhead}
 use Rattle.verify.specs.Verdict.{is_covered}
 use Rattle.verify.proofs.judging.covers_constructor.Goals as goal
@@ -14,8 +9,6 @@ both_are own covered (Ok b) R S e h = (h.0 ∙ ap (λ o. o && covered) (sym e), 
 both_are own covered (Err x) R S e h = tt
 
 pub returns : goal.returns
-returns c = λ cs frames es t ahead.
-    let f = held c.args.frame.now in
-    both_are (constructs_own (plan (method_view c.args.method.now) (act_view c.args.act.now)) f) (is_covered es c.args.at) c.covers.result
-    (Follows cs frames es c.args.at f c.covers.new.self) (AreAhead c.args.at c.covers.new.self)
-    (sym c.constructs_own.ensures ∙ c.if-not-constructs_own.false) (c.covers.ensures cs frames es f t ahead)
+returns c = λ cs frames es f t ahead.
+    both_are c.args.own (is_covered es c.args.at) c.covers.result (Follows cs frames es c.args.at f c.covers.new.self) (AreAhead c.args.at c.covers.new.self) c.if-not-own.false
+    (c.covers.ensures cs frames es f t ahead)

@@ -10,9 +10,10 @@ use Rattle.rules.specs.Table.{plan}
 use Rattle.rules.proofs.Changing.{plain_keeps}
 use Rattle.rules.proofs.Keeping.{locals_kept}
 use Rattle.verify.specs.Keeping.{IsKnown}
-use Rattle.verify.proofs.Comparing.{same_behind}
+use Rattle.verify.specs.Handling.{Follows}
 use Rattle.verify.proofs.InTurn.{on_ok}
-use Rattle.verify.proofs.Plain.{plain_done}
+use Rattle.verify.proofs.Comparing.{flag_kept}
+use Rattle.verify.proofs.Plain.{plain_done, constructs_none}
 use Rattle.verify.proofs.judging.judge.Goals as goal
 
 pub returns-then-are_idle-clause-judged : goal.returns-then-are_idle-clause-judged
@@ -47,5 +48,6 @@ returns-then-are_idle-clause-handlers g c =
     let now = held c.run_plain.new.frame in
     on_ok c.run_plain.result (λ u is.
     let done = subst (Done (conditions classes m c.args.at p f) (after m c.args.at p f) now) is (c.run_plain.ensures c.args.at) in
-    let same = λ (e : c.keeps_locals.result ≡ true). same_behind m c.args.at (act_view c.args.act.now) f now (sym c.keeps_locals.ensures ∙ e) done.outcome.1 in
-    c.in_ok-behind-2.ensures classes frames m.exceptions c.args.at f now same c.requires.handlers)
+    subst (λ x. Follows classes frames m.exceptions c.args.at x c.behind-then-are_idle.new.self) (sym done.outcome.1) (c.in_ok-behind-2.ensures m.exceptions m c.args.at
+    (λ none. let a = act_view c.args.act.now in locals_kept m c.args.at a f (plain_keeps a (sym c.is_plain.ensures ∙ c.if-is_plain.true) none))
+    (λ e. flag_kept m c.args.at p f (constructs_none m (act_view c.args.act.now) f (sym c.is_plain.ensures ∙ c.if-is_plain.true))) c.requires.handlers))

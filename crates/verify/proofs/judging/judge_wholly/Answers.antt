@@ -1,4 +1,4 @@
-use Rattle.std.proofs.Common.{◌≡◌, ◌∙◌, ℕ, Bool, true, false, is_none, Option, Some, None, Result, refl, sym, subst}
+use Rattle.std.proofs.Common.{◌≡◌, ◌∙◌, ℕ, Bool, true, false, is_none, ◌&&◌, Option, Some, None, Result, refl, sym, ap, subst}
 use Rattle.std.specs.Prelude.{OnOk, IsOk}
 use Rattle.insn.specs.Views.{act_view}
 use Rattle.frames.specs.DeclaredTables.{frames_in}
@@ -9,8 +9,8 @@ use Rattle.rules.specs.Outcomes.{Done}
 use Rattle.rules.specs.Protected.{member_conditions}
 use Rattle.rules.specs.Table.{plan}
 use Rattle.verify.specs.Handling.{Follows}
-use Rattle.verify.specs.Verdict.{at_conditions, handler_conditions}
-use Rattle.verify.proofs.Comparing.{same_behind}
+use Rattle.verify.specs.Verdict.{at_conditions, handler_conditions, is_covered}
+use Rattle.verify.proofs.Comparing.{flag_kept}
 use Rattle.verify.proofs.InTurn.{on_ok, when_ok}
 use Rattle.verify.proofs.judging.judge_wholly.Goals as goal
 
@@ -26,7 +26,7 @@ judge_named-requires-clause-before g c =
     let frames = frames_in c.args.frames.now in
     let f = held c.args.frame.now in
     let arrived = c.in_ok-come_to.ensures classes frames m.exceptions f c.requires.handlers in
-    let looked = c.in_ok-covered.ensures classes frames m.exceptions arrived.0 arrived.1 in
+    let looked = c.in_ok-covered.ensures classes frames m.exceptions f arrived.0 arrived.1 in
     c.together-before.ensures.judged (member_conditions classes m (act_view c.args.act) f) (handler_conditions classes frames c.args.at f m.exceptions)
     c.check_member-used.ensures.judged (c.catch-caught.ensures.caught m.exceptions looked.1 looked.2).judged
 
@@ -37,7 +37,7 @@ judge_named-requires-clause-covered g c =
     let frames = frames_in c.args.frames.now in
     let f = held c.args.frame.now in
     let arrived = c.in_ok-come_to.ensures classes frames m.exceptions f c.requires.handlers in
-    (c.in_ok-covered.ensures classes frames m.exceptions arrived.0 arrived.1).0
+    (c.in_ok-covered.ensures classes frames m.exceptions f arrived.0 arrived.1).0 ∙ ap (λ b. b && is_covered m.exceptions c.args.at) c.constructs_own-own.ensures
 
 pub returns-clause-handlers : goal.returns-clause-handlers
 returns-clause-handlers g c =
@@ -49,11 +49,11 @@ returns-clause-handlers g c =
     let now = held c.judge_named.new.frame in
     let next = some_next c.args.last in
     let arrived = c.in_ok-come_to.ensures classes frames m.exceptions f c.requires.handlers in
-    let looked = c.in_ok-covered.ensures classes frames m.exceptions arrived.0 arrived.1 in
+    let looked = c.in_ok-covered.ensures classes frames m.exceptions f arrived.0 arrived.1 in
     on_ok c.judge_named.result (λ u is.
     let done = subst (Done (at_conditions classes m frames c.args.at (act_view c.args.act) p next.0 f) (after m c.args.at p f) now) is (c.judge_named.ensures.judged next.0 next.1) in
     let ok = subst (λ (r : Result Unit _). OnOk r (IsOk c.together-before.result)) is c.judge_named.ensures.before in
     let both = when_ok (IsOk c.check_member-used.result × IsOk c.catch-caught.result) c.together-before.result ok c.together-before.ensures.both in
     let caught = when_ok (Follows classes frames m.exceptions c.args.at f c.catch-caught.new.self) c.catch-caught.result both.1 (c.catch-caught.ensures.caught m.exceptions looked.1 looked.2).followed in
-    let same = λ (e : c.keeps_locals.result ≡ true). same_behind m c.args.at (act_view c.args.act) f now (sym c.keeps_locals.ensures ∙ e) done.outcome.1 in
-    c.in_ok-behind-2.ensures classes frames m.exceptions c.args.at f now same caught)
+    subst (λ x. Follows classes frames m.exceptions c.args.at x c.behind-2.new.self) (sym done.outcome.1) (c.in_ok-behind-2.ensures m.exceptions m c.args.at c.replaced_object-object.ensures
+    (λ e. flag_kept m c.args.at p f (sym c.constructs_own-own.ensures ∙ e)) caught))

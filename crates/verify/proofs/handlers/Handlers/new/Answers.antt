@@ -10,7 +10,7 @@ pub returns : goal.returns
 returns c = λ cs frames f.
     let table = c.args.table.items in
     let sorted = c.sort_by_key.new.self.items in
-    let so = IsSettled cs frames 0 f in
+    let so = IsSettled cs frames c.new-3.result.items 0 f in
     let rises = IsNonDecreasingBy-from_sort_by_key (λ (e : Entry). e.from) sorted c.in_ok-sort_by_key.ensures.sorted (λ a r q k. search rules) in
     subst (λ (xs : List Entry). Tracks (map entry_view table) 0 so sorted 0 xs c.new-2.result.items) (sym c.new.ensures.items)
     (subst (λ (xs : List Entry). Tracks (map entry_view table) 0 so sorted 0 [] xs) (sym c.new-2.ensures.items)

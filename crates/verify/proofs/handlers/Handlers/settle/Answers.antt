@@ -1,12 +1,13 @@
 use Rattle.std.proofs.Common.{◌<◌, List, Some, sym, ◌∙◌, ap, subst, arith, inr}
 use Rattle.std.specs.Prelude.{IfSome}
+use Rattle.std.proofs.lemmas.Bool.Decides.{nat_tests}
 use Rattle.std.proofs.lemmas.List.{append-nil}
 use Rattle.hierarchy.specs.Answer.{outcome_of}
 use Rattle.frames.specs.DeclaredTables.{frames_in}
 use Rattle.rules.specs.Held.{held}
 use Rattle.verify.specs.declared.exceptions.Entry.{Entry}
 use Rattle.verify.specs.Handling.{Tracks, IsJudged, IsMissing}
-use Rattle.verify.proofs.InTurn.{turn_ended, turn_no, turn_yes, turn_missing, lacks_now, turn_done, none_left}
+use Rattle.verify.proofs.InTurn.{turn_ended, turn_no, turn_yes, turn_missing, lacks_now, turn_first, turn_none, turn_done, none_left}
 use Rattle.verify.proofs.handlers.Handlers.settle.Goals as goal
 use Rattle.verify.proofs.handlers.Handlers.settle.Goals.{in-Yes, in-Missing}
 
@@ -19,6 +20,7 @@ loop-entry-preserved-then-entry-at g c =
     let so_far = c.loop-entry.missing in
     record {
       known = c.loop-entry.invariant.known;
+      untaken = c.loop-entry.invariant.untaken;
       turn = λ es t ahead.
           let was = c.loop-entry.invariant.turn es t ahead in
           let taken = subst (λ (xs : List Entry). Tracks es c.args.at (IsJudged classes frames c.args.at f so_far) h.by_start.items h.begun xs h.settled.items) c.in-Some.ensures.items was.tracks in
@@ -28,6 +30,13 @@ loop-entry-preserved-then-entry-at g c =
             lacks = was.lacks;
           };
     }
+
+pub returns-then-is_empty-clause-settled : goal.returns-then-is_empty-clause-settled
+returns-then-is_empty-clause-settled g c = λ es t ahead.
+    let h = c.args.self.now in
+    let is = sym c.is_empty.ensures ∙ c.if-is_empty.true in
+    let none = none_left h.fresh.items h.fresh.len h.fresh.ok.0 (grind (arith, nat_tests, is)) in
+    turn_none (g.C.Classes.content c.args.classes.now) (frames_in c.args.frames.now) es c.args.at (held c.args.frame.now) h none t ahead
 
 pub returns-in-No-clause-settled : goal.returns-in-No-clause-settled
 returns-in-No-clause-settled g c = λ es t ahead.
@@ -56,6 +65,7 @@ loop-entry-preserved g c =
     let lt : c.args.at < x.to = omega (arith, c.if-entry-at.false) in
     record {
       known = c.in_ok-caught_answer.ensures.known;
+      untaken = c.loop-entry.invariant.untaken;
       turn = λ es t ahead.
           let was = c.loop-entry.invariant.turn es t ahead in
           let taken = subst (λ (xs : List Entry). Tracks es c.args.at (IsJudged classes frames c.args.at f so_far) h.by_start.items h.begun xs h.settled.items) c.in-Some.ensures.items was.tracks in
@@ -90,6 +100,6 @@ returns-clause-settled g c = λ es t ahead.
     let so_far = c.loop-entry.missing in
     let was = c.loop-entry.invariant.turn es t ahead in
     let left = subst (λ (xs : List Entry). Tracks es c.args.at (IsJudged classes frames c.args.at f so_far) h.by_start.items h.begun xs h.settled.items) (c.in_default.ensures.items ∙ append-nil c.pop.new.self.items) was.tracks in
-    turn_done classes frames es c.args.at f so_far (record { by_start = h.by_start; begun = h.begun; fresh = c.pop.new.self; settled = h.settled; room = h.room })
-    (none_left c.pop.new.self.items c.pop.new.self.len c.pop.new.self.ok.0 c.in_default.ensures.cases.1)
+    turn_done classes frames es c.args.at f so_far (record { by_start = h.by_start; begun = h.begun; fresh = c.pop.new.self; settled = h.settled; taken = h.taken; moved = h.moved; room = h.room })
+    (none_left c.pop.new.self.items c.pop.new.self.len c.pop.new.self.ok.0 c.in_default.ensures.cases.1) c.loop-entry.invariant.untaken
     (record { tracks = left; ahead = was.ahead; lacks = was.lacks })

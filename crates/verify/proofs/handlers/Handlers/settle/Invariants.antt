@@ -1,4 +1,4 @@
-use Rattle.std.proofs.Common.{List, length}
+use Rattle.std.proofs.Common.{◌≡◌, [], List, length}
 use Rattle.classfile.specs.Methods.{ExceptionEntry}
 use Rattle.frames.specs.DeclaredTables.{frames_in}
 use Rattle.rules.specs.Held.{held}
@@ -13,6 +13,7 @@ invariant-loop-entry g l =
     let f = held l.frame in
     record {
       known : IsKnown cs l.frames f l.known;
+      untaken : l.self.taken.items ≡ [];
       turn : (es : List ExceptionEntry) → Follows cs (frames_in l.frames) es l.at f l.fn.self → AreAhead l.at l.fn.self → InTurn cs (frames_in l.frames) es l.at f l.missing l.self;
     }
 

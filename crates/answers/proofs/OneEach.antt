@@ -1,0 +1,117 @@
+-- The answer of `verify-each` is one.
+use Rattle.std.proofs.Common.{◌≡◌, ℕ, ◌+◌, true, false, List, [], ◌∷◌, ◌++◌, Ok, Err, Result, refl, sym, ◌∙◌, ap, subst, inl, inr}
+use Rattle.std.specs.Prelude.{codes, decimal}
+use Rattle.classfile.specs.Values.{Class}
+use Rattle.classfile.specs.CodeMethods.{judged}
+use Rattle.classfile.specs.Methods.{JudgedClass}
+use Rattle.classfile.specs.declared.profile.Profile.{Profile}
+use Rattle.hierarchy.specs.Class.{ClassFact}
+use Rattle.hierarchy.specs.Faults.{FaultOf}
+use Rattle.hierarchy.specs.Rules.{IsHierarchy}
+use Rattle.hierarchy.specs.ClassSummary.{summary_of}
+use Rattle.printing.specs.Names.{spelled_text}
+use Rattle.verify.specs.declared.each.Judgement.{Judgement}
+use Rattle.verify.specs.declared.each.Judgement.TheVariants.{Reported, Refused, NotInHierarchy, FinalSuper}
+use Rattle.verify.specs.declared.report.Report.{Report}
+use Rattle.verify.specs.declared.report.ClassFault.{ClassFault}
+use Rattle.verify.specs.declared.report.ClassFault.TheVariants as classes
+use Rattle.verify.specs.Files.{Read}
+use Rattle.verify.specs.Reports.{Reports}
+use Rattle.verify.specs.Standing.{standing}
+use Rattle.verify.specs.Each.{with_class, AddsFile, AddsFiles, AreClasses, IsAnswered, IsJudged, AreJudged}
+use Rattle.answers.specs.declared.command.Form.TheVariants.{Plain}
+use Rattle.answers.specs.Files.{refusal_status}
+use Rattle.answers.specs.Verdicts.{class_refusal}
+use Rattle.answers.specs.Judgements.{judgement_lines, class_text, numbered_lines, lines_from, judgement_status, greater, worst_status, EachSays}
+use Rattle.answers.proofs.OneFile.{Laws, one_formed, not_refused, one_refusal}
+use Rattle.answers.proofs.OneVerify.{same_refusal, one_class}
+
+false_true : false ≡ true → ⊥
+false_true e = cc
+
+-- they are written in one way
+abbrev IsSame : Judgement → Judgement → Type 0
+IsSame j k = (judgement_lines j ≡ judgement_lines k) × (class_text j ≡ class_text k) × (judgement_status j ≡ judgement_status k)
+
+module _ (laws : Laws) where
+  -- ---- the classes of files
+
+  one_added : (read : Read) (old a b : List ClassFact) → AddsFile read old a → AddsFile read old b → a ≡ b
+  one_added read old a b (inl (r, p, e)) (inl (s, q, f)) = e ∙ sym f
+  one_added read old a b (inl (r, p, e)) (inr (d, q, f)) = absurd (not_refused laws read d r q p)
+  one_added read old a b (inr (c, p, e)) (inl (s, q, f)) = absurd (not_refused laws read c s p q)
+  one_added read old a b (inr (c, p, e)) (inr (d, q, f)) = e ∙ ap (λ x. with_class old (summary_of x)) (one_formed laws read c d p q) ∙ sym f
+
+  all_added : (reads : List Read) (old a b : List ClassFact) → AddsFiles reads old a → AddsFiles reads old b → a ≡ b
+  all_added [] old a b e f = e ∙ sym f
+  all_added (read ∷ reads) old a b (s, p, q) (t, u, v) =
+      all_added reads t a b (subst (λ k. AddsFiles reads k a) (one_added read old s t p u) q) v
+
+  one_list : (reads known : List Read) (a b : List ClassFact) → AreClasses reads known a → AreClasses reads known b → a ≡ b
+  one_list reads known a b (s, p, q) (t, u, v) = all_added known t a b (subst (λ k. AddsFiles known k a) (all_added reads [] s t p u) q) v
+
+  -- ---- answers
+
+  module _ (profile : Profile) (hierarchy : List ClassFact) (read : Read) where
+    one_name : (name other : List ℕ) (answer next : Result Report ClassFault) → IsAnswered profile hierarchy read name answer → IsAnswered profile hierarchy read other next → codes " " ++ spelled_text name ≡ codes " " ++ spelled_text other
+    one_name name other answer next (c, p, e, a) (d, q, f, b) = ap (λ n. codes " " ++ spelled_text n) (sym e ∙ ap (λ (x : Class). (summary_of x).name) (one_formed laws read c d p q) ∙ f)
+
+    not_both : (name other : List ℕ) (answer next : Result Report ClassFault) → ((c : JudgedClass) → Reports hierarchy c answer → Reports hierarchy c next → ⊥)
+        → IsAnswered profile hierarchy read name answer → IsAnswered profile hierarchy read other next → ⊥
+    not_both name other answer next never (c, p, e, a) (d, q, f, b) = never (judged profile c) a (subst (λ x. Reports hierarchy (judged profile x) next) (sym (one_formed laws read c d p q)) b)
+
+    same : (j k : Judgement) → IsJudged profile hierarchy read j → IsJudged profile hierarchy read k → IsSame j k
+    same (Refused r) (Refused s) p q = let e = one_refusal laws read r s p q in (ap (class_refusal Plain) e, refl, ap refusal_status e)
+    same (Refused r) (NotInHierarchy b) p (d, q, f, t) = absurd (not_refused laws read d r q p)
+    same (Refused r) (FinalSuper b) p (d, q, f, t) = absurd (not_refused laws read d r q p)
+    same (Refused r) (Reported b next) p (d, q, f, t) = absurd (not_refused laws read d r q p)
+    same (NotInHierarchy a) (Refused s) (c, p, e, t) q = absurd (not_refused laws read c s p q)
+    same (FinalSuper a) (Refused s) (c, p, e, t) q = absurd (not_refused laws read c s p q)
+    same (Reported a report) (Refused s) (c, p, e, t) q = absurd (not_refused laws read c s p q)
+    same (NotInHierarchy a) (NotInHierarchy b) p q = (refl, one_name a.now b.now (Err classes.NotInHierarchy) (Err classes.NotInHierarchy) p q, refl)
+    same (NotInHierarchy a) (FinalSuper b) p q = absurd (not_both a.now b.now (Err classes.NotInHierarchy) (Err classes.FinalSuper) (λ c x y. x y.0) p q)
+    same (NotInHierarchy a) (Reported b next) p q = absurd (not_both a.now b.now (Err classes.NotInHierarchy) (Ok next) (λ c x y. x y.1.listed) p q)
+    same (FinalSuper a) (NotInHierarchy b) p q = absurd (not_both a.now b.now (Err classes.FinalSuper) (Err classes.NotInHierarchy) (λ c x y. y x.0) p q)
+    same (FinalSuper a) (FinalSuper b) p q = (refl, one_name a.now b.now (Err classes.FinalSuper) (Err classes.FinalSuper) p q, refl)
+    same (FinalSuper a) (Reported b next) p q = absurd (not_both a.now b.now (Err classes.FinalSuper) (Ok next) (λ c x y. false_true (sym y.0 ∙ x.1)) p q)
+    same (Reported a report) (NotInHierarchy b) p q = absurd (not_both a.now b.now (Ok report) (Err classes.NotInHierarchy) (λ c x y. y x.1.listed) p q)
+    same (Reported a report) (FinalSuper b) p q = absurd (not_both a.now b.now (Ok report) (Err classes.FinalSuper) (λ c x y. false_true (sym x.0 ∙ y.1)) p q)
+    same (Reported a report) (Reported b next) (c, p, e, t) (d, q, f, u) =
+        let v = subst (λ x. Reports hierarchy (judged profile x) (Ok next)) (sym (one_formed laws read c d p q)) u in
+        let one = one_class laws Plain hierarchy (judged profile c) _ _ _ _ (inr (t.0, (report.methods.items, t.1, refl, refl))) (inr (v.0, (next.methods.items, v.1, refl, refl))) in
+        (one.0, one_name a.now b.now (Ok report) (Ok next) (c, p, e, t) (d, q, f, u), one.1)
+
+  all_same : (profile : Profile) (hierarchy : List ClassFact) (reads : List Read) (n : ℕ) (js ks : List Judgement) → AreJudged profile hierarchy reads js → AreJudged profile hierarchy reads ks
+      → (lines_from n js ≡ lines_from n ks) × (worst_status js ≡ worst_status ks)
+  all_same profile hierarchy [] n [] [] p q = (refl, refl)
+  all_same profile hierarchy [] n [] (k ∷ ks) p q = absurd q
+  all_same profile hierarchy [] n (j ∷ js) ks p q = absurd p
+  all_same profile hierarchy (read ∷ reads) n [] ks p q = absurd p
+  all_same profile hierarchy (read ∷ reads) n (j ∷ js) [] p q = absurd q
+  all_same profile hierarchy (read ∷ reads) n (j ∷ js) (k ∷ ks) p q =
+      let here = same profile hierarchy read j k p.0 q.0 in
+      let rest = all_same profile hierarchy reads (n + 1) js ks p.1 q.1 in (
+        ap (λ x. x ++ lines_from (n + 1) js) (one_text n j k here) ∙ ap (λ x. numbered_lines n k ++ x) rest.0,
+        ap (λ s. greater s (worst_status js)) here.2 ∙ ap (greater (judgement_status k)) rest.1,
+      )
+    where
+      one_text : (n : ℕ) (j k : Judgement) → IsSame j k → numbered_lines n j ≡ numbered_lines n k
+      one_text n j k here =
+          ap (λ x. codes "file " ++ (decimal n ++ (x ++ (codes "\n" ++ judgement_lines j)))) here.1
+          ∙ ap (λ x. codes "file " ++ (decimal n ++ (class_text k ++ (codes "\n" ++ x)))) here.0
+
+  -- ---- what is said
+
+  pub one_each : (profile : Profile) (reads known : List Read) (text other : List ℕ) (status next : ℕ)
+      → EachSays profile reads known text status → EachSays profile reads known other next → (text ≡ other) × (status ≡ next)
+  one_each profile reads known text other status next (inl (js, (a, p, h, is), t, s)) (inl (ks, (b, q, g, are), u, v)) =
+      let e = one_list reads known a b p q in
+      let one = all_same profile (standing b) reads 1 js ks (subst (λ k. AreJudged profile (standing k) reads js) e is) are in
+      (t ∙ one.0 ∙ sym u, s ∙ one.1 ∙ sym v)
+  one_each profile reads known text other status next (inl (js, (a, p, h, is), t, s)) (inr (f, (b, q, m, fault), u, v)) =
+      absurd (laws.not_hierarchy (standing b) f m fault (subst (λ k. IsHierarchy (standing k)) (one_list reads known a b p q) h))
+  one_each profile reads known text other status next (inr (f, (a, p, m, fault), t, s)) (inl (ks, (b, q, g, are), u, v)) =
+      absurd (laws.not_hierarchy (standing a) f m fault (subst (λ k. IsHierarchy (standing k)) (sym (one_list reads known a b p q)) g))
+  one_each profile reads known text other status next (inr (f, (a, p, m, fault), t, s)) (inr (g, (b, q, n, also), u, v)) =
+      let one = laws.one_hierarchy_fault (standing b) f g m n (subst (λ k. FaultOf (standing k) f) (one_list reads known a b p q) fault) also in
+      (t ∙ same_refusal Plain f g one.0 one.1 ∙ sym u, s ∙ sym v)

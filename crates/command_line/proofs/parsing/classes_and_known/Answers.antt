@@ -1,0 +1,25 @@
+use Rattle.std.proofs.Common.{◌≡◌, ◌∙◌, false, Result, Ok, Err, ap}
+use Rattle.std.specs.Prelude.{IfOk}
+use Rattle.clap.specs.Words.{app_of, with_rule}
+use Rattle.clap.specs.declared.builder.command.Command.TheViews.{out-Command}
+use Rattle.command_line.specs.Line.{class_files, known_option}
+use Rattle.command_line.proofs.Lines.{neither}
+use Rattle.command_line.proofs.parsing.classes_and_known.Goals as goal
+
+if_ok : {T E : Type 0} (r : Result T E) (P Q : T → Type 0) → IfOk r P → ((x : T) → P x → Q x) → IfOk r Q
+if_ok (Ok x) P Q p f = f x p
+if_ok (Err e) P Q p f = p
+
+pub returns-clause-app : goal.returns-clause-app
+returns-clause-app c =
+    let first = c.in_ok-arg.field-0 in
+    let one : app_of first ≡ with_rule (app_of c.new.result) class_files = c.in_ok-arg.ensures.shape c.class_files.ensures.local ∙ ap (with_rule (app_of c.new.result)) c.class_files.ensures.rule in
+    if_ok c.arg-2.result _ _ c.arg-2.ensures (λ x a.
+    a.shape c.known_option.ensures.local ∙ ap (with_rule (app_of first)) c.known_option.ensures.rule
+    ∙ ap (λ o. with_rule o known_option) (one ∙ ap (λ o. with_rule o class_files) c.new.ensures.app))
+
+pub returns-clause-local : goal.returns-clause-local
+returns-clause-local c =
+    let first = c.in_ok-arg.field-0 in
+    let one : (out-Command first).has_globals ≡ false = c.in_ok-arg.ensures.globals ∙ neither _ _ c.new.ensures.local c.class_files.ensures.local in
+    if_ok c.arg-2.result _ _ c.arg-2.ensures (λ x a. a.globals ∙ neither _ _ one c.known_option.ensures.local)
