@@ -2,8 +2,8 @@ pub mod OneFile
 pub mod OneVerify
 pub mod OneAnswer
 pub mod Tellings
-pub mod Refusing
-pub mod Explaining
+pub mod Refused
+pub mod Explained
 pub mod OnePlay
 pub mod OneEach
 pub mod Numbering

@@ -20,6 +20,7 @@ use Rattle.verify.specs.Reports.{Reports}
 use Rattle.verify.specs.Standing.{standing}
 use Rattle.verify.specs.Each.{with_class, AddsFile, AddsFiles, AreClasses, IsAnswered, IsJudged, AreJudged}
 use Rattle.answers.specs.declared.command.Form.TheVariants.{Plain}
+use Rattle.answers.specs.declared.manner.Manner.TheVariants.{Told}
 use Rattle.answers.specs.Files.{refusal_status}
 use Rattle.answers.specs.Verdicts.{class_refusal}
 use Rattle.answers.specs.Judgements.{judgement_lines, class_text, numbered_lines, lines_from, judgement_status, greater, worst_status, EachSays}
@@ -78,7 +79,7 @@ module _ (laws : Laws) where
     same (Reported a report) (FinalSuper b) p q = absurd (not_both a.now b.now (Ok report) (Err classes.FinalSuper) (λ c x y. false_true (sym x.0 ∙ y.1)) p q)
     same (Reported a report) (Reported b next) (c, p, e, t) (d, q, f, u) =
         let v = subst (λ x. Reports hierarchy (judged profile x) (Ok next)) (sym (one_formed laws read c d p q)) u in
-        let one = one_class laws Plain hierarchy (judged profile c) _ _ _ _ (inr (t.0, (report.methods.items, t.1, refl, refl))) (inr (v.0, (next.methods.items, v.1, refl, refl))) in
+        let one = one_class laws (Told Plain) hierarchy (judged profile c) _ _ _ _ (inr (t.0, (report.methods.items, t.1, refl, refl))) (inr (v.0, (next.methods.items, v.1, refl, refl))) in
         (one.0, one_name a.now b.now (Ok report) (Ok next) (c, p, e, t) (d, q, f, u), one.1)
 
   all_same : (profile : Profile) (hierarchy : List ClassFact) (reads : List Read) (n : ℕ) (js ks : List Judgement) → AreJudged profile hierarchy reads js → AreJudged profile hierarchy reads ks

@@ -38,7 +38,7 @@ use Rattle.verify.specs.declared.files.FileFault.TheVariants as files
 use Rattle.verify.specs.declared.files.FileFault.TheVariants.{Malformed}
 use Rattle.verify.specs.Files.{Read, IsFormed, IsRefused, AreFormed, IsFirstRefused}
 use Rattle.answers.specs.Files.{refusal_status}
-use Rattle.answers.specs.Verdicts.{IsPart, IsExplained, IsTold, hierarchy_told, report_told, fault_name, named_field, name_fields, hierarchy_refusal, reason_ending, reason_fields, verdict_text, verdict_fields, verdict_line, is_refusal, ClassSays, HierarchySays, KnownSays, VerifySays}
+use Rattle.answers.specs.Verdicts.{class_refusal, known_refusal, IsPart, IsTold, hierarchy_told, report_told, fault_name, named_field, name_fields, hierarchy_refusal, reason_ending, reason_fields, verdict_text, verdict_fields, verdict_line, is_refusal, ClassSays, HierarchySays, KnownSays, VerifySays}
 use Rattle.answers.proofs.OneFile.{Laws, one_formed, not_refused, one_refusal}
 
 false_true : false ≡ true → ⊥
@@ -154,8 +154,8 @@ same_line Json r q e =
 -- ---- of explanations
 
 abbrev lines_of : Refusing → List ℕ
-lines_of (reason n) = sentence_line n
-lines_of (class_missing name) = sentence_line 77
+lines_of (reason n) = sentence_line n ++ []
+lines_of (class_missing name) = sentence_line 77 ++ []
 lines_of (with_fault n fault) = sentence_line n ++ fault_line fault
 
 lines_by_view : (why : Reason) → reason_lines why ≡ lines_of (reason_view why)

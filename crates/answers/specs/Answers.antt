@@ -19,7 +19,7 @@ use Rattle.answers.specs.declared.command.Command.{Command}
 use Rattle.answers.specs.declared.command.Command.TheVariants.{Check, Show, Verify, Explain, Play, VerifyEach}
 use Rattle.answers.specs.declared.command.Form.{Form}
 use Rattle.answers.specs.declared.command.Form.TheVariants.{Plain}
-use Rattle.answers.specs.declared.manner.Manner.TheVariants.{Told, Explained}
+use Rattle.answers.specs.declared.manner.Manner.TheVariants as manners
 
 -- The answer about a file: what is told of its class, or why it has none.
 abbrev pub FileSays : Form → (Class → List ℕ → ℕ → Type 0) → Read → List ℕ → ℕ → Type 0
@@ -40,8 +40,8 @@ abbrev pub Says : Command → List Read → List ℕ → ℕ → Type 0
 Says command [] text status = (text ≡ []) × (status ≡ 0)
 Says (Check form) (read ∷ others) text status = FileSays form (CheckTells form) read text status
 Says Show (read ∷ others) text status = FileSays Plain ShowTells read text status
-Says (Verify form profile) (read ∷ known) text status = VerifySays (Told form) profile read known text status
-Says (Explain profile) (read ∷ known) text status = VerifySays Explained profile read known text status
+Says (Verify form profile) (read ∷ known) text status = VerifySays (manners.Told form) profile read known text status
+Says (Explain profile) (read ∷ known) text status = VerifySays manners.Explained profile read known text status
 Says (Play profile) (read ∷ others) text status = PlaySays profile (read ∷ others) text status
 Says (VerifyEach profile classes) (read ∷ others) text status =
     EachSays profile (take classes (read ∷ others)) (drop classes (read ∷ others)) text status

@@ -109,11 +109,15 @@ sentence_line n = numbered_line n (sentence n)
 abbrev pub fault_line : ℕ → List ℕ
 fault_line n = numbered_line n (fault_sentence n)
 
--- of a method that is refused; behind 78 and 79 also of the fault in the stack map or in the code
+-- of the fault in a stack map (78) or in code (79)
+abbrev pub fault_lines : Reason → List ℕ
+fault_lines (BadStackMap fault) = fault_line fault
+fault_lines (BadCode fault) = fault_line fault
+fault_lines why = []
+
+-- of a method that is refused
 abbrev pub reason_lines : Reason → List ℕ
-reason_lines (BadStackMap fault) = sentence_line 78 ++ fault_line fault
-reason_lines (BadCode fault) = sentence_line 79 ++ fault_line fault
-reason_lines why = sentence_line (reason_number why)
+reason_lines why = sentence_line (reason_number why) ++ fault_lines why
 
 -- the number of the refusal of a file
 abbrev pub file_fault_number : FileFault → ℕ

@@ -3,10 +3,10 @@ ghost use Rattle.answers.specs.Verdicts.{hierarchy_told, final_super_told};
 
 use crate::command::Form;
 use crate::manner::Manner;
-use crate::sentences::HierarchySentence;
+use crate::sentences::{FinalSuperSentence, HierarchySentence};
 use crate::verdicts::{FinalSuper, HierarchyRefusal};
 use hierarchy::HierarchyFault;
-use printing::{Print, Then, Word, WriteFailed};
+use printing::{Print, Then, WriteFailed};
 use std::io::Write;
 
 /// The classes are no hierarchy.
@@ -41,10 +41,7 @@ impl Print for FinalSuperTold {
     fn put<W: Write>(&self, out: &mut W) -> Result<(), WriteFailed> {
         match self.0 {
             Manner::Told(form) => FinalSuper(form).put(out),
-            Manner::Explained => {
-                let sentence = Word("  81 FinalSuper: the superclass of the class is final\n");
-                Then(FinalSuper(Form::Plain), sentence).put(out)
-            }
+            Manner::Explained => Then(FinalSuper(Form::Plain), FinalSuperSentence).put(out),
         }
     }
 }

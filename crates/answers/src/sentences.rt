@@ -4,7 +4,7 @@ ghost use Rattle.layout.specs.Refusals.{read_fault_number};
 ghost use Rattle.classfile.specs.Conditions.{rule_number};
 ghost use Rattle.hierarchy.specs.Faults.{number_of};
 ghost use Rattle.rules.specs.Reasons.{reason_number};
-ghost use Rattle.answers.specs.Sentences.{sentence, fault_sentence, numbered_line, sentence_line, fault_line, reason_lines, file_fault_number};
+ghost use Rattle.answers.specs.Sentences.{sentence, fault_sentence, numbered_line, sentence_line, fault_line, fault_lines, reason_lines, file_fault_number};
 
 use classfile::FormRule;
 use hierarchy::HierarchyFault;
@@ -230,6 +230,22 @@ impl<'a> Print for HierarchySentence<'a> {
     }
 }
 
+/// The line that says that the superclass is final.
+#[derive(Clone, Copy)]
+pub struct FinalSuperSentence;
+
+impl Print for FinalSuperSentence {
+    ghost text = { λ t. sentence_line 81 };
+
+    fn put<W: Write>(&self, out: &mut W) -> Result<(), WriteFailed> {
+        NumberedLine {
+            number: 81,
+            text: "FinalSuper: the superclass of the class is final",
+        }
+        .put(out)
+    }
+}
+
 /// The line on the fault of a stack map or of code that has this number.
 #[derive(Clone, Copy)]
 struct FaultSentence(u8);
@@ -246,32 +262,34 @@ impl Print for FaultSentence {
     }
 }
 
-/// The lines that say why a method is refused.
+/// The line on the fault of a stack map or of code, where a reason has one.
 #[derive(Clone, Copy)]
-pub struct ReasonSentences<'a>(pub Reason<'a>);
+struct ReasonFault<'a>(Reason<'a>);
 
-impl<'a> ReasonSentences<'a> {
-    /// The line of its number.
-    fn line(&self) -> NumberedLine
-        ensures number { result.number ≡ reason_number self.now.0 }
-        ensures text { result.text.now ≡ sentence (reason_number self.now.0) }
-    {
-        NumberedLine {
-            number: self.0.number(),
-            text: reason_sentence(&self.0),
+impl<'a> Print for ReasonFault<'a> {
+    ghost text = { λ t. fault_lines t.0 };
+
+    fn put<W: Write>(&self, out: &mut W) -> Result<(), WriteFailed> {
+        match self.0 {
+            Reason::BadStackMap { fault } => FaultSentence(fault).put(out),
+            Reason::BadCode { fault } => FaultSentence(fault).put(out),
+            _ => Word("").put(out),
         }
     }
 }
+
+/// The lines that say why a method is refused.
+#[derive(Clone, Copy)]
+pub struct ReasonSentences<'a>(pub Reason<'a>);
 
 impl<'a> Print for ReasonSentences<'a> {
     ghost text = { λ t. reason_lines t.0 };
 
     fn put<W: Write>(&self, out: &mut W) -> Result<(), WriteFailed> {
-        match self.0 {
-            Reason::BadStackMap { fault } | Reason::BadCode { fault } => {
-                Then(self.line(), FaultSentence(fault)).put(out)
-            }
-            _ => self.line().put(out),
-        }
+        let line = NumberedLine {
+            number: self.0.number(),
+            text: reason_sentence(&self.0),
+        };
+        Then(line, ReasonFault(self.0)).put(out)
     }
 }

@@ -134,7 +134,7 @@ fn refuse<W: Write>(
     fault: AmongFault<'_>,
     out: &mut W,
 ) -> Result<u8, AnswerFault>
-    requires { CountsKnown fault.entry (length known.now) }
+    requires { CountsKnown fault (length known.now) }
     ensures { (profile : ProfileFact) → ReportsAmong profile (read_view read.now) (map read_view known.now) (Err fault.entry) → Answered (VerifySays manner profile (read_view read.now) (map read_view known.now)) (W.contents out.old) (W.contents out.new) result }
 {
     match fault {

@@ -1,9 +1,9 @@
-use Rattle.std.proofs.Common.{◌≡◌, ◌∙◌, inl, inr, map, Err, ap, sym, subst}
+use Rattle.std.proofs.Common.{◌≡◌, ◌∙◌, inl, inr, map, Err, ap, subst}
 use Rattle.verify.specs.declared.among.AmongFault.TheVariants.{Refused, KnownRefused, NoHierarchy, FinalSuper}
 use Rattle.verify.specs.Among.{ReportsAmong}
 use Rattle.answers.specs.Files.{read_view, refusal_status}
 use Rattle.answers.specs.Verdicts.{class_refusal, known_refusal, hierarchy_told, final_super_told, IsTold, VerifySays}
-use Rattle.answers.proofs.Refusing.{read_there}
+use Rattle.answers.proofs.Refused.{read_there}
 use Rattle.answers.proofs.Tellings.{answered_more}
 use Rattle.answers.proofs.verifying.refuse.Goals as goal
 
@@ -27,12 +27,20 @@ returns-in-KnownRefused g c = λ profile told.
     let fault = c.in-KnownRefused.fault in
     let why : ReportsAmong profile read known (Err (KnownRefused number fault)) = subst (λ e. ReportsAmong profile read known (Err e)) c.in-KnownRefused.is told in
     let (class, i, formed, counted, first) = why in
-    let here = c.index-known-in-KnownRefused.result in
-    let same : read_view here.now ≡ first.read = ? in
-    answered_more (λ t s. IsTold c.args.manner (read_view here.now) fault (λ form. known_refusal form number fault) t × (s ≡ refusal_status fault)) (VerifySays c.args.manner profile read known)
-    (λ text status p. inr (class, formed, inl (i, fault, first,
-      subst (λ n. IsTold c.args.manner first.read fault (λ form. known_refusal form n fault) text) counted (subst (λ r. IsTold c.args.manner r fault (λ form. known_refusal form number fault) text) same p.0),
-      p.1)))
+    let here = c.index-known-number.result in
+    let same : read_view here ≡ first.read = ap read_view c.index-known-number.is ∙ read_there read_view c.args.known.now i number here first.read counted first.here in
+    answered_more (λ t s. IsTold c.args.manner (read_view here) fault (λ form. known_refusal form number fault) t × (s ≡ refusal_status fault)) (VerifySays c.args.manner profile read known)
+    (λ text status p. inr (
+      class,
+      formed,
+      inl (
+        i,
+        fault,
+        first,
+        subst (λ n. IsTold c.args.manner first.read fault (λ form. known_refusal form n fault) text) counted (subst (λ r. IsTold c.args.manner r fault (λ form. known_refusal form number fault) text) same p.0),
+        p.1,
+      ),
+    ))
     (held c.args.out.now) (held c.refuse_known.new.out) c.refuse_known.result c.refuse_known.ensures
 
 pub returns-in-NoHierarchy : goal.returns-in-NoHierarchy

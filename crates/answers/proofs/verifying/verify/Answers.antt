@@ -1,11 +1,13 @@
 use Rattle.std.proofs.Common.{◌≡◌, ◌∙◌, ◌∷◌, Ok, Err, map, inr, ap, sym, subst}
+use Rattle.std.proofs.lemmas.List.{length-map}
 use Rattle.classfile.specs.CodeMethods.{judged}
 use Rattle.hierarchy.specs.ClassSummary.{summary_of}
 use Rattle.verify.specs.Files.{read_of}
 use Rattle.verify.specs.Among.{ReportsAmong}
 use Rattle.verify.specs.Reports.{IsReport}
-use Rattle.answers.specs.Files.{read_view}
+use Rattle.answers.specs.Files.{read_view, CountsKnown}
 use Rattle.answers.specs.Verdicts.{report_told, report_status, VerifySays}
+use Rattle.answers.proofs.Refused.{counted}
 use Rattle.answers.proofs.Tellings.{answered_more}
 use Rattle.answers.proofs.verifying.verify.Goals as goal
 
@@ -26,12 +28,23 @@ returns-in-Ok-verify_among_under g c =
     (λ text status p. inr (class, formed, inr (cs, all, inr (hierarchy, inr (fine, (rs, here, p.0, p.1))))))
     (held c.args.out.now) (held c.report.new.out) c.report.result (c.report.ensures class formed)
 
+pub refuse-requires : goal.refuse-requires
+refuse-requires g c =
+    let read = read_view c.args.read.now in
+    let known = map read_view c.args.known.now in
+    let fault = c.in-Err-verify_among_under.fault in
+    let same : map read_of c.deref.result.now ≡ known = ap (map read_of) c.deref.ensures.value ∙ c.in-Ok.ensures.found in
+    let told : ReportsAmong c.args.profile read known (Err fault) =
+    subst (λ r. ReportsAmong c.args.profile r known (Err fault)) c.file_read.ensures
+    (subst (λ k. ReportsAmong c.args.profile (read_of c.file_read.result) k (Err fault)) same c.in-Err-verify_among_under.ensures) in
+    subst (CountsKnown fault) (length-map c.args.known.now read_view) (counted c.args.profile read known fault told)
+
 pub returns : goal.returns
 returns g c =
     let read = read_view c.args.read.now in
     let known = map read_view c.args.known.now in
     let fault = c.in-Err-verify_among_under.fault in
     let same : map read_of c.deref.result.now ≡ known = ap (map read_of) c.deref.ensures.value ∙ c.in-Ok.ensures.found in
-    c.refuse.ensures c.args.profile read known
+    c.refuse.ensures c.args.profile
     (subst (λ r. ReportsAmong c.args.profile r known (Err fault)) c.file_read.ensures
     (subst (λ k. ReportsAmong c.args.profile (read_of c.file_read.result) k (Err fault)) same c.in-Err-verify_among_under.ensures))

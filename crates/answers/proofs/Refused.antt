@@ -1,5 +1,5 @@
 -- Refusals of files, from what the verifier says of them.
-use Rattle.std.proofs.Common.{◌≡◌, ℕ, ◌+◌, ◌-◌, ◌<◌, List, Some, Ok, Err, map, length, slice_get, slice_index_or, option_map, refl, sym, ◌∙◌, ap, subst, arith, tt}
+use Rattle.std.proofs.Common.{◌≡◌, ℕ, ◌+◌, ◌-◌, ◌<◌, List, Some, Ok, Err, map, length, slice_get, slice_index_or, option_map, sym, ◌∙◌, ap, subst, arith}
 use Rattle.std.proofs.lemmas.List.{length-map}
 use Rattle.std.proofs.lemmas.Option.{slice_get-map, slice_get_within, slice_get-get_or}
 use Rattle.classfile.specs.declared.profile.Profile.{Profile}
@@ -29,10 +29,10 @@ counted profile read known FinalSuper p = tt
 
 -- the file of this number, as it was read
 pub read_there : {X : Type 0} (view : X → Read) (xs : List X) (i n : ℕ) (x : X) (r : Read) → n ≡ i + 1 → slice_get (map view xs) i ≡ Some r
-    → x ≡ slice_index_or xs (n - 1) x → view x ≡ r
-read_there view xs i n x r same there here =
+    → view (slice_index_or xs (n - 1) x) ≡ r
+read_there view xs i n x r same there =
     let at : n - 1 ≡ i = omega (arith, same) in
     let lt : i < length xs = subst (λ k. i < k) (length-map xs view) (slice_get_within (map view xs) i r there) in
-    let found : slice_get xs i ≡ Some x = slice_get-get_or xs i x lt ∙ ap Some (sym (here ∙ ap (λ k. slice_index_or xs k x) at)) in
-    let both : Some (view x) ≡ Some r = sym (ap (option_map view) found) ∙ sym (slice_get-map view xs i) ∙ there in
-    cc
+    let both : Some (view (slice_index_or xs i x)) ≡ Some r = sym (ap (option_map view) (slice_get-get_or xs i x lt)) ∙ sym (slice_get-map view xs i) ∙ there in
+    let found : view (slice_index_or xs i x) ≡ r = cc in
+    ap (λ k. view (slice_index_or xs k x)) at ∙ found

@@ -1,0 +1,49 @@
+use Rattle.std.proofs.Common.{◌<◌, ◌≤◌, ◌+◌, map, length, slice_index_or, arith}
+use Rattle.std.specs.Prelude.{min}
+use Rattle.classfile.specs.Views.{member_view}
+use Rattle.printing.proofs.Writings.{with_left, one_more, stops_inside, all_written}
+use Rattle.answers.specs.Explanations.{explanations}
+use Rattle.answers.specs.Verdicts.{verdict_line}
+use Rattle.answers.specs.declared.command.Form.TheVariants.{Plain}
+use Rattle.answers.proofs.Explained.{left, one, explained_left, none_left}
+use Rattle.answers.proofs.explaining.ExplanationsPrint.put.Goals as goal
+
+pub returns-in-Err : goal.returns-in-Err
+returns-in-Err g c =
+    let held = g.W.Write.contents in
+    let self = c.args.self.now in
+    let line = verdict_line Plain in
+    let members = self.members.now in
+    let methods = self.methods.now in
+    let i = c.loop-i.i in
+    let lt : i < length members = omega (arith, c.loop-i-test.true, c.min-count.ensures) in
+    let less : i < length methods = omega (arith, c.loop-i-test.true, c.min-count.ensures) in
+    let m = c.index-self-i.result in
+    let r = c.index-self-i-in-loop-i.result in
+    stops_inside (held c.args.out.now) (held c.loop-i.out) (held c.put.new.out) (explanations line self.pool.now (map member_view members) methods)
+    (one member_view line self.pool.now (slice_index_or members i m) (slice_index_or methods i r)) (left member_view line self.pool.now members methods (i + 1))
+    (with_left _ _ _ _ _ (explained_left member_view line self.pool.now members methods i m r lt less) c.loop-i.invariant) c.in-Err.ensures
+
+pub loop-i-preserved : goal.loop-i-preserved
+loop-i-preserved g c =
+    let held = g.W.Write.contents in
+    let self = c.args.self.now in
+    let line = verdict_line Plain in
+    let members = self.members.now in
+    let methods = self.methods.now in
+    let i = c.loop-i.i in
+    let lt : i < length members = omega (arith, c.loop-i-test.true, c.min-count.ensures) in
+    let less : i < length methods = omega (arith, c.loop-i-test.true, c.min-count.ensures) in
+    let m = c.index-self-i.result in
+    let r = c.index-self-i-in-loop-i.result in
+    one_more (held c.args.out.now) (held c.loop-i.out) (held c.put.new.out) (explanations line self.pool.now (map member_view members) methods)
+    (one member_view line self.pool.now (slice_index_or members i m) (slice_index_or methods i r)) (left member_view line self.pool.now members methods (i + 1))
+    (with_left _ _ _ _ _ (explained_left member_view line self.pool.now members methods i m r lt less) c.loop-i.invariant) c.in-Ok.ensures
+
+pub returns : goal.returns
+returns g c =
+    let held = g.W.Write.contents in
+    let self = c.args.self.now in
+    let past : min (length self.members.now) (length self.methods.now) ≤ c.loop-i.i = omega (arith, c.loop-i-test.false, c.min-count.ensures) in
+    all_written (held c.args.out.now) (held c.loop-i.out) _
+    (with_left _ _ _ _ _ (none_left member_view (verdict_line Plain) self.pool.now self.members.now self.methods.now c.loop-i.i past) c.loop-i.invariant)
