@@ -243,7 +243,9 @@ fn known_option<'a>(alloc: Global) -> Arg<'a>
         .long("known")
         .action(ArgAction::Append)
         .num_args(1..)
-        .help("The paths of the files of other classes that they may refer to, java/lang/Object among them")
+        .help(
+            "The paths of the files of other classes that they may refer to, java/lang/Object among them",
+        )
 }
 
 /// A command that takes the files of classes and, behind `--known`, those of others.

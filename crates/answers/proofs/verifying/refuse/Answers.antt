@@ -30,9 +30,17 @@ returns-in-KnownRefused g c = λ profile told.
     let here = c.index-known-in-KnownRefused.result in
     let same : read_view here.now ≡ first.read = ? in
     answered_more (λ t s. IsTold c.args.manner (read_view here.now) fault (λ form. known_refusal form number fault) t × (s ≡ refusal_status fault)) (VerifySays c.args.manner profile read known)
-    (λ text status p. inr (class, formed, inl (i, fault, first,
-      subst (λ n. IsTold c.args.manner first.read fault (λ form. known_refusal form n fault) text) counted (subst (λ r. IsTold c.args.manner r fault (λ form. known_refusal form number fault) text) same p.0),
-      p.1)))
+    (λ text status p. inr (
+      class,
+      formed,
+      inl (
+        i,
+        fault,
+        first,
+        subst (λ n. IsTold c.args.manner first.read fault (λ form. known_refusal form n fault) text) counted (subst (λ r. IsTold c.args.manner r fault (λ form. known_refusal form number fault) text) same p.0),
+        p.1,
+      ),
+    ))
     (held c.args.out.now) (held c.refuse_known.new.out) c.refuse_known.result c.refuse_known.ensures
 
 pub returns-in-NoHierarchy : goal.returns-in-NoHierarchy
