@@ -183,9 +183,10 @@ fn class_files<'a>(alloc: Global) -> Arg<'a>
     ensures rule { rule_of result ≡ class_files }
     ensures local { result.global ≡ false }
 {
-    Arg::new(alloc, "CLASS").required(true).num_args(1..).help(
-        "The paths of the files of the classes, java/lang/Object among them",
-    )
+    Arg::new(alloc, "CLASS")
+        .required(true)
+        .num_args(1..)
+        .help("The paths of the files of the classes")
 }
 
 /// A command that takes the files of classes.
@@ -218,7 +219,9 @@ fn known_option<'a>(alloc: Global) -> Arg<'a>
         .long("known")
         .action(ArgAction::Append)
         .num_args(1..)
-        .help("The paths of the files of other classes that they may refer to, java/lang/Object among them")
+        .help(
+            "The paths of the files of other classes that they may refer to, java/lang/Object among them",
+        )
 }
 
 /// A command that takes the files of classes and, behind `--known`, those of others.
