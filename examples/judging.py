@@ -4,8 +4,8 @@
 A place is a folder with class files by their names, as java/lang/Object.class, or classes of a jar; of two with one name that in the first
 place counts. No name leads out of a place: a class whose own name or constants hold a dot is not well formed, and is refused 22.
 
-`judge_each` asks one process for many classes among all that places have. It gives the answers that `judge` gives, and where that is to be seen in none
-of these, it gives no answer.
+`judge_each` asks one process for many classes, among them and those of the folders that they name. It gives the answers that `judge` gives: where one
+could be another, since it misses a class that a place has, there is none.
 """
 import collections
 import os
@@ -23,10 +23,10 @@ HEAD = re.compile(r"class (.*) major \d+ minor \d+ flags [0-9a-f]{4}")
 MISSING = re.compile(r" refused 77 at \d+ missing (.*)$")
 REFUSED = re.compile(r"method .* refused (\d+) at \d+(?: missing .*| fault \d+)?$")
 HEADER = re.compile(r"file \d+(?: (.*))?")
-# What stands below one of these is no class by the name that leads to it.
-OTHER_ROOT = re.compile(r"[A-Z]+-INF/")
-# One process reads so many known classes while the processes for one class run.
-READ_MEANWHILE = 40
+# The classes that a class may need and not name.
+UNNAMED = ["java/io/Serializable", *(f"java/lang/{it}" for it in ("Class", "Cloneable", "Object", "String", "Throwable", "invoke/MethodHandle", "invoke/MethodType"))]
+# The bytes of each constant behind its tag; of a text (1) they are its two bytes of length and so many more.
+SIZES = {3: 4, 4: 4, 5: 8, 6: 8, 7: 2, 8: 2, 9: 4, 10: 4, 11: 4, 12: 4, 15: 3, 16: 2, 17: 4, 18: 4, 19: 2, 20: 2}
 # The status of answers in which nothing is refused but what has no rule (60).
 WITHOUT_RULE = 3
 
@@ -48,24 +48,52 @@ class Folder:
         file = os.path.join(self.path, *name.split("/")) + ".class"
         return file if os.path.isfile(file) else None
 
-    def classes(self):
-        """The names of its classes, and their files."""
-        below = len(os.path.join(self.path, ""))
-        for folder, _, files in os.walk(self.path):
-            for it in files:
-                if it.endswith(".class") and it != "module-info.class":
-                    file = os.path.join(folder, it)
-                    yield file[below:-len(".class")].replace(os.sep, "/"), file
+    def packages(self):
+        """The folders in it, with which the names of its classes begin."""
+        return [it.name for it in os.scandir(self.path) if it.is_dir()] if os.path.isdir(self.path) else []
 
 
-def known_files(folders, most):
-    """The names of the classes of the folders and their files, of two with one name that in the first folder; None where there are more than so many."""
-    known = {}
-    for folder in folders:
-        for name, file in folder.classes():
-            known.setdefault(name, file)
-            if len(known) > most:
-                return None
+def found(name, places):
+    """The file of the class of this name in the first place that has it, or None."""
+    return next(filter(None, (it.find(name) for it in places)), None)
+
+
+def pair(data, at):
+    """The number of two bytes."""
+    return data[at] << 8 | data[at + 1]
+
+
+def superclass(data):
+    """The name of the superclass in the bytes of a class file; None where there is none, or the bytes are no class file."""
+    try:
+        at, number, places, count = 10, 1, {}, pair(data, 8)
+        while number < count:
+            tag, places[number] = data[at], at
+            at += 3 + (data[at + 1] << 8 | data[at + 2]) if tag == 1 else 1 + SIZES[tag]
+            number += 2 if tag in (5, 6) else 1
+        text = places[pair(data, places[pair(data, at + 4)] + 1)]
+        return data[text + 3 : text + 3 + pair(data, text + 1)].decode()
+    except (IndexError, KeyError, UnicodeDecodeError):
+        return None
+
+
+def read(file):
+    with open(file, "rb") as it:
+        return it.read()
+
+
+def named_classes(files, folders):
+    """The files of the classes of the folders that these files name, with those above them, by their names."""
+    packages = sorted({re.escape(it) for folder in folders for it in folder.packages()}, key=len, reverse=True)
+    names = re.compile(rf"(?:{'|'.join(packages)})/[\w$/]+".encode())
+    wanted = {it.decode() for file in files for it in names.findall(read(file))} if packages else set()
+    wanted, known = [*UNNAMED, *wanted], {}
+    while wanted:
+        name = wanted.pop()
+        file = None if name in known else found(name, folders)
+        if file:
+            known[name] = file
+            wanted.append(superclass(read(file)) or UNNAMED[0])
     return known
 
 
@@ -107,7 +135,7 @@ class Verifier:
         """Adds the class of this name and those above it, as far as a place has them."""
         while wanted and wanted not in seen:
             seen.add(wanted)
-            file = next(filter(None, (it.find(wanted) for it in places)), None)
+            file = found(wanted, places)
             if file is None:
                 return
             files.append(file)
@@ -147,24 +175,22 @@ class Verifier:
         No answer is given on a class that a folder has as well, or that has another name: none of the others sees it. None is given where the class
         is refused as a whole, or one of the places has a class that the answer misses: such a class is damaged, or below one that is.
         """
-        known = known_files(folders, READ_MEANWHILE * len(files))
-        if known is None:
-            return {}
-        own = {name: file for name, file in files.items() if name not in known}
+        own = {name: file for name, file in files.items() if not found(name, folders)}
+        known = named_classes(own.values(), folders)
         for _ in range(2):
-            answers = self.each(list(own.values()), [file for name, file in known.items() if not OTHER_ROOT.match(name)]) if own else None
+            answers = self.each(list(own.values()), list(known.values())) if own else None
             if answers is None:
                 return {}
             other = [name for name, (told, _) in zip(own, answers) if told not in (None, name)]
             if not other:
-                return {own[name]: (lines, self.status(lines)) for name, (_, lines) in zip(own, answers) if self.is_settled(lines, files.keys() | known.keys())}
+                return {file: (lines, self.status(lines)) for file, (_, lines) in zip(own.values(), answers) if self.is_settled(lines, files, folders)}
             own = {name: file for name, file in own.items() if name not in other}
         return {}
 
     @staticmethod
-    def is_settled(lines, names):
+    def is_settled(lines, files, folders):
         missing = (MISSING.search(it) for it in lines if " missing " in it)
-        return all(it.startswith("method ") for it in lines) and not any(it and it[1] in names for it in missing)
+        return all(it.startswith("method ") for it in lines) and not any(it and (it[1] in files or found(it[1], folders)) for it in missing)
 
     @staticmethod
     def status(lines):

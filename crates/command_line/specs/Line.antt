@@ -1,5 +1,5 @@
 -- The command lines that the program knows, and what each asks for.
-use Rattle.std.specs.Prelude.{◌≡◌, Bool, true, false, List, [], ◌∷◌, map, codes, Option, Some, Result, Ok, Err, string_bytes, bytes_eq, if◌then◌else◌, ℕ, ◌++◌, length}
+use Rattle.std.specs.Prelude.{◌≡◌, Bool, true, false, List, [], ◌∷◌, map, codes, Option, Some, Result, Ok, Err, string_bytes, bytes_eq, if◌then◌else◌, ◌++◌, length}
 use Rattle.std.specs.Option.{option_map, unwrap_or}
 use Rattle.clap.specs.Lexer.{usize_max}
 use Rattle.clap.specs.declared.builder.action.ArgAction.TheVariants.{SetTrue, Append}

@@ -208,9 +208,10 @@ fn class_files<'a>(alloc: Global) -> Arg<'a>
     ensures rule { rule_of result ≡ class_files }
     ensures local { result.global ≡ false }
 {
-    Arg::new(alloc, "CLASS").required(true).num_args(1..).help(
-        "The paths of the files of the classes, java/lang/Object among them",
-    )
+    Arg::new(alloc, "CLASS")
+        .required(true)
+        .num_args(1..)
+        .help("The paths of the files of the classes")
 }
 
 /// A command that takes the files of classes.

@@ -10,5 +10,8 @@ returns-then-eq-3 c = search rules
 pub returns-then-eq-4 : goal.returns-then-eq-4
 returns-then-eq-4 c = search rules
 
-pub returns-else-eq-4 : goal.returns-else-eq-4
-returns-else-eq-4 c = search rules
+pub returns-then-eq-5 : goal.returns-then-eq-5
+returns-then-eq-5 c = search rules
+
+pub returns-else-eq-5 : goal.returns-else-eq-5
+returns-else-eq-5 c = search rules

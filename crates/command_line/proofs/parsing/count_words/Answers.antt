@@ -11,7 +11,7 @@ returns-in-Some c =
     let words = c.in-Some.words.now in
     let some : all_of c.args.name.now (rows_of found) ≡ Some (map (λ v. v.now) words) =
     sym (raw_rows found c.args.name.now) ∙ sym c.get_strs.ensures ∙ ap (option_map (λ s. map (λ v. v.now) s.now)) c.in-Some.is in
-    c.len.ensures ∙ sym (length-map words (λ v. v.now)) ∙ ap (λ o. length (unwrap_or o [])) (sym some)
+    sym (length-map words (λ v. v.now)) ∙ ap (λ o. length (unwrap_or o [])) (sym some)
 
 pub returns-in-None : goal.returns-in-None
 returns-in-None c =
