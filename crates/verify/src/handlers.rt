@@ -19,7 +19,7 @@ use rules::{Reason, Working, stored_to};
 use std::alloc::{AllocError, Global};
 
 // So many changes are kept that all settled entries took.
-const MOST_TAKEN: usize = 16;
+const MOST_TAKEN: usize = 256;
 
 /// The class that is missing for the entry that stands first in the table, of those whose comparison needs one.
 #[derive(Clone, Copy)]
