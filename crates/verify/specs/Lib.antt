@@ -36,3 +36,4 @@ pub mod Keeping
 pub mod ExceptionTables
 pub mod Catching
 pub mod Handling
+pub mod Asking

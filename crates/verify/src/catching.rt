@@ -1,8 +1,8 @@
 //! The frame in which an instruction raises, where an entry of the exception table leads (JVMS 4.10.1.6).
-ghost use Rattle.std.specs.Prelude.{◌≡◌, ◌≤◌, ◌∷◌, [], ℕ, true, length, map, reverse, option_map, IfOk, IfSome, OnOk};
-ghost use Rattle.hierarchy.specs.Answer.{outcome_of};
+ghost use Rattle.std.specs.Prelude.{◌≡◌, ◌≤◌, ◌∷◌, [], ℕ, true, get_or, length, map, reverse, option_map, IfOk, IfSome, OnOk};
+ghost use Rattle.hierarchy.specs.Answer.{outcome_of, yes};
 ghost use Rattle.names.specs.References.{reference_view};
-ghost use Rattle.frames.specs.VerificationType.{type_of};
+ghost use Rattle.frames.specs.VerificationType.{type_of, top};
 ghost use Rattle.frames.specs.Slots.{to_reference};
 ghost use Rattle.frames.specs.Assignable.{type_answer};
 ghost use Rattle.frames.specs.FrameAssignable.{item_answer, list_answer, stack_answer, frame_answer};
@@ -12,7 +12,6 @@ ghost use Rattle.rules.specs.After.{with_stack};
 ghost use Rattle.rules.specs.Held.{held};
 ghost use Rattle.verify.specs.ExceptionTables.{entry_view};
 ghost use Rattle.verify.specs.Catching.{caught_answer};
-ghost use Rattle.verify.specs.Handling.{Takes};
 ghost use Rattle.verify.specs.Keeping.{IsKnown};
 
 use crate::exceptions::Entry;
@@ -108,22 +107,15 @@ pub fn caught_answer<'n, 'a, C: Classes>(
     }
 }
 
-/// Whether the frame of an entry's handler takes a type as the local of a number, so that a frame which may come there still may where its
-/// local is given that type.
+/// Whether a type may stand for the local of a number where those of this frame are declared.
 pub fn takes<'a, C: Classes>(
-    entry: &Entry<'a>,
+    declared: &Declared<'_, 'a>,
     local: u16,
     vtype: &VType<'a>,
-    frames: &DeclaredFrames<'a>,
     classes: &C,
 ) -> bool
-    ensures { result ≡ true → Takes (C.content classes.now) (frames_in frames.now) entry.now local (type_of vtype.now) }
+    ensures { result ≡ true → type_answer (C.content classes.now) (type_of vtype.now) (get_or (declared_view declared.now).locals local top) ≡ yes }
 {
-    match frames.find(u32::from(entry.handler)) {
-        None => false,
-        Some(declared) => {
-            let wanted = declared.local(usize::from(local));
-            matches!(assignable(vtype, &wanted, classes), Answer::Yes)
-        }
-    }
+    let wanted = declared.local(usize::from(local));
+    matches!(assignable(vtype, &wanted, classes), Answer::Yes)
 }

@@ -1,11 +1,13 @@
 //! The exception handlers of a method, while a pass goes over its code (JVMS 4.10.1.6).
-ghost use Rattle.std.specs.Prelude.{◌≡◌, true, false, option_map};
+ghost use Rattle.std.specs.Prelude.{◌≡◌, true, false, option_map, IfSome, IsSomeAnd};
+ghost use Rattle.frames.specs.DeclaredTables.{frames_in};
 ghost use Rattle.frames.specs.FrameFact.{FrameFact};
 ghost use Rattle.frames.specs.VerificationType.{type_of};
 ghost use Rattle.rules.specs.After.{top_of};
 ghost use Rattle.rules.specs.Held.{held};
 ghost use Rattle.rules.specs.Replacing.{ChangesOnly};
-ghost use Rattle.verify.specs.Handling.{IsEarlier, IsAmong};
+ghost use Rattle.verify.specs.Handling.{IsEarlier, IsAmong, Takes};
+ghost use Rattle.verify.specs.Asking.{IsAsked};
 
 use crate::catching::{caught_answer, takes};
 use crate::exceptions::Entry;
@@ -17,7 +19,7 @@ use rules::{Reason, Working, stored_to};
 use std::alloc::{AllocError, Global};
 
 // So many changes are kept that all settled entries took.
-const MOST_TAKEN: usize = 16;
+const MOST_TAKEN: usize = 256;
 
 /// The class that is missing for the entry that stands first in the table, of those whose comparison needs one.
 #[derive(Clone, Copy)]
@@ -111,14 +113,56 @@ fn is_in_a_local<'a>(object: Option<VType<'a>>, frame: &Working<'a>) -> bool
     false
 }
 
+/// The frame of a handler, and whether it takes a change.
+#[derive(Clone, Copy)]
+pub struct Asked<'n, 'a> {
+    pub declared: Declared<'n, 'a>,
+    pub takes: bool,
+}
+
+/// Whether the frame that was asked takes the change, if there is one.
+fn takes_it(last: &Option<Asked<'_, '_>>) -> bool
+    ensures { result ≡ true → IsSomeAnd last.now (λ one. one.takes ≡ true) }
+{
+    match last {
+        Some(one) => one.takes,
+        None => false,
+    }
+}
+
+/// The frame of an entry's handler, if it has one, and whether it takes a change: as the one that was asked before, where that has the same locals.
+fn ask<'n, 'a, C: Classes>(
+    entry: &Entry<'a>,
+    change: &Change<'a>,
+    frames: &'n DeclaredFrames<'a>,
+    last: Option<Asked<'n, 'a>>,
+    classes: &C,
+) -> Option<Asked<'n, 'a>>
+    requires { IfSome last (IsAsked (C.content classes.now) frames.now change.now) }
+    ensures asked { IfSome result (IsAsked (C.content classes.now) frames.now change.now) }
+    ensures takes { IfSome result (λ one. one.takes ≡ true → Takes (C.content classes.now) (frames_in frames.now) entry.now change.now.local (type_of change.now.vtype)) }
+{
+    let declared = frames.find(u32::from(entry.handler))?;
+    if let Some(one) = last {
+        if declared.keeps_locals_of(&one.declared) {
+            return Some(Asked {
+                declared,
+                takes: one.takes,
+            });
+        }
+    }
+    let takes = takes(&declared, change.local, &change.vtype, classes);
+    Some(Asked { declared, takes })
+}
+
 impl<'a> Handlers<'a> {
-    ghost use Rattle.std.specs.Prelude.{◌<◌, ◌≤◌, ℕ, List, length, map, set, slice_index_or, None, IfSome, IfOk, OnOk, All};
+    ghost use Rattle.std.specs.Prelude.{◌<◌, ◌≤◌, ℕ, List, length, map, set, slice_index_or, None, IfOk, OnOk, All};
     ghost use Rattle.std.specs.List.Sorted.{IsNonDecreasingBy};
     ghost use Rattle.hierarchy.specs.Class.{ClassFact};
     ghost use Rattle.classfile.specs.Methods.{ExceptionEntry, Method};
     ghost use Rattle.insn.specs.Meanings as acts;
     ghost use Rattle.insn.specs.Views.{act_view};
-    ghost use Rattle.frames.specs.DeclaredTables.{frames_in, locals_in, declared_view, IsOf, AreOfOne};
+    ghost use Rattle.frames.specs.DeclaredTables.{locals_in, declared_view, IsOf, AreOfOne};
     ghost use Rattle.rules.specs.After.{after, stored};
     ghost use Rattle.rules.specs.Table.{plan};
     ghost use Rattle.rules.specs.Views.{with_half_free};
@@ -127,7 +171,7 @@ impl<'a> Handlers<'a> {
     ghost use Rattle.verify.specs.TypeSafety.{Frames};
     ghost use Rattle.verify.specs.Keeping.{IsKnown, IsKept, restored};
     ghost use Rattle.verify.specs.ExceptionTables.{entry_view, AreNumbered};
-    ghost use Rattle.verify.specs.Handling.{Follows, Takes, AreAhead, Settles, Catches};
+    ghost use Rattle.verify.specs.Handling.{Follows, AreAhead, Settles, Catches};
     ghost use Rattle.frames.specs.Conditions.{least};
     ghost use Rattle.verify.specs.Verdict.{entered, is_covered, handler_conditions};
     ghost use Rattle.verify.specs.declared.exceptions.Entry as entries;
@@ -206,8 +250,10 @@ impl<'a> Handlers<'a> {
     {
         self.moved.clear();
         self.moved.append(&mut self.settled)?;
+        let mut last = None;
         while let Some(entry) = self.moved.pop() {
-            if takes(&entry, change.local, &change.vtype, frames, classes) {
+            last = ask(&entry, change, frames, last, classes);
+            if takes_it(&last) {
                 self.settled.push(entry)?;
             } else {
                 self.fresh.push(entry)?;

@@ -1,4 +1,6 @@
 use Rattle.std.proofs.Common.{◌≡◌, ℕ, List, length, set}
+use Rattle.std.specs.Prelude.{IfSome}
+use Rattle.verify.specs.Asking.{IsAsked}
 use Rattle.classfile.specs.Methods.{ExceptionEntry}
 use Rattle.frames.specs.DeclaredTables.{frames_in}
 use Rattle.frames.specs.FrameFact.{FrameFact}
@@ -12,8 +14,9 @@ invariant-loop-entry g l =
     let cs = g.C.Classes.content l.classes in
     let frames = frames_in l.frames in
     let h = l.self in
+    IfSome l.last (IsAsked cs l.frames l.change) × (
     (es : List ExceptionEntry) (at : ℕ) (f n : FrameFact) → n.flag ≡ f.flag → n.locals ≡ set f.locals l.change.local (type_of l.change.vtype) → Follows cs frames es at f l.fn.self
-    → AreParted cs frames es h.taken.items at f n l.change.local (type_of l.change.vtype) h.by_start.items h.begun h.fresh.items h.moved.items h.settled.items
+    → AreParted cs frames es h.taken.items at f n l.change.local (type_of l.change.vtype) h.by_start.items h.begun h.fresh.items h.moved.items h.settled.items)
 
 abbrev pub decreases-loop-entry : goal.decreases-loop-entry
 decreases-loop-entry g l = length l.self.moved.items
