@@ -3,7 +3,7 @@ use crate::walks::{Stop, Walk, on, stop_of};
 use classfile::{ClassFile, Formed, Profile, decode, form_check};
 use hierarchy::{Classes, Rows, summary_of};
 use insn::Act;
-use library_calls::making::{K, O, OUT_OF_MEMORY, hasher, object};
+use lower_calls::making::{K, O, OUT_OF_MEMORY, hasher, object};
 use machine::{Choice, State, Value};
 use names::{Base, FieldType, Primitive};
 use pool::{CallSite, Descriptors, Pool};

@@ -5,7 +5,7 @@ use frames::FrameFault;
 use hierarchy::HierarchyFault;
 use insn::CodeFault;
 use layout::{ReadFault, StreamFault, WriteFault};
-use library_calls::making::is_shown;
+use lower_calls::making::is_shown;
 use machine::StepFault;
 use names::NameFault;
 use pool::PoolFault;

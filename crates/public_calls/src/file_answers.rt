@@ -2,7 +2,7 @@
 use answers::{AnswerFault, Command, Form, answer, one_answer};
 use classfile::Profile;
 use layout::{ReadFault, StreamFault};
-use library_calls::making::{K, O, hasher};
+use lower_calls::making::{K, O, hasher};
 use std::alloc::{AllocError, Global};
 use std::io::{self, Write};
 use std::test::*;

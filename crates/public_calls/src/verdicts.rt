@@ -1,7 +1,7 @@
 //! Verdicts on methods and classes that no program shows.
 use classfile::{ClassFile, Formed, decode, encode, form_check};
 use hierarchy::{Rows, summary_of};
-use library_calls::making::{K, catching, hasher, object};
+use lower_calls::making::{K, catching, hasher, object};
 use std::alloc::{AllocError, Global};
 use std::test::*;
 use verify::{

@@ -1,6 +1,6 @@
 //! Verdicts on the classes that files are: alone, among known classes, and in play together.
 use layout::ReadFault;
-use library_calls::making::{K, O, OUT_OF_MEMORY, hasher};
+use lower_calls::making::{K, O, OUT_OF_MEMORY, hasher};
 use std::alloc::Global;
 use std::test::*;
 use verify::{

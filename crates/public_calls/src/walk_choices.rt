@@ -3,7 +3,7 @@ use crate::machine_steps::machine_method;
 use crate::walks::on;
 use classfile::{Formed, decode, form_check};
 use hierarchy::{Classes, Rows, Summary};
-use library_calls::making::{OUT_OF_MEMORY, hasher, object, summary};
+use lower_calls::making::{OUT_OF_MEMORY, hasher, object, summary};
 use machine::{Choice, Last, Method, Object, RunType, Status, Value, initial, walk};
 use names::{Base, OBJECT, Primitive, THROWABLE};
 use std::alloc::{AllocError, Global};

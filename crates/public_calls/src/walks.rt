@@ -2,7 +2,7 @@
 use crate::machine_steps::machine_method;
 use classfile::{ClassFile, Formed, decode, form_check};
 use hierarchy::{Classes, Rows};
-use library_calls::making::{CATCHING, K, OUT_OF_MEMORY, catching, hasher, object, summary};
+use lower_calls::making::{CATCHING, K, OUT_OF_MEMORY, catching, hasher, object, summary};
 use machine::{Choice, Last, Method, RunType, StepFault, Value, Walked, initial, is_initial, walk};
 use names::{OBJECT, THROWABLE};
 use std::alloc::{AllocError, Global};

@@ -5,7 +5,7 @@ use Rattle.layout.specs.Place.{Place}
 use Rattle.insn.specs.Code.{HasInstruction}
 use Rattle.insn.specs.Views.{views, located}
 use Rattle.insn.proofs.CodeLaws.{code_front}
-use Rattle.library_calls.proofs.code_reading.first_act.Goals as goal
+use Rattle.lower_calls.proofs.code_reading.first_act.Goals as goal
 
 pub take_act-act-requires : goal.take_act-act-requires
 take_act-act-requires c =
