@@ -21,7 +21,7 @@ fn report_text<'r, 'a>(report: &'r Report<'a>) -> ReportText<'r, 'a>
     }
 }
 
-/// What is answered of a file.
+/// The answer about a file.
 #[derive(Clone, Copy)]
 struct JudgementLines<'r, 'a>(&'r Judgement<'a>);
 
@@ -59,7 +59,7 @@ impl<'r, 'a> Print for ClassText<'r, 'a> {
     }
 }
 
-/// What is answered of a file, behind its number and the name of its class.
+/// The answer about a file, behind its number and the name of its class.
 #[derive(Clone, Copy)]
 struct NumberedLines<'r, 'a> {
     number: usize,
@@ -76,7 +76,7 @@ impl<'r, 'a> Print for NumberedLines<'r, 'a> {
     }
 }
 
-/// What is answered of many files.
+/// The answers about many files.
 #[derive(Clone, Copy)]
 pub struct JudgementsText<'r, 'a>(pub &'r [Judgement<'a>]);
 

@@ -105,7 +105,7 @@ follows_among classes frames es at n t f g h b l among follows =
 -- ---- entries that are gone through
 
 module _ (classes : List ClassFact) (frames : Frames) (es : List ExceptionEntry) (taken : List Change) (at : ℕ) (f g : FrameFact) (n : ℕ) (t : VerificationType) (by_start : List Entry) (begun : ℕ) where
-  -- Those that were gone through are to be compared again, or take the change.
+  -- Entries that were gone through are to be compared again, or take the change.
   pub record AreParted (fresh moved settled : List Entry) : Type 0 where
     pub tracks : Tracks es at (IsSettled classes frames taken at g) by_start begun (fresh ++ moved) settled
     pub left : All (IsSettled classes frames taken at f) moved

@@ -1,4 +1,4 @@
--- What a handler's frame answers of a change.
+-- The answer of a handler's frame about a change.
 use Rattle.std.specs.Prelude.{◌≡◌, true, get_or, List}
 use Rattle.hierarchy.specs.Class.{ClassFact}
 use Rattle.hierarchy.specs.Answer.{yes}

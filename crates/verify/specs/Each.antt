@@ -1,4 +1,4 @@
--- What is answered of each of many files, under the one hierarchy of the classes that these files and the known ones are (JVMS 4.10.1).
+-- The answers about many files, under the one hierarchy of the classes that these files and the known ones are (JVMS 4.10.1).
 use Rattle.std.specs.Prelude.{◌≡◌, ◌≢◌, ◌⊎◌, ℕ, List, [], ◌∷◌, ◌++◌, is_some, if◌then◌else◌, Result, Ok, Err}
 use Rattle.classfile.specs.Values.{Class}
 use Rattle.classfile.specs.CodeMethods.{judged}

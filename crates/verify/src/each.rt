@@ -20,7 +20,7 @@ use std::alloc::{AllocError, AllocFailed, Global};
 use std::hash::BuildHasher;
 use thiserror::Error;
 
-/// What is answered of a file that is to be a class.
+/// The answer about a file that is to be a class.
 #[derive(Debug, Drop)]
 pub enum Judgement<'a> {
     /// The verdicts on the methods of the class of this name.
@@ -64,7 +64,7 @@ impl<'a, T: Drop> From<AllocFailed<T>> for EachFault<'a> {
     }
 }
 
-/// What is answered of a file that is refused.
+/// The answer about a file that is refused.
 fn refused<'a>(fault: FileFault) -> Result<Judgement<'a>, EachFault<'a>>
     ensures judged { (profile : ProfileFact) (classes : List ClassFact) (read : Read) → OrMemory read fault → IfOk result (IsJudged profile classes read) }
     ensures memory { IfErr result (λ e. e ≡ OutOfMemory) }
@@ -77,7 +77,7 @@ fn refused<'a>(fault: FileFault) -> Result<Judgement<'a>, EachFault<'a>>
     }
 }
 
-/// What is answered of a file by a profile, in a hierarchy.
+/// The answer about a file by a profile, in a hierarchy.
 fn judge<'a, C: Classes>(
     alloc: Global,
     profile: Profile,
@@ -105,7 +105,7 @@ fn judge<'a, C: Classes>(
     }
 }
 
-/// What is answered of each of these files by a profile, in a hierarchy.
+/// The answers about these files by a profile, in a hierarchy.
 fn judge_all<'a, C: Classes>(
     alloc: Global,
     profile: Profile,
@@ -122,7 +122,7 @@ fn judge_all<'a, C: Classes>(
     Ok(judgements)
 }
 
-/// What is answered of each of these files by a profile, in the hierarchy that classes are. What the classes of these names inherit is found
+/// The answers about these files by a profile, in the hierarchy that classes are. What the classes of these names inherit is found
 /// before.
 fn judge_among<'a, S: BuildHasher + Drop>(
     alloc: Global,
@@ -148,7 +148,7 @@ fn names_of<'a>(alloc: Global, classes: &[Summary<'a>]) -> Result<Vec<&'a [u8]>,
     classes.iter().map(|class| class.name).collect(alloc)
 }
 
-/// What is answered of each of these files by a profile, in their order: the verdicts on the methods of its class (JVMS 4.10.1), or why there
+/// The answers about these files by a profile, in their order: of each the verdicts on the methods of its class (JVMS 4.10.1), or why there
 /// are none. The hierarchy is made once. It has the classes that all files are, these and the known ones; of those with one name the first. A file that is
 /// refused is left out, and so is each class that does not stand: it, or a class above it, breaks a rule of hierarchies (40 to 46), or has a
 /// superclass that is not there. Each file was read so.

@@ -53,7 +53,7 @@ pub struct Handlers<'a> {
     settled: Vec<Entry<'a>>,
     // Changes that the frames of their handlers take, so that another one of these is not compared.
     taken: Vec<Change<'a>>,
-    // Those that are gone through.
+    // Entries that are gone through.
     moved: Vec<Entry<'a>>,
     // Where the frame of a handler is written.
     room: Vec<VType<'a>>,
