@@ -16,11 +16,6 @@ use Rattle.frames.proofs.Slots.{both_no, both_yes, both_assoc}
 use Rattle.rules.specs.Plans.{Plan, pops, loads, stores, counts, rearranges, loads_element, makes, constructs, calls_special, returns, refuses}
 use Rattle.rules.specs.After.{or_top, local_of, top_of, flag_after, after}
 use Rattle.rules.specs.Rules.{constructs_own}
-use Rattle.rules.specs.Table.{plan}
-use Rattle.rules.specs.Ways.{keeps_locals}
-use Rattle.rules.proofs.Keeping.{locals_kept}
-use Rattle.rules.proofs.Made.{never}
-use Rattle.verify.specs.Keeping.{IsSameBeneath}
 
 -- ---- locals
 
@@ -137,10 +132,3 @@ flags_alike false b k = refl
 pub stacks_differ : (classes : List ClassFact) (f g : FrameFact) → flag_answer f.flag g.flag ≡ yes → no ≡ stack_answer (item_answer classes) f.stack g.stack → no ≡ frame_answer classes f g
 stacks_differ classes f g flags s =
     sym (no_stack (list_answer (type_answer classes) f.locals g.locals)) ∙ by_parts classes f g (list_answer (type_answer classes) f.locals g.locals) no flags refl s
-
--- an instruction that keeps the locals leaves the frame the same beneath its stack
-pub same_behind : (m : Method Act) (at : ℕ) (a : Act) (f now : FrameFact) → keeps_locals a ≡ true → now ≡ after m at (plan m a) f → IsSameBeneath f now
-same_behind m at a f now keeps is = record {
-  locals = sym (ap (λ (z : FrameFact). z.locals) is ∙ locals_kept m at a f keeps);
-  flag = sym (ap (λ (z : FrameFact). z.flag) is ∙ flag_kept m at (plan m a) f (never m a f keeps));
-}
