@@ -65,6 +65,7 @@ sentences =
     ∷ (79, codes "BadCode: the code is refused at this instruction")
     ∷ (81, codes "FinalSuper: the superclass of the class is final")
     ∷ (82, codes "ProtectedMember: a protected member of another package is used on an object that is not assignable to the current class")
+    ∷ (90, codes "BadBootstrap: the class has no bootstrap method for the constant, or one whose handle or arguments may not be used")
     ∷ []
 
 -- of stack maps (behind 78) and of code (behind 79)

@@ -1,4 +1,5 @@
 pub mod Bodies
+pub mod BootstrapLaws
 pub mod ClassMeasure
 pub mod ClassOutlines
 pub mod Classes

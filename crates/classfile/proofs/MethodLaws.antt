@@ -14,7 +14,7 @@ use Rattle.pool.specs.Lookups.{text_at}
 use Rattle.pool.specs.Members.{found, class_at}
 use Rattle.classfile.specs.Values.{CodeBody, Attribute, Member}
 use Rattle.classfile.specs.Flags.{has, STATIC}
-use Rattle.classfile.specs.Methods.{JudgedClass, Method, ExceptionEntry, code_of, class_named, superclass_of, declared_fields, exception_entries, stack_map_of, member_type, method_with, method_from, method_of}
+use Rattle.classfile.specs.Methods.{JudgedClass, Method, judged_bootstraps, ExceptionEntry, code_of, class_named, superclass_of, declared_fields, exception_entries, stack_map_of, member_type, method_with, method_from, method_of}
 use Rattle.classfile.specs.MethodParts.{or_empty, params_in, params_at, method_by_parts, IsMethod}
 use Rattle.classfile.specs.Indices.{on_found}
 use Rattle.classfile.specs.Naming.{is_init as is_init_name}
@@ -57,6 +57,7 @@ with_code code m = record {
   is_static = m.is_static;
   is_init = m.is_init;
   type = m.type;
+  bootstraps = m.bootstraps;
   dynamic = m.dynamic;
 }
 
@@ -107,6 +108,7 @@ assembled c body class entries is_static is_init type = record {
   is_static = is_static;
   is_init = is_init;
   type = type;
+  bootstraps = judged_bootstraps c;
   dynamic = c.dynamic;
 }
 

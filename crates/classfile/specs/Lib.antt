@@ -1,4 +1,6 @@
 pub mod AttributeForm
+pub mod BootstrapViews
+pub mod Bootstraps
 pub mod ClassAttributes
 pub mod ClassFile
 pub mod ClassForm

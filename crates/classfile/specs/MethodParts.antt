@@ -7,7 +7,7 @@ use Rattle.names.specs.Descriptors.{FieldDescriptor, MethodDescriptor}
 use Rattle.names.specs.DescriptorCodes.{coded_type}
 use Rattle.pool.specs.Members.{class_at}
 use Rattle.classfile.specs.Values.{CodeBody, Class}
-use Rattle.classfile.specs.Methods.{JudgedClass, Method, class_named, superclass_of, declared_fields, exception_entries, stack_map_of, code_of, member_type, method_of}
+use Rattle.classfile.specs.Methods.{JudgedClass, Method, judged_bootstraps, class_named, superclass_of, declared_fields, exception_entries, stack_map_of, code_of, member_type, method_of}
 
 -- none where there is none
 abbrev pub or_empty : {A : Type 0} → Option (List A) → List A
@@ -43,6 +43,7 @@ method_by_parts c number body is_static is_init result code = record {
   is_static = is_static;
   is_init = is_init;
   type = record { params = params_at c.file number; result = result };
+  bootstraps = judged_bootstraps c;
   dynamic = c.dynamic;
 }
 

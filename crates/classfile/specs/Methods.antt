@@ -8,6 +8,7 @@ use Rattle.names.specs.Reading.{method_answer}
 use Rattle.pool.specs.Entries.{Entry}
 use Rattle.pool.specs.Lookups.{Named, text_at}
 use Rattle.pool.specs.Members.{found, class_at, FieldConstant}
+use Rattle.classfile.specs.Bootstraps.{BootstrapMethod, bootstraps_of}
 use Rattle.classfile.specs.Flags.{has, STATIC}
 use Rattle.classfile.specs.Values.{of_parts, of_numbers, raw, Handler, Nested, CodeBody, Attribute, Member, Class}
 
@@ -42,6 +43,8 @@ pub record Method (A : Type 0) : Type 0 where
   pub is_static : Bool
   pub is_init : Bool
   pub type : MethodDescriptor
+  -- the bootstrap methods of the class, where dynamic constants are judged
+  pub bootstraps : List BootstrapMethod
   -- `invokedynamic` and dynamic constants are judged, and not refused
   pub dynamic : Bool
 
@@ -125,6 +128,10 @@ abbrev pub exception_entries : List Entry → List Handler → Option (List Exce
 exception_entries pool [] = Some []
 exception_entries pool (h ∷ hs) = entry_with h (caught_type pool h.catch_type) (exception_entries pool hs)
 
+-- where dynamic constants are refused, none is looked at
+abbrev pub judged_bootstraps : JudgedClass → List BootstrapMethod
+judged_bootstraps c = if c.dynamic then bootstraps_of c.file else []
+
 -- The parts of a method that hang on constants: the names of its class and of itself, its types, and its exception table.
 abbrev pub method_with :
     {A : Type 0} → JudgedClass → Member → List (ℕ × A) → CodeBody → Option (List ℕ) → Option (List ℕ) → Option MethodDescriptor → Option (List ExceptionEntry) → Option (Method A)
@@ -143,6 +150,7 @@ method_with c member code body (Some class) (Some name) (Some type) (Some except
   is_static = has member.access_flags STATIC;
   is_init = bytes_eq name init_name;
   type = type;
+  bootstraps = judged_bootstraps c;
   dynamic = c.dynamic;
 })
 method_with c member code body _ _ _ _ = None

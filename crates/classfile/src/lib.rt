@@ -13,6 +13,7 @@
 //! | `member` | [`Member`], a field or a method |
 //! | `attribute` | [`Attribute`] of a field, a method or a component of a record |
 //! | `class_attribute`, `component` | [`ClassAttribute`], and the [`Component`]s of a record |
+//! | `bootstraps` | [`Bootstraps`], which bootstrap methods of a class may be used |
 //! | `code` | [`CodeAttr`] and its [`ExceptionHandler`]s |
 //! | `code_method` | [`CodeMethod`], a method of a well-formed class as its instructions see it |
 //! | `nested` | [`NestedAttribute`], an attribute of a Code attribute |
@@ -40,6 +41,7 @@
 
 mod attribute;
 mod attribute_form;
+mod bootstraps;
 mod class_attribute;
 mod class_file;
 mod class_form;
@@ -76,6 +78,7 @@ mod text_forms;
 mod text_numbers;
 
 pub use attribute::Attribute;
+pub use bootstraps::Bootstraps;
 pub use class_attribute::ClassAttribute;
 pub use class_file::ClassFile;
 pub use code::{CodeAttr, ExceptionHandler};

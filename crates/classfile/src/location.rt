@@ -20,7 +20,7 @@ pub enum Location {
 }
 
 /// Whether the index names this text.
-fn is_named(pool: &Pool<'_>, index: u16, text: &[u8]) -> bool
+pub fn is_named(pool: &Pool<'_>, index: u16, text: &[u8]) -> bool
     ensures { result ≡ is_named pool.now index text.now }
 {
     match pool.text(index) {

@@ -51,7 +51,7 @@ const VERIFY_EXAMPLE: &str = "Example:
 
 Each method is `verified`, has `no code`, or is `refused NUMBER at OFFSET`, the offset counting bytes of its code. Behind 77 stands
 `missing NAME`: give the file of that class as well; examples/judge does so by itself. A method with invokedynamic is refused 60 but with
---dynamic. docs/REFUSALS.md explains the numbers 40 to 81.";
+--dynamic. docs/REFUSALS.md explains the numbers 40 to 90.";
 
 /// The end of the help on `explain`.
 const EXPLAIN_EXAMPLE: &str = "Example:

@@ -57,6 +57,7 @@ method act exceptions = record {
   is_static = true;
   is_init = false;
   type = record { params = []; result = None };
+  bootstraps = [];
   dynamic = false;
 }
 

@@ -4,7 +4,7 @@ use Rattle.names.specs.Types.{type_of}
 use Rattle.pool.specs.Members.{class_at}
 use Rattle.pool.specs.Entries.{Entry}
 use Rattle.classfile.specs.Values.{Handler}
-use Rattle.classfile.specs.Methods.{Method, ExceptionEntry, stack_map_of, class_named, superclass_of, declared_fields, caught_type}
+use Rattle.classfile.specs.Methods.{Method, ExceptionEntry, judged_bootstraps, stack_map_of, class_named, superclass_of, declared_fields, caught_type}
 use Rattle.classfile.specs.MethodParts.{or_empty, params_at}
 use Rattle.classfile.specs.Views.{class_view, code_view}
 use Rattle.insn.specs.declared.instruction.Insn as insns
@@ -45,5 +45,6 @@ method_view m =
       is_static = m.declared.is_static;
       is_init = m.declared.is_init;
       type = record { params = params_at c m.declared.number; result = option_map type_of m.declared.result_type };
+      bootstraps = judged_bootstraps (record { file = c; dynamic = m.declared.dynamic });
       dynamic = m.declared.dynamic;
     }

@@ -1,6 +1,6 @@
 //! Dynamic calls and constants: looked up, and judged and run where a profile asks for it.
 use crate::walks::{Stop, Walk, on, stop_of};
-use classfile::{ClassFile, Formed, Profile, decode, form_check};
+use classfile::{Bootstraps, ClassFile, Formed, Profile, decode, form_check};
 use hierarchy::{Classes, Rows, summary_of};
 use insn::Act;
 use lower_calls::making::{K, O, OUT_OF_MEMORY, hasher, object};
@@ -17,15 +17,18 @@ use verify::{
 };
 
 /// The class file of a class K whose static method `f` loads the Dynamic constant of int at 11 and drops it, and then calls the site `g` of the
-/// InvokeDynamic at 15: `ldc`, `pop`, `invokedynamic`, `return`.
-const CALLS: [u8; 143] = [
-    0xCA, 0xFE, 0xBA, 0xBE, 0, 0, 0, 0x37, 0, 0x10, 7, 0, 2, 1, 0, 1, 0x4B, 7, 0, 4, 1, 0, 0x10,
+/// InvokeDynamic at 15: `ldc`, `pop`, `invokedynamic`, `return`. Both are of its one bootstrap method, whose handle and whose argument are the
+/// MethodHandle of `f`.
+const CALLS: [u8; 190] = [
+    0xCA, 0xFE, 0xBA, 0xBE, 0, 0, 0, 0x37, 0, 0x14, 7, 0, 2, 1, 0, 1, 0x4B, 7, 0, 4, 1, 0, 0x10,
     0x6A, 0x61, 0x76, 0x61, 0x2F, 0x6C, 0x61, 0x6E, 0x67, 0x2F, 0x4F, 0x62, 0x6A, 0x65, 0x63, 0x74,
     1, 0, 1, 0x66, 1, 0, 3, 0x28, 0x29, 0x56, 1, 0, 4, 0x43, 0x6F, 0x64, 0x65, 1, 0, 1, 0x64, 1, 0,
     1, 0x49, 0x0C, 0, 8, 0, 9, 0x11, 0, 0, 0, 0x0A, 1, 0, 1, 0x67, 1, 0, 3, 0x28, 0x29, 0x56, 0x0C,
-    0, 0x0C, 0, 0x0D, 0x12, 0, 0, 0, 0x0E, 0, 0x21, 0, 1, 0, 3, 0, 0, 0, 0, 0, 1, 0, 8, 0, 5, 0, 6,
-    0, 1, 0, 7, 0, 0, 0, 0x15, 0, 1, 0, 0, 0, 0, 0, 9, 0x12, 0x0B, 0x57, 0xBA, 0, 0x0F, 0, 0, 0xB1,
-    0, 0, 0, 0, 0, 0,
+    0, 0x0C, 0, 0x0D, 0x12, 0, 0, 0, 0x0E, 1, 0, 0x10, 0x42, 0x6F, 0x6F, 0x74, 0x73, 0x74, 0x72,
+    0x61, 0x70, 0x4D, 0x65, 0x74, 0x68, 0x6F, 0x64, 0x73, 0x0F, 6, 0, 0x12, 0x0A, 0, 1, 0, 0x13,
+    0x0C, 0, 5, 0, 6, 0, 0x21, 0, 1, 0, 3, 0, 0, 0, 0, 0, 1, 0, 8, 0, 5, 0, 6, 0, 1, 0, 7, 0, 0, 0,
+    0x15, 0, 1, 0, 0, 0, 0, 0, 9, 0x12, 0x0B, 0x57, 0xBA, 0, 0x0F, 0, 0, 0xB1, 0, 0, 0, 0, 0, 1, 0,
+    0x10, 0, 0, 0, 8, 0, 1, 0, 0x11, 0, 1, 0, 0x11,
 ];
 
 #[test]
@@ -71,6 +74,12 @@ fn has_constants(constants: &mut Descriptors<'_, '_>) -> Result<bool, AllocError
     Ok(computed && site && none)
 }
 
+/// Whether the class has the bootstrap method 0, and no other.
+fn has_bootstrap(alloc: Global, class: &ClassFile<'_>) -> Result<bool, AllocError> {
+    let mut bootstraps = Bootstraps::new(alloc, class);
+    Ok(bootstraps.has(0)? && !bootstraps.has(1)?)
+}
+
 /// Whether the instructions of the one method name the constant and the site.
 fn are_named<'a, C: Classes>(
     alloc: Global,
@@ -81,7 +90,7 @@ fn are_named<'a, C: Classes>(
     if class.methods.len() != 1 {
         return Ok(false);
     }
-    let Some(method) = formed.method(0) else {
+    let Some(method) = formed.under(Profile::Dynamic).method(0) else {
         return Ok(false);
     };
     let mut constants = Descriptors::new(alloc, &method.class.constant_pool);
@@ -89,7 +98,8 @@ fn are_named<'a, C: Classes>(
     let load = members.named(&mut constants, &method, &Act::LoadConstant { index: 11 })?;
     let call = members.named(&mut constants, &method, &Act::InvokeDynamic { index: 15 })?;
     let found = is_int(load.computed()) && is_g(call.site());
-    Ok(found && load.site().is_none() && call.computed().is_none())
+    let bootstrapped = load.is_bootstrapped() && call.is_bootstrapped();
+    Ok(found && bootstrapped && load.site().is_none() && call.computed().is_none())
 }
 
 fn are_found<'a>(alloc: Global, formed: &Formed<'_, 'a>) -> Result<bool, AllocError> {
@@ -97,7 +107,10 @@ fn are_found<'a>(alloc: Global, formed: &Formed<'_, 'a>) -> Result<bool, AllocEr
     let found = has_texts(pool) && has_constants(&mut Descriptors::new(alloc, pool))?;
     let list = [object(alloc), summary_of(alloc, formed)?];
     match Rows::new(alloc, &list, hasher()) {
-        Ok(classes) => Ok(found && are_named(alloc, formed, &classes)?),
+        Ok(classes) => {
+            let named = are_named(alloc, formed, &classes)?;
+            Ok(found && named && has_bootstrap(alloc, formed.class())?)
+        }
         Err(_) => Err(AllocError),
     }
 }

@@ -4,6 +4,7 @@ use Rattle.names.specs.declared.base.Primitive.{Primitive}
 use Rattle.names.specs.Descriptors.{FieldDescriptor, MethodDescriptor, primitive, class as class_descriptor, array as array_descriptor, field_width}
 use Rattle.std.specs.Prelude.{nat_lt, nat_eq, not, ◌&&◌}
 use Rattle.names.specs.ReferenceTypes.{ReferenceType, class_type, array_type, descriptor_of, dimensions_of}
+use Rattle.classfile.specs.Bootstraps.{has_bootstrap}
 use Rattle.classfile.specs.Methods.{Method}
 use Rattle.pool.specs.Entries as entries
 use Rattle.pool.specs.Entries.{Entry}
@@ -15,8 +16,8 @@ use Rattle.frames.specs.Slots.{to_reference, descriptor_type}
 use Rattle.insn.specs.Meanings as acts
 use Rattle.insn.specs.Meanings.{Act}
 use Rattle.insn.specs.Stacks.{same_kind, computed_as}
-use Rattle.rules.specs.Plans.{Plan, pops, makes, constructs, calls_special, sizes, number, refuses, falls, offsets_of, where_judged, where_allowed, call_of, gives, arguments_on, class_want, result_types}
-use Rattle.rules.specs.Constants.{load_dynamic, load_constant, load_wide_constant, get_static, put_static, get_field, put_field, invoke_static, invoke_virtual, invoke_interface, static_call, call_on, may_invoke_interface, new_array, new_reference_array, new_multi_array, check_cast, instance_of, is_init_name, constructor_call, special_call, invoke_special, is_special_name, dynamic_call, invoke_dynamic, new_object}
+use Rattle.rules.specs.Plans.{Plan, pops, makes, constructs, calls_special, sizes, number, refuses, falls, offsets_of, where_judged, where_allowed, where_bootstrapped, call_of, gives, arguments_on, class_want, result_types}
+use Rattle.rules.specs.Constants.{is_bootstrapped, load_dynamic, load_constant, load_wide_constant, get_static, put_static, get_field, put_field, invoke_static, invoke_virtual, invoke_interface, static_call, call_on, may_invoke_interface, new_array, new_reference_array, new_multi_array, check_cast, instance_of, is_init_name, constructor_call, special_call, invoke_special, is_special_name, dynamic_call, invoke_dynamic, new_object}
 use Rattle.rules.specs.Table.{plan, return_number, return_reference, return_nothing, leaves_with}
 use Rattle.rules.specs.Ways.{goes_on, branch_offsets}
 
@@ -49,9 +50,21 @@ judged : (b : Bool) (p : Plan) → GoesOn p → GoesOn (where_judged b p)
 judged true p g = g
 judged false p g = on (refuses 60) refl refl
 
-computed : (units : ℕ) (type : Option FieldDescriptor) → GoesOn (load_dynamic units type)
-computed units None = on (refuses 66) refl refl
-computed units (Some type) = allowed (nat_eq (field_width type) units) (gives (descriptor_type type)) (record { falls_on = refl; nowhere = refl })
+bootstrapped : (b : Bool) (p : Plan) → GoesOn p → GoesOn (where_bootstrapped b p)
+bootstrapped true p g = g
+bootstrapped false p g = on (refuses 90) refl refl
+
+computed : (units : ℕ) (b : Bool) (type : Option FieldDescriptor) → GoesOn (load_dynamic units b type)
+computed units b None = on (refuses 66) refl refl
+computed units b (Some type) =
+    allowed (nat_eq (field_width type) units) (where_bootstrapped b (gives (descriptor_type type)))
+    (bootstrapped b (gives (descriptor_type type)) (record { falls_on = refl; nowhere = refl }))
+
+by_bootstrap : (m : Method Act) (units bootstrap : ℕ) (type : Option FieldDescriptor)
+    → GoesOn (where_judged m.dynamic (load_dynamic units (has_bootstrap m.constant_pool m.bootstraps bootstrap) type))
+by_bootstrap m units bootstrap type =
+    let b = has_bootstrap m.constant_pool m.bootstraps bootstrap in
+    judged m.dynamic (load_dynamic units b type) (computed units b type)
 
 loaded : (m : Method Act) (type : Option FieldDescriptor) (c : Option Entry) → GoesOn (load_constant m type c)
 loaded m type None = on (load_constant m type None) refl refl
@@ -68,7 +81,7 @@ loaded m type (Some (entries.InterfaceMethodref class name_and_type)) = on (load
 loaded m type (Some (entries.NameAndType name descriptor)) = on (load_constant m type (Some (entries.NameAndType name descriptor))) refl refl
 loaded m type (Some (entries.MethodHandle kind reference)) = on (load_constant m type (Some (entries.MethodHandle kind reference))) refl refl
 loaded m type (Some (entries.MethodType descriptor)) = on (load_constant m type (Some (entries.MethodType descriptor))) refl refl
-loaded m type (Some (entries.Dynamic bootstrap name)) = judged m.dynamic (load_dynamic 1 type) (computed 1 type)
+loaded m type (Some (entries.Dynamic bootstrap name)) = by_bootstrap m 1 bootstrap type
 loaded m type (Some (entries.InvokeDynamic bootstrap name)) = on (load_constant m type (Some (entries.InvokeDynamic bootstrap name))) refl refl
 loaded m type (Some entries.Unusable) = on (load_constant m type (Some entries.Unusable)) refl refl
 
@@ -87,7 +100,7 @@ loaded_wide m type (Some (entries.InterfaceMethodref class name_and_type)) = on 
 loaded_wide m type (Some (entries.NameAndType name descriptor)) = on (load_wide_constant m type (Some (entries.NameAndType name descriptor))) refl refl
 loaded_wide m type (Some (entries.MethodHandle kind reference)) = on (load_wide_constant m type (Some (entries.MethodHandle kind reference))) refl refl
 loaded_wide m type (Some (entries.MethodType descriptor)) = on (load_wide_constant m type (Some (entries.MethodType descriptor))) refl refl
-loaded_wide m type (Some (entries.Dynamic bootstrap name)) = judged m.dynamic (load_dynamic 2 type) (computed 2 type)
+loaded_wide m type (Some (entries.Dynamic bootstrap name)) = by_bootstrap m 2 bootstrap type
 loaded_wide m type (Some (entries.InvokeDynamic bootstrap name)) = on (load_wide_constant m type (Some (entries.InvokeDynamic bootstrap name))) refl refl
 loaded_wide m type (Some entries.Unusable) = on (load_wide_constant m type (Some entries.Unusable)) refl refl
 
@@ -121,12 +134,12 @@ static_on : (major : ℕ) (o : Option MethodConstant) → GoesOn (invoke_static 
 static_on major None = on (invoke_static major None) refl refl
 static_on major (Some c) = allowed _ (static_call c) (static_goes c.type)
 
-site_goes : (o : Option CallSite) → GoesOn (dynamic_call o)
-site_goes None = on (refuses 66) refl refl
-site_goes (Some c) = allowed (not (is_special_name c)) (call_of c.type) (static_goes c.type)
+site_goes : (b : Bool) (o : Option CallSite) → GoesOn (dynamic_call b o)
+site_goes b None = on (refuses 66) refl refl
+site_goes b (Some c) = allowed (not (is_special_name c)) (where_bootstrapped b (call_of c.type)) (bootstrapped b (call_of c.type) (static_goes c.type))
 
-site_on : (m : Method Act) (o : Option CallSite) → GoesOn (invoke_dynamic m o)
-site_on m o = judged m.dynamic (dynamic_call o) (site_goes o)
+site_on : (m : Method Act) (b : Bool) (o : Option CallSite) → GoesOn (invoke_dynamic m b o)
+site_on m b o = judged m.dynamic (dynamic_call b o) (site_goes b o)
 
 virtual_on : (o : Option MethodConstant) → GoesOn (invoke_virtual o)
 virtual_on None = on (invoke_virtual None) refl refl
@@ -245,7 +258,9 @@ way_of m (acts.PutField i) = plain (acts.PutField i) (put_field m (field_at m.co
 way_of m (acts.InvokeVirtual i) = plain (acts.InvokeVirtual i) (invoke_virtual (method_at m.constant_pool i)) refl refl (virtual_on (method_at m.constant_pool i))
 way_of m (acts.InvokeStatic i) = plain (acts.InvokeStatic i) (invoke_static m.major_version (method_at m.constant_pool i)) refl refl (static_on m.major_version (method_at m.constant_pool i))
 way_of m (acts.InvokeInterface i count) = plain (acts.InvokeInterface i count) (invoke_interface count (method_at m.constant_pool i)) refl refl (interface_on count (method_at m.constant_pool i))
-way_of m (acts.InvokeDynamic i) = plain (acts.InvokeDynamic i) (invoke_dynamic m (call_site_at m.constant_pool i)) refl refl (site_on m (call_site_at m.constant_pool i))
+way_of m (acts.InvokeDynamic i) =
+    plain (acts.InvokeDynamic i) (invoke_dynamic m (is_bootstrapped m (constant_at m.constant_pool i)) (call_site_at m.constant_pool i)) refl refl
+    (site_on m (is_bootstrapped m (constant_at m.constant_pool i)) (call_site_at m.constant_pool i))
 way_of m (acts.NewArray element) = plain (acts.NewArray element) (new_array element) refl refl (array_on element)
 way_of m (acts.NewReferenceArray i) = plain (acts.NewReferenceArray i) (new_reference_array (class_at m.constant_pool i)) refl refl (references_on (class_at m.constant_pool i))
 way_of m (acts.NewMultiArray i n) = plain (acts.NewMultiArray i n) (new_multi_array n (class_at m.constant_pool i)) refl refl (multi_on n (class_at m.constant_pool i))

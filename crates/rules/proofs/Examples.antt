@@ -2,8 +2,10 @@
 use Rattle.std.proofs.Common.{◌≡◌, ℕ, Bool, true, false, List, [], ◌∷◌, Option, Some, None, codes, refl}
 use Rattle.names.specs.Descriptors.{FieldDescriptor}
 use Rattle.pool.specs.Entries as entries
+use Rattle.pool.specs.declared.kind.ReferenceKind.TheVariants.{GetField}
 use Rattle.pool.specs.Lookups.{entry_at, text_at, class_name_at, named, name_and_type_at, member, field_ref_at, method as method_constant, method_ref_at, dynamic_at, invoke_dynamic_at}
 use Rattle.names.specs.Reading.{read_class, read_base, read_field, read_params, read_result, read_method, field_answer, method_answer}
+use Rattle.classfile.specs.Bootstraps.{BootstrapMethod, are_arguments, is_sound, has_bootstrap}
 use Rattle.classfile.specs.Methods.{Method}
 use Rattle.hierarchy.specs.Class.{ClassFact}
 use Rattle.insn.specs.declared.operation.Kind.TheVariants as kinds
@@ -28,12 +30,13 @@ under_object name interface = record { name = name; superclass = Some (codes "ja
 abbrev classes : List ClassFact
 classes = object_class ∷ under_object (codes "java/lang/Throwable") false ∷ under_object (codes "K") false ∷ under_object (codes "A") false ∷ under_object (codes "I") true ∷ []
 
--- #1 Class A, #2 A.<init>:()V, #3 Object.<init>:()V, #4 A.x:I, #14 a call site x:()I, #17 a Dynamic constant x:I
+-- #1 Class A, #2 A.<init>:()V, #3 Object.<init>:()V, #4 A.x:I, #14 a call site x:()I, #17 a Dynamic constant x:I, #18 a handle of A.x:I, #19 a Dynamic constant x:I of another
+-- bootstrap method
 abbrev pool : List entries.Entry
 pool =
     entries.Class 5 ∷ entries.Methodref 1 6 ∷ entries.Methodref 7 6 ∷ entries.Fieldref 1 12 ∷ entries.Utf8 (codes "A") ∷ entries.NameAndType 8 9
     ∷ entries.Class 10 ∷ entries.Utf8 (codes "<init>") ∷ entries.Utf8 (codes "()V") ∷ entries.Utf8 (codes "java/lang/Object") ∷ entries.Utf8 (codes "x")
-    ∷ entries.NameAndType 11 13 ∷ entries.Utf8 (codes "I") ∷ entries.InvokeDynamic 0 15 ∷ entries.NameAndType 11 16 ∷ entries.Utf8 (codes "()I") ∷ entries.Dynamic 0 12 ∷ []
+    ∷ entries.NameAndType 11 13 ∷ entries.Utf8 (codes "I") ∷ entries.InvokeDynamic 0 15 ∷ entries.NameAndType 11 16 ∷ entries.Utf8 (codes "()I") ∷ entries.Dynamic 0 12 ∷ entries.MethodHandle GetField 4 ∷ entries.Dynamic 1 12 ∷ []
 
 -- a method of K with two units of stack and one local variable; a `new` of A stands at 0
 abbrev method : (result : Option FieldDescriptor) (is_init : Bool) → Method Act
@@ -52,6 +55,7 @@ method result is_init = record {
   is_static = false;
   is_init = is_init;
   type = record { params = []; result = result };
+  bootstraps = [];
   dynamic = false;
 }
 
@@ -62,9 +66,13 @@ frame locals stack flag = record { locals = locals; stack = stack; flag = flag }
 abbrev judged : Act → FrameFact → Option Reason
 judged act f = least (conditions classes (method None false) 0 (plan (method None false) act) f)
 
+-- of two bootstrap methods the second one's handle is a Class
+abbrev bootstraps : List BootstrapMethod
+bootstraps = record { handle = 18; arguments = 17 ∷ [] } ∷ record { handle = 1; arguments = [] } ∷ []
+
 -- where dynamic calls and constants are judged
 abbrev dynamic_method : Method Act
-dynamic_method = record (method None false) { dynamic = true }
+dynamic_method = record (method None false) { bootstraps = bootstraps; dynamic = true }
 
 abbrev judged_too : Act → FrameFact → Option Reason
 judged_too act f = least (conditions classes dynamic_method 0 (plan dynamic_method act) f)
@@ -170,21 +178,25 @@ own_constructor_called = refl
 -- ---- dynamic calls and constants: refused, and judged where that is asked for
 
 call_refused : judged (acts.InvokeDynamic 14) (frame (top ∷ []) [] false) ≡ Some (reason 60)
-unfolding entry_at text_at named name_and_type_at dynamic_at invoke_dynamic_at read_class read_base read_field read_params read_result read_method field_answer method_answer
+unfolding has_bootstrap is_sound are_arguments entry_at text_at named name_and_type_at dynamic_at invoke_dynamic_at read_class read_base read_field read_params read_result read_method field_answer method_answer
 call_refused = refl
 
 constant_refused : judged (acts.LoadConstant 17) (frame (top ∷ []) [] false) ≡ Some (reason 60)
-unfolding entry_at text_at named name_and_type_at dynamic_at invoke_dynamic_at read_class read_base read_field read_params read_result read_method field_answer method_answer
+unfolding has_bootstrap is_sound are_arguments entry_at text_at named name_and_type_at dynamic_at invoke_dynamic_at read_class read_base read_field read_params read_result read_method field_answer method_answer
 constant_refused = refl
 
 called_dynamically : judged_too (acts.InvokeDynamic 14) (frame (top ∷ []) [] false) ≡ None
-unfolding entry_at text_at named name_and_type_at dynamic_at invoke_dynamic_at read_class read_base read_field read_params read_result read_method field_answer method_answer
+unfolding has_bootstrap is_sound are_arguments entry_at text_at named name_and_type_at dynamic_at invoke_dynamic_at read_class read_base read_field read_params read_result read_method field_answer method_answer
 called_dynamically = refl
 
 constant_loaded : after dynamic_method 0 (plan dynamic_method (acts.LoadConstant 17)) (frame (top ∷ []) [] false) ≡ frame (top ∷ []) (int ∷ []) false
-unfolding entry_at text_at named name_and_type_at dynamic_at invoke_dynamic_at read_class read_base read_field read_params read_result read_method field_answer method_answer
+unfolding has_bootstrap is_sound are_arguments entry_at text_at named name_and_type_at dynamic_at invoke_dynamic_at read_class read_base read_field read_params read_result read_method field_answer method_answer
 constant_loaded = refl
 
 constant_of_one_unit : judged_too (acts.LoadWideConstant 17) (frame (top ∷ []) [] false) ≡ Some (reason 66)
-unfolding entry_at text_at named name_and_type_at dynamic_at invoke_dynamic_at read_class read_base read_field read_params read_result read_method field_answer method_answer
+unfolding has_bootstrap is_sound are_arguments entry_at text_at named name_and_type_at dynamic_at invoke_dynamic_at read_class read_base read_field read_params read_result read_method field_answer method_answer
 constant_of_one_unit = refl
+
+constant_without_a_method_handle : judged_too (acts.LoadConstant 19) (frame (top ∷ []) [] false) ≡ Some (reason 90)
+unfolding has_bootstrap is_sound are_arguments entry_at text_at named name_and_type_at dynamic_at invoke_dynamic_at read_class read_base read_field read_params read_result read_method field_answer method_answer
+constant_without_a_method_handle = refl

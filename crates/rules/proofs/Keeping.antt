@@ -3,6 +3,7 @@ use Rattle.std.proofs.Common.{◌≡◌, ℕ, Bool, true, false, Option, Some, N
 use Rattle.names.specs.Descriptors.{FieldDescriptor, primitive, class as class_descriptor, array as array_descriptor, field_width}
 use Rattle.names.specs.declared.base.Primitive.{Primitive}
 use Rattle.names.specs.ReferenceTypes.{ReferenceType, is_class_type, descriptor_of, dimensions_of}
+use Rattle.classfile.specs.Bootstraps.{has_bootstrap}
 use Rattle.classfile.specs.Methods.{Method}
 use Rattle.pool.specs.Entries as entries
 use Rattle.pool.specs.Entries.{Entry}
@@ -15,8 +16,8 @@ use Rattle.insn.specs.Stacks.{same_kind, computed_as}
 use Rattle.frames.specs.VerificationType.{array}
 use Rattle.frames.specs.Slots.{to_reference, descriptor_type}
 use Rattle.frames.specs.FrameFact.{FrameFact}
-use Rattle.rules.specs.Plans.{Plan, number, pops, loads, stores, counts, rearranges, loads_element, makes, constructs, calls_special, returns, refuses, gives, sizes, call_of, where_judged, where_allowed}
-use Rattle.rules.specs.Constants.{load_dynamic, load_constant, load_wide_constant, get_static, put_static, get_field, put_field, is_init_name, may_name, has_room_for_receiver, static_call, call_on, may_invoke_interface, invoke_static, invoke_virtual, invoke_interface, is_special_name, dynamic_call, invoke_dynamic, new_array, new_reference_array, new_multi_array, check_cast, instance_of}
+use Rattle.rules.specs.Plans.{Plan, number, pops, loads, stores, counts, rearranges, loads_element, makes, constructs, calls_special, returns, refuses, gives, sizes, call_of, where_judged, where_allowed, where_bootstrapped}
+use Rattle.rules.specs.Constants.{is_bootstrapped, load_dynamic, load_constant, load_wide_constant, get_static, put_static, get_field, put_field, is_init_name, may_name, has_room_for_receiver, static_call, call_on, may_invoke_interface, invoke_static, invoke_virtual, invoke_interface, is_special_name, dynamic_call, invoke_dynamic, new_array, new_reference_array, new_multi_array, check_cast, instance_of}
 use Rattle.rules.specs.Table.{plan, leaves_with, return_number, return_reference, return_nothing}
 use Rattle.rules.specs.After.{after, stored}
 use Rattle.rules.specs.Ways.{keeps_locals, stored_to}
@@ -50,9 +51,20 @@ judged : (b : Bool) (p : Plan) → changes_none p ≡ true → changes_none (whe
 judged true p e = e
 judged false p e = refl
 
-computed_none : (units : ℕ) (type : Option FieldDescriptor) → changes_none (load_dynamic units type) ≡ true
-computed_none units None = refl
-computed_none units (Some type) = allowed (nat_eq (field_width type) units) (gives (descriptor_type type)) refl
+bootstrapped : (b : Bool) (p : Plan) → changes_none p ≡ true → changes_none (where_bootstrapped b p) ≡ true
+bootstrapped true p e = e
+bootstrapped false p e = refl
+
+computed_none : (units : ℕ) (b : Bool) (type : Option FieldDescriptor) → changes_none (load_dynamic units b type) ≡ true
+computed_none units b None = refl
+computed_none units b (Some type) =
+    allowed (nat_eq (field_width type) units) (where_bootstrapped b (gives (descriptor_type type))) (bootstrapped b (gives (descriptor_type type)) refl)
+
+by_bootstrap : (m : Method Act) (units bootstrap : ℕ) (type : Option FieldDescriptor)
+    → changes_none (where_judged m.dynamic (load_dynamic units (has_bootstrap m.constant_pool m.bootstraps bootstrap) type)) ≡ true
+by_bootstrap m units bootstrap type =
+    let b = has_bootstrap m.constant_pool m.bootstraps bootstrap in
+    judged m.dynamic (load_dynamic units b type) (computed_none units b type)
 
 constant_none : (m : Method Act) (type : Option FieldDescriptor) (c : Option Entry) → changes_none (load_constant m type c) ≡ true
 constant_none m type None = refl
@@ -69,7 +81,7 @@ constant_none m type (Some (entries.InterfaceMethodref class name_and_type)) = r
 constant_none m type (Some (entries.NameAndType name descriptor)) = refl
 constant_none m type (Some (entries.MethodHandle kind reference)) = refl
 constant_none m type (Some (entries.MethodType descriptor)) = refl
-constant_none m type (Some (entries.Dynamic bootstrap name)) = judged m.dynamic (load_dynamic 1 type) (computed_none 1 type)
+constant_none m type (Some (entries.Dynamic bootstrap name)) = by_bootstrap m 1 bootstrap type
 constant_none m type (Some (entries.InvokeDynamic bootstrap name)) = refl
 constant_none m type (Some entries.Unusable) = refl
 
@@ -88,7 +100,7 @@ wide_none m type (Some (entries.InterfaceMethodref class name_and_type)) = refl
 wide_none m type (Some (entries.NameAndType name descriptor)) = refl
 wide_none m type (Some (entries.MethodHandle kind reference)) = refl
 wide_none m type (Some (entries.MethodType descriptor)) = refl
-wide_none m type (Some (entries.Dynamic bootstrap name)) = judged m.dynamic (load_dynamic 2 type) (computed_none 2 type)
+wide_none m type (Some (entries.Dynamic bootstrap name)) = by_bootstrap m 2 bootstrap type
 wide_none m type (Some (entries.InvokeDynamic bootstrap name)) = refl
 wide_none m type (Some entries.Unusable) = refl
 
@@ -132,12 +144,12 @@ static_none : (major : ℕ) (c : Option MethodConstant) → changes_none (invoke
 static_none major None = refl
 static_none major (Some c) = allowed (is_class_type c.class && (not (is_init_name c) && may_name major c.interface)) (static_call c) refl
 
-dynamic_none : (c : Option CallSite) → changes_none (dynamic_call c) ≡ true
-dynamic_none None = refl
-dynamic_none (Some c) = allowed (not (is_special_name c)) (call_of c.type) refl
+dynamic_none : (b : Bool) (c : Option CallSite) → changes_none (dynamic_call b c) ≡ true
+dynamic_none b None = refl
+dynamic_none b (Some c) = allowed (not (is_special_name c)) (where_bootstrapped b (call_of c.type)) (bootstrapped b (call_of c.type) refl)
 
-site_none : (m : Method Act) (c : Option CallSite) → changes_none (invoke_dynamic m c) ≡ true
-site_none m c = judged m.dynamic (dynamic_call c) (dynamic_none c)
+site_none : (m : Method Act) (b : Bool) (c : Option CallSite) → changes_none (invoke_dynamic m b c) ≡ true
+site_none m b c = judged m.dynamic (dynamic_call b c) (dynamic_none b c)
 
 virtual_none : (c : Option MethodConstant) → changes_none (invoke_virtual c) ≡ true
 virtual_none None = refl
@@ -199,7 +211,7 @@ by_plan m (acts.InvokeVirtual i) e = virtual_none (method_at m.constant_pool i)
 by_plan m (acts.InvokeSpecial i) e = cc
 by_plan m (acts.InvokeStatic i) e = static_none m.major_version (method_at m.constant_pool i)
 by_plan m (acts.InvokeInterface i count) e = interface_none count (method_at m.constant_pool i)
-by_plan m (acts.InvokeDynamic i) e = site_none m (call_site_at m.constant_pool i)
+by_plan m (acts.InvokeDynamic i) e = site_none m (is_bootstrapped m (constant_at m.constant_pool i)) (call_site_at m.constant_pool i)
 by_plan m (acts.New i) e = cc
 by_plan m (acts.LoadElement p) e = refl
 by_plan m (acts.StoreElement p) e = refl

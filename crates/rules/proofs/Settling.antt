@@ -19,7 +19,7 @@ use Rattle.frames.specs.Slots.{units_of}
 use Rattle.frames.specs.Conditions.{Reason as Refusing, reason, Conditions, least, is_no, missing_if}
 use Rattle.rules.specs.declared.reason.Reason.{Reason}
 use Rattle.rules.specs.declared.reason.Reason.TheVariants.{OutOfMemory}
-use Rattle.rules.specs.Plans.{Want, pops, loads, stores, rearranges, refuses, Plan, where_judged, where_allowed}
+use Rattle.rules.specs.Plans.{Want, pops, loads, stores, rearranges, refuses, Plan, where_judged, where_allowed, where_bootstrapped}
 use Rattle.rules.specs.Table.{return_nothing}
 use Rattle.rules.specs.After.{or_top, local_of, after, with_stack, top_of, rest_of, stored, stored_type, form_for, rearranged_by}
 use Rattle.rules.specs.Rules.{is_short, operands, accepts, is_outside, gives_frame, is_too_wide, conditions}
@@ -289,3 +289,7 @@ by_allowed m at p b q cs f now r e t d = by_plan m at p q cs f now r (e ∙ cond
 -- where the instruction is judged
 pub by_judged : (m : Method Act) (at : ℕ) (p : Plan) (b : Bool) (q : Plan) (cs : List ClassFact) (f now : FrameFact) (r : Result Unit Reason) → p ≡ where_judged b q → b ≡ true → Done (conditions cs m at q f) (after m at q f) now r → Done (conditions cs m at p f) (after m at p f) now r
 by_judged m at p b q cs f now r e t d = by_plan m at p q cs f now r (e ∙ cond-true b q (refuses 60) t) d
+
+-- where the constant has a bootstrap method that may be used
+pub by_bootstrapped : (m : Method Act) (at : ℕ) (p : Plan) (b : Bool) (q : Plan) (cs : List ClassFact) (f now : FrameFact) (r : Result Unit Reason) → p ≡ where_bootstrapped b q → b ≡ true → Done (conditions cs m at q f) (after m at q f) now r → Done (conditions cs m at p f) (after m at p f) now r
+by_bootstrapped m at p b q cs f now r e t d = by_plan m at p q cs f now r (e ∙ cond-true b q (refuses 90) t) d

@@ -1,5 +1,6 @@
 -- Plans of instructions that name constants (JVMS 4.10.1.9). A constant that an instruction may not name is refused by wrong_constant (66).
 use Rattle.std.specs.Prelude.{ℕ, Bool, true, false, not, ◌&&◌, ◌||◌, nat_lt, nat_eq, bytes_eq, if◌then◌else◌, List, [], ◌∷◌, Option, Some, None}
+use Rattle.std.specs.Option.{option_and_then, option_map_or}
 use Rattle.names.specs.declared.base.Primitive.{Primitive}
 use Rattle.names.specs.Names.{less_than}
 use Rattle.names.specs.Descriptors.{FieldDescriptor, primitive, field_width, method_width}
@@ -8,6 +9,7 @@ use Rattle.names.specs.StandardNames.{object_name, init_name, string_name, class
 use Rattle.pool.specs.Entries as entries
 use Rattle.pool.specs.Entries.{Entry}
 use Rattle.pool.specs.Members.{FieldConstant, MethodConstant, CallSite}
+use Rattle.classfile.specs.Bootstraps.{has_bootstrap}
 use Rattle.classfile.specs.Methods.{Method, is_own_field}
 use Rattle.classfile.specs.Naming.{begins_with}
 use Rattle.insn.specs.declared.operation.Kind.TheVariants as kinds
@@ -15,14 +17,27 @@ use Rattle.insn.specs.Meanings.{Act}
 use Rattle.frames.specs.VerificationType.{int, float, long, double, class, array}
 use Rattle.frames.specs.Slots.{to_reference, descriptor_type}
 use Rattle.rules.specs.ReasonNumbers.{wrong_constant}
-use Rattle.rules.specs.Plans.{Want, number, own_or_assignable_to, Plan, pops, makes, constructs, calls_special, refuses, takes, gives, class_want, assignable_to, sizes, want_of, arguments_on, result_types, call_of, where_judged, where_allowed}
+use Rattle.rules.specs.Plans.{Want, number, own_or_assignable_to, Plan, pops, makes, constructs, calls_special, refuses, takes, gives, class_want, assignable_to, sizes, want_of, arguments_on, result_types, call_of, where_judged, where_allowed, where_bootstrapped}
+
+-- ---- the bootstrap methods of Dynamic and InvokeDynamic constants (4.4.10, 4.7.23)
+
+-- the number of its bootstrap method among those of the class
+abbrev pub bootstrap_of : Entry → Option ℕ
+bootstrap_of (entries.Dynamic bootstrap name) = Some bootstrap
+bootstrap_of (entries.InvokeDynamic bootstrap name) = Some bootstrap
+bootstrap_of _ = None
+
+-- the class has a bootstrap method for the constant, which may be used; of a constant of another kind nothing is asked
+abbrev pub is_bootstrapped : Method Act → Option Entry → Bool
+is_bootstrapped m e = option_map_or (has_bootstrap m.constant_pool m.bootstraps) (option_and_then bootstrap_of e) true
 
 -- ---- ldc, ldc_w and ldc2_w; a Dynamic constant has a type of its own
 
 -- a value of a type that takes so many units
-abbrev pub load_dynamic : ℕ → Option FieldDescriptor → Plan
-load_dynamic units (Some type) = where_allowed (nat_eq (field_width type) units) (gives (descriptor_type type))
-load_dynamic units None = refuses wrong_constant
+abbrev pub load_dynamic : ℕ → Bool → Option FieldDescriptor → Plan
+load_dynamic units bootstrapped (Some type) =
+    where_allowed (nat_eq (field_width type) units) (where_bootstrapped bootstrapped (gives (descriptor_type type)))
+load_dynamic units bootstrapped None = refuses wrong_constant
 
 abbrev pub load_constant : Method Act → Option FieldDescriptor → Option Entry → Plan
 load_constant m type (Some (entries.Integer bits)) = gives int
@@ -31,13 +46,13 @@ load_constant m type (Some (entries.String text)) = gives (class string_name)
 load_constant m type (Some (entries.Class name)) = gives (class class_name)
 load_constant m type (Some (entries.MethodType descriptor)) = gives (class method_type_name)
 load_constant m type (Some (entries.MethodHandle kind target)) = gives (class method_handle_name)
-load_constant m type (Some (entries.Dynamic bootstrap name)) = where_judged m.dynamic (load_dynamic 1 type)
+load_constant m type (Some (entries.Dynamic bootstrap name)) = where_judged m.dynamic (load_dynamic 1 (has_bootstrap m.constant_pool m.bootstraps bootstrap) type)
 load_constant m type _ = refuses wrong_constant
 
 abbrev pub load_wide_constant : Method Act → Option FieldDescriptor → Option Entry → Plan
 load_wide_constant m type (Some (entries.Long high low)) = gives long
 load_wide_constant m type (Some (entries.Double high low)) = gives double
-load_wide_constant m type (Some (entries.Dynamic bootstrap name)) = where_judged m.dynamic (load_dynamic 2 type)
+load_wide_constant m type (Some (entries.Dynamic bootstrap name)) = where_judged m.dynamic (load_dynamic 2 (has_bootstrap m.constant_pool m.bootstraps bootstrap) type)
 load_wide_constant m type _ = refuses wrong_constant
 
 -- ---- fields
@@ -117,12 +132,12 @@ invoke_special major me None = refuses wrong_constant
 abbrev pub is_special_name : CallSite → Bool
 is_special_name c = begins_with less_than c.name
 
-abbrev pub dynamic_call : Option CallSite → Plan
-dynamic_call (Some c) = where_allowed (not (is_special_name c)) (call_of c.type)
-dynamic_call None = refuses wrong_constant
+abbrev pub dynamic_call : Bool → Option CallSite → Plan
+dynamic_call bootstrapped (Some c) = where_allowed (not (is_special_name c)) (where_bootstrapped bootstrapped (call_of c.type))
+dynamic_call bootstrapped None = refuses wrong_constant
 
-abbrev pub invoke_dynamic : Method Act → Option CallSite → Plan
-invoke_dynamic m c = where_judged m.dynamic (dynamic_call c)
+abbrev pub invoke_dynamic : Method Act → Bool → Option CallSite → Plan
+invoke_dynamic m bootstrapped c = where_judged m.dynamic (dynamic_call bootstrapped c)
 
 -- ---- objects and arrays
 

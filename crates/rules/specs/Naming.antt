@@ -1,11 +1,11 @@
 -- Which constant an instruction names, and what the program keeps of it.
-use Rattle.std.specs.Prelude.{◌≡◌, ℕ, Bool, false, ◌&&◌, Option, Some, None, is_none, option_map}
+use Rattle.std.specs.Prelude.{◌≡◌, ℕ, Bool, true, false, ◌&&◌, Option, Some, None, is_none, option_map}
 use Rattle.std.specs.Option.{option_and_then}
 use Rattle.names.specs.References.{reference_view}
 use Rattle.names.specs.Types.{type_of}
 use Rattle.names.specs.declared.descriptor.FieldType.{FieldType}
 use Rattle.names.specs.declared.references.RefType.{RefType}
-use Rattle.pool.specs.Members.{class_at, field_at, method_at, dynamic_type_at, call_site_at}
+use Rattle.pool.specs.Members.{constant_at, class_at, field_at, method_at, dynamic_type_at, call_site_at}
 use Rattle.pool.specs.Members as members
 use Rattle.pool.specs.MemberViews.{field_constant_view, method_constant_view, call_site_view}
 use Rattle.pool.specs.declared.reference.FieldConstant.{FieldConstant}
@@ -17,6 +17,7 @@ use Rattle.insn.specs.Meanings as acts
 use Rattle.insn.specs.Meanings.{Act}
 use Rattle.rules.specs.declared.naming.Named.{Named}
 use Rattle.rules.specs.declared.naming.Named.TheVariants.{Class, Field, Method, Computed, Site}
+use Rattle.rules.specs.Constants.{is_bootstrapped}
 
 -- the Class constant of a type
 abbrev pub class_index : Act → Option ℕ
@@ -66,6 +67,13 @@ abbrev pub sets_own : methods.Method Act → Act → Bool
 sets_own m (acts.PutField i) = is_own m (field_at m.constant_pool i)
 sets_own m _ = false
 
+-- the Dynamic or InvokeDynamic that it names has a bootstrap method that may be used
+abbrev pub names_bootstrapped : methods.Method Act → Act → Bool
+names_bootstrapped m (acts.LoadConstant i) = is_bootstrapped m (constant_at m.constant_pool i)
+names_bootstrapped m (acts.LoadWideConstant i) = is_bootstrapped m (constant_at m.constant_pool i)
+names_bootstrapped m (acts.InvokeDynamic i) = is_bootstrapped m (constant_at m.constant_pool i)
+names_bootstrapped m _ = true
+
 -- ---- what the program keeps
 
 abbrev pub kept_class : Named → Option RefType
@@ -85,12 +93,17 @@ kept_method (Method method) = method
 kept_method _ = None
 
 abbrev pub kept_type : Named → Option FieldType
-kept_type (Computed type) = type
+kept_type (Computed type bootstrapped) = type
 kept_type _ = None
 
 abbrev pub kept_site : Named → Option CallSite
-kept_site (Site site) = site
+kept_site (Site site bootstrapped) = site
 kept_site _ = None
+
+abbrev pub kept_bootstrapped : Named → Bool
+kept_bootstrapped (Computed type bootstrapped) = bootstrapped
+kept_bootstrapped (Site site bootstrapped) = bootstrapped
+kept_bootstrapped _ = true
 
 -- this is what the instruction names
 pub record IsNamed (m : methods.Method Act) (act : Act) (n : Named) : Type 0 where
@@ -100,3 +113,4 @@ pub record IsNamed (m : methods.Method Act) (act : Act) (n : Named) : Type 0 whe
   pub method : option_map method_constant_view (kept_method n) ≡ option_and_then (method_at m.constant_pool) (method_index act)
   pub computed : option_map type_of (kept_type n) ≡ option_and_then (dynamic_type_at m.constant_pool) (loaded_index act)
   pub site : option_map call_site_view (kept_site n) ≡ option_and_then (call_site_at m.constant_pool) (site_index act)
+  pub bootstrapped : kept_bootstrapped n ≡ names_bootstrapped m act

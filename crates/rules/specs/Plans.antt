@@ -10,7 +10,7 @@ use Rattle.insn.specs.Stacks.{computed_as}
 use Rattle.insn.specs.Offsets.{led_to}
 use Rattle.frames.specs.VerificationType.{VerificationType}
 use Rattle.frames.specs.Slots.{descriptor_type}
-use Rattle.rules.specs.ReasonNumbers.{not_supported, wrong_constant, wrong_return}
+use Rattle.rules.specs.ReasonNumbers.{not_supported, wrong_constant, wrong_return, bad_bootstrap}
 
 -- what is asked of the type of an operand or local variable
 pub data Want : Type 0 where
@@ -88,6 +88,10 @@ where_judged judged plan = if judged then plan else refuses not_supported
 -- a plan where a test holds, and otherwise the constant is refused
 abbrev pub where_allowed : Bool → Plan → Plan
 where_allowed allowed plan = if allowed then plan else refuses wrong_constant
+
+-- a plan where the constant has a bootstrap method that may be used
+abbrev pub where_bootstrapped : Bool → Plan → Plan
+where_bootstrapped bootstrapped plan = if bootstrapped then plan else refuses bad_bootstrap
 
 -- ---- where it goes
 

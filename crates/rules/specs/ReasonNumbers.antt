@@ -89,3 +89,7 @@ bad_code = 79
 -- a protected member of another package is used on an object that may not be of the current class
 abbrev pub protected_member : ℕ
 protected_member = 82
+
+-- the class has no bootstrap method for the constant, or one that may not be used
+abbrev pub bad_bootstrap : ℕ
+bad_bootstrap = 90

@@ -16,7 +16,7 @@ use Rattle.frames.specs.VerificationType.{int, null}
 use Rattle.frames.specs.Slots.{number_type}
 use Rattle.rules.specs.ReasonNumbers.{not_supported, wrong_return}
 use Rattle.rules.specs.Plans.{Want, number, assignable_to, any_reference, any_array, any_array_for, Plan, pops, loads, stores, counts, rearranges, loads_element, makes, returns, refuses, takes, gives, class_want, numbers}
-use Rattle.rules.specs.Constants.{load_constant, load_wide_constant, get_static, put_static, get_field, put_field, invoke_static, invoke_virtual, invoke_interface, invoke_special, invoke_dynamic, new_object, new_array, new_reference_array, new_multi_array, check_cast, instance_of}
+use Rattle.rules.specs.Constants.{is_bootstrapped, load_constant, load_wide_constant, get_static, put_static, get_field, put_field, invoke_static, invoke_virtual, invoke_interface, invoke_special, invoke_dynamic, new_object, new_array, new_reference_array, new_multi_array, check_cast, instance_of}
 
 -- ---- returns: an instruction of another kind than the method's result is refused by wrong_return (76)
 
@@ -104,7 +104,7 @@ plan m (acts.InvokeStatic i) = invoke_static m.major_version (method_at m.consta
 -- invokeinterface
 plan m (acts.InvokeInterface i count) = invoke_interface count (method_at m.constant_pool i)
 -- invokedynamic
-plan m (acts.InvokeDynamic i) = invoke_dynamic m (call_site_at m.constant_pool i)
+plan m (acts.InvokeDynamic i) = invoke_dynamic m (is_bootstrapped m (constant_at m.constant_pool i)) (call_site_at m.constant_pool i)
 -- new
 plan m (acts.New i) = new_object (class_at m.constant_pool i)
 -- iaload, laload, faload, daload, baload, caload, saload

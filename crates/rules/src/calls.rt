@@ -219,43 +219,48 @@ fn may_be_called(site: &CallSite<'_>) -> bool
     }
 }
 
-/// A call of the call site that is named, where such calls are judged.
+/// A call of the call site that is named, where the class has a bootstrap method for it, which may be used.
 fn dynamic_call<'a, C: Classes>(
     alloc: Global,
     method: &CodeMethod<'_, 'a>,
     named: Option<&CallSite<'a>>,
+    bootstrapped: bool,
     frame: &mut Working<'a>,
     classes: &C,
 ) -> Result<(), Reason<'a>>
     ensures { (at : ℕ) → let m = method_view method.now in let f = held frame.old in
-        let p = dynamic_call (option_map (λ c. call_site_view c.now) named.entry) in
+        let p = dynamic_call bootstrapped (option_map (λ c. call_site_view c.now) named.entry) in
         Done (conditions (C.content classes.now) m at p f) (after m at p f) (held frame.new) result }
 {
     let Some(site) = named else {
         return Err(Reason::WrongConstant);
     };
-    if may_be_called(site) {
+    if !may_be_called(site) {
+        return Err(Reason::WrongConstant);
+    }
+    if bootstrapped {
         calls(alloc, method, &site.method_type, None, frame, classes)
     } else {
-        Err(Reason::WrongConstant)
+        Err(Reason::BadBootstrap)
     }
 }
 
-/// `invokedynamic` of the call site that it names
+/// `invokedynamic` of the call site that it names, where such calls are judged
 #[inline(never)]
 pub fn invoke_dynamic<'a, C: Classes>(
     alloc: Global,
     method: &CodeMethod<'_, 'a>,
     named: Option<&CallSite<'a>>,
+    bootstrapped: bool,
     frame: &mut Working<'a>,
     classes: &C,
 ) -> Result<(), Reason<'a>>
     ensures { (at : ℕ) → let m = method_view method.now in let f = held frame.old in
-        let p = invoke_dynamic m (option_map (λ c. call_site_view c.now) named.entry) in
+        let p = invoke_dynamic m bootstrapped (option_map (λ c. call_site_view c.now) named.entry) in
         Done (conditions (C.content classes.now) m at p f) (after m at p f) (held frame.new) result }
 {
     if method.dynamic {
-        dynamic_call(alloc, method, named, frame, classes)
+        dynamic_call(alloc, method, named, bootstrapped, frame, classes)
     } else {
         Err(Reason::NotSupported)
     }

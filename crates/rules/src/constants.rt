@@ -2,7 +2,7 @@
 ghost use Rattle.std.specs.Prelude.{◌≡◌, ℕ, option_map};
 ghost use Rattle.names.specs.Types.{type_of};
 ghost use Rattle.pool.specs.Members.{constant_at};
-ghost use Rattle.rules.specs.Constants.{load_dynamic, load_constant, load_wide_constant};
+ghost use Rattle.rules.specs.Constants.{is_bootstrapped, load_dynamic, load_constant, load_wide_constant};
 ghost use Rattle.rules.specs.Plans.{where_judged};
 ghost use Rattle.rules.specs.After.{after};
 ghost use Rattle.rules.specs.Rules.{conditions};
@@ -19,42 +19,47 @@ use hierarchy::Classes;
 use names::{CLASS, FieldType, METHOD_HANDLE, METHOD_TYPE, STRING};
 use pool::Constant;
 
-/// A value of this type, which is to take so many units.
+/// A value of this type, which is to take so many units, where the class has a bootstrap method for the constant, which may be used.
 fn gives_computed<'a, C: Classes>(
     method: &CodeMethod<'_, 'a>,
     units: u8,
     computed: Option<FieldType<'a>>,
+    bootstrapped: bool,
     frame: &mut Working<'a>,
     classes: &C,
 ) -> Result<(), Reason<'a>>
     ensures { (at : ℕ) → let m = method_view method.now in let f = held frame.old in
-        let p = load_dynamic units (option_map type_of computed.entry) in
+        let p = load_dynamic units bootstrapped (option_map type_of computed.entry) in
         Done (conditions (C.content classes.now) m at p f) (after m at p f) (held frame.new) result }
 {
     let Some(field_type) = computed else {
         return Err(Reason::WrongConstant);
     };
-    if field_type.width() == units {
+    if field_type.width() != units {
+        return Err(Reason::WrongConstant);
+    }
+    if bootstrapped {
         gives(method, held_by(&field_type), frame, classes)
     } else {
-        Err(Reason::WrongConstant)
+        Err(Reason::BadBootstrap)
     }
 }
 
-/// The load of a Dynamic constant of this type, which is to take so many units.
+/// The load of a Dynamic constant of this type, which is to take so many units, where such constants are judged.
 fn load_dynamic<'a, C: Classes>(
     method: &CodeMethod<'_, 'a>,
     units: u8,
     computed: Option<FieldType<'a>>,
+    bootstrapped: bool,
     frame: &mut Working<'a>,
     classes: &C,
 ) -> Result<(), Reason<'a>>
     ensures { (at : ℕ) → let m = method_view method.now in let f = held frame.old in
-        let p = where_judged m.dynamic (load_dynamic units (option_map type_of computed.entry)) in
+        let p = where_judged m.dynamic (load_dynamic units bootstrapped (option_map type_of computed.entry)) in
         Done (conditions (C.content classes.now) m at p f) (after m at p f) (held frame.new) result }
 {
     if method.dynamic {
-        gives_computed(method, units, computed, frame, classes)
+        gives_computed(method, units, computed, bootstrapped, frame, classes)
     } else {
         Err(Reason::NotSupported)
     }
@@ -66,9 +71,11 @@ pub fn load_constant<'a, C: Classes>(
     method: &CodeMethod<'_, 'a>,
     index: u16,
     computed: Option<FieldType<'a>>,
+    bootstrapped: bool,
     frame: &mut Working<'a>,
     classes: &C,
 ) -> Result<(), Reason<'a>>
+    requires { let m = method_view method.now in bootstrapped ≡ is_bootstrapped m (constant_at m.constant_pool index) }
     ensures { (at : ℕ) → let m = method_view method.now in let f = held frame.old in
         let p = load_constant m (option_map type_of computed.entry) (constant_at m.constant_pool index) in
         Done (conditions (C.content classes.now) m at p f) (after m at p f) (held frame.new) result }
@@ -80,7 +87,14 @@ pub fn load_constant<'a, C: Classes>(
         Ok(Constant::Class { .. }) => VType::Class(CLASS),
         Ok(Constant::MethodType { .. }) => VType::Class(METHOD_TYPE),
         Ok(Constant::MethodHandle { .. }) => VType::Class(METHOD_HANDLE),
-        Ok(Constant::Dynamic { .. }) => return load_dynamic(method, 1, computed, frame, classes),
+        Ok(Constant::Dynamic { .. }) => return load_dynamic(
+            method,
+            1,
+            computed,
+            bootstrapped,
+            frame,
+            classes,
+        ),
         Ok(_) | Err(_) => return Err(Reason::WrongConstant),
     };
     gives(method, loaded, frame, classes)
@@ -92,9 +106,11 @@ pub fn load_wide_constant<'a, C: Classes>(
     method: &CodeMethod<'_, 'a>,
     index: u16,
     computed: Option<FieldType<'a>>,
+    bootstrapped: bool,
     frame: &mut Working<'a>,
     classes: &C,
 ) -> Result<(), Reason<'a>>
+    requires { let m = method_view method.now in bootstrapped ≡ is_bootstrapped m (constant_at m.constant_pool index) }
     ensures { (at : ℕ) → let m = method_view method.now in let f = held frame.old in
         let p = load_wide_constant m (option_map type_of computed.entry) (constant_at m.constant_pool index) in
         Done (conditions (C.content classes.now) m at p f) (after m at p f) (held frame.new) result }
@@ -102,7 +118,14 @@ pub fn load_wide_constant<'a, C: Classes>(
     match method.class.constant_pool.get(index) {
         Ok(Constant::Long { .. }) => gives(method, VType::Long, frame, classes),
         Ok(Constant::Double { .. }) => gives(method, VType::Double, frame, classes),
-        Ok(Constant::Dynamic { .. }) => load_dynamic(method, 2, computed, frame, classes),
+        Ok(Constant::Dynamic { .. }) => load_dynamic(
+            method,
+            2,
+            computed,
+            bootstrapped,
+            frame,
+            classes,
+        ),
         Ok(_) | Err(_) => Err(Reason::WrongConstant),
     }
 }

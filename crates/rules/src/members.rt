@@ -1,9 +1,9 @@
-//! The members that the instructions of a class name: its own fields, and which members of other classes are guarded.
+//! The members that the instructions of a class name: its own fields, its bootstrap methods, and which members of other classes are guarded.
 ghost use Rattle.std.specs.Prelude.{◌≡◌};
 
 use crate::guards::{Guards, names_own};
 use crate::naming::{Named, named_by};
-use classfile::{ClassFile, CodeMethod, OwnFields};
+use classfile::{Bootstraps, ClassFile, CodeMethod, OwnFields};
 use hierarchy::Classes;
 use insn::Act;
 use pool::Descriptors;
@@ -18,6 +18,7 @@ pub struct Members<'k, 'c, 'a, C: Classes> {
     class: &'c ClassFile<'a>,
     classes: &'k C,
     fields: OwnFields<'c, 'a>,
+    bootstraps: Bootstraps<'c, 'a>,
     guards: Option<Guards>,
 }
 
@@ -29,7 +30,7 @@ impl<'k, 'c, 'a, C: Classes> Model for Members<'k, 'c, 'a, C> {
 
     ghost view = { λ m. record { class = m.class.now; classes = C.content m.classes.now } };
 
-    ghost invariant = { λ m. (m.fields ≡ m.class.now) × IfSome m.guards (AreGuards (C.content m.classes.now) m.class.now) };
+    ghost invariant = { λ m. (m.fields ≡ m.class.now) × (m.bootstraps ≡ m.class.now) × IfSome m.guards (AreGuards (C.content m.classes.now) m.class.now) };
 }
 
 impl<'k, 'c, 'a, C: Classes> Members<'k, 'c, 'a, C> {
@@ -49,11 +50,12 @@ impl<'k, 'c, 'a, C: Classes> Members<'k, 'c, 'a, C> {
             class,
             classes,
             fields: OwnFields::new(alloc, class),
+            bootstraps: Bootstraps::new(alloc, class),
             guards: None,
         }
     }
 
-    /// Looks up what an instruction that means this names, by the constants and the fields of the class. The only refusal is want of memory.
+    /// Looks up what an instruction that means this names, by the constants, the fields and the bootstrap methods of the class. The only refusal is want of memory.
     pub fn named(
         &mut self,
         constants: &mut Descriptors<'_, 'a>,
@@ -66,7 +68,13 @@ impl<'k, 'c, 'a, C: Classes> Members<'k, 'c, 'a, C> {
         ensures same_constants { constants.new ≡ constants.old }
         ensures found { IfOk result (IsNamed (method_view method.now) (act_view act.now)) }
     {
-        named_by(constants, &mut self.fields, method, act)
+        named_by(
+            constants,
+            &mut self.fields,
+            &mut self.bootstraps,
+            method,
+            act,
+        )
     }
 
     // The guards, which are taken out.

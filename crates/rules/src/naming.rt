@@ -2,16 +2,18 @@
 ghost use Rattle.std.specs.Prelude.{◌≡◌, ℕ, option_map, IfOk, IfSome};
 ghost use Rattle.insn.specs.Views.{act_view};
 ghost use Rattle.names.specs.Types.{type_of};
-ghost use Rattle.pool.specs.Members.{field_at};
+ghost use Rattle.std.specs.Option.{option_and_then};
+ghost use Rattle.pool.specs.Members.{constant_at, field_at};
 ghost use Rattle.pool.specs.MemberViews.{field_constant_view, method_constant_view, call_site_view};
 ghost use Rattle.rules.specs.Bodies.{method_view};
-ghost use Rattle.rules.specs.Naming.{IsNamed, is_own, kept_class, kept_field, kept_own, kept_method, kept_type, kept_site};
+ghost use Rattle.rules.specs.Constants.{bootstrap_of, is_bootstrapped};
+ghost use Rattle.rules.specs.Naming.{IsNamed, is_own, kept_class, kept_field, kept_own, kept_method, kept_type, kept_site, kept_bootstrapped};
 
 use crate::declaring_class::own_class;
-use classfile::{CodeMethod, OwnFields};
+use classfile::{Bootstraps, CodeMethod, OwnFields};
 use insn::Act;
 use names::{FieldType, RefType};
-use pool::{CallSite, Descriptors, FieldConstant, MethodConstant};
+use pool::{CallSite, Constant, Descriptors, FieldConstant, MethodConstant, Pool};
 use std::alloc::AllocError;
 
 /// The thing that an instruction names, where the constant is one that it may name.
@@ -30,9 +32,17 @@ pub enum Named<'a> {
     /// Its method.
     Method(Option<MethodConstant<'a>>),
     /// The type of the constant that it loads, where that is a Dynamic.
-    Computed(Option<FieldType<'a>>),
+    Computed {
+        computed: Option<FieldType<'a>>,
+        /// Whether the class has a bootstrap method for the constant, which may be used.
+        bootstrapped: bool,
+    },
     /// Its call site.
-    Site(Option<CallSite<'a>>),
+    Site {
+        site: Option<CallSite<'a>>,
+        /// Whether the class has a bootstrap method for the call site, which may be used.
+        bootstrapped: bool,
+    },
 }
 
 impl<'a> Named<'a> {
@@ -83,7 +93,7 @@ impl<'a> Named<'a> {
         ensures { result ≡ kept_type self.now }
     {
         match self {
-            Named::Computed(computed) => *computed,
+            Named::Computed { computed, .. } => *computed,
             _ => None,
         }
     }
@@ -93,8 +103,24 @@ impl<'a> Named<'a> {
         ensures { option_map (λ c. call_site_view c.now) result ≡ option_map call_site_view (kept_site self.now) }
     {
         match self {
-            Named::Site(Some(site)) => Some(site),
+            Named::Site {
+                site: Some(site),
+                ..
+            } => Some(site),
             _ => None,
+        }
+    }
+
+    /// Whether the class has a bootstrap method for the constant that the instruction names, which may be used. Of a constant that is no Dynamic
+    /// and no InvokeDynamic nothing is asked.
+    pub fn is_bootstrapped(&self) -> bool
+        ensures { result ≡ kept_bootstrapped self.now }
+    {
+        match self {
+            Named::Computed { bootstrapped, .. } | Named::Site { bootstrapped, .. } => {
+                *bootstrapped
+            }
+            _ => true,
         }
     }
 }
@@ -121,17 +147,50 @@ fn is_own<'a>(
     fields.declares(index)
 }
 
-/// Looks up what an instruction that means this names, by the constants and the fields of its class. The only refusal is want of memory.
+/// The number of the bootstrap method of a Dynamic or an InvokeDynamic.
+fn bootstrap_of(pool: &Pool<'_>, index: u16) -> Option<u16>
+    ensures { result ≡ option_and_then bootstrap_of (constant_at pool.now index) }
+{
+    match pool.get(index) {
+        Ok(Constant::Dynamic { bootstrap, .. }) => Some(bootstrap),
+        Ok(Constant::InvokeDynamic { bootstrap, .. }) => Some(bootstrap),
+        Ok(_) | Err(_) => None,
+    }
+}
+
+/// Whether the class has a bootstrap method for the constant at an index, which may be used. Where such constants are refused, none is looked at.
+fn is_bootstrapped(
+    bootstraps: &mut Bootstraps<'_, '_>,
+    method: &CodeMethod<'_, '_>,
+    index: u16,
+) -> Result<bool, AllocError>
+    requires class { bootstraps.old ≡ method.now.class.now }
+    ensures same { bootstraps.new ≡ bootstraps.old }
+    ensures found { let m = method_view method.now in IfOk result (λ b. b ≡ is_bootstrapped m (constant_at m.constant_pool index)) }
+{
+    let Some(number) = bootstrap_of(&method.class.constant_pool, index) else {
+        return Ok(true);
+    };
+    if !method.dynamic {
+        return Ok(false);
+    }
+    bootstraps.has(number)
+}
+
+/// Looks up what an instruction that means this names, by the constants, the fields and the bootstrap methods of its class. The only refusal is want of memory.
 pub fn named_by<'a>(
     constants: &mut Descriptors<'_, 'a>,
     fields: &mut OwnFields<'_, 'a>,
+    bootstraps: &mut Bootstraps<'_, 'a>,
     method: &CodeMethod<'_, 'a>,
     act: &Act<'a>,
 ) -> Result<Named<'a>, AllocError>
     requires constants { constants.old ≡ method.now.class.now.constant_pool }
     requires fields { fields.old ≡ method.now.class.now }
+    requires bootstraps { bootstraps.old ≡ method.now.class.now }
     ensures same { constants.new ≡ constants.old }
     ensures same_fields { fields.new ≡ fields.old }
+    ensures same_bootstraps { bootstraps.new ≡ bootstraps.old }
     ensures found { IfOk result (IsNamed (method_view method.now) (act_view act.now)) }
 {
     match *act {
@@ -155,9 +214,18 @@ pub fn named_by<'a>(
             index,
         )?)),
         Act::LoadConstant { index } | Act::LoadWideConstant { index } => {
-            Ok(Named::Computed(constants.dynamic_type(index)?))
+            let computed = constants.dynamic_type(index)?;
+            let bootstrapped = is_bootstrapped(bootstraps, method, index)?;
+            Ok(Named::Computed {
+                computed,
+                bootstrapped,
+            })
         }
-        Act::InvokeDynamic { index } => Ok(Named::Site(constants.call_site(index)?)),
+        Act::InvokeDynamic { index } => {
+            let site = constants.call_site(index)?;
+            let bootstrapped = is_bootstrapped(bootstraps, method, index)?;
+            Ok(Named::Site { site, bootstrapped })
+        }
         _ => Ok(Named::Nothing),
     }
 }

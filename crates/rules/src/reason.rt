@@ -52,6 +52,8 @@ pub enum Reason<'a> {
     BadCode { fault: u8 },
     /// 82: a protected member of another package is used on an object that may not be of the current class.
     ProtectedMember,
+    /// 90: the class has no bootstrap method for the constant, or one that may not be used (JVMS 4.4.10, 4.7.23).
+    BadBootstrap,
 }
 
 impl Reason<'_> {
@@ -82,6 +84,7 @@ impl Reason<'_> {
             Reason::BadStackMap { .. } => 78,
             Reason::BadCode { .. } => 79,
             Reason::ProtectedMember => 82,
+            Reason::BadBootstrap => 90,
         }
     }
 }

@@ -40,7 +40,7 @@ use std::alloc::Global;
 /// Runs the instruction at an offset on a frame, in place, by its rule (JVMS 4.10.1.9). The frame has max_locals
 /// locals, the starts are those of the method's code, and what the instruction names was looked up.
 ///
-/// Refused is, by the least number that holds, what the rule refuses (60 to 66, 74, 76, 77); or 1 where memory ran out.
+/// Refused is, by the least number that holds, what the rule refuses (60 to 66, 74, 76, 77, 90); or 1 where memory ran out.
 /// Nothing is said of the frame then. Of the protected member that it uses [`check_member`](crate::check_member) judges, in the frame before it.
 pub fn run<'a, S: Starts, C: Classes>(
     alloc: Global,
@@ -81,12 +81,33 @@ pub fn run<'a, S: Starts, C: Classes>(
         Act::InvokeInterface { count, .. } => {
             invoke_interface(alloc, method, named.method(), count, frame, classes)
         }
-        Act::InvokeDynamic { .. } => invoke_dynamic(alloc, method, named.site(), frame, classes),
+        Act::InvokeDynamic { .. } => invoke_dynamic(
+            alloc,
+            method,
+            named.site(),
+            named.is_bootstrapped(),
+            frame,
+            classes,
+        ),
         Act::LoadConstant { index } => {
-            load_constant(method, index, named.computed(), frame, classes)
+            load_constant(
+                method,
+                index,
+                named.computed(),
+                named.is_bootstrapped(),
+                frame,
+                classes,
+            )
         }
         Act::LoadWideConstant { index } => {
-            load_wide_constant(method, index, named.computed(), frame, classes)
+            load_wide_constant(
+                method,
+                index,
+                named.computed(),
+                named.is_bootstrapped(),
+                frame,
+                classes,
+            )
         }
         Act::NewReferenceArray { .. } => new_reference_array(method, named.class(), frame, classes),
         Act::NewMultiArray { dimensions, .. } => {

@@ -28,6 +28,7 @@ method map code = record {
   is_static = true;
   is_init = false;
   type = record { params = []; result = None };
+  bootstraps = [];
   dynamic = false;
 }
 

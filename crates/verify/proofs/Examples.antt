@@ -24,6 +24,7 @@ method = record {
   is_static = true;
   is_init = false;
   type = record { params = []; result = None };
+  bootstraps = [];
   dynamic = false;
 }
 

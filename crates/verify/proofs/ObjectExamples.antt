@@ -52,6 +52,7 @@ method_that is_init params result map exceptions code = record {
   is_static = not is_init;
   is_init = is_init;
   type = record { params = params; result = result };
+  bootstraps = [];
   dynamic = false;
 }
 

@@ -6,6 +6,7 @@ use Rattle.names.specs.ReferenceTypes.{ReferenceType, class_type, array_type, de
 use Rattle.pool.specs.Entries as entries
 use Rattle.pool.specs.Entries.{Entry}
 use Rattle.pool.specs.Members.{constant_at, class_at, FieldConstant, field_at, MethodConstant, method_at, dynamic_type_at, CallSite, call_site_at}
+use Rattle.classfile.specs.Bootstraps.{has_bootstrap}
 use Rattle.classfile.specs.Methods.{Method, is_own_field}
 use Rattle.insn.specs.declared.operation.Kind.{Kind}
 use Rattle.insn.specs.declared.operation.Kind.TheVariants as kinds
@@ -115,6 +116,11 @@ allowed : (b : Bool) (p : Plan) (t : Task) → Agrees p t → Agrees (rules.wher
 allowed true p t a = a
 allowed false p t a = tt
 
+-- a plan where the constant has a bootstrap method, and a task that asks for none
+bootstrapped : (b : Bool) (p : Plan) (t : Task) → Agrees p t → Agrees (rules.where_bootstrapped b p) t
+bootstrapped true p t a = a
+bootstrapped false p t a = tt
+
 -- the same, where the instruction is judged
 judged : (d b : Bool) (p : Plan) (t : Task) → Agrees p t → Agrees (rules.where_judged d (rules.where_allowed b p)) (tasks.where_allowed (d && b) t)
 judged true b p t a = allowed b p t a
@@ -126,10 +132,13 @@ none_judged false = tt
 
 -- ---- constants
 
-computed_agree : (d : Bool) (units : ℕ) (t : Option FieldDescriptor) → Agrees (rules.where_judged d (constants.load_dynamic units t)) (tasks.load_dynamic d units t)
-computed_agree d units (Some t) =
-    judged d (nat_eq (field_width t) units) (rules.gives (descriptor_type t)) (tasks.operates [] None (tasks.gives_answer t) [] true) (record { needs = tt; reply = refl; offsets = refl; falls = refl })
-computed_agree d units None = none_judged d
+computed_agree : (d : Bool) (units : ℕ) (b : Bool) (t : Option FieldDescriptor) → Agrees (rules.where_judged d (constants.load_dynamic units b t)) (tasks.load_dynamic d units t)
+computed_agree d units b (Some t) =
+    let p = rules.gives (descriptor_type t) in
+    let task = tasks.operates [] None (tasks.gives_answer t) [] true in
+    judged d (nat_eq (field_width t) units) (rules.where_bootstrapped b p) task
+    (bootstrapped b p task (record { needs = tt; reply = refl; offsets = refl; falls = refl }))
+computed_agree d units b None = none_judged d
 
 load_constant_agree : (m : Method Act) (t : Option FieldDescriptor) (c : Option Entry) → Agrees (constants.load_constant m t c) (tasks.load_constant m t c)
 load_constant_agree m t (Some (entries.Integer bits)) = record { needs = tt; reply = refl; offsets = refl; falls = refl }
@@ -138,13 +147,13 @@ load_constant_agree m t (Some (entries.String text)) = record { needs = tt; repl
 load_constant_agree m t (Some (entries.Class name)) = record { needs = tt; reply = refl; offsets = refl; falls = refl }
 load_constant_agree m t (Some (entries.MethodType d)) = record { needs = tt; reply = refl; offsets = refl; falls = refl }
 load_constant_agree m t (Some (entries.MethodHandle k target)) = record { needs = tt; reply = refl; offsets = refl; falls = refl }
-load_constant_agree m t (Some (entries.Dynamic bootstrap name)) = computed_agree m.dynamic 1 t
+load_constant_agree m t (Some (entries.Dynamic bootstrap name)) = computed_agree m.dynamic 1 (has_bootstrap m.constant_pool m.bootstraps bootstrap) t
 load_constant_agree m t _ = tt
 
 load_wide_constant_agree : (m : Method Act) (t : Option FieldDescriptor) (c : Option Entry) → Agrees (constants.load_wide_constant m t c) (tasks.load_wide_constant m t c)
 load_wide_constant_agree m t (Some (entries.Long high low)) = record { needs = tt; reply = refl; offsets = refl; falls = refl }
 load_wide_constant_agree m t (Some (entries.Double high low)) = record { needs = tt; reply = refl; offsets = refl; falls = refl }
-load_wide_constant_agree m t (Some (entries.Dynamic bootstrap name)) = computed_agree m.dynamic 2 t
+load_wide_constant_agree m t (Some (entries.Dynamic bootstrap name)) = computed_agree m.dynamic 2 (has_bootstrap m.constant_pool m.bootstraps bootstrap) t
 load_wide_constant_agree m t _ = tt
 
 get_static_agree : (c : Option FieldConstant) → Agrees (constants.get_static c) (tasks.get_static c)
@@ -173,9 +182,11 @@ put_field_agree m None = tt
 receiverless_agree : (t : MethodDescriptor) → Agrees (rules.call_of t) (tasks.call_of t)
 receiverless_agree t = record { needs = arguments t.params [] [] tt; reply = results t.result; offsets = refl; falls = refl }
 
-site_agree : (m : Method Act) (c : Option CallSite) → Agrees (constants.invoke_dynamic m c) (tasks.invoke_dynamic m c)
-site_agree m (Some c) = judged m.dynamic (not (constants.is_special_name c)) (rules.call_of c.type) (tasks.call_of c.type) (receiverless_agree c.type)
-site_agree m None = none_judged m.dynamic
+site_agree : (m : Method Act) (b : Bool) (c : Option CallSite) → Agrees (constants.invoke_dynamic m b c) (tasks.invoke_dynamic m c)
+site_agree m b (Some c) =
+    judged m.dynamic (not (constants.is_special_name c)) (rules.where_bootstrapped b (rules.call_of c.type)) (tasks.call_of c.type)
+    (bootstrapped b (rules.call_of c.type) (tasks.call_of c.type) (receiverless_agree c.type))
+site_agree m b None = none_judged m.dynamic
 
 static_agree : (n : ℕ) (c : Option MethodConstant) → Agrees (constants.invoke_static n c) (tasks.invoke_static n c)
 static_agree n (Some c) = allowed _ (constants.static_call c) (tasks.static_call c) (receiverless_agree c.type)
@@ -284,7 +295,7 @@ agree m (acts.InvokeVirtual i) = virtual_agree (method_at m.constant_pool i)
 agree m (acts.InvokeSpecial i) = special_agree m.major_version m.class (method_at m.constant_pool i)
 agree m (acts.InvokeStatic i) = static_agree m.major_version (method_at m.constant_pool i)
 agree m (acts.InvokeInterface i n) = interface_agree n (method_at m.constant_pool i)
-agree m (acts.InvokeDynamic i) = site_agree m (call_site_at m.constant_pool i)
+agree m (acts.InvokeDynamic i) = site_agree m (constants.is_bootstrapped m (constant_at m.constant_pool i)) (call_site_at m.constant_pool i)
 agree m (acts.New i) = new_agree (class_at m.constant_pool i)
 agree m (acts.LoadElement p) = record { needs = (refl, (refl, tt)); reply = refl; offsets = refl; falls = refl }
 agree m (acts.StoreElement p) = record { needs = (refl, (refl, (refl, tt))); reply = tt; offsets = refl; falls = refl }

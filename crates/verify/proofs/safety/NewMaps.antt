@@ -26,6 +26,7 @@ with_map code = record {
   is_static = true;
   is_init = false;
   type = record { params = []; result = None };
+  bootstraps = [];
   dynamic = false;
 }
 

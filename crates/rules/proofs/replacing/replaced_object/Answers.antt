@@ -9,8 +9,13 @@ use Rattle.rules.specs.After.{top_of}
 use Rattle.rules.specs.Held.{held}
 use Rattle.frames.specs.VerificationType as frames
 use Rattle.rules.proofs.Changing.{made, called}
+use Rattle.rules.proofs.Keeping.{locals_kept}
 use Rattle.rules.proofs.Made.{beneath_arguments}
 use Rattle.rules.proofs.replacing.replaced_object.Goals as goal
+
+pub returns-then-keeps_locals : goal.returns-then-keeps_locals
+returns-then-keeps_locals c = λ g.
+    locals_kept (method_view c.args.method.now) c.args.at (act_view c.args.act.now) (held c.args.frame.now) (sym c.keeps_locals.ensures ∙ c.if-keeps_locals.true)
 
 pub returns-in-None : goal.returns-in-None
 returns-in-None c g =

@@ -4,7 +4,7 @@ use Rattle.rules.specs.Held.{held}
 use Rattle.rules.specs.Table.{plan, return_nothing}
 use Rattle.rules.specs.Bodies.{method_view}
 use Rattle.rules.proofs.Settling.{returned, by_plan}
-use Rattle.std.specs.Prelude.{Option, option_map}
+use Rattle.std.specs.Prelude.{Bool, Option, option_map}
 use Rattle.std.specs.Option.{option_and_then}
 use Rattle.names.specs.References.{reference_view}
 use Rattle.names.specs.declared.references.RefType.{RefType}
@@ -17,7 +17,7 @@ use Rattle.classfile.specs.Methods.{Method}
 use Rattle.insn.specs.Meanings as acts
 use Rattle.insn.specs.declared.operation.Act.{Act}
 use Rattle.rules.specs.declared.naming.Named.{Named}
-use Rattle.rules.specs.Naming.{IsNamed, class_index, field_index, method_index, loaded_index, site_index, kept_class, kept_field, kept_method, kept_type, kept_site}
+use Rattle.rules.specs.Naming.{IsNamed, class_index, field_index, method_index, loaded_index, site_index, names_bootstrapped, kept_class, kept_field, kept_method, kept_type, kept_site, kept_bootstrapped}
 use Rattle.rules.specs.Constants.{get_static, put_static, get_field, put_field, invoke_static, invoke_virtual, invoke_special, invoke_interface, invoke_dynamic, load_constant, load_wide_constant, new_reference_array, new_multi_array, check_cast, instance_of}
 use Rattle.rules.proofs.Plainly.{plain_else}
 use Rattle.rules.proofs.running.run.Goals as goal
@@ -43,6 +43,10 @@ computed_is m act other n t k h e =
 site_is : (m : Method acts.Act) (act other : Act) (n : Named) → IsNamed m (act_view act) n → act ≡ other
     → option_map call_site_view (kept_site n) ≡ option_and_then (call_site_at m.constant_pool) (site_index (act_view other))
 site_is m act other n h e = h.site ∙ ap (λ a. option_and_then (call_site_at m.constant_pool) (site_index (act_view a))) e
+
+bootstrapped_is : (m : Method acts.Act) (act other : Act) (n : Named) (b : Bool) → b ≡ kept_bootstrapped n → IsNamed m (act_view act) n → act ≡ other
+    → b ≡ names_bootstrapped m (act_view other)
+bootstrapped_is m act other n b k h e = k ∙ h.bootstrapped ∙ ap (λ a. names_bootstrapped m (act_view a)) e
 
 pub returns-in-ReturnReference : goal.returns-in-ReturnReference
 returns-in-ReturnReference g c =
@@ -96,7 +100,9 @@ pub returns-in-InvokeDynamic : goal.returns-in-InvokeDynamic
 returns-in-InvokeDynamic g c =
     let m = method_view c.args.method.now in
     by_plan m c.args.at (plan m (act_view c.args.act)) _ (g.C.Classes.content c.args.classes.now) (held c.args.frame.now) (held c.invoke_dynamic.new.frame) c.invoke_dynamic.result
-    (ap (λ a. plan m (act_view a)) c.in-InvokeDynamic.is ∙ sym (ap (invoke_dynamic m) (c.site.ensures ∙ site_is m c.args.act _ c.args.named.now c.requires.named c.in-InvokeDynamic.is))) (c.invoke_dynamic.ensures c.args.at)
+    (ap (λ a. plan m (act_view a)) c.in-InvokeDynamic.is
+    ∙ sym (ap (λ (b : Bool). invoke_dynamic m b (call_site_at m.constant_pool c.in-InvokeDynamic.index)) (bootstrapped_is m c.args.act _ c.args.named.now c.is_bootstrapped.result c.is_bootstrapped.ensures c.requires.named c.in-InvokeDynamic.is))
+    ∙ sym (ap (invoke_dynamic m c.is_bootstrapped.result) (c.site.ensures ∙ site_is m c.args.act _ c.args.named.now c.requires.named c.in-InvokeDynamic.is))) (c.invoke_dynamic.ensures c.args.at)
 
 pub returns-in-LoadConstant : goal.returns-in-LoadConstant
 returns-in-LoadConstant g c =
