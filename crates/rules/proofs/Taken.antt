@@ -19,7 +19,7 @@ use Rattle.insn.specs.declared.operation.NumericOperator.TheVariants as numeric
 use Rattle.insn.specs.declared.stack.StackOperator.{StackOperator}
 use Rattle.insn.specs.declared.stack.StackOperator.TheVariants as stacks
 use Rattle.std.specs.Option.{option_and_then}
-use Rattle.frames.specs.VerificationType.{VerificationType, top, array, uninit}
+use Rattle.frames.specs.VerificationType.{VerificationType, top, class, array, uninit}
 use Rattle.frames.specs.Slots.{descriptor_type, to_reference}
 use Rattle.frames.specs.FrameFact.{FrameFact}
 use Rattle.frames.specs.Objects.{is_initialized}
@@ -29,7 +29,7 @@ use Rattle.rules.specs.Table.{plan, return_number, return_reference, return_noth
 use Rattle.rules.specs.After.{after, popped, top_of, rest_of, form_for, fits_places, initialized, class_after, rearranged_by, element_of, local_of}
 use Rattle.rules.specs.Naming.{method_index, site_index}
 use Rattle.rules.specs.Ways.{is_plain, special_index}
-use Rattle.rules.specs.Taken.{most_taken, taken, taken_at_most, with_receiver, without_receiver, item, IsOther}
+use Rattle.rules.specs.Taken.{most_taken, taken, at_most, with_receiver, without_receiver, item, IsOther}
 use Rattle.rules.proofs.Arguments.{map_reversed}
 use Rattle.rules.proofs.Made.{beneath_drops, count_on}
 
@@ -86,16 +86,18 @@ by_form form s count i le lt = replaced_under (chosen s form.leaves) form.takes 
 
 by_forms : (forms : List StackForm) (s r : List VerificationType) (i : ℕ) → i + most_taken forms < length s → r ≡ s → item (rearranged_by (form_for forms r) s) i ≡ item s i
 by_forms [] s r i lt same = refl
-by_forms (form ∷ forms) s r i lt same = chosen_by (fits_places form.takes r)
+by_forms (form ∷ forms) s r i lt same =
+    chosen_by (fits_places form.takes r) (by_form form s (most_taken (form ∷ forms)) i (most_first (length form.takes) (most_taken forms)) lt)
+    (by_forms forms s r i (omega (arith, lt, most_second (length form.takes) (most_taken forms))) same)
   where
-    chosen_by : (b : Bool) → item (rearranged_by (if b then Some form else form_for forms r) s) i ≡ item s i
-    chosen_by true = by_form form s (most_taken (form ∷ forms)) i (most_first (length form.takes) (most_taken forms)) lt
-    chosen_by false = by_forms forms s r i (omega (arith, lt, most_second (length form.takes) (most_taken forms))) same
+    chosen_by : (b : Bool) → item (rearranged form s) i ≡ item s i → item (rearranged_by (form_for forms r) s) i ≡ item s i → item (rearranged_by (if b then Some form else form_for forms r) s) i ≡ item s i
+    chosen_by true x y = x
+    chosen_by false x y = y
 
 -- ---- a plan
 
 initialized_not : (object : VerificationType) (name : List ℕ) (t : VerificationType) → is_initialized object t ≡ false → initialized object name t ≡ t
-initialized_not object name t e = ap (λ b. if b then _ else t) e
+initialized_not object name t e = ap (λ b. if b then class name else t) e
 
 module _ (m : Method Act) (at : ℕ) (f : FrameFact) where
   pub keeps_item : (p : Plan) (i : ℕ) → i + taken p < length f.stack → IsOther p f i → item (after m at p f).stack i ≡ item f.stack i
@@ -121,7 +123,7 @@ module _ (m : Method Act) (at : ℕ) (f : FrameFact) where
 
 -- ---- an instruction
 
-constructs_nothing : Plan → Bool
+abbrev constructs_nothing : Plan → Bool
 constructs_nothing (constructs name wants) = false
 constructs_nothing _ = true
 
@@ -264,8 +266,8 @@ called_dynamically : (m : Method Act) (o : Option CallSite) → Takes (without_r
 called_dynamically m None = judged 0 m.dynamic (dynamic_call None) (omega arith, refl)
 called_dynamically m (Some c) = judged (length c.type.params) m.dynamic (dynamic_call (Some c)) (allowed (length c.type.params) (not (is_special_name c)) (call_of c.type) (omega (arith, count_on c.type.params []), refl))
 
-abbrev most : Method Act → Act → ℕ
-most m a = taken_at_most a (option_and_then (method_at m.constant_pool) (method_index a)) (option_and_then (call_site_at m.constant_pool) (site_index a))
+abbrev pub most : Method Act → Act → ℕ
+most m a = at_most a (with_receiver (option_and_then (method_at m.constant_pool) (method_index a))) (without_receiver (option_and_then (call_site_at m.constant_pool) (site_index a)))
 
 takes : (m : Method Act) (a : Act) → special_index a ≡ None → Takes (most m a) (plan m a)
 takes m (acts.LoadConstant i) e = loaded m (dynamic_type_at m.constant_pool i) (constant_at m.constant_pool i)

@@ -41,15 +41,15 @@ abbrev pub without_receiver : Option CallSite → ℕ
 without_receiver None = 0
 without_receiver (Some c) = length c.type.params
 
--- how many items an instruction takes at most that names this method, or this call site, if it calls one
-abbrev pub taken_at_most : Act → Option MethodConstant → Option CallSite → ℕ
-taken_at_most (acts.InvokeVirtual i) called site = with_receiver called
-taken_at_most (acts.InvokeSpecial i) called site = with_receiver called
-taken_at_most (acts.InvokeStatic i) called site = with_receiver called
-taken_at_most (acts.InvokeInterface i count) called site = with_receiver called
-taken_at_most (acts.InvokeDynamic i) called site = without_receiver site
-taken_at_most (acts.NewMultiArray i n) called site = n
-taken_at_most _ called site = 4
+-- how many items an instruction takes at most, where a call of its method takes so many, and one by its call site
+abbrev pub at_most : Act → (called site : ℕ) → ℕ
+at_most (acts.InvokeVirtual i) called site = called
+at_most (acts.InvokeSpecial i) called site = called
+at_most (acts.InvokeStatic i) called site = called
+at_most (acts.InvokeInterface i count) called site = called
+at_most (acts.InvokeDynamic i) called site = site
+at_most (acts.NewMultiArray i n) called site = n
+at_most _ called site = 4
 
 -- ---- the items beneath
 

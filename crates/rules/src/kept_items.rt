@@ -1,15 +1,18 @@
 //! The items of the stack that an instruction leaves as they are.
-ghost use Rattle.std.specs.Prelude.{◌≡◌, ◌≤◌, ◌<◌, ℕ, true, false, length, map, option_map, get_or};
+ghost use Rattle.std.specs.Prelude.{◌≡◌, ◌≤◌, ◌<◌, ℕ, true, false, [], length, map, option_map, get_or};
 ghost use Rattle.insn.specs.Views.{act_view};
 ghost use Rattle.frames.specs.Objects.{is_initialized};
 ghost use Rattle.frames.specs.VerificationType.{VerificationType, type_of, top};
 ghost use Rattle.pool.specs.MemberViews.{method_constant_view, call_site_view};
-ghost use Rattle.rules.specs.After.{after};
+ghost use Rattle.insn.specs.Stacks.{beneath};
+ghost use Rattle.rules.specs.After.{after, top_of};
 ghost use Rattle.rules.specs.Bodies.{method_view};
 ghost use Rattle.rules.specs.Held.{held};
 ghost use Rattle.rules.specs.Naming.{IsNamed};
+ghost use Rattle.rules.specs.Plans.{arguments_on};
 ghost use Rattle.rules.specs.Table.{plan};
-ghost use Rattle.rules.specs.Taken.{taken, taken_at_most, with_receiver, without_receiver, KeepsItems};
+ghost use Rattle.rules.specs.Views.{stack_of};
+ghost use Rattle.rules.specs.Taken.{taken, at_most, with_receiver, without_receiver, item, KeepsItems};
 ghost use Rattle.rules.specs.Ways.{is_plain};
 
 use crate::naming::Named;
@@ -43,20 +46,29 @@ fn without_receiver(site: Option<&CallSite<'_>>) -> usize
     }
 }
 
-/// How many items of the stack an instruction takes at most.
-fn taken_by(method: &CodeMethod<'_, '_>, act: &Act<'_>, named: &Named<'_>) -> usize
-    requires { IsNamed (method_view method.now) (act_view act.now) named.now }
-    ensures { taken (plan (method_view method.now) (act_view act.now)) ≤ result }
+/// How many items an instruction takes at most, where a call of its method takes so many, and one by its call site.
+fn at_most(act: &Act<'_>, called: usize, site: usize) -> usize
+    ensures { result ≡ at_most (act_view act.now) called site }
 {
     match *act {
         Act::InvokeVirtual { .. }
         | Act::InvokeSpecial { .. }
         | Act::InvokeStatic { .. }
-        | Act::InvokeInterface { .. } => with_receiver(named.method()),
-        Act::InvokeDynamic { .. } => without_receiver(named.site()),
+        | Act::InvokeInterface { .. } => called,
+        Act::InvokeDynamic { .. } => site,
         Act::NewMultiArray { dimensions, .. } => usize::from(dimensions),
         _ => FEW,
     }
+}
+
+/// How many items of the stack an instruction takes at most.
+fn taken_by(method: &CodeMethod<'_, '_>, act: &Act<'_>, named: &Named<'_>) -> usize
+    requires { IsNamed (method_view method.now) (act_view act.now) named.now }
+    ensures { taken (plan (method_view method.now) (act_view act.now)) ≤ result }
+{
+    let called = with_receiver(named.method());
+    let site = without_receiver(named.site());
+    at_most(act, called, site)
 }
 
 /// Whether a type is that of an object that is not initialized.
@@ -79,6 +91,25 @@ fn first_of(object: &VType<'_>, items: &[VType<'_>]) -> usize
     items.len()
 }
 
+/// How many of so many items from the bottom up stand in front of the first one that is of the object beneath the arguments of a call, if that is not
+/// initialized.
+fn first_of_receiver<'a>(
+    called: &MethodConstant<'a>,
+    stack: &[VType<'a>],
+    limit: usize,
+) -> usize
+    requires { limit ≤ length stack.now }
+    ensures few { result ≤ limit }
+    ensures other { let object = top_of (beneath (arguments_on (method_constant_view called.now).type.params []) (stack_of stack.now)) in
+        (i : ℕ) → i < result → is_initialized object (item (stack_of stack.now) i) ≡ false }
+{
+    let receiver = item_beneath(called.method_type.params.len(), stack);
+    if !is_uninitialized(&receiver) {
+        return limit;
+    }
+    first_of(&receiver, &stack[..limit])
+}
+
 /// How many items of the stack, from the bottom up, an instruction leaves as they are, at least: it takes those above them, and calls no
 /// constructor on an object that stands among them.
 pub fn items_kept<'a>(
@@ -92,17 +123,13 @@ pub fn items_kept<'a>(
 {
     let stack = frame.stack();
     let beneath = stack.len().saturating_sub(taken_by(method, act, named));
-    if special_index(act).is_none() {
-        return beneath;
+    match special_index(act) {
+        None => beneath,
+        Some(_) => match named.method() {
+            None => beneath,
+            Some(called) => first_of_receiver(called, stack, beneath),
+        },
     }
-    let Some(called) = named.method() else {
-        return beneath;
-    };
-    let object = item_beneath(called.method_type.params.len(), stack);
-    if !is_uninitialized(&object) {
-        return beneath;
-    }
-    first_of(&object, &stack[..beneath])
 }
 
 /// How many items of the stack a plain instruction leaves as they are, at least.

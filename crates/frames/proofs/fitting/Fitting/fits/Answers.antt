@@ -1,4 +1,4 @@
-use Rattle.std.proofs.Common.{◌≤◌, length, map, sym, arith}
+use Rattle.std.proofs.Common.{◌≤◌, false, length, map, sym, arith}
 use Rattle.frames.specs.VerificationType.{type_of}
 use Rattle.frames.specs.Chains.{types_at}
 use Rattle.frames.specs.DeclaredTables.{IsOf}
