@@ -2,15 +2,12 @@
 code, given by their bytes. What only a library's call shows has the name of its test in crates/lower_calls or crates/public_calls."""
 from dataclasses import replace
 
+from rows.known import KNOWN
 from tools.assembler import OBJECT, STATIC, ClassFile, attribute, class_info, code_attribute, member, name_and_type, named, reference, utf8
+from tools.class_k import BYTES, PLAIN_OBJECT
+from tools.stack_maps import stack_map_of
 
-# The class K of version 52, with one static method f of the code `return`, and java/lang/Object: 97 and 46 bytes.
-K = bytes.fromhex(
-    "cafebabe 00000034 0008 070002 0100014b 070004 0100106a6176612f6c616e672f4f626a656374 01000166 010003282956 010004436f6465"
-    "0021 0001 0003 0000 0000 0001 0009 0005 0006 0001 0007 0000000d 0000 0000 00000001 b1 0000 0000 0000"
-)
-O = bytes.fromhex("cafebabe 00000034 0003 070002 0100106a6176612f6c616e672f4f626a656374 0021 0001 0000 0000 0000 0000 0000")
-FINAL_OBJECT = O[:33] + b"\x31" + O[34:]
+FINAL_OBJECT = named(OBJECT, above=None, flags=0x0031).data()
 
 # Which test of these crates shows it.
 CALLS = """
@@ -32,7 +29,7 @@ a step of a method, a fault, and a choice of which nothing comes | machine_steps
 
 def changed(*changes):
     """K with other bytes at these places."""
-    data = bytearray(K)
+    data = bytearray(BYTES)
     for place, value in changes:
         data[place] = value
     return bytes(data)
@@ -40,7 +37,7 @@ def changed(*changes):
 
 # K with one more constant, its class's count of attributes, and an attribute.
 def with_attribute(constant, body, flags=None):
-    front, back = bytearray(K[:56]), K[56:-2]
+    front, back = bytearray(BYTES[:56]), BYTES[56:-2]
     front[9] = 9
     if flags is not None:
         front[7] = flags
@@ -51,9 +48,9 @@ DEPRECATED, RECORD, PERMITTED = utf8("Deprecated"), utf8("Record"), utf8("Permit
 
 # Of files: what they are, the command, their bytes, and a line of the answer.
 FILES = (
-    ("K", "check", [K], "ok"),
-    ("K without its last byte", "check", [K[:96]], "refused 2 at 95"),
-    ("K and one byte more", "check", [K + b"\x00"], "refused 13 at 97"),
+    ("K", "check", [BYTES], "ok"),
+    ("K without its last byte", "check", [BYTES[:96]], "refused 2 at 95"),
+    ("K and one byte more", "check", [BYTES + b"\x00"], "refused 13 at 97"),
     # the outline is read first, and ends early where the longer attribute takes a byte of what is behind it
     ("K whose Code attribute is longer than its parts", "check", [changed((81, 0x0E))], "refused 2 at 96"),
     ("K whose Code attribute is shorter", "check", [changed((81, 0x0C))], "refused 12 at 76"),
@@ -61,14 +58,14 @@ FILES = (
     ("K of version 50", "check", [changed((7, 0x32))], "refused 11 50.0"),
     ("K whose superclass is no class", "check", [changed((59, 2))], "refused 21 class"),
     ("K with the flag of an interface alone", "check", [changed((56, 2))], "refused 24 class"),
-    ("K with code of no bytes", "check", [K[:81] + b"\x0c" + K[82:89] + b"\x00" + K[91:]], "refused 29 method 0"),
-    ("K", "verify", [K, O], "method f ()V verified"),
-    ("K whose code is a nop", "verify", [changed((90, 0)), O], "method f ()V refused 71 at 0"),
-    ("K alone", "verify", [K], "hierarchy refused 42 K"),
-    ("K and Object twice", "verify", [K, O, O], "hierarchy refused 40 java/lang/Object"),
+    ("K with code of no bytes", "check", [BYTES[:81] + b"\x0c" + BYTES[82:89] + b"\x00" + BYTES[91:]], "refused 29 method 0"),
+    ("K", "verify", [BYTES, PLAIN_OBJECT], "method f ()V verified"),
+    ("K whose code is a nop", "verify", [changed((90, 0)), PLAIN_OBJECT], "method f ()V refused 71 at 0"),
+    ("K alone", "verify", [BYTES], "hierarchy refused 42 K"),
+    ("K and Object twice", "verify", [BYTES, PLAIN_OBJECT, PLAIN_OBJECT], "hierarchy refused 40 java/lang/Object"),
     ("K with Deprecated", "check", [with_attribute(DEPRECATED, bytes.fromhex("000800000000"))], "ok"),
     ("K with a Deprecated of one byte", "check", [with_attribute(DEPRECATED, bytes.fromhex("00080000000100"))], "refused 12 at 110"),
-    ("K below a final Object", "verify", [K, FINAL_OBJECT], "class refused 81"),
+    ("K below a final Object", "verify", [BYTES, FINAL_OBJECT], "class refused 81"),
     ("K of version 61", "check", [changed((7, 0x3D))], "ok"),
     ("K of version 62", "check", [changed((7, 0x3E))], "refused 11 62.0"),
     ("K of version 55.1", "check", [changed((5, 1), (7, 0x37))], "ok"),
@@ -101,7 +98,7 @@ b9 0001 01 01 | code refused 35 at 0
 METHODS = """
 f ()V 0 0 | 00 | | | refused 71 at 0
 f ()V 1 0 | 57 b1 | | | refused 61 at 0
-f ()LA; 1 0 | 03 a70003 b0 | 0001 44070001 | | refused 68 at 1
+f ()LA; 1 0 | 03 a70003 b0 | 4 same1 class A | | refused 68 at 1
 f (J)I 1 2 | 1b ac | | | refused 63 at 0
 f (J)J 2 2 | 03 3c 1e ad | | | refused 63 at 2
 f ()V 4 0 | 09 5c 58 58 b1 | | | verified
@@ -110,40 +107,37 @@ f ()LA; 1 1 | bb0001 4b bb0001 b70002 2a b0 | | | refused 62 at 11
 f ()V 3 0 | bb0001 59 59 b70002 b70002 57 b1 | | | refused 62 at 8
 <init> ()V 1 1 | b1 | | | refused 74 at 0
 <init> ()V 1 1 | 2a b70003 b1 | | | verified
-f ()V 1 0 | b1 bb0001 57 b1 | 0001 01 | | verified
-f ()V 2 0 | b1 bb0001 57 b1 | 0001 41080001 | | refused 62 at 1
+f ()V 1 0 | b1 bb0001 57 b1 | 1 same | | verified
+f ()V 2 0 | b1 bb0001 57 b1 | 1 same1 uninitialized 1 | | refused 62 at 1
 f (LA;)LI; 1 1 | 2a b0 | | | verified
 f (LA;)LB; 1 1 | 2a b0 | | | refused 77 at 1 missing B
-f ()I 1 1 | 03 3b 1a ac 57 1a ac | 0001 ff0004 0001 01 0001 070008 | 1 2 4 0 | refused 73 at 1
-f ()I 1 1 | 03 3b 1a ac 57 1a ac | 0001 ff0004 0001 01 0001 070008 | 2 3 4 0 | verified
-<init> ()V 1 1 | 2a b70003 b1 57 b1 | 0001 45070008 | 1 4 5 0 | refused 75 at 1
+f ()I 1 1 | 03 3b 1a ac 57 1a ac | 4 full [int] [class java/lang/Throwable] | 1 2 4 0 | refused 73 at 1
+f ()I 1 1 | 03 3b 1a ac 57 1a ac | 4 full [int] [class java/lang/Throwable] | 2 3 4 0 | verified
+<init> ()V 1 1 | 2a b70003 b1 57 b1 | 5 same1 class java/lang/Throwable | 1 4 5 0 | refused 75 at 1
 f ()V 1 0 | a80003 b1 | | | refused 60 at 0
 f ()V 1 0 | a70001 b1 | | | refused 67 at 0
-f ()V 1 1 | 03 3b 840001 1a 9afffc b1 | 0001 fc000201 | | verified
+f ()V 1 1 | 03 3b 840001 1a 9afffc b1 | 2 append int | | verified
 f ()V 1 1 | 03 3b 840001 1a 9afffc b1 | | | refused 67 at 6
-f ()V 1 1 | 03 3b 840001 1a 9afffc b1 | 0001 02 | | refused 63 at 2
-f ()V 1 0 | 03 b1 | 0001 01 | | refused 69 at 1
+f ()V 1 1 | 03 3b 840001 1a 9afffc b1 | 2 same | | refused 63 at 2
+f ()V 1 0 | 03 b1 | 1 same | | refused 69 at 1
 f ()V 0 0 | b1 00 b1 | | | refused 70 at 1
-f ()V 0 0 | 00 b1 | 0001 80 | | refused 78 at 0 fault 47
-f ()V 2 0 | 09 a70003 03 57 b1 | 0001 4400 | | refused 68 at 1
+f ()V 0 0 | 00 b1 | bytes 0001 80 | | refused 78 at 0 fault 47
+f ()V 2 0 | 09 a70003 03 57 b1 | 4 same1 top | | refused 68 at 1
 f ()V 3 0 | 06 bc0a 03 04 4f b1 | | | verified
 f ()V 3 0 | 06 bc08 03 04 4f b1 | | | refused 62 at 5
 f ()V 3 0 | 06 bc04 03 04 54 b1 | | | verified
 f ()LA; 2 0 | 01 03 32 b0 | | | verified
 f (LI;)LA; 1 1 | 2a c00001 b0 | | | verified
 f ()V 1 0 | 01 b60002 b1 | | | refused 66 at 1
-f ()V 1 1 | bb0001 4b 2a b70002 b1 57 2a b70002 b1 | 0001 ff0009 0001 080000 0001 070008 | 4 8 9 0 | verified
-f ()V 1 1 | bb0001 4b 2a b70002 b1 57 2a b70002 b1 | 0001 ff0009 0001 080000 0001 070008 | 4 9 9 0 | refused 73 at 8
-f ()V 1 1 | bb0001 4b a7fffc | 0001 00 | | verified
-f ()V 1 1 | bb0001 4b a7fffc | 0001 fc0000080000 | | refused 69 at 0
+f ()V 1 1 | bb0001 4b 2a b70002 b1 57 2a b70002 b1 | 9 full [uninitialized 0] [class java/lang/Throwable] | 4 8 9 0 | verified
+f ()V 1 1 | bb0001 4b 2a b70002 b1 57 2a b70002 b1 | 9 full [uninitialized 0] [class java/lang/Throwable] | 4 9 9 0 | refused 73 at 8
+f ()V 1 1 | bb0001 4b a7fffc | 0 same | | verified
+f ()V 1 1 | bb0001 4b a7fffc | 0 append uninitialized 0 | | refused 69 at 0
 <init> ()V 1 1 | 2a b70003 2a b70003 b1 | | | refused 62 at 5
 <init> ()V 2 1 | 2a 04 b50009 2a b70003 b1 | | | verified
 """
 # The last method where K does not declare the field.
 WITHOUT_FIELD = "<init> ()V 2 1 | 2a 04 b50009 2a b70003 b1 | | | refused 62 at 2"
-
-KNOWN = [O, named("java/lang/Throwable").data(), named("A").data(), named("I", flags=0x0601).data()]
-
 
 def class_of(words, code, body, entries, fields):
     """K with this method."""
@@ -153,7 +147,7 @@ def class_of(words, code, body, entries, fields):
         reference(9, 4, 16), utf8("A"), utf8("K"), utf8(OBJECT), utf8("<init>"), utf8("()V"), utf8("java/lang/Throwable"), name_and_type(17, 18),
         utf8("x"), utf8("I"), utf8("StackMapTable"), utf8(name), utf8(descriptor),
     ]
-    nested = [attribute(19, bytes.fromhex(body))] if body else []
+    nested = [attribute(19, stack_map_of(body, {"A": 1, "java/lang/Throwable": 8}.get))] if body else []
     handlers = [tuple(map(int, it.split())) for it in entries.split(",") if it]
     method = member(
         0 if name == "<init>" else STATIC, 20, 21, code_attribute(7, bytes.fromhex(code), int(stack), int(variables), handlers, nested)

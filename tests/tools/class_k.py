@@ -24,7 +24,9 @@ def stack_map(name):
 
 
 K = ClassFile(CONSTANTS, methods=[method_f(code_f())])
-# It declares the method clone, which is protected and native.
+# Its 97 bytes, and the 46 of java/lang/Object without members.
+BYTES, PLAIN_OBJECT = K.data(), named(OBJECT, above=None).data()
+# The class java/lang/Object that declares the method clone, which is protected and native.
 OBJECT_CLASS = replace(
     named(OBJECT, above=None),
     constants=[*named(OBJECT, above=None).constants, utf8("clone"), utf8("()Ljava/lang/Object;")],

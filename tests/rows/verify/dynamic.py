@@ -1,11 +1,11 @@
 """Methods with `invokedynamic` and dynamic constants, and what `classck verify` says of each, with --dynamic and without: JVMS 4.4.10 and 4.10.1.9."""
 from dataclasses import replace
 
-from tools.assembler import STATIC, named
-from tools.class_k import K, OBJECT_CLASS, code_f, method_f
+from rows.known import KNOWN_OF_CALL_SITES
 from rows.verify.references import Constants, assembled
+from tools.assembler import STATIC
+from tools.class_k import K, code_f, method_f
 
-KNOWN = [OBJECT_CLASS, *(named(it).data() for it in ("A", "B", "java/lang/String")), named("java/lang/Runnable", flags=0x0600).data()]
 STRING = "Ljava/lang/String;"
 
 # Descriptor, max_stack and max_locals; code; verdict with --dynamic, and without.
@@ -65,7 +65,7 @@ def dynamic():
         descriptor, stack, variables = sizes.split()
         constants = Constants(descriptor)
         method = method_f(code_f(assembled(code, constants), stack=int(stack), variables=int(variables)), flags=STATIC)
-        files = [replace(K, constants=constants.items, methods=[method], major=55).data(), *KNOWN]
+        files = [replace(K, constants=constants.items, methods=[method], major=55).data(), *KNOWN_OF_CALL_SITES]
         for command, verdict in (("verify --dynamic", judged), ("verify", refused)):
             yield f"{sizes} {code}", command, files, f"method f {descriptor} {verdict}"
             alone = "play verified" if verdict == "verified" else f"class 1 method f {descriptor} {verdict}"

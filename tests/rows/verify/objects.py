@@ -3,7 +3,9 @@ from dataclasses import replace
 
 from tools.assembler import OBJECT, STATIC, attribute, member, utf8
 from tools.class_k import K, code_f, method_f
-from rows.verify.references import KNOWN, Constants, assembled
+from rows.known import KNOWN
+from rows.verify.references import Constants, assembled
+from tools.stack_maps import stack_map_of
 
 # Descriptor, max_stack and max_locals; code, in which words in brackets are constants; a stack map, if there is one; verdict.
 OF_CLASSES = """
@@ -43,7 +45,7 @@ OF_CLASSES = """
 ([LA;)V 3 1 | aload_0; iconst_0; new [class A]; aastore; return | refused 62 at 5
 ()V 1 0 | new [class A]; monitorenter; return | verified
 ()V 1 1 | new [class A]; astore_0; aload_0; pop; return | verified
-()V 2 0 | new [class A]; dup; if_acmpeq 3; return | 0001 07 | verified
+()V 2 0 | new [class A]; dup; if_acmpeq 3; return | 7 same | verified
 # all that stand for it become of its class at once
 ()LA; 2 1 | new [class A]; dup; astore_0; invokespecial [method A <init> ()V]; aload_0; areturn | verified
 ()LA; 2 2 | new [class A]; dup; astore_0; astore_1; aload_0; invokespecial [method A <init> ()V]; aload_1; areturn | verified
@@ -54,21 +56,21 @@ OF_CLASSES = """
 ()LA; 3 0 | new [class A]; new [class A]; dup; invokespecial [method A <init> ()V]; pop; areturn | refused 62 at 11
 ()V 4 2 | lconst_0; new [class A]; dup; invokespecial [method A <init> ()V]; pop; lstore_0; return | verified
 # what the same `new` has made before is forgotten in the locals, and is not on the stack
-()V 1 1 | new [class A]; astore_0; goto -4 | 0001 00 | verified
-()V 2 1 | return; new [class A]; aload_0; pop; pop; return | 0001 fc0001080001 | refused 63 at 4
-()V 2 1 | return; new [class A]; aload_0; pop; pop; return; new [class A]; pop; return | 0002 fc0001080008 06 | verified
-()V 2 0 | return; new [class A]; pop; pop; return | 0001 41080001 | refused 62 at 1
-()V 2 0 | return; new [class A]; pop; pop; return; new [class A]; pop; return | 0002 41080007 05 | verified
+()V 1 1 | new [class A]; astore_0; goto -4 | 0 same | verified
+()V 2 1 | return; new [class A]; aload_0; pop; pop; return | 1 append uninitialized 1 | refused 63 at 4
+()V 2 1 | return; new [class A]; aload_0; pop; pop; return; new [class A]; pop; return | 1 append uninitialized 8; 8 same | verified
+()V 2 0 | return; new [class A]; pop; pop; return | 1 same1 uninitialized 1 | refused 62 at 1
+()V 2 0 | return; new [class A]; pop; pop; return; new [class A]; pop; return | 1 same1 uninitialized 7; 7 same | verified
 # frames of objects that are not initialized
-()LA; 2 0 | new [class A]; dup; nop; invokespecial [method A <init> ()V]; areturn | 0001 ff000400000002080000080000 | verified
-()LA; 2 0 | new [class A]; dup; nop; invokespecial [method A <init> ()V]; areturn | 0001 ff0004000000020800000800 | refused 78 at 0 fault 2
-()LA; 2 0 | new [class A]; dup; nop; invokespecial [method A <init> ()V]; areturn | 0001 ff000400000002080000080003 | refused 78 at 0 fault 53
-()V 1 0 | new [class A]; goto 3; pop; return | 0001 46080000 | verified
-()V 1 0 | new [class A]; goto 3; pop; new [class A]; pop; return | 0001 46080007 | refused 68 at 3
-()V 1 0 | new [class A]; goto 3; invokespecial [method A <init> ()V]; return | 0001 46080000 | verified
+()LA; 2 0 | new [class A]; dup; nop; invokespecial [method A <init> ()V]; areturn | 4 full [] [uninitialized 0, uninitialized 0] | verified
+()LA; 2 0 | new [class A]; dup; nop; invokespecial [method A <init> ()V]; areturn | bytes 0001 ff0004000000020800000800 | refused 78 at 0 fault 2
+()LA; 2 0 | new [class A]; dup; nop; invokespecial [method A <init> ()V]; areturn | 4 full [] [uninitialized 0, uninitialized 3] | refused 78 at 0 fault 53
+()V 1 0 | new [class A]; goto 3; pop; return | 6 same1 uninitialized 0 | verified
+()V 1 0 | new [class A]; goto 3; pop; new [class A]; pop; return | 6 same1 uninitialized 7 | refused 68 at 3
+()V 1 0 | new [class A]; goto 3; invokespecial [method A <init> ()V]; return | 6 same1 uninitialized 0 | verified
 # a branch backwards with one
-()V 1 0 | new [class A]; goto 0 | 0001 43080000 | verified
-()V 1 1 | goto 3; new [class A]; astore_0; goto -4 | 0001 03 | verified
+()V 1 0 | new [class A]; goto 0 | 3 same1 uninitialized 0 | verified
+()V 1 1 | goto 3; new [class A]; astore_0; goto -4 | 3 same | verified
 """
 
 # Rows of a constructor of K, which is directly below Object and declares x of type I.
@@ -92,13 +94,13 @@ OF_CONSTRUCTORS = """
 ()V 1 1 | aload_0; areturn | refused 76 at 1
 # it need not return
 ()V 1 1 | aconst_null; athrow | verified
-()V 0 1 | goto 0 | 0001 ff000000010600 00 | verified
+()V 0 1 | goto 0 | 0 full [uninitializedThis] [] | verified
 # the flag goes with the frame
-()V 0 1 | goto 0 | 0001 ff000000010000 00 | refused 69 at 0
-(I)V 1 2 | iload_1; ifeq 7; aload_0; invokespecial [method java/lang/Object <init> ()V]; return | 0001 ff00080002000100 00 | refused 68 at 1
-(I)V 1 2 | iload_1; ifeq 7; aload_0; invokespecial [method java/lang/Object <init> ()V]; return | 0001 ff00080002060100 00 | refused 69 at 8
-(I)V 1 2 | iload_1; ifeq 8; aload_0; invokespecial [method java/lang/Object <init> ()V]; return; aload_0; invokespecial [method java/lang/Object <init> ()V]; return | 0001 ff00090002060100 00 | verified
-(I)V 1 2 | iload_1; ifeq 8; aload_0; invokespecial [method java/lang/Object <init> ()V]; return; return | 0001 ff00090002060100 00 | refused 74 at 9
+()V 0 1 | goto 0 | 0 full [top] [] | refused 69 at 0
+(I)V 1 2 | iload_1; ifeq 7; aload_0; invokespecial [method java/lang/Object <init> ()V]; return | 8 full [top, int] [] | refused 68 at 1
+(I)V 1 2 | iload_1; ifeq 7; aload_0; invokespecial [method java/lang/Object <init> ()V]; return | 8 full [uninitializedThis, int] [] | refused 69 at 8
+(I)V 1 2 | iload_1; ifeq 8; aload_0; invokespecial [method java/lang/Object <init> ()V]; return; aload_0; invokespecial [method java/lang/Object <init> ()V]; return | 9 full [uninitializedThis, int] [] | verified
+(I)V 1 2 | iload_1; ifeq 8; aload_0; invokespecial [method java/lang/Object <init> ()V]; return; return | 9 full [uninitializedThis, int] [] | refused 74 at 9
 ()V 1 1 | aconst_null; astore_0; return | refused 74 at 2
 ()V 1 1 | aload_0; astore_0; aload_0; invokespecial [method java/lang/Object <init> ()V]; return | verified
 """
@@ -141,7 +143,7 @@ def class_of(name, flags, descriptor, sizes, code, body, others):
     """K with a field x behind others of these names, and one method, which has this code and this stack map."""
     constants = Constants(descriptor, name)
     data = assembled(code, constants)
-    nested = [attribute(constants.text("StackMapTable"), bytes.fromhex(body))] if body else []
+    nested = [attribute(constants.text("StackMapTable"), stack_map_of(body, constants.owner))] if body else []
     method = method_f(code_f(data, stack=sizes[0], variables=sizes[1], nested=nested), flags=flags)
     fields = [member(0, constants.text(name), constants.text("I")) for name in [*others, "x"]]
     return replace(K, constants=constants.items, fields=fields, methods=[method]).data()

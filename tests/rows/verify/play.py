@@ -2,10 +2,11 @@
 from dataclasses import replace
 
 from tools.assembler import OBJECT, STATIC, attribute, class_info, code_attribute, member, named, utf8
-from tools.class_k import K, OBJECT_CLASS
-from rows.verify.handlers import handler, mapped
+from tools.class_k import BYTES, K, OBJECT_CLASS, PLAIN_OBJECT
+from rows.verify.handlers import handler
 from rows.verify.references import Constants, assembled
-from rows.worked import FINAL_OBJECT, K as BYTES, O, changed
+from tools.stack_maps import stack_map_of
+from rows.worked import FINAL_OBJECT, changed
 
 THROWABLE = named("java/lang/Throwable").data()
 
@@ -18,7 +19,7 @@ def class_of(name, *methods, above=OBJECT, flags=0x0021):
     found = []
     for access, called, descriptor, stack, variables, code, *more in methods:
         data = assembled(code, constants)
-        nested = [attribute(constants.text("StackMapTable"), mapped(more[0], constants))] if more else []
+        nested = [attribute(constants.text("StackMapTable"), stack_map_of(more[0], constants.owner))] if more else []
         handlers = [handler(it, constants) for it in more[1:]]
         body = code_attribute(7, data, stack=stack, variables=variables, handlers=handlers, nested=nested)
         found.append(member(access, constants.text(called), constants.text(descriptor), body))
@@ -32,7 +33,7 @@ ODD = class_of("Odd", (STATIC, "f", "(I)I", 1, 1, "iload_0; invokestatic [method
 CATCHING = class_of(
     "Catching",
     (STATIC, "f", "(Ljava/lang/Throwable;)V", 1, 1, "aload_0; invokestatic [method Catching g (Ljava/lang/Throwable;)V]; return; pop; return",
-     "0001 4507[class java/lang/Throwable]", "0 4 5 java/lang/Throwable"),
+     "5 same1 class java/lang/Throwable", "0 4 5 java/lang/Throwable"),
     (STATIC, "g", "(Ljava/lang/Throwable;)V", 1, 1, "aload_0; invokestatic [method Catching h (Ljava/lang/Throwable;)V]; return"),
     (STATIC, "h", "(Ljava/lang/Throwable;)V", 1, 1, "aload_0; athrow"),
 )
@@ -61,19 +62,19 @@ def object_class():
 
 # Rows: a description, the files, and the line that is printed.
 ROWS = (
-    ("K and Object", [BYTES, O], "play verified"),
-    ("Object", [O], "play verified"),
-    ("K whose code is a nop, and Object", [NOP, O], "class 1 method f ()V refused 71 at 0"),
+    ("K and Object", [BYTES, PLAIN_OBJECT], "play verified"),
+    ("Object", [PLAIN_OBJECT], "play verified"),
+    ("K whose code is a nop, and Object", [NOP, PLAIN_OBJECT], "class 1 method f ()V refused 71 at 0"),
     ("K and a final Object", [BYTES, FINAL_OBJECT], "class 1 refused 81"),
-    ("Object and K", [O, BYTES], "play verified"),
+    ("Object and K", [PLAIN_OBJECT, BYTES], "play verified"),
     # files, each before all that is said of classes
-    ("a cut K", [BYTES[:96], O], "class 1 refused 2 at 95"),
-    ("a nop, and Object cut", [NOP, O[:45]], "class 2 refused 2 at 44"),
-    ("K whose superclass is no class, and Object cut", [changed((59, 2)), O[:45]], "class 1 refused 21 class"),
-    ("Object cut, and K whose superclass is no class", [O[:45], changed((59, 2))], "class 1 refused 2 at 44"),
+    ("a cut K", [BYTES[:96], PLAIN_OBJECT], "class 1 refused 2 at 95"),
+    ("a nop, and Object cut", [NOP, PLAIN_OBJECT[:45]], "class 2 refused 2 at 44"),
+    ("K whose superclass is no class, and Object cut", [changed((59, 2)), PLAIN_OBJECT[:45]], "class 1 refused 21 class"),
+    ("Object cut, and K whose superclass is no class", [PLAIN_OBJECT[:45], changed((59, 2))], "class 1 refused 2 at 44"),
     # the hierarchy of all
     ("K", [BYTES], "hierarchy refused 42 K"),
-    ("K and Object twice", [BYTES, O, O], "hierarchy refused 40 java/lang/Object"),
+    ("K and Object twice", [BYTES, PLAIN_OBJECT, PLAIN_OBJECT], "hierarchy refused 40 java/lang/Object"),
     ("a nop without Object", [NOP], "hierarchy refused 42 K"),
     # the first class that is at fault
     ("a class below a final one", [OBJECT_CLASS, LAST, BELOW], "class 3 refused 81"),

@@ -4,8 +4,9 @@ from dataclasses import replace
 
 from tools.assembler import STATIC, attribute, member, named, utf8
 from tools.class_k import K, OBJECT_CLASS, code_f, method_f
-from rows.verify.handlers import handler, mapped
+from rows.verify.handlers import handler
 from rows.verify.references import Constants, assembled
+from tools.stack_maps import stack_map_of
 
 SERIALIZABLE = "java/io/Serializable"
 # A member: its flags, its kind, its name and its descriptor.
@@ -88,10 +89,10 @@ WORLDS = [
 (LB;)V 1 1 | aload_0; invokevirtual [method java/lang/Object clone ()Ljava/lang/Object;]; pop; return | refused 77 at 1 missing B
 (Lp/P;LB;)V 2 2 | aload_0; aload_1; invokevirtual [method p/P a (LA;)V]; return | refused 77 at 2 missing B
 (LK;LB;)V 2 2 | aload_0; aload_1; invokevirtual [method p/P a (LA;)V]; return | refused 77 at 2 missing B
-(Lp/P;)V 1 1 | aload_0; invokevirtual [method p/P m ()V]; return; pop; return | 0001 ff0005 0001 01 0001 07[class java/lang/Throwable] | 1 4 5 any | refused 73 at 1
-(Lp/P;)V 1 1 | aload_0; invokevirtual [method p/P m ()V]; return; pop; return | 0001 4507[class java/lang/Throwable] | 1 4 5 any | refused 82 at 1
-(Lp/P;LB;)V 1 2 | aload_0; invokevirtual [method p/P m ()V]; return; pop; return | 0001 ff0005 0002 07[class p/P] 07[class A] 0001 07[class java/lang/Throwable] | 1 4 5 any | refused 77 at 1 missing B
-(LB;LD;)V 1 2 | aload_0; invokevirtual [method java/lang/Object clone ()Ljava/lang/Object;]; pop; return; pop; return | 0001 ff0006 0002 07[class B] 07[class A] 0001 07[class java/lang/Throwable] | 1 5 6 any | refused 77 at 1 missing B
+(Lp/P;)V 1 1 | aload_0; invokevirtual [method p/P m ()V]; return; pop; return | 5 full [int] [class java/lang/Throwable] | 1 4 5 any | refused 73 at 1
+(Lp/P;)V 1 1 | aload_0; invokevirtual [method p/P m ()V]; return; pop; return | 5 same1 class java/lang/Throwable | 1 4 5 any | refused 82 at 1
+(Lp/P;LB;)V 1 2 | aload_0; invokevirtual [method p/P m ()V]; return; pop; return | 5 full [class p/P, class A] [class java/lang/Throwable] | 1 4 5 any | refused 77 at 1 missing B
+(LB;LD;)V 1 2 | aload_0; invokevirtual [method java/lang/Object clone ()Ljava/lang/Object;]; pop; return; pop; return | 6 full [class B, class A] [class java/lang/Throwable] | 1 5 6 any | refused 77 at 1 missing B
 (Lp/P;)I 1 1 | aload_0; getfield [field p/P x I]; ireturn; nop | refused 82 at 1
 """,
     ),
@@ -159,7 +160,7 @@ def rows_of(own, others, table):
         descriptor, stack, variables = sizes.split()
         constants = Constants(descriptor)
         data = assembled(code, constants)
-        nested = [attribute(constants.text("StackMapTable"), mapped(more[0], constants))] if more else []
+        nested = [attribute(constants.text("StackMapTable"), stack_map_of(more[0], constants.owner))] if more else []
         handlers = [handler(it, constants) for it in more[1:]]
         method = method_f(code_f(data, stack=int(stack), variables=int(variables), handlers=handlers, nested=nested), flags=STATIC + 1)
         what = f"{own}, {'; '.join(others)}, {line}"

@@ -5,8 +5,10 @@ from dataclasses import replace
 from tools.assembler import OBJECT, STATIC, attribute, named, utf8
 from tools.class_k import K, OBJECT_CLASS, code_f, method_f, with_constants
 from tools.places import DOCS
-from rows.verify.handlers import handler, mapped
-from rows.verify.references import KNOWN, Constants, assembled
+from rows.known import KNOWN
+from rows.verify.handlers import handler
+from rows.verify.references import Constants, assembled
+from tools.stack_maps import stack_map_of
 
 PAGE = DOCS / "REFUSALS.md"
 NUMBERS = [*range(60, 80), 82]
@@ -88,7 +90,7 @@ def reasons():
         body, _, entry = (it.strip() for it in parts.partition("entry"))
         constants = Constants(descriptor, name)
         data = assembled(code, constants)
-        nested = [attribute(constants.text("StackMapTable"), mapped(body, constants))] if body else []
+        nested = [attribute(constants.text("StackMapTable"), stack_map_of(body, constants.owner))] if body else []
         handlers = [handler(entry, constants)] if entry else []
         method = method_f(
             code_f(data, stack=int(stack), variables=int(variables), handlers=handlers, nested=nested), flags=0 if name == "<init>" else STATIC

@@ -1,18 +1,9 @@
 """Methods that use references, arrays, fields and calls, and what `classck verify` says of each: JVMS 4.10.1.2 and 4.10.1.9."""
 from dataclasses import replace
 
-from tools.assembler import STATIC, class_info, code_of, integer, named, name_and_type, reference, u1, u2, utf8
-from tools.class_k import K, OBJECT_CLASS, code_f, method_f, with_constant
-
-ABSTRACT_INTERFACE = 0x0600
-# The known classes: I is an interface, all others are classes below Object. B is absent.
-KNOWN = [
-    OBJECT_CLASS,
-    named("java/lang/Throwable").data(),
-    named("A").data(),
-    named("I", flags=ABSTRACT_INTERFACE).data(),
-    named("C", above="A").data(),
-]
+from rows.known import KNOWN
+from tools.assembler import STATIC, class_info, code_of, integer, name_and_type, reference, u1, u2, utf8
+from tools.class_k import K, code_f, method_f, with_constant
 
 # Descriptor, max_stack and max_locals; code, in which words in brackets are constants; verdict.
 ROWS = """

@@ -7,6 +7,7 @@ from rows.verify.handlers import with_handlers
 from rows.verify.objects import with_objects
 from rows.verify.protected import with_protected
 from rows.verify.references import with_references
+from tools.stack_maps import stack_map_of
 
 CLONEABLE = "java/lang/Cloneable"
 
@@ -85,86 +86,86 @@ VERDICTS = """
 (I[La(b)c;J)[[Ld)e; 1 4 | return | refused 76 at 0
 """
 
-# Rows with a StackMapTable's body in front of the verdict.
+# Rows with a stack map by words in front of the verdict.
 MAPPED = """
-()V 0 0 | return | 0000 | verified
+()V 0 0 | return | no frames | verified
 # loops and branches
-()V 1 1 | iconst_0; istore_0; iinc 0 1; iload_0; ifne -4; return | 0001 fc000201 | verified
-()V 1 1 | iconst_0; istore_0; iinc 0 1; iload_0; ifne -4; return | 0001 02 | refused 63 at 2
-()V 1 1 | iconst_0; istore_0; iinc 0 1; iload_0; ifne -4; return | 0000 | refused 67 at 6
-()V 1 0 | iconst_0; return | 0001 01 | refused 69 at 1
-()V 0 0 | return; nop; return | 0000 | refused 70 at 1
-()V 0 0 | return; nop; return | 0001 01 | verified
-()V 0 0 | goto 3; return | 0001 03 | verified
-()V 0 0 | goto 3; nop | 0001 03 | refused 71 at 3
-()V 0 0 | goto 3; return | 0000 | refused 67 at 0
-()V 0 0 | goto 4; nop; return | 0001 04 | refused 70 at 3
-()V 0 0 | goto 4; nop; return | 0002 0300 | verified
-()V 0 0 | goto -1; return | 0001 03 | refused 67 at 0
-()V 0 0 | nop; goto -1 | 0001 00 | verified
-()V 0 0 | bytes c800000005; return | 0001 05 | verified
-()V 0 0 | bytes c87fffffff; return | 0001 05 | refused 67 at 0
-()V 2 0 | lconst_0; goto 3; iconst_0; pop; return | 0001 4400 | refused 68 at 1
-()V 2 0 | lconst_0; goto 3; pop2; return | 0001 4404 | verified
-()V 1 0 | iconst_0; goto 3; pop; return | 0001 4401 | verified
-()V 1 0 | iconst_0; goto 3; pop; return | 0001 04 | refused 68 at 1
-()V 1 0 | ifeq 3; return | 0001 03 | refused 61 at 0
-()V 1 0 | fconst_0; ifeq 3; return | 0001 04 | refused 62 at 1
-()V 2 0 | iconst_0; iconst_1; if_icmplt 3; return | 0001 05 | verified
-()V 2 0 | iconst_0; if_icmplt 3; return | 0001 04 | refused 61 at 1
-()V 2 0 | iconst_0; fconst_0; if_icmplt 3; return | 0001 05 | refused 62 at 2
-()V 1 0 | iconst_0; ifnull 3; return | 0001 04 | refused 62 at 1
+()V 1 1 | iconst_0; istore_0; iinc 0 1; iload_0; ifne -4; return | 2 append int | verified
+()V 1 1 | iconst_0; istore_0; iinc 0 1; iload_0; ifne -4; return | 2 same | refused 63 at 2
+()V 1 1 | iconst_0; istore_0; iinc 0 1; iload_0; ifne -4; return | no frames | refused 67 at 6
+()V 1 0 | iconst_0; return | 1 same | refused 69 at 1
+()V 0 0 | return; nop; return | no frames | refused 70 at 1
+()V 0 0 | return; nop; return | 1 same | verified
+()V 0 0 | goto 3; return | 3 same | verified
+()V 0 0 | goto 3; nop | 3 same | refused 71 at 3
+()V 0 0 | goto 3; return | no frames | refused 67 at 0
+()V 0 0 | goto 4; nop; return | 4 same | refused 70 at 3
+()V 0 0 | goto 4; nop; return | 3 same; 4 same | verified
+()V 0 0 | goto -1; return | 3 same | refused 67 at 0
+()V 0 0 | nop; goto -1 | 0 same | verified
+()V 0 0 | bytes c800000005; return | 5 same | verified
+()V 0 0 | bytes c87fffffff; return | 5 same | refused 67 at 0
+()V 2 0 | lconst_0; goto 3; iconst_0; pop; return | 4 same1 top | refused 68 at 1
+()V 2 0 | lconst_0; goto 3; pop2; return | 4 same1 long | verified
+()V 1 0 | iconst_0; goto 3; pop; return | 4 same1 int | verified
+()V 1 0 | iconst_0; goto 3; pop; return | 4 same | refused 68 at 1
+()V 1 0 | ifeq 3; return | 3 same | refused 61 at 0
+()V 1 0 | fconst_0; ifeq 3; return | 4 same | refused 62 at 1
+()V 2 0 | iconst_0; iconst_1; if_icmplt 3; return | 5 same | verified
+()V 2 0 | iconst_0; if_icmplt 3; return | 4 same | refused 61 at 1
+()V 2 0 | iconst_0; fconst_0; if_icmplt 3; return | 5 same | refused 62 at 2
+()V 1 0 | iconst_0; ifnull 3; return | 4 same | refused 62 at 1
 # references come by the map alone: null, a class, an array, and an object that is not initialized
-()V 1 0 | return; ifnull 3; return | 0002 410502 | verified
-()V 1 0 | return; ifnull 3; return | 0002 4107000102 | verified
-()V 2 0 | return; if_acmpeq 3; return | 0002 ff00010000000205070001 02 | verified
-()V 2 0 | return; if_acmpeq 3; return | 0002 ff000100000002050102 | refused 62 at 1
-()V 2 0 | return; if_acmpeq 3; return | 0002 410502 | refused 61 at 1
-()V 1 0 | return; ifnonnull 3; return | 0002 410102 | refused 62 at 1
+()V 1 0 | return; ifnull 3; return | 1 same1 null; 4 same | verified
+()V 1 0 | return; ifnull 3; return | 1 same1 class K; 4 same | verified
+()V 2 0 | return; if_acmpeq 3; return | 1 full [] [null, class K]; 4 same | verified
+()V 2 0 | return; if_acmpeq 3; return | 1 full [] [null, int]; 4 same | refused 62 at 1
+()V 2 0 | return; if_acmpeq 3; return | 1 same1 null; 4 same | refused 61 at 1
+()V 1 0 | return; ifnonnull 3; return | 1 same1 int; 4 same | refused 62 at 1
 # the least number of an instruction
-()V 1 0 | ifeq 3 | 0000 | refused 61 at 0
-()V 1 0 | iconst_0; ifeq 3 | 0000 | refused 67 at 1
-()V 1 0 | iconst_0; goto 3; pop; goto -1 | 0002 440100 | refused 68 at 5
+()V 1 0 | ifeq 3 | no frames | refused 61 at 0
+()V 1 0 | iconst_0; ifeq 3 | no frames | refused 67 at 1
+()V 1 0 | iconst_0; goto 3; pop; goto -1 | 4 same1 int; 5 same | refused 68 at 5
 # switches: the default's frame is compared as well
-()V 1 0 | iconst_0; bytes aa 0000 00000013 00000000 00000000 00000013; return | 0001 14 | verified
-()V 1 0 | iconst_0; bytes aa 0000 00000013 00000000 00000000 00000012; return | 0001 14 | refused 67 at 1
-()V 1 0 | iconst_0; bytes aa 0000 00000012 00000000 00000000 00000013; return | 0001 14 | refused 67 at 1
-()V 1 0 | iconst_0; bytes ab 0000 00000013 00000001 ffffffff 00000013; return | 0001 14 | verified
-()V 1 0 | bytes ab 000000 00000014 00000001 ffffffff 00000014; return | 0001 14 | refused 61 at 0
-()V 1 0 | lconst_0; bytes aa 0000 00000013 00000000 00000000 00000013; return | 0001 14 | refused 65 at 0
-()V 2 0 | lconst_0; bytes aa 0000 00000013 00000000 00000000 00000013; return | 0001 14 | refused 62 at 1
+()V 1 0 | iconst_0; bytes aa 0000 00000013 00000000 00000000 00000013; return | 20 same | verified
+()V 1 0 | iconst_0; bytes aa 0000 00000013 00000000 00000000 00000012; return | 20 same | refused 67 at 1
+()V 1 0 | iconst_0; bytes aa 0000 00000012 00000000 00000000 00000013; return | 20 same | refused 67 at 1
+()V 1 0 | iconst_0; bytes ab 0000 00000013 00000001 ffffffff 00000013; return | 20 same | verified
+()V 1 0 | bytes ab 000000 00000014 00000001 ffffffff 00000014; return | 20 same | refused 61 at 0
+()V 1 0 | lconst_0; bytes aa 0000 00000013 00000000 00000000 00000013; return | 20 same | refused 65 at 0
+()V 2 0 | lconst_0; bytes aa 0000 00000013 00000000 00000000 00000013; return | 20 same | refused 62 at 1
 # what the entries say: append, chop, full, and an item of the stack
-(IJ)V 0 4 | nop; nop; nop; return | 0003 fc00000100 | refused 78 at 0 fault 2
-(IJ)V 0 4 | nop; nop; nop; return | 0003 fc000000 fa0000 00 | verified
-(IJ)V 0 4 | nop; nop; nop; return | 0003 f90000 fc000001 00 | refused 69 at 1
-(IJ)V 0 4 | nop; nop; nop; return | 0002 ff0000000201040000 00 | verified
-(IJ)V 0 4 | nop; nop; nop; return | 0002 ff0000000201030000 00 | refused 69 at 0
-(IJ)V 1 4 | nop; nop; nop; return | 0001 4001 | refused 69 at 0
-(IJ)V 0 4 | nop; return | 0001 fb0000 | verified
-(IJ)V 0 4 | nop; return | 0001 fb0001 | verified
-()V 1 0 | nop; iconst_0; pop; return | 0001 f7000201 | verified
-()V 1 0 | nop; iconst_0; pop; return | 0001 f7000202 | refused 69 at 2
+(IJ)V 0 4 | nop; nop; nop; return | bytes 0003 fc00000100 | refused 78 at 0 fault 2
+(IJ)V 0 4 | nop; nop; nop; return | 0 append top; 1 chop 1; 2 same | verified
+(IJ)V 0 4 | nop; nop; nop; return | 0 chop 2; 1 append int; 2 same | refused 69 at 1
+(IJ)V 0 4 | nop; nop; nop; return | 0 full [int, long] []; 1 same | verified
+(IJ)V 0 4 | nop; nop; nop; return | 0 full [int, double] []; 1 same | refused 69 at 0
+(IJ)V 1 4 | nop; nop; nop; return | 0 same1 int | refused 69 at 0
+(IJ)V 0 4 | nop; return | 0 extended same | verified
+(IJ)V 0 4 | nop; return | 1 extended same | verified
+()V 1 0 | nop; iconst_0; pop; return | 2 extended same1 int | verified
+()V 1 0 | nop; iconst_0; pop; return | 2 extended same1 float | refused 69 at 2
 # a map that is refused: by its bytes, and by an entry
-()V 0 0 | nop; return | 00 | refused 78 at 0 fault 2
-()V 0 0 | nop; return | 0001 | refused 78 at 0 fault 2
-()V 0 0 | nop; return | 0001 80 | refused 78 at 0 fault 47
-()V 0 0 | nop; return | 0001 4009 | refused 78 at 0 fault 48
-()V 0 0 | nop; return | 0001 00 00 | refused 78 at 0 fault 12
-()V 0 0 | nop; return | 0001 fc000001 | refused 78 at 0 fault 49
-()V 0 1 | nop; return | 0001 fc000004 | refused 78 at 0 fault 49
-()V 0 0 | nop; return | 0001 4001 | refused 78 at 0 fault 50
-()V 1 0 | nop; return | 0001 4004 | refused 78 at 0 fault 50
-()V 0 0 | nop; return | 0001 fa0000 | refused 78 at 0 fault 51
-()V 0 0 | bytes 1105 00; return | 0001 01 | refused 78 at 0 fault 52
-()V 0 0 | nop; return | 0001 05 | refused 78 at 0 fault 52
-()V 1 0 | nop; return | 0001 40080000 | refused 78 at 0 fault 53
-()V 1 0 | nop; return | 0001 40070000 | refused 78 at 0 fault 8
-()V 1 0 | nop; return | 0001 40070002 | refused 78 at 0 fault 9
-()V 0 0 | return; new 3; pop; return | 0001 01 | refused 65 at 1
+()V 0 0 | nop; return | bytes 00 | refused 78 at 0 fault 2
+()V 0 0 | nop; return | bytes 0001 | refused 78 at 0 fault 2
+()V 0 0 | nop; return | bytes 0001 80 | refused 78 at 0 fault 47
+()V 0 0 | nop; return | bytes 0001 4009 | refused 78 at 0 fault 48
+()V 0 0 | nop; return | bytes 0001 00 00 | refused 78 at 0 fault 12
+()V 0 0 | nop; return | 0 append int | refused 78 at 0 fault 49
+()V 0 1 | nop; return | 0 append long | refused 78 at 0 fault 49
+()V 0 0 | nop; return | 0 same1 int | refused 78 at 0 fault 50
+()V 1 0 | nop; return | 0 same1 long | refused 78 at 0 fault 50
+()V 0 0 | nop; return | 0 chop 1 | refused 78 at 0 fault 51
+()V 0 0 | bytes 1105 00; return | 1 same | refused 78 at 0 fault 52
+()V 0 0 | nop; return | 5 same | refused 78 at 0 fault 52
+()V 1 0 | nop; return | 0 same1 uninitialized 0 | refused 78 at 0 fault 53
+()V 1 0 | nop; return | 0 same1 class #0 | refused 78 at 0 fault 8
+()V 1 0 | nop; return | 0 same1 class #2 | refused 78 at 0 fault 9
+()V 0 0 | return; new 3; pop; return | 1 same | refused 65 at 1
 # the parameters go before the map, and the map before the code
-(J)V 0 1 | return | 00 | refused 64 at 0
-()V 0 0 | pop | 0001 | refused 78 at 0 fault 2
-()V 0 0 | nop; bytes ca | 0001 | refused 79 at 1 fault 31
+(J)V 0 1 | return | bytes 00 | refused 64 at 0
+()V 0 0 | pop | bytes 0001 | refused 78 at 0 fault 2
+()V 0 0 | nop; bytes ca | bytes 0001 | refused 79 at 1 fault 31
 """
 
 
@@ -195,7 +196,7 @@ def mapped_verdicts():
         if not line.startswith("#"):
             sizes, code, body, verdict = (it.strip() for it in line.split("|"))
             descriptor, stack, variables = sizes.split()
-            nested = [attribute(14, bytes.fromhex(body))]
+            nested = [attribute(14, stack_map_of(body, {"K": K.this_class}.get))]
             method = method_f(code_f(code_of(code), stack=int(stack), variables=int(variables), nested=nested), flags=STATIC)
             files = [class_of(descriptor, method, utf8("StackMapTable")), OBJECT_CLASS]
             yield f"{sizes} {code} with {body}", files, f"method f {descriptor} {verdict}"
