@@ -148,7 +148,7 @@ def attribute_rules(pool, attributes):
     return rules | when(30, len(codes) > 1 or len(set(once)) < len(once))
 
 
-# Of which kinds the constants are that a letter of attribute_table.py asks for.
+# The kinds of constants that each letter of attribute_table.py stands for.
 ASKED = {"u": [UTF8], "c": [CLASS], "v": [INTEGER, FLOAT, LONG, DOUBLE, STRING]}
 
 

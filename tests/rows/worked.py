@@ -46,7 +46,7 @@ def with_attribute(constant, body, flags=None):
 
 DEPRECATED, RECORD, PERMITTED = utf8("Deprecated"), utf8("Record"), utf8("PermittedSubclasses")
 
-# Of files: what they are, the command, their bytes, and a line of the answer.
+# Files: what they are, the command, their bytes, and a line of the answer.
 FILES = (
     ("K", "check", [BYTES], "ok"),
     ("K without its last byte", "check", [BYTES[:96]], "refused 2 at 95"),

@@ -1,11 +1,11 @@
-"""What `classck explain` prints of the examples in docs/REFUSALS.md, whole and in the order of the numbers."""
+"""The text that `classck explain` prints for each example in docs/REFUSALS.md, whole and in the order of the numbers."""
 from dataclasses import replace
 
 from tools.assembler import class_info, code_of, integer, long, name_and_type, reference, u1, u2, u4, utf8
 from tools.class_k import K, OBJECT_CLASS, code_f, method_f, with_constants
 from rows.verify.reasons import faults, reasons
 
-# Of a method: its lines, with `|` between them.
+# For each method: its lines, with `|` between them.
 METHODS = """
 method f ()V refused 60 at 0 | 60 NotSupported: the instruction is jsr, jsr_w or ret, or one that only --dynamic judges | stack 0 locals 0 | 0 jsr 3
 method f ()V refused 61 at 0 | 61 MissingOperand: the stack holds fewer operands than the instruction takes | stack 0 locals 0 | 0 pop
@@ -30,7 +30,7 @@ method f ()V refused 79 at 1 fault 31 | 79 BadCode: the code is refused at this 
 method f (LA;)V refused 82 at 1 | 82 ProtectedMember: a protected member of another package is used on an object that is not assignable to the current class | stack 1 locals 1 | 1 invokevirtual #13 | constant 13 Methodref #9 #12 java/lang/Object clone ()Ljava/lang/Object;
 """
 
-# Of a file, of lists of classes, of code (behind 79) and of stack maps (behind 78): the name of the number, and what it says.
+# For a file, for lists of classes, for code (behind 79) and for stack maps (behind 78): the name of the number, and what it says.
 SENTENCES = """
 2 EndsEarly: the number or part that begins there is not whole
 3 BadText: a text is no modified UTF-8 from this byte on
@@ -100,7 +100,7 @@ def refusals(lines):
 
 
 def of_code(number, line):
-    """What is told of the example of a fault of code or of a stack map."""
+    """The text for the example of a fault of code or of a stack map."""
     head = "78 BadStackMap: the stack map is refused" if "refused 78" in line else "79 BadCode: the code is refused at this instruction"
     sizes = f"stack {int(number == 53)} locals 0"
     return text([line, head, OF_NUMBER[number], sizes, *(["0 nop"] if "refused 78" in line else [])])

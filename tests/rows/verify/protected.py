@@ -125,7 +125,7 @@ WORLDS = [
         "(Ljava/io/Serializable;)V 1 1 | aload_0; invokevirtual [method java/lang/Object clone ()Ljava/lang/Object;]; pop; return | verified",
     ),
 ]
-# Of each method of a class.
+# For each method of a class.
 TWO = ["aload_0; getfield [field p/P u I]; pop; return", "aload_0; getfield [field p/P x I]; pop; return"]
 
 

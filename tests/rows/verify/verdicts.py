@@ -191,7 +191,7 @@ def verdicts():
 
 
 def mapped_verdicts():
-    """The same with a stack map."""
+    """Methods with a stack map, likewise."""
     for line in MAPPED.strip().splitlines():
         if not line.startswith("#"):
             sizes, code, body, verdict = (it.strip() for it in line.split("|"))
