@@ -1,8 +1,8 @@
 """Classes with each attribute of numbers, whole and broken at each of its numbers, and what `classck check` says of them: JVMS 4.7."""
 from dataclasses import replace
 
-from tools.assembler import attribute, integer, listed, member, u2, utf8
 from model.attribute_table import rows
+from tools.assembler import attribute, integer, listed, member, u2, utf8
 from tools.class_k import CONSTANTS, K, code_f, method_f
 
 # The index of the attribute's name; behind it stand an Integer at 9, the text `I` at 10 and the name of Record at 11.

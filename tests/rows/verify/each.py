@@ -1,8 +1,8 @@
 """Classes judged one by one in one process, and what `classck verify-each` says of them: JVMS 4.1, 4.10.1 and 5.3.5."""
-from tools.assembler import OBJECT, named
-from tools.class_k import BYTES, OBJECT_CLASS, PLAIN_OBJECT
 from rows.verify.dynamic import dynamic
 from rows.verify.play import ABSENT, BELOW, EVEN, LAST, NOP, ODD, SECOND, class_of
+from tools.assembler import OBJECT, named
+from tools.class_k import BYTES, OBJECT_CLASS, PLAIN_OBJECT
 
 FINE = "method f ()V verified"
 CUT = BYTES[:96]

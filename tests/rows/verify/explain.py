@@ -1,9 +1,9 @@
 """The text that `classck explain` prints for each example in docs/REFUSALS.md, whole and in the order of the numbers."""
 from dataclasses import replace
 
+from rows.verify.reasons import faults, reasons
 from tools.assembler import class_info, code_of, integer, long, name_and_type, reference, u1, u2, u4, utf8
 from tools.class_k import K, OBJECT_CLASS, code_f, method_f, with_constants
-from rows.verify.reasons import faults, reasons
 
 # For each method: its lines, with `|` between them.
 METHODS = """

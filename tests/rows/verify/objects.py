@@ -1,10 +1,10 @@
 """Methods that make objects and call constructors, and what `classck verify` says of each: JVMS 4.10.1.4 and 4.10.1.9, new and invokespecial."""
 from dataclasses import replace
 
-from tools.assembler import OBJECT, STATIC, attribute, member, utf8
-from tools.class_k import K, code_f, method_f
 from rows.known import KNOWN
 from rows.verify.references import Constants, assembled
+from tools.assembler import OBJECT, STATIC, attribute, member, utf8
+from tools.class_k import K, code_f, method_f
 from tools.stack_maps import stack_map_of
 
 # Descriptor, max_stack and max_locals; code, in which words in brackets are constants; a stack map, if there is one; verdict.

@@ -1,12 +1,12 @@
 """Classes in play, and what `classck play` says of them: JVMS 2.6, 2.10, 4.10.1 and 5.3.5."""
 from dataclasses import replace
 
-from tools.assembler import OBJECT, STATIC, attribute, class_info, code_attribute, member, named, utf8
-from tools.class_k import BYTES, K, OBJECT_CLASS, PLAIN_OBJECT
 from rows.verify.handlers import handler
 from rows.verify.references import Constants, assembled
-from tools.stack_maps import stack_map_of
 from rows.worked import FINAL_OBJECT, changed
+from tools.assembler import OBJECT, STATIC, attribute, code_attribute, member, named, utf8
+from tools.class_k import BYTES, K, OBJECT_CLASS, PLAIN_OBJECT
+from tools.stack_maps import stack_map_of
 
 THROWABLE = named("java/lang/Throwable").data()
 

@@ -2,10 +2,10 @@
 import re
 from dataclasses import replace
 
-from tools.assembler import STATIC, attribute, member, named, utf8
-from tools.class_k import K, OBJECT_CLASS, code_f, method_f
 from rows.verify.handlers import handler
 from rows.verify.references import Constants, assembled
+from tools.assembler import STATIC, attribute, member, named, utf8
+from tools.class_k import K, OBJECT_CLASS, code_f, method_f
 from tools.stack_maps import stack_map_of
 
 SERIALIZABLE = "java/io/Serializable"

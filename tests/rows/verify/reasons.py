@@ -2,12 +2,12 @@
 import re
 from dataclasses import replace
 
-from tools.assembler import OBJECT, STATIC, attribute, named, utf8
-from tools.class_k import K, OBJECT_CLASS, code_f, method_f, with_constants
-from tools.places import DOCS
 from rows.known import KNOWN
 from rows.verify.handlers import handler
 from rows.verify.references import Constants, assembled
+from tools.assembler import OBJECT, STATIC, attribute, named, utf8
+from tools.class_k import K, OBJECT_CLASS, code_f, method_f, with_constants
+from tools.places import DOCS
 from tools.stack_maps import stack_map_of
 
 PAGE = DOCS / "REFUSALS.md"

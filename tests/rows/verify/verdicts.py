@@ -1,12 +1,12 @@
 """Methods and lists of classes, and what `classck verify` says of each: JVMS 4.10.1 and 5.3.5."""
 from dataclasses import replace
 
-from tools.assembler import NATIVE, OBJECT, STATIC, attribute, code_of, integer, long, name_and_type, named, reference, utf8
-from tools.class_k import K, OBJECT_CLASS, code_f, method_f, with_constant
 from rows.verify.handlers import with_handlers
 from rows.verify.objects import with_objects
 from rows.verify.protected import with_protected
 from rows.verify.references import with_references
+from tools.assembler import NATIVE, OBJECT, STATIC, attribute, code_of, integer, long, name_and_type, named, reference, utf8
+from tools.class_k import K, OBJECT_CLASS, code_f, method_f, with_constant
 from tools.stack_maps import stack_map_of
 
 CLONEABLE = "java/lang/Cloneable"
