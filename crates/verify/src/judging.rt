@@ -43,8 +43,8 @@ use rules::{
 };
 use std::alloc::{AllocError, Global};
 
-/// Judges an instruction that names this, in the frame before it, which becomes the frame after. Of the frame at the next start nothing is
-/// asked. The frame before was judged by the object on which a protected member is used, and by what is caught in it. What is known of locals is
+/// Judges an instruction that names this, in the frame before it, which becomes the frame after. Does not check the next instruction's
+/// frame. The frame before was judged by the object on which a protected member is used, and by what is caught in it. What is known of locals is
 /// known of the frame after.
 fn judge_named<'n, 'a, C: Classes>(
     alloc: Global,

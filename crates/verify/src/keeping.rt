@@ -54,7 +54,7 @@ impl<'n, 'a> KnownLocals<'n, 'a> {
     ghost use Rattle.rules.specs.Views.{with_half_free};
     ghost use Rattle.verify.specs.Keeping.{AreKnown, IsKept, restored};
 
-    /// Nothing of the locals and the frames of a table.
+    /// Starts with no facts about the locals.
     pub fn new(alloc: Global, frames: &'n DeclaredFrames<'a>) -> Result<KnownLocals<'n, 'a>, AllocError>
         ensures { IfOk result (λ x. (cs : List ClassFact) (f : FrameFact) → AreKnown cs frames.now f x) }
     {
