@@ -50,9 +50,6 @@ module _ (t : DeclaredFrames) where
   pub known_by : (cs : List ClassFact) (f g : FrameFact) (known : KnownLocals) → f.locals ≡ g.locals → AreKnown cs t f known → AreKnown cs t g known
   known_by cs f g known e k = record { kept = kept_by f g known.replaced.items known.kept e k.kept; fitting = subst (λ ls. AreFitting cs t ls known.fitting) e k.fitting }
 
-  pub known_same : (cs : List ClassFact) (f g : FrameFact) (known : KnownLocals) → f ≡ g → AreKnown cs t f known → AreKnown cs t g known
-  known_same cs f g known e k = known_by cs f g known (ap (λ (z : FrameFact). z.locals) e) k
-
   -- one local is written, which was put on the list
   pub kept_more : (f g : FrameFact) (kept : Option Declared) (rs ms : List Replaced) (r : Replaced) (x : VerificationType) → ms ≡ rs ++ r ∷ [] → type_of r.was ≡ get_or f.locals r.place top
       → g.locals ≡ set f.locals r.place x → IfSome kept (Keeps t f rs) → IfSome kept (Keeps t g ms)
