@@ -55,7 +55,10 @@ impl<'n, 'a> KnownLocals<'n, 'a> {
     ghost use Rattle.verify.specs.Keeping.{AreKnown, IsKept, restored};
 
     /// Nothing of the locals and the frames of a table.
-    pub fn new(alloc: Global, frames: &'n DeclaredFrames<'a>) -> Result<KnownLocals<'n, 'a>, AllocError>
+    pub fn new(
+        alloc: Global,
+        frames: &'n DeclaredFrames<'a>,
+    ) -> Result<KnownLocals<'n, 'a>, AllocError>
         ensures { IfOk result (λ x. (cs : List ClassFact) (f : FrameFact) → AreKnown cs frames.now f x) }
     {
         Ok(KnownLocals {
