@@ -1,5 +1,5 @@
 -- Which stacks of declared frames a stack that changes is known to fit.
-use Rattle.std.specs.Prelude.{◌≡◌, ◌≤◌, ◌<◌, ◌⊎◌, ℕ, ◌-◌, suc, true, List, length, get_or, Some, slice_get}
+use Rattle.std.specs.Prelude.{◌≡◌, ◌≤◌, ◌<◌, ℕ, ◌-◌, suc, true, List, length, get_or, Some, slice_get}
 use Rattle.hierarchy.specs.Class.{ClassFact}
 use Rattle.frames.specs.VerificationType.{VerificationType, top}
 use Rattle.frames.specs.Chains.{types_at}

@@ -26,7 +26,7 @@ use Rattle.frames.specs.Objects.{is_initialized}
 use Rattle.rules.specs.Plans.{Want, Plan, pops, loads, stores, counts, rearranges, loads_element, makes, constructs, calls_special, returns, refuses, where_judged, where_allowed, call_of, gives, class_want, assignable_to, result_types, arguments_on, sizes, number, numbers}
 use Rattle.rules.specs.Constants.{load_constant, load_wide_constant, load_dynamic, get_static, put_static, get_field, put_field, invoke_static, invoke_virtual, invoke_interface, invoke_special, invoke_dynamic, dynamic_call, is_special_name, may_invoke_interface, may_name, is_init_name, has_room_for_receiver, constructor_call, special_call, static_call, call_on, new_object, new_array, new_reference_array, new_multi_array, check_cast, instance_of}
 use Rattle.rules.specs.Table.{plan, return_number, return_reference, return_nothing, leaves_with}
-use Rattle.rules.specs.After.{after, popped, top_of, rest_of, form_for, fits_places, initialized, class_after, rearranged_by, element_of, local_of}
+use Rattle.rules.specs.After.{after, top_of, rest_of, form_for, fits_places, initialized, class_after, rearranged_by, element_of, local_of}
 use Rattle.rules.specs.Naming.{method_index, site_index}
 use Rattle.rules.specs.Ways.{is_plain, special_index}
 use Rattle.rules.specs.Taken.{most_taken, taken, at_most, with_receiver, without_receiver, item, IsOther}

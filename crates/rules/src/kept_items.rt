@@ -93,11 +93,7 @@ fn first_of(object: &VType<'_>, items: &[VType<'_>]) -> usize
 
 /// How many of so many items from the bottom up stand in front of the first one that is of the object beneath the arguments of a call, if that is not
 /// initialized.
-fn first_of_receiver<'a>(
-    called: &MethodConstant<'a>,
-    stack: &[VType<'a>],
-    limit: usize,
-) -> usize
+fn first_of_receiver<'a>(called: &MethodConstant<'a>, stack: &[VType<'a>], limit: usize) -> usize
     requires { limit ≤ length stack.now }
     ensures few { result ≤ limit }
     ensures other { let object = top_of (beneath (arguments_on (method_constant_view called.now).type.params []) (stack_of stack.now)) in

@@ -55,7 +55,10 @@ impl<'n, 'a> KnownLocals<'n, 'a> {
     ghost use Rattle.verify.specs.Keeping.{AreKnown, IsKept, restored};
 
     /// Starts with no facts about the locals.
-    pub fn new(alloc: Global, frames: &'n DeclaredFrames<'a>) -> Result<KnownLocals<'n, 'a>, AllocError>
+    pub fn new(
+        alloc: Global,
+        frames: &'n DeclaredFrames<'a>,
+    ) -> Result<KnownLocals<'n, 'a>, AllocError>
         ensures { IfOk result (λ x. (cs : List ClassFact) (f : FrameFact) → AreKnown cs frames.now f x) }
     {
         Ok(KnownLocals {

@@ -2,7 +2,7 @@ use Rattle.std.proofs.Common.{◌≡◌, ◌≢◌, ◌∙◌, ◌⊎◌, inl, i
 use Rattle.std.proofs.lemmas.Bool.Decides.{eqb_tells}
 use Rattle.std.proofs.lemmas.List.{get_or-map}
 use Rattle.frames.specs.Objects.{is_initialized}
-use Rattle.frames.specs.VerificationType.{VerificationType, type_of, top}
+use Rattle.frames.specs.VerificationType.{type_of, top}
 use Rattle.rules.proofs.kept_items.first_of.Goals as goal
 
 -- what holds of those in front holds of one more

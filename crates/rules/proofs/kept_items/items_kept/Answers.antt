@@ -1,4 +1,4 @@
-use Rattle.std.proofs.Common.{◌≡◌, ◌≤◌, ◌<◌, ◌+◌, ◌-◌, ◌∙◌, ℕ, false, List, [], Option, Some, None, IfSome, map, length, refl, sym, ap, subst, arith}
+use Rattle.std.proofs.Common.{◌≡◌, ◌≤◌, ◌<◌, ◌+◌, ◌-◌, ◌∙◌, ℕ, false, List, [], Some, map, length, refl, sym, ap, subst, arith}
 use Rattle.std.specs.Prelude.{option_map}
 use Rattle.std.proofs.lemmas.List.{length-map, length-reverse}
 use Rattle.frames.specs.declared.vtype.VType.{VType}
@@ -31,7 +31,7 @@ returns-in-None c = λ at i lt.
     let a = act_view c.args.act.now in
     let f = held c.args.frame.now in
     let under = lies_under i c.saturating_sub-beneath.result (length f.stack) (length c.stack-stack.result.now) c.taken_by.result lt (omega (arith, c.saturating_sub-beneath.ensures)) (as_many c.stack-stack.result.now f.stack c.stack-stack.ensures)
-        (taken (plan m a)) c.taken_by.ensures in
+    (taken (plan m a)) c.taken_by.ensures in
     keeps_item m at f (plan m a) i under (others m a f i (sym c.special_index.ensures ∙ c.in-None.is))
 
 pub returns-in-Some-method : goal.returns-in-Some-method
@@ -43,6 +43,6 @@ returns-in-Some-method c = λ at i lt.
     let object = top_of (beneath (arguments_on called.type.params []) f.stack) in
     let other = subst (λ s. is_initialized (top_of (beneath (arguments_on called.type.params []) s)) (item s i) ≡ false) c.stack-stack.ensures (c.first_of_receiver.ensures.other i lt) in
     let under = lies_under i c.first_of_receiver.result (length f.stack) (length c.stack-stack.result.now) c.taken_by.result lt (omega (arith, c.first_of_receiver.ensures.few, c.saturating_sub-beneath.ensures)) (as_many c.stack-stack.result.now f.stack c.stack-stack.ensures)
-        (taken (plan m a)) c.taken_by.ensures in
+    (taken (plan m a)) c.taken_by.ensures in
     let named = sym (ap (option_map (λ k. method_constant_view k.now)) (sym c.in-Some-method.is) ∙ c.method.ensures ∙ c.requires.method) in
     keeps_item m at f (plan m a) i under (other_by m f i object other a (Some called) named refl)

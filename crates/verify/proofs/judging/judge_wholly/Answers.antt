@@ -42,7 +42,7 @@ judge_named-requires-clause-covered g c =
 pub judge_named-requires-clause-known : goal.judge_named-requires-clause-known
 judge_named-requires-clause-known g c =
     c.in_ok-behind.ensures (g.C.Classes.content c.args.classes.now) c.args.frames.now (method_view c.args.method.now) c.args.at c.replaced_object-object.ensures (c.items_kept-kept.ensures c.args.at)
-    (record { locals = c.catch-caught.ensures.known; items = c.requires.known.items; })
+    (record { locals = c.catch-caught.ensures.known; items = c.requires.known.items })
 
 pub returns-clause-handlers : goal.returns-clause-handlers
 returns-clause-handlers g c =

@@ -1,7 +1,7 @@
 use Rattle.std.proofs.Common.{ℕ, ◌≤◌, sym, subst, refl, arith}
 use Rattle.frames.specs.declared.stack_fitting.Low.{Low}
 use Rattle.frames.specs.StackFitting.{HasSunk}
-use Rattle.frames.proofs.StackFits.{items_changed, none_seen, sunk_now, or_sunk, sunk_first, sunk_last, early_more, sunk_either}
+use Rattle.frames.proofs.StackFits.{items_changed, none_seen, sunk_now, or_sunk, sunk_last, early_more, sunk_either}
 use Rattle.frames.proofs.stack_fitting.StackFitting.changed_from.Goals as goal
 
 pub returns-then-self-eq0 : goal.returns-then-self-eq0

@@ -1,5 +1,4 @@
-use Rattle.std.proofs.Common.{◌≡◌, ◌∙◌, ◌-◌, ◌++◌, ◌∷◌, [], Some, List, length, slice_get, sym, ap, arith}
-use Rattle.std.proofs.lemmas.Option.{same_Some}
+use Rattle.std.proofs.Common.{◌≡◌, ◌∙◌, ◌-◌, Some, List, length, slice_get, sym, ap, arith}
 use Rattle.frames.specs.declared.stack_fitting.Low.{Low}
 use Rattle.frames.proofs.StackFits.{popped_low, sunk_on, early_first}
 use Rattle.frames.proofs.stack_fitting.StackFitting.drop_from.Goals as goal

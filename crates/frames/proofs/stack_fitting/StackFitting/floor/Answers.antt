@@ -1,4 +1,4 @@
-use Rattle.std.proofs.Common.{◌≡◌, ◌∙◌, ◌-◌, suc, true, sym, ap, subst, refl, arith}
+use Rattle.std.proofs.Common.{◌≡◌, ◌-◌, suc, true, ap, subst, arith}
 use Rattle.frames.specs.FrameAssignable.{slot_answer}
 use Rattle.frames.specs.Chains.{types_at, chain_answer, place}
 use Rattle.frames.specs.Fitting.{AreFitBut}

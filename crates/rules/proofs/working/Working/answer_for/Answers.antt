@@ -1,9 +1,8 @@
 use Rattle.std.proofs.Common.{◌≡◌, ◌∙◌, List, map, reverse, sym, ap, subst}
 use Rattle.std.proofs.lemmas.List.{reverse-reverse}
 use Rattle.frames.specs.declared.vtype.VType.{VType}
-use Rattle.frames.specs.VerificationType.{VerificationType, type_of}
+use Rattle.frames.specs.VerificationType.{type_of}
 use Rattle.frames.specs.StackFitting.{AreStackFitting}
-use Rattle.rules.specs.Held.{held}
 use Rattle.rules.proofs.working.Working.answer_for.Goals as goal
 
 -- the stack from the bottom up
