@@ -46,7 +46,7 @@ pub record AreStackFitting (classes : List ClassFact) (t : DeclaredFrames) (item
   pub lows : AreLowsEarly x
   pub fit : (link moment : ℕ) → IsStackMarked x link moment → AreFitBut true (HasSunk x.lows.items moment) classes items (types_at t.chains.links.items (suc link))
 
--- the same of the table that a declared frame is of
+-- the facts for the table that a declared frame is of
 pub record AreStackFittingFor (classes : List ClassFact) (d : Declared) (items : List VerificationType) (x : StackFitting) : Type 0 where
   pub table : DeclaredFrames
   pub own : IsOf table d
