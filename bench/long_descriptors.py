@@ -131,7 +131,7 @@ def writes_of_an_own_field():
 
 
 def writes_beside_fields_of_one_name():
-    """The same of one of 32 fields, which have one long name."""
+    """Writes to one of 32 fields, which have one long name."""
     types = [utf8(b"La%d;" % i) for i in range(31)]
     others = [indices(10, 3, SPARE_INIT), utf8(b"I"), *types]
     named = [indices(9, 1, NAME_AND_TYPE), indices(12, TEXT, CONSTANTS + 1), utf8(b"V" * 65_535), utf8(b"<init>"), indices(12, SPARE_NAME, 5)]
@@ -153,7 +153,7 @@ def writes_of_long_names():
 
 
 def writes_in_a_class_of_a_long_name():
-    """The same of the one field of a class whose name is long."""
+    """Writes to the one field of a class whose name is long."""
     named = [indices(9, 1, NAME_AND_TYPE), indices(12, 7, CONSTANTS + 1), utf8(b"V"), utf8(b"<init>"), indices(12, SPARE_NAME, 5)]
     code = (ALOAD_0 + ICONST_0 + PUTFIELD + at(NAMED)) * WRITES + ALOAD_0 + INVOKESPECIAL + at(CONSTANTS) + RETURN
     others = [indices(10, 3, SPARE_INIT), utf8(b"I")]

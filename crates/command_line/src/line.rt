@@ -21,7 +21,7 @@ pub enum LineFault {
     /// 1: memory ran out.
     #[error("refused 1")]
     OutOfMemory,
-    /// 36: the line is wrong, or asks for help; `clap` says which, in its own words.
+    /// 36: the command line is invalid, or asks for help; `clap` says which, in its own words.
     #[error("{0}")]
     NoRequest(clap::Error),
 }

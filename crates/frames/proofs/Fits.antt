@@ -1,5 +1,5 @@
 -- The chains that locals fit, as the locals change.
-use Rattle.std.proofs.Common.{◌≡◌, ◌≢◌, ◌∙◌, ℕ, zero, suc, ◌≤◌, ◌<◌, ◌-◌, ◌⊎◌, inl, inr, true, false, eqb, List, [], ◌∷◌, ◌++◌, length, map, get_or, set, Option, Some, IfSome, slice_get, refl, sym, ap, subst, arith}
+use Rattle.std.proofs.Common.{◌≡◌, ◌≢◌, ◌∙◌, ℕ, zero, suc, ◌≤◌, ◌<◌, ◌-◌, ◌⊎◌, inl, inr, Bool, true, false, eqb, List, [], ◌∷◌, ◌++◌, length, map, get_or, set, Option, Some, IfSome, slice_get, refl, sym, ap, subst, arith}
 use Rattle.std.proofs.lemmas.List.{length-append}
 use Rattle.std.proofs.lemmas.Option.{same_Some}
 use Rattle.std.proofs.lemmas.Bool.Decides.{eqb_tells}
@@ -28,24 +28,24 @@ use Rattle.frames.proofs.Units.{not_empty, at_start, at_lower}
 
 -- ---- other locals, and more changes
 
-module _ (changed more : ℕ → Type 0) (classes : List ClassFact) (old new : List VerificationType) (grow : (p : ℕ) → changed p → more p) (kept : (p : ℕ) → more p ⊎ (get_or new p top ≡ get_or old p top)) where
-  one_kept : (p : ℕ) (t : VerificationType) → more p ⊎ (get_or new p top ≡ get_or old p top) → changed p ⊎ (type_answer classes (get_or old p top) t ≡ yes) → more p ⊎ (type_answer classes (get_or new p top) t ≡ yes)
+module _ (on_stack : Bool) (changed more : ℕ → Type 0) (classes : List ClassFact) (old new : List VerificationType) (grow : (p : ℕ) → changed p → more p) (kept : (p : ℕ) → more p ⊎ (get_or new p top ≡ get_or old p top)) where
+  one_kept : (p : ℕ) (t : VerificationType) → more p ⊎ (get_or new p top ≡ get_or old p top) → changed p ⊎ (slot_answer classes on_stack (get_or old p top) t ≡ yes) → more p ⊎ (slot_answer classes on_stack (get_or new p top) t ≡ yes)
   one_kept p t k (inl h) = inl (grow p h)
   one_kept p t (inl h) (inr e) = inl h
-  one_kept p t (inr q) (inr e) = inr (ap (λ v. type_answer classes v t) q ∙ e)
+  one_kept p t (inr q) (inr e) = inr (ap (λ v. slot_answer classes on_stack v t) q ∙ e)
 
-  pub fit_kept : (ts : List VerificationType) → AreFitBut changed classes old ts → AreFitBut more classes new ts
+  pub fit_kept : (ts : List VerificationType) → AreFitBut on_stack changed classes old ts → AreFitBut on_stack more classes new ts
   fit_kept [] h = tt
-  fit_kept (t ∷ ts) h = (fit_kept ts h.0, one_kept (units_of ts) t (kept (units_of ts)) h.1)
+  fit_kept (t ∷ ts) h = (fit_kept ts h.0, one_kept (place on_stack ts) t (kept (place on_stack ts)) h.1)
 
 -- ---- one more change
 
-get_first : (xs ys : List ℕ) (i p : ℕ) → slice_get xs i ≡ Some p → slice_get (xs ++ ys) i ≡ Some p
+pub get_first : {A : Type 0} (xs ys : List A) (i : ℕ) (p : A) → slice_get xs i ≡ Some p → slice_get (xs ++ ys) i ≡ Some p
 get_first [] ys i p e = cc
 get_first (x ∷ xs) ys zero p e = e
 get_first (x ∷ xs) ys (suc i) p e = get_first xs ys i p e
 
-get_last : (xs : List ℕ) (p : ℕ) → slice_get (xs ++ p ∷ []) (length xs) ≡ Some p
+pub get_last : {A : Type 0} (xs : List A) (p : A) → slice_get (xs ++ p ∷ []) (length xs) ≡ Some p
 get_last [] p = refl
 get_last (x ∷ xs) p = get_last xs p
 
@@ -55,7 +55,7 @@ changed_one classes t before after place x y m k e same a = record {
   early = λ link moment q. omega (arith, a.early link moment (sym (ap (λ v. slice_get v.items link) m) ∙ q), length-append x.changes.items (place ∷ []), ap (λ (l : List ℕ). length l) e);
   fit = λ link moment q.
       let old : IsMarked x link moment = record { mark = sym (ap (λ v. slice_get v.items link) m) ∙ q.mark; known = omega (arith, q.known, k) } in
-      fit_kept (HasChanged x moment) (HasChanged y moment) classes before after (λ p h. record { change = h.change; since = h.since; is = ap (λ l. slice_get l h.change) e ∙ get_first x.changes.items (place ∷ []) h.change p h.is })
+      fit_kept false (HasChanged x moment) (HasChanged y moment) classes before after (λ p h. record { change = h.change; since = h.since; is = ap (λ l. slice_get l h.change) e ∙ get_first x.changes.items (place ∷ []) h.change p h.is })
       (λ p. by p (a.early link moment old.mark) (eqb_tells p place)) (types_at t.chains.links.items (suc link)) (a.fit link moment old);
 }
   where
@@ -67,7 +67,7 @@ changed_one classes t before after place x y m k e same a = record {
 
 -- what is known by the links of one table is known of each table that has these links
 pub fitting_by_links : (classes : List ClassFact) (t u : DeclaredFrames) (locals : List VerificationType) (x : Fitting) → t.chains.links.items ≡ u.chains.links.items → AreFitting classes t locals x → AreFitting classes u locals x
-fitting_by_links classes t u locals x e a = record { early = a.early; fit = λ link moment q. subst (λ links. AreFitBut (HasChanged x moment) classes locals (types_at links (suc link))) e (a.fit link moment q) }
+fitting_by_links classes t u locals x e a = record { early = a.early; fit = λ link moment q. subst (λ links. AreFitBut false (HasChanged x moment) classes locals (types_at links (suc link))) e (a.fit link moment q) }
 
 pub known_for : {classes : List ClassFact} {d : Declared} {locals : List VerificationType} {x : Fitting} → AreFittingFor classes d locals x → (t : DeclaredFrames) → IsOf t d → AreFitting classes t locals x
 unfolding IsOf
@@ -78,7 +78,7 @@ known_for {classes} {d} {locals} {x} f t own = fitting_by_links classes f.table 
 pub fitting_same : (classes : List ClassFact) (t : DeclaredFrames) (old new : List VerificationType) (x : Fitting) → ((i : ℕ) → get_or new i top ≡ get_or old i top) → AreFitting classes t old x → AreFitting classes t new x
 fitting_same classes t old new x same a = record {
   early = a.early;
-  fit = λ link moment q. fit_kept (HasChanged x moment) (HasChanged x moment) classes old new (λ p h. h) (λ p. inr (same p)) (types_at t.chains.links.items (suc link)) (a.fit link moment q);
+  fit = λ link moment q. fit_kept false (HasChanged x moment) (HasChanged x moment) classes old new (λ p h. h) (λ p. inr (same p)) (types_at t.chains.links.items (suc link)) (a.fit link moment q);
 }
 
 -- ---- a chain that fits
@@ -90,33 +90,41 @@ module _ (classes : List ClassFact) (locals : List VerificationType) where
   one_settled changed t ts f (inl h) = inr (subst (λ o. IfSome o (λ s. type_answer classes (get_or locals (units_of ts) top) s ≡ yes)) (at_start t ts (units_of ts) refl) (f h))
   one_settled changed t ts f (inr e) = inr e
 
-  pub settled : (changed : ℕ → Type 0) (ts : List VerificationType) → AreFitBut changed classes locals ts → ((u : ℕ) → u < units_of ts → changed u → FitsAt classes locals ts u) → FitAll classes locals ts
+  pub settled : (changed : ℕ → Type 0) (ts : List VerificationType) → AreFitBut false changed classes locals ts → ((u : ℕ) → u < units_of ts → changed u → FitsAt classes locals ts u) → FitAll false classes locals ts
   settled changed [] h f = tt
   settled changed (t ∷ ts) h f =
       (settled changed ts h.0 (λ u lt q. subst (λ o. IfSome o (λ s. type_answer classes (get_or locals u top) s ≡ yes)) (at_lower t ts u (λ e. omega (arith, e, lt))) (f u (omega (arith, lt)) q)), one_settled changed t ts (f (units_of ts) (omega (arith, not_empty t))) h.1)
 
+module _ (on_stack : Bool) (classes : List ClassFact) (slots : List VerificationType) where
+  abbrev answer_at : ℕ → VerificationType → Outcome
+  answer_at p t = slot_answer classes on_stack (get_or slots p top) t
+
   abbrev chain : List VerificationType → Outcome
-  chain ts = chain_answer (slot_answer classes false) (place false) locals ts
+  chain ts = chain_answer (slot_answer classes on_stack) (place on_stack) slots ts
 
-  one_yes : (t : VerificationType) (u : ℕ) → ⊥ ⊎ (type_answer classes (get_or locals u top) t ≡ yes) → type_answer classes (get_or locals u top) t ≡ yes
-  one_yes t u (inl h) = absurd h
-  one_yes t u (inr e) = e
+  one_yes : (t : VerificationType) (p : ℕ) → ⊥ ⊎ (answer_at p t ≡ yes) → answer_at p t ≡ yes
+  one_yes t p (inl h) = absurd h
+  one_yes t p (inr e) = e
 
-  pub all_yes : (ts : List VerificationType) → FitAll classes locals ts → chain_answer (slot_answer classes false) (place false) locals ts ≡ yes
+  pub all_yes : (ts : List VerificationType) → FitAll on_stack classes slots ts → chain ts ≡ yes
   all_yes [] h = refl
-  all_yes (t ∷ ts) h = ap (λ r. both r (type_answer classes (get_or locals (units_of ts) top) t)) (all_yes ts h.0) ∙ one_yes t (units_of ts) h.1
+  all_yes (t ∷ ts) h = ap (λ r. both r (answer_at (place on_stack ts) t)) (all_yes ts h.0) ∙ one_yes t (place on_stack ts) h.1
 
-  pub yes_all : (ts : List VerificationType) → chain_answer (slot_answer classes false) (place false) locals ts ≡ yes → FitAll classes locals ts
+  pub yes_all : (ts : List VerificationType) → chain ts ≡ yes → FitAll on_stack classes slots ts
   yes_all [] e = tt
-  yes_all (t ∷ ts) e = (yes_all ts (both_left (chain ts) (type_answer classes (get_or locals (units_of ts) top) t) e), inr (both_right (chain ts) (type_answer classes (get_or locals (units_of ts) top) t) e))
+  yes_all (t ∷ ts) e = (yes_all ts (both_left (chain ts) (answer_at (place on_stack ts) t) e), inr (both_right (chain ts) (answer_at (place on_stack ts) t) e))
 
   -- so does each that begins on it
-  pub lower_all : (links : List Link) → AreLinked links → (here : ℕ) (l : Link) → link_at links here ≡ Some l → FitAll classes locals (types_at links here) → FitAll classes locals (types_at links l.below)
-  lower_all links k here l e h = (subst (FitAll classes locals) (types_step links k here l e) h).0
+  pub lower_but : (changed : ℕ → Type 0) (links : List Link) → AreLinked links → (here : ℕ) (l : Link) → link_at links here ≡ Some l
+      → AreFitBut on_stack changed classes slots (types_at links here) → AreFitBut on_stack changed classes slots (types_at links l.below)
+  lower_but changed links k here l e h = (subst (AreFitBut on_stack changed classes slots) (types_step links k here l e) h).0
+
+  pub lower_all : (links : List Link) → AreLinked links → (here : ℕ) (l : Link) → link_at links here ≡ Some l → FitAll on_stack classes slots (types_at links here) → FitAll on_stack classes slots (types_at links l.below)
+  lower_all links k here l e h = lower_but (λ p. ⊥) links k here l e h
 
 -- ---- one more mark
 
-get_set : {A : Type 0} (xs : List A) (i j : ℕ) (v w : A) → slice_get (set xs i v) j ≡ Some w → ((j ≡ i) × (v ≡ w)) ⊎ (slice_get xs j ≡ Some w)
+pub get_set : {A : Type 0} (xs : List A) (i j : ℕ) (v w : A) → slice_get (set xs i v) j ≡ Some w → ((j ≡ i) × (v ≡ w)) ⊎ (slice_get xs j ≡ Some w)
 get_set [] i j v w e = inr e
 get_set (x ∷ xs) zero zero v w e = inl (refl, same_Some v w e)
 get_set (x ∷ xs) zero (suc j) v w e = inr e
@@ -127,7 +135,7 @@ get_set (x ∷ xs) (suc i) (suc j) v w e = next (get_set xs i j v w e)
     next (inl h) = inl (ap suc h.0, h.1)
     next (inr h) = inr h
 
-module _ (classes : List ClassFact) (t : DeclaredFrames) (locals : List VerificationType) (x y : Fitting) (link : ℕ) (now : Option ℕ) (c : y.changes.items ≡ x.changes.items) (k : y.known_from ≡ x.known_from) (m : y.marks.items ≡ set x.marks.items link now) (size : (moment : ℕ) → now ≡ Some moment → moment ≡ length x.changes.items) (all : FitAll classes locals (types_at t.chains.links.items (suc link))) (a : AreFitting classes t locals x) where
+module _ (classes : List ClassFact) (t : DeclaredFrames) (locals : List VerificationType) (x y : Fitting) (link : ℕ) (now : Option ℕ) (c : y.changes.items ≡ x.changes.items) (k : y.known_from ≡ x.known_from) (m : y.marks.items ≡ set x.marks.items link now) (size : (moment : ℕ) → now ≡ Some moment → moment ≡ length x.changes.items) (all : FitAll false classes locals (types_at t.chains.links.items (suc link))) (a : AreFitting classes t locals x) where
   mark_cases : (i moment : ℕ) → slice_get y.marks.items i ≡ Some (Some moment) → ((i ≡ link) × (now ≡ Some moment)) ⊎ (slice_get x.marks.items i ≡ Some (Some moment))
   mark_cases i moment e = get_set x.marks.items link i now (Some moment) (sym (ap (λ l. slice_get l i) m) ∙ e)
 
@@ -135,12 +143,12 @@ module _ (classes : List ClassFact) (t : DeclaredFrames) (locals : List Verifica
   early_by i moment (inl h) = omega (arith, size moment h.1, ap (λ (l : List ℕ). length l) c)
   early_by i moment (inr e) = omega (arith, a.early i moment e, ap (λ (l : List ℕ). length l) c)
 
-  fit_by : (i moment : ℕ) → x.known_from ≤ moment → ((i ≡ link) × (now ≡ Some moment)) ⊎ (slice_get x.marks.items i ≡ Some (Some moment)) → AreFitBut (HasChanged y moment) classes locals (types_at t.chains.links.items (suc i))
+  fit_by : (i moment : ℕ) → x.known_from ≤ moment → ((i ≡ link) × (now ≡ Some moment)) ⊎ (slice_get x.marks.items i ≡ Some (Some moment)) → AreFitBut false (HasChanged y moment) classes locals (types_at t.chains.links.items (suc i))
   fit_by i moment le (inl h) =
-      fit_kept (λ p. ⊥) (HasChanged y moment) classes locals locals (λ p z. absurd z) (λ p. inr refl) (types_at t.chains.links.items (suc i))
-      (subst (λ j. FitAll classes locals (types_at t.chains.links.items (suc j))) (sym h.0) all)
+      fit_kept false (λ p. ⊥) (HasChanged y moment) classes locals locals (λ p z. absurd z) (λ p. inr refl) (types_at t.chains.links.items (suc i))
+      (subst (λ j. FitAll false classes locals (types_at t.chains.links.items (suc j))) (sym h.0) all)
   fit_by i moment le (inr e) =
-      fit_kept (HasChanged x moment) (HasChanged y moment) classes locals locals (λ p h. record { change = h.change; since = h.since; is = ap (λ l. slice_get l h.change) c ∙ h.is }) (λ p. inr refl) (types_at t.chains.links.items (suc i))
+      fit_kept false (HasChanged x moment) (HasChanged y moment) classes locals locals (λ p h. record { change = h.change; since = h.since; is = ap (λ l. slice_get l h.change) c ∙ h.is }) (λ p. inr refl) (types_at t.chains.links.items (suc i))
       (a.fit i moment (record { mark = e; known = le }))
 
   pub seen_one : AreFitting classes t locals y
@@ -162,16 +170,16 @@ module _ (classes : List ClassFact) (d : Declared) (locals : List VType) where
   pub with_all : (t : DeclaredFrames) (x : Fitting) → AreFitting classes t (map type_of locals) x → AreFitting classes t held x
   with_all t x a = fitting_same classes t (map type_of locals) held x (get_padded (map type_of locals) (length (declared_view d).locals - length locals)) a
 
-  floor_fits : (t : DeclaredFrames) (x : Fitting) (here moment : ℕ) → AreFitting classes t (map type_of locals) x → (here ≡ 0) ⊎ IsSeen x here moment → AreFitBut (HasChanged x moment) classes (map type_of locals) (types_at t.chains.links.items here)
-  floor_fits t x here moment a (inl e) = subst (AreFitBut (HasChanged x moment) classes (map type_of locals)) (sym (ap (types_at t.chains.links.items) e ∙ types_bottom t.chains.links.items)) tt
-  floor_fits t x here moment a (inr s) = subst (λ h. AreFitBut (HasChanged x moment) classes (map type_of locals) (types_at t.chains.links.items h)) (sym s.place) (a.fit s.link moment s.marked)
+  floor_fits : (t : DeclaredFrames) (x : Fitting) (here moment : ℕ) → AreFitting classes t (map type_of locals) x → (here ≡ 0) ⊎ IsSeen x here moment → AreFitBut false (HasChanged x moment) classes (map type_of locals) (types_at t.chains.links.items here)
+  floor_fits t x here moment a (inl e) = subst (AreFitBut false (HasChanged x moment) classes (map type_of locals)) (sym (ap (types_at t.chains.links.items) e ∙ types_bottom t.chains.links.items)) tt
+  floor_fits t x here moment a (inr s) = subst (λ h. AreFitBut false (HasChanged x moment) classes (map type_of locals) (types_at t.chains.links.items h)) (sym s.place) (a.fit s.link moment s.marked)
 
   pub floor_yes : (x : Fitting) (here moment : ℕ) → AreFittingFor classes d held x → (here ≡ 0) ⊎ IsSeen x here moment → ((u : ℕ) → HasChanged x moment u → FitsAt classes (map type_of locals) (types_at links here) u)
       → chain_answer (slot_answer classes false) (place false) (map type_of locals) (types_at links here) ≡ yes
   unfolding IsOf
   floor_yes x here moment a s f =
-      let known = subst (λ l. AreFitBut (HasChanged x moment) classes (map type_of locals) (types_at l here)) (sym a.own.0) (floor_fits a.table x here moment (in_use a.table x a.fitting) s) in
-      all_yes classes (map type_of locals) (types_at links here) (settled classes (map type_of locals) (HasChanged x moment) (types_at links here) known (λ u lt q. f u q))
+      let known = subst (λ l. AreFitBut false (HasChanged x moment) classes (map type_of locals) (types_at l here)) (sym a.own.0) (floor_fits a.table x here moment (in_use a.table x a.fitting) s) in
+      all_yes false classes (map type_of locals) (types_at links here) (settled classes (map type_of locals) (HasChanged x moment) (types_at links here) known (λ u lt q. f u q))
 
   pub whole_fits : length locals ≤ d.max_locals → chain_answer (slot_answer classes false) (place false) (map type_of locals) (types_at links d.tops.locals) ≡ yes → list_answer (type_answer classes) held (declared_view d).locals ≡ yes
   unfolding declared_view fact_of locals_at

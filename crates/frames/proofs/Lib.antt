@@ -23,6 +23,7 @@ pub mod Forms
 pub mod Sharing
 pub mod Units
 pub mod Fits
+pub mod StackFits
 pub mod Passing
 pub mod Holding
 pub mod LocalTypes

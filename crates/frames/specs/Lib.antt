@@ -25,6 +25,7 @@ pub mod Marks
 pub mod MarkedCode
 pub mod DeclaredForms
 pub mod Fitting
+pub mod StackFitting
 pub mod Packing
 pub mod PackedFrames
 pub mod Undecided

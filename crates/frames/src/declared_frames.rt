@@ -138,14 +138,14 @@ fn may_have_flag(from: bool, to: bool) -> bool
 
 impl<'n, 'a> Declared<'n, 'a> {
     ghost use Rattle.std.specs.Prelude.{◌<◌, ◌≤◌, ◌-◌, ℕ, true, length, get_or, map, take, drop, replicate, reverse, OnOk, IfOk, IfSome, MatchOption};
-    ghost use Rattle.hierarchy.specs.Answer.{outcome_of};
+    ghost use Rattle.hierarchy.specs.Answer.{yes, outcome_of};
     ghost use Rattle.frames.specs.VerificationType.{type_of, top};
     ghost use Rattle.frames.specs.Assignable.{type_answer};
-    ghost use Rattle.frames.specs.FrameAssignable.{list_answer, frame_answer};
+    ghost use Rattle.frames.specs.FrameAssignable.{slot_answer, list_answer, frame_answer};
     ghost use Rattle.frames.specs.FrameFact.{frame_of};
     ghost use Rattle.frames.specs.HeldFrames.{held_locals, held_frame};
     ghost use Rattle.frames.specs.Slots.{units_of};
-    ghost use Rattle.frames.specs.Chains.{types_at, IsOn, AreTopFrom, AreBelow};
+    ghost use Rattle.frames.specs.Chains.{types_at, chain_answer, place, IsOn, AreTopFrom, AreBelow};
     ghost use Rattle.frames.specs.Locals.{local, locals_in};
     ghost use Rattle.frames.specs.DeclaredTables.{declared_view, AreOfOne, AreKept, AreFit};
 
@@ -197,20 +197,24 @@ impl<'n, 'a> Declared<'n, 'a> {
 
     /// Whether a frame may stand where this one is declared (JVMS 4.10.1.4): one that has these locals, all beyond them
     /// being top, this stack from the bottom up, and this flag. Where the locals are known to fit another frame of the
-    /// same stack map, only those are compared that the two declared frames do not share. Takes no memory.
+    /// same stack map, only those are compared that the two declared frames do not share, and of the stack only what
+    /// stands above a floor on its chain, from which down the items are known to fit. Takes no memory.
     ///
     /// The answer is that of [`frame_assignable`](crate::frame_assignable).
-    pub fn assignable_from<C: Classes>(
+    pub(crate) fn assignable_from<C: Classes>(
         &self,
         locals: &[VType<'a>],
         stack: &[VType<'a>],
         flag: bool,
         fits: Option<Declared<'_, 'a>>,
+        floor: usize,
         classes: &C,
     ) -> Answer<'a>
-        requires { IfSome fits (AreFit (C.content classes.now) self.now (held_locals locals.now (length (declared_view self.now).locals))) }
-        ensures { let d = declared_view self.now in
+        requires fits { IfSome fits (AreFit (C.content classes.now) self.now (held_locals locals.now (length (declared_view self.now).locals))) }
+        requires floor { chain_answer (slot_answer (C.content classes.now) true) (place true) (map type_of stack.now) (types_at self.now.chains.now.links.items floor) ≡ yes }
+        ensures told { let d = declared_view self.now in
             outcome_of result ≡ frame_answer (C.content classes.now) (held_frame locals.now (length d.locals) stack.now flag) d }
+        ensures items { outcome_of result ≡ yes → chain_answer (slot_answer (C.content classes.now) true) (place true) (map type_of stack.now) (types_at self.now.chains.now.links.items self.now.tops.stack) ≡ yes }
     {
         if locals.len() > usize::from(self.max_locals) {
             return Answer::No;
@@ -235,7 +239,7 @@ impl<'n, 'a> Declared<'n, 'a> {
         }
         both(
             answer,
-            chain_assignable(stack, self.chains, self.tops.stack, 0, true, classes),
+            chain_assignable(stack, self.chains, self.tops.stack, floor, true, classes),
         )
     }
 

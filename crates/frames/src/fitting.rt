@@ -54,7 +54,7 @@ fn local_fits<'a, C: Classes>(
 }
 
 impl Fitting {
-    ghost use Rattle.std.specs.Prelude.{◌⊎◌, ℕ, List, IfOk, OnOk};
+    ghost use Rattle.std.specs.Prelude.{◌⊎◌, ℕ, false, List, IfOk, OnOk};
     ghost use Rattle.hierarchy.specs.Class.{ClassFact};
     ghost use Rattle.hierarchy.specs.Answer.{yes};
     ghost use Rattle.frames.specs.VerificationType.{VerificationType};
@@ -185,7 +185,7 @@ impl Fitting {
 
     // The locals fit the chain from a place down now.
     fn see(&mut self, place: usize)
-        ensures { (classes : List ClassFact) (t : DeclaredFrames) (locals : List VerificationType) → FitAll classes locals (types_at t.chains.links.items place) → AreFitting classes t locals self.old → AreFitting classes t locals self.new }
+        ensures { (classes : List ClassFact) (t : DeclaredFrames) (locals : List VerificationType) → FitAll false classes locals (types_at t.chains.links.items place) → AreFitting classes t locals self.old → AreFitting classes t locals self.new }
     {
         if place == 0 || self.marks.len() < place {
             return;
@@ -195,7 +195,7 @@ impl Fitting {
 
     // The locals fit a chain now, and so each chain that begins on it. Those down to a floor are marked.
     fn see_down(&mut self, chains: &Chains<'_>, high: usize, floor: usize)
-        ensures { (classes : List ClassFact) (t : DeclaredFrames) (locals : List VerificationType) → t.chains.links.items ≡ chains.now.links.items → FitAll classes locals (types_at chains.now.links.items high) → AreFitting classes t locals self.old → AreFitting classes t locals self.new }
+        ensures { (classes : List ClassFact) (t : DeclaredFrames) (locals : List VerificationType) → t.chains.links.items ≡ chains.now.links.items → FitAll false classes locals (types_at chains.now.links.items high) → AreFitting classes t locals self.old → AreFitting classes t locals self.new }
     {
         let mut at = high;
         while let Some(link) = chains.link(at) {

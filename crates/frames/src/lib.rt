@@ -22,6 +22,7 @@
 //! - `packed`: frames with their slots, compared by lanes.
 //! - `packing`: types as slots of four bytes.
 //! - `refusing`: an entry judged.
+//! - `stack_fitting`: which declared frames a running stack is known to fit.
 //! - `stack_map`: stack maps, and `read_map`.
 //! - `starts`: where instructions begin.
 //! - `undecided`: where equal slots do not decide.
@@ -51,6 +52,7 @@ mod objects;
 mod packed;
 mod packing;
 mod refusing;
+mod stack_fitting;
 mod stack_map;
 mod starts;
 mod undecided;
@@ -72,6 +74,7 @@ pub use naming::{array_of, held_by, number_type, reference_to};
 pub use objects::{is_made_at, is_object, is_own};
 pub use packed::{Packed, packed_assignable};
 pub use packing::pack;
+pub use stack_fitting::StackFitting;
 pub use stack_map::{MapEntry, StackMap, TypeInfo, read_map};
 pub use starts::Starts;
 pub use undecided::{ABSENT, first_undecided};

@@ -24,7 +24,7 @@
 //! | `printed_text` | `printing`: texts of class files, names and faults |
 //! | `making` | what several of them, and of those in `public_calls`, stand on |
 //!
-//! A test with `memory` in its name passes also where any one allocation fails; `tests/allocations` runs those so.
+//! A test with `memory` in its name passes also where any one allocation fails; `tests/run/allocations` runs those so.
 #![tactic(auto)]
 
 #[cfg(test)]

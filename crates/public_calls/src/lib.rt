@@ -14,7 +14,7 @@
 //! | `command_lines` | `command_line`: what a line asks for, and what the program complains of |
 //! | `fault_texts` | how each fault is displayed |
 //!
-//! A test with `memory` in its name passes also where any one allocation fails; `tests/allocations` runs those so.
+//! A test with `memory` in its name passes also where any one allocation fails; `tests/run/allocations` runs those so.
 #![tactic(auto)]
 
 #[cfg(test)]

@@ -21,3 +21,4 @@ pub mod Written
 pub mod Lesser
 pub mod Guarding
 pub mod Using
+pub mod Taken

@@ -225,7 +225,7 @@ beneath_drops [] ts = drop_none ts
 beneath_drops (w ∷ ws) [] = refl
 beneath_drops (w ∷ ws) (t ∷ ts) = beneath_drops ws ts
 
-count_on : (ts : List FieldDescriptor) (ws : List Want) → length (arguments_on ts ws) ≡ length ts + length ws
+pub count_on : (ts : List FieldDescriptor) (ws : List Want) → length (arguments_on ts ws) ≡ length ts + length ws
 count_on [] ws = omega arith
 count_on (t ∷ ts) ws = omega (arith, count_on ts (want_of t ∷ ws))
 

@@ -2,6 +2,7 @@ pub mod ReasonNumbers
 pub mod Plans
 pub mod Constants
 pub mod Table
+pub mod Taken
 pub mod After
 pub mod Rules
 pub mod Replacing

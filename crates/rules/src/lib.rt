@@ -17,6 +17,7 @@
 //! - `own_object`: whether a constructor is called on the own object.
 //! - `making`: `new`.
 //! - `replacing`: objects that are not initialized, and the types that take their place.
+//! - `kept_items`: the items of the stack that an instruction leaves as they are.
 //! - `arrays`: instructions that make arrays and read their elements, and casts.
 //! - `naming`: what the constant is that an instruction names.
 //! - `declaring_class`: the class that declares the method, and its superclass.
@@ -39,6 +40,7 @@
 //! - `specs/Rules.antt`: the conditions that refuse an instruction, with their numbers.
 //! - `specs/Protected.antt`: those on protected members.
 //! - `specs/Ways.antt`: where instructions go.
+//! - `specs/Taken.antt`: how many items instructions take, and which stay.
 #![tactic(auto)]
 
 mod applying;
@@ -52,6 +54,7 @@ mod environment;
 mod families;
 mod fields;
 mod guards;
+mod kept_items;
 mod making;
 mod members;
 mod merging;
@@ -74,6 +77,7 @@ mod working;
 pub use applying::{After, Refusal, apply};
 pub use declaring_class::own_class;
 pub use environment::Env;
+pub use kept_items::{items_kept, items_kept_plainly};
 pub use members::Members;
 pub use merging::{first_reason, together};
 pub use naming::Named;

@@ -10,7 +10,7 @@ ghost use Rattle.rules.specs.Working.{IsCounted};
 use crate::moves::{rearrange, wides};
 use crate::replacing::{is_among, replace};
 use crate::slots::{is_wide, store};
-use frames::{Declared, Frame, Holder, Locals, VType};
+use frames::{Declared, Frame, Holder, Locals, StackFitting, VType};
 use hierarchy::{Answer, Classes};
 use insn::StackForm;
 use std::alloc::{AllocError, Global};
@@ -29,7 +29,7 @@ pub struct Working<'a> {
 }
 
 impl<'a> Working<'a> {
-    ghost use Rattle.std.specs.Prelude.{◌<◌, ◌≤◌, ◌≢◌, ◌↔◌, ℕ, [], ◌∷◌, IsTrue, nat_lt, length, map, set, get_or, None, IsSome, MatchOption, OnOk, IfOk, IfSome};
+    ghost use Rattle.std.specs.Prelude.{◌<◌, ◌≤◌, ◌≢◌, ◌↔◌, ℕ, [], ◌∷◌, IsTrue, nat_lt, length, map, reverse, set, get_or, None, IsSome, MatchOption, OnOk, IfOk, IfSome};
     ghost use Rattle.frames.specs.Slots.{units_of, is_wide};
     ghost use Rattle.insn.specs.Stacks.{rearranged};
     ghost use Rattle.insn.specs.Views.{stack_form_view};
@@ -45,7 +45,9 @@ impl<'a> Working<'a> {
     ghost use Rattle.frames.specs.Holders.{number_of};
     ghost use Rattle.hierarchy.specs.Answer.{outcome_of};
     ghost use Rattle.frames.specs.FrameAssignable.{frame_answer};
-    ghost use Rattle.frames.specs.DeclaredTables.{declared_view, AreKept, AreFit};
+    ghost use Rattle.frames.specs.DeclaredTables.{declared_view, IsOf, AreKept, AreFit};
+    ghost use Rattle.frames.specs.StackFitting.{AreStackFitting, AreStackFittingFor};
+    ghost use Rattle.frames.specs.declared.declared_frames.DeclaredFrames.{DeclaredFrames};
 
     /// With all locals top, and nothing on the stack.
     pub fn new(alloc: Global, max_locals: u16, flag: bool) -> Working<'a>
@@ -189,18 +191,28 @@ impl<'a> Working<'a> {
     }
 
     /// Whether this frame may stand where one is declared (JVMS 4.10.1.4). Where its locals are known to fit another frame of the same stack
-    /// map, only those are compared that the two declared frames do not share.
+    /// map, only those are compared that the two declared frames do not share, and of its items those that are not known to fit.
     pub fn answer_for<C: Classes>(
         &self,
         declared: &Declared<'_, 'a>,
         fits: Option<Declared<'_, 'a>>,
+        items: &mut StackFitting,
         classes: &C,
     ) -> Answer<'a>
         requires size { length (declared_view declared.now).locals ≡ length (held self.now).locals }
         requires fits { IfSome fits (AreFit (C.content classes.now) declared.now (held self.now).locals) }
-        ensures { outcome_of result ≡ frame_answer (C.content classes.now) (held self.now) (declared_view declared.now) }
+        requires items { AreStackFittingFor (C.content classes.now) declared.now (reverse (held self.now).stack) items.old }
+        ensures told { outcome_of result ≡ frame_answer (C.content classes.now) (held self.now) (declared_view declared.now) }
+        ensures items { (t : DeclaredFrames) → IsOf t declared.now → AreStackFitting (C.content classes.now) t (reverse (held self.now).stack) items.new }
     {
-        declared.assignable_from(self.locals(), &self.stack, self.flag, fits, classes)
+        items.answer(
+            declared,
+            self.locals(),
+            &self.stack,
+            self.flag,
+            fits,
+            classes,
+        )
     }
 
     /// Becomes a declared frame, in the memory that it has. Where it has the locals of another frame of the same stack map, this one may be

@@ -10,9 +10,9 @@ use Rattle.frames.specs.declared.declared_frames.DeclaredFrames.{DeclaredFrames}
 use Rattle.frames.specs.declared.declared_frames.Declared.{Declared}
 use Rattle.frames.proofs.Sharing.{are_of_one}
 use Rattle.rules.specs.Views.{with_half_free}
-use Rattle.verify.specs.declared.keeping.Known.{Known}
+use Rattle.verify.specs.declared.keeping.KnownLocals.{KnownLocals}
 use Rattle.verify.specs.declared.keeping.Replaced.{Replaced}
-use Rattle.verify.specs.Keeping.{Keeps, IsKept, IsKnown, restored}
+use Rattle.verify.specs.Keeping.{Keeps, IsKept, AreKnown, restored}
 
 pub free_length : (n : ℕ) (xs : List VerificationType) → length (with_half_free n xs) ≡ length xs
 free_length n [] = refl
@@ -47,11 +47,8 @@ module _ (t : DeclaredFrames) where
   kept_by f g rs None e k = k
   kept_by f g rs (Some d) e k = (k.0, ap (restored rs) (sym e) ∙ k.1)
 
-  pub known_by : (cs : List ClassFact) (f g : FrameFact) (known : Known) → f.locals ≡ g.locals → IsKnown cs t f known → IsKnown cs t g known
+  pub known_by : (cs : List ClassFact) (f g : FrameFact) (known : KnownLocals) → f.locals ≡ g.locals → AreKnown cs t f known → AreKnown cs t g known
   known_by cs f g known e k = record { kept = kept_by f g known.replaced.items known.kept e k.kept; fitting = subst (λ ls. AreFitting cs t ls known.fitting) e k.fitting }
-
-  pub known_same : (cs : List ClassFact) (f g : FrameFact) (known : Known) → f ≡ g → IsKnown cs t f known → IsKnown cs t g known
-  known_same cs f g known e k = known_by cs f g known (ap (λ (z : FrameFact). z.locals) e) k
 
   -- one local is written, which was put on the list
   pub kept_more : (f g : FrameFact) (kept : Option Declared) (rs ms : List Replaced) (r : Replaced) (x : VerificationType) → ms ≡ rs ++ r ∷ [] → type_of r.was ≡ get_or f.locals r.place top
@@ -65,20 +62,20 @@ module _ (t : DeclaredFrames) where
   kept_none g (Some d) rs e = cc
 
   -- a declared frame that was taken on
-  pub taken : (cs : List ClassFact) (f : FrameFact) (d : Declared) (known : Known) → known.kept ≡ Some d → known.replaced.items ≡ [] → f ≡ declared_view d → IsOf t d → AreFitting cs t (declared_view d).locals known.fitting
-      → IsKnown cs t f known
+  pub taken : (cs : List ClassFact) (f : FrameFact) (d : Declared) (known : KnownLocals) → known.kept ≡ Some d → known.replaced.items ≡ [] → f ≡ declared_view d → IsOf t d → AreFitting cs t (declared_view d).locals known.fitting
+      → AreKnown cs t f known
   taken cs f d known kept none e o a = record {
     kept = subst (λ h. IfSome h (Keeps t f known.replaced.items)) (sym kept) (o, ap (λ rs. restored rs f.locals) none ∙ ap (λ (z : FrameFact). z.locals) e);
     fitting = subst (λ ls. AreFitting cs t ls known.fitting) (sym (ap (λ (z : FrameFact). z.locals) e)) a;
   }
 
   -- what calls may be told
-  pub kept_at : (f : FrameFact) (known : Known) (d : Declared) → known.kept ≡ Some d → IsKept t f known → Keeps t f known.replaced.items d
+  pub kept_at : (f : FrameFact) (known : KnownLocals) (d : Declared) → known.kept ≡ Some d → IsKept t f known → Keeps t f known.replaced.items d
   kept_at f known d e k = subst (λ o. IfSome o (Keeps t f known.replaced.items)) e k
 
   pub are_kept : (d : Declared) (rs : List Replaced) (f : FrameFact) (locals : List VerificationType) (kept : Option Declared) → IsOf t d → locals ≡ restored rs f.locals → IfSome kept (Keeps t f rs) → IfSome kept (AreKept d locals)
   are_kept d rs f locals None o e k = tt
   are_kept d rs f locals (Some h) o e k = record { of_one = are_of_one t h d k.0 o; same = e ∙ k.1 }
 
-  pub same_frame : (f : FrameFact) (d h : Declared) (known : Known) → known.replaced.items ≡ [] → (declared_view d).locals ≡ (declared_view h).locals → Keeps t f known.replaced.items h → f.locals ≡ (declared_view d).locals
+  pub same_frame : (f : FrameFact) (d h : Declared) (known : KnownLocals) → known.replaced.items ≡ [] → (declared_view d).locals ≡ (declared_view h).locals → Keeps t f known.replaced.items h → f.locals ≡ (declared_view d).locals
   same_frame f d h known none e k = sym (ap (λ rs. restored rs f.locals) none) ∙ k.1 ∙ sym e

@@ -12,8 +12,8 @@ use Rattle.frames.specs.declared.declared_frames.DeclaredFrames.{DeclaredFrames}
 use Rattle.frames.proofs.LocalTypes.{same_object, has_number}
 use Rattle.rules.specs.Replacing.{ChangesOnly}
 use Rattle.rules.specs.Working.{with_locals}
-use Rattle.verify.specs.Keeping.{IsKnown}
-use Rattle.verify.specs.declared.keeping.Known.{Known}
+use Rattle.verify.specs.Keeping.{AreKnown}
+use Rattle.verify.specs.declared.keeping.KnownLocals.{KnownLocals}
 use Rattle.verify.proofs.Kept.{known_by}
 
 -- the local is not the object, or is still to be written
@@ -21,10 +21,10 @@ abbrev pub IsOpen : VerificationType → FrameFact → (ℕ → Type 0) → ℕ 
 IsOpen object f ahead i = (is_initialized object (get_or f.locals i top) ≡ false) ⊎ ahead i
 
 -- the facts about a frame are facts about each that has the same type in each local that is open
-abbrev pub AreReplaced : VerificationType → FrameFact → (ℕ → Type 0) → Known → Known → Type 0
+abbrev pub AreReplaced : VerificationType → FrameFact → (ℕ → Type 0) → KnownLocals → KnownLocals → Type 0
 AreReplaced object f ahead old now =
     (cs : List ClassFact) (t : DeclaredFrames) (g : FrameFact) → length g.locals ≡ length f.locals → ((i : ℕ) → IsOpen object f ahead i → get_or g.locals i top ≡ get_or f.locals i top)
-    → IsKnown cs t f old → IsKnown cs t g now
+    → AreKnown cs t f old → AreKnown cs t g now
 
 same_locals : (xs ys : List VerificationType) → length xs ≡ length ys → ((i : ℕ) → get_or xs i top ≡ get_or ys i top) → xs ≡ ys
 same_locals xs ys size e = same_lists xs ys size (λ k d lt. get_or_default xs k d top lt ∙ e k ∙ get_or_default ys k top d (omega (arith, lt, size)))
@@ -55,16 +55,16 @@ open_last object f g ahead none all changes = same_locals g.locals f.locals chan
     by i (inl e) = e
     by i (inr h) = absurd (none i h)
 
-pub replaced_none : (object : VerificationType) (f : FrameFact) (ahead : ℕ → Type 0) (known : Known) → ((i : ℕ) → get_or f.locals i top ≡ object → IsSome (number_of object) → ahead i)
+pub replaced_none : (object : VerificationType) (f : FrameFact) (ahead : ℕ → Type 0) (known : KnownLocals) → ((i : ℕ) → get_or f.locals i top ≡ object → IsSome (number_of object) → ahead i)
     → AreReplaced object f ahead known known
 replaced_none object f ahead known first cs t g size same k =
     known_by t cs f g known (sym (same_locals g.locals f.locals size (λ i. same i (open_first object f ahead first i)))) k
 
 -- one more is written, which may be the object
-pub replaced_more : (object : VerificationType) (f : FrameFact) (ahead behind : ℕ → Type 0) (place : ℕ) (old now new : Known)
+pub replaced_more : (object : VerificationType) (f : FrameFact) (ahead behind : ℕ → Type 0) (place : ℕ) (old now new : KnownLocals)
     → ((i : ℕ) → i ≢ place → ahead i → behind i)
     → ((cs : List ClassFact) (t : DeclaredFrames) (e g : FrameFact) (x : VerificationType) → length e.locals ≡ length f.locals → get_or e.locals place top ≡ get_or f.locals place top → g.locals ≡ set e.locals place x
-    → (is_initialized object (get_or e.locals place top) ≡ false → x ≡ get_or e.locals place top) → IsKnown cs t e now → IsKnown cs t g new)
+    → (is_initialized object (get_or e.locals place top) ≡ false → x ≡ get_or e.locals place top) → AreKnown cs t e now → AreKnown cs t g new)
     → AreReplaced object f ahead old now → AreReplaced object f behind old new
 replaced_more object f ahead behind place old now new rest step are cs t g size same k =
     step cs t e g (get_or g.locals place top) e_size (here place refl) written other (are cs t e e_size states k)
@@ -121,8 +121,8 @@ replaced_more object f ahead behind place old now new rest step are cs t g size 
     other not = same place (inl (ap (is_initialized object) (sym (here place refl)) ∙ not)) ∙ sym (here place refl)
 
 -- at the end none is ahead
-pub replaced_all : (object : VerificationType) (f : FrameFact) (ahead : ℕ → Type 0) (old now : Known) → ((i : ℕ) → ahead i → ⊥) → AreReplaced object f ahead old now
-    → (cs : List ClassFact) (t : DeclaredFrames) (g : FrameFact) → ChangesOnly (Some object) f g → IsKnown cs t f old → IsKnown cs t g now
+pub replaced_all : (object : VerificationType) (f : FrameFact) (ahead : ℕ → Type 0) (old now : KnownLocals) → ((i : ℕ) → ahead i → ⊥) → AreReplaced object f ahead old now
+    → (cs : List ClassFact) (t : DeclaredFrames) (g : FrameFact) → ChangesOnly (Some object) f g → AreKnown cs t f old → AreKnown cs t g now
 replaced_all object f ahead old now never are cs t g changes k = are cs t g changes.0 (λ i o. by i o) k
   where
     by : (i : ℕ) → IsOpen object f ahead i → get_or g.locals i top ≡ get_or f.locals i top

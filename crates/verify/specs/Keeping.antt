@@ -7,7 +7,7 @@ use Rattle.frames.specs.DeclaredTables.{declared_view, IsOf}
 use Rattle.frames.specs.Fitting.{AreFitting}
 use Rattle.frames.specs.declared.declared_frames.DeclaredFrames.{DeclaredFrames}
 use Rattle.frames.specs.declared.declared_frames.Declared.{Declared}
-use Rattle.verify.specs.declared.keeping.Known.{Known}
+use Rattle.verify.specs.declared.keeping.KnownLocals.{KnownLocals}
 use Rattle.verify.specs.declared.keeping.Replaced.{Replaced}
 
 -- locals once what was replaced is put back, the latest first
@@ -19,10 +19,10 @@ restored (r ∷ rs) locals = set (restored rs locals) r.place (type_of r.was)
 abbrev pub Keeps : DeclaredFrames → FrameFact → List Replaced → Declared → Type 0
 Keeps t f replaced k = IsOf t k × (restored replaced f.locals ≡ (declared_view k).locals)
 
-abbrev pub IsKept : DeclaredFrames → FrameFact → Known → Type 0
+abbrev pub IsKept : DeclaredFrames → FrameFact → KnownLocals → Type 0
 IsKept t f known = IfSome known.kept (Keeps t f known.replaced.items)
 
-pub record IsKnown (classes : List ClassFact) (t : DeclaredFrames) (f : FrameFact) (known : Known) : Type 0 where
+pub record AreKnown (classes : List ClassFact) (t : DeclaredFrames) (f : FrameFact) (known : KnownLocals) : Type 0 where
   pub kept : IsKept t f known
   pub fitting : AreFitting classes t f.locals known.fitting
 

@@ -33,6 +33,7 @@ pub mod Turns
 pub mod PlaceSets
 pub mod Targets
 pub mod Keeping
+pub mod Known
 pub mod ExceptionTables
 pub mod Catching
 pub mod Handling

@@ -7,10 +7,10 @@ ghost use Rattle.rules.specs.Held.{held};
 ghost use Rattle.verify.specs.Verdict.{declared_at, target_conditions};
 ghost use Rattle.rules.specs.Outcomes.{Judges};
 ghost use Rattle.verify.specs.Targets.{IsPlace, Compares};
-ghost use Rattle.verify.specs.Keeping.{IsKnown};
+ghost use Rattle.verify.specs.Known.{IsKnown};
 
 use crate::flow::check_answer;
-use crate::keeping::Known;
+use crate::known::Known;
 use crate::place_set::PlaceSet;
 use frames::{Declared, DeclaredFrames};
 use hierarchy::Classes;

@@ -12,10 +12,10 @@ ghost use Rattle.rules.specs.After.{with_stack};
 ghost use Rattle.rules.specs.Held.{held};
 ghost use Rattle.verify.specs.ExceptionTables.{entry_view};
 ghost use Rattle.verify.specs.Catching.{caught_answer};
-ghost use Rattle.verify.specs.Keeping.{IsKnown};
+ghost use Rattle.verify.specs.Keeping.{AreKnown};
 
 use crate::exceptions::Entry;
-use crate::keeping::Known;
+use crate::keeping::KnownLocals;
 use frames::{Declared, DeclaredFrames, VType, assignable, both, reference_to, width};
 use hierarchy::{Answer, Classes};
 use names::RefType;
@@ -42,14 +42,14 @@ fn declared_answer<'n, 'a, C: Classes>(
     frame: &Working<'a>,
     declared: &Declared<'n, 'a>,
     frames: &'n DeclaredFrames<'a>,
-    known: &mut Known<'n, 'a>,
+    known: &mut KnownLocals<'n, 'a>,
     classes: &C,
 ) -> Answer<'a>
     requires size { length (declared_view declared.now).locals ≡ length (held frame.now).locals }
     requires own { IsOf frames.now declared.now }
-    requires known { IsKnown (C.content classes.now) frames.now (held frame.now) known.old }
+    requires known { AreKnown (C.content classes.now) frames.now (held frame.now) known.old }
     ensures told { outcome_of result ≡ list_answer (type_answer (C.content classes.now)) (held frame.now).locals (declared_view declared.now).locals }
-    ensures known { IsKnown (C.content classes.now) frames.now (held frame.now) known.new }
+    ensures known { AreKnown (C.content classes.now) frames.now (held frame.now) known.new }
 {
     if known.fits(declared, frames, frame, classes) {
         return Answer::Yes;
@@ -63,15 +63,15 @@ fn frame_answer<'n, 'a, C: Classes>(
     frame: &Working<'a>,
     declared: &Declared<'n, 'a>,
     frames: &'n DeclaredFrames<'a>,
-    known: &mut Known<'n, 'a>,
+    known: &mut KnownLocals<'n, 'a>,
     room: &mut Vec<VType<'a>>,
     classes: &C,
 ) -> Result<Answer<'a>, AllocError>
     requires size { length (declared_view declared.now).locals ≡ length (held frame.now).locals }
     requires own { IsOf frames.now declared.now }
-    requires known { IsKnown (C.content classes.now) frames.now (held frame.now) known.old }
+    requires known { AreKnown (C.content classes.now) frames.now (held frame.now) known.old }
     ensures told { IfOk result (λ a. outcome_of a ≡ frame_answer (C.content classes.now) (with_stack (held frame.now) (to_reference (reference_view caught.entry) ∷ [])) (declared_view declared.now)) }
-    ensures known { IsKnown (C.content classes.now) frames.now (held frame.now) known.new }
+    ensures known { AreKnown (C.content classes.now) frames.now (held frame.now) known.new }
 {
     if frame.flag() && !declared.flag() {
         return Ok(Answer::No);
@@ -90,14 +90,14 @@ pub fn caught_answer<'n, 'a, C: Classes>(
     entry: &Entry<'a>,
     frame: &Working<'a>,
     frames: &'n DeclaredFrames<'a>,
-    known: &mut Known<'n, 'a>,
+    known: &mut KnownLocals<'n, 'a>,
     room: &mut Vec<VType<'a>>,
     classes: &C,
 ) -> Result<Answer<'a>, AllocError>
     requires size { length (held frame.now).locals ≡ locals_in frames.now }
-    requires known { IsKnown (C.content classes.now) frames.now (held frame.now) known.old }
+    requires known { AreKnown (C.content classes.now) frames.now (held frame.now) known.old }
     ensures told { IfOk result (λ a. outcome_of a ≡ caught_answer (C.content classes.now) (frames_in frames.now) (held frame.now) (entry_view entry.now)) }
-    ensures known { IsKnown (C.content classes.now) frames.now (held frame.now) known.new }
+    ensures known { AreKnown (C.content classes.now) frames.now (held frame.now) known.new }
 {
     match frames.find(u32::from(entry.handler)) {
         None => Ok(Answer::No),

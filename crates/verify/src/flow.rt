@@ -8,9 +8,9 @@ ghost use Rattle.rules.specs.Reasons.{reason_number, reason_view};
 ghost use Rattle.verify.specs.Verdict.{answer_conditions};
 ghost use Rattle.rules.specs.Outcomes.{Judges};
 ghost use Rattle.verify.specs.Steps.{Enters};
-ghost use Rattle.verify.specs.Keeping.{IsKnown};
+ghost use Rattle.verify.specs.Known.{IsKnown};
 
-use crate::keeping::Known;
+use crate::known::Known;
 use frames::{Declared, DeclaredFrames};
 use hierarchy::{Answer, Classes};
 use rules::{Reason, Working};

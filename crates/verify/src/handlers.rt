@@ -11,7 +11,7 @@ ghost use Rattle.verify.specs.Asking.{IsAsked};
 
 use crate::catching::{caught_answer, takes};
 use crate::exceptions::Entry;
-use crate::keeping::{Known, Replaced};
+use crate::keeping::{KnownLocals, Replaced};
 use frames::{Declared, DeclaredFrames, VType, is_object};
 use hierarchy::{Answer, Classes};
 use insn::Act;
@@ -169,7 +169,7 @@ impl<'a> Handlers<'a> {
     ghost use Rattle.rules.specs.Ways.{stored_to};
     ghost use Rattle.rules.specs.Working.{with_locals};
     ghost use Rattle.verify.specs.TypeSafety.{Frames};
-    ghost use Rattle.verify.specs.Keeping.{IsKnown, IsKept, restored};
+    ghost use Rattle.verify.specs.Keeping.{AreKnown, IsKept, restored};
     ghost use Rattle.verify.specs.ExceptionTables.{entry_view, AreNumbered};
     ghost use Rattle.verify.specs.Handling.{Follows, AreAhead, Settles, Catches};
     ghost use Rattle.frames.specs.Conditions.{least};
@@ -419,7 +419,7 @@ impl<'a> Handlers<'a> {
     /// them are not compared again.
     pub fn enter<'n, C: Classes>(
         &mut self,
-        known: &Known<'n, 'a>,
+        known: &KnownLocals<'n, 'a>,
         frame: &Working<'a>,
         declared: Option<Declared<'n, 'a>>,
         frames: &DeclaredFrames<'a>,
@@ -449,12 +449,12 @@ impl<'a> Handlers<'a> {
         at: u16,
         frame: &Working<'a>,
         frames: &'n DeclaredFrames<'a>,
-        known: &mut Known<'n, 'a>,
+        known: &mut KnownLocals<'n, 'a>,
         classes: &C,
     ) -> Result<Option<Missing<'a>>, Reason<'a>>
         requires size { length (held frame.now).locals ≡ locals_in frames.now }
-        requires known { IsKnown (C.content classes.now) frames.now (held frame.now) known.old }
-        ensures known { IsKnown (C.content classes.now) frames.now (held frame.now) known.new }
+        requires known { AreKnown (C.content classes.now) frames.now (held frame.now) known.old }
+        ensures known { AreKnown (C.content classes.now) frames.now (held frame.now) known.new }
         ensures settled { let cs = C.content classes.now in (es : List ExceptionEntry)
             → Follows cs (frames_in frames.now) es at (held frame.now) self.old → AreAhead at self.old
             → Settles cs (frames_in frames.now) es at (held frame.now) self.new result }
@@ -501,12 +501,12 @@ impl<'a> Handlers<'a> {
         at: u16,
         frame: &Working<'a>,
         frames: &'n DeclaredFrames<'a>,
-        known: &mut Known<'n, 'a>,
+        known: &mut KnownLocals<'n, 'a>,
         classes: &C,
     ) -> Result<(), Reason<'a>>
         requires size { length (held frame.now).locals ≡ locals_in frames.now }
-        requires known { IsKnown (C.content classes.now) frames.now (held frame.now) known.old }
-        ensures known { IsKnown (C.content classes.now) frames.now (held frame.now) known.new }
+        requires known { AreKnown (C.content classes.now) frames.now (held frame.now) known.old }
+        ensures known { AreKnown (C.content classes.now) frames.now (held frame.now) known.new }
         ensures caught { let cs = C.content classes.now in (es : List ExceptionEntry)
             → Follows cs (frames_in frames.now) es at (held frame.now) self.old → AreAhead at self.old
             → Catches cs (frames_in frames.now) es at (held frame.now) self.new result }

@@ -21,14 +21,14 @@ ghost use Rattle.rules.specs.Ways.{goes_on};
 ghost use Rattle.verify.specs.InitialFrames.{initial_frame};
 ghost use Rattle.verify.specs.Verdict.{at_conditions, before_conditions, code_judged, is_covered};
 ghost use Rattle.verify.specs.Steps.{Enters, Gives};
-ghost use Rattle.verify.specs.Keeping.{IsKnown};
+ghost use Rattle.verify.specs.Known.{IsKnown};
 ghost use Rattle.verify.specs.Handling.{AreAhead, Follows};
 ghost use Rattle.verify.specs.TypeSafety.{Frames};
 
 use crate::branching::check_targets;
 use crate::flow::{check_end, enter};
 use crate::handlers::Handlers;
-use crate::keeping::Known;
+use crate::known::Known;
 use crate::place_set::PlaceSet;
 use crate::refusal::refuse;
 use crate::verdict::{Verdict, VerifyFault};
@@ -39,12 +39,12 @@ use insn::{Act, Instructions};
 use pool::Descriptors;
 use rules::{
     Members, Named, Reason, Working, branches_by, check_member, constructs_own, first_reason,
-    goes_on, is_plain, replaced_object, run, run_plain, together,
+    goes_on, is_plain, items_kept, items_kept_plainly, replaced_object, run, run_plain, together,
 };
 use std::alloc::{AllocError, Global};
 
-/// Judges an instruction that names this, in the frame before it, which becomes the frame after. Of the frame at the next start nothing is
-/// asked. The frame before was judged by the object on which a protected member is used, and by what is caught in it. What is known of locals is
+/// Judges an instruction that names this, in the frame before it, which becomes the frame after. Does not check the next instruction's
+/// frame. The frame before was judged by the object on which a protected member is used, and by what is caught in it. What is known of locals is
 /// known of the frame after.
 fn judge_named<'n, 'a, C: Classes>(
     alloc: Global,
@@ -110,7 +110,7 @@ fn take_up<'n, 'a, C: Classes>(
         Follows cs t es place (held frame.old) handlers.old → OnOk result (Follows cs t es place (held frame.new) handlers.new) }
 {
     let declared = frames.find(u32::from(at));
-    handlers.enter(known, frame, declared, frames, classes)?;
+    handlers.enter(&known.locals, frame, declared, frames, classes)?;
     enter(comes, declared, frames, known, frame, classes)?;
     Ok(())
 }
@@ -191,10 +191,11 @@ fn judge_wholly<'n, 'a, C: Classes>(
     let own = constructs_own(method, &act, &named, frame);
     let covered = covers_constructor(own, at, handlers)?;
     let used = check_member(method, &act, &named, members, frame, classes);
-    let caught = handlers.catch(at, frame, frames, known, classes);
+    let caught = handlers.catch(at, frame, frames, &mut known.locals, classes);
     let before = together(used, caught);
     let object = replaced_object(method, at, &act, &named, frame);
-    known.behind(&act, object, frame)?;
+    let kept = items_kept(method, &act, &named, frame);
+    known.behind(&act, object, kept, frame)?;
     handlers.behind(&act, object, own, frame, frames, classes)?;
     judge_named(
         alloc,
@@ -250,7 +251,8 @@ fn judge<'n, 'a, C: Classes>(
     ensures handlers { let m = method_view method.now in OnOk result (Follows (C.content classes.now) (frames_in frames.now) m.exceptions at (held frame.new) handlers.new) }
 {
     if !last && is_plain(act) && handlers.are_idle(at) {
-        known.behind(act, None, frame)?;
+        let kept = items_kept_plainly(method, act, frame);
+        known.behind(act, None, kept, frame)?;
         handlers.behind(act, None, false, frame, frames, classes)?;
         return run_plain(method, act, frame, classes);
     }
@@ -289,7 +291,7 @@ pub fn pass<'a, C: Classes>(
 {
     let mut code = Instructions::new(method.code.code);
     let mut comes = true;
-    let mut known = Known::new(alloc, frames)?;
+    let mut known = Known::new(alloc, frames, method.code.max_stack)?;
     while !code.is_at_end() {
         let at = code.at() as u16;
         let act = code.take_act();

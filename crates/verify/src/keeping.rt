@@ -6,7 +6,7 @@ ghost use Rattle.frames.specs.VerificationType.{VerificationType, top};
 ghost use Rattle.frames.specs.declared.declared_frames.DeclaredFrames.{DeclaredFrames};
 
 use frames::{Declared, DeclaredFrames, Fitting, VType, is_object};
-use hierarchy::{Answer, Classes};
+use hierarchy::Classes;
 use insn::Act;
 use rules::{Working, stored_to};
 use std::alloc::{AllocError, Global};
@@ -25,7 +25,7 @@ pub struct Replaced<'a> {
 
 /// Facts about the locals of the running frame.
 #[derive(Drop)]
-pub struct Known<'n, 'a> {
+pub struct KnownLocals<'n, 'a> {
     /// The locals are those of this frame, if there is one, but for what was replaced since it was taken on.
     pub kept: Option<Declared<'n, 'a>>,
     /// The earliest first.
@@ -34,7 +34,7 @@ pub struct Known<'n, 'a> {
     pub fitting: Fitting,
 }
 
-impl<'n, 'a> Known<'n, 'a> {
+impl<'n, 'a> KnownLocals<'n, 'a> {
     ghost use Rattle.std.specs.Prelude.{◌≤◌, [], true, false, length, option_map, Some, None, IfSome, IfOk};
     ghost use Rattle.classfile.specs.Methods.{Method};
     ghost use Rattle.hierarchy.specs.Answer.{yes, outcome_of};
@@ -52,13 +52,16 @@ impl<'n, 'a> Known<'n, 'a> {
     ghost use Rattle.rules.specs.Table.{plan};
     ghost use Rattle.rules.specs.Ways.{stored_to};
     ghost use Rattle.rules.specs.Views.{with_half_free};
-    ghost use Rattle.verify.specs.Keeping.{IsKnown, IsKept, restored};
+    ghost use Rattle.verify.specs.Keeping.{AreKnown, IsKept, restored};
 
-    /// Nothing of the locals and the frames of a table.
-    pub fn new(alloc: Global, frames: &'n DeclaredFrames<'a>) -> Result<Known<'n, 'a>, AllocError>
-        ensures { IfOk result (λ x. (cs : List ClassFact) (f : FrameFact) → IsKnown cs frames.now f x) }
+    /// Starts with no facts about the locals.
+    pub fn new(
+        alloc: Global,
+        frames: &'n DeclaredFrames<'a>,
+    ) -> Result<KnownLocals<'n, 'a>, AllocError>
+        ensures { IfOk result (λ x. (cs : List ClassFact) (f : FrameFact) → AreKnown cs frames.now f x) }
     {
-        Ok(Known {
+        Ok(KnownLocals {
             kept: None,
             replaced: Vec::new(alloc),
             fitting: Fitting::new(alloc, frames)?,
@@ -96,32 +99,12 @@ impl<'n, 'a> Known<'n, 'a> {
     ) -> bool
         requires size { length (declared_view declared.now).locals ≡ length (held frame.now).locals }
         requires own { IsOf frames.now declared.now }
-        requires known { IsKnown (C.content classes.now) frames.now (held frame.now) self.old }
-        ensures known { IsKnown (C.content classes.now) frames.now (held frame.now) self.new }
+        requires known { AreKnown (C.content classes.now) frames.now (held frame.now) self.old }
+        ensures known { AreKnown (C.content classes.now) frames.now (held frame.now) self.new }
         ensures fit { result ≡ true → list_answer (type_answer (C.content classes.now)) (held frame.now).locals (declared_view declared.now).locals ≡ yes }
     {
         let _frames = frames;
         self.fitting.fits(declared, frame.locals(), classes)
-    }
-
-    /// Whether a frame may stand where one is declared (JVMS 4.10.1.4).
-    pub fn answer<C: Classes>(
-        &mut self,
-        declared: &Declared<'n, 'a>,
-        frames: &DeclaredFrames<'a>,
-        frame: &Working<'a>,
-        classes: &C,
-    ) -> Answer<'a>
-        requires size { length (declared_view declared.now).locals ≡ length (held frame.now).locals }
-        requires own { IsOf frames.now declared.now }
-        requires known { IsKnown (C.content classes.now) frames.now (held frame.now) self.old }
-        ensures known { IsKnown (C.content classes.now) frames.now (held frame.now) self.new }
-        ensures told { outcome_of result ≡ frame_answer (C.content classes.now) (held frame.now) (declared_view declared.now) }
-    {
-        if self.fits(declared, frames, frame, classes) {
-            return frame.answer_for(declared, Some(*declared), classes);
-        }
-        frame.answer_for(declared, None, classes)
     }
 
     // Puts what was replaced back, the latest first.
@@ -150,7 +133,7 @@ impl<'n, 'a> Known<'n, 'a> {
         requires own { IsOf frames.now declared.now }
         requires kept { IsKept frames.now (held frame.old) self.old }
         ensures taken { OnOk result (held frame.new ≡ declared_view declared.now) }
-        ensures known { (cs : List ClassFact) → IsKnown cs frames.now (held frame.old) self.old → OnOk result (IsKnown cs frames.now (held frame.new) self.new) }
+        ensures known { (cs : List ClassFact) → AreKnown cs frames.now (held frame.old) self.old → OnOk result (AreKnown cs frames.now (held frame.new) self.new) }
     {
         self.put_back(frame)?;
         let kept = self.kept;
@@ -181,7 +164,7 @@ impl<'n, 'a> Known<'n, 'a> {
     fn replace(&mut self, place: u16, frame: &Working<'a>) -> Result<(), AllocError>
         ensures { (cs : List ClassFact) (t : DeclaredFrames) (f g : FrameFact) (x : VerificationType)
             → get_or f.locals place top ≡ get_or (held frame.now).locals place top → g.locals ≡ set f.locals place x
-            → IsKnown cs t f self.old → OnOk result (IsKnown cs t g self.new) }
+            → AreKnown cs t f self.old → OnOk result (AreKnown cs t g self.new) }
     {
         self.remember(place, frame)?;
         self.fitting.changed(place)
@@ -190,7 +173,7 @@ impl<'n, 'a> Known<'n, 'a> {
     // The local in front of one that is to be stored to becomes top, where it is a long or double.
     fn free_half(&mut self, local: u16, frame: &Working<'a>) -> Result<(), AllocError>
         ensures { (cs : List ClassFact) (t : DeclaredFrames) (g : FrameFact) → g.locals ≡ with_half_free local (held frame.now).locals
-            → IsKnown cs t (held frame.now) self.old → OnOk result (IsKnown cs t g self.new) }
+            → AreKnown cs t (held frame.now) self.old → OnOk result (AreKnown cs t g self.new) }
     {
         if local == 0 {
             return Ok(());
@@ -205,7 +188,7 @@ impl<'n, 'a> Known<'n, 'a> {
     // The local behind one that is to be stored to becomes top, where a long or double is stored.
     fn fill_half(&mut self, local: u16, frame: &Working<'a>) -> Result<(), AllocError>
         ensures { (cs : List ClassFact) (t : DeclaredFrames) (g : FrameFact) → let f = held frame.now in
-            g.locals ≡ set (with_half_free local f.locals) local (top_of f.stack) → IsKnown cs t g self.old → OnOk result (IsKnown cs t (stored local f) self.new) }
+            g.locals ≡ set (with_half_free local f.locals) local (top_of f.stack) → AreKnown cs t g self.old → OnOk result (AreKnown cs t (stored local f) self.new) }
     {
         if !frame.has_wide_top() {
             return Ok(());
@@ -220,7 +203,7 @@ impl<'n, 'a> Known<'n, 'a> {
     // The top of a frame's stack is to be stored to a local.
     #[inline(never)]
     fn store(&mut self, local: u16, frame: &Working<'a>) -> Result<(), AllocError>
-        ensures { (cs : List ClassFact) (t : DeclaredFrames) → IsKnown cs t (held frame.now) self.old → OnOk result (IsKnown cs t (stored local (held frame.now)) self.new) }
+        ensures { (cs : List ClassFact) (t : DeclaredFrames) → AreKnown cs t (held frame.now) self.old → OnOk result (AreKnown cs t (stored local (held frame.now)) self.new) }
     {
         self.free_half(local, frame)?;
         self.replace(local, frame)?;
@@ -237,7 +220,7 @@ impl<'n, 'a> Known<'n, 'a> {
         ensures { (cs : List ClassFact) (t : DeclaredFrames) (f g : FrameFact) (x : VerificationType)
             → length f.locals ≡ length (held frame.now).locals → get_or f.locals place top ≡ get_or (held frame.now).locals place top → g.locals ≡ set f.locals place x
             → (is_initialized (type_of object.now) (get_or f.locals place top) ≡ false → x ≡ get_or f.locals place top)
-            → IsKnown cs t f self.old → OnOk result (IsKnown cs t g self.new) }
+            → AreKnown cs t f self.old → OnOk result (AreKnown cs t g self.new) }
     {
         if usize::from(frame.max_locals()) <= place {
             return Ok(());
@@ -252,7 +235,7 @@ impl<'n, 'a> Known<'n, 'a> {
     #[inline(never)]
     fn replace_all(&mut self, object: &VType<'a>, frame: &Working<'a>) -> Result<(), AllocError>
         ensures { (cs : List ClassFact) (t : DeclaredFrames) (g : FrameFact) → ChangesOnly (Some (type_of object.now)) (held frame.now) g
-            → IsKnown cs t (held frame.now) self.old → OnOk result (IsKnown cs t g self.new) }
+            → AreKnown cs t (held frame.now) self.old → OnOk result (AreKnown cs t g self.new) }
     {
         let mut at = frame.first_holder(object);
         while let Some(holder) = frame.holder(at) {
@@ -271,7 +254,7 @@ impl<'n, 'a> Known<'n, 'a> {
         frame: &Working<'a>,
     ) -> Result<(), AllocError>
         ensures { (cs : List ClassFact) (t : DeclaredFrames) (m : Method acts.Act) (at : ℕ) → let f = held frame.now in let g = after m at (plan m (act_view act.now)) f in
-            (stored_to (act_view act.now) ≡ None → ChangesOnly (option_map type_of object.entry) f g) → IsKnown cs t f self.old → OnOk result (IsKnown cs t g self.new) }
+            (stored_to (act_view act.now) ≡ None → ChangesOnly (option_map type_of object.entry) f g) → AreKnown cs t f self.old → OnOk result (AreKnown cs t g self.new) }
     {
         if let Some(local) = stored_to(act) {
             return self.store(local, frame);

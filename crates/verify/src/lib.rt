@@ -15,7 +15,8 @@
 //! - `flow`, `branching`: from one instruction to the next, and to its targets.
 //! - `exceptions`: the exception table, which is judged before the code.
 //! - `handlers`, `catching`: the exception handlers while the pass goes on, and the frame that comes to one.
-//! - `keeping`: what is known of the locals of the running frame.
+//! - `keeping`: facts about the locals of the running frame.
+//! - `known`: facts about the running frame.
 //! - `place_set`: which declared frames were compared.
 //! - `stack_maps`: the frames that a stack map declares.
 //! - `theorem`: type-safe methods are safe, one by one and where calls enter them.
@@ -38,6 +39,7 @@ mod handlers;
 mod initial;
 mod judging;
 mod keeping;
+mod known;
 mod laws;
 mod listing;
 mod met_names;

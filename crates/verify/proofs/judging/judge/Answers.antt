@@ -9,7 +9,7 @@ use Rattle.rules.specs.Rules.{conditions}
 use Rattle.rules.specs.Table.{plan}
 use Rattle.rules.proofs.Changing.{plain_keeps}
 use Rattle.rules.proofs.Keeping.{locals_kept}
-use Rattle.verify.specs.Keeping.{IsKnown}
+use Rattle.verify.specs.Known.{IsKnown}
 use Rattle.verify.specs.Handling.{Follows}
 use Rattle.verify.proofs.InTurn.{on_ok}
 use Rattle.verify.proofs.Comparing.{flag_kept}
@@ -36,7 +36,7 @@ returns-then-are_idle-clause-known g c =
     on_ok c.run_plain.result (λ u is.
     let done = subst (Done (conditions classes m c.args.at p f) (after m c.args.at p f) now) is (c.run_plain.ensures c.args.at) in
     subst (λ x. IsKnown classes c.args.frames.now x c.behind.new.self) (sym done.outcome.1) (c.in_ok-behind.ensures classes c.args.frames.now m c.args.at
-    (λ none. let a = act_view c.args.act.now in locals_kept m c.args.at a f (plain_keeps a (sym c.is_plain.ensures ∙ c.if-is_plain.true) none)) c.requires.known))
+    (λ none. let a = act_view c.args.act.now in locals_kept m c.args.at a f (plain_keeps a (sym c.is_plain.ensures ∙ c.if-is_plain.true) none)) (c.items_kept_plainly-kept.ensures c.args.at) c.requires.known))
 
 pub returns-then-are_idle-clause-handlers : goal.returns-then-are_idle-clause-handlers
 returns-then-are_idle-clause-handlers g c =

@@ -10,11 +10,11 @@ use Rattle.rules.specs.Bodies.{method_view}
 use Rattle.rules.specs.Outcomes.{Done, Judges}
 use Rattle.rules.specs.Table.{plan}
 use Rattle.rules.specs.Ways.{goes_on, branch_offsets}
+use Rattle.verify.specs.Known.{IsKnown}
 use Rattle.verify.specs.Verdict.{target_conditions, before_conditions, is_covered}
 use Rattle.verify.proofs.Onward.{keeps_length}
 use Rattle.verify.proofs.Going.{ways}
 use Rattle.verify.proofs.Ends.{done_ways, refused_end}
-use Rattle.verify.proofs.Kept.{known_same}
 use Rattle.verify.proofs.judging.judge_named.Goals as goal
 
 pub check_targets-requires-clause-size : goal.check_targets-requires-clause-size
@@ -35,7 +35,7 @@ check_targets-requires-clause-known g c =
     let f = held c.args.frame.now in
     let now = held c.run.new.frame in
     let ran = (subst (Done (conditions classes m c.args.at p f) (after m c.args.at p f) now) c.in-Ok.is c.run.ensures).outcome in
-    known_same c.args.frames.now classes (after m c.args.at p f) now c.args.known.now (sym ran.1) c.requires.known
+    subst (λ x. IsKnown classes c.args.frames.now x c.args.known.now) (sym ran.1) c.requires.known
 
 pub returns-in-Ok-clause-judged : goal.returns-in-Ok-clause-judged
 returns-in-Ok-clause-judged g c = λ next e.

@@ -39,6 +39,11 @@ judge_named-requires-clause-covered g c =
     let arrived = c.in_ok-come_to.ensures classes frames m.exceptions f c.requires.handlers in
     (c.in_ok-covered.ensures classes frames m.exceptions f arrived.0 arrived.1).0 ∙ ap (λ b. b && is_covered m.exceptions c.args.at) c.constructs_own-own.ensures
 
+pub judge_named-requires-clause-known : goal.judge_named-requires-clause-known
+judge_named-requires-clause-known g c =
+    c.in_ok-behind.ensures (g.C.Classes.content c.args.classes.now) c.args.frames.now (method_view c.args.method.now) c.args.at c.replaced_object-object.ensures (c.items_kept-kept.ensures c.args.at)
+    (record { locals = c.catch-caught.ensures.known; items = c.requires.known.items })
+
 pub returns-clause-handlers : goal.returns-clause-handlers
 returns-clause-handlers g c =
     let classes = g.C.Classes.content c.args.classes.now in

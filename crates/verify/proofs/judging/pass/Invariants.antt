@@ -3,7 +3,7 @@ use Rattle.frames.specs.DeclaredTables.{frames_in}
 use Rattle.rules.specs.Held.{held}
 use Rattle.rules.specs.Table.{plan}
 use Rattle.rules.specs.Bodies.{method_view}
-use Rattle.verify.specs.Keeping.{IsKnown}
+use Rattle.verify.specs.Known.{IsKnown}
 use Rattle.verify.specs.Handling.{Follows}
 use Rattle.verify.specs.Verdict.{code_judged}
 use Rattle.verify.proofs.Onward.{Remains}

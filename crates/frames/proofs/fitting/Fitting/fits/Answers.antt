@@ -1,4 +1,4 @@
-use Rattle.std.proofs.Common.{◌≤◌, length, map, sym, arith}
+use Rattle.std.proofs.Common.{◌≤◌, false, length, map, sym, arith}
 use Rattle.frames.specs.VerificationType.{type_of}
 use Rattle.frames.specs.Chains.{types_at}
 use Rattle.frames.specs.DeclaredTables.{IsOf}
@@ -24,7 +24,7 @@ returns-in-Yes-clause-kept g c = λ t own.
     let h = g.C.Classes.content c.args.classes.now in
     let d = c.args.declared.now in
     let locals = c.args.locals.now in
-    let all = yes_all h (map type_of locals) (types_at d.chains.now.links.items d.tops.locals) (sym c.in-Yes.ensures) in
+    let all = yes_all false h (map type_of locals) (types_at d.chains.now.links.items d.tops.locals) (sym c.in-Yes.ensures) in
     with_all h d locals t c.see_down.new.self (c.see_down.ensures h t (map type_of locals) (sym own.0) all (in_use h d locals t c.args.self.now (known_for c.requires t own)))
 
 pub returns-in-Yes-clause-fit : goal.returns-in-Yes-clause-fit

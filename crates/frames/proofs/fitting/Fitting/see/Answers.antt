@@ -1,4 +1,4 @@
-use Rattle.std.proofs.Common.{◌≡◌, ◌∙◌, ◌-◌, ℕ, suc, Some, Result, Ok, Err, refl, sym, subst, arith}
+use Rattle.std.proofs.Common.{false, ◌≡◌, ◌∙◌, ◌-◌, ℕ, suc, Some, Result, Ok, Err, refl, sym, subst, arith}
 use Rattle.std.specs.Result.{OkIff, result_ok}
 use Rattle.std.proofs.lemmas.Option.{same_Some, none-some}
 use Rattle.frames.specs.Chains.{types_at}
@@ -16,4 +16,4 @@ returns c = λ classes t locals all a.
     let up : c.args.place ≡ suc (c.args.place - 1) = omega (arith, c.if-place-eq0.false) in
     seen_one classes t locals c.args.self.now _ (c.args.place - 1) c.ok.result refl refl refl
     (λ moment e. let same = told _ c.len-2.result c.try_from.result c.try_from.ensures moment (sym c.ok.ensures.value ∙ e) in omega (arith, same, c.len-2.ensures, c.args.self.now.changes.ok.0))
-    (subst (λ p. FitAll classes locals (types_at t.chains.links.items p)) up all) a
+    (subst (λ p. FitAll false classes locals (types_at t.chains.links.items p)) up all) a

@@ -1,4 +1,4 @@
-use Rattle.std.proofs.Common.{sym, subst, ◌∙◌}
+use Rattle.std.proofs.Common.{false, sym, subst, ◌∙◌}
 use Rattle.frames.specs.Chains.{types_at}
 use Rattle.frames.specs.Fitting.{FitAll}
 use Rattle.frames.proofs.Chains.{linked_lower}
@@ -12,6 +12,6 @@ pub loop-link-preserved : goal.loop-link-preserved
 loop-link-preserved c = λ classes t locals same all a.
     let links = c.args.chains.now.links.items in
     let now = c.loop-link.invariant classes t locals same all a in (
-      lower_all classes locals links c.args.chains.now.linked c.loop-link.at c.in-Some.link (sym c.link.ensures ∙ c.in-Some.is) now.0,
-      c.see.ensures classes t locals (subst (λ l. FitAll classes locals (types_at l c.loop-link.at)) (sym same) now.0) now.1,
+      lower_all false classes locals links c.args.chains.now.linked c.loop-link.at c.in-Some.link (sym c.link.ensures ∙ c.in-Some.is) now.0,
+      c.see.ensures classes t locals (subst (λ l. FitAll false classes locals (types_at l c.loop-link.at)) (sym same) now.0) now.1,
     )

@@ -1,4 +1,4 @@
-use Rattle.std.proofs.Common.{◌≡◌, List}
+use Rattle.std.proofs.Common.{false, ◌≡◌, List}
 use Rattle.hierarchy.specs.Class.{ClassFact}
 use Rattle.frames.specs.VerificationType.{VerificationType}
 use Rattle.frames.specs.Chains.{types_at}
@@ -7,8 +7,8 @@ use Rattle.frames.specs.Fitting.{FitAll, AreFitting}
 use Rattle.frames.proofs.fitting.Fitting.see_down.Given as goal
 
 abbrev pub invariant-loop-link : goal.invariant-loop-link
-invariant-loop-link l = (classes : List ClassFact) (t : DeclaredFrames) (locals : List VerificationType) → t.chains.links.items ≡ l.chains.links.items → FitAll classes locals (types_at l.chains.links.items l.fn.high) → AreFitting classes t locals l.fn.self
-    → FitAll classes locals (types_at l.chains.links.items l.at) × AreFitting classes t locals l.self
+invariant-loop-link l = (classes : List ClassFact) (t : DeclaredFrames) (locals : List VerificationType) → t.chains.links.items ≡ l.chains.links.items → FitAll false classes locals (types_at l.chains.links.items l.fn.high) → AreFitting classes t locals l.fn.self
+    → FitAll false classes locals (types_at l.chains.links.items l.at) × AreFitting classes t locals l.self
 
 abbrev pub decreases-loop-link : goal.decreases-loop-link
 decreases-loop-link l = l.at

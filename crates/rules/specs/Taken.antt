@@ -1,0 +1,67 @@
+-- How many items of the stack an instruction takes, and the items beneath them, which stay.
+use Rattle.std.specs.Prelude.{◌≡◌, ℕ, ◌+◌, ◌<◌, false, max, List, [], ◌∷◌, length, reverse, get_or, Option, Some, None}
+use Rattle.pool.specs.Members.{MethodConstant, CallSite}
+use Rattle.insn.specs.Acts.{StackForm}
+use Rattle.insn.specs.Meanings as acts
+use Rattle.insn.specs.Meanings.{Act}
+use Rattle.insn.specs.Stacks.{beneath}
+use Rattle.frames.specs.VerificationType.{VerificationType, top}
+use Rattle.frames.specs.FrameFact.{FrameFact}
+use Rattle.frames.specs.Objects.{is_initialized}
+use Rattle.rules.specs.Plans.{Plan, pops, loads, stores, counts, rearranges, loads_element, makes, constructs, calls_special, returns, refuses}
+use Rattle.rules.specs.After.{top_of}
+
+-- the most items that one of the forms takes
+abbrev pub most_taken : List StackForm → ℕ
+most_taken [] = 0
+most_taken (form ∷ forms) = max (length form.takes) (most_taken forms)
+
+-- how many items a plan takes at most
+abbrev pub taken : Plan → ℕ
+taken (pops wants gives offsets on) = length wants
+taken (loads want n width) = 0
+taken (stores want n width) = 1
+taken (counts n) = 0
+taken (rearranges forms) = most_taken forms
+taken loads_element = 2
+taken (makes name) = 0
+taken (constructs name wants) = length wants + 1
+taken (calls_special type wants gives) = length wants
+taken returns = 0
+taken (refuses n) = 0
+
+-- ---- by the act
+
+-- the arguments of a call, and a receiver
+abbrev pub with_receiver : Option MethodConstant → ℕ
+with_receiver None = 0
+with_receiver (Some c) = length c.type.params + 1
+
+abbrev pub without_receiver : Option CallSite → ℕ
+without_receiver None = 0
+without_receiver (Some c) = length c.type.params
+
+-- how many items an instruction takes at most, where a call of its method takes so many, and one by its call site
+abbrev pub at_most : Act → (called site : ℕ) → ℕ
+at_most (acts.InvokeVirtual i) called site = called
+at_most (acts.InvokeSpecial i) called site = called
+at_most (acts.InvokeStatic i) called site = called
+at_most (acts.InvokeInterface i count) called site = called
+at_most (acts.InvokeDynamic i) called site = site
+at_most (acts.NewMultiArray i n) called site = n
+at_most _ called site = 4
+
+-- ---- the items beneath
+
+-- an item of a stack that has its top first, counted from the bottom
+abbrev pub item : List VerificationType → ℕ → VerificationType
+item stack i = get_or (reverse stack) i top
+
+-- where a plan calls a constructor on an object, an item is of another one
+abbrev pub IsOther : Plan → FrameFact → ℕ → Type 0
+IsOther (constructs name wants) f i = is_initialized (top_of (beneath wants f.stack)) (item f.stack i) ≡ false
+IsOther _ f i = Unit {0}
+
+-- so many items, from the bottom up, are those of another frame
+abbrev pub KeepsItems : ℕ → FrameFact → FrameFact → Type 0
+KeepsItems count f g = (i : ℕ) → i < count → item g.stack i ≡ item f.stack i

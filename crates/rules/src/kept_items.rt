@@ -1,0 +1,141 @@
+//! The items of the stack that an instruction leaves as they are.
+ghost use Rattle.std.specs.Prelude.{◌≡◌, ◌≤◌, ◌<◌, ℕ, true, false, [], length, map, option_map, get_or};
+ghost use Rattle.insn.specs.Views.{act_view};
+ghost use Rattle.frames.specs.Objects.{is_initialized};
+ghost use Rattle.frames.specs.VerificationType.{VerificationType, type_of, top};
+ghost use Rattle.pool.specs.MemberViews.{method_constant_view, call_site_view};
+ghost use Rattle.insn.specs.Stacks.{beneath};
+ghost use Rattle.rules.specs.After.{after, top_of};
+ghost use Rattle.rules.specs.Bodies.{method_view};
+ghost use Rattle.rules.specs.Held.{held};
+ghost use Rattle.rules.specs.Naming.{IsNamed};
+ghost use Rattle.rules.specs.Plans.{arguments_on};
+ghost use Rattle.rules.specs.Table.{plan};
+ghost use Rattle.rules.specs.Views.{stack_of};
+ghost use Rattle.rules.specs.Taken.{taken, at_most, with_receiver, without_receiver, item, KeepsItems};
+ghost use Rattle.rules.specs.Ways.{is_plain};
+
+use crate::naming::Named;
+use crate::own_object::{item_beneath, special_index};
+use crate::working::Working;
+use classfile::CodeMethod;
+use frames::{VType, is_object};
+use insn::Act;
+use pool::{CallSite, MethodConstant};
+
+/// How many items an instruction takes at most that neither calls a method nor makes an array of several dimensions.
+const FEW: usize = 4;
+
+/// How many items a call of the method takes at most, with a receiver.
+fn with_receiver(called: Option<&MethodConstant<'_>>) -> usize
+    ensures { result ≡ with_receiver (option_map (λ c. method_constant_view c.now) called.entry) }
+{
+    match called {
+        None => 0,
+        Some(called) => called.method_type.params.len() + 1,
+    }
+}
+
+/// How many items a call by a call site takes.
+fn without_receiver(site: Option<&CallSite<'_>>) -> usize
+    ensures { result ≡ without_receiver (option_map (λ c. call_site_view c.now) site.entry) }
+{
+    match site {
+        None => 0,
+        Some(site) => site.method_type.params.len(),
+    }
+}
+
+/// How many items an instruction takes at most, where a call of its method takes so many, and one by its call site.
+fn at_most(act: &Act<'_>, called: usize, site: usize) -> usize
+    ensures { result ≡ at_most (act_view act.now) called site }
+{
+    match *act {
+        Act::InvokeVirtual { .. }
+        | Act::InvokeSpecial { .. }
+        | Act::InvokeStatic { .. }
+        | Act::InvokeInterface { .. } => called,
+        Act::InvokeDynamic { .. } => site,
+        Act::NewMultiArray { dimensions, .. } => usize::from(dimensions),
+        _ => FEW,
+    }
+}
+
+/// How many items of the stack an instruction takes at most.
+fn taken_by(method: &CodeMethod<'_, '_>, act: &Act<'_>, named: &Named<'_>) -> usize
+    requires { IsNamed (method_view method.now) (act_view act.now) named.now }
+    ensures { taken (plan (method_view method.now) (act_view act.now)) ≤ result }
+{
+    let called = with_receiver(named.method());
+    let site = without_receiver(named.site());
+    at_most(act, called, site)
+}
+
+/// Whether a type is that of an object that is not initialized.
+fn is_uninitialized(t: &VType<'_>) -> bool
+    ensures { result ≡ false → (other : VerificationType) → is_initialized (type_of t.now) other ≡ false }
+{
+    matches!(t, VType::UninitThis | VType::Uninit(_))
+}
+
+/// How many items stand in front of the first one that is of an object; all, where none is.
+fn first_of(object: &VType<'_>, items: &[VType<'_>]) -> usize
+    ensures few { result ≤ length items.now }
+    ensures other { (i : ℕ) → i < result → is_initialized (type_of object.now) (get_or (map type_of items.now) i top) ≡ false }
+{
+    for i in 0..items.len() {
+        if is_object(object, &items[i]) {
+            return i;
+        }
+    }
+    items.len()
+}
+
+/// How many of so many items from the bottom up stand in front of the first one that is of the object beneath the arguments of a call, if that is not
+/// initialized.
+fn first_of_receiver<'a>(called: &MethodConstant<'a>, stack: &[VType<'a>], limit: usize) -> usize
+    requires { limit ≤ length stack.now }
+    ensures few { result ≤ limit }
+    ensures other { let object = top_of (beneath (arguments_on (method_constant_view called.now).type.params []) (stack_of stack.now)) in
+        (i : ℕ) → i < result → is_initialized object (item (stack_of stack.now) i) ≡ false }
+{
+    let receiver = item_beneath(called.method_type.params.len(), stack);
+    if !is_uninitialized(&receiver) {
+        return limit;
+    }
+    first_of(&receiver, &stack[..limit])
+}
+
+/// How many items of the stack, from the bottom up, an instruction leaves as they are, at least: it takes those above them, and calls no
+/// constructor on an object that stands among them.
+pub fn items_kept<'a>(
+    method: &CodeMethod<'_, 'a>,
+    act: &Act<'a>,
+    named: &Named<'a>,
+    frame: &Working<'a>,
+) -> usize
+    requires { IsNamed (method_view method.now) (act_view act.now) named.now }
+    ensures { (at : ℕ) → let m = method_view method.now in let f = held frame.now in KeepsItems result f (after m at (plan m (act_view act.now)) f) }
+{
+    let stack = frame.stack();
+    let beneath = stack.len().saturating_sub(taken_by(method, act, named));
+    match special_index(act) {
+        None => beneath,
+        Some(_) => match named.method() {
+            None => beneath,
+            Some(called) => first_of_receiver(called, stack, beneath),
+        },
+    }
+}
+
+/// How many items of the stack a plain instruction leaves as they are, at least.
+pub fn items_kept_plainly<'a>(
+    method: &CodeMethod<'_, 'a>,
+    act: &Act<'a>,
+    frame: &Working<'a>,
+) -> usize
+    requires { is_plain (act_view act.now) ≡ true }
+    ensures { (at : ℕ) → let m = method_view method.now in let f = held frame.now in KeepsItems result f (after m at (plan m (act_view act.now)) f) }
+{
+    frame.stack().len().saturating_sub(FEW)
+}

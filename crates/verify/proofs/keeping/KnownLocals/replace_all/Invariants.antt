@@ -1,0 +1,16 @@
+use Rattle.std.proofs.Common.{◌≡◌, ◌⊎◌, ℕ, false, List, get_or, length}
+use Rattle.hierarchy.specs.Class.{ClassFact}
+use Rattle.frames.specs.FrameFact.{FrameFact}
+use Rattle.frames.specs.Objects.{is_initialized}
+use Rattle.frames.specs.VerificationType.{type_of, top}
+use Rattle.frames.specs.declared.declared_frames.DeclaredFrames.{DeclaredFrames}
+use Rattle.rules.specs.Held.{held, IsHolder}
+use Rattle.verify.specs.Keeping.{AreKnown}
+use Rattle.verify.proofs.Replacing.{AreReplaced}
+use Rattle.verify.proofs.keeping.KnownLocals.replace_all.Given as goal
+
+abbrev pub invariant-loop-holder : goal.invariant-loop-holder
+invariant-loop-holder l = AreReplaced (type_of l.object) (held l.frame) (IsHolder l.frame l.at) l.fn.self l.self
+
+abbrev pub decreases-loop-holder : goal.decreases-loop-holder
+decreases-loop-holder l = l.at

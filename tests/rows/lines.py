@@ -1,0 +1,76 @@
+"""Command lines, and what the program says of each: its texts are those of docs/REFUSALS.md and the README, and for a wrong line
+the first that `clap` has."""
+import re
+
+from tools.assembler import named
+from tools.class_k import K, OBJECT_CLASS
+from tools.places import TOP
+
+# The files that stand in the folder in which the program runs.
+FILES = {"K": K.data(), "O": OBJECT_CLASS, "A": named("A").data(), "-a": K.data()}
+# The toolchain by which the README says that all is proved.
+TOOLCHAIN = re.search(r"`(logic \w+ \(rattle-kit[^)]*\))`", (TOP / "README.md").read_text()).group(1)
+MISSING = "error: the following required arguments were not provided:"
+
+# The words behind the program's name, the first line that is printed, and the status.
+LINES = [
+    ("check K", "ok", 0),
+    ("check -- -a", "ok", 0),
+    ("check --json K", '{"kind":"file","answer":"ok"}', 0),
+    ("check K --json", '{"kind":"file","answer":"ok"}', 0),
+    ("verify K --json O", '{"kind":"method","name":"f","descriptor":"()V","answer":"verified"}', 0),
+    ("check --json .", '{"kind":"file","answer":"refused","number":15,"at":0}', 2),
+    ("show --json K", "error: unexpected argument '--json' found", 2),
+    ("play --json K O", "error: unexpected argument '--json' found", 2),
+    ("check --json --json K", "error: the argument '--json' cannot be used multiple times", 2),
+    ("check --json", MISSING, 2),
+    ("verify --dynamic K --json O", '{"kind":"method","name":"f","descriptor":"()V","answer":"verified"}', 0),
+    ("play --dynamic K O", "play verified", 0),
+    ("check --dynamic K", "error: unexpected argument '--dynamic' found", 2),
+    ("verify --dynamic --dynamic K", "error: the argument '--dynamic' cannot be used multiple times", 2),
+    ("explain K O", "", 0),
+    ("explain --dynamic K O A", "", 0),
+    ("explain K A", "hierarchy refused 42 K", 1),
+    ("explain .", "class refused 15 at 0", 2),
+    ("explain K .", "known 1 refused 15 at 0", 2),
+    ("explain K missing", "file 2 cannot be opened", 2),
+    ("explain --json K", "error: unexpected argument '--json' found", 2),
+    ("verify K O A", "method f ()V verified", 0),
+    ("verify K A", "hierarchy refused 42 K", 1),
+    ("play K O A", "play verified", 0),
+    ("play K", "hierarchy refused 42 K", 1),
+    ("verify-each K A --known O", "file 1 K", 0),
+    ("verify-each --known O A -- K", "file 1 K", 0),
+    ("verify-each --known O --known A -- -a", "file 1 K", 0),
+    ("verify-each K O", "file 1 K", 0),
+    ("verify-each K", "hierarchy refused 43", 1),
+    ("check missing", "file 1 cannot be opened", 2),
+    ("verify K O missing A", "file 3 cannot be opened", 2),
+    ("play K missing", "file 2 cannot be opened", 2),
+    ("verify-each K --known O missing", "file 3 cannot be opened", 2),
+    ("verify-each --known missing -- K", "file 2 cannot be opened", 2),
+    # a folder among those that are judged
+    ("verify-each . --known O", "file 1", 2),
+    # a folder is opened, and not read
+    ("check .", "refused 15 at 0", 2),
+    ("check", MISSING, 2),
+    ("verify", MISSING, 2),
+    ("explain", MISSING, 2),
+    ("play", MISSING, 2),
+    ("verify-each", MISSING, 2),
+    ("verify-each --known O", MISSING, 2),
+    ("verify-each K --known", "error: a value is required for '--known <KNOWN>...' but none was supplied", 2),
+    ("", "error: 'classck' requires a subcommand but one was not provided", 2),
+    ("check K O", "error: unexpected argument 'O' found", 2),
+    ("judge K", "error: unrecognized subcommand 'judge'", 2),
+    # help and the version
+    ("--version", f"classck 0.9, proved with {TOOLCHAIN}", 2),
+    ("-V", f"classck 0.9, proved with {TOOLCHAIN}", 2),
+    ("--help", "Verifies Java class files by type checking", 2),
+    ("check --help", "Prints `ok`, or `refused` with the number of the first fault and its place", 2),
+    ("help show", "Prints what a class file holds, and of each method with code its instructions", 2),
+    ("verify -h", "Prints the verdict on each method of a class", 2),
+    ("explain -h", "Prints each method of a class that is refused, and why", 2),
+    ("play -h", "Prints whether all methods of classes that run together are verified", 2),
+    ("verify-each -h", "Prints the verdict on each method of each of many classes", 2),
+]
