@@ -7,36 +7,53 @@ use Rattle.pool.specs.Entries.{Entry}
 use Rattle.classfile.specs.Methods.{code_of}
 use Rattle.classfile.specs.Values.{Member}
 use Rattle.verify.specs.declared.report.MethodVerdict.{MethodVerdict}
+use Rattle.verify.specs.declared.coming.FramesAt.{FramesAt}
+use Rattle.verify.specs.Coming.{frames_view}
 use Rattle.answers.specs.Explanations.{explanation, explanations}
 
 module _ {X : Type 0} (view : X → Member) (line : MethodVerdict → List ℕ) (pool : List Entry) where
-  abbrev pub left : List X → List MethodVerdict → ℕ → List ℕ
-  left ms rs i = explanations line pool (map view (drop i ms)) (drop i rs)
+  abbrev pub left : List X → List MethodVerdict → List FramesAt → ℕ → List ℕ
+  left ms rs xs i = explanations line pool (map view (drop i ms)) (drop i rs) (drop i xs)
 
-  abbrev pub one : X → MethodVerdict → List ℕ
-  one m r = explanation pool (code_of (view m).attributes) (line r) r.verdict
+  abbrev pub one : X → MethodVerdict → FramesAt → List ℕ
+  one m r x = explanation pool (code_of (view m).attributes) (line r) r.verdict (frames_view x)
 
   -- that of the method at i, in front of those behind it
-  pub explained_left : (ms : List X) (rs : List MethodVerdict) (i : ℕ) (m : X) (r : MethodVerdict) → i < length ms → i < length rs
-      → left ms rs i ≡ one (slice_index_or ms i m) (slice_index_or rs i r) ++ left ms rs (i + 1)
-  explained_left ms rs i m r lt less =
-      at_drop_more (λ l. explanations line pool (map view l) (drop i rs)) ms i m lt
-      ∙ at_drop_more (λ l. explanations line pool (map view (slice_index_or ms i m ∷ drop (i + 1) ms)) l) rs i r less
+  pub explained_left : (ms : List X) (rs : List MethodVerdict) (xs : List FramesAt) (i : ℕ) (m : X) (r : MethodVerdict) (x : FramesAt)
+      → i < length ms → i < length rs → i < length xs
+      → left ms rs xs i ≡ one (slice_index_or ms i m) (slice_index_or rs i r) (slice_index_or xs i x) ++ left ms rs xs (i + 1)
+  explained_left ms rs xs i m r x lt less few =
+      at_drop_more (λ l. explanations line pool (map view l) (drop i rs) (drop i xs)) ms i m lt
+      ∙ at_drop_more (λ l. explanations line pool (map view (slice_index_or ms i m ∷ drop (i + 1) ms)) l (drop i xs)) rs i r less
+      ∙ at_drop_more (λ l. explanations line pool (map view (slice_index_or ms i m ∷ drop (i + 1) ms)) (slice_index_or rs i r ∷ drop (i + 1) rs) l) xs i x few
 
-  without_verdicts : (ms : List X) → explanations line pool (map view ms) [] ≡ []
-  without_verdicts [] = refl
-  without_verdicts (m ∷ ms) = refl
+  without_verdicts : (ms : List X) (xs : List FramesAt) → explanations line pool (map view ms) [] xs ≡ []
+  without_verdicts [] xs = refl
+  without_verdicts (m ∷ ms) xs = refl
+
+  without_frames : (ms : List X) (rs : List MethodVerdict) → explanations line pool (map view ms) rs [] ≡ []
+  without_frames [] rs = refl
+  without_frames (m ∷ ms) [] = refl
+  without_frames (m ∷ ms) (r ∷ rs) = refl
 
   -- none is left where one of the lists is at its end
-  pub none_left : (ms : List X) (rs : List MethodVerdict) (i : ℕ) → min (length ms) (length rs) ≤ i → left ms rs i ≡ []
-  none_left ms rs i le = by (cases_order (length ms) i)
+  pub none_left : (ms : List X) (rs : List MethodVerdict) (xs : List FramesAt) (i : ℕ) → min (min (length ms) (length rs)) (length xs) ≤ i → left ms rs xs i ≡ []
+  none_left ms rs xs i le = by (cases_order (length ms) i)
     where
-      at_members : length ms ≤ i → left ms rs i ≡ []
-      at_members past = ap (λ l. explanations line pool (map view l) (drop i rs)) (drop_all i ms past)
+      at_members : length ms ≤ i → left ms rs xs i ≡ []
+      at_members past = ap (λ l. explanations line pool (map view l) (drop i rs) (drop i xs)) (drop_all i ms past)
 
-      by : (length ms ≡ i) ⊎ ((length ms < i) ⊎ (i < length ms)) → left ms rs i ≡ []
+      at_verdicts : length rs ≤ i → left ms rs xs i ≡ []
+      at_verdicts past = ap (λ l. explanations line pool (map view (drop i ms)) l (drop i xs)) (drop_all i rs past) ∙ without_verdicts (drop i ms) (drop i xs)
+
+      by_verdicts : i < length ms → (length rs ≡ i) ⊎ ((length rs < i) ⊎ (i < length rs)) → left ms rs xs i ≡ []
+      by_verdicts lt (inl e) = at_verdicts (omega (arith, e))
+      by_verdicts lt (inr (inl less)) = at_verdicts (omega (arith, less))
+      by_verdicts lt (inr (inr less)) =
+          let past : length xs ≤ i = omega (arith, lt, less, le) in
+          ap (λ l. explanations line pool (map view (drop i ms)) (drop i rs) l) (drop_all i xs past) ∙ without_frames (drop i ms) (drop i rs)
+
+      by : (length ms ≡ i) ⊎ ((length ms < i) ⊎ (i < length ms)) → left ms rs xs i ≡ []
       by (inl e) = at_members (omega (arith, e))
       by (inr (inl lt)) = at_members (omega (arith, lt))
-      by (inr (inr lt)) =
-          let past : length rs ≤ i = omega (arith, lt, le) in
-          ap (λ l. explanations line pool (map view (drop i ms)) l) (drop_all i rs past) ∙ without_verdicts (drop i ms)
+      by (inr (inr lt)) = by_verdicts lt (cases_order (length rs) i)

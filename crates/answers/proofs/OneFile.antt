@@ -6,7 +6,7 @@ use Rattle.classfile.specs.Laws.{OneClass, NoFaultInClass, OneFault}
 use Rattle.classfile.specs.FormLaws.{NoFaultInFormed, OneFirstFault}
 use Rattle.classfile.specs.WellFormed.{WellFormed, IsFirstFault}
 use Rattle.hierarchy.specs.Faults.{FaultsBreakRules, OneFault as OneHierarchyFault}
-use Rattle.verify.specs.OneVerdict.{OneReport}
+use Rattle.verify.specs.OneVerdict.{OneReport, OneFrames}
 use Rattle.verify.specs.Files.{Read, IsFormed, IsRefused}
 use Rattle.verify.specs.declared.files.FileFault.{FileFault}
 use Rattle.verify.specs.declared.files.FileFault.TheVariants.{OutOfMemory, Unread, NoClass, Malformed}
@@ -21,6 +21,7 @@ pub record Laws : Type 0 where
   pub not_hierarchy : FaultsBreakRules
   pub one_hierarchy_fault : OneHierarchyFault
   pub one_report : OneReport
+  pub one_frames : OneFrames
 
 -- a file is one class
 pub one_formed : Laws → (read : Read) (c d : Class) → IsFormed read c → IsFormed read d → c ≡ d

@@ -21,7 +21,9 @@ use Rattle.rules.specs.Reasons.{reason_number, reason_view}
 use Rattle.verify.specs.declared.verdict.Verdict.{Verdict}
 use Rattle.verify.specs.declared.verdict.Verdict.TheVariants.{Verified, NoCode, Refused}
 use Rattle.verify.specs.declared.report.MethodVerdict.{MethodVerdict}
-use Rattle.verify.specs.OneVerdict.{AreSameVerdict, IsSameLine}
+use Rattle.verify.specs.OneVerdict.{AreSameVerdict, IsSameLine, IsSameReport}
+use Rattle.verify.specs.declared.coming.FramesAt.{FramesAt}
+use Rattle.verify.specs.Coming.{FramesFact, frames_view}
 use Rattle.printing.specs.Faults.{at_text}
 use Rattle.printing.specs.Names.{name_text, spelled_text}
 use Rattle.printing.specs.Json.{Field, number, name, spelled, object_line}
@@ -38,7 +40,7 @@ use Rattle.verify.specs.declared.files.FileFault.TheVariants as files
 use Rattle.verify.specs.declared.files.FileFault.TheVariants.{Malformed}
 use Rattle.verify.specs.Files.{Read, IsFormed, IsRefused, AreFormed, IsFirstRefused}
 use Rattle.answers.specs.Files.{refusal_status}
-use Rattle.answers.specs.Verdicts.{class_refusal, known_refusal, IsPart, IsTold, hierarchy_told, report_told, fault_name, named_field, name_fields, hierarchy_refusal, reason_ending, reason_fields, verdict_text, verdict_fields, verdict_line, is_refusal, ClassSays, HierarchySays, KnownSays, VerifySays}
+use Rattle.answers.specs.Verdicts.{class_refusal, known_refusal, IsPart, IsTold, hierarchy_told, IsReportTold, fault_name, named_field, name_fields, hierarchy_refusal, reason_ending, reason_fields, verdict_text, verdict_fields, verdict_line, is_refusal, ClassSays, HierarchySays, KnownSays, VerifySays}
 use Rattle.answers.proofs.OneFile.{Laws, one_formed, not_refused, one_refusal}
 
 false_true : false ≡ true → ⊥
@@ -162,16 +164,16 @@ lines_by_view : (why : Reason) → reason_lines why ≡ lines_of (reason_view wh
 lines_by_view reasons.OutOfMemory = refl
 lines_by_view _ = refl
 
-same_explanation : (pool : List Entry) (body : Option CodeBody) (line : List ℕ) (v w : Verdict) → AreSameVerdict v w
-    → explanation pool body line v ≡ explanation pool body line w
-same_explanation pool body line Verified Verified e = refl
-same_explanation pool body line NoCode NoCode e = refl
-same_explanation pool body line (Refused at why) (Refused there other) e =
+same_explanation : (pool : List Entry) (body : Option CodeBody) (line : List ℕ) (v w : Verdict) (x : FramesFact) → AreSameVerdict v w
+    → explanation pool body line v x ≡ explanation pool body line w x
+same_explanation pool body line Verified Verified x e = refl
+same_explanation pool body line NoCode NoCode x e = refl
+same_explanation pool body line (Refused at why) (Refused there other) x e =
     let lines : reason_lines why ≡ reason_lines other = lines_by_view why ∙ ap lines_of e.2 ∙ sym (lines_by_view other) in
-    ap (λ x. line ++ (x ++ code_part (reason_number why) pool body at)) lines
-    ∙ ap (λ n. line ++ (reason_lines other ++ code_part n pool body at)) e.1
-    ∙ ap (λ a. line ++ (reason_lines other ++ code_part (reason_number other) pool body a)) e.0
-same_explanation pool body line _ _ e = absurd e
+    ap (λ z. line ++ (z ++ code_part (reason_number why) pool body at x)) lines
+    ∙ ap (λ n. line ++ (reason_lines other ++ code_part n pool body at x)) e.1
+    ∙ ap (λ a. line ++ (reason_lines other ++ code_part (reason_number other) pool body a x)) e.0
+same_explanation pool body line _ _ x e = absurd e
 
 abbrev has_refusal : List MethodVerdict → Bool
 has_refusal rs = list_any (λ r. is_refusal r.verdict) rs
@@ -189,26 +191,28 @@ same_lines form (r ∷ rs) (q ∷ qs) e each =
       ap (λ x. x || has_refusal rs) (same_verdict r.verdict q.verdict here.verdict).refusal ∙ ap (λ x. is_refusal q.verdict || x) rest.1,
     )
 
-same_explanations : (pool : List Entry) (ms : List Member) (rs qs : List MethodVerdict) → length rs ≡ length qs
+same_explanations : (pool : List Entry) (ms : List Member) (rs qs : List MethodVerdict) (xs ys : List FramesAt) → length rs ≡ length qs
     → ((number : ℕ) (r q : MethodVerdict) → slice_get rs number ≡ Some r → slice_get qs number ≡ Some q → IsSameLine r q)
-    → explanations (verdict_line Plain) pool ms rs ≡ explanations (verdict_line Plain) pool ms qs
-same_explanations pool [] rs qs e each = refl
-same_explanations pool (m ∷ ms) [] [] e each = refl
-same_explanations pool (m ∷ ms) [] (q ∷ qs) e each = absurd (omega (arith, e))
-same_explanations pool (m ∷ ms) (r ∷ rs) [] e each = absurd (omega (arith, e))
-same_explanations pool (m ∷ ms) (r ∷ rs) (q ∷ qs) e each =
+    → length xs ≡ length ys
+    → ((number : ℕ) (x y : FramesAt) → slice_get xs number ≡ Some x → slice_get ys number ≡ Some y → frames_view x ≡ frames_view y)
+    → explanations (verdict_line Plain) pool ms rs xs ≡ explanations (verdict_line Plain) pool ms qs ys
+same_explanations pool [] rs qs xs ys e each f all = refl
+same_explanations pool (m ∷ ms) [] [] xs ys e each f all = refl
+same_explanations pool (m ∷ ms) [] (q ∷ qs) xs ys e each f all = absurd (omega (arith, e))
+same_explanations pool (m ∷ ms) (r ∷ rs) [] xs ys e each f all = absurd (omega (arith, e))
+same_explanations pool (m ∷ ms) (r ∷ rs) (q ∷ qs) [] [] e each f all = refl
+same_explanations pool (m ∷ ms) (r ∷ rs) (q ∷ qs) [] (y ∷ ys) e each f all = absurd (omega (arith, f))
+same_explanations pool (m ∷ ms) (r ∷ rs) (q ∷ qs) (x ∷ xs) [] e each f all = absurd (omega (arith, f))
+same_explanations pool (m ∷ ms) (r ∷ rs) (q ∷ qs) (x ∷ xs) (y ∷ ys) e each f all =
     let here = each zero r q refl refl in
     let body = code_of m.attributes in
-    let one : explanation pool body (verdict_line Plain r) r.verdict ≡ explanation pool body (verdict_line Plain q) q.verdict =
-    ap (λ l. explanation pool body l r.verdict) (same_line Plain r q here) ∙ same_explanation pool body (verdict_line Plain q) r.verdict q.verdict here.verdict in
-    ap (λ x. x ++ explanations (verdict_line Plain) pool ms rs) one
-    ∙ ap (λ x. explanation pool body (verdict_line Plain q) q.verdict ++ x) (same_explanations pool ms rs qs (omega (arith, e)) (λ n. each (suc n)))
-
-same_report : (manner : Manner) (c : Class) (rs qs : List MethodVerdict) → length rs ≡ length qs
-    → ((number : ℕ) (r q : MethodVerdict) → slice_get rs number ≡ Some r → slice_get qs number ≡ Some q → IsSameLine r q)
-    → (report_told manner c rs ≡ report_told manner c qs) × (has_refusal rs ≡ has_refusal qs)
-same_report (Told form) c rs qs e each = same_lines form rs qs e each
-same_report Explained c rs qs e each = (same_explanations c.constant_pool c.methods rs qs e each, (same_lines Plain rs qs e each).1)
+    let one : explanation pool body (verdict_line Plain r) r.verdict (frames_view x) ≡ explanation pool body (verdict_line Plain q) q.verdict (frames_view y) =
+    ap (λ l. explanation pool body l r.verdict (frames_view x)) (same_line Plain r q here)
+    ∙ same_explanation pool body (verdict_line Plain q) r.verdict q.verdict (frames_view x) here.verdict
+    ∙ ap (explanation pool body (verdict_line Plain q) q.verdict) (all zero x y refl refl) in
+    ap (λ z. z ++ explanations (verdict_line Plain) pool ms rs xs) one
+    ∙ ap (λ z. explanation pool body (verdict_line Plain q) q.verdict (frames_view y) ++ z)
+    (same_explanations pool ms rs qs xs ys (omega (arith, e)) (λ n. each (suc n)) (omega (arith, f)) (λ n. all (suc n)))
 
 module _ (laws : Laws) where
   -- ---- of files
@@ -273,6 +277,13 @@ module _ (laws : Laws) where
 
   -- ---- what is said
 
+  same_report : (manner : Manner) (classes : List ClassFact) (c : JudgedClass) (rs qs : List MethodVerdict) (text other : List ℕ) → IsSameReport rs qs
+      → IsReportTold manner classes c rs text → IsReportTold manner classes c qs other → text ≡ other
+  same_report (Told form) classes c rs qs text other same p q = p ∙ (same_lines form rs qs same.all same.each).0 ∙ sym q
+  same_report Explained classes c rs qs text other same (xs, p, t) (ys, q, u) =
+      let frames = laws.one_frames classes c rs qs xs ys same p q in
+      t ∙ same_explanations c.file.constant_pool c.file.methods rs qs xs ys same.all same.each frames.all frames.each ∙ sym u
+
   pub one_class : (manner : Manner) (classes : List ClassFact) (c : JudgedClass) (text other : List ℕ) (status next : ℕ)
       → ClassSays manner classes c text status → ClassSays manner classes c other next → (text ≡ other) × (status ≡ next)
   one_class manner classes c text other status next (inl (f, t, s)) (inl (g, u, v)) = (t ∙ sym u, s ∙ sym v)
@@ -280,8 +291,7 @@ module _ (laws : Laws) where
   one_class manner classes c text other status next (inr (f, p)) (inl (g, u, v)) = absurd (false_true (sym f ∙ g))
   one_class manner classes c text other status next (inr (f, (rs, p, t, s))) (inr (g, (qs, q, u, v))) =
       let report = laws.one_report classes c rs qs p q in
-      let same = same_report manner c.file rs qs report.all report.each in
-      (t ∙ same.0 ∙ sym u, s ∙ ap (λ b. if b then 1 else 0) same.1 ∙ sym v)
+      (same_report manner classes c rs qs text other report t u, s ∙ ap (λ b. if b then 1 else 0) (same_lines Plain rs qs report.all report.each).1 ∙ sym v)
 
   one_judged : (manner : Manner) (classes : List ClassFact) (c : JudgedClass) (text other : List ℕ) (status next : ℕ)
       → HierarchySays manner classes c text status → HierarchySays manner classes c other next → (text ≡ other) × (status ≡ next)

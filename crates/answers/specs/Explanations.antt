@@ -1,15 +1,20 @@
 -- The lines of `explain` about the methods of a class: of each that is refused its line, what the number says, and what is shown of its code.
-use Rattle.std.specs.Prelude.{ℕ, Bool, ◌||◌, nat_eq, if◌then◌else◌, List, [], ◌∷◌, ◌++◌, Option, Some, None}
+use Rattle.std.specs.Prelude.{ℕ, Bool, ◌||◌, nat_eq, if◌then◌else◌, List, [], ◌∷◌, ◌++◌, Option, Some, None, codes}
 use Rattle.std.specs.List.{flat_map}
 use Rattle.pool.specs.Entries.{Entry}
 use Rattle.classfile.specs.Values.{CodeBody, Member}
 use Rattle.classfile.specs.Methods.{code_of}
 use Rattle.insn.specs.Readings.{reading_of}
+use Rattle.frames.specs.FrameFact.{FrameFact}
 use Rattle.rules.specs.Reasons.{reason_number}
+use Rattle.rules.specs.ReasonNumbers.{not_assignable}
+use Rattle.printing.specs.Frames.{frame_lines}
 use Rattle.printing.specs.Classes.{sizes_line, line_at, named_at, catch_line}
 use Rattle.verify.specs.declared.verdict.Verdict.{Verdict}
 use Rattle.verify.specs.declared.verdict.Verdict.TheVariants.{Verified, NoCode, Refused}
 use Rattle.verify.specs.declared.report.MethodVerdict.{MethodVerdict}
+use Rattle.verify.specs.declared.coming.FramesAt.{FramesAt}
+use Rattle.verify.specs.Coming.{FramesFact, before, frames_view}
 use Rattle.answers.specs.Sentences.{reason_lines}
 
 -- these numbers are about entries of the exception table
@@ -19,20 +24,38 @@ is_of_table n = nat_eq n 72 || nat_eq n 73 || nat_eq n 75
 abbrev pub entries_for : ℕ → List Entry → CodeBody → List ℕ
 entries_for n pool body = if is_of_table n then flat_map (catch_line pool) body.exception_table else []
 
--- of the code, as `show` has it: its sizes, the instruction at the offset with the constant that it names, and the exception table where
--- a number is about it
-abbrev pub code_part : ℕ → List Entry → Option CodeBody → ℕ → List ℕ
-code_part n pool None at = []
-code_part n pool (Some body) at = sizes_line body ++ (line_at (reading_of body.code) at ++ (named_at pool (reading_of body.code) at ++ entries_for n pool body))
+-- of a frame under a label, if there is one
+abbrev pub lines_if : List ℕ → Option FrameFact → List ℕ
+lines_if label None = []
+lines_if label (Some f) = frame_lines label f
 
--- of a method with this line and this verdict
-abbrev pub explanation : List Entry → Option CodeBody → List ℕ → Verdict → List ℕ
-explanation pool body line Verified = []
-explanation pool body line NoCode = []
-explanation pool body line (Refused at why) = line ++ (reason_lines why ++ code_part (reason_number why) pool body at)
+-- this number is about the frame that comes to an instruction and the one that is declared there
+abbrev pub is_of_entry : ℕ → Bool
+is_of_entry n = nat_eq n not_assignable
 
--- of methods and the verdicts on them, each with its line
-abbrev pub explanations : (MethodVerdict → List ℕ) → List Entry → List Member → List MethodVerdict → List ℕ
-explanations line pool [] rs = []
-explanations line pool (m ∷ ms) [] = []
-explanations line pool (m ∷ ms) (r ∷ rs) = explanation pool (code_of m.attributes) (line r) r.verdict ++ explanations line pool ms rs
+-- the frame before an instruction; where a number is about both, the one that comes and the one that is declared
+abbrev pub frames_for : ℕ → FramesFact → List ℕ
+frames_for n x =
+    if is_of_entry n then lines_if [] x.coming ++ lines_if (codes "declared ") x.declared
+    else lines_if [] (before x.coming x.declared)
+
+-- of the code, as `show` has it: its sizes, the instruction at the offset with the constant that it names, the frames there, and the
+-- exception table where a number is about it
+abbrev pub code_part : ℕ → List Entry → Option CodeBody → ℕ → FramesFact → List ℕ
+code_part n pool None at x = []
+code_part n pool (Some body) at x =
+    sizes_line body ++ (line_at (reading_of body.code) at ++ (named_at pool (reading_of body.code) at ++ (frames_for n x ++ entries_for n pool body)))
+
+-- of a method with this line, this verdict and these frames at the instruction at which it is refused
+abbrev pub explanation : List Entry → Option CodeBody → List ℕ → Verdict → FramesFact → List ℕ
+explanation pool body line Verified x = []
+explanation pool body line NoCode x = []
+explanation pool body line (Refused at why) x = line ++ (reason_lines why ++ code_part (reason_number why) pool body at x)
+
+-- of methods, the verdicts on them and their frames, each with its line
+abbrev pub explanations : (MethodVerdict → List ℕ) → List Entry → List Member → List MethodVerdict → List FramesAt → List ℕ
+explanations line pool [] rs xs = []
+explanations line pool (m ∷ ms) [] xs = []
+explanations line pool (m ∷ ms) (r ∷ rs) [] = []
+explanations line pool (m ∷ ms) (r ∷ rs) (x ∷ xs) =
+    explanation pool (code_of m.attributes) (line r) r.verdict (frames_view x) ++ explanations line pool ms rs xs

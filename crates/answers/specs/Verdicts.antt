@@ -18,6 +18,8 @@ use Rattle.verify.specs.declared.verdict.Verdict.{Verdict}
 use Rattle.verify.specs.declared.verdict.Verdict.TheVariants.{Verified, NoCode, Refused}
 use Rattle.verify.specs.declared.report.MethodVerdict.{MethodVerdict}
 use Rattle.verify.specs.FinalSuper.{has_final_super}
+use Rattle.verify.specs.declared.coming.FramesAt.{FramesAt}
+use Rattle.verify.specs.Coming.{AreFramed}
 use Rattle.verify.specs.Reports.{IsReport}
 use Rattle.printing.specs.Faults.{at_text}
 use Rattle.printing.specs.Names.{name_text, spelled_text}
@@ -144,16 +146,17 @@ abbrev pub final_super_told : Manner → List ℕ
 final_super_told (Told form) = final_super_refusal form
 final_super_told Explained = final_super_refusal Plain ++ sentence_line 81
 
--- the verdicts on the methods of a class; `explain` tells those that refuse
-abbrev pub report_told : Manner → Class → List MethodVerdict → List ℕ
-report_told (Told form) c rs = flat_map (verdict_line form) rs
-report_told Explained c rs = explanations (verdict_line Plain) c.constant_pool c.methods rs
+-- the verdicts on the methods of a class; `explain` tells those that refuse, with the frames at the instructions at which they do
+abbrev pub IsReportTold : Manner → List ClassFact → JudgedClass → List MethodVerdict → List ℕ → Type 0
+IsReportTold (Told form) classes c rs text = text ≡ flat_map (verdict_line form) rs
+IsReportTold Explained classes c rs text =
+    (xs : List FramesAt) × AreFramed classes c rs xs × (text ≡ explanations (verdict_line Plain) c.file.constant_pool c.file.methods rs xs)
 
 -- ---- what is said
 
 -- the verdicts on the methods of a class
 abbrev pub ReportSays : Manner → List ClassFact → JudgedClass → List ℕ → ℕ → Type 0
-ReportSays manner classes c text status = (rs : List MethodVerdict) × IsReport classes c rs × (text ≡ report_told manner c.file rs) × (status ≡ report_status rs)
+ReportSays manner classes c text status = (rs : List MethodVerdict) × IsReport classes c rs × IsReportTold manner classes c rs text × (status ≡ report_status rs)
 
 -- Of a class in a hierarchy: that its superclass is final, or the verdicts on its methods.
 abbrev pub ClassSays : Manner → List ClassFact → JudgedClass → List ℕ → ℕ → Type 0

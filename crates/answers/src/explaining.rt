@@ -1,9 +1,11 @@
 //! The lines of `explain` about the methods of a class.
-ghost use Rattle.std.specs.Prelude.{◌≡◌, map};
+ghost use Rattle.std.specs.Prelude.{◌≡◌, map, [], codes, option_map};
 ghost use Rattle.classfile.specs.Methods.{code_of};
 ghost use Rattle.classfile.specs.Views.{member_view, code_view};
+ghost use Rattle.frames.specs.FrameFact.{frame_of};
 ghost use Rattle.rules.specs.Reasons.{reason_number};
-ghost use Rattle.answers.specs.Explanations.{is_of_table, entries_for, code_part, explanation, explanations};
+ghost use Rattle.verify.specs.Coming.{before, frames_view};
+ghost use Rattle.answers.specs.Explanations.{is_of_table, entries_for, lines_if, is_of_entry, frames_for, code_part, explanation, explanations};
 ghost use Rattle.answers.specs.Verdicts.{verdict_line};
 ghost use Rattle.answers.specs.declared.command.Form.TheVariants.{Plain};
 
@@ -12,10 +14,12 @@ use crate::sentences::ReasonSentences;
 use crate::verdicts::VerdictLine;
 use classfile::{CodeAttr, Member};
 use pool::Pool;
-use printing::{Handlers, InstructionAt, NamedAt, Print, Sizes, Then, Word, WriteFailed};
+use printing::{
+    FrameLines, Handlers, InstructionAt, NamedAt, Print, Sizes, Then, Word, WriteFailed,
+};
 use rules::Reason;
 use std::io::Write;
-use verify::{MethodVerdict, Verdict};
+use verify::{FramesAt, MethodVerdict, Verdict};
 
 /// Whether a reason is about entries of the exception table.
 fn is_of_table(reason: &Reason<'_>) -> bool
@@ -51,17 +55,95 @@ impl<'m, 'a> Print for Entries<'m, 'a> {
     }
 }
 
+/// Whether a reason is about the frame that comes to an instruction and the one that is declared there.
+fn is_of_entry(reason: &Reason<'_>) -> bool
+    ensures { result ≡ is_of_entry (reason_number reason.now) }
+{
+    match reason {
+        Reason::NotAssignable => true,
+        _ => false,
+    }
+}
+
+/// The lines of the frame that comes to an instruction, if one does.
+#[derive(Clone, Copy)]
+struct Coming<'r, 'a>(&'r FramesAt<'a>);
+
+impl<'r, 'a> Print for Coming<'r, 'a> {
+    ghost text = { λ t. lines_if [] (frames_view t.0.now).coming };
+
+    fn put<W: Write>(&self, out: &mut W) -> Result<(), WriteFailed> {
+        match &self.0.coming {
+            Some(frame) => FrameLines { label: "", frame }.put(out),
+            None => Word("").put(out),
+        }
+    }
+}
+
+/// The lines of the frame that is declared at an instruction, if one is.
+#[derive(Clone, Copy)]
+struct Declared<'r, 'a>(&'r FramesAt<'a>);
+
+impl<'r, 'a> Print for Declared<'r, 'a> {
+    ghost text = { λ t. lines_if (codes "declared ") (frames_view t.0.now).declared };
+
+    fn put<W: Write>(&self, out: &mut W) -> Result<(), WriteFailed> {
+        match &self.0.declared {
+            Some(frame) => {
+                let label = "declared ";
+                FrameLines { label, frame }.put(out)
+            }
+            None => Word("").put(out),
+        }
+    }
+}
+
+/// The lines of the frame before an instruction, if there is one.
+#[derive(Clone, Copy)]
+struct Before<'r, 'a>(&'r FramesAt<'a>);
+
+impl<'r, 'a> Print for Before<'r, 'a> {
+    ghost text = { λ t. lines_if [] (before (frames_view t.0.now).coming (frames_view t.0.now).declared) };
+
+    fn put<W: Write>(&self, out: &mut W) -> Result<(), WriteFailed> {
+        match &self.0.declared {
+            Some(frame) => FrameLines { label: "", frame }.put(out),
+            None => Coming(self.0).put(out),
+        }
+    }
+}
+
+/// The frames at the instruction at which a method is refused for a reason.
+#[derive(Clone, Copy)]
+struct FramesFor<'r, 'a> {
+    reason: Reason<'a>,
+    frames: &'r FramesAt<'a>,
+}
+
+impl<'r, 'a> Print for FramesFor<'r, 'a> {
+    ghost text = { λ t. frames_for (reason_number t.reason) (frames_view t.frames.now) };
+
+    fn put<W: Write>(&self, out: &mut W) -> Result<(), WriteFailed> {
+        if is_of_entry(&self.reason) {
+            Then(Coming(self.frames), Declared(self.frames)).put(out)
+        } else {
+            Before(self.frames).put(out)
+        }
+    }
+}
+
 /// The part of the code that is shown of a method which is refused at an offset for a reason.
 #[derive(Clone, Copy)]
-struct CodePart<'m, 'a> {
+struct CodePart<'m, 'r, 'a> {
     reason: Reason<'a>,
     pool: &'m Pool<'a>,
     member: &'m Member<'a>,
     at: usize,
+    frames: &'r FramesAt<'a>,
 }
 
-impl<'m, 'a> Print for CodePart<'m, 'a> {
-    ghost text = { λ t. code_part (reason_number t.reason) t.pool.now (code_of (member_view t.member.now).attributes) t.at };
+impl<'m, 'r, 'a> Print for CodePart<'m, 'r, 'a> {
+    ghost text = { λ t. code_part (reason_number t.reason) t.pool.now (code_of (member_view t.member.now).attributes) t.at (frames_view t.frames.now) };
 
     fn put<W: Write>(&self, out: &mut W) -> Result<(), WriteFailed> {
         match self.member.code() {
@@ -70,29 +152,32 @@ impl<'m, 'a> Print for CodePart<'m, 'a> {
                 let code = body.code;
                 let at = self.at;
                 let pool = self.pool;
-                let entries = Entries {
-                    reason: self.reason,
-                    pool,
-                    body,
+                let reason = self.reason;
+                let frames = FramesFor {
+                    reason,
+                    frames: self.frames,
                 };
+                let entries = Entries { reason, pool, body };
                 let named = NamedAt { pool, code, at };
-                let behind = Then(InstructionAt { code, at }, Then(named, entries));
+                let behind = Then(named, Then(frames, entries));
+                let behind = Then(InstructionAt { code, at }, behind);
                 Then(Sizes(body), behind).put(out)
             }
         }
     }
 }
 
-/// A method and the verdict on it, which is explained where it refuses.
+/// A method and the verdict on it, which is explained where it refuses, with the frames at the instruction at which it does.
 #[derive(Clone, Copy)]
-struct Explanation<'m, 'a> {
+struct Explanation<'m, 'r, 'a> {
     pool: &'m Pool<'a>,
     member: &'m Member<'a>,
     method: MethodVerdict<'a>,
+    frames: &'r FramesAt<'a>,
 }
 
-impl<'m, 'a> Print for Explanation<'m, 'a> {
-    ghost text = { λ t. explanation t.pool.now (code_of (member_view t.member.now).attributes) (verdict_line Plain t.method) t.method.verdict };
+impl<'m, 'r, 'a> Print for Explanation<'m, 'r, 'a> {
+    ghost text = { λ t. explanation t.pool.now (code_of (member_view t.member.now).attributes) (verdict_line Plain t.method) t.method.verdict (frames_view t.frames.now) };
 
     fn put<W: Write>(&self, out: &mut W) -> Result<(), WriteFailed> {
         match self.method.verdict {
@@ -107,6 +192,7 @@ impl<'m, 'a> Print for Explanation<'m, 'a> {
                     pool: self.pool,
                     member: self.member,
                     at,
+                    frames: self.frames,
                 };
                 Then(line, Then(ReasonSentences(reason), code)).put(out)
             }
@@ -114,24 +200,27 @@ impl<'m, 'a> Print for Explanation<'m, 'a> {
     }
 }
 
-/// The methods of a class, whose names are in this pool, and the verdicts on them, of which each is explained that refuses.
+/// The methods of a class, whose names are in this pool, the verdicts on them, of which each is explained that refuses, and their frames.
 #[derive(Clone, Copy)]
 pub struct Explanations<'m, 'r, 'a> {
     pub pool: &'m Pool<'a>,
     pub members: &'m [Member<'a>],
     pub methods: &'r [MethodVerdict<'a>],
+    pub frames: &'r [FramesAt<'a>],
 }
 
 impl<'m, 'r, 'a> Print for Explanations<'m, 'r, 'a> {
-    ghost text = { λ t. explanations (verdict_line Plain) t.pool.now (map member_view t.members.now) t.methods.now };
+    ghost text = { λ t. explanations (verdict_line Plain) t.pool.now (map member_view t.members.now) t.methods.now t.frames.now };
 
     fn put<W: Write>(&self, out: &mut W) -> Result<(), WriteFailed> {
         let count = self.members.len().min(self.methods.len());
+        let count = count.min(self.frames.len());
         for i in 0..count {
             let explanation = Explanation {
                 pool: self.pool,
                 member: &self.members[i],
                 method: self.methods[i],
+                frames: &self.frames[i],
             };
             match explanation.put(out) {
                 Ok(()) => {}

@@ -3,7 +3,7 @@ ghost use Rattle.answers.specs.Laws.{OneAnswer};
 
 use classfile::{no_fault_in_class, no_fault_in_formed, one_class, one_fault, one_first_fault};
 use hierarchy::laws::{faults_break_rules, one_hierarchy_fault};
-use verify::one_report;
+use verify::{one_frames, one_report};
 
 /// To a command whose files were read so there is one text and one status.
 pub fn one_answer()
@@ -17,4 +17,5 @@ pub fn one_answer()
     faults_break_rules();
     one_hierarchy_fault();
     one_report();
+    one_frames();
 }

@@ -7,9 +7,11 @@ ghost use Rattle.verify.specs.Files.{IsDecoded, IsFormed};
 ghost use Rattle.verify.specs.Among.{ReportsAmong};
 ghost use Rattle.answers.specs.Files.{read_view, refusal_status, CountsKnown};
 ghost use Rattle.answers.specs.Answers.{Answered};
-ghost use Rattle.answers.specs.Verdicts.{VerifySays, class_refusal, known_refusal, IsExplained, IsTold, report_told, report_status};
+ghost use Rattle.answers.specs.Verdicts.{VerifySays, class_refusal, known_refusal, IsExplained, IsTold, report_status, verdict_line};
 ghost use Rattle.answers.specs.declared.fault.AnswerFault.TheVariants.{OutOfMemory};
-ghost use Rattle.answers.specs.declared.manner.Manner.TheVariants.{Explained};
+ghost use Rattle.answers.specs.Explanations.{explanations};
+ghost use Rattle.answers.specs.declared.command.Form.TheVariants.{Plain};
+ghost use Rattle.answers.specs.declared.manner.Manner.TheVariants as manners;
 
 use crate::command::Form;
 use crate::explaining::Explanations;
@@ -27,7 +29,9 @@ use printing::{PartLines, Print, Then, Word};
 use std::alloc::Global;
 use std::hash::BuildHasher;
 use std::io::Write;
-use verify::{AmongFault, FileFault, MethodVerdict, class_file, verify_among_under};
+use verify::{
+    AmongFault, Explained, FileFault, class_file, explain_among_under, verify_among_under,
+};
 
 /// The class that a file is, which was read so; 1 where memory runs out. The file is a class.
 fn file_class<'a>(
@@ -153,49 +157,74 @@ fn refuse<W: Write>(
 fn explain<'a, W: Write>(
     alloc: Global,
     read: &'a Result<Vec<u8>, StreamFault>,
-    methods: &[MethodVerdict<'a>],
-    status: u8,
+    found: &Explained<'a>,
     out: &mut W,
 ) -> Result<u8, AnswerFault>
-    ensures { (c : Class) → IsFormed (read_view read.now) c
-        → Answered (λ t s. (t ≡ report_told Explained c methods.now) × (s ≡ status)) (W.contents out.old) (W.contents out.new) result }
+    ensures { (c : Class) → IsFormed (read_view read.now) c → let rs = found.now.report.methods.items in
+        Answered (λ t s. (t ≡ explanations (verdict_line Plain) c.constant_pool c.methods rs found.now.frames.items) × (s ≡ report_status rs)) (W.contents out.old) (W.contents out.new) result }
 {
     one_class();
     match class_file(alloc, file_read(read)) {
         Ok(class) => {
+            let form = Form::Plain;
+            let methods = &found.report.methods;
             let explanations = Explanations {
                 pool: &class.constant_pool,
                 members: &class.methods,
                 methods,
+                frames: &found.frames,
             };
-            tell(&explanations, status, out)
+            tell(&explanations, ReportText { form, methods }.status(), out)
         }
         // The file is a class that is well formed, so nothing but memory is wanting.
         Err(_) => Err(AnswerFault::OutOfMemory),
     }
 }
 
-/// Writes the verdicts on the methods of a class, whose file was read so.
-fn report<'a, W: Write>(
+/// Answers `verify` in a form of the file of a class and of the files of the classes that it may refer to, which were read so, by a profile.
+fn tell_verdicts<'a, S: BuildHasher + Drop, W: Write>(
     alloc: Global,
-    manner: Manner,
+    form: Form,
+    profile: Profile,
     read: &'a Result<Vec<u8>, StreamFault>,
-    methods: &[MethodVerdict<'a>],
+    known: &'a [Result<Vec<u8>, StreamFault>],
+    hasher: S,
     out: &mut W,
 ) -> Result<u8, AnswerFault>
-    ensures { (c : Class) → IsFormed (read_view read.now) c
-        → Answered (λ t s. (t ≡ report_told manner c methods.now) × (s ≡ report_status methods.now)) (W.contents out.old) (W.contents out.new) result }
+    ensures { Answered (VerifySays (manners.Told form) profile (read_view read.now) (map read_view known.now)) (W.contents out.old) (W.contents out.new) result }
 {
-    match manner {
-        Manner::Told(form) => {
+    let files = match file_reads(alloc, known) {
+        Ok(files) => files,
+        Err(fault) => return Err(fault),
+    };
+    match verify_among_under(alloc, profile, file_read(read), &files, hasher) {
+        Ok(found) => {
+            let methods = &found.methods;
             let text = ReportText { form, methods };
             tell(&text, text.status(), out)
         }
-        Manner::Explained => {
-            let form = Form::Plain;
-            let status = ReportText { form, methods }.status();
-            explain(alloc, read, methods, status, out)
-        }
+        Err(fault) => refuse(alloc, Manner::Told(form), read, known, fault, out),
+    }
+}
+
+/// Answers `explain`, as [`tell_verdicts`] answers `verify`.
+fn explain_verdicts<'a, S: BuildHasher + Drop, W: Write>(
+    alloc: Global,
+    profile: Profile,
+    read: &'a Result<Vec<u8>, StreamFault>,
+    known: &'a [Result<Vec<u8>, StreamFault>],
+    hasher: S,
+    out: &mut W,
+) -> Result<u8, AnswerFault>
+    ensures { Answered (VerifySays manners.Explained profile (read_view read.now) (map read_view known.now)) (W.contents out.old) (W.contents out.new) result }
+{
+    let files = match file_reads(alloc, known) {
+        Ok(files) => files,
+        Err(fault) => return Err(fault),
+    };
+    match explain_among_under(alloc, profile, file_read(read), &files, hasher) {
+        Ok(found) => explain(alloc, read, &found, out),
+        Err(fault) => refuse(alloc, Manner::Explained, read, known, fault, out),
     }
 }
 
@@ -212,12 +241,8 @@ pub fn verify<'a, S: BuildHasher + Drop, W: Write>(
 ) -> Result<u8, AnswerFault>
     ensures { Answered (VerifySays manner profile (read_view read.now) (map read_view known.now)) (W.contents out.old) (W.contents out.new) result }
 {
-    let files = match file_reads(alloc, known) {
-        Ok(files) => files,
-        Err(fault) => return Err(fault),
-    };
-    match verify_among_under(alloc, profile, file_read(read), &files, hasher) {
-        Ok(found) => report(alloc, manner, read, &found.methods, out),
-        Err(fault) => refuse(alloc, manner, read, known, fault, out),
+    match manner {
+        Manner::Told(form) => tell_verdicts(alloc, form, profile, read, known, hasher, out),
+        Manner::Explained => explain_verdicts(alloc, profile, read, known, hasher, out),
     }
 }

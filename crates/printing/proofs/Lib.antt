@@ -1,3 +1,4 @@
 pub mod FirstColumn
 pub mod Steps
 pub mod Writings
+pub mod Frames

@@ -2,6 +2,7 @@ pub mod Writing
 pub mod Faults
 pub mod Names
 pub mod Instructions
+pub mod Frames
 pub mod Classes
 pub mod Json
 pub mod FaultFields

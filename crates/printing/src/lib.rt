@@ -10,6 +10,7 @@
 //! - `json`: objects of JSON (RFC 8259), field by field.
 //! - `instruction`: the line of an instruction.
 //! - `code`: the lines of a method's code, and those of one instruction of it.
+//! - `frame`: the lines of a frame.
 //! - `constants`: the line of a constant; `parts`: the part of a class file at a place.
 //! - `class_attributes`: the lines of records and sealed classes.
 //! - `listing`: the lines of a class file.
@@ -20,6 +21,7 @@ mod code;
 mod constants;
 mod fault_fields;
 mod faults;
+mod frame;
 mod instruction;
 mod json;
 mod listing;
@@ -29,6 +31,7 @@ mod print;
 
 pub use code::{Handlers, InstructionAt, NamedAt, Sizes};
 pub use fault_fields::{FaultFields, PlaceFields};
+pub use frame::{FrameLines, TypeText};
 pub use json::{END, More, Object, Quoted, QuotedName, QuotedSpelled};
 pub use listing::Listing;
 pub use name::{ClassName, ConstantText, Hexadecimal, Name, Spelled};

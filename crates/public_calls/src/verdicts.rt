@@ -5,9 +5,10 @@ use lower_calls::making::{K, catching, hasher, object};
 use std::alloc::{AllocError, Global};
 use std::test::*;
 use verify::{
-    ClassFault, MethodVerdict, Report, Verdict, VerifyFault, fits_breadth, map_refused_where,
-    one_report, one_verdict, refused_breaks, refused_where, type_safe_is_safe,
-    type_safe_is_verified, verified_is_type_safe, verify_class, verify_method, verify_methods,
+    ClassFault, MethodVerdict, Report, Verdict, VerifyFault, fits_breadth, frames_are_judged,
+    map_refused_where, one_frames, one_report, one_verdict, refused_breaks, refused_where,
+    type_safe_is_safe, type_safe_is_verified, verified_is_type_safe, verify_class, verify_method,
+    verify_methods,
 };
 
 #[test]
@@ -21,6 +22,8 @@ fn theorem_and_laws_are_called() {
     map_refused_where();
     one_verdict();
     one_report();
+    one_frames();
+    frames_are_judged();
 }
 
 /// The verdict on the class's first method, where there are `java/lang/Object` and the class, as it is or as a final one.

@@ -1,5 +1,5 @@
 -- Files that are classes, one behind the other, and what is answered of them.
-use Rattle.std.proofs.Common.{◌≡◌, ℕ, true, false, zero, suc, ◌<◌, List, [], ◌∷◌, ◌++◌, map, take, Some, None, Result, Ok, Err, subst, arith}
+use Rattle.std.proofs.Common.{◌≡◌, ℕ, Bool, true, false, zero, suc, ◌<◌, List, [], ◌∷◌, ◌++◌, map, take, Some, None, Result, Ok, Err, subst, arith}
 use Rattle.classfile.specs.declared.profile.Profile.{Profile}
 use Rattle.classfile.specs.CodeMethods.{judged}
 use Rattle.classfile.specs.Methods.{JudgedClass}
@@ -16,13 +16,13 @@ use Rattle.hierarchy.specs.Class.{ClassFact}
 use Rattle.hierarchy.specs.Rules.{IsHierarchy}
 use Rattle.hierarchy.specs.Faults.{FaultOf}
 use Rattle.hierarchy.specs.ClassSummary.{summary_of}
-use Rattle.verify.specs.declared.report.Report.{Report}
+use Rattle.verify.specs.declared.explained.Explained.{Explained}
 use Rattle.verify.specs.declared.among.AmongFault.{AmongFault}
 use Rattle.verify.specs.declared.among.AmongFault.TheVariants as amongs
 use Rattle.verify.specs.FinalSuper.{has_final_super}
-use Rattle.verify.specs.Reports.{IsReport}
-use Rattle.verify.specs.Among.{ReportsAmong}
-use Rattle.verify.specs.AmongSteps.{ReportsSummaries, ReportsFormed}
+use Rattle.verify.specs.Explaining.{IsExplained}
+use Rattle.verify.specs.Among.{AnswersAmong, ReportsAmong}
+use Rattle.verify.specs.AmongSteps.{ExplainsSummaries, ExplainsFormed}
 
 some_same : {A : Type 0} (a b : A) → Some a ≡ Some b → a ≡ b
 some_same a b e = cc
@@ -61,22 +61,35 @@ earlier_formed (r ∷ reads) (suc i) (c ∷ cs) all (suc j) lt other e = earlier
 
 -- ---- what is answered of them
 
-pub reports_formed : (c : JudgedClass) (known : List Read) (cs : List Class) (classes : List ClassFact) (r : Result Report AmongFault)
-    → AreFormed known cs → classes ≡ map summary_of (c.file ∷ cs) → ReportsSummaries classes c r → ReportsFormed c known r
-reports_formed c known cs classes (Ok report) all e (hierarchy, fine, is) =
-    (cs, all, subst IsHierarchy e hierarchy, subst (λ k. has_final_super k (summary_of c.file) ≡ false) e fine, subst (λ k. IsReport k c report.methods.items) e is)
-reports_formed c known cs classes (Err amongs.OutOfMemory) all e p = tt
-reports_formed c known cs classes (Err (amongs.Refused fault)) all e p = absurd p
-reports_formed c known cs classes (Err (amongs.KnownRefused number fault)) all e p = absurd p
-reports_formed c known cs classes (Err (amongs.NoHierarchy fault)) all e p = (cs, all, p.0, subst (λ k. FaultOf k fault) e p.1)
-reports_formed c known cs classes (Err amongs.FinalSuper) all e p =
+pub explains_formed : (framed : Bool) (c : JudgedClass) (known : List Read) (cs : List Class) (classes : List ClassFact) (r : Result Explained AmongFault)
+    → AreFormed known cs → classes ≡ map summary_of (c.file ∷ cs) → ExplainsSummaries framed classes c r → ExplainsFormed framed c known r
+explains_formed framed c known cs classes (Ok x) all e (hierarchy, fine, is) =
+    (cs, all, subst IsHierarchy e hierarchy, subst (λ k. has_final_super k (summary_of c.file) ≡ false) e fine, subst (λ k. IsExplained framed k c x) e is)
+explains_formed framed c known cs classes (Err amongs.OutOfMemory) all e p = tt
+explains_formed framed c known cs classes (Err (amongs.Refused fault)) all e p = absurd p
+explains_formed framed c known cs classes (Err (amongs.KnownRefused number fault)) all e p = absurd p
+explains_formed framed c known cs classes (Err (amongs.NoHierarchy fault)) all e p = (cs, all, p.0, subst (λ k. FaultOf k fault) e p.1)
+explains_formed framed c known cs classes (Err amongs.FinalSuper) all e p =
     (cs, all, subst IsHierarchy e p.0, subst (λ k. has_final_super k (summary_of c.file) ≡ true) e p.1)
 
-pub among_formed : (profile : Profile) (read : Read) (c : Class) (known : List Read) (r : Result Report AmongFault)
-    → IsFormed read c → ReportsFormed (judged profile c) known r → ReportsAmong profile read known r
-among_formed profile read c known (Ok report) formed (cs, all, hierarchy, fine, p) = (c, cs, formed, all, hierarchy, fine, p)
-among_formed profile read c known (Err amongs.OutOfMemory) formed p = tt
-among_formed profile read c known (Err (amongs.Refused fault)) formed p = absurd p
-among_formed profile read c known (Err (amongs.KnownRefused number fault)) formed (i, e, first) = (c, i, formed, e, first)
-among_formed profile read c known (Err (amongs.NoHierarchy fault)) formed (cs, all, other, p) = (c, cs, formed, all, other, p)
-among_formed profile read c known (Err amongs.FinalSuper) formed (cs, all, hierarchy, p) = (c, cs, formed, all, hierarchy, p)
+pub among_formed : (framed : Bool) (profile : Profile) (read : Read) (c : Class) (known : List Read) (r : Result Explained AmongFault)
+    → IsFormed read c → ExplainsFormed framed (judged profile c) known r → AnswersAmong (IsExplained framed) profile read known r
+among_formed framed profile read c known (Ok x) formed (cs, all, hierarchy, fine, p) = (c, cs, formed, all, hierarchy, fine, p)
+among_formed framed profile read c known (Err amongs.OutOfMemory) formed p = tt
+among_formed framed profile read c known (Err (amongs.Refused fault)) formed p = absurd p
+among_formed framed profile read c known (Err (amongs.KnownRefused number fault)) formed (i, e, first) = (c, i, formed, e, first)
+among_formed framed profile read c known (Err (amongs.NoHierarchy fault)) formed (cs, all, other, p) = (c, cs, formed, all, other, p)
+among_formed framed profile read c known (Err amongs.FinalSuper) formed (cs, all, hierarchy, p) = (c, cs, formed, all, hierarchy, p)
+
+-- without the frames
+pub without_frames : (profile : Profile) (read : Read) (known : List Read) (x : Explained) → AnswersAmong (IsExplained false) profile read known (Ok x) → ReportsAmong profile read known (Ok x.report)
+without_frames profile read known x (c, cs, formed, all, hierarchy, fine, p) = (c, cs, formed, all, hierarchy, fine, p.0)
+
+-- a fault is one whatever is answered otherwise
+pub same_fault : {R S : Type 0} (P : List ClassFact → JudgedClass → R → Type 0) (Q : List ClassFact → JudgedClass → S → Type 0) (profile : Profile) (read : Read) (known : List Read) (fault : AmongFault)
+    → AnswersAmong P profile read known (Err fault) → AnswersAmong Q profile read known (Err fault)
+same_fault P Q profile read known amongs.OutOfMemory p = p
+same_fault P Q profile read known (amongs.Refused fault) p = p
+same_fault P Q profile read known (amongs.KnownRefused number fault) p = p
+same_fault P Q profile read known (amongs.NoHierarchy fault) p = p
+same_fault P Q profile read known amongs.FinalSuper p = p

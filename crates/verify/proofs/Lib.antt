@@ -3,6 +3,10 @@ pub mod Declared
 pub mod Reasons
 pub mod Passing
 pub mod Following
+pub mod Meeting
+pub mod Shown
+pub mod FramesFound
+pub mod Counted
 pub mod Premises
 pub mod Verdicts
 pub mod Refusing

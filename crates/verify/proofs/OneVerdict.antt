@@ -1,5 +1,6 @@
 -- The cases of an answer exclude each other, and each gives one verdict.
-use Rattle.std.proofs.Common.{◌≡◌, ℕ, List, Some, None, Result, Ok, sym, ◌∙◌, ap, subst, inl, inr}
+use Rattle.std.proofs.Common.{◌≡◌, ℕ, zero, suc, Bool, true, false, nat_lt, List, [], ◌∷◌, length, Some, None, Result, Ok, refl, sym, ◌∙◌, ap, subst, inl, inr, arith}
+use Rattle.std.specs.Prelude.{slice_get}
 use Rattle.pool.specs.declared.fault.PoolFault.{PoolFault}
 use Rattle.pool.specs.Lookups.{Named, named}
 use Rattle.classfile.specs.Methods.{JudgedClass, method_of}
@@ -14,6 +15,7 @@ use Rattle.frames.specs.Conditions as conditions
 use Rattle.rules.specs.declared.reason.Reason.{Reason}
 use Rattle.rules.specs.declared.reason.Reason.TheVariants.{BadCode}
 use Rattle.rules.specs.Reasons.{reason_number, reason_view}
+use Rattle.verify.specs.declared.verdict.Verdict.{Verdict}
 use Rattle.verify.specs.declared.verdict.Verdict.TheVariants.{Verified, NoCode, Refused}
 use Rattle.verify.specs.declared.report.MethodVerdict.{MethodVerdict}
 use Rattle.verify.specs.Verdict as verdicts
@@ -21,8 +23,12 @@ use Rattle.verify.specs.Verdict.{verified, told_of, verdict}
 use Rattle.verify.specs.Steps.{place_of}
 use Rattle.verify.specs.Answers.{HasBadCode, HasVerdict, HasRefusal, IsRefused}
 use Rattle.verify.specs.Reports.{IsReported}
-use Rattle.verify.specs.OneVerdict.{AreSameVerdict, OneVerdict, IsSameLine, OneReport}
+use Rattle.verify.specs.declared.coming.TheConstants.{MOST_KEPT}
+use Rattle.verify.specs.declared.coming.FramesAt.{FramesAt}
+use Rattle.verify.specs.Coming.{FramesFact, frames_at, frames_view, HasFrames, HasNoInstructions, AreFramesOf, IsFramed, IsFramedIf, AreFramed, size_before}
+use Rattle.verify.specs.OneVerdict.{AreSameVerdict, OneVerdict, IsSameLine, IsSameReport, OneReport, OneFrames}
 use Rattle.rules.proofs.Lesser.{view_number}
+use Rattle.verify.proofs.Counted.{same_in_turn}
 
 some_same : {A : Type 0} (a b : A) → Some a ≡ Some b → a ≡ b
 some_same a b e = cc
@@ -126,4 +132,63 @@ pub one_report : OneReport
 one_report classes c rs others p q = record {
   all = p.all ∙ sym q.all;
   each = λ number r other x y. same_line classes c number r other (p.each number r x) (q.each number other y);
+}
+
+-- ---- frames
+
+module _ (classes : List ClassFact) (c : JudgedClass) (number : ℕ) where
+  both_have : (at there : ℕ) (x y : FramesFact) → at ≡ there → HasFrames classes c number at x → HasFrames classes c number there y → x ≡ y
+  both_have at there x y e p q =
+      let body : p.body ≡ q.body = some_same p.body q.body (sym p.has_code ∙ q.has_code) in
+      let same : p.instructions ≡ q.instructions =
+      one_code 0 q.body.code p.instructions q.instructions (subst (λ b. SpellsCode 0 b.code p.instructions) body p.spelled) q.spelled in
+      let method : p.method ≡ q.method =
+      some_same p.method q.method (sym p.says ∙ ap (λ z. method_of c number (acts z)) same ∙ q.says) in
+      p.same ∙ ap (λ m. frames_at plan classes m at) method ∙ ap (frames_at plan classes q.method) e ∙ sym q.same
+
+  has_none : (at : ℕ) (x : FramesFact) → HasFrames classes c number at x → HasNoInstructions c number → ⊥
+  has_none at x p none = none p.body p.instructions p.has_code p.spelled
+
+  same_frames : (at there : ℕ) (x y : FramesFact) → at ≡ there → AreFramesOf classes c number at x → AreFramesOf classes c number there y → x ≡ y
+  same_frames at there x y e (inl p) (inl q) = both_have at there x y e p q
+  same_frames at there x y e (inl p) (inr q) = absurd (has_none at x p q.0)
+  same_frames at there x y e (inr p) (inl q) = absurd (has_none there y q p.0)
+  same_frames at there x y e (inr p) (inr q) = p.1 ∙ sym q.1
+
+  same_framed : (v w : Verdict) (x y : FramesFact) → AreSameVerdict v w → IsFramed classes c number v x → IsFramed classes c number w y → x ≡ y
+  same_framed Verified Verified x y e p q = p ∙ sym q
+  same_framed NoCode NoCode x y e p q = p ∙ sym q
+  same_framed (Refused at why) (Refused there other) x y e p q = same_frames at there x y e.0 p q
+  same_framed _ _ x y e p q = absurd e
+
+-- each place of a list of one length with another is one of this too
+there_too : {A B : Type 0} (xs : List A) (ys : List B) (n : ℕ) (x : A) → length xs ≡ length ys → slice_get xs n ≡ Some x → (y : B) × (slice_get ys n ≡ Some y)
+there_too [] ys n x e here = absurd (none_some x here)
+there_too (a ∷ xs) [] n x e here = absurd (omega (arith, e))
+there_too (a ∷ xs) (b ∷ ys) zero x e here = (b, refl)
+there_too (a ∷ xs) (b ∷ ys) (suc n) x e here = there_too xs ys n x (omega (arith, e)) here
+
+module _ (classes : List ClassFact) (c : JudgedClass) where
+  same_framed_if : (told : Bool) (number : ℕ) (v w : Verdict) (x y : FramesFact) → AreSameVerdict v w → IsFramedIf told classes c number v x
+      → IsFramedIf told classes c number w y → x ≡ y
+  same_framed_if true number v w x y e p q = same_framed classes c number v w x y e p q
+  same_framed_if false number v w x y e p q = p ∙ sym q
+
+  -- the method of this number has a verdict, and these frames where those of the methods in front have so many types
+  abbrev Framed : List MethodVerdict → ℕ → ℕ → FramesFact → Type 0
+  Framed rs n size f = (r : MethodVerdict) × (slice_get rs n ≡ Some r) × IsFramedIf (nat_lt size MOST_KEPT) classes c n r.verdict f
+
+  same_here : (rs others : List MethodVerdict) → IsSameReport rs others → (n size : ℕ) (x y : FramesFact) → Framed rs n size x → Framed others n size y → x ≡ y
+  same_here rs others same n size x y p q =
+      same_framed_if (nat_lt size MOST_KEPT) n p.0.verdict q.0.verdict x y (same.each n p.0 q.0 p.1 q.1).verdict p.2 q.2
+
+  framed_here : (rs : List MethodVerdict) (xs : List FramesAt) → AreFramed classes c rs xs → (n : ℕ) (x : FramesAt) → slice_get xs n ≡ Some x
+      → Framed rs n (size_before xs n) (frames_view x)
+  framed_here rs xs p n x here = let r = there_too xs rs n x p.all here in (r.0, r.1, p.each n r.0 x r.1 here)
+
+pub one_frames : OneFrames
+one_frames classes c rs others xs ys same p q = record {
+  all = p.all ∙ same.all ∙ sym q.all;
+  each = same_in_turn xs ys (Framed classes c rs) (Framed classes c others) (same_here classes c rs others same)
+      (framed_here classes c rs xs p) (framed_here classes c others ys q);
 }

@@ -1,5 +1,5 @@
 -- Words of the code's own steps from classes to verdicts: nothing that a reader must believe rests on them.
-use Rattle.std.specs.Prelude.{◌≡◌, ◌≢◌, ℕ, true, false, ◌+◌, List, ◌∷◌, ◌++◌, map, Result, Ok, Err}
+use Rattle.std.specs.Prelude.{◌≡◌, ◌≢◌, ℕ, Bool, true, false, ◌+◌, List, ◌∷◌, ◌++◌, map, Result, Ok, Err}
 use Rattle.classfile.specs.Values.{Class}
 use Rattle.classfile.specs.Methods.{JudgedClass}
 use Rattle.hierarchy.specs.Class.{ClassFact}
@@ -7,11 +7,11 @@ use Rattle.hierarchy.specs.declared.fault.HierarchyFault.TheVariants as hierarch
 use Rattle.hierarchy.specs.Rules.{IsHierarchy}
 use Rattle.hierarchy.specs.Faults.{FaultOf}
 use Rattle.hierarchy.specs.ClassSummary.{summary_of}
-use Rattle.verify.specs.declared.report.Report.{Report}
+use Rattle.verify.specs.declared.explained.Explained.{Explained}
 use Rattle.verify.specs.declared.among.AmongFault.{AmongFault}
 use Rattle.verify.specs.declared.among.AmongFault.TheVariants.{OutOfMemory, Refused, KnownRefused, NoHierarchy, FinalSuper}
 use Rattle.verify.specs.Files.{Read, AreFormed, IsFirstRefused}
-use Rattle.verify.specs.Reports.{IsReport}
+use Rattle.verify.specs.Explaining.{IsExplained}
 use Rattle.verify.specs.FinalSuper.{has_final_super}
 
 -- The summaries of these files stand behind those that were there; or the file of this number, from 1 on, is the first that is refused.
@@ -25,24 +25,24 @@ Adds known old new (Err fault) = ⊥
 abbrev pub BeginWith : List ClassFact → JudgedClass → Type 0
 BeginWith classes c = (others : List ClassFact) × (classes ≡ summary_of c.file ∷ others)
 
--- the verdicts on the methods of a class, under these summaries
-abbrev pub ReportsSummaries : List ClassFact → JudgedClass → Result Report AmongFault → Type 0
-ReportsSummaries classes c (Ok report) = IsHierarchy classes × (has_final_super classes (summary_of c.file) ≡ false) × IsReport classes c report.methods.items
-ReportsSummaries classes c (Err OutOfMemory) = Unit {0}
-ReportsSummaries classes c (Err (NoHierarchy fault)) = (fault ≢ hierarchies.OutOfMemory) × FaultOf classes fault
-ReportsSummaries classes c (Err FinalSuper) = IsHierarchy classes × (has_final_super classes (summary_of c.file) ≡ true)
-ReportsSummaries classes c (Err fault) = ⊥
+-- the verdicts on the methods of a class, and where they are asked for the frames, under these summaries
+abbrev pub ExplainsSummaries : Bool → List ClassFact → JudgedClass → Result Explained AmongFault → Type 0
+ExplainsSummaries framed classes c (Ok x) = IsHierarchy classes × (has_final_super classes (summary_of c.file) ≡ false) × IsExplained framed classes c x
+ExplainsSummaries framed classes c (Err OutOfMemory) = Unit {0}
+ExplainsSummaries framed classes c (Err (NoHierarchy fault)) = (fault ≢ hierarchies.OutOfMemory) × FaultOf classes fault
+ExplainsSummaries framed classes c (Err FinalSuper) = IsHierarchy classes × (has_final_super classes (summary_of c.file) ≡ true)
+ExplainsSummaries framed classes c (Err fault) = ⊥
 
 -- the same of a class that is well formed, and of the files of the known ones
-abbrev pub ReportsFormed : JudgedClass → List Read → Result Report AmongFault → Type 0
-ReportsFormed c known (Ok report) =
+abbrev pub ExplainsFormed : Bool → JudgedClass → List Read → Result Explained AmongFault → Type 0
+ExplainsFormed framed c known (Ok x) =
     (cs : List Class) × AreFormed known cs × IsHierarchy (map summary_of (c.file ∷ cs))
-    × (has_final_super (map summary_of (c.file ∷ cs)) (summary_of c.file) ≡ false) × IsReport (map summary_of (c.file ∷ cs)) c report.methods.items
-ReportsFormed c known (Err OutOfMemory) = Unit {0}
-ReportsFormed c known (Err (KnownRefused number fault)) = (i : ℕ) × (number ≡ i + 1) × IsFirstRefused known i fault
-ReportsFormed c known (Err (NoHierarchy fault)) =
+    × (has_final_super (map summary_of (c.file ∷ cs)) (summary_of c.file) ≡ false) × IsExplained framed (map summary_of (c.file ∷ cs)) c x
+ExplainsFormed framed c known (Err OutOfMemory) = Unit {0}
+ExplainsFormed framed c known (Err (KnownRefused number fault)) = (i : ℕ) × (number ≡ i + 1) × IsFirstRefused known i fault
+ExplainsFormed framed c known (Err (NoHierarchy fault)) =
     (cs : List Class) × AreFormed known cs × (fault ≢ hierarchies.OutOfMemory) × FaultOf (map summary_of (c.file ∷ cs)) fault
-ReportsFormed c known (Err FinalSuper) =
+ExplainsFormed framed c known (Err FinalSuper) =
     (cs : List Class) × AreFormed known cs × IsHierarchy (map summary_of (c.file ∷ cs))
     × (has_final_super (map summary_of (c.file ∷ cs)) (summary_of c.file) ≡ true)
-ReportsFormed c known (Err (Refused fault)) = ⊥
+ExplainsFormed framed c known (Err (Refused fault)) = ⊥

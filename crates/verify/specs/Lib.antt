@@ -21,9 +21,12 @@ pub mod Listed
 pub mod FinalSuper
 pub mod Answers
 pub mod Reports
+pub mod Coming
+pub mod JudgedFrames
 pub mod OneVerdict
 pub mod Files
 pub mod FileSteps
+pub mod Explaining
 pub mod Among
 pub mod AmongSteps
 pub mod Standing

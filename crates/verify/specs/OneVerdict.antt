@@ -1,4 +1,4 @@
--- A method has one verdict, and a class one report.
+-- A method has one verdict, a class one report, and each method the same frames at what refuses it.
 use Rattle.std.specs.Prelude.{◌≡◌, ℕ, List, length, slice_get, Some, Ok}
 use Rattle.classfile.specs.Methods.{JudgedClass}
 use Rattle.hierarchy.specs.Class.{ClassFact}
@@ -8,6 +8,8 @@ use Rattle.verify.specs.declared.verdict.Verdict.TheVariants.{Verified, NoCode, 
 use Rattle.verify.specs.declared.report.MethodVerdict.{MethodVerdict}
 use Rattle.verify.specs.Answers.{Answers}
 use Rattle.verify.specs.Reports.{IsReport}
+use Rattle.verify.specs.declared.coming.FramesAt.{FramesAt}
+use Rattle.verify.specs.Coming.{frames_view, AreFramed}
 
 -- two verdicts say the same: of refusals the offset, the number, the missing class by its name, and the fault behind 78 and 79
 abbrev pub AreSameVerdict : Verdict → Verdict → Type 0
@@ -37,3 +39,13 @@ abbrev pub OneReport : Type 0
 OneReport =
     (classes : List ClassFact) (c : JudgedClass) (rs others : List MethodVerdict) → IsReport classes c rs → IsReport classes c others
     → IsSameReport rs others
+
+-- of the methods in turn the frames are the same
+pub record AreSameFrames (xs others : List FramesAt) : Type 0 where
+  pub all : length xs ≡ length others
+  pub each : (number : ℕ) (x other : FramesAt) → slice_get xs number ≡ Some x → slice_get others number ≡ Some other → frames_view x ≡ frames_view other
+
+abbrev pub OneFrames : Type 0
+OneFrames =
+    (classes : List ClassFact) (c : JudgedClass) (rs others : List MethodVerdict) (xs ys : List FramesAt) → IsSameReport rs others
+    → AreFramed classes c rs xs → AreFramed classes c others ys → AreSameFrames xs ys

@@ -1,18 +1,20 @@
 //! A class among the classes that it may refer to.
-ghost use Rattle.std.specs.Prelude.{◌≡◌, ℕ, ◌+◌, List, Err, map};
+ghost use Rattle.std.specs.Prelude.{◌≡◌, ℕ, Bool, ◌+◌, List, Err, map};
 ghost use Rattle.classfile.specs.CodeMethods.{judged_class};
 ghost use Rattle.classfile.specs.declared.profile.Profile.{Profile as ProfileFact};
 ghost use Rattle.classfile.specs.declared.profile.Profile.TheVariants.{Default};
 ghost use Rattle.hierarchy.specs.Class.{ClassFact};
 ghost use Rattle.hierarchy.specs.Summary.{facts_of};
 ghost use Rattle.verify.specs.Files.{Read, read_of, OrMemory, IsRefused, IsFirstRefused};
-ghost use Rattle.verify.specs.Among.{ReportsAmong};
-ghost use Rattle.verify.specs.AmongSteps.{Adds, BeginWith, ReportsSummaries, ReportsFormed};
+ghost use Rattle.verify.specs.Among.{AnswersAmong, ReportsAmong, ExplainsAmong};
+ghost use Rattle.verify.specs.Explaining.{IsExplained};
+ghost use Rattle.verify.specs.AmongSteps.{Adds, BeginWith, ExplainsSummaries, ExplainsFormed};
 ghost use Rattle.verify.specs.declared.among.AmongFault.TheVariants.{OutOfMemory};
 
+use crate::explained::{Explained, explain_listed};
 use crate::files::{FileFault, FileRead, class_in, formed, summary_in};
 use crate::final_super::has_final_super;
-use crate::report::{Report, report_listed};
+use crate::report::Report;
 use classfile::{Formed, Profile};
 use hierarchy::{HierarchyFault, Rows, Summary, summary_of};
 use std::alloc::{AllocError, AllocFailed, Global};
@@ -69,15 +71,17 @@ fn add_known<'a>(
     Ok(())
 }
 
-/// The verdicts on the methods of the class whose summary is the first of these; or why they are no hierarchy; or 81.
-fn report_in<'a, S: BuildHasher + Drop>(
+/// The verdicts on the methods of the class whose summary is the first of these, and where they are asked for the frames; or why they are no
+/// hierarchy; or 81.
+fn explain_in<'a, S: BuildHasher + Drop>(
     alloc: Global,
     formed: &Formed<'_, 'a>,
     summaries: &[Summary<'a>],
+    framed: bool,
     hasher: S,
-) -> Result<Report<'a>, AmongFault<'a>>
+) -> Result<Explained<'a>, AmongFault<'a>>
     requires { BeginWith (facts_of summaries.now) (judged_class formed.now) }
-    ensures { ReportsSummaries (facts_of summaries.now) (judged_class formed.now) result }
+    ensures { ExplainsSummaries framed (facts_of summaries.now) (judged_class formed.now) result }
 {
     let classes = match Rows::new(alloc, summaries, hasher) {
         Ok(classes) => classes,
@@ -87,25 +91,27 @@ fn report_in<'a, S: BuildHasher + Drop>(
     if has_final_super(&summaries[0], &classes) {
         return Err(AmongFault::FinalSuper);
     }
-    match report_listed(alloc, formed, &classes) {
-        Ok(report) => Ok(report),
+    match explain_listed(alloc, formed, framed, &classes) {
+        Ok(explained) => Ok(explained),
         Err(_) => Err(AmongFault::OutOfMemory),
     }
 }
 
-/// The verdicts on the methods of a class that is well formed, among the classes that the known files are.
-fn report_formed<'a, S: BuildHasher + Drop>(
+/// The verdicts on the methods of a class that is well formed, and where they are asked for the frames, among the classes that the known files
+/// are.
+fn explain_formed<'a, S: BuildHasher + Drop>(
     alloc: Global,
     formed: &Formed<'_, 'a>,
     known: &[FileRead<'a>],
+    framed: bool,
     hasher: S,
-) -> Result<Report<'a>, AmongFault<'a>>
-    ensures { ReportsFormed (judged_class formed.now) (map read_of known.now) result }
+) -> Result<Explained<'a>, AmongFault<'a>>
+    ensures { ExplainsFormed framed (judged_class formed.now) (map read_of known.now) result }
 {
     let mut summaries = Vec::with_capacity(alloc, known.len())?;
     summaries.push(summary_of(alloc, formed)?)?;
     add_known(alloc, known, &mut summaries)?;
-    report_in(alloc, formed, &summaries, hasher)
+    explain_in(alloc, formed, &summaries, framed, hasher)
 }
 
 /// The verdicts on the methods of a class, in the order of the file (JVMS 4.10.1), under the hierarchy of this class and the known ones.
@@ -126,6 +132,27 @@ pub fn verify_among<'a, S: BuildHasher + Drop>(
     verify_among_under(alloc, Profile::Default, class, known, hasher)
 }
 
+/// The verdicts on the methods of a class, by a profile, and where they are asked for the frames.
+fn explain_if<'a, S: BuildHasher + Drop>(
+    alloc: Global,
+    profile: Profile,
+    class: FileRead<'a>,
+    known: &[FileRead<'a>],
+    framed: bool,
+    hasher: S,
+) -> Result<Explained<'a>, AmongFault<'a>>
+    ensures { AnswersAmong (IsExplained framed) profile (read_of class.entry) (map read_of known.now) result }
+{
+    let class = match class_in(alloc, class) {
+        Ok(class) => class,
+        Err(fault) => return Err(refused(fault)),
+    };
+    match formed(alloc, &class) {
+        Ok(formed) => explain_formed(alloc, &formed.under(profile), known, framed, hasher),
+        Err(fault) => Err(refused(fault)),
+    }
+}
+
 /// The verdicts on the methods of a class, by a profile, as [`verify_among`] gives them.
 pub fn verify_among_under<'a, S: BuildHasher + Drop>(
     alloc: Global,
@@ -136,19 +163,31 @@ pub fn verify_among_under<'a, S: BuildHasher + Drop>(
 ) -> Result<Report<'a>, AmongFault<'a>>
     ensures { ReportsAmong profile (read_of class.entry) (map read_of known.now) result }
 {
-    let class = match class_in(alloc, class) {
-        Ok(class) => class,
-        Err(fault) => return Err(refused(fault)),
-    };
-    match formed(alloc, &class) {
-        Ok(formed) => report_formed(alloc, &formed.under(profile), known, hasher),
-        Err(fault) => Err(refused(fault)),
+    match explain_if(alloc, profile, class, known, false, hasher) {
+        Ok(Explained { report, .. }) => Ok(report),
+        Err(fault) => Err(fault),
     }
+}
+
+/// The verdicts on the methods of a class, by a profile, as [`verify_among_under`] gives them, and of each method that is refused the frames at the
+/// instruction at which it is (JVMS 4.10.1.6): the one that comes to it, and the one that is declared there. No frame where the refusal is at no
+/// instruction: where the receiver and the parameters do not fit, where the stack map is refused, or where the bytes are no code. The code of
+/// each such method is walked over once more.
+pub fn explain_among_under<'a, S: BuildHasher + Drop>(
+    alloc: Global,
+    profile: Profile,
+    class: FileRead<'a>,
+    known: &[FileRead<'a>],
+    hasher: S,
+) -> Result<Explained<'a>, AmongFault<'a>>
+    ensures { ExplainsAmong profile (read_of class.entry) (map read_of known.now) result }
+{
+    explain_if(alloc, profile, class, known, true, hasher)
 }
 
 /// The fault of the class itself where it is refused.
 fn refused<'a>(fault: FileFault) -> AmongFault<'a>
-    ensures { (profile : ProfileFact) (read : Read) (known : List Read) → OrMemory read fault → ReportsAmong profile read known (Err result) }
+    ensures { (framed : Bool) (profile : ProfileFact) (read : Read) (known : List Read) → OrMemory read fault → AnswersAmong (IsExplained framed) profile read known (Err result) }
 {
     match fault {
         FileFault::OutOfMemory => AmongFault::OutOfMemory,

@@ -3,7 +3,8 @@ ghost use Rattle.verify.specs.Breaks.{ConditionsAreFields, MapRefusedBreaks, Ref
 ghost use Rattle.verify.specs.Refusals.{MapRefusedWhere, RefusedWhere};
 ghost use Rattle.verify.specs.FitsBreadth.{FitsBreadth};
 ghost use Rattle.verify.specs.ClassRunBreadth.{ClassRunBreadth};
-ghost use Rattle.verify.specs.OneVerdict.{OneVerdict, OneReport};
+ghost use Rattle.verify.specs.JudgedFrames.{FramesAreJudged};
+ghost use Rattle.verify.specs.OneVerdict.{OneVerdict, OneReport, OneFrames};
 ghost use Rattle.verify.specs.VerdictLaws.{TypeSafeIsVerified, VerifiedIsTypeSafe};
 ghost use Rattle.verify.specs.VerifiedWalks.{WalksAreRuns};
 
@@ -48,6 +49,17 @@ pub fn one_verdict()
 /// A class has one report.
 pub fn one_report()
     ensures { OneReport }
+{}
+
+/// The methods of a class, with the verdicts on them, have the same frames at the instructions at which they are refused.
+pub fn one_frames()
+    ensures { OneFrames }
+{}
+
+/// The frames at the instruction at which code is refused are those by which it is: the reason is the one against the frame that comes to it, or the
+/// least of what is asked of the instruction in the frame before it.
+pub fn frames_are_judged()
+    ensures { FramesAreJudged }
 {}
 
 /// In the machine a type takes all values that the verifier lets it take: null, and what is of a type that is assignable to it.

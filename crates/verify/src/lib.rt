@@ -12,6 +12,7 @@
 //! - `refusal`: verdicts that refuse.
 //! - `initial`: the frame with which a method begins.
 //! - `judging`: one pass over a method's code, against the verdict in specs/Verdict.antt.
+//! - `coming`: the frames at an instruction; `explained`: those at the instructions at which methods are refused.
 //! - `flow`, `branching`: from one instruction to the next, and to its targets.
 //! - `exceptions`: the exception table, which is judged before the code.
 //! - `handlers`, `catching`: the exception handlers while the pass goes on, and the frame that comes to one.
@@ -29,8 +30,10 @@
 mod among;
 mod branching;
 mod catching;
+mod coming;
 mod each;
 mod exceptions;
+mod explained;
 mod files;
 mod final_super;
 mod flow;
@@ -55,12 +58,15 @@ mod together;
 mod verdict;
 mod verified_walk;
 
-pub use among::{AmongFault, verify_among, verify_among_under};
+pub use among::{AmongFault, explain_among_under, verify_among, verify_among_under};
+pub use coming::FramesAt;
 pub use each::{EachFault, Judgement, verify_each};
+pub use explained::Explained;
 pub use files::{FileFault, FileRead, class_file};
 pub use laws::{
-    class_run_breadth, fits_breadth, map_refused_where, one_report, one_verdict, refused_breaks,
-    refused_where, type_safe_is_verified, verified_is_type_safe, walks_are_runs,
+    class_run_breadth, fits_breadth, frames_are_judged, map_refused_where, one_frames, one_report,
+    one_verdict, refused_breaks, refused_where, type_safe_is_verified, verified_is_type_safe,
+    walks_are_runs,
 };
 pub use method::verify_method;
 pub use play::{PlayFault, PlayRule, verify_play};

@@ -38,7 +38,10 @@ use rules::{Members, Reason, Working};
 use std::alloc::Global;
 
 /// The types that a method's descriptor names. The only refusal is want of memory.
-fn types_of<'a>(alloc: Global, method: &CodeMethod<'_, 'a>) -> Result<MethodType<'a>, VerifyFault>
+pub fn types_of<'a>(
+    alloc: Global,
+    method: &CodeMethod<'_, 'a>,
+) -> Result<MethodType<'a>, VerifyFault>
     ensures found { IfOk result (λ t. method_of t ≡ types_of method.now) }
     ensures memory { IfErr result (λ e. e ≡ OutOfMemory) }
 {

@@ -12,4 +12,5 @@ returns c =
       not_hierarchy = c.faults_break_rules.ensures;
       one_hierarchy_fault = c.one_hierarchy_fault.ensures;
       one_report = c.one_report.ensures;
+      one_frames = c.one_frames.ensures;
     }

@@ -1,25 +1,16 @@
-use Rattle.std.proofs.Common.{map, ap, ◌∙◌, subst}
-use Rattle.classfile.specs.CodeMethods.{judged}
-use Rattle.classfile.specs.Views.{class_view}
+use Rattle.std.proofs.Common.{List, map}
+use Rattle.classfile.specs.Methods.{JudgedClass}
+use Rattle.hierarchy.specs.Class.{ClassFact}
+use Rattle.verify.specs.declared.report.Report.{Report}
 use Rattle.verify.specs.Files.{read_of}
-use Rattle.verify.specs.AmongSteps.{ReportsFormed}
-use Rattle.verify.proofs.Formed.{decoded_formed, refused_by, among_formed}
+use Rattle.verify.specs.Reports.{IsReport}
+use Rattle.verify.specs.Explaining.{IsExplained}
+use Rattle.std.specs.Prelude.{false}
+use Rattle.verify.proofs.Formed.{same_fault}
 use Rattle.verify.proofs.among.verify_among_under.Goals as goal
 
-pub returns-in-Err : goal.returns-in-Err
-returns-in-Err g c = c.refused.ensures c.args.profile (read_of c.args.class) (map read_of c.args.known.now) c.in-Err.ensures
-
-pub returns-in-Ok-formed : goal.returns-in-Ok-formed
-returns-in-Ok-formed g c =
-    let profile = c.args.profile in
-    let read = read_of c.args.class in
-    let known = map read_of c.args.known.now in
-    let class = c.in-Ok.class in
-    among_formed profile read (class_view class) known c.report_formed.result
-    (decoded_formed read (class_view class) c.in-Ok.ensures c.in-Ok-formed.ensures.1)
-    (subst (λ k. ReportsFormed k known c.report_formed.result) (c.under.ensures.judged ∙ ap (λ k. judged profile (class_view k)) c.in-Ok-formed.ensures.0) c.report_formed.ensures)
+abbrev reported : List ClassFact → JudgedClass → Report → Type 0
+reported classes c report = IsReport classes c report.methods.items
 
 pub returns : goal.returns
-returns g c =
-    c.refused-in-Err-formed.ensures c.args.profile (read_of c.args.class) (map read_of c.args.known.now)
-    (refused_by (read_of c.args.class) c.in-Ok.class c.in-Err-formed.fault c.in-Ok.ensures c.in-Err-formed.ensures)
+returns g c = same_fault (IsExplained false) reported c.args.profile (read_of c.args.class) (map read_of c.args.known.now) c.in-Err.fault c.in-Err.ensures

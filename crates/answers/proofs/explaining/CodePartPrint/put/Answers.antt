@@ -3,6 +3,7 @@ use Rattle.classfile.specs.Methods.{code_of}
 use Rattle.classfile.specs.Views.{attribute_view, code_view}
 use Rattle.rules.specs.Reasons.{reason_number}
 use Rattle.printing.specs.Writing.{Writes}
+use Rattle.verify.specs.Coming.{frames_view}
 use Rattle.answers.specs.Explanations.{code_part}
 use Rattle.answers.proofs.explaining.CodePartPrint.put.Goals as goal
 
@@ -12,4 +13,4 @@ returns-in-Some g c =
     let self = c.args.self.now in
     let there : Some (code_view c.in-Some.body.now) ≡ code_of (map attribute_view self.member.now.attributes.items) =
     sym (ap (option_map (λ b. code_view b.now)) c.in-Some.is) ∙ c.code.ensures in
-    subst (λ o. Writes (held c.args.out.now) (held c.put-in-Some.new.out) (code_part (reason_number self.reason) self.pool.now o self.at) c.put-in-Some.result) there c.put-in-Some.ensures
+    subst (λ o. Writes (held c.args.out.now) (held c.put-in-Some.new.out) (code_part (reason_number self.reason) self.pool.now o self.at (frames_view self.frames.now)) c.put-in-Some.result) there c.put-in-Some.ensures

@@ -3,6 +3,7 @@ use Rattle.classfile.specs.Methods.{code_of}
 use Rattle.classfile.specs.Views.{attribute_view}
 use Rattle.verify.specs.declared.verdict.Verdict.{Verdict}
 use Rattle.printing.specs.Writing.{Writes}
+use Rattle.verify.specs.Coming.{frames_view}
 use Rattle.answers.specs.Explanations.{explanation}
 use Rattle.answers.specs.Verdicts.{verdict_line}
 use Rattle.answers.specs.declared.command.Form.TheVariants.{Plain}
@@ -13,4 +14,4 @@ returns-in-Refused g c =
     let held = g.W.Write.contents in
     let self = c.args.self.now in
     let body = code_of (map attribute_view self.member.now.attributes.items) in
-    subst (λ (v : Verdict). Writes (held c.args.out.now) (held c.put-in-Refused.new.out) (explanation self.pool.now body (verdict_line Plain self.method) v) c.put-in-Refused.result) (sym c.in-Refused.is) c.put-in-Refused.ensures
+    subst (λ (v : Verdict). Writes (held c.args.out.now) (held c.put-in-Refused.new.out) (explanation self.pool.now body (verdict_line Plain self.method) v (frames_view self.frames.now)) c.put-in-Refused.result) (sym c.in-Refused.is) c.put-in-Refused.ensures

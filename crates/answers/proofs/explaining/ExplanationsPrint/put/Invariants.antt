@@ -13,5 +13,6 @@ invariant-loop-i g l =
     let pool = l.self.pool.now in
     let members = l.self.members.now in
     let methods = l.self.methods.now in
-    SoFar (held l.initial.out) (held l.out) (explanations (verdict_line Plain) pool (map member_view members) methods)
-    (explanations (verdict_line Plain) pool (map member_view (drop l.i members)) (drop l.i methods))
+    let frames = l.self.frames.now in
+    SoFar (held l.initial.out) (held l.out) (explanations (verdict_line Plain) pool (map member_view members) methods frames)
+    (explanations (verdict_line Plain) pool (map member_view (drop l.i members)) (drop l.i methods) (drop l.i frames))

@@ -1,15 +1,17 @@
 use Rattle.std.proofs.Common.{◌≡◌, ◌∙◌, ◌∷◌, Ok, Err, map, inr, ap, sym, subst}
 use Rattle.std.proofs.lemmas.List.{length-map}
+use Rattle.std.specs.List.{flat_map}
 use Rattle.classfile.specs.CodeMethods.{judged}
 use Rattle.hierarchy.specs.ClassSummary.{summary_of}
 use Rattle.verify.specs.Files.{read_of}
 use Rattle.verify.specs.Among.{ReportsAmong}
 use Rattle.verify.specs.Reports.{IsReport}
 use Rattle.answers.specs.Files.{read_view, CountsKnown}
-use Rattle.answers.specs.Verdicts.{report_told, report_status, VerifySays}
+use Rattle.answers.specs.Verdicts.{verdict_line, VerifySays}
+use Rattle.answers.specs.declared.manner.Manner.TheVariants.{Told}
 use Rattle.answers.proofs.Refused.{counted}
 use Rattle.answers.proofs.Tellings.{answered_more}
-use Rattle.answers.proofs.verifying.verify.Goals as goal
+use Rattle.answers.proofs.verifying.tell_verdicts.Goals as goal
 
 pub returns-in-Ok-verify_among_under : goal.returns-in-Ok-verify_among_under
 returns-in-Ok-verify_among_under g c =
@@ -24,9 +26,10 @@ returns-in-Ok-verify_among_under g c =
     let (class, cs, formed, all, hierarchy, fine, is) = told in
     let rs = c.deref-in-Ok-verify_among_under.result.now in
     let here : IsReport (map summary_of (class ∷ cs)) (judged c.args.profile class) rs = subst (IsReport (map summary_of (class ∷ cs)) (judged c.args.profile class)) (sym c.deref-in-Ok-verify_among_under.ensures.value) is in
-    answered_more (λ t s. (t ≡ report_told c.args.manner class rs) × (s ≡ report_status rs)) (VerifySays c.args.manner c.args.profile read known)
-    (λ text status p. inr (class, formed, inr (cs, all, inr (hierarchy, inr (fine, (rs, here, p.0, p.1))))))
-    (held c.args.out.now) (held c.report.new.out) c.report.result (c.report.ensures class formed)
+    let manner = Told c.args.form in
+    answered_more (λ t s. (t ≡ flat_map (verdict_line c.args.form) rs) × (s ≡ c.status.result)) (VerifySays manner c.args.profile read known)
+    (λ text status p. inr (class, formed, inr (cs, all, inr (hierarchy, inr (fine, (rs, here, p.0, p.1 ∙ c.status.ensures))))))
+    (held c.args.out.now) (held c.tell.new.out) c.tell.result c.tell.ensures
 
 pub refuse-requires : goal.refuse-requires
 refuse-requires g c =

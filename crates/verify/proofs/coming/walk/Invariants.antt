@@ -1,0 +1,23 @@
+use Rattle.std.proofs.Common.{◌≡◌, true, Some, length}
+use Rattle.frames.specs.DeclaredTables.{frames_in}
+use Rattle.rules.specs.Held.{held}
+use Rattle.rules.specs.Table.{plan}
+use Rattle.rules.specs.Bodies.{method_view}
+use Rattle.verify.specs.Coming.{frame_if, met}
+use Rattle.verify.proofs.Meeting.{Walks}
+use Rattle.verify.proofs.coming.walk.Given as goal
+
+abbrev pub invariant-loop-code : goal.invariant-loop-code
+invariant-loop-code g l =
+    let classes = g.C.Classes.content l.classes in
+    let m = method_view l.method in
+    let frames = frames_in l.frames in
+    record {
+      walks : Walks classes m frames l.at l.last (length l.method.code.now.code.now) l.code (frame_if l.comes (held l.frame)) (met plan classes m frames m.code (Some (held l.fn.first)) l.at);
+      locals : l.comes ≡ true → length (held l.frame).locals ≡ l.method.code.now.max_locals;
+      constants : l.constants ≡ l.fn.constants;
+      members : l.members ≡ l.fn.members;
+    }
+
+abbrev pub decreases-loop-code : goal.decreases-loop-code
+decreases-loop-code g l = length l.code.rest

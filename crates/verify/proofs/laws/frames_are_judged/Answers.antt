@@ -1,0 +1,5 @@
+use Rattle.verify.proofs.Shown.{frames_are_judged}
+use Rattle.verify.proofs.laws.frames_are_judged.Goals as goal
+
+pub returns : goal.returns
+returns c = frames_are_judged

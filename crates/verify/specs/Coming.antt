@@ -1,0 +1,120 @@
+-- The frames at an instruction (JVMS 4.10.1.6): the one that comes to it, by the rules of those in front of it, and the one that is declared there.
+use Rattle.std.specs.Prelude.{◌≡◌, ◌⊎◌, ◌+◌, ℕ, zero, suc, Bool, true, false, ◌&&◌, is_none, nat_lt, nat_eq, List, [], ◌∷◌, length, slice_get, Option, Some, None, option_map, Result, Ok, Err, if◌then◌else◌}
+use Rattle.classfile.specs.Values.{CodeBody}
+use Rattle.classfile.specs.Methods.{JudgedClass, Method, method_of}
+use Rattle.classfile.specs.MethodParts.{code_at}
+use Rattle.hierarchy.specs.Class.{ClassFact}
+use Rattle.insn.specs.Meanings.{Act}
+use Rattle.insn.specs.Instructions.{Instruction}
+use Rattle.insn.specs.Code.{SpellsCode}
+use Rattle.insn.specs.Offsets.{at_offset, acts}
+use Rattle.frames.specs.FrameFact.{FrameFact, frame_of}
+use Rattle.frames.specs.Slots.{in_locals}
+use Rattle.frames.specs.Conditions.{least}
+use Rattle.rules.specs.Plans.{Plan, falls}
+use Rattle.rules.specs.Table as tables
+use Rattle.rules.specs.Table.{Plans}
+use Rattle.rules.specs.After.{after}
+use Rattle.rules.specs.Rules.{conditions}
+use Rattle.verify.specs.InitialFrames.{initial_types, initial_frame}
+use Rattle.verify.specs.TypeSafety.{Frames}
+use Rattle.verify.specs.Verdict.{MapRefusal, frames_declared}
+use Rattle.verify.specs.declared.coming.TheConstants.{MOST_KEPT}
+use Rattle.verify.specs.declared.coming.FramesAt.{FramesAt}
+use Rattle.verify.specs.declared.verdict.Verdict.{Verdict}
+use Rattle.verify.specs.declared.verdict.Verdict.TheVariants.{Verified, NoCode, Refused}
+use Rattle.verify.specs.declared.report.MethodVerdict.{MethodVerdict}
+
+-- at an offset: the frame that comes there, if one does, and the one that is declared there, if one is
+pub record FramesFact : Type 0 where
+  pub coming : Option FrameFact
+  pub declared : Option FrameFact
+
+abbrev pub no_frames : FramesFact
+no_frames = record { coming = None; declared = None }
+
+-- the frame before an instruction: the one that is declared there, and otherwise the one that comes
+abbrev pub before : Option FrameFact → Option FrameFact → Option FrameFact
+before coming None = coming
+before coming (Some declared) = Some declared
+
+abbrev pub frame_if : Bool → FrameFact → Option FrameFact
+frame_if comes f = if comes then Some f else None
+
+-- From an instruction with this frame before it there goes on the frame after, where its rule does not refuse it and it falls through.
+abbrev pub going : List ClassFact → Method Act → ℕ → Plan → Option FrameFact → Option FrameFact
+going classes m at p None = None
+going classes m at p (Some f) = frame_if (falls p && is_none (least (conditions classes m at p f))) (after m at p f)
+
+-- the frames at an offset, where this one comes to the first of these instructions; none where no instruction begins there
+abbrev pub met : Plans → List ClassFact → Method Act → Frames → List (ℕ × Act) → Option FrameFact → ℕ → FramesFact
+met plan classes m frames [] coming at = no_frames
+met plan classes m frames (c ∷ cs) coming at =
+    if nat_eq c.0 at then record { coming = coming; declared = at_offset frames c.0 }
+    else met plan classes m frames cs (going classes m c.0 (plan m c.1) (before coming (at_offset frames c.0))) at
+
+abbrev pub met_under : Plans → List ClassFact → Method Act → Result Frames MapRefusal → ℕ → FramesFact
+met_under plan classes m (Ok frames) at = met plan classes m frames m.code (Some (initial_frame m)) at
+met_under plan classes m (Err why) at = no_frames
+
+-- of a method; none where the receiver and the parameters do not fit, or the stack map is refused
+abbrev pub frames_at : Plans → List ClassFact → Method Act → ℕ → FramesFact
+frames_at plan classes m at =
+    if nat_lt m.max_locals (length (in_locals (initial_types m))) then no_frames
+    else met_under plan classes m (frames_declared m) at
+
+-- ---- what is answered
+
+abbrev pub frames_view : FramesAt → FramesFact
+frames_view x = record { coming = option_map frame_of x.coming; declared = option_map frame_of x.declared }
+
+-- the method of this number has code, its bytes are instructions, and these are its frames at an offset
+pub record HasFrames (classes : List ClassFact) (c : JudgedClass) (number at : ℕ) (x : FramesFact) : Type 0 where
+  pub body : CodeBody
+  pub has_code : code_at c.file number ≡ Some body
+  pub instructions : List (ℕ × Instruction)
+  pub spelled : SpellsCode 0 body.code instructions
+  pub method : Method Act
+  pub says : method_of c number (acts instructions) ≡ Some method
+  pub same : x ≡ frames_at tables.plan classes method at
+
+-- it has no code, or the bytes of its code are no instructions
+abbrev pub HasNoInstructions : JudgedClass → ℕ → Type 0
+HasNoInstructions c number =
+    (body : CodeBody) (instructions : List (ℕ × Instruction)) → code_at c.file number ≡ Some body → SpellsCode 0 body.code instructions → ⊥
+
+abbrev pub AreFramesOf : List ClassFact → JudgedClass → ℕ → ℕ → FramesFact → Type 0
+AreFramesOf classes c number at x = HasFrames classes c number at x ⊎ (HasNoInstructions c number × (x ≡ no_frames))
+
+-- those at the instruction at which a method is refused
+abbrev pub IsFramed : List ClassFact → JudgedClass → ℕ → Verdict → FramesFact → Type 0
+IsFramed classes c number Verified x = x ≡ no_frames
+IsFramed classes c number NoCode x = x ≡ no_frames
+IsFramed classes c number (Refused at why) x = AreFramesOf classes c number at x
+
+-- ---- how many are told
+
+-- of a frame's locals and of the items of its stack
+abbrev pub frame_size : Option FrameFact → ℕ
+frame_size None = 0
+frame_size (Some f) = length f.locals + length f.stack
+
+abbrev pub frames_size : FramesFact → ℕ
+frames_size x = frame_size x.coming + frame_size x.declared
+
+-- in the frames of so many methods from the front
+abbrev pub size_before : List FramesAt → ℕ → ℕ
+size_before xs zero = 0
+size_before [] (suc n) = 0
+size_before (x ∷ xs) (suc n) = frames_size (frames_view x) + size_before xs n
+
+-- those at the instruction at which a method is refused, where frames are told of it; otherwise none
+abbrev pub IsFramedIf : Bool → List ClassFact → JudgedClass → ℕ → Verdict → FramesFact → Type 0
+IsFramedIf true classes c number v x = IsFramed classes c number v x
+IsFramedIf false classes c number v x = x ≡ no_frames
+
+-- Of each method of a class, with these verdicts: frames are told of it where those of the methods in front have fewer types than MOST_KEPT.
+pub record AreFramed (classes : List ClassFact) (c : JudgedClass) (rs : List MethodVerdict) (xs : List FramesAt) : Type 0 where
+  pub all : length xs ≡ length rs
+  pub each : (number : ℕ) (r : MethodVerdict) (x : FramesAt) → slice_get rs number ≡ Some r → slice_get xs number ≡ Some x
+      → IsFramedIf (nat_lt (size_before xs number) MOST_KEPT) classes c number r.verdict (frames_view x)

@@ -1,0 +1,362 @@
+//! The frames at an instruction: the one that comes to it, and the one that is declared there.
+ghost use Rattle.std.specs.Prelude.{◌≡◌, ◌≢◌, ◌⊎◌, ◌<◌, ◌≤◌, ◌-◌, ℕ, true, false, Ok, Some, List, length, map, option_map, IfOk, IfErr, IfSome};
+ghost use Rattle.layout.specs.declared.limits.TheConstants.{MAX_CODE_BYTES};
+ghost use Rattle.names.specs.Types.{type_of};
+ghost use Rattle.classfile.specs.CodeMethods.{class_of};
+ghost use Rattle.classfile.specs.MethodParts.{code_at};
+ghost use Rattle.classfile.specs.Views.{class_view, code_view};
+ghost use Rattle.classfile.specs.WellFormed.{WellFormed};
+ghost use Rattle.insn.specs.declared.fault.CodeFault.TheVariants as codes;
+ghost use Rattle.insn.specs.Instructions.{Instruction};
+ghost use Rattle.insn.specs.Code.{SpellsCode};
+ghost use Rattle.insn.specs.Offsets.{at_offset, IsStart};
+ghost use Rattle.insn.specs.Views.{act_view};
+ghost use Rattle.frames.specs.FrameFact.{frame_of};
+ghost use Rattle.frames.specs.DeclaredTables.{declared_view, frames_in, locals_in};
+ghost use Rattle.frames.specs.MarkedCode.{code_in};
+ghost use Rattle.rules.specs.Bodies.{method_view};
+ghost use Rattle.rules.specs.Held.{held};
+ghost use Rattle.rules.specs.declared.reason.Reason.TheVariants as reasons;
+ghost use Rattle.rules.specs.Table.{plan};
+ghost use Rattle.verify.specs.declared.verdict.VerifyFault.TheVariants.{OutOfMemory};
+ghost use Rattle.verify.specs.Verdict.{frames_declared};
+ghost use Rattle.verify.specs.Coming.{no_frames, before, frame_if, going, met, frames_at, frames_view, frame_size, frames_size, AreFramesOf};
+
+use crate::initial::{begins_uninitialized, initial_locals, initial_types};
+use crate::method::types_of;
+use crate::stack_maps::declared_frames;
+use crate::verdict::VerifyFault;
+use classfile::CodeMethod;
+use frames::{CodeStarts, Declared, DeclaredFrames, Frame};
+use hierarchy::Classes;
+use insn::{Act, CodeFault, Instructions};
+use names::FieldType;
+use pool::Descriptors;
+use rules::{Members, Reason, Working, goes_on, run};
+use std::alloc::{AllocError, Global};
+
+/// Frames are told of a method where those of the methods in front of it have fewer types than this, so that all of them take memory that is
+/// linear in the class.
+pub const MOST_KEPT: usize = 65_536;
+
+/// The frames at an instruction of a method (JVMS 4.10.1.6).
+#[derive(Debug, Drop)]
+pub struct FramesAt<'a> {
+    /// The frame that comes to it: the one after the instruction in front, or the one with which the method begins. None where the
+    /// instruction in front never goes on, or is refused by its rule.
+    pub coming: Option<Frame<'a>>,
+    /// The frame that the stack map declares there, if it declares one.
+    pub declared: Option<Frame<'a>>,
+}
+
+impl<'a> FramesAt<'a> {
+    /// No frame.
+    pub fn none() -> FramesAt<'a>
+        ensures { frames_view result ≡ no_frames }
+    {
+        FramesAt {
+            coming: None,
+            declared: None,
+        }
+    }
+
+    /// How many are left of a number of types behind these frames; 0 where they have more.
+    pub fn taken_off(&self, left: usize) -> usize
+        ensures { result ≡ left - frames_size (frames_view self.now) }
+    {
+        less(less(left, &self.coming), &self.declared)
+    }
+}
+
+/// A number less the types of a frame, if there is one; 0 where the frame has more.
+fn less(left: usize, frame: &Option<Frame<'_>>) -> usize
+    ensures { result ≡ left - frame_size (option_map frame_of frame.now) }
+{
+    match frame {
+        Some(frame) => left
+            .saturating_sub(frame.locals.len())
+            .saturating_sub(frame.stack.len()),
+        None => left,
+    }
+}
+
+/// The offset of the declared frame at a place, where it is in front of an offset; otherwise the one that is handed in.
+fn in_front(frames: &DeclaredFrames<'_>, place: usize, at: usize, otherwise: usize) -> usize
+    ensures { (result ≡ otherwise) ⊎ ((result < at) × IsStart (frames_in frames.now) result) }
+{
+    let Some((here, _)) = frames.get(place) else {
+        return otherwise;
+    };
+    let here = here as usize;
+    if here < at {
+        return here;
+    }
+    otherwise
+}
+
+/// The offset of the last frame that is declared in front of an offset; 0 where none is.
+fn last_before(frames: &DeclaredFrames<'_>, at: usize) -> usize
+    ensures { (result ≡ 0) ⊎ ((result < at) × IsStart (frames_in frames.now) result) }
+{
+    let mut last = 0;
+    for place in 0..frames.len() {
+        last = in_front(frames, place, at, last);
+    }
+    last
+}
+
+/// No frame goes on from an instruction that was refused for this reason; 1 where memory ran out.
+fn stopped(reason: Reason<'_>) -> Result<bool, VerifyFault>
+    ensures found { IfOk result (λ goes. (goes ≡ false) × (reason.entry ≢ reasons.OutOfMemory)) }
+    ensures memory { IfErr result (λ e. e ≡ OutOfMemory) }
+{
+    match reason {
+        Reason::OutOfMemory => Err(VerifyFault::OutOfMemory),
+        _ => Ok(false),
+    }
+}
+
+/// Runs an instruction that means this by its rule, on the frame before it, which becomes the frame after; whether that goes on. Nothing is
+/// said of the frame where it does not.
+fn go_on<'a, C: Classes>(
+    alloc: Global,
+    method: &CodeMethod<'_, 'a>,
+    starts: &CodeStarts<'_>,
+    at: u16,
+    act: Act<'a>,
+    constants: &mut Descriptors<'_, 'a>,
+    members: &mut Members<'_, '_, 'a, C>,
+    frame: &mut Working<'a>,
+    classes: &C,
+) -> Result<bool, VerifyFault>
+    requires constants { constants.old ≡ method.now.class.now.constant_pool }
+    requires members { members.old ≡ record { class = method.now.class.now; classes = C.content classes.now } }
+    requires starts { code_in starts.now ≡ method.now.code.now.code.now }
+    requires locals { length (held frame.old).locals ≡ method.now.code.now.max_locals }
+    ensures same { constants.new ≡ constants.old }
+    ensures same_members { members.new ≡ members.old }
+    ensures goes { let m = method_view method.now in
+        IfOk result (λ goes. frame_if goes (held frame.new) ≡ going (C.content classes.now) m at (plan m (act_view act.entry)) (Some (held frame.old))) }
+    ensures locals { IfOk result (λ goes. goes ≡ true → length (held frame.new).locals ≡ method.now.code.now.max_locals) }
+    ensures memory { IfErr result (λ e. e ≡ OutOfMemory) }
+{
+    let goes = goes_on(&act);
+    let named = members.named(constants, method, &act)?;
+    match run(alloc, method, starts, at, act, &named, frame, classes) {
+        Ok(()) => Ok(goes),
+        Err(reason) => stopped(reason),
+    }
+}
+
+/// Goes from an instruction to the next: the frame that is declared there, or otherwise the one that comes, becomes the one after; whether
+/// that goes on.
+fn step<'a, C: Classes>(
+    alloc: Global,
+    method: &CodeMethod<'_, 'a>,
+    starts: &CodeStarts<'_>,
+    at: u16,
+    act: Act<'a>,
+    declared: Option<Declared<'_, 'a>>,
+    comes: bool,
+    constants: &mut Descriptors<'_, 'a>,
+    members: &mut Members<'_, '_, 'a, C>,
+    frame: &mut Working<'a>,
+    classes: &C,
+) -> Result<bool, VerifyFault>
+    requires constants { constants.old ≡ method.now.class.now.constant_pool }
+    requires members { members.old ≡ record { class = method.now.class.now; classes = C.content classes.now } }
+    requires starts { code_in starts.now ≡ method.now.code.now.code.now }
+    requires declared { IfSome declared (λ d. length (declared_view d).locals ≡ method.now.code.now.max_locals) }
+    requires locals { comes ≡ true → length (held frame.old).locals ≡ method.now.code.now.max_locals }
+    ensures same { constants.new ≡ constants.old }
+    ensures same_members { members.new ≡ members.old }
+    ensures goes { let m = method_view method.now in let coming = frame_if comes (held frame.old) in
+        IfOk result (λ goes. frame_if goes (held frame.new) ≡ going (C.content classes.now) m at (plan m (act_view act.entry)) (before coming (option_map declared_view declared.entry))) }
+    ensures locals { IfOk result (λ goes. goes ≡ true → length (held frame.new).locals ≡ method.now.code.now.max_locals) }
+    ensures memory { IfErr result (λ e. e ≡ OutOfMemory) }
+{
+    match declared {
+        Some(declared) => {
+            *frame = Working::new(alloc, method.code.max_locals, false);
+            frame.take_on(&declared, None)?;
+        }
+        None => {
+            if !comes {
+                return Ok(false);
+            }
+        }
+    }
+    go_on(
+        alloc, method, starts, at, act, constants, members, frame, classes,
+    )
+}
+
+/// A copy of a declared frame.
+fn copy_of<'a>(
+    alloc: Global,
+    declared: &Declared<'_, 'a>,
+    max_locals: u16,
+) -> Result<Frame<'a>, AllocError>
+    requires { length (declared_view declared.now).locals ≡ max_locals }
+    ensures { IfOk result (λ f. frame_of f ≡ declared_view declared.now) }
+{
+    let mut frame = Working::new(alloc, max_locals, false);
+    frame.take_on(declared, None)?;
+    frame.into_frame()
+}
+
+/// The frame that comes, if it does, and the one that is declared.
+fn meet<'a>(
+    alloc: Global,
+    comes: bool,
+    frame: Working<'a>,
+    declared: Option<Declared<'_, 'a>>,
+    max_locals: u16,
+) -> Result<FramesAt<'a>, AllocError>
+    requires { IfSome declared (λ d. length (declared_view d).locals ≡ max_locals) }
+    ensures { IfOk result (λ x. frames_view x ≡ record { coming = frame_if comes (held frame.entry); declared = option_map declared_view declared.entry }) }
+{
+    let coming = if comes {
+        Some(frame.into_frame()?)
+    } else {
+        None
+    };
+    let declared = match declared {
+        Some(declared) => Some(copy_of(alloc, &declared, max_locals)?),
+        None => None,
+    };
+    Ok(FramesAt { coming, declared })
+}
+
+/// The frames at an offset of code, by one walk over it with the frame with which the method begins. No instruction is run in front of the
+/// last frame that is declared in front of the offset, since what comes to that one does not matter.
+fn walk<'a, C: Classes>(
+    alloc: Global,
+    method: &CodeMethod<'_, 'a>,
+    starts: &CodeStarts<'_>,
+    frames: &DeclaredFrames<'a>,
+    constants: &mut Descriptors<'_, 'a>,
+    members: &mut Members<'_, '_, 'a, C>,
+    first: Working<'a>,
+    at: usize,
+    classes: &C,
+) -> Result<FramesAt<'a>, VerifyFault>
+    requires constants { constants.old ≡ method.now.class.now.constant_pool }
+    requires members { members.old ≡ record { class = method.now.class.now; classes = C.content classes.now } }
+    requires locals { length (held first).locals ≡ method.now.code.now.max_locals }
+    requires starts { code_in starts.now ≡ method.now.code.now.code.now }
+    requires frames { frames_declared (method_view method.now) ≡ Ok (frames_in frames.now) }
+    requires declared { locals_in frames.now ≡ method.now.code.now.max_locals }
+    requires spelled { (xs : List (ℕ × Instruction)) × SpellsCode 0 method.now.code.now.code.now xs }
+    requires few { length method.now.code.now.code.now ≤ MAX_CODE_BYTES }
+    ensures same { constants.new ≡ constants.old }
+    ensures same_members { members.new ≡ members.old }
+    ensures found { let m = method_view method.now in
+        IfOk result (λ x. frames_view x ≡ met plan (C.content classes.now) m (frames_in frames.now) m.code (Some (held first.entry)) at) }
+    ensures memory { IfErr result (λ e. e ≡ OutOfMemory) }
+{
+    let last = last_before(frames, at);
+    let mut frame = first;
+    let mut code = Instructions::new(method.code.code);
+    let mut comes = true;
+    while !code.is_at_end() {
+        let here = code.at() as u16;
+        let act = code.take_act();
+        let declared = frames.find(u32::from(here));
+        if usize::from(here) == at {
+            return Ok(meet(alloc, comes, frame, declared, method.code.max_locals)?);
+        }
+        if usize::from(here) >= last {
+            comes = step(
+                alloc, method, starts, here, act, declared, comes, constants, members, &mut frame,
+                classes,
+            )?;
+        }
+    }
+    Ok(FramesAt::none())
+}
+
+/// The frames at an offset of the code of a method, whose parameters are of these types.
+fn frames_in_body<'a, C: Classes>(
+    alloc: Global,
+    method: &CodeMethod<'_, 'a>,
+    starts: &CodeStarts<'_>,
+    parameters: &[FieldType<'a>],
+    constants: &mut Descriptors<'_, 'a>,
+    members: &mut Members<'_, '_, 'a, C>,
+    at: usize,
+    classes: &C,
+) -> Result<FramesAt<'a>, VerifyFault>
+    requires constants { constants.old ≡ method.now.class.now.constant_pool }
+    requires members { members.old ≡ record { class = method.now.class.now; classes = C.content classes.now } }
+    requires starts { code_in starts.now ≡ method.now.code.now.code.now }
+    requires parameters { (method_view method.now).type.params ≡ map type_of parameters.now }
+    requires spelled { (xs : List (ℕ × Instruction)) × SpellsCode 0 method.now.code.now.code.now xs }
+    requires few { length method.now.code.now.code.now ≤ MAX_CODE_BYTES }
+    ensures same { constants.new ≡ constants.old }
+    ensures same_members { members.new ≡ members.old }
+    ensures found { IfOk result (λ x. frames_view x ≡ frames_at plan (C.content classes.now) (method_view method.now) at) }
+    ensures memory { IfErr result (λ e. e ≡ OutOfMemory) }
+{
+    let max_locals = method.code.max_locals;
+    let types = initial_types(alloc, method, parameters)?;
+    let Some(locals) = initial_locals(alloc, &types, max_locals)? else {
+        return Ok(FramesAt::none());
+    };
+    let declared = declared_frames(alloc, method, &types, starts, constants)?;
+    let Ok(frames) = declared else {
+        return Ok(FramesAt::none());
+    };
+    let mut frame = Working::new(alloc, 0, false);
+    frame.start(&locals, max_locals, begins_uninitialized(method))?;
+    walk(
+        alloc, method, starts, &frames, constants, members, frame, at, classes,
+    )
+}
+
+/// No frame where bytes are no code; 1 where memory ran out.
+fn without_code<'a>(fault: CodeFault) -> Result<FramesAt<'a>, VerifyFault>
+    ensures found { IfOk result (λ x. (fault ≢ codes.OutOfMemory) × (frames_view x ≡ no_frames)) }
+    ensures memory { IfErr result (λ e. e ≡ OutOfMemory) }
+{
+    match fault {
+        CodeFault::OutOfMemory => Err(VerifyFault::OutOfMemory),
+        _ => Ok(FramesAt::none()),
+    }
+}
+
+/// The frames at an offset of a method with code (JVMS 4.10.1.6); none where its bytes are no instructions, where its receiver and its
+/// parameters do not fit into max_locals, where its stack map is refused, or where no instruction begins at the offset.
+pub fn frames_of<'a, C: Classes>(
+    alloc: Global,
+    method: CodeMethod<'_, 'a>,
+    constants: &mut Descriptors<'_, 'a>,
+    members: &mut Members<'_, '_, 'a, C>,
+    at: usize,
+    classes: &C,
+) -> Result<FramesAt<'a>, VerifyFault>
+    requires constants { constants.old ≡ method.class.now.constant_pool }
+    requires members { members.old ≡ record { class = method.class.now; classes = C.content classes.now } }
+    requires formed { WellFormed (class_view method.class.now) }
+    requires coded { code_at (class_view method.class.now) method.number ≡ Some (code_view method.code.now) }
+    ensures same { constants.new ≡ constants.old }
+    ensures same_members { members.new ≡ members.old }
+    ensures found { IfOk result (λ x. AreFramesOf (C.content classes.now) (class_of method.entry) method.entry.number at (frames_view x)) }
+    ensures memory { IfErr result (λ e. e ≡ OutOfMemory) }
+{
+    let starts = match CodeStarts::new(alloc, method.code.code) {
+        Ok(starts) => starts,
+        Err(fault) => return without_code(fault),
+    };
+    let types = types_of(alloc, &method)?;
+    frames_in_body(
+        alloc,
+        &method,
+        &starts,
+        &types.params,
+        constants,
+        members,
+        at,
+        classes,
+    )
+}
