@@ -15,7 +15,7 @@ use crate::refusing::{Limits, judge};
 use crate::stack_map::MapEntry;
 use crate::starts::Starts;
 use crate::vtype::VType;
-use pool::{Descriptors, Pool};
+use pool::Descriptors;
 use std::alloc::{AllocError, Global};
 
 fn delta(entry: &MapEntry) -> u16
@@ -38,21 +38,19 @@ fn declare_one<'a, S: Starts>(
     before: usize,
     behind: u32,
     entry: &MapEntry,
-    limits: Limits,
-    pool: &Pool<'a>,
+    limits: &Limits<'_, 'a, S>,
     constants: &mut Descriptors<'_, 'a>,
-    starts: &S,
 ) -> Result<Result<FrameTops, FrameFault>, AllocError>
-    requires constants { constants.old ≡ pool.now }
+    requires constants { constants.old ≡ limits.now.pool.now }
     requires few { behind ≤ 65536 }
     requires inside { before ≤ length chains.old.links.items }
     ensures same { constants.new ≡ constants.old }
     ensures small { IfOk result (λ r. IfOk r (λ f. f.at < 65536)) }
-    ensures declares { IfOk result (Declares pool.now (S.code starts.now) limits.max_locals limits.max_stack chains.old.links.items chains.new.links.items behind before (entry_of entry.now)) }
+    ensures declares { IfOk result (Declares limits.now.pool.now (S.code limits.now.starts.now) limits.now.max_locals limits.now.max_stack chains.old.links.items chains.new.links.items behind before (entry_of entry.now)) }
 {
     let at = behind + u32::from(delta(entry));
     let frame = frame_after(chains, before, at, entry, constants)?;
-    match judge(chains, before, entry, frame, limits, pool, starts) {
+    match judge(chains, before, entry, frame, limits) {
         Some(fault) => Ok(Err(fault)),
         None => Ok(Ok(frame)),
     }
@@ -65,23 +63,19 @@ fn declare_all<'a, S: Starts>(
     frames: &mut Vec<FrameTops>,
     first: usize,
     entries: &[MapEntry],
-    limits: Limits,
-    pool: &Pool<'a>,
+    limits: &Limits<'_, 'a, S>,
     constants: &mut Descriptors<'_, 'a>,
-    starts: &S,
 ) -> Result<Result<(), FrameFault>, AllocError>
-    requires constants { constants.old ≡ pool.now }
+    requires constants { constants.old ≡ limits.now.pool.now }
     requires empty { frames.old.items ≡ [] }
     requires inside { first ≤ length chains.old.links.items }
     ensures same { constants.new ≡ constants.old }
-    ensures declared { IfOk result (AreDeclared (declared_frames pool.now (S.code starts.now) limits.max_locals limits.max_stack (locals_at chains.old.links.items first) (map entry_of entries.now)) limits.max_locals chains.new.links.items frames.new.items) }
+    ensures declared { IfOk result (AreDeclared (declared_frames limits.now.pool.now (S.code limits.now.starts.now) limits.now.max_locals limits.now.max_stack (locals_at chains.old.links.items first) (map entry_of entries.now)) limits.now.max_locals chains.new.links.items frames.new.items) }
 {
     let mut before = first;
     let mut behind = 0;
     for entry in entries {
-        match declare_one(
-            chains, before, behind, entry, limits, pool, constants, starts,
-        )? {
+        match declare_one(chains, before, behind, entry, limits, constants)? {
             Err(fault) => return Ok(Err(fault)),
             Ok(frame) => {
                 frames.push(frame)?;
@@ -98,41 +92,25 @@ fn declare_all<'a, S: Starts>(
 ///
 /// `initial` has the types of the receiver and of the parameters, a long or double being one of them. Locals and stacks
 /// are counted in units. The memory that is taken is a small multiple of the entries and of the texts that they name.
-/// `constants` are those of the pool: the name of an array class is read once, however many entries of however many
+/// `constants` are those of the limits' pool: the name of an array class is read once, however many entries of however many
 /// stack maps name it.
 pub fn declare<'a, S: Starts>(
     alloc: Global,
     entries: &[MapEntry],
-    pool: &Pool<'a>,
+    limits: &Limits<'_, 'a, S>,
     constants: &mut Descriptors<'_, 'a>,
-    starts: &S,
     initial: &[VType<'a>],
-    max_locals: u16,
-    max_stack: u16,
 ) -> Result<Result<DeclaredFrames<'a>, FrameFault>, AllocError>
-    requires { constants.old ≡ pool.now }
+    requires { constants.old ≡ limits.now.pool.now }
     ensures same { constants.new ≡ constants.old }
-    ensures declared { IfOk result (IsDeclared (declared_frames pool.now (S.code starts.now) max_locals max_stack (map type_of initial.now) (map entry_of entries.now))) }
-    ensures locals { IfOk result (λ r. IfOk r (λ t. locals_in t ≡ max_locals)) }
+    ensures declared { IfOk result (IsDeclared (declared_frames limits.now.pool.now (S.code limits.now.starts.now) limits.now.max_locals limits.now.max_stack (map type_of initial.now) (map entry_of entries.now))) }
+    ensures locals { IfOk result (λ r. IfOk r (λ t. locals_in t ≡ limits.now.max_locals)) }
 {
     let mut chains: Chains<'a> = Chains::new(alloc);
     let mut frames = Vec::new(alloc);
-    let limits = Limits {
-        max_locals,
-        max_stack,
-    };
     let first = chains.push_all(initial, 0)?;
-    match declare_all(
-        &mut chains,
-        &mut frames,
-        first,
-        entries,
-        limits,
-        pool,
-        constants,
-        starts,
-    )? {
+    match declare_all(&mut chains, &mut frames, first, entries, limits, constants)? {
         Err(fault) => Ok(Err(fault)),
-        Ok(()) => Ok(Ok(DeclaredFrames::new(chains, frames, max_locals))),
+        Ok(()) => Ok(Ok(DeclaredFrames::new(chains, frames, limits.max_locals))),
     }
 }

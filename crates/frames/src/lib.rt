@@ -74,6 +74,7 @@ pub use naming::{array_of, held_by, number_type, reference_to};
 pub use objects::{is_made_at, is_object, is_own};
 pub use packed::{Packed, packed_assignable};
 pub use packing::pack;
+pub use refusing::Limits;
 pub use stack_fitting::StackFitting;
 pub use stack_map::{MapEntry, StackMap, TypeInfo, read_map};
 pub use starts::Starts;

@@ -15,10 +15,16 @@ use crate::stack_map::{MapEntry, TypeInfo};
 use crate::starts::Starts;
 use pool::Pool;
 
-/// How many units of locals and of the stack a method has.
-#[derive(Clone, Copy, Debug)]
-pub struct Limits {
+/// The limits of the entries of a method's stack map.
+#[derive(Drop)]
+pub struct Limits<'m, 'a, S: Starts> {
+    /// The constants that they may name.
+    pub pool: &'m Pool<'a>,
+    /// Where the instructions of the method begin.
+    pub starts: &'m S,
+    /// How many local variables it has.
     pub max_locals: u16,
+    /// How many units its stack may have.
     pub max_stack: u16,
 }
 
@@ -88,14 +94,14 @@ pub fn judge<S: Starts>(
     before: usize,
     entry: &MapEntry,
     frame: FrameTops,
-    limits: Limits,
-    pool: &Pool<'_>,
-    starts: &S,
+    limits: &Limits<'_, '_, S>,
 ) -> Option<FrameFault>
     ensures small { result ≡ None → frame.at < 65536 }
     ensures least { let links = chains.now.links.items in
-        told result ≡ least (entry_conditions pool.now (S.code starts.now) limits.max_locals limits.max_stack frame.at (entry_of entry.now) (locals_at links before) (locals_at links frame.locals) (types_at links frame.stack)) }
+        told result ≡ least (entry_conditions limits.now.pool.now (S.code limits.now.starts.now) limits.now.max_locals limits.now.max_stack frame.at (entry_of entry.now) (locals_at links before) (locals_at links frame.locals) (types_at links frame.stack)) }
 {
+    let pool = limits.pool;
+    let starts = limits.starts;
     if has_wrong(Wrong::NamesNothing, entry, pool, starts) {
         return Some(FrameFault::BadIndex);
     }

@@ -11,6 +11,7 @@ use crate::declared_frames::DeclaredFrames;
 use crate::declaring::declare;
 use crate::frame::Frame;
 use crate::frame_fault::FrameFault;
+use crate::refusing::Limits;
 use crate::stack_map::StackMap;
 use crate::vtype::VType;
 use insn::Insn;
@@ -53,16 +54,13 @@ pub fn declared<'a>(
 {
     let starts = ListStarts::new(alloc, code)?;
     let mut constants = Descriptors::new(alloc, pool);
-    match declare(
-        alloc,
-        stack_map.entries(),
+    let limits = Limits {
         pool,
-        &mut constants,
-        &starts,
-        initial,
+        starts: &starts,
         max_locals,
         max_stack,
-    )? {
+    };
+    match declare(alloc, stack_map.entries(), &limits, &mut constants, initial)? {
         Err(fault) => Err(fault),
         Ok(table) => Ok(to_frames(alloc, &table)?),
     }

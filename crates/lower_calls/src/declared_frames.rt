@@ -1,8 +1,8 @@
 use crate::making::K;
 use classfile::{ClassFile, decode};
 use frames::{
-    CodeStarts, Declared, Frame, FrameFault, Locals, MapEntry, StackMap, TypeInfo, VType, declare,
-    declared,
+    CodeStarts, Declared, Frame, FrameFault, Limits, Locals, MapEntry, StackMap, TypeInfo, VType,
+    declare, declared,
 };
 use insn::decode_code;
 use pool::Descriptors;
@@ -49,16 +49,13 @@ fn are_found(alloc: Global, class: &ClassFile<'_>) -> Result<bool, AllocError> {
     let map = stack_map(alloc)?;
     let pool = &class.constant_pool;
     let mut constants = Descriptors::new(alloc, pool);
-    let found = declare(
-        alloc,
-        map.entries(),
+    let limits = Limits {
         pool,
-        &mut constants,
-        &starts,
-        &[],
-        5,
-        2,
-    )?;
+        starts: &starts,
+        max_locals: 5,
+        max_stack: 2,
+    };
+    let found = declare(alloc, map.entries(), &limits, &mut constants, &[])?;
     let Ok(frames) = found else {
         return Ok(false);
     };

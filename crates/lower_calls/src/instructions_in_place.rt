@@ -7,9 +7,8 @@ use hierarchy::{Classes, Rows};
 use insn::{Act, Branches, Kind, decode_code};
 use layout::MAX_CODE_BYTES;
 use names::{Base, OBJECT};
-use pool::Descriptors;
 use rules::{
-    Env, Members, Reason, Working, branches_by, check_member, constructs_own, first_reason,
+    ClassConstants, Env, Reason, Working, branches_by, check_member, constructs_own, first_reason,
     goes_on, is_plain, keeps_locals, own_class, plans_go_as_acts, replaced_object, run, run_plain,
     stored_to, together,
 };
@@ -40,23 +39,20 @@ fn clones<'a, C: Classes>(
     let act = Act::InvokeVirtual { index: 11 };
     let mut frame = Working::new(alloc, env.method.code.max_locals, false);
     frame.push(object)?;
-    let mut constants = Descriptors::new(alloc, &env.method.class.constant_pool);
-    let mut members = Members::new(alloc, env.method.class, env.classes);
-    let named = members.named(&mut constants, &env.method, &act)?;
-    let used = check_member(&env.method, &act, &named, &mut members, &frame, env.classes);
+    let mut constants = ClassConstants::new(alloc, env.method.class, env.classes);
+    let named = constants.named(&env.method, &act)?;
+    let used = check_member(
+        &env.method,
+        &act,
+        &named,
+        &mut constants.members,
+        &frame,
+        env.classes,
+    );
     if frame.max_locals() != env.method.code.max_locals {
         return Ok(false);
     }
-    match run(
-        alloc,
-        &env.method,
-        env,
-        0,
-        act,
-        &named,
-        &mut frame,
-        env.classes,
-    ) {
+    match run(&env.method, env, 0, act, &named, &mut frame, env.classes) {
         Ok(()) => together(used, Ok(()))?,
         Err(reason) => return Err(first_reason(reason, used)),
     }
@@ -72,9 +68,8 @@ fn constructs<'a, C: Classes>(
     let act = Act::InvokeSpecial { index: 9 };
     let mut frame = Working::new(alloc, env.method.code.max_locals, true);
     frame.push(object)?;
-    let mut constants = Descriptors::new(alloc, &env.method.class.constant_pool);
-    let mut members = Members::new(alloc, env.method.class, env.classes);
-    let named = members.named(&mut constants, &env.method, &act)?;
+    let mut constants = ClassConstants::new(alloc, env.method.class, env.classes);
+    let named = constants.named(&env.method, &act)?;
     let replaced = replaced_object(&env.method, 0, &act, &named, &frame);
     Ok(constructs_own(&env.method, &act, &named, &frame) && replaced == Some(object))
 }

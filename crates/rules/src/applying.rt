@@ -10,8 +10,8 @@ ghost use Rattle.rules.specs.Table.{plan};
 ghost use Rattle.rules.specs.Bodies.{method_view};
 ghost use Rattle.rules.specs.Applied.{Applied};
 
+use crate::class_constants::ClassConstants;
 use crate::environment::Env;
-use crate::members::Members;
 use crate::merging::first_reason;
 use crate::own_object::constructs_own;
 use crate::protected::check_member;
@@ -22,7 +22,6 @@ use crate::working::Working;
 use frames::Frame;
 use hierarchy::Classes;
 use insn::{BranchTargets, Insn, act};
-use pool::Descriptors;
 use std::alloc::Global;
 
 /// The frame and the ways that an instruction leaves that is not refused.
@@ -77,9 +76,8 @@ pub fn apply<'a, C: Classes>(
         return out_of_memory();
     };
     let act = act(insn);
-    let mut constants = Descriptors::new(alloc, &env.method.class.constant_pool);
-    let mut members = Members::new(alloc, env.method.class, env.classes);
-    let Ok(named) = members.named(&mut constants, &env.method, &act) else {
+    let mut constants = ClassConstants::new(alloc, env.method.class, env.classes);
+    let Ok(named) = constants.named(&env.method, &act) else {
         return out_of_memory();
     };
     let own = constructs_own(&env.method, &act, &named, &working);
@@ -87,20 +85,11 @@ pub fn apply<'a, C: Classes>(
         &env.method,
         &act,
         &named,
-        &mut members,
+        &mut constants.members,
         &working,
         env.classes,
     );
-    if let Err(reason) = run(
-        alloc,
-        &env.method,
-        env,
-        at,
-        act,
-        &named,
-        &mut working,
-        env.classes,
-    ) {
+    if let Err(reason) = run(&env.method, env, at, act, &named, &mut working, env.classes) {
         let reason = first_reason(reason, used);
         return Err(Refusal { reason, own });
     }

@@ -207,7 +207,6 @@ fn sizes<'a>(alloc: Global, count: u8) -> Result<Vec<Want<'a>>, AllocError>
 /// `multianewarray` of the array that it names
 #[inline(never)]
 pub fn new_multi_array<'a, C: Classes>(
-    alloc: Global,
     method: &CodeMethod<'_, 'a>,
     named: Option<RefType<'a>>,
     dimensions: u8,
@@ -222,7 +221,7 @@ pub fn new_multi_array<'a, C: Classes>(
         return Err(Reason::WrongConstant);
     };
     if dimensions > 0 && made.dimensions() >= dimensions {
-        let wants = sizes(alloc, dimensions)?;
+        let wants = sizes(frame.alloc, dimensions)?;
         pops(method, &wants, Some(reference_to(made)), frame, classes)
     } else {
         Err(Reason::WrongConstant)

@@ -66,7 +66,6 @@ pub fn result_of<'a>(result_type: Option<FieldType<'a>>) -> Option<VType<'a>>
 
 /// A call of a method of these types, with its arguments on a receiver, if it has one.
 fn calls<'a, C: Classes>(
-    alloc: Global,
     method: &CodeMethod<'_, 'a>,
     called: &MethodType<'a>,
     receiver: Option<Want<'a>>,
@@ -77,7 +76,7 @@ fn calls<'a, C: Classes>(
         let p = pops (arguments_on t.params (option_to_list (option_map want_view receiver.entry))) (result_types t.result) [] true in
         Done (conditions (C.content classes.now) m at p f) (after m at p f) (held frame.new) result }
 {
-    let wants = arguments_on(alloc, &called.params, receiver)?;
+    let wants = arguments_on(frame.alloc, &called.params, receiver)?;
     pops(method, &wants, result_of(called.result), frame, classes)
 }
 
@@ -122,7 +121,6 @@ fn may_invoke_static(major: u16, called: &MethodConstant<'_>) -> bool
 /// `invokestatic` of the method that it names
 #[inline(never)]
 pub fn invoke_static<'a, C: Classes>(
-    alloc: Global,
     method: &CodeMethod<'_, 'a>,
     named: Option<&MethodConstant<'a>>,
     frame: &mut Working<'a>,
@@ -136,7 +134,7 @@ pub fn invoke_static<'a, C: Classes>(
         return Err(Reason::WrongConstant);
     };
     if may_invoke_static(method.class.major_version, called) {
-        calls(alloc, method, &called.method_type, None, frame, classes)
+        calls(method, &called.method_type, None, frame, classes)
     } else {
         Err(Reason::WrongConstant)
     }
@@ -152,7 +150,6 @@ fn may_invoke_virtual(called: &MethodConstant<'_>) -> bool
 /// `invokevirtual` of the method that it names
 #[inline(never)]
 pub fn invoke_virtual<'a, C: Classes>(
-    alloc: Global,
     method: &CodeMethod<'_, 'a>,
     named: Option<&MethodConstant<'a>>,
     frame: &mut Working<'a>,
@@ -167,7 +164,7 @@ pub fn invoke_virtual<'a, C: Classes>(
     };
     if may_invoke_virtual(called) {
         let receiver = Some(Want::Assignable(called.class));
-        calls(alloc, method, &called.method_type, receiver, frame, classes)
+        calls(method, &called.method_type, receiver, frame, classes)
     } else {
         Err(Reason::WrongConstant)
     }
@@ -187,7 +184,6 @@ fn may_invoke_interface(count: u8, called: &MethodConstant<'_>) -> bool
 /// `invokeinterface` of the method that it names
 #[inline(never)]
 pub fn invoke_interface<'a, C: Classes>(
-    alloc: Global,
     method: &CodeMethod<'_, 'a>,
     named: Option<&MethodConstant<'a>>,
     count: u8,
@@ -203,7 +199,7 @@ pub fn invoke_interface<'a, C: Classes>(
     };
     if may_invoke_interface(count, called) {
         let receiver = Some(Want::Assignable(called.class));
-        calls(alloc, method, &called.method_type, receiver, frame, classes)
+        calls(method, &called.method_type, receiver, frame, classes)
     } else {
         Err(Reason::WrongConstant)
     }
@@ -221,7 +217,6 @@ fn may_be_called(site: &CallSite<'_>) -> bool
 
 /// A call of the call site that is named, where the class has a bootstrap method for it, which may be used.
 fn dynamic_call<'a, C: Classes>(
-    alloc: Global,
     method: &CodeMethod<'_, 'a>,
     named: Option<&CallSite<'a>>,
     bootstrapped: bool,
@@ -239,7 +234,7 @@ fn dynamic_call<'a, C: Classes>(
         return Err(Reason::WrongConstant);
     }
     if bootstrapped {
-        calls(alloc, method, &site.method_type, None, frame, classes)
+        calls(method, &site.method_type, None, frame, classes)
     } else {
         Err(Reason::BadBootstrap)
     }
@@ -248,7 +243,6 @@ fn dynamic_call<'a, C: Classes>(
 /// `invokedynamic` of the call site that it names, where such calls are judged
 #[inline(never)]
 pub fn invoke_dynamic<'a, C: Classes>(
-    alloc: Global,
     method: &CodeMethod<'_, 'a>,
     named: Option<&CallSite<'a>>,
     bootstrapped: bool,
@@ -260,7 +254,7 @@ pub fn invoke_dynamic<'a, C: Classes>(
         Done (conditions (C.content classes.now) m at p f) (after m at p f) (held frame.new) result }
 {
     if method.dynamic {
-        dynamic_call(alloc, method, named, bootstrapped, frame, classes)
+        dynamic_call(method, named, bootstrapped, frame, classes)
     } else {
         Err(Reason::NotSupported)
     }

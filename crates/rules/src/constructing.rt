@@ -21,7 +21,6 @@ use classfile::CodeMethod;
 use frames::{Starts, VType, is_own};
 use hierarchy::{Answer, Classes};
 use pool::MethodConstant;
-use std::alloc::Global;
 
 /// The class that the `new` at an offset makes an object of, if there is one.
 fn class_made_at<'a, S: Starts>(
@@ -85,7 +84,6 @@ fn class_after<'a>(method: &CodeMethod<'_, 'a>, name: &'a [u8], object: &VType<'
 
 /// A constructor of the class of this name, with its arguments on the object.
 pub fn constructs<'a, S: Starts, C: Classes>(
-    alloc: Global,
     method: &CodeMethod<'_, 'a>,
     called: &MethodConstant<'a>,
     name: &'a [u8],
@@ -98,7 +96,7 @@ pub fn constructs<'a, S: Starts, C: Classes>(
         let p = constructs name.now (arguments_on (method_constant_view called.now).type.params []) in
         Done (conditions (C.content classes.now) m at p f) (after m at p f) (held frame.new) result }
 {
-    let wants = arguments_on(alloc, &called.method_type.params, None)?;
+    let wants = arguments_on(frame.alloc, &called.method_type.params, None)?;
     let Some(answer) = take(&wants, frame, classes) else {
         return Err(Reason::MissingOperand);
     };

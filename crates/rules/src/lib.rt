@@ -22,7 +22,7 @@
 //! - `naming`: what the constant is that an instruction names.
 //! - `declaring_class`: the class that declares the method, and its superclass.
 //! - `guards`: which constants name members that are guarded.
-//! - `members`: the members that the instructions of a class name.
+//! - `members`: the members that the instructions of a class name; `class_constants`: its constants, as they name them.
 //! - `protected`: on which objects protected members may be used.
 //! - `merging`: the reasons of two judgements taken together.
 //! - `want`: what is asked of an operand.
@@ -46,6 +46,7 @@
 mod applying;
 mod arrays;
 mod calls;
+mod class_constants;
 mod computing;
 mod constants;
 mod constructing;
@@ -75,6 +76,7 @@ mod ways;
 mod working;
 
 pub use applying::{After, Refusal, apply};
+pub use class_constants::ClassConstants;
 pub use declaring_class::own_class;
 pub use environment::Env;
 pub use kept_items::{items_kept, items_kept_plainly};

@@ -35,7 +35,6 @@ use classfile::CodeMethod;
 use frames::Starts;
 use hierarchy::Classes;
 use insn::Act;
-use std::alloc::Global;
 
 /// Runs the instruction at an offset on a frame, in place, by its rule (JVMS 4.10.1.9). The frame has max_locals
 /// locals, the starts are those of the method's code, and what the instruction names was looked up.
@@ -43,7 +42,6 @@ use std::alloc::Global;
 /// Refused is, by the least number that holds, what the rule refuses (60 to 66, 74, 76, 77, 90); or 1 where memory ran out.
 /// Nothing is said of the frame then. Of the protected member that it uses [`check_member`](crate::check_member) judges, in the frame before it.
 pub fn run<'a, S: Starts, C: Classes>(
-    alloc: Global,
     method: &CodeMethod<'_, 'a>,
     starts: &S,
     at: u16,
@@ -73,16 +71,15 @@ pub fn run<'a, S: Starts, C: Classes>(
         Act::PutStatic { .. } => put_static(method, named.field(), frame, classes),
         Act::GetField { .. } => get_field(method, named.field(), frame, classes),
         Act::PutField { .. } => { put_field(method, named.field(), named.is_own(), frame, classes) }
-        Act::InvokeVirtual { .. } => invoke_virtual(alloc, method, named.method(), frame, classes),
+        Act::InvokeVirtual { .. } => invoke_virtual(method, named.method(), frame, classes),
         Act::InvokeSpecial { .. } => {
-            invoke_special(alloc, method, named.method(), starts, frame, classes)
+            invoke_special(method, named.method(), starts, frame, classes)
         }
-        Act::InvokeStatic { .. } => invoke_static(alloc, method, named.method(), frame, classes),
+        Act::InvokeStatic { .. } => invoke_static(method, named.method(), frame, classes),
         Act::InvokeInterface { count, .. } => {
-            invoke_interface(alloc, method, named.method(), count, frame, classes)
+            invoke_interface(method, named.method(), count, frame, classes)
         }
         Act::InvokeDynamic { .. } => invoke_dynamic(
-            alloc,
             method,
             named.site(),
             named.is_bootstrapped(),
@@ -111,7 +108,7 @@ pub fn run<'a, S: Starts, C: Classes>(
         }
         Act::NewReferenceArray { .. } => new_reference_array(method, named.class(), frame, classes),
         Act::NewMultiArray { dimensions, .. } => {
-            new_multi_array(alloc, method, named.class(), dimensions, frame, classes)
+            new_multi_array(method, named.class(), dimensions, frame, classes)
         }
         Act::CheckCast { .. } => check_cast(method, named.class(), frame, classes),
         Act::InstanceOf { .. } => instance_of(method, named.class(), frame, classes),

@@ -25,12 +25,10 @@ use frames::{Starts, VType, assignable, both, reference_to};
 use hierarchy::{Answer, Classes};
 use names::RefType;
 use pool::MethodConstant;
-use std::alloc::Global;
 
 /// A method that is no constructor, of a class that the current class is assignable to, called on an object of the
 /// current class.
 fn calls_special<'a, C: Classes>(
-    alloc: Global,
     method: &CodeMethod<'_, 'a>,
     called: &MethodConstant<'a>,
     frame: &mut Working<'a>,
@@ -47,7 +45,7 @@ fn calls_special<'a, C: Classes>(
         _ => {}
     }
     let receiver = Want::Assignable(RefType::Class(me));
-    let wants = arguments_on(alloc, &called.method_type.params, Some(receiver))?;
+    let wants = arguments_on(frame.alloc, &called.method_type.params, Some(receiver))?;
     let Some(answer) = take(&wants, frame, classes) else {
         return Err(Reason::MissingOperand);
     };
@@ -79,7 +77,6 @@ pub fn may_construct_by(called: &MethodConstant<'_>) -> bool
 
 /// `invokespecial` of a constructor.
 fn call_constructor<'a, S: Starts, C: Classes>(
-    alloc: Global,
     method: &CodeMethod<'_, 'a>,
     called: &MethodConstant<'a>,
     starts: &S,
@@ -95,7 +92,7 @@ fn call_constructor<'a, S: Starts, C: Classes>(
         return Err(Reason::WrongConstant);
     };
     if may_construct_by(called) {
-        constructs(alloc, method, called, name, starts, frame, classes)
+        constructs(method, called, name, starts, frame, classes)
     } else {
         Err(Reason::WrongConstant)
     }
@@ -103,7 +100,6 @@ fn call_constructor<'a, S: Starts, C: Classes>(
 
 /// `invokespecial` of a method that is no constructor.
 fn call_special<'a, C: Classes>(
-    alloc: Global,
     method: &CodeMethod<'_, 'a>,
     called: &MethodConstant<'a>,
     frame: &mut Working<'a>,
@@ -114,7 +110,7 @@ fn call_special<'a, C: Classes>(
         Done (conditions (C.content classes.now) m at p f) (after m at p f) (held frame.new) result }
 {
     if may_call_special(method.class.major_version, called) {
-        calls_special(alloc, method, called, frame, classes)
+        calls_special(method, called, frame, classes)
     } else {
         Err(Reason::WrongConstant)
     }
@@ -123,7 +119,6 @@ fn call_special<'a, C: Classes>(
 /// `invokespecial` of the method that it names
 #[inline(never)]
 pub fn invoke_special<'a, S: Starts, C: Classes>(
-    alloc: Global,
     method: &CodeMethod<'_, 'a>,
     named: Option<&MethodConstant<'a>>,
     starts: &S,
@@ -139,8 +134,8 @@ pub fn invoke_special<'a, S: Starts, C: Classes>(
         return Err(Reason::WrongConstant);
     };
     if is_init(called) {
-        call_constructor(alloc, method, called, starts, frame, classes)
+        call_constructor(method, called, starts, frame, classes)
     } else {
-        call_special(alloc, method, called, frame, classes)
+        call_special(method, called, frame, classes)
     }
 }

@@ -18,6 +18,8 @@ use std::alloc::{AllocError, Global};
 /// A frame that instructions change in place.
 #[derive(Drop)]
 pub struct Working<'a> {
+    /// Where its memory comes from.
+    pub alloc: Global,
     locals: Locals<'a>,
     max_locals: u16,
     // From the bottom up.
@@ -54,6 +56,7 @@ impl<'a> Working<'a> {
         ensures { held result ≡ empty_frame max_locals flag }
     {
         Working {
+            alloc,
             locals: Locals::new(alloc),
             max_locals,
             stack: Vec::new(alloc),
@@ -309,6 +312,7 @@ impl<'a> Working<'a> {
         stack.extend_from_slice(&frame.stack)?;
         let wides = wides(&stack);
         Ok(Working {
+            alloc,
             locals,
             max_locals,
             stack,

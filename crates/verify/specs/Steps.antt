@@ -1,21 +1,28 @@
 -- The answers of the steps of the verifier.
-use Rattle.std.specs.Prelude.{◌≡◌, ◌≢◌, ◌⊎◌, ℕ, Bool, List, Some, None, Option, Result, Ok, Err, MatchResult}
+use Rattle.std.specs.Prelude.{◌≡◌, ◌≢◌, ◌⊎◌, ◌&&◌, ◌++◌, ◌∷◌, [], ℕ, Bool, List, Some, None, Option, Result, Ok, Err, MatchResult}
+use Rattle.classfile.specs.Methods.{Method}
 use Rattle.hierarchy.specs.Class.{ClassFact}
 use Rattle.insn.specs.declared.fault.CodeFault.{CodeFault}
 use Rattle.insn.specs.declared.fault.CodeFault.TheVariants as codes
 use Rattle.insn.specs.Faults.{code_fault_number}
+use Rattle.insn.specs.Meanings.{Act}
+use Rattle.frames.specs.Conditions.{Conditions, reason}
 use Rattle.frames.specs.FrameFact.{FrameFact}
 use Rattle.frames.specs.declared.declared_frames.DeclaredFrames.{DeclaredFrames}
 use Rattle.frames.specs.DeclaredTables.{frames_in}
 use Rattle.rules.specs.declared.reason.Reason.{Reason}
 use Rattle.rules.specs.declared.reason.Reason.TheVariants.{OutOfMemory, BadCode}
 use Rattle.rules.specs.Reasons.{reason_view}
+use Rattle.rules.specs.ReasonNumbers.{falls_off, constructor_covered}
+use Rattle.rules.specs.Rules.{constructs_own}
+use Rattle.rules.specs.Table.{plan}
+use Rattle.rules.specs.Ways.{goes_on}
 use Rattle.verify.specs.declared.verdict.Verdict.{Verdict}
 use Rattle.verify.specs.declared.verdict.Verdict.TheVariants.{Verified, NoCode, Refused}
 use Rattle.verify.specs.declared.verdict.VerifyFault.{VerifyFault}
 use Rattle.verify.specs.declared.verdict.VerifyFault.TheVariants as faults
 use Rattle.verify.specs.Verdict as verdicts
-use Rattle.verify.specs.Verdict.{verified, MapRefusal, map_fault_number, told_of, entry, entered}
+use Rattle.verify.specs.Verdict.{verified, MapRefusal, map_fault_number, told_of, entry, entered, before_conditions, is_covered}
 use Rattle.verify.specs.TypeSafety.{Frames}
 
 abbrev pub verify_fault_number : VerifyFault → ℕ
@@ -56,3 +63,10 @@ Gives v (Ok NoCode) = ⊥
 Gives v (Ok (Refused at reason)) = told_of v ≡ Some (at, reason_view reason)
 Gives v (Err faults.OutOfMemory) = Unit {0}
 Gives v (Err faults.NotInHierarchy) = ⊥
+
+-- what is asked of an instruction besides its rule and its targets: of the frame before it, that it does not go on where it is the last one, and
+-- that no entry of the exception table covers it where it calls a constructor on the own object
+abbrev pub aside_conditions : List ClassFact → Method Act → Frames → ℕ → Act → Bool → FrameFact → Conditions
+aside_conditions classes m frames at a last f =
+    before_conditions classes m frames at a f
+    ++ ((reason falls_off, goes_on a && last) ∷ (reason constructor_covered, constructs_own (plan m a) f && is_covered m.exceptions at) ∷ [])

@@ -12,7 +12,7 @@ ghost use Rattle.insn.specs.Code.{SpellsCode};
 ghost use Rattle.insn.specs.Offsets.{at_offset, IsStart};
 ghost use Rattle.insn.specs.Views.{act_view};
 ghost use Rattle.frames.specs.FrameFact.{frame_of};
-ghost use Rattle.frames.specs.DeclaredTables.{declared_view, frames_in, locals_in};
+ghost use Rattle.frames.specs.DeclaredTables.{declared_view, frames_in};
 ghost use Rattle.frames.specs.MarkedCode.{code_in};
 ghost use Rattle.rules.specs.Bodies.{method_view};
 ghost use Rattle.rules.specs.Held.{held};
@@ -22,6 +22,7 @@ ghost use Rattle.verify.specs.declared.verdict.VerifyFault.TheVariants.{OutOfMem
 ghost use Rattle.verify.specs.Verdict.{frames_declared};
 ghost use Rattle.verify.specs.Coming.{no_frames, before, frame_if, going, met, frames_at, frames_view, frame_size, frames_size, AreFramesOf};
 
+use crate::body::Body;
 use crate::initial::{begins_uninitialized, initial_locals, initial_types};
 use crate::method::types_of;
 use crate::stack_maps::declared_frames;
@@ -31,8 +32,7 @@ use frames::{CodeStarts, Declared, DeclaredFrames, Frame};
 use hierarchy::Classes;
 use insn::{Act, CodeFault, Instructions};
 use names::FieldType;
-use pool::Descriptors;
-use rules::{Members, Reason, Working, goes_on, run};
+use rules::{ClassConstants, Reason, Working, goes_on, run};
 use std::alloc::{AllocError, Global};
 
 /// Frames are told of a method where those of the methods in front of it have fewer types than this, so that all of them take memory that is
@@ -119,30 +119,31 @@ fn stopped(reason: Reason<'_>) -> Result<bool, VerifyFault>
 /// Runs an instruction that means this by its rule, on the frame before it, which becomes the frame after; whether that goes on. Nothing is
 /// said of the frame where it does not.
 fn go_on<'a, C: Classes>(
-    alloc: Global,
-    method: &CodeMethod<'_, 'a>,
-    starts: &CodeStarts<'_>,
+    body: &Body<'_, 'a, C>,
     at: u16,
     act: Act<'a>,
-    constants: &mut Descriptors<'_, 'a>,
-    members: &mut Members<'_, '_, 'a, C>,
+    constants: &mut ClassConstants<'_, '_, 'a, C>,
     frame: &mut Working<'a>,
-    classes: &C,
 ) -> Result<bool, VerifyFault>
-    requires constants { constants.old ≡ method.now.class.now.constant_pool }
-    requires members { members.old ≡ record { class = method.now.class.now; classes = C.content classes.now } }
-    requires starts { code_in starts.now ≡ method.now.code.now.code.now }
-    requires locals { length (held frame.old).locals ≡ method.now.code.now.max_locals }
-    ensures same { constants.new ≡ constants.old }
-    ensures same_members { members.new ≡ members.old }
-    ensures goes { let m = method_view method.now in
-        IfOk result (λ goes. frame_if goes (held frame.new) ≡ going (C.content classes.now) m at (plan m (act_view act.entry)) (Some (held frame.old))) }
-    ensures locals { IfOk result (λ goes. goes ≡ true → length (held frame.new).locals ≡ method.now.code.now.max_locals) }
+    requires constants { constants.old.members ≡ record { class = body.now.method.now.class.now; classes = C.content body.now.classes.now } }
+    requires locals { length (held frame.old).locals ≡ body.now.method.now.code.now.max_locals }
+    ensures same { constants.new.members ≡ constants.old.members }
+    ensures goes { let m = method_view body.now.method.now in
+        IfOk result (λ goes. frame_if goes (held frame.new) ≡ going (C.content body.now.classes.now) m at (plan m (act_view act.entry)) (Some (held frame.old))) }
+    ensures locals { IfOk result (λ goes. goes ≡ true → length (held frame.new).locals ≡ body.now.method.now.code.now.max_locals) }
     ensures memory { IfErr result (λ e. e ≡ OutOfMemory) }
 {
     let goes = goes_on(&act);
-    let named = members.named(constants, method, &act)?;
-    match run(alloc, method, starts, at, act, &named, frame, classes) {
+    let named = constants.named(body.method, &act)?;
+    match run(
+        body.method,
+        body.starts,
+        at,
+        act,
+        &named,
+        frame,
+        body.classes,
+    ) {
         Ok(()) => Ok(goes),
         Err(reason) => stopped(reason),
     }
@@ -151,33 +152,26 @@ fn go_on<'a, C: Classes>(
 /// Goes from an instruction to the next: the frame that is declared there, or otherwise the one that comes, becomes the one after; whether
 /// that goes on.
 fn step<'a, C: Classes>(
-    alloc: Global,
-    method: &CodeMethod<'_, 'a>,
-    starts: &CodeStarts<'_>,
+    body: &Body<'_, 'a, C>,
     at: u16,
     act: Act<'a>,
     declared: Option<Declared<'_, 'a>>,
     comes: bool,
-    constants: &mut Descriptors<'_, 'a>,
-    members: &mut Members<'_, '_, 'a, C>,
+    constants: &mut ClassConstants<'_, '_, 'a, C>,
     frame: &mut Working<'a>,
-    classes: &C,
 ) -> Result<bool, VerifyFault>
-    requires constants { constants.old ≡ method.now.class.now.constant_pool }
-    requires members { members.old ≡ record { class = method.now.class.now; classes = C.content classes.now } }
-    requires starts { code_in starts.now ≡ method.now.code.now.code.now }
-    requires declared { IfSome declared (λ d. length (declared_view d).locals ≡ method.now.code.now.max_locals) }
-    requires locals { comes ≡ true → length (held frame.old).locals ≡ method.now.code.now.max_locals }
-    ensures same { constants.new ≡ constants.old }
-    ensures same_members { members.new ≡ members.old }
-    ensures goes { let m = method_view method.now in let coming = frame_if comes (held frame.old) in
-        IfOk result (λ goes. frame_if goes (held frame.new) ≡ going (C.content classes.now) m at (plan m (act_view act.entry)) (before coming (option_map declared_view declared.entry))) }
-    ensures locals { IfOk result (λ goes. goes ≡ true → length (held frame.new).locals ≡ method.now.code.now.max_locals) }
+    requires constants { constants.old.members ≡ record { class = body.now.method.now.class.now; classes = C.content body.now.classes.now } }
+    requires declared { IfSome declared (λ d. length (declared_view d).locals ≡ body.now.method.now.code.now.max_locals) }
+    requires locals { comes ≡ true → length (held frame.old).locals ≡ body.now.method.now.code.now.max_locals }
+    ensures same { constants.new.members ≡ constants.old.members }
+    ensures goes { let m = method_view body.now.method.now in let coming = frame_if comes (held frame.old) in
+        IfOk result (λ goes. frame_if goes (held frame.new) ≡ going (C.content body.now.classes.now) m at (plan m (act_view act.entry)) (before coming (option_map declared_view declared.entry))) }
+    ensures locals { IfOk result (λ goes. goes ≡ true → length (held frame.new).locals ≡ body.now.method.now.code.now.max_locals) }
     ensures memory { IfErr result (λ e. e ≡ OutOfMemory) }
 {
     match declared {
         Some(declared) => {
-            *frame = Working::new(alloc, method.code.max_locals, false);
+            *frame = Working::new(body.alloc, body.method.code.max_locals, false);
             frame.take_on(&declared, None)?;
         }
         None => {
@@ -186,9 +180,7 @@ fn step<'a, C: Classes>(
             }
         }
     }
-    go_on(
-        alloc, method, starts, at, act, constants, members, frame, classes,
-    )
+    go_on(body, at, act, constants, frame)
 }
 
 /// A copy of a declared frame.
@@ -231,46 +223,35 @@ fn meet<'a>(
 /// The frames at an offset of code, by one walk over it with the frame with which the method begins. No instruction is run in front of the
 /// last frame that is declared in front of the offset, since what comes to that one does not matter.
 fn walk<'a, C: Classes>(
-    alloc: Global,
-    method: &CodeMethod<'_, 'a>,
-    starts: &CodeStarts<'_>,
-    frames: &DeclaredFrames<'a>,
-    constants: &mut Descriptors<'_, 'a>,
-    members: &mut Members<'_, '_, 'a, C>,
+    body: &Body<'_, 'a, C>,
+    constants: &mut ClassConstants<'_, '_, 'a, C>,
     first: Working<'a>,
     at: usize,
-    classes: &C,
 ) -> Result<FramesAt<'a>, VerifyFault>
-    requires constants { constants.old ≡ method.now.class.now.constant_pool }
-    requires members { members.old ≡ record { class = method.now.class.now; classes = C.content classes.now } }
-    requires locals { length (held first).locals ≡ method.now.code.now.max_locals }
-    requires starts { code_in starts.now ≡ method.now.code.now.code.now }
-    requires frames { frames_declared (method_view method.now) ≡ Ok (frames_in frames.now) }
-    requires declared { locals_in frames.now ≡ method.now.code.now.max_locals }
-    requires spelled { (xs : List (ℕ × Instruction)) × SpellsCode 0 method.now.code.now.code.now xs }
-    requires few { length method.now.code.now.code.now ≤ MAX_CODE_BYTES }
-    ensures same { constants.new ≡ constants.old }
-    ensures same_members { members.new ≡ members.old }
-    ensures found { let m = method_view method.now in
-        IfOk result (λ x. frames_view x ≡ met plan (C.content classes.now) m (frames_in frames.now) m.code (Some (held first.entry)) at) }
+    requires constants { constants.old.members ≡ record { class = body.now.method.now.class.now; classes = C.content body.now.classes.now } }
+    requires locals { length (held first).locals ≡ body.now.method.now.code.now.max_locals }
+    requires frames { frames_declared (method_view body.now.method.now) ≡ Ok (frames_in body.now.frames.now) }
+    requires spelled { (xs : List (ℕ × Instruction)) × SpellsCode 0 body.now.method.now.code.now.code.now xs }
+    requires few { length body.now.method.now.code.now.code.now ≤ MAX_CODE_BYTES }
+    ensures same { constants.new.members ≡ constants.old.members }
+    ensures found { let m = method_view body.now.method.now in
+        IfOk result (λ x. frames_view x ≡ met plan (C.content body.now.classes.now) m (frames_in body.now.frames.now) m.code (Some (held first.entry)) at) }
     ensures memory { IfErr result (λ e. e ≡ OutOfMemory) }
 {
-    let last = last_before(frames, at);
+    let max_locals = body.method.code.max_locals;
+    let last = last_before(body.frames, at);
     let mut frame = first;
-    let mut code = Instructions::new(method.code.code);
+    let mut code = Instructions::new(body.method.code.code);
     let mut comes = true;
     while !code.is_at_end() {
         let here = code.at() as u16;
         let act = code.take_act();
-        let declared = frames.find(u32::from(here));
+        let declared = body.frames.find(u32::from(here));
         if usize::from(here) == at {
-            return Ok(meet(alloc, comes, frame, declared, method.code.max_locals)?);
+            return Ok(meet(body.alloc, comes, frame, declared, max_locals)?);
         }
         if usize::from(here) >= last {
-            comes = step(
-                alloc, method, starts, here, act, declared, comes, constants, members, &mut frame,
-                classes,
-            )?;
+            comes = step(body, here, act, declared, comes, constants, &mut frame)?;
         }
     }
     Ok(FramesAt::none())
@@ -282,19 +263,16 @@ fn frames_in_body<'a, C: Classes>(
     method: &CodeMethod<'_, 'a>,
     starts: &CodeStarts<'_>,
     parameters: &[FieldType<'a>],
-    constants: &mut Descriptors<'_, 'a>,
-    members: &mut Members<'_, '_, 'a, C>,
+    constants: &mut ClassConstants<'_, '_, 'a, C>,
     at: usize,
     classes: &C,
 ) -> Result<FramesAt<'a>, VerifyFault>
-    requires constants { constants.old ≡ method.now.class.now.constant_pool }
-    requires members { members.old ≡ record { class = method.now.class.now; classes = C.content classes.now } }
+    requires constants { constants.old.members ≡ record { class = method.now.class.now; classes = C.content classes.now } }
     requires starts { code_in starts.now ≡ method.now.code.now.code.now }
     requires parameters { (method_view method.now).type.params ≡ map type_of parameters.now }
     requires spelled { (xs : List (ℕ × Instruction)) × SpellsCode 0 method.now.code.now.code.now xs }
     requires few { length method.now.code.now.code.now ≤ MAX_CODE_BYTES }
-    ensures same { constants.new ≡ constants.old }
-    ensures same_members { members.new ≡ members.old }
+    ensures same { constants.new.members ≡ constants.old.members }
     ensures found { IfOk result (λ x. frames_view x ≡ frames_at plan (C.content classes.now) (method_view method.now) at) }
     ensures memory { IfErr result (λ e. e ≡ OutOfMemory) }
 {
@@ -303,15 +281,20 @@ fn frames_in_body<'a, C: Classes>(
     let Some(locals) = initial_locals(alloc, &types, max_locals)? else {
         return Ok(FramesAt::none());
     };
-    let declared = declared_frames(alloc, method, &types, starts, constants)?;
+    let declared = declared_frames(alloc, method, &types, starts, &mut constants.types)?;
     let Ok(frames) = declared else {
         return Ok(FramesAt::none());
     };
     let mut frame = Working::new(alloc, 0, false);
     frame.start(&locals, max_locals, begins_uninitialized(method))?;
-    walk(
-        alloc, method, starts, &frames, constants, members, frame, at, classes,
-    )
+    let body = Body {
+        alloc,
+        method,
+        starts,
+        frames: &frames,
+        classes,
+    };
+    walk(&body, constants, frame, at)
 }
 
 /// No frame where bytes are no code; 1 where memory ran out.
@@ -330,17 +313,14 @@ fn without_code<'a>(fault: CodeFault) -> Result<FramesAt<'a>, VerifyFault>
 pub fn frames_of<'a, C: Classes>(
     alloc: Global,
     method: CodeMethod<'_, 'a>,
-    constants: &mut Descriptors<'_, 'a>,
-    members: &mut Members<'_, '_, 'a, C>,
+    constants: &mut ClassConstants<'_, '_, 'a, C>,
     at: usize,
     classes: &C,
 ) -> Result<FramesAt<'a>, VerifyFault>
-    requires constants { constants.old ≡ method.class.now.constant_pool }
-    requires members { members.old ≡ record { class = method.class.now; classes = C.content classes.now } }
+    requires constants { constants.old.members ≡ record { class = method.class.now; classes = C.content classes.now } }
     requires formed { WellFormed (class_view method.class.now) }
     requires coded { code_at (class_view method.class.now) method.number ≡ Some (code_view method.code.now) }
-    ensures same { constants.new ≡ constants.old }
-    ensures same_members { members.new ≡ members.old }
+    ensures same { constants.new.members ≡ constants.old.members }
     ensures found { IfOk result (λ x. AreFramesOf (C.content classes.now) (class_of method.entry) method.entry.number at (frames_view x)) }
     ensures memory { IfErr result (λ e. e ≡ OutOfMemory) }
 {
@@ -355,7 +335,6 @@ pub fn frames_of<'a, C: Classes>(
         &starts,
         &types.params,
         constants,
-        members,
         at,
         classes,
     )

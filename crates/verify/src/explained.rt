@@ -14,8 +14,7 @@ use crate::report::{MethodVerdict, Report, report_listed};
 use crate::verdict::{Verdict, VerifyFault};
 use classfile::Formed;
 use hierarchy::Classes;
-use pool::Descriptors;
-use rules::Members;
+use rules::ClassConstants;
 use std::alloc::Global;
 
 /// The verdicts on the methods of a class, and the frames at the instructions at which they are refused.
@@ -33,23 +32,20 @@ fn frames_at<'a, C: Classes>(
     alloc: Global,
     formed: &Formed<'_, 'a>,
     number: usize,
-    constants: &mut Descriptors<'_, 'a>,
-    members: &mut Members<'_, '_, 'a, C>,
+    constants: &mut ClassConstants<'_, '_, 'a, C>,
     at: usize,
     classes: &C,
 ) -> Result<FramesAt<'a>, VerifyFault>
-    requires constants { constants.old ≡ formed.now.class.now.constant_pool }
-    requires members { members.old ≡ record { class = formed.now.class.now; classes = C.content classes.now } }
+    requires constants { constants.old.members ≡ record { class = formed.now.class.now; classes = C.content classes.now } }
     requires within { number < length formed.now.class.now.methods.items }
-    ensures same { constants.new ≡ constants.old }
-    ensures same_members { members.new ≡ members.old }
+    ensures same { constants.new.members ≡ constants.old.members }
     ensures found { IfOk result (λ x. AreFramesOf (C.content classes.now) (judged_class formed.now) number at (frames_view x)) }
     ensures memory { IfErr result (λ e. e ≡ OutOfMemory) }
 {
     formed.class();
     match formed.method(number) {
         None => Ok(FramesAt::none()),
-        Some(method) => frames_of(alloc, method, constants, members, at, classes),
+        Some(method) => frames_of(alloc, method, constants, at, classes),
     }
 }
 
@@ -60,15 +56,12 @@ fn frames_on<'a, C: Classes>(
     number: usize,
     verdict: &Verdict<'a>,
     told: bool,
-    constants: &mut Descriptors<'_, 'a>,
-    members: &mut Members<'_, '_, 'a, C>,
+    constants: &mut ClassConstants<'_, '_, 'a, C>,
     classes: &C,
 ) -> Result<FramesAt<'a>, VerifyFault>
-    requires constants { constants.old ≡ formed.now.class.now.constant_pool }
-    requires members { members.old ≡ record { class = formed.now.class.now; classes = C.content classes.now } }
+    requires constants { constants.old.members ≡ record { class = formed.now.class.now; classes = C.content classes.now } }
     requires within { number < length formed.now.class.now.methods.items }
-    ensures same { constants.new ≡ constants.old }
-    ensures same_members { members.new ≡ members.old }
+    ensures same { constants.new.members ≡ constants.old.members }
     ensures found { IfOk result (λ x. IsFramedIf told (C.content classes.now) (judged_class formed.now) number verdict.now (frames_view x)) }
     ensures memory { IfErr result (λ e. e ≡ OutOfMemory) }
 {
@@ -77,9 +70,7 @@ fn frames_on<'a, C: Classes>(
     }
     match *verdict {
         Verdict::Verified | Verdict::NoCode => Ok(FramesAt::none()),
-        Verdict::Refused { at, .. } => {
-            frames_at(alloc, formed, number, constants, members, at, classes)
-        }
+        Verdict::Refused { at, .. } => { frames_at(alloc, formed, number, constants, at, classes) }
     }
 }
 
@@ -97,8 +88,7 @@ fn frames_of_all<'a, C: Classes>(
 {
     let mut frames = Vec::new(alloc);
     let class = formed.class();
-    let mut constants = Descriptors::new(alloc, &class.constant_pool);
-    let mut members = Members::new(alloc, class, classes);
+    let mut constants = ClassConstants::new(alloc, class, classes);
     let mut left = MOST_KEPT;
     for number in 0..verdicts.len() {
         let met = frames_on(
@@ -108,7 +98,6 @@ fn frames_of_all<'a, C: Classes>(
             &verdicts[number].verdict,
             left > 0,
             &mut constants,
-            &mut members,
             classes,
         )?;
         left = met.taken_off(left);

@@ -12,12 +12,14 @@
 //! - `refusal`: verdicts that refuse.
 //! - `initial`: the frame with which a method begins.
 //! - `judging`: one pass over a method's code, against the verdict in specs/Verdict.antt.
+//! - `body`: a method's code, and all by which its instructions are judged.
 //! - `coming`: the frames at an instruction; `explained`: those at the instructions at which methods are refused.
 //! - `flow`, `branching`: from one instruction to the next, and to its targets.
 //! - `exceptions`: the exception table, which is judged before the code.
 //! - `handlers`, `catching`: the exception handlers while the pass goes on, and the frame that comes to one.
 //! - `keeping`: facts about the locals of the running frame.
 //! - `known`: facts about the running frame.
+//! - `comparisons`: what is known of the running frame, and with which declared frames it was compared.
 //! - `place_set`: which declared frames were compared.
 //! - `stack_maps`: the frames that a stack map declares.
 //! - `theorem`: type-safe methods are safe, one by one and where calls enter them.
@@ -28,9 +30,11 @@
 #![tactic(auto)]
 
 mod among;
+mod body;
 mod branching;
 mod catching;
 mod coming;
+mod comparisons;
 mod each;
 mod exceptions;
 mod explained;

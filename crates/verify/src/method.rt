@@ -11,7 +11,7 @@ ghost use Rattle.insn.specs.Code.{SpellsCode};
 ghost use Rattle.rules.specs.Bodies.{method_view};
 ghost use Rattle.rules.specs.Held.{held};
 ghost use Rattle.rules.specs.Table.{plan};
-ghost use Rattle.frames.specs.DeclaredTables.{frames_in, locals_in};
+ghost use Rattle.frames.specs.DeclaredTables.{frames_in};
 ghost use Rattle.frames.specs.MarkedCode.{code_in};
 ghost use Rattle.verify.specs.declared.verdict.VerifyFault.TheVariants.{OutOfMemory};
 ghost use Rattle.verify.specs.InitialFrames.{initial_frame};
@@ -20,21 +20,23 @@ ghost use Rattle.verify.specs.Steps.{Gives};
 ghost use Rattle.verify.specs.Listed.{IsListed};
 ghost use Rattle.verify.specs.Answers.{AnswersCode, Answers, VerifiesTypeSafe, VerifiedIsSafe};
 
+use crate::body::Body;
+use crate::comparisons::Comparisons;
 use crate::exceptions::{check_table, exceptions};
 use crate::handlers::Handlers;
 use crate::initial::{begins_uninitialized, initial_locals, initial_types};
 use crate::judging::pass;
+use crate::known::Known;
 use crate::listing::is_listed;
 use crate::place_set::PlaceSet;
 use crate::refusal::{refuse, refuse_code};
 use crate::stack_maps::declared_frames;
 use crate::verdict::{Verdict, VerifyFault};
 use classfile::{CodeMethod, Formed};
-use frames::{CodeStarts, DeclaredFrames};
+use frames::CodeStarts;
 use hierarchy::Classes;
 use names::{FieldType, MethodType, method_type};
-use pool::Descriptors;
-use rules::{Members, Reason, Working};
+use rules::{ClassConstants, Reason, Working};
 use std::alloc::Global;
 
 /// The types that a method's descriptor names. The only refusal is want of memory.
@@ -54,46 +56,33 @@ pub fn types_of<'a>(
 
 /// Judges a method by its exception table, under the frames that its stack map declares, and then its instructions by one pass.
 fn judge_code<'a, C: Classes>(
-    alloc: Global,
-    method: &CodeMethod<'_, 'a>,
-    starts: &CodeStarts<'_>,
-    frames: &DeclaredFrames<'a>,
-    constants: &mut Descriptors<'_, 'a>,
-    members: &mut Members<'_, '_, 'a, C>,
+    body: &Body<'_, 'a, C>,
+    constants: &mut ClassConstants<'_, '_, 'a, C>,
     frame: &mut Working<'a>,
-    classes: &C,
 ) -> Result<Verdict<'a>, VerifyFault>
-    requires constants { constants.old ≡ method.now.class.now.constant_pool }
-    requires members { members.old ≡ record { class = method.now.class.now; classes = C.content classes.now } }
-    requires initial { held frame.old ≡ initial_frame (method_view method.now) }
-    requires locals { length (held frame.old).locals ≡ method.now.code.now.max_locals }
-    requires starts { code_in starts.now ≡ method.now.code.now.code.now }
-    requires declared { locals_in frames.now ≡ method.now.code.now.max_locals }
-    requires spelled { (xs : List (ℕ × Instruction)) × SpellsCode 0 method.now.code.now.code.now xs }
-    requires few { length method.now.code.now.code.now ≤ MAX_CODE_BYTES }
-    ensures same { constants.new ≡ constants.old }
-    ensures same_members { members.new ≡ members.old }
-    ensures judged { let m = method_view method.now in Gives (with_frames plan (C.content classes.now) m (Ok (frames_in frames.now))) result }
+    requires constants { constants.old.members ≡ record { class = body.now.method.now.class.now; classes = C.content body.now.classes.now } }
+    requires initial { held frame.old ≡ initial_frame (method_view body.now.method.now) }
+    requires locals { length (held frame.old).locals ≡ body.now.method.now.code.now.max_locals }
+    requires spelled { (xs : List (ℕ × Instruction)) × SpellsCode 0 body.now.method.now.code.now.code.now xs }
+    requires few { length body.now.method.now.code.now.code.now ≤ MAX_CODE_BYTES }
+    ensures same { constants.new.members ≡ constants.old.members }
+    ensures judged { let m = method_view body.now.method.now in Gives (with_frames plan (C.content body.now.classes.now) m (Ok (frames_in body.now.frames.now))) result }
 {
-    let table = exceptions(alloc, method)?;
-    if let Err(reason) = check_table(&table, method, starts, frames, classes) {
+    let alloc = body.alloc;
+    let table = exceptions(alloc, body.method)?;
+    if let Err(reason) = check_table(&table, body.method, body.starts, body.frames, body.classes) {
         return refuse(0, reason);
     }
-    let mut handlers = Handlers::new(alloc, table)?;
-    let mut seen = PlaceSet::new(alloc);
-    seen.start(frames.len())?;
-    pass(
-        alloc,
-        method,
-        starts,
-        frames,
-        &mut handlers,
-        &mut seen,
-        constants,
-        members,
-        frame,
-        classes,
-    )
+    let handlers = Handlers::new(alloc, table)?;
+    let mut targets = PlaceSet::new(alloc);
+    targets.start(body.frames.len())?;
+    let known = Known::new(alloc, body.frames, body.method.code.max_stack)?;
+    let mut comparisons = Comparisons {
+        known,
+        handlers,
+        targets,
+    };
+    pass(body, constants, &mut comparisons, frame)
 }
 
 /// Judges a method by its receiver and parameters, its stack map, its exception table and its instructions: 64 where they do not fit, 78
@@ -103,19 +92,16 @@ fn judge_body<'a, C: Classes>(
     method: &CodeMethod<'_, 'a>,
     starts: &CodeStarts<'_>,
     parameters: &[FieldType<'a>],
-    constants: &mut Descriptors<'_, 'a>,
-    members: &mut Members<'_, '_, 'a, C>,
+    constants: &mut ClassConstants<'_, '_, 'a, C>,
     frame: &mut Working<'a>,
     classes: &C,
 ) -> Result<Verdict<'a>, VerifyFault>
-    requires constants { constants.old ≡ method.now.class.now.constant_pool }
-    requires members { members.old ≡ record { class = method.now.class.now; classes = C.content classes.now } }
+    requires constants { constants.old.members ≡ record { class = method.now.class.now; classes = C.content classes.now } }
     requires starts { code_in starts.now ≡ method.now.code.now.code.now }
     requires parameters { (method_view method.now).type.params ≡ map type_of parameters.now }
     requires spelled { (xs : List (ℕ × Instruction)) × SpellsCode 0 method.now.code.now.code.now xs }
     requires few { length method.now.code.now.code.now ≤ MAX_CODE_BYTES }
-    ensures same { constants.new ≡ constants.old }
-    ensures same_members { members.new ≡ members.old }
+    ensures same { constants.new.members ≡ constants.old.members }
     ensures judged { Gives (verdict plan (C.content classes.now) (method_view method.now)) result }
 {
     let max_locals = method.code.max_locals;
@@ -123,32 +109,34 @@ fn judge_body<'a, C: Classes>(
     let Some(locals) = initial_locals(alloc, &types, max_locals)? else {
         return refuse(0, Reason::LocalOutOfRange);
     };
-    let declared = declared_frames(alloc, method, &types, starts, constants)?;
+    let declared = declared_frames(alloc, method, &types, starts, &mut constants.types)?;
     let frames = match declared {
         Ok(frames) => frames,
         Err(fault) => return refuse(0, Reason::BadStackMap { fault }),
     };
     frame.start(&locals, max_locals, begins_uninitialized(method))?;
-    judge_code(
-        alloc, method, starts, &frames, constants, members, frame, classes,
-    )
+    let body = Body {
+        alloc,
+        method,
+        starts,
+        frames: &frames,
+        classes,
+    };
+    judge_code(&body, constants, frame)
 }
 
 /// The verdict on a method with code.
 fn verify_code<'a, C: Classes>(
     alloc: Global,
     method: CodeMethod<'_, 'a>,
-    constants: &mut Descriptors<'_, 'a>,
-    members: &mut Members<'_, '_, 'a, C>,
+    constants: &mut ClassConstants<'_, '_, 'a, C>,
     frame: &mut Working<'a>,
     classes: &C,
 ) -> Result<Verdict<'a>, VerifyFault>
-    requires constants { constants.old ≡ method.class.now.constant_pool }
-    requires members { members.old ≡ record { class = method.class.now; classes = C.content classes.now } }
+    requires constants { constants.old.members ≡ record { class = method.class.now; classes = C.content classes.now } }
     requires formed { WellFormed (class_view method.class.now) }
     requires coded { code_at (class_view method.class.now) method.number ≡ Some (code_view method.code.now) }
-    ensures same { constants.new ≡ constants.old }
-    ensures same_members { members.new ≡ members.old }
+    ensures same { constants.new.members ≡ constants.old.members }
     ensures answered { AnswersCode (C.content classes.now) (class_of method.entry) method.entry.number result }
 {
     let starts = match CodeStarts::new(alloc, method.code.code) {
@@ -162,7 +150,6 @@ fn verify_code<'a, C: Classes>(
         &starts,
         &types.params,
         constants,
-        members,
         frame,
         classes,
     )
@@ -173,23 +160,20 @@ pub fn verify_listed<'a, C: Classes>(
     alloc: Global,
     formed: &Formed<'_, 'a>,
     number: usize,
-    constants: &mut Descriptors<'_, 'a>,
-    members: &mut Members<'_, '_, 'a, C>,
+    constants: &mut ClassConstants<'_, '_, 'a, C>,
     frame: &mut Working<'a>,
     classes: &C,
 ) -> Result<Verdict<'a>, VerifyFault>
-    requires constants { constants.old ≡ formed.now.class.now.constant_pool }
-    requires members { members.old ≡ record { class = formed.now.class.now; classes = C.content classes.now } }
+    requires constants { constants.old.members ≡ record { class = formed.now.class.now; classes = C.content classes.now } }
     requires within { number < length formed.now.class.now.methods.items }
     requires listed { IsListed (C.content classes.now) (class_view formed.now.class.now) }
-    ensures same { constants.new ≡ constants.old }
-    ensures same_members { members.new ≡ members.old }
+    ensures same { constants.new.members ≡ constants.old.members }
     ensures answered { Answers (C.content classes.now) (judged_class formed.now) number result }
 {
     formed.class();
     match formed.method(number) {
         None => Ok(Verdict::NoCode),
-        Some(method) => verify_code(alloc, method, constants, members, frame, classes),
+        Some(method) => verify_code(alloc, method, constants, frame, classes),
     }
 }
 
@@ -226,15 +210,6 @@ pub fn verify_method<'a, C: Classes>(
     }
     let mut frame = Working::new(alloc, 0, false);
     let class = formed.class();
-    let mut constants = Descriptors::new(alloc, &class.constant_pool);
-    let mut members = Members::new(alloc, class, classes);
-    verify_listed(
-        alloc,
-        formed,
-        number,
-        &mut constants,
-        &mut members,
-        &mut frame,
-        classes,
-    )
+    let mut constants = ClassConstants::new(alloc, class, classes);
+    verify_listed(alloc, formed, number, &mut constants, &mut frame, classes)
 }

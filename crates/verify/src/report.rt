@@ -17,8 +17,7 @@ use classfile::{FormFault, FormRule, Formed, Place, Profile, decode, form_check}
 use hierarchy::{Classes, summary_of};
 use layout::ReadFault;
 use names::Text;
-use pool::Descriptors;
-use rules::{Members, Working};
+use rules::{ClassConstants, Working};
 use std::alloc::{AllocError, Global};
 use thiserror::Error;
 
@@ -75,18 +74,15 @@ fn report_on<'a, C: Classes>(
     alloc: Global,
     formed: &Formed<'_, 'a>,
     number: usize,
-    constants: &mut Descriptors<'_, 'a>,
-    members: &mut Members<'_, '_, 'a, C>,
+    constants: &mut ClassConstants<'_, '_, 'a, C>,
     frame: &mut Working<'a>,
     classes: &C,
 ) -> Result<MethodVerdict<'a>, VerifyFault>
-    requires constants { constants.old ≡ formed.now.class.now.constant_pool }
-    requires members { members.old ≡ record { class = formed.now.class.now; classes = C.content classes.now } }
+    requires constants { constants.old.members ≡ record { class = formed.now.class.now; classes = C.content classes.now } }
     requires number { number < length formed.now.class.now.methods.items }
     requires hierarchy { IsHierarchy (C.content classes.now) }
     requires listed { IsListed (C.content classes.now) (class_view formed.now.class.now) }
-    ensures same { constants.new ≡ constants.old }
-    ensures same_members { members.new ≡ members.old }
+    ensures same { constants.new.members ≡ constants.old.members }
     ensures found { IfOk result (IsReported (C.content classes.now) (judged_class formed.now) number) }
     ensures memory { IfErr result (λ e. e ≡ OutOfMemory) }
 {
@@ -95,7 +91,7 @@ fn report_on<'a, C: Classes>(
     let pool = &class.constant_pool;
     let name = pool.text(member.name).unwrap();
     let descriptor = pool.text(member.descriptor).unwrap();
-    match verify_listed(alloc, formed, number, constants, members, frame, classes) {
+    match verify_listed(alloc, formed, number, constants, frame, classes) {
         Ok(verdict) => Ok(MethodVerdict {
             name,
             descriptor,
@@ -119,18 +115,9 @@ pub fn report_listed<'a, C: Classes>(
     let mut methods = Vec::new(alloc);
     let mut frame = Working::new(alloc, 0, false);
     let class = formed.class();
-    let mut constants = Descriptors::new(alloc, &class.constant_pool);
-    let mut members = Members::new(alloc, class, classes);
+    let mut constants = ClassConstants::new(alloc, class, classes);
     for number in 0..class.methods.len() {
-        let verdict = report_on(
-            alloc,
-            formed,
-            number,
-            &mut constants,
-            &mut members,
-            &mut frame,
-            classes,
-        )?;
+        let verdict = report_on(alloc, formed, number, &mut constants, &mut frame, classes)?;
         methods.push(verdict)?;
     }
     Ok(Report { methods })

@@ -14,7 +14,7 @@ ghost use Rattle.verify.specs.Steps.{TellsFrames};
 use crate::refusal::stack_map;
 use crate::verdict::VerifyFault;
 use classfile::CodeMethod;
-use frames::{CodeStarts, DeclaredFrames, VType, declare, read_map};
+use frames::{CodeStarts, DeclaredFrames, Limits, VType, declare, read_map};
 use layout::ReadFault;
 use pool::Descriptors;
 use std::alloc::Global;
@@ -54,16 +54,13 @@ pub fn declared_frames<'a>(
         Ok(map) => map,
         Err(fault) => return Ok(Err(fault_number(fault)?)),
     };
-    let declared = declare(
-        alloc,
-        map.entries(),
-        &method.class.constant_pool,
-        constants,
+    let limits = Limits {
+        pool: &method.class.constant_pool,
         starts,
-        types,
-        method.code.max_locals,
-        method.code.max_stack,
-    )?;
+        max_locals: method.code.max_locals,
+        max_stack: method.code.max_stack,
+    };
+    let declared = declare(alloc, map.entries(), &limits, constants, types)?;
     match declared {
         Ok(frames) => Ok(Ok(frames)),
         Err(fault) => Ok(Err(fault.number())),

@@ -10,8 +10,8 @@ use Rattle.frames.proofs.declaring.declare_all.Goals as goal
 
 pub loop-entry-init : goal.loop-entry-init
 loop-entry-init g c =
-    let m = c.args.limits in
-    (omega arith, refl, rw c.requires.empty (declaring_first c.args.pool.now (g.S.Starts.code c.args.starts.now) m.max_locals m.max_stack c.args.chains.now.links.items c.args.first (map entry_of c.args.entries.now) c.requires.inside))
+    let m = c.args.limits.now in
+    (omega arith, refl, rw c.requires.empty (declaring_first c.args.limits.now.pool.now (g.S.Starts.code c.args.limits.now.starts.now) m.max_locals m.max_stack c.args.chains.now.links.items c.args.first (map entry_of c.args.entries.now) c.requires.inside))
 
 pub declare_one-requires-clause-constants : goal.declare_one-requires-clause-constants
 declare_one-requires-clause-constants g c = c.loop-entry.invariant.1 ∙ c.requires.constants
@@ -24,9 +24,9 @@ declare_one-requires-clause-inside g c = c.loop-entry.invariant.2.place
 
 pub returns-in-Err-clause-declared : goal.returns-in-Err-clause-declared
 returns-in-Err-clause-declared g c =
-    let pool = c.args.pool.now in
-    let code = g.S.Starts.code c.args.starts.now in
-    let m = c.args.limits in
+    let pool = c.args.limits.now.pool.now in
+    let code = g.S.Starts.code c.args.limits.now.starts.now in
+    let m = c.args.limits.now in
     let es = c.args.entries.now in
     let i = c.loop-entry.entry-index in
     let x = c.entry-item.result in
@@ -39,9 +39,9 @@ returns-in-Err-clause-declared g c =
 
 pub loop-entry-preserved : goal.loop-entry-preserved
 loop-entry-preserved g c =
-    let pool = c.args.pool.now in
-    let code = g.S.Starts.code c.args.starts.now in
-    let m = c.args.limits in
+    let pool = c.args.limits.now.pool.now in
+    let code = g.S.Starts.code c.args.limits.now.starts.now in
+    let m = c.args.limits.now in
     let es = c.args.entries.now in
     let i = c.loop-entry.entry-index in
     let x = c.entry-item.result in
@@ -61,9 +61,9 @@ loop-entry-preserved g c =
 
 pub returns-clause-declared : goal.returns-clause-declared
 returns-clause-declared g c =
-    let pool = c.args.pool.now in
-    let code = g.S.Starts.code c.args.starts.now in
-    let m = c.args.limits in
+    let pool = c.args.limits.now.pool.now in
+    let code = g.S.Starts.code c.args.limits.now.starts.now in
+    let m = c.args.limits.now in
     let es = c.args.entries.now in
     let links = c.loop-entry.chains.links.items in
     let frames = c.loop-entry.frames.items in

@@ -7,8 +7,8 @@ use Rattle.frames.proofs.declaring.declare_all.Given as goal
 
 abbrev pub invariant-loop-entry : goal.invariant-loop-entry
 invariant-loop-entry g l =
-    let code = g.S.Starts.code l.starts in
+    let code = g.S.Starts.code l.limits.starts.now in
     let m = l.limits in
     (l.behind ≤ 65536) × (l.constants ≡ l.fn.constants)
-    × Declaring l.pool code m.max_locals m.max_stack l.chains.links.items l.frames.items l.before l.behind (map entry_of (drop l.entry-index l.entries))
-    (declared_frames l.pool code m.max_locals m.max_stack (locals_at l.fn.chains.links.items l.fn.first) (map entry_of l.entries))
+    × Declaring l.limits.pool.now code m.max_locals m.max_stack l.chains.links.items l.frames.items l.before l.behind (map entry_of (drop l.entry-index l.entries))
+    (declared_frames l.limits.pool.now code m.max_locals m.max_stack (locals_at l.fn.chains.links.items l.fn.first) (map entry_of l.entries))

@@ -10,22 +10,22 @@ use Rattle.frames.proofs.refusing.judge.Goals as goal
 
 pub returns-then-units-from-clause-least : goal.returns-then-units-from-clause-least
 returns-then-units-from-clause-least g c =
-    let code = g.S.Starts.code c.args.starts.now in
+    let code = g.S.Starts.code c.args.limits.now.starts.now in
     let links = c.args.chains.now.links.items in
-    let f = c.args.limits in
+    let f = c.args.limits.now in
     let infos = infos_of (entry_of c.args.entry.now) in
-    is_49 (any_info (names_nothing c.args.pool.now) infos) (any_info (names_no_class c.args.pool.now) infos) (ltb f.max_locals (length (in_locals (locals_at links c.args.frame.locals)))) (ltb f.max_stack (units_of (types_at links c.args.frame.stack))) (chops_more (entry_of c.args.entry.now) (locals_at links c.args.before)) (not (has_offset code c.args.frame.at)) (any_info (is_made_nowhere code) infos)
+    is_49 (any_info (names_nothing c.args.limits.now.pool.now) infos) (any_info (names_no_class c.args.limits.now.pool.now) infos) (ltb f.max_locals (length (in_locals (locals_at links c.args.frame.locals)))) (ltb f.max_stack (units_of (types_at links c.args.frame.stack))) (chops_more (entry_of c.args.entry.now) (locals_at links c.args.before)) (not (has_offset code c.args.frame.at)) (any_info (is_made_nowhere code) infos)
     (sym c.has_wrong.ensures ∙ c.if-has_wrong.false)
     (sym c.has_wrong-2.ensures ∙ c.if-has_wrong-2.false)
     (over f.max_locals c.units.result (length (in_locals (locals_at links c.args.frame.locals))) (omega (arith, c.if-units-from.true, c.from.ensures)) (c.units.ensures ∙ units_in_locals links c.args.frame.locals))
 
 pub returns-then-units-from-2-clause-least : goal.returns-then-units-from-2-clause-least
 returns-then-units-from-2-clause-least g c =
-    let code = g.S.Starts.code c.args.starts.now in
+    let code = g.S.Starts.code c.args.limits.now.starts.now in
     let links = c.args.chains.now.links.items in
-    let f = c.args.limits in
+    let f = c.args.limits.now in
     let infos = infos_of (entry_of c.args.entry.now) in
-    is_50 (any_info (names_nothing c.args.pool.now) infos) (any_info (names_no_class c.args.pool.now) infos) (ltb f.max_locals (length (in_locals (locals_at links c.args.frame.locals)))) (ltb f.max_stack (units_of (types_at links c.args.frame.stack))) (chops_more (entry_of c.args.entry.now) (locals_at links c.args.before)) (not (has_offset code c.args.frame.at)) (any_info (is_made_nowhere code) infos)
+    is_50 (any_info (names_nothing c.args.limits.now.pool.now) infos) (any_info (names_no_class c.args.limits.now.pool.now) infos) (ltb f.max_locals (length (in_locals (locals_at links c.args.frame.locals)))) (ltb f.max_stack (units_of (types_at links c.args.frame.stack))) (chops_more (entry_of c.args.entry.now) (locals_at links c.args.before)) (not (has_offset code c.args.frame.at)) (any_info (is_made_nowhere code) infos)
     (sym c.has_wrong.ensures ∙ c.if-has_wrong.false)
     (sym c.has_wrong-2.ensures ∙ c.if-has_wrong-2.false)
     (not_over f.max_locals c.units.result (length (in_locals (locals_at links c.args.frame.locals))) (omega (arith, c.if-units-from.false, c.from.ensures)) (c.units.ensures ∙ units_in_locals links c.args.frame.locals))
@@ -33,11 +33,11 @@ returns-then-units-from-2-clause-least g c =
 
 pub returns-then-chops_more-clause-least : goal.returns-then-chops_more-clause-least
 returns-then-chops_more-clause-least g c =
-    let code = g.S.Starts.code c.args.starts.now in
+    let code = g.S.Starts.code c.args.limits.now.starts.now in
     let links = c.args.chains.now.links.items in
-    let f = c.args.limits in
+    let f = c.args.limits.now in
     let infos = infos_of (entry_of c.args.entry.now) in
-    is_51 (any_info (names_nothing c.args.pool.now) infos) (any_info (names_no_class c.args.pool.now) infos) (ltb f.max_locals (length (in_locals (locals_at links c.args.frame.locals)))) (ltb f.max_stack (units_of (types_at links c.args.frame.stack))) (chops_more (entry_of c.args.entry.now) (locals_at links c.args.before)) (not (has_offset code c.args.frame.at)) (any_info (is_made_nowhere code) infos)
+    is_51 (any_info (names_nothing c.args.limits.now.pool.now) infos) (any_info (names_no_class c.args.limits.now.pool.now) infos) (ltb f.max_locals (length (in_locals (locals_at links c.args.frame.locals)))) (ltb f.max_stack (units_of (types_at links c.args.frame.stack))) (chops_more (entry_of c.args.entry.now) (locals_at links c.args.before)) (not (has_offset code c.args.frame.at)) (any_info (is_made_nowhere code) infos)
     (sym c.has_wrong.ensures ∙ c.if-has_wrong.false)
     (sym c.has_wrong-2.ensures ∙ c.if-has_wrong-2.false)
     (not_over f.max_locals c.units.result (length (in_locals (locals_at links c.args.frame.locals))) (omega (arith, c.if-units-from.false, c.from.ensures)) (c.units.ensures ∙ units_in_locals links c.args.frame.locals))
@@ -46,11 +46,11 @@ returns-then-chops_more-clause-least g c =
 
 pub returns-then-not-is_start-clause-least : goal.returns-then-not-is_start-clause-least
 returns-then-not-is_start-clause-least g c =
-    let code = g.S.Starts.code c.args.starts.now in
+    let code = g.S.Starts.code c.args.limits.now.starts.now in
     let links = c.args.chains.now.links.items in
-    let f = c.args.limits in
+    let f = c.args.limits.now in
     let infos = infos_of (entry_of c.args.entry.now) in
-    is_52 (any_info (names_nothing c.args.pool.now) infos) (any_info (names_no_class c.args.pool.now) infos) (ltb f.max_locals (length (in_locals (locals_at links c.args.frame.locals)))) (ltb f.max_stack (units_of (types_at links c.args.frame.stack))) (chops_more (entry_of c.args.entry.now) (locals_at links c.args.before)) (not (has_offset code c.args.frame.at)) (any_info (is_made_nowhere code) infos)
+    is_52 (any_info (names_nothing c.args.limits.now.pool.now) infos) (any_info (names_no_class c.args.limits.now.pool.now) infos) (ltb f.max_locals (length (in_locals (locals_at links c.args.frame.locals)))) (ltb f.max_stack (units_of (types_at links c.args.frame.stack))) (chops_more (entry_of c.args.entry.now) (locals_at links c.args.before)) (not (has_offset code c.args.frame.at)) (any_info (is_made_nowhere code) infos)
     (sym c.has_wrong.ensures ∙ c.if-has_wrong.false)
     (sym c.has_wrong-2.ensures ∙ c.if-has_wrong-2.false)
     (not_over f.max_locals c.units.result (length (in_locals (locals_at links c.args.frame.locals))) (omega (arith, c.if-units-from.false, c.from.ensures)) (c.units.ensures ∙ units_in_locals links c.args.frame.locals))
@@ -60,11 +60,11 @@ returns-then-not-is_start-clause-least g c =
 
 pub returns-then-has_wrong-3-clause-least : goal.returns-then-has_wrong-3-clause-least
 returns-then-has_wrong-3-clause-least g c =
-    let code = g.S.Starts.code c.args.starts.now in
+    let code = g.S.Starts.code c.args.limits.now.starts.now in
     let links = c.args.chains.now.links.items in
-    let f = c.args.limits in
+    let f = c.args.limits.now in
     let infos = infos_of (entry_of c.args.entry.now) in
-    is_53 (any_info (names_nothing c.args.pool.now) infos) (any_info (names_no_class c.args.pool.now) infos) (ltb f.max_locals (length (in_locals (locals_at links c.args.frame.locals)))) (ltb f.max_stack (units_of (types_at links c.args.frame.stack))) (chops_more (entry_of c.args.entry.now) (locals_at links c.args.before)) (not (has_offset code c.args.frame.at)) (any_info (is_made_nowhere code) infos)
+    is_53 (any_info (names_nothing c.args.limits.now.pool.now) infos) (any_info (names_no_class c.args.limits.now.pool.now) infos) (ltb f.max_locals (length (in_locals (locals_at links c.args.frame.locals)))) (ltb f.max_stack (units_of (types_at links c.args.frame.stack))) (chops_more (entry_of c.args.entry.now) (locals_at links c.args.before)) (not (has_offset code c.args.frame.at)) (any_info (is_made_nowhere code) infos)
     (sym c.has_wrong.ensures ∙ c.if-has_wrong.false)
     (sym c.has_wrong-2.ensures ∙ c.if-has_wrong-2.false)
     (not_over f.max_locals c.units.result (length (in_locals (locals_at links c.args.frame.locals))) (omega (arith, c.if-units-from.false, c.from.ensures)) (c.units.ensures ∙ units_in_locals links c.args.frame.locals))
@@ -75,11 +75,11 @@ returns-then-has_wrong-3-clause-least g c =
 
 pub returns-clause-least : goal.returns-clause-least
 returns-clause-least g c =
-    let code = g.S.Starts.code c.args.starts.now in
+    let code = g.S.Starts.code c.args.limits.now.starts.now in
     let links = c.args.chains.now.links.items in
-    let f = c.args.limits in
+    let f = c.args.limits.now in
     let infos = infos_of (entry_of c.args.entry.now) in
-    is_none (any_info (names_nothing c.args.pool.now) infos) (any_info (names_no_class c.args.pool.now) infos) (ltb f.max_locals (length (in_locals (locals_at links c.args.frame.locals)))) (ltb f.max_stack (units_of (types_at links c.args.frame.stack))) (chops_more (entry_of c.args.entry.now) (locals_at links c.args.before)) (not (has_offset code c.args.frame.at)) (any_info (is_made_nowhere code) infos)
+    is_none (any_info (names_nothing c.args.limits.now.pool.now) infos) (any_info (names_no_class c.args.limits.now.pool.now) infos) (ltb f.max_locals (length (in_locals (locals_at links c.args.frame.locals)))) (ltb f.max_stack (units_of (types_at links c.args.frame.stack))) (chops_more (entry_of c.args.entry.now) (locals_at links c.args.before)) (not (has_offset code c.args.frame.at)) (any_info (is_made_nowhere code) infos)
     (sym c.has_wrong.ensures ∙ c.if-has_wrong.false)
     (sym c.has_wrong-2.ensures ∙ c.if-has_wrong-2.false)
     (not_over f.max_locals c.units.result (length (in_locals (locals_at links c.args.frame.locals))) (omega (arith, c.if-units-from.false, c.from.ensures)) (c.units.ensures ∙ units_in_locals links c.args.frame.locals))

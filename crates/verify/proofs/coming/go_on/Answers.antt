@@ -13,8 +13,8 @@ use Rattle.verify.proofs.coming.go_on.Goals as goal
 
 pub returns-in-Ok-clause-goes : goal.returns-in-Ok-clause-goes
 returns-in-Ok-clause-goes g c =
-    let classes = g.C.Classes.content c.args.classes.now in
-    let m = method_view c.args.method.now in
+    let classes = g.C.Classes.content c.args.body.now.classes.now in
+    let m = method_view c.args.body.now.method.now in
     let a = act_view c.args.act in
     let f = held c.args.frame.now in
     let now = held c.run.new.frame in
@@ -23,18 +23,18 @@ returns-in-Ok-clause-goes g c =
 
 pub returns-in-Ok-clause-locals : goal.returns-in-Ok-clause-locals
 returns-in-Ok-clause-locals g c = λ goes.
-    let classes = g.C.Classes.content c.args.classes.now in
-    let m = method_view c.args.method.now in
+    let classes = g.C.Classes.content c.args.body.now.classes.now in
+    let m = method_view c.args.body.now.method.now in
     let a = act_view c.args.act in
     let f = held c.args.frame.now in
     let now = held c.run.new.frame in
     let done = subst (Done (conditions classes m c.args.at (plan m a) f) (after m c.args.at (plan m a) f) now) c.in-Ok.is c.run.ensures in
-    keeps_length m c.args.at (plan m a) f now c.args.method.now.code.now.max_locals c.requires.locals done.outcome.1
+    keeps_length m c.args.at (plan m a) f now c.args.body.now.method.now.code.now.max_locals c.requires.locals done.outcome.1
 
 pub returns-clause-goes : goal.returns-clause-goes
 returns-clause-goes g c =
-    let classes = g.C.Classes.content c.args.classes.now in
-    let m = method_view c.args.method.now in
+    let classes = g.C.Classes.content c.args.body.now.classes.now in
+    let m = method_view c.args.body.now.method.now in
     let a = act_view c.args.act in
     let f = held c.args.frame.now in
     let now = held c.run.new.frame in
@@ -42,4 +42,4 @@ returns-clause-goes g c =
     stopped_is classes m c.args.at a f now c.in-Err.reason c.stopped.result done.outcome c.stopped.ensures.found
 
 pub returns-clause-locals : goal.returns-clause-locals
-returns-clause-locals g c = stopped_length c.in-Err.reason c.stopped.result (length (held c.run.new.frame).locals) c.args.method.now.code.now.max_locals c.stopped.ensures.found
+returns-clause-locals g c = stopped_length c.in-Err.reason c.stopped.result (length (held c.run.new.frame).locals) c.args.body.now.method.now.code.now.max_locals c.stopped.ensures.found

@@ -21,10 +21,10 @@ use Rattle.verify.proofs.coming.walk.Goals as goal
 
 pub loop-code-init : goal.loop-code-init
 loop-code-init g c =
-    let classes = g.C.Classes.content c.args.classes.now in
-    let m = method_view c.args.method.now in
-    let frames = frames_in c.args.frames.now in
-    let code = c.args.method.now.code.now.code.now in
+    let classes = g.C.Classes.content c.args.body.now.classes.now in
+    let m = method_view c.args.body.now.method.now in
+    let frames = frames_in c.args.body.now.frames.now in
+    let code = c.args.body.now.method.now.code.now.code.now in
     let only = only_reading code (Ok c.requires.spelled.0) c.requires.spelled.1 in
     let all = ap (λ (p : Place). p.at + length p.rest) c.new-code.ensures in
     record {
@@ -39,7 +39,6 @@ loop-code-init g c =
       };
       locals = λ e. c.requires.locals;
       constants = refl;
-      members = refl;
     }
 
 pub take_act-act-requires : goal.take_act-act-requires
@@ -49,9 +48,9 @@ take_act-act-requires g c =
 
 pub returns-then-from-at-clause-found : goal.returns-then-from-at-clause-found
 returns-then-from-at-clause-found g c =
-    let classes = g.C.Classes.content c.args.classes.now in
-    let m = method_view c.args.method.now in
-    let frames = frames_in c.args.frames.now in
+    let classes = g.C.Classes.content c.args.body.now.classes.now in
+    let m = method_view c.args.body.now.method.now in
+    let frames = frames_in c.args.body.now.frames.now in
     let at = c.args.at in
     let coming = frame_if c.loop-code.comes (held c.loop-code.frame) in
     let total = met plan classes m frames m.code (Some (held c.args.first)) at in
@@ -71,9 +70,9 @@ loop-code-smaller g c = (step_within c.loop-code.code c.take_act-act.new.self (c
 
 pub loop-code-preserved-then-from-last : goal.loop-code-preserved-then-from-last
 loop-code-preserved-then-from-last g c =
-    let classes = g.C.Classes.content c.args.classes.now in
-    let m = method_view c.args.method.now in
-    let frames = frames_in c.args.frames.now in
+    let classes = g.C.Classes.content c.args.body.now.classes.now in
+    let m = method_view c.args.body.now.method.now in
+    let frames = frames_in c.args.body.now.frames.now in
     let at = c.args.at in
     let last = c.last_before-last.result in
     let coming = frame_if c.loop-code.comes (held c.loop-code.frame) in
@@ -102,14 +101,13 @@ loop-code-preserved-then-from-last g c =
       };
       locals = c.in_ok-comes.ensures.locals;
       constants = c.step.ensures.same ∙ c.loop-code.invariant.constants;
-      members = c.step.ensures.same_members ∙ c.loop-code.invariant.members;
     }
 
 pub loop-code-preserved : goal.loop-code-preserved
 loop-code-preserved g c =
-    let classes = g.C.Classes.content c.args.classes.now in
-    let m = method_view c.args.method.now in
-    let frames = frames_in c.args.frames.now in
+    let classes = g.C.Classes.content c.args.body.now.classes.now in
+    let m = method_view c.args.body.now.method.now in
+    let frames = frames_in c.args.body.now.frames.now in
     let at = c.args.at in
     let last = c.last_before-last.result in
     let coming = frame_if c.loop-code.comes (held c.loop-code.frame) in
@@ -137,14 +135,13 @@ loop-code-preserved g c =
       };
       locals = c.loop-code.invariant.locals;
       constants = c.loop-code.invariant.constants;
-      members = c.loop-code.invariant.members;
     }
 
 pub returns-clause-found : goal.returns-clause-found
 returns-clause-found g c =
-    let classes = g.C.Classes.content c.args.classes.now in
-    let m = method_view c.args.method.now in
-    let frames = frames_in c.args.frames.now in
+    let classes = g.C.Classes.content c.args.body.now.classes.now in
+    let m = method_view c.args.body.now.method.now in
+    let frames = frames_in c.args.body.now.frames.now in
     let at = c.args.at in
     let now = c.loop-code.invariant.walks in
     let coming = frame_if c.loop-code.comes (held c.loop-code.frame) in

@@ -9,14 +9,13 @@ use Rattle.verify.proofs.coming.walk.Given as goal
 
 abbrev pub invariant-loop-code : goal.invariant-loop-code
 invariant-loop-code g l =
-    let classes = g.C.Classes.content l.classes in
-    let m = method_view l.method in
-    let frames = frames_in l.frames in
+    let classes = g.C.Classes.content l.body.classes.now in
+    let m = method_view l.body.method.now in
+    let frames = frames_in l.body.frames.now in
     record {
-      walks : Walks classes m frames l.at l.last (length l.method.code.now.code.now) l.code (frame_if l.comes (held l.frame)) (met plan classes m frames m.code (Some (held l.fn.first)) l.at);
-      locals : l.comes ≡ true → length (held l.frame).locals ≡ l.method.code.now.max_locals;
-      constants : l.constants ≡ l.fn.constants;
-      members : l.members ≡ l.fn.members;
+      walks : Walks classes m frames l.at l.last (length l.body.method.now.code.now.code.now) l.code (frame_if l.comes (held l.frame)) (met plan classes m frames m.code (Some (held l.fn.first)) l.at);
+      locals : l.comes ≡ true → length (held l.frame).locals ≡ l.body.method.now.code.now.max_locals;
+      constants : l.constants.members ≡ l.fn.constants.members;
     }
 
 abbrev pub decreases-loop-code : goal.decreases-loop-code

@@ -23,11 +23,11 @@ loop-number-preserved g c =
     let old = c.loop-number.frames.items in
     let x = c.in_ok-met.met in
     let is : c.push.new.self.items ≡ old ++ x ∷ [] = c.in_ok-push.ensures.items in
-    let count : length old ≡ c.loop-number.number = c.loop-number.invariant.2 in
+    let count : length old ≡ c.loop-number.number = c.loop-number.invariant.1 in
     let r0 = get_or verdicts c.loop-number.number c.index-verdicts-number.result in
     let there : slice_get verdicts c.loop-number.number ≡ Some r0 = slice_get-get_or verdicts c.loop-number.number c.index-verdicts-number.result c.loop-number-test.true in
     let size : ℕ = size_before old (length old) in
-    let left : c.loop-number.left ≡ MOST_KEPT - size = c.loop-number.invariant.4 in
+    let left : c.loop-number.left ≡ MOST_KEPT - size = c.loop-number.invariant.3 in
     let told : nat_lt 0 c.loop-number.left ≡ nat_lt size MOST_KEPT = some_left size c.loop-number.left MOST_KEPT left in
     let with : size_before (old ++ x ∷ []) (suc (length old)) ≡ size + frames_size (frames_view x) = size_with old x in
     let here : (r : MethodVerdict) → slice_get verdicts (length old) ≡ Some r → IsFramedIf (nat_lt size MOST_KEPT) classes class (length old) r.verdict (frames_view x) =
@@ -35,10 +35,9 @@ loop-number-preserved g c =
     (subst (λ n. IsFramedIf (nat_lt 0 c.loop-number.left) classes class n r.verdict (frames_view x)) (sym count)
     (subst (λ (k : MethodVerdict). IsFramedIf (nat_lt 0 c.loop-number.left) classes class c.loop-number.number k.verdict (frames_view x)) (some_same r0 r (sym there ∙ ap (slice_get verdicts) (sym count) ∙ e)) c.in_ok-met.ensures.found)) in (
       c.frames_on.ensures.same ∙ c.loop-number.invariant.0,
-      c.frames_on.ensures.same_members ∙ c.loop-number.invariant.1,
       ap length is ∙ length-append old (x ∷ []) ∙ ap (λ n. n + 1) count,
       λ n r y e f. subst (λ xs. IsFramedIf (nat_lt (size_before xs n) MOST_KEPT) classes class n r.verdict (frames_view y)) (sym is)
           (one_more_behind old x (λ n size y. (r : MethodVerdict) → slice_get verdicts n ≡ Some r → IsFramedIf (nat_lt size MOST_KEPT) classes class n r.verdict (frames_view y))
-          (λ n y f r e. c.loop-number.invariant.3 n r y e f) here n y (ap (λ xs. slice_get xs n) (sym is) ∙ f) r e),
+          (λ n y f r e. c.loop-number.invariant.2 n r y e f) here n y (ap (λ xs. slice_get xs n) (sym is) ∙ f) r e),
       c.taken_off-left.ensures ∙ omega (arith, left, with) ∙ ap (λ n. MOST_KEPT - size_before (old ++ x ∷ []) n) (sym (longer old x)) ∙ ap (λ xs. MOST_KEPT - size_before xs (length xs)) (sym is),
     )

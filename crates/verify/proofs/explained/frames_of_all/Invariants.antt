@@ -10,8 +10,7 @@ use Rattle.verify.proofs.explained.frames_of_all.Given as goal
 
 abbrev pub invariant-loop-number : goal.invariant-loop-number
 invariant-loop-number g l =
-    (l.constants ≡ l.formed.class.now.constant_pool)
-    × (l.members ≡ record { class = l.formed.class.now; classes = g.C.Classes.content l.classes })
+    (l.constants.members ≡ record { class = l.formed.class.now; classes = g.C.Classes.content l.classes })
     × (length l.frames.items ≡ l.number)
     × ((n : ℕ) (r : MethodVerdict) (x : FramesAt) → slice_get l.verdicts n ≡ Some r → slice_get l.frames.items n ≡ Some x
     → IsFramedIf (nat_lt (size_before l.frames.items n) MOST_KEPT) (g.C.Classes.content l.classes) (judged_class l.formed) n r.verdict (frames_view x))

@@ -18,9 +18,9 @@ use Rattle.verify.proofs.judging.judge.Goals as goal
 
 pub returns-then-are_idle-clause-judged : goal.returns-then-are_idle-clause-judged
 returns-then-are_idle-clause-judged g c = λ next is.
-    let classes = g.C.Classes.content c.args.classes.now in
-    let m = method_view c.args.method.now in
-    let frames = frames_in c.args.frames.now in
+    let classes = g.C.Classes.content c.args.body.now.classes.now in
+    let m = method_view c.args.body.now.method.now in
+    let frames = frames_in c.args.body.now.frames.now in
     let f = held c.args.frame.now in
     let idle = (c.are_idle.ensures c.if-are_idle.true classes frames m.exceptions f c.requires.handlers).1 in
     plain_done classes m frames c.args.at f (act_view c.args.act.now) (sym c.is_plain.ensures ∙ c.if-is_plain.true) idle c.args.last c.if-not-last.true next is
@@ -28,21 +28,21 @@ returns-then-are_idle-clause-judged g c = λ next is.
 
 pub returns-then-are_idle-clause-known : goal.returns-then-are_idle-clause-known
 returns-then-are_idle-clause-known g c =
-    let classes = g.C.Classes.content c.args.classes.now in
-    let m = method_view c.args.method.now in
+    let classes = g.C.Classes.content c.args.body.now.classes.now in
+    let m = method_view c.args.body.now.method.now in
     let f = held c.args.frame.now in
     let p = plan m (act_view c.args.act.now) in
     let now = held c.run_plain.new.frame in
     on_ok c.run_plain.result (λ u is.
     let done = subst (Done (conditions classes m c.args.at p f) (after m c.args.at p f) now) is (c.run_plain.ensures c.args.at) in
-    subst (λ x. IsKnown classes c.args.frames.now x c.behind.new.self) (sym done.outcome.1) (c.in_ok-behind.ensures classes c.args.frames.now m c.args.at
+    subst (λ x. IsKnown classes c.args.body.now.frames.now x c.behind.new.self) (sym done.outcome.1) (c.in_ok-behind.ensures classes c.args.body.now.frames.now m c.args.at
     (λ none. let a = act_view c.args.act.now in locals_kept m c.args.at a f (plain_keeps a (sym c.is_plain.ensures ∙ c.if-is_plain.true) none)) (c.items_kept_plainly-kept.ensures c.args.at) c.requires.known))
 
 pub returns-then-are_idle-clause-handlers : goal.returns-then-are_idle-clause-handlers
 returns-then-are_idle-clause-handlers g c =
-    let classes = g.C.Classes.content c.args.classes.now in
-    let m = method_view c.args.method.now in
-    let frames = frames_in c.args.frames.now in
+    let classes = g.C.Classes.content c.args.body.now.classes.now in
+    let m = method_view c.args.body.now.method.now in
+    let frames = frames_in c.args.body.now.frames.now in
     let f = held c.args.frame.now in
     let p = plan m (act_view c.args.act.now) in
     let now = held c.run_plain.new.frame in

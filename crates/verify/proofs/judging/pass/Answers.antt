@@ -21,10 +21,10 @@ use Rattle.verify.proofs.judging.pass.Goals as goal
 
 pub loop-code-init : goal.loop-code-init
 loop-code-init g c =
-    let classes = g.C.Classes.content c.args.classes.now in
-    let m = method_view c.args.method.now in
-    let frames = frames_in c.args.frames.now in
-    let code = c.args.method.now.code.now.code.now in
+    let classes = g.C.Classes.content c.args.body.now.classes.now in
+    let m = method_view c.args.body.now.method.now in
+    let frames = frames_in c.args.body.now.frames.now in
+    let code = c.args.body.now.method.now.code.now.code.now in
     let only = only_reading code (Ok c.requires.spelled.0) c.requires.spelled.1 in
     record {
       left = record {
@@ -35,19 +35,18 @@ loop-code-init g c =
       };
       locals = c.requires.locals;
       constants = refl;
-      members = refl;
-      known = c.in_ok-known.ensures (g.C.Classes.content c.args.classes.now) (held c.args.frame.now);
-      handlers = subst (λ n. Follows classes frames m.exceptions n (held c.args.frame.now) c.args.handlers.now) (sym (ap (λ (p : Place). p.at) c.new-code.ensures)) c.requires.handlers;
+      known = c.requires.known;
+      handlers = subst (λ n. Follows classes frames m.exceptions n (held c.args.frame.now) c.args.comparisons.now.handlers) (sym (ap (λ (p : Place). p.at) c.new-code.ensures)) c.requires.handlers;
     }
 
 pub judge-judged-requires-clause-handlers : goal.judge-judged-requires-clause-handlers
 judge-judged-requires-clause-handlers g c =
-    let classes = g.C.Classes.content c.args.classes.now in
-    let m = method_view c.args.method.now in
-    let frames = frames_in c.args.frames.now in
+    let classes = g.C.Classes.content c.args.body.now.classes.now in
+    let m = method_view c.args.body.now.method.now in
+    let frames = frames_in c.args.body.now.frames.now in
     let f = held c.loop-code.frame in
     let here = (step_within c.loop-code.code c.take_act-act.new.self (c.at-at.result, c.take_act-act.result) (taken_at c.loop-code.code c.take_act-act.new.self c.at-at.result c.take_act-act.result c.at-at.ensures c.take_act-act.ensures)).0 in
-    let before = subst (λ n. Follows classes frames m.exceptions n f c.loop-code.handlers) here c.loop-code.invariant.handlers in
+    let before = subst (λ n. Follows classes frames m.exceptions n f c.loop-code.comparisons.handlers) here c.loop-code.invariant.handlers in
     c.in_default.ensures.handlers m.exceptions c.at-at.result before
 
 pub take_act-act-requires : goal.take_act-act-requires
@@ -57,9 +56,9 @@ take_act-act-requires g c =
 
 pub returns-in-Err-clause-judged : goal.returns-in-Err-clause-judged
 returns-in-Err-clause-judged g c =
-    let classes = g.C.Classes.content c.args.classes.now in
-    let m = method_view c.args.method.now in
-    let frames = frames_in c.args.frames.now in
+    let classes = g.C.Classes.content c.args.body.now.classes.now in
+    let m = method_view c.args.body.now.method.now in
+    let frames = frames_in c.args.body.now.frames.now in
     let f = held c.loop-code.frame in
     let v = code_judged plan classes m frames in
     let comes = c.loop-code.comes in
@@ -72,9 +71,9 @@ returns-in-Err-clause-judged g c =
 
 pub returns-in-Err-judged-clause-judged : goal.returns-in-Err-judged-clause-judged
 returns-in-Err-judged-clause-judged g c =
-    let classes = g.C.Classes.content c.args.classes.now in
-    let m = method_view c.args.method.now in
-    let frames = frames_in c.args.frames.now in
+    let classes = g.C.Classes.content c.args.body.now.classes.now in
+    let m = method_view c.args.body.now.method.now in
+    let frames = frames_in c.args.body.now.frames.now in
     let f = held c.loop-code.frame in
     let v = code_judged plan classes m frames in
     let comes = c.loop-code.comes in
@@ -92,9 +91,9 @@ returns-in-Err-judged-clause-judged g c =
 
 pub loop-code-preserved : goal.loop-code-preserved
 loop-code-preserved g c =
-    let classes = g.C.Classes.content c.args.classes.now in
-    let m = method_view c.args.method.now in
-    let frames = frames_in c.args.frames.now in
+    let classes = g.C.Classes.content c.args.body.now.classes.now in
+    let m = method_view c.args.body.now.method.now in
+    let frames = frames_in c.args.body.now.frames.now in
     let f = held c.loop-code.frame in
     let v = code_judged plan classes m frames in
     let comes = c.loop-code.comes in
@@ -119,13 +118,12 @@ loop-code-preserved g c =
         within = within.1 ∙ now.within;
       };
       locals =
-          keeps_length m x.0 (plan m a.1) g1 (held c.judge-judged.new.frame) c.args.method.now.code.now.max_locals
+          keeps_length m x.0 (plan m a.1) g1 (held c.judge-judged.new.frame) c.args.body.now.method.now.code.now.max_locals
           (c.in_default.ensures.locals ∙ c.loop-code.invariant.locals) well.outcome.1;
       constants = c.judge-judged.ensures.same ∙ c.loop-code.invariant.constants;
-      members = c.judge-judged.ensures.same_members ∙ c.loop-code.invariant.members;
       known = c.in_default-judged.ensures.known;
       handlers =
-          follows_later classes frames m.exceptions x.0 c.take_act-act.new.self.at (held c.judge-judged.new.frame) c.judge-judged.new.handlers
+          follows_later classes frames m.exceptions x.0 c.take_act-act.new.self.at (held c.judge-judged.new.frame) c.judge-judged.new.comparisons.handlers
           (omega (arith, within.0, within.1, within.2)) c.in_default-judged.ensures.handlers;
     }
 
@@ -134,9 +132,9 @@ loop-code-smaller g c = (step_within c.loop-code.code c.take_act-act.new.self (c
 
 pub returns-clause-judged : goal.returns-clause-judged
 returns-clause-judged g c =
-    let classes = g.C.Classes.content c.args.classes.now in
-    let m = method_view c.args.method.now in
-    let frames = frames_in c.args.frames.now in
+    let classes = g.C.Classes.content c.args.body.now.classes.now in
+    let m = method_view c.args.body.now.method.now in
+    let frames = frames_in c.args.body.now.frames.now in
     let now = c.loop-code.invariant.left in
     now.same ∙ ap (λ xs. left classes m frames (acts xs) c.loop-code.comes (held c.loop-code.frame))
     (at_end c.loop-code.code now.instructions now.read (sym c.is_at_end.ensures ∙ c.loop-code-test.false))

@@ -12,13 +12,12 @@ use Rattle.verify.proofs.judging.pass.Given as goal
 abbrev pub invariant-loop-code : goal.invariant-loop-code
 invariant-loop-code g l = record {
   left :
-      Remains (g.C.Classes.content l.classes) (method_view l.method) (frames_in l.frames) (length l.method.code.now.code.now) l.code l.comes (held l.frame)
-      (code_judged plan (g.C.Classes.content l.classes) (method_view l.method) (frames_in l.frames));
-  locals : length (held l.frame).locals ≡ l.method.code.now.max_locals;
-  constants : l.constants ≡ l.fn.constants;
-  members : l.members ≡ l.fn.members;
-  known : IsKnown (g.C.Classes.content l.classes) l.frames (held l.frame) l.known;
-  handlers : Follows (g.C.Classes.content l.classes) (frames_in l.frames) (method_view l.method).exceptions l.code.at (held l.frame) l.handlers;
+      Remains (g.C.Classes.content l.body.classes.now) (method_view l.body.method.now) (frames_in l.body.frames.now) (length l.body.method.now.code.now.code.now) l.code l.comes (held l.frame)
+      (code_judged plan (g.C.Classes.content l.body.classes.now) (method_view l.body.method.now) (frames_in l.body.frames.now));
+  locals : length (held l.frame).locals ≡ l.body.method.now.code.now.max_locals;
+  constants : l.constants.members ≡ l.fn.constants.members;
+  known : IsKnown (g.C.Classes.content l.body.classes.now) l.body.frames.now (held l.frame) l.comparisons.known;
+  handlers : Follows (g.C.Classes.content l.body.classes.now) (frames_in l.body.frames.now) (method_view l.body.method.now).exceptions l.code.at (held l.frame) l.comparisons.handlers;
 }
 
 abbrev pub decreases-loop-code : goal.decreases-loop-code

@@ -12,9 +12,9 @@ use Rattle.verify.proofs.method.judge_code.Goals as goal
 
 pub returns-in-Err-clause-judged : goal.returns-in-Err-clause-judged
 returns-in-Err-clause-judged g c =
-    let classes = g.C.Classes.content c.args.classes.now in
-    let m = method_view c.args.method.now in
-    let frames = frames_in c.args.frames.now in
+    let classes = g.C.Classes.content c.args.body.now.classes.now in
+    let m = method_view c.args.body.now.method.now in
+    let frames = frames_in c.args.body.now.frames.now in
     let rest = code_judged plan classes m frames in
     let judged = (subst (JudgesTable classes m frames m.exceptions) c.in-Err.is (subst (λ es. JudgesTable classes m frames es c.check_table.result) (ap (map entry_view) c.deref.ensures.value ∙ c.in_ok-table.ensures.all) c.check_table.ensures)).outcome in
     c.refuse.ensures (table_judged classes m frames m.exceptions rest)
@@ -22,15 +22,18 @@ returns-in-Err-clause-judged g c =
 
 pub returns-clause-judged : goal.returns-clause-judged
 returns-clause-judged g c =
-    let classes = g.C.Classes.content c.args.classes.now in
-    let m = method_view c.args.method.now in
-    let frames = frames_in c.args.frames.now in
+    let classes = g.C.Classes.content c.args.body.now.classes.now in
+    let m = method_view c.args.body.now.method.now in
+    let frames = frames_in c.args.body.now.frames.now in
     let judged = (subst (JudgesTable classes m frames m.exceptions) c.in_default.is (subst (λ es. JudgesTable classes m frames es c.check_table.result) (ap (map entry_view) c.deref.ensures.value ∙ c.in_ok-table.ensures.all) c.check_table.ensures)).outcome in
     subst (λ z. Gives z c.pass.result) (sym (judged (code_judged plan classes m frames))) c.pass.ensures.judged
 
 pub pass-requires-clause-handlers : goal.pass-requires-clause-handlers
 pass-requires-clause-handlers g c =
-    let classes = g.C.Classes.content c.args.classes.now in
-    let frames = frames_in c.args.frames.now in
+    let classes = g.C.Classes.content c.args.body.now.classes.now in
+    let frames = frames_in c.args.body.now.frames.now in
     let f = held c.args.frame.now in
     subst (λ (es : List ExceptionEntry). Follows classes frames es 0 f c.in_ok-handlers.handlers) c.in_ok-table.ensures.all (c.in_ok-handlers.ensures classes frames f)
+
+pub pass-requires-clause-known : goal.pass-requires-clause-known
+pass-requires-clause-known g c = c.in_ok-known.ensures (g.C.Classes.content c.args.body.now.classes.now) (held c.args.frame.now)

@@ -13,10 +13,9 @@ loop-number-preserved g c =
     let old = c.loop-number.methods.items in
     let x = c.in_ok-verdict.verdict in
     let is : c.push.new.self.items ≡ old ++ x ∷ [] = c.in_ok-push.ensures.items in
-    let count : length old ≡ c.loop-number.number = c.loop-number.invariant.2 in
+    let count : length old ≡ c.loop-number.number = c.loop-number.invariant.1 in
     let here = subst (λ n. IsReported classes class n x) (sym count) c.in_ok-verdict.ensures.found in (
       c.report_on.ensures.same ∙ c.loop-number.invariant.0,
-      c.report_on.ensures.same_members ∙ c.loop-number.invariant.1,
       ap length is ∙ length-append old (x ∷ []) ∙ ap (λ n. n + 1) count,
-      λ n r e. one_more_item old x (λ n r. IsReported classes class n r) c.loop-number.invariant.3 here n r (ap (λ xs. slice_get xs n) (sym is) ∙ e),
+      λ n r e. one_more_item old x (λ n r. IsReported classes class n r) c.loop-number.invariant.2 here n r (ap (λ xs. slice_get xs n) (sym is) ∙ e),
     )

@@ -8,7 +8,6 @@ use Rattle.verify.proofs.report.report_listed.Given as goal
 
 abbrev pub invariant-loop-number : goal.invariant-loop-number
 invariant-loop-number g l =
-    (l.constants ≡ l.formed.class.now.constant_pool)
-    × (l.members ≡ record { class = l.formed.class.now; classes = g.C.Classes.content l.classes })
+    (l.constants.members ≡ record { class = l.formed.class.now; classes = g.C.Classes.content l.classes })
     × (length l.methods.items ≡ l.number)
     × ((n : ℕ) (r : MethodVerdict) → slice_get l.methods.items n ≡ Some r → IsReported (g.C.Classes.content l.classes) (judged_class l.formed) n r)

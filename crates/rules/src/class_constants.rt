@@ -1,0 +1,54 @@
+//! The constants of a class, as its instructions name them.
+ghost use Rattle.std.specs.Prelude.{◌≡◌, IfOk};
+ghost use Rattle.insn.specs.Views.{act_view};
+ghost use Rattle.rules.specs.Bodies.{method_view};
+ghost use Rattle.rules.specs.Naming.{IsNamed};
+
+use crate::members::Members;
+use crate::naming::Named;
+use classfile::{ClassFile, CodeMethod};
+use hierarchy::Classes;
+use insn::Act;
+use pool::Descriptors;
+use std::alloc::{AllocError, Global};
+
+/// The constants of a class, and what its instructions name by them, as far as it was looked up.
+#[derive(Drop)]
+pub struct ClassConstants<'k, 'c, 'a, C: Classes> {
+    /// The types that they spell.
+    pub types: Descriptors<'c, 'a>,
+    /// The members that they name.
+    pub members: Members<'k, 'c, 'a, C>,
+    ghost one: { types ≡ members.class.constant_pool },
+}
+
+impl<'k, 'c, 'a, C: Classes> ClassConstants<'k, 'c, 'a, C> {
+    ghost use Rattle.rules.specs.Naming.{IsNamed};
+
+    /// The constants of a class among these classes, before any of them is looked up.
+    pub fn new(
+        alloc: Global,
+        class: &'c ClassFile<'a>,
+        classes: &'k C,
+    ) -> ClassConstants<'k, 'c, 'a, C>
+        ensures { result.members ≡ record { class = class.now; classes = C.content classes.now } }
+    {
+        ClassConstants {
+            types: Descriptors::new(alloc, &class.constant_pool),
+            members: Members::new(alloc, class, classes),
+        }
+    }
+
+    /// Looks up what an instruction of the class that means this names. The only refusal is want of memory.
+    pub fn named(
+        &mut self,
+        method: &CodeMethod<'_, 'a>,
+        act: &Act<'a>,
+    ) -> Result<Named<'a>, AllocError>
+        requires { self.old.members.class ≡ method.now.class.now }
+        ensures same { self.new.members ≡ self.old.members }
+        ensures found { IfOk result (IsNamed (method_view method.now) (act_view act.now)) }
+    {
+        self.members.named(&mut self.types, method, act)
+    }
+}
