@@ -1,5 +1,5 @@
 -- Which locals an instruction changes that is no store: those that hold one object.
-use Rattle.std.proofs.Common.{◌≡◌, ◌∙◌, ℕ, zero, suc, ◌∷◌, Bool, true, false, List, [], length, get_or, map, drop, if◌then◌else◌, Option, Some, None, refl, sym, ap, subst, arith}
+use Rattle.std.proofs.Common.{◌≡◌, ℕ, zero, suc, ◌∷◌, Bool, true, false, List, [], length, get_or, map, if◌then◌else◌, Option, Some, None, refl, sym, ap, subst}
 use Rattle.std.specs.Prelude.{◌&&◌, not, option_and_then}
 use Rattle.std.proofs.lemmas.List.{length-map}
 use Rattle.names.specs.ReferenceTypes.{ReferenceType, class_type, array_type, is_class_type}
@@ -11,7 +11,7 @@ use Rattle.insn.specs.Stacks.{beneath}
 use Rattle.frames.specs.VerificationType.{VerificationType, top, int, float, long, double, null, class, array, uninit_this, uninit}
 use Rattle.frames.specs.FrameFact.{FrameFact}
 use Rattle.frames.specs.Objects.{is_initialized}
-use Rattle.rules.specs.Plans.{Plan, Want, where_allowed, class_want, result_types, arguments_on, constructs, calls_special, makes, refuses}
+use Rattle.rules.specs.Plans.{Plan, Want, where_allowed, class_want, result_types, arguments_on, constructs, calls_special}
 use Rattle.rules.specs.Constants.{constructor_call, special_call, invoke_special, new_object, is_init_name, has_room_for_receiver, may_name}
 use Rattle.rules.specs.After.{after, top_of, class_after, forgotten, initialized}
 use Rattle.rules.specs.Table.{plan}

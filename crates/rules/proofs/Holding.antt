@@ -1,6 +1,6 @@
 -- The frame that instructions are run on.
-use Rattle.std.proofs.Common.{◌≡◌, ℕ, zero, suc, ◌+◌, ◌-◌, ◌<◌, ◌≤◌, Bool, true, false, List, [], ◌∷◌, ◌++◌, length, get_or, set, take, drop, map, replicate, refl, sym, ◌∙◌, ap, subst, arith, if◌then◌else◌}
-use Rattle.std.proofs.lemmas.List.{drop_more, drop_all, map-append, length-replicate, replicate-append-replicate, length-append, length-map, length-reverse, length-drop, length-take-le, take-append-drop, take_all, take_rest, append_assoc, length-set, map-set, set-append_left}
+use Rattle.std.proofs.Common.{◌≡◌, ℕ, ◌+◌, ◌-◌, ◌<◌, ◌≤◌, true, List, [], ◌∷◌, ◌++◌, length, get_or, take, drop, map, refl, sym, ◌∙◌, ap, subst, arith}
+use Rattle.std.proofs.lemmas.List.{drop_more, drop_all, map-append, length-append, length-map, length-reverse, length-drop, length-take-le, take-append-drop, take_rest}
 use Rattle.frames.specs.declared.vtype.VType.{VType}
 use Rattle.frames.specs.VerificationType.{VerificationType, type_of, top, int, float, long, double, null, class, array, uninit_this, uninit}
 use Rattle.frames.specs.FrameAssignable.{width_of}

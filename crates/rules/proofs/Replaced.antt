@@ -1,7 +1,7 @@
 -- A type in the place of an object's, wherever that stands.
-use Rattle.std.proofs.Common.{◌≡◌, ℕ, zero, suc, ◌+◌, ◌-◌, ◌<◌, ◌≤◌, Bool, true, false, List, [], ◌∷◌, ◌++◌, length, get_or, set, drop, map, reverse, replicate, refl, sym, ◌∙◌, ap, arith, if◌then◌else◌}
+use Rattle.std.proofs.Common.{◌≡◌, ℕ, zero, suc, ◌+◌, ◌<◌, ◌≤◌, Bool, true, false, List, [], ◌∷◌, ◌++◌, length, get_or, set, drop, map, reverse, refl, sym, ◌∙◌, ap, arith, if◌then◌else◌}
 use Rattle.std.specs.Prelude.{◌==◌, ◌||◌}
-use Rattle.std.proofs.lemmas.List.{length-map, map-append, map-set, get_or-map, reverse-append, drop_more, drop_all}
+use Rattle.std.proofs.lemmas.List.{length-map, map-set, get_or-map, reverse-append, drop_more, drop_all}
 use Rattle.rules.specs.Rules.{is_on_stack}
 use Rattle.frames.specs.declared.vtype.VType.{VType}
 use Rattle.frames.specs.VerificationType.{VerificationType, type_of, top, int, float, long, double, null, class, array, uninit_this, uninit}

@@ -6,6 +6,7 @@ use Rattle.names.specs.Descriptors.{FieldDescriptor, field_width, primitive}
 use Rattle.names.specs.ReferenceTypes.{ReferenceType, class_type, array_type, is_class_type, descriptor_of, dimensions_of}
 use Rattle.pool.specs.Entries as entries
 use Rattle.pool.specs.Entries.{Entry}
+use Rattle.classfile.specs.Bootstraps.{has_bootstrap}
 use Rattle.pool.specs.Members.{constant_at, class_at, field_at, method_at, dynamic_type_at, call_site_at, FieldConstant, MethodConstant, CallSite}
 use Rattle.classfile.specs.Methods.{Method}
 use Rattle.insn.specs.Acts.{StackForm, stack_forms, numeric_row}
@@ -23,8 +24,8 @@ use Rattle.frames.specs.VerificationType.{VerificationType, top, class, array, u
 use Rattle.frames.specs.Slots.{descriptor_type, to_reference}
 use Rattle.frames.specs.FrameFact.{FrameFact}
 use Rattle.frames.specs.Objects.{is_initialized}
-use Rattle.rules.specs.Plans.{Want, Plan, pops, loads, stores, counts, rearranges, loads_element, makes, constructs, calls_special, returns, refuses, where_judged, where_allowed, call_of, gives, class_want, assignable_to, result_types, arguments_on, sizes, number, numbers}
-use Rattle.rules.specs.Constants.{load_constant, load_wide_constant, load_dynamic, get_static, put_static, get_field, put_field, invoke_static, invoke_virtual, invoke_interface, invoke_special, invoke_dynamic, dynamic_call, is_special_name, may_invoke_interface, may_name, is_init_name, has_room_for_receiver, constructor_call, special_call, static_call, call_on, new_object, new_array, new_reference_array, new_multi_array, check_cast, instance_of}
+use Rattle.rules.specs.Plans.{Want, Plan, pops, loads, stores, counts, rearranges, loads_element, makes, constructs, calls_special, returns, refuses, where_judged, where_allowed, where_bootstrapped, call_of, gives, class_want, assignable_to, result_types, arguments_on, sizes, number, numbers}
+use Rattle.rules.specs.Constants.{is_bootstrapped, load_constant, load_wide_constant, load_dynamic, get_static, put_static, get_field, put_field, invoke_static, invoke_virtual, invoke_interface, invoke_special, invoke_dynamic, dynamic_call, is_special_name, may_invoke_interface, may_name, is_init_name, has_room_for_receiver, constructor_call, special_call, static_call, call_on, new_object, new_array, new_reference_array, new_multi_array, check_cast, instance_of}
 use Rattle.rules.specs.Table.{plan, return_number, return_reference, return_nothing, leaves_with}
 use Rattle.rules.specs.After.{after, top_of, rest_of, form_for, fits_places, initialized, class_after, rearranged_by, element_of, local_of}
 use Rattle.rules.specs.Naming.{method_index, site_index}
@@ -147,16 +148,30 @@ either : (n : ℕ) (b : Bool) (p q : Plan) → Takes n p → Takes n q → Takes
 either n true p q x y = x
 either n false p q x y = y
 
+bootstrapped : (n : ℕ) (b : Bool) (p : Plan) → Takes n p → Takes n (where_bootstrapped b p)
+bootstrapped n true p t = t
+bootstrapped n false p t = (omega arith, refl)
+
+computed : (units : ℕ) (b : Bool) (type : Option FieldDescriptor) → Takes 4 (load_dynamic units b type)
+computed units b None = (omega arith, refl)
+computed units b (Some type) =
+    allowed 4 (nat_eq (field_width type) units) (where_bootstrapped b (gives (descriptor_type type)))
+    (bootstrapped 4 b (gives (descriptor_type type)) (omega arith, refl))
+
+by_bootstrap : (m : Method Act) (units bootstrap : ℕ) (type : Option FieldDescriptor)
+    → Takes 4 (where_judged m.dynamic (load_dynamic units (has_bootstrap m.constant_pool m.bootstraps bootstrap) type))
+by_bootstrap m units bootstrap type =
+    let b = has_bootstrap m.constant_pool m.bootstraps bootstrap in
+    judged 4 m.dynamic (load_dynamic units b type) (computed units b type)
+
 loaded : (m : Method Act) (type : Option FieldDescriptor) (c : Option Entry) → Takes 4 (load_constant m type c)
 loaded m type None = (omega arith, refl)
-loaded m None (Some (entries.Dynamic bootstrap name)) = judged 4 m.dynamic (load_dynamic 1 None) (omega arith, refl)
-loaded m (Some type) (Some (entries.Dynamic bootstrap name)) = judged 4 m.dynamic (load_dynamic 1 (Some type)) (allowed 4 (nat_eq (field_width type) 1) (gives (descriptor_type type)) (omega arith, refl))
+loaded m type (Some (entries.Dynamic bootstrap name)) = by_bootstrap m 1 bootstrap type
 loaded m type (Some entry) = (omega arith, refl)
 
 loaded_wide : (m : Method Act) (type : Option FieldDescriptor) (c : Option Entry) → Takes 4 (load_wide_constant m type c)
 loaded_wide m type None = (omega arith, refl)
-loaded_wide m None (Some (entries.Dynamic bootstrap name)) = judged 4 m.dynamic (load_dynamic 2 None) (omega arith, refl)
-loaded_wide m (Some type) (Some (entries.Dynamic bootstrap name)) = judged 4 m.dynamic (load_dynamic 2 (Some type)) (allowed 4 (nat_eq (field_width type) 2) (gives (descriptor_type type)) (omega arith, refl))
+loaded_wide m type (Some (entries.Dynamic bootstrap name)) = by_bootstrap m 2 bootstrap type
 loaded_wide m type (Some entry) = (omega arith, refl)
 
 numeric_few : (operator : NumericOperator) → length (numbers (numeric_row operator).taken) ≤ 4
@@ -262,9 +277,12 @@ called_specially major me (Some c) =
     by_name (length c.type.params + 1) (is_init_name c) (constructor_call c c.class) (special_call major me c) (constructed_by c c.class)
     (called_allowed (length c.type.params + 1) (is_class_type c.class && (has_room_for_receiver c && may_name major c.interface)) (calls_special c.class (arguments_on c.type.params (class_want me ∷ [])) (result_types c.type.result)) (on_receiver c (class_want me)))
 
-called_dynamically : (m : Method Act) (o : Option CallSite) → Takes (without_receiver o) (invoke_dynamic m o)
-called_dynamically m None = judged 0 m.dynamic (dynamic_call None) (omega arith, refl)
-called_dynamically m (Some c) = judged (length c.type.params) m.dynamic (dynamic_call (Some c)) (allowed (length c.type.params) (not (is_special_name c)) (call_of c.type) (omega (arith, count_on c.type.params []), refl))
+called_dynamically : (m : Method Act) (b : Bool) (o : Option CallSite) → Takes (without_receiver o) (invoke_dynamic m b o)
+called_dynamically m b None = judged 0 m.dynamic (dynamic_call b None) (omega arith, refl)
+called_dynamically m b (Some c) =
+    let n = length c.type.params in
+    judged n m.dynamic (dynamic_call b (Some c))
+    (allowed n (not (is_special_name c)) (where_bootstrapped b (call_of c.type)) (bootstrapped n b (call_of c.type) (omega (arith, count_on c.type.params []), refl)))
 
 abbrev pub most : Method Act → Act → ℕ
 most m a = at_most a (with_receiver (option_and_then (method_at m.constant_pool) (method_index a))) (without_receiver (option_and_then (call_site_at m.constant_pool) (site_index a)))
@@ -285,7 +303,7 @@ takes m (acts.InvokeVirtual i) e = called_virtually (method_at m.constant_pool i
 takes m (acts.InvokeSpecial i) e = absurd cc
 takes m (acts.InvokeStatic i) e = called_statically m.major_version (method_at m.constant_pool i)
 takes m (acts.InvokeInterface i count) e = called_by_interface count (method_at m.constant_pool i)
-takes m (acts.InvokeDynamic i) e = called_dynamically m (call_site_at m.constant_pool i)
+takes m (acts.InvokeDynamic i) e = called_dynamically m (is_bootstrapped m (constant_at m.constant_pool i)) (call_site_at m.constant_pool i)
 takes m (acts.New i) e = made (class_at m.constant_pool i)
 takes m (acts.NewArray element) e = made_array element
 takes m (acts.NewReferenceArray i) e = made_references (class_at m.constant_pool i)

@@ -1,4 +1,4 @@
-use Rattle.std.proofs.Common.{◌≡◌, ◌∙◌, ℕ, true, false, map, length, ap, sym, arith, Option, Some, None, refl}
+use Rattle.std.proofs.Common.{◌≡◌, ◌∙◌, map, length, ap, sym, arith}
 use Rattle.std.specs.Prelude.{drop, option_map}
 use Rattle.std.proofs.lemmas.List.{length-map}
 use Rattle.names.specs.Types.{type_of}

@@ -1,4 +1,4 @@
-use Rattle.std.proofs.Common.{◌≡◌, ◌<◌, ◌+◌, ◌∙◌, set, length, ap, sym, arith}
+use Rattle.std.proofs.Common.{◌+◌, ◌∙◌, set, ap, sym, arith}
 use Rattle.frames.specs.VerificationType.{type_of, top}
 use Rattle.frames.specs.Locals.{locals_in}
 use Rattle.rules.proofs.HeldLocals.{locals_length, one_set}

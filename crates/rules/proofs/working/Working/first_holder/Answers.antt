@@ -1,8 +1,8 @@
-use Rattle.std.proofs.Common.{◌≡◌, ◌<◌, ◌≤◌, ◌⊎◌, inl, inr, ◌∙◌, ℕ, Bool, true, false, get_or, length, ap, sym, refl, arith}
+use Rattle.std.proofs.Common.{◌≡◌, ◌<◌, ◌≤◌, ◌⊎◌, inl, inr, ◌∙◌, ℕ, Bool, true, false, ap, sym, refl, arith}
 use Rattle.std.specs.Prelude.{nat_lt, is_some}
 use Rattle.std.proofs.lemmas.Bool.Decides.{nat_tests}
 use Rattle.std.proofs.lemmas.List.{get_or_past}
-use Rattle.frames.specs.VerificationType.{type_of, top}
+use Rattle.frames.specs.VerificationType.{top}
 use Rattle.frames.specs.Holders.{number_of}
 use Rattle.frames.specs.Locals.{locals_in}
 use Rattle.rules.specs.Held.{IsHolder}

@@ -1,5 +1,4 @@
-use Rattle.std.proofs.Common.{◌≡◌, ◌∙◌, ℕ, Bool, List, [], ◌++◌, map, get_or, length, reverse, ap, sym}
-use Rattle.std.proofs.lemmas.List.{length-map}
+use Rattle.std.proofs.Common.{◌≡◌, ◌∙◌, Bool, List, ◌++◌, map, get_or, ap}
 use Rattle.frames.specs.declared.vtype.VType.{VType}
 use Rattle.frames.specs.VerificationType.{VerificationType, type_of, top}
 use Rattle.frames.specs.FrameFact.{FrameFact}

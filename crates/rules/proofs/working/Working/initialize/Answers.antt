@@ -1,10 +1,8 @@
 use Rattle.std.proofs.Common.{◌≡◌, ℕ, ◌+◌, Bool, List, map, sym, ap, subst, arith, ◌∙◌}
-use Rattle.std.specs.Vec.{with_items}
 use Rattle.std.proofs.lemmas.List.{with_items_is}
 use Rattle.frames.specs.declared.vtype.VType.{VType}
 use Rattle.frames.specs.VerificationType.{VerificationType, type_of, class}
 use Rattle.frames.specs.FrameFact.{FrameFact}
-use Rattle.frames.specs.Locals.{locals_in}
 use Rattle.frames.specs.Objects.{replaced}
 use Rattle.rules.specs.Views.{stack_of}
 use Rattle.rules.specs.Working.{IsCounted}

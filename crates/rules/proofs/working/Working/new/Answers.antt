@@ -1,4 +1,4 @@
-use Rattle.std.proofs.Common.{◌≡◌, ◌∙◌, List, [], ap}
+use Rattle.std.proofs.Common.{◌∙◌, List, [], ap}
 use Rattle.frames.specs.declared.vtype.VType.{VType}
 use Rattle.frames.specs.FrameFact.{FrameFact}
 use Rattle.frames.specs.VerificationType.{VerificationType}

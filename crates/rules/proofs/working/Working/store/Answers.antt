@@ -1,4 +1,4 @@
-use Rattle.std.proofs.Common.{◌∙◌, sym, ap, arith}
+use Rattle.std.proofs.Common.{arith}
 use Rattle.rules.proofs.HeldLocals.{locals_length}
 use Rattle.rules.proofs.working.Working.store.Goals as goal
 
