@@ -60,7 +60,7 @@ pub record RefusesCode (fault : CodeFault) (r : Result Verdict VerifyFault) : Ty
 abbrev pub Gives : verdicts.Verdict → Result Verdict VerifyFault → Type 0
 Gives v (Ok Verified) = v ≡ verified
 Gives v (Ok NoCode) = ⊥
-Gives v (Ok (Refused at reason)) = told_of v ≡ Some (at, reason_view reason)
+Gives v (Ok (Refused at why)) = told_of v ≡ Some (at, reason_view why)
 Gives v (Err faults.OutOfMemory) = Unit {0}
 Gives v (Err faults.NotInHierarchy) = ⊥
 
