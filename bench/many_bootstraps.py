@@ -1,11 +1,11 @@
-"""Class files with very many bootstrap methods, or very many static arguments of one, that methods use, for `bench/hostile`."""
+"""Class files with very many bootstrap methods, or one of very many static arguments, for `bench/hostile`."""
 import struct
 
 from long_texts import indices, utf8
 
 INVOKEDYNAMIC, RETURN = b"\xba", b"\xb1"
-# At 1 and 3 the class and its superclass, at 5 `()V`, at 6 and 7 the names of attributes, at 8 a method handle, at 10 the name and type of a call
-# site, at 11 a text; from 12 on come the names of methods, their descriptors and the call sites.
+# At 1 and 3 the class and its superclass, at 5 `()V`, at 6 and 7 the names of attributes, at 8 a method handle, at 10
+# the name and type of a call site, at 11 a text; from 12 on come the names of methods, their descriptors and the call sites.
 HANDLE, NAME_AND_TYPE, TEXT = 8, 10, 11
 HEAD = [
     indices(7, 2), utf8(b"K"), indices(7, 4), utf8(b"java/lang/Object"), utf8(b"()V"), utf8(b"Code"), utf8(b"BootstrapMethods"),
@@ -38,7 +38,7 @@ def entry(arguments):
 
 
 def class_file(entries, numbers, methods):
-    """A class with these bootstrap methods, with call sites of these numbers of them, and with methods that each call these call sites."""
+    """A class with these bootstrap methods, with call sites of these numbers of them, and for each method its call sites."""
     table = [
         *HEAD, *[utf8(name(i)) for i in range(NAMES)], *[utf8(descriptor(i * NAMES)) for i in range(DESCRIPTORS)],
         *[indices(18, it, NAME_AND_TYPE) for it in numbers],
@@ -78,6 +78,6 @@ def lines(count, verdict):
 FILES = {
     "65,000 methods that each use one of as many bootstrap methods of 90 arguments": (one_each, lines(METHODS, b"verified"), 0),
     "65,000 methods that use one bootstrap method of 65,535 arguments": (one_of_many_arguments, lines(METHODS, b"verified"), 0),
-    "the same where the last argument may not be loaded": (refused, lines(METHODS, b"refused 90 at 0"), 1),
+    "65,000 methods that use one whose last argument may not be loaded": (refused, lines(METHODS, b"refused 90 at 0"), 1),
     "13,000 calls in one method, each by one of as many bootstrap methods of 90 arguments": (calls_of_each, lines(1, b"verified"), 0),
 }

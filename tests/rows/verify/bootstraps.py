@@ -1,5 +1,5 @@
-"""Classes whose BootstrapMethods attribute is asked by `invokedynamic`, `ldc`, `ldc_w` and `ldc2_w`, and what `classck verify`, `play` and `explain`
-say of each, with --dynamic and without: JVMS 4.4.10, 4.7.23 and table 4.4-C."""
+"""Classes with bootstrap methods that `invokedynamic`, `ldc`, `ldc_w` and `ldc2_w` use, and what `classck verify`, `play`
+and `explain` say of each, with --dynamic and without: JVMS 4.4.10, 4.7.23 and table 4.4-C."""
 from dataclasses import replace
 
 from rows.known import KNOWN_OF_CALL_SITES
@@ -17,8 +17,8 @@ USES = (
     ("()V 2 0", "ldc2_w [computed J {}]; pop2; return"),
 )
 REFUSED = "refused 90 at 0"
-# The attributes of the class: the entries of each, as Constants.bootstraps takes them, with `+` between attributes and bytes in brackets behind
-# entries; the number that is asked, and the verdict of each use with --dynamic.
+# The attributes of the class: the entries of each, as Constants.bootstraps takes them, with `+` between attributes and
+# bytes in brackets behind entries; the number that is asked, and the verdict of each use with --dynamic.
 ROWS = f"""
 # the class has exactly one such attribute
 no attribute | 0 | {REFUSED}
@@ -76,15 +76,15 @@ handle: text A, int, int | 0 | {REFUSED}
 handle: int, text A, int | 0 | {REFUSED}
 handle: int, int, text A | 0 | {REFUSED}
 class A: int | 0 | {REFUSED}
-# of the other entries nothing is asked
+# nothing is asked of the other entries
 class A; handle | 1 | verified
 handle; handle: text A | 0 | verified
 handle; class A | 1 | {REFUSED}
 handle: int; handle: 0; handle: int | 1 | {REFUSED}
 """
 
-# Of one instruction that breaks several conditions. The attributes; descriptor, max_stack and max_locals; code; the stack map and an entry of the
-# exception table, by words, where there are any; verdict with --dynamic, and without.
+# Instructions that break several conditions. The attributes; descriptor, max_stack and max_locals; code; the stack map and
+# an entry of the exception table, by words, where there are any; verdict with --dynamic, and without.
 IN_ORDER = """
 # 66 goes before 90: another constant, another width, and names that are none of a call site
 no attribute | ()J 2 0 | ldc [computed J]; lreturn | | refused 66 at 0 | refused 60 at 0
@@ -114,7 +114,7 @@ no attribute | ()V 1 0 | invokedynamic [site f ()V] 0 0; return; pop; return | 6
 no attribute | ()V 1 0 | invokedynamic [site f ()V] 0 0; return; pop; return | 6 same1 class D entry 0 5 6 any | refused 77 at 0 missing D | refused 60 at 0
 no attribute | ()V 1 0 | invokedynamic [site f ()V] 0 0; return; pop; return | 6 same1 class java/lang/Throwable entry 0 5 6 any | refused 90 at 0 | refused 60 at 0
 handle | ()V 1 0 | invokedynamic [site f ()V] 0 0; return; pop; return | 6 same1 class java/lang/Throwable entry 0 5 6 any | verified | refused 60 at 0
-# what control does not reach, and the first instruction that is at fault
+# code that control does not reach, and the first instruction that is at fault
 no attribute | ()V 0 0 | return; invokedynamic [site f ()V] 0 0; return | | refused 70 at 1 | refused 70 at 1
 no attribute | ()V 0 0 | return; invokedynamic [site f ()V] 0 0; return | 1 same | refused 90 at 1 | refused 60 at 1
 no attribute | ()V 0 0 | pop; invokedynamic [site f ()V] 0 0; return | | refused 61 at 0 | refused 61 at 0
@@ -125,8 +125,8 @@ class A: 0 | ()I 1 0 | ldc [int]; ireturn | | verified | verified
 handle + handle | ()Ljava/lang/invoke/MethodHandle; 1 0 | ldc [handle]; areturn | | verified | verified
 """
 
-# The attributes; descriptor, max_stack and max_locals; code; the lines of `explain --dynamic`. The frame before the instruction is that of a static
-# method behind the instructions in front of it.
+# The attributes; descriptor, max_stack and max_locals; code; the lines of `explain --dynamic`. The frame before the
+# instruction is that of a static method behind the instructions in front of it.
 EXPLAINED = """
 no attribute | ()V 0 0 | invokedynamic [site f ()V] 0 0; return | method f ()V refused 90 at 0 | SENTENCE | stack 0 locals 0 | 0 invokedynamic #11 | constant 11 InvokeDynamic 0 #10 f ()V | locals | stack
 handle | (I)V 3 1 | iload_0; ldc2_w [computed J 1]; pop2; pop; return | method f (I)V refused 90 at 1 | SENTENCE | stack 3 locals 1 | 1 ldc2_w #11 | constant 11 Dynamic 1 #10 d J | locals int | stack int
@@ -170,7 +170,8 @@ def class_of(attributes, sizes, code, parts=""):
 
 
 def in_two_methods():
-    """A class whose first method asks for its first bootstrap method, and whose second one for its second, which names a text."""
+    """A class whose first and third method use its first bootstrap method, and whose second one its second, which names a
+    text."""
     constants = Constants("()V")
     methods = [
         member(STATIC, constants.text(name), 6, code_attribute(7, assembled(f"invokedynamic [site f ()V {number}] 0 0; return", constants)))

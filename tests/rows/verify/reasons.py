@@ -12,7 +12,7 @@ from tools.stack_maps import stack_map_of
 
 PAGE = DOCS / "REFUSALS.md"
 NUMBERS = [*range(60, 80), 82, 90]
-# Those that --dynamic alone tells.
+# Numbers that --dynamic alone tells.
 OF_DYNAMIC = {90}
 
 
@@ -86,7 +86,8 @@ def dumped():
 
 
 def reasons(dynamic=False):
-    """Each example that is told without --dynamic, or those that are told with it alone: the files of the class that has it alone, and the line of it."""
+    """Each example that is told without --dynamic, or each that is told with it alone: its name, the files of the class that
+    has it alone, and the line of it."""
     for number, words, code, parts, told in rows():
         if (int(number) in OF_DYNAMIC) != dynamic:
             continue
