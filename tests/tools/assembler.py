@@ -120,6 +120,11 @@ def code_attribute(name, code, stack=0, variables=0, handlers=(), nested=(), len
     return attribute(name, u2(stack) + u2(variables) + u4(len(code)) + code + listed(table) + listed(nested), length)
 
 
+def bootstrap_method(handle, arguments=()):
+    """An entry of a BootstrapMethods attribute: the indices of its method handle and of its static arguments."""
+    return u2(handle) + listed([u2(it) for it in arguments])
+
+
 def member(flags, name, descriptor, *attributes):
     """A field or a method."""
     return u2(flags) + u2(name) + u2(descriptor) + listed(attributes)

@@ -65,7 +65,8 @@ def dynamic():
         descriptor, stack, variables = sizes.split()
         constants = Constants(descriptor)
         method = method_f(code_f(assembled(code, constants), stack=int(stack), variables=int(variables)), flags=STATIC)
-        files = [replace(K, constants=constants.items, methods=[method], major=55).data(), *KNOWN_OF_CALL_SITES]
+        attributes = [constants.bootstraps()]
+        files = [replace(K, constants=constants.items, methods=[method], attributes=attributes, major=55).data(), *KNOWN_OF_CALL_SITES]
         for command, verdict in (("verify --dynamic", judged), ("verify", refused)):
             yield f"{sizes} {code}", command, files, f"method f {descriptor} {verdict}"
             alone = "play verified" if verdict == "verified" else f"class 1 method f {descriptor} {verdict}"

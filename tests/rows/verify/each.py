@@ -1,4 +1,5 @@
 """Classes judged one by one in one process, and what `classck verify-each` says of them: JVMS 4.1, 4.10.1 and 5.3.5."""
+from rows.verify.bootstraps import bootstraps
 from rows.verify.dynamic import dynamic
 from rows.verify.play import ABSENT, BELOW, EVEN, LAST, NOP, ODD, SECOND, class_of
 from tools.assembler import OBJECT, named
@@ -62,6 +63,6 @@ def each():
     """A name for each row, the words of the command, the files, those of the known classes, and the text."""
     for what, files, known, text in ROWS:
         yield what, ["verify-each"], files, known, text
-    for what, command, files, line in dynamic():
+    for what, command, files, lines in (*dynamic(), *bootstraps()):
         if command.startswith("verify"):
-            yield what, command.replace("verify", "verify-each").split(), files[:1], files[1:], told(("K", line))
+            yield what, command.replace("verify", "verify-each").split(), files[:1], files[1:], told(("K", *lines.split("\n")))

@@ -11,7 +11,9 @@ from tools.places import DOCS
 from tools.stack_maps import stack_map_of
 
 PAGE = DOCS / "REFUSALS.md"
-NUMBERS = [*range(60, 80), 82]
+NUMBERS = [*range(60, 80), 82, 90]
+# Numbers that --dynamic alone tells.
+OF_DYNAMIC = {90}
 
 
 def table(heading):
@@ -83,9 +85,12 @@ def dumped():
     return data if is_placed else None
 
 
-def reasons():
-    """Each example, the files of the class that has it alone, and the line of it."""
+def reasons(dynamic=False):
+    """Each example that is told without --dynamic, or each that is told with it alone: its name, the files of the class that
+    has it alone, and the line of it."""
     for number, words, code, parts, told in rows():
+        if (int(number) in OF_DYNAMIC) != dynamic:
+            continue
         name, descriptor, stack, variables = words.split()
         body, _, entry = (it.strip() for it in parts.partition("entry"))
         constants = Constants(descriptor, name)

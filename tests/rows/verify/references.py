@@ -2,7 +2,7 @@
 from dataclasses import replace
 
 from rows.known import KNOWN
-from tools.assembler import STATIC, class_info, code_of, integer, name_and_type, reference, u1, u2, utf8
+from tools.assembler import STATIC, attribute, bootstrap_method, class_info, code_of, integer, listed, name_and_type, reference, u1, u2, utf8
 from tools.class_k import K, code_f, method_f, with_constant
 
 # Descriptor, max_stack and max_locals; code, in which words in brackets are constants; verdict.
@@ -218,14 +218,26 @@ class Constants:
         return self.put(class_info(self.text(name)))
 
     def member(self, tag, owner, name, descriptor):
-        return self.put(reference(tag, self.owner(owner), self.put(name_and_type(self.text(name), self.text(descriptor)))))
+        return self.put(reference(tag, self.owner(owner), self.named_and_typed(name, descriptor)))
 
-    def dynamic(self, tag, name, descriptor):
-        return self.put(reference(tag, 0, self.put(name_and_type(self.text(name), self.text(descriptor)))))
+    def named_and_typed(self, name, descriptor):
+        return self.put(name_and_type(self.text(name), self.text(descriptor)))
+
+    def dynamic(self, tag, name, descriptor, bootstrap="0"):
+        return self.put(reference(tag, int(bootstrap), self.named_and_typed(name, descriptor)))
+
+    def bootstraps(self, words="handle", behind=b""):
+        """A BootstrapMethods attribute of these entries, and bytes behind them. Entries stand between semicolons, each as the
+        words of its method handle and, behind a colon, those of its static arguments."""
+        entries = [it.partition(":") for it in words.split(";") if it.strip()]
+        methods = [bootstrap_method(self.named(handle), [self.named(it) for it in arguments.split(",") if it]) for handle, _, arguments in entries]
+        return attribute(self.text("BootstrapMethods"), listed(methods) + behind)
 
     def named(self, words):
-        """The index of the constant that these words name."""
+        """The index of the constant that these words name. Digits are an index."""
         kind, *parts = words.split()
+        if kind.isdigit():
+            return int(kind)
         if kind == "class":
             return self.owner(*parts)
         if kind in ("field", "method", "interface"):
@@ -234,11 +246,16 @@ class Constants:
             return self.dynamic(18, *parts)
         if kind == "computed":
             return self.dynamic(17, "d", *parts)
+        if kind == "text":
+            return self.text(*parts)
+        if kind == "name_and_type":
+            return self.named_and_typed(*parts)
         return self.put(
             {
                 "int": lambda: integer(1),
                 "float": lambda: u1(4) + bytes(4),
                 "long": lambda: u1(5) + bytes(8),
+                "double": lambda: u1(6) + bytes(8),
                 "string": lambda: u1(8) + u2(self.text("K")),
                 "method_type": lambda: u1(16) + u2(self.text("()V")),
                 "handle": lambda: u1(15) + u1(6) + u2(self.member(10, "A", "f", "()V")),
