@@ -49,15 +49,15 @@ f (I)V 0 1 | pop; return | 0 full [top] [] | | 61 at 0 | 0 pop / locals / stack
 f (LC;)V 0 1 | pop; return | 0 full [class A] [] | | 61 at 0 | 0 pop / locals Class A / stack
 # and goes on from there
 f (LC;)V 1 1 | nop; aload_0; ireturn | 1 full [class A] [] | | 76 at 2 | 2 ireturn / locals Class A / stack Class A
-# of 69 the frame that comes stands in front of the one that is declared
+# for 69 the frame that comes stands in front of the one that is declared
 f (I)V 0 1 | return | 0 full [float] [] | | 69 at 0 | 0 return / locals int / stack / declared locals float / declared stack
 f ()V 1 0 | iconst_0; return | 1 same | | 69 at 1 | 1 return / locals / stack int / declared locals / declared stack
 f (LA;)V 2 2 | iconst_0; fconst_0; pop2; return | 2 full [top, int] [null, float] | | 69 at 2 | 2 pop2 / locals Class A / stack int, float / declared locals top, int / declared stack null, float
 <init> ()V 0 1 | return | 0 full [top] [] | | 69 at 0 | 0 return / locals uninitializedThis / stack / flags flagThisUninit / declared locals / declared stack
 <init> (I)V 1 2 | iload_1; ifeq 7; aload_0; invokespecial [method java/lang/Object <init> ()V]; return | 8 full [uninitializedThis, int] [] | | 69 at 8 | 8 return / locals Class K, int / stack / declared locals uninitializedThis, int / declared stack / declared flags flagThisUninit
-# of 77 only the frame before the instruction, also where the two were compared
+# for 77 only the frame before the instruction, also where the two were compared
 f (LA;)V 0 1 | nop; return | 1 full [class B] [] | | 77 at 1 missing B | 1 return / locals Class B / stack
-# of 68 the frame before the branch
+# for 68 the frame before the branch
 f (I)V 1 1 | iload_0; ifeq 3; return | 4 full [float] [] | | 68 at 1 | 1 ifeq 4 / locals int / stack int
 # in front of the exception table
 f (I)V 1 1 | fconst_0; fstore_0; return; pop; return | 3 same1 class java/lang/Throwable | 0 3 3 any | 73 at 2 | 2 return / locals float / stack / catch 0 3 3 any
