@@ -1,4 +1,4 @@
-"""Class files whose methods are refused in large frames, or in very many, and what `explain` prints, for `bench/hostile`."""
+"""Class files whose methods are refused in large frames, and what `explain` prints of them, for `bench/hostile`."""
 import struct
 
 from class_bytes import POOL, class_file, method, stack_map, utf8

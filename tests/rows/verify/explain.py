@@ -134,8 +134,8 @@ CONSTANTS = [
 
 
 def constants():
-    """A method that makes an object of the constant of each kind, and what is explained of it: all but one are no class.
-    It has no locals, and nothing is on the stack."""
+    """A method that makes an object of the constant of each kind, and what is explained of it: all but one are no
+    class. It has no locals, and nothing is on the stack."""
     k = replace(with_constants(*(it for it, _ in CONSTANTS if it)), major=55)
     for index, (_, kind) in enumerate(CONSTANTS, 8):
         if not kind.startswith("Class"):
