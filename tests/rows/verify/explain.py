@@ -5,29 +5,31 @@ from rows.verify.reasons import faults, reasons
 from tools.assembler import class_info, code_of, integer, long, name_and_type, reference, u1, u2, u4, utf8
 from tools.class_k import K, OBJECT_CLASS, code_f, method_f, with_constants
 
-# For each method: its lines, with `|` between them.
+# For each method: its lines, with `|` between them. Its frames are built from its code in docs/REFUSALS.md: the
+# parameters of its descriptor are in the locals, and the instructions in front have put their values on the stack. No
+# frame comes to the instruction of 70, and 78 and 79 are told before there are frames.
 METHODS = """
-method f ()V refused 60 at 0 | 60 NotSupported: the instruction is jsr, jsr_w or ret, or one that only --dynamic judges | stack 0 locals 0 | 0 jsr 3
-method f ()V refused 61 at 0 | 61 MissingOperand: the stack holds fewer operands than the instruction takes | stack 0 locals 0 | 0 pop
-method f ()LA; refused 62 at 3 | 62 WrongOperand: an operand is of another type than the instruction takes | stack 1 locals 0 | 3 areturn
-method f (F)V refused 63 at 0 | 63 WrongLocal: the local variable that the instruction reads is of another type | stack 1 locals 2 | 0 iload_0
-method f (F)V refused 64 at 0 | 64 LocalOutOfRange: the local variable, or at 0 the receiver with the parameters, passes max_locals | stack 1 locals 2 | 0 iload_2
-method f ()V refused 65 at 1 | 65 StackOver: the stack after the instruction passes max_stack | stack 1 locals 0 | 1 iconst_0
-method f ()V refused 66 at 0 | 66 WrongConstant: the constant, or the byte, is none that the instruction may have | stack 1 locals 0 | 0 new #8 | constant 8 Integer
-method f ()V refused 67 at 0 | 67 NoFrameAtTarget: the stack map declares no frame at a target of the instruction | stack 0 locals 0 | 0 goto 3
-method f ()LA; refused 68 at 1 | 68 NotAssignableAtTarget: the frame after the instruction is not assignable to the one that is declared at a target | stack 1 locals 0 | 1 goto 4
-method f ()V refused 69 at 1 | 69 NotAssignable: the frame that comes to the instruction is not assignable to the one that is declared there | stack 1 locals 0 | 1 return
+method f ()V refused 60 at 0 | 60 NotSupported: the instruction is jsr, jsr_w or ret, or one that only --dynamic judges | stack 0 locals 0 | 0 jsr 3 | locals | stack
+method f ()V refused 61 at 0 | 61 MissingOperand: the stack holds fewer operands than the instruction takes | stack 0 locals 0 | 0 pop | locals | stack
+method f ()LA; refused 62 at 3 | 62 WrongOperand: an operand is of another type than the instruction takes | stack 1 locals 0 | 3 areturn | locals | stack uninitialized(0)
+method f (F)V refused 63 at 0 | 63 WrongLocal: the local variable that the instruction reads is of another type | stack 1 locals 2 | 0 iload_0 | locals float | stack
+method f (F)V refused 64 at 0 | 64 LocalOutOfRange: the local variable, or at 0 the receiver with the parameters, passes max_locals | stack 1 locals 2 | 0 iload_2 | locals float | stack
+method f ()V refused 65 at 1 | 65 StackOver: the stack after the instruction passes max_stack | stack 1 locals 0 | 1 iconst_0 | locals | stack int
+method f ()V refused 66 at 0 | 66 WrongConstant: the constant, or the byte, is none that the instruction may have | stack 1 locals 0 | 0 new #8 | constant 8 Integer | locals | stack
+method f ()V refused 67 at 0 | 67 NoFrameAtTarget: the stack map declares no frame at a target of the instruction | stack 0 locals 0 | 0 goto 3 | locals | stack
+method f ()LA; refused 68 at 1 | 68 NotAssignableAtTarget: the frame after the instruction is not assignable to the one that is declared at a target | stack 1 locals 0 | 1 goto 4 | locals | stack int
+method f ()V refused 69 at 1 | 69 NotAssignable: the frame that comes to the instruction is not assignable to the one that is declared there | stack 1 locals 0 | 1 return | locals | stack int | declared locals | declared stack
 method f ()V refused 70 at 1 | 70 NoFrame: the instruction before never goes on, and the stack map declares no frame here | stack 0 locals 0 | 1 nop
-method f ()V refused 71 at 0 | 71 FallsOff: the last instruction of the code goes on | stack 0 locals 0 | 0 nop
-method f ()V refused 72 at 0 | 72 BadException: an entry of the exception table has a wrong range or handler, or catches what is no Throwable | stack 1 locals 0 | 0 return | catch 0 0 1 any
-method f ()I refused 73 at 1 | 73 HandlerNotAssignable: the frame before the instruction is not assignable to the one that is declared at a handler which covers it | stack 1 locals 1 | 1 istore_0 | catch 1 2 4 any
-method <init> ()V refused 74 at 0 | 74 OwnObjectNotReady: the constructor returns before its own object is initialized | stack 0 locals 1 | 0 return
-method <init> ()V refused 75 at 1 | 75 ConstructorCovered: an entry of the exception table covers the call of a constructor on the own object | stack 1 locals 1 | 1 invokespecial #13 | constant 13 Methodref #9 #12 java/lang/Object <init> ()V | catch 0 4 5 any
-method f ()I refused 76 at 0 | 76 WrongReturn: the return is of another kind than the result of the method | stack 1 locals 0 | 0 return
-method f (LA;)LB; refused 77 at 1 missing B | 77 ClassMissing: a comparison of types needs the class of this name, which is not among the files | stack 1 locals 1 | 1 areturn
+method f ()V refused 71 at 0 | 71 FallsOff: the last instruction of the code goes on | stack 0 locals 0 | 0 nop | locals | stack
+method f ()V refused 72 at 0 | 72 BadException: an entry of the exception table has a wrong range or handler, or catches what is no Throwable | stack 1 locals 0 | 0 return | locals | stack | catch 0 0 1 any
+method f ()I refused 73 at 1 | 73 HandlerNotAssignable: the frame before the instruction is not assignable to the one that is declared at a handler which covers it | stack 1 locals 1 | 1 istore_0 | locals | stack int | catch 1 2 4 any
+method <init> ()V refused 74 at 0 | 74 OwnObjectNotReady: the constructor returns before its own object is initialized | stack 0 locals 1 | 0 return | locals uninitializedThis | stack | flags flagThisUninit
+method <init> ()V refused 75 at 1 | 75 ConstructorCovered: an entry of the exception table covers the call of a constructor on the own object | stack 1 locals 1 | 1 invokespecial #13 | constant 13 Methodref #9 #12 java/lang/Object <init> ()V | locals uninitializedThis | stack uninitializedThis | flags flagThisUninit | catch 0 4 5 any
+method f ()I refused 76 at 0 | 76 WrongReturn: the return is of another kind than the result of the method | stack 1 locals 0 | 0 return | locals | stack
+method f (LA;)LB; refused 77 at 1 missing B | 77 ClassMissing: a comparison of types needs the class of this name, which is not among the files | stack 1 locals 1 | 1 areturn | locals Class A | stack Class A
 method f ()V refused 78 at 0 fault 2 | 78 BadStackMap: the stack map is refused | 2 EndsEarly: the stack map ends within an entry | stack 0 locals 0 | 0 return
 method f ()V refused 79 at 1 fault 31 | 79 BadCode: the code is refused at this instruction | 31 BadOpcode: the byte is no opcode | stack 0 locals 0
-method f (LA;)V refused 82 at 1 | 82 ProtectedMember: a protected member of another package is used on an object that is not assignable to the current class | stack 1 locals 1 | 1 invokevirtual #13 | constant 13 Methodref #9 #12 java/lang/Object clone ()Ljava/lang/Object;
+method f (LA;)V refused 82 at 1 | 82 ProtectedMember: a protected member of another package is used on an object that is not assignable to the current class | stack 1 locals 1 | 1 invokevirtual #13 | constant 13 Methodref #9 #12 java/lang/Object clone ()Ljava/lang/Object; | locals Class A | stack Class A
 """
 
 # For a file, for lists of classes, for code (behind 79) and for stack maps (behind 78): the name of the number, and what it says.
@@ -86,6 +88,7 @@ PARTS = {
     30: ["method 0009 f ()V"],
 }
 OF_CONSTANT = ["method f ()V refused 66 at 0", "66 WrongConstant: the constant, or the byte, is none that the instruction may have", "stack 1 locals 0"]
+EMPTY = ["locals", "stack"]
 OF_NUMBER = {int(it.split()[0]): it for it in SENTENCES.strip().splitlines()}
 
 
@@ -131,15 +134,16 @@ CONSTANTS = [
 
 
 def constants():
-    """A method that makes an object of the constant of each kind, and what is explained of it: all but one are no class."""
+    """A method that makes an object of the constant of each kind, and what is explained of it: all but one are no
+    class. It has no locals, and nothing is on the stack."""
     k = replace(with_constants(*(it for it, _ in CONSTANTS if it)), major=55)
     for index, (_, kind) in enumerate(CONSTANTS, 8):
         if not kind.startswith("Class"):
             data = replace(k, methods=[method_f(code_f(code_of(f"new {index}; return"), stack=1))]).data()
-            yield f"a {kind.split()[0]} constant", [data, OBJECT_CLASS], text([*OF_CONSTANT, f"0 new #{index}", f"constant {index} {kind}"])
+            yield f"a {kind.split()[0]} constant", [data, OBJECT_CLASS], text([*OF_CONSTANT, f"0 new #{index}", f"constant {index} {kind}", *EMPTY])
     for index in (0, 99):
         data = replace(k, methods=[method_f(code_f(code_of(f"new {index}; return"), stack=1))]).data()
-        yield f"no constant at {index}", [data, OBJECT_CLASS], text([*OF_CONSTANT, f"0 new #{index}"])
+        yield f"no constant at {index}", [data, OBJECT_CLASS], text([*OF_CONSTANT, f"0 new #{index}", *EMPTY])
 
 
 def explained():

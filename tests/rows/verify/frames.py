@@ -1,0 +1,130 @@
+"""The frames that `classck explain` prints behind an instruction: JVMS 4.10.1.2, 4.10.1.4 and 4.10.1.6."""
+from dataclasses import replace
+
+from rows.known import KNOWN
+from rows.verify.explain import METHODS, text
+from rows.verify.handlers import handler
+from rows.verify.references import Constants, assembled
+from tools.assembler import STATIC, attribute, code_of, member, utf8
+from tools.class_k import CONSTANTS, K, OBJECT_CLASS, code_f, method_f
+from tools.stack_maps import stack_map_of
+
+# A method: its name (f is static, g is not), descriptor, max_stack and max_locals; its code, in which words in
+# brackets are constants; a stack map by words; an entry of the exception table; what is told; and the lines behind the
+# sizes, with `/` between them. The known classes are those of rows/known.py: C is below A, and B is absent.
+ROWS = """
+# locals: the parameters, each by its type; a long or a double is followed by top
+f (IFJDLA;[I[[LA;)V 0 9 | pop; return | | | 61 at 0 | 0 pop / locals int, float, long, top, double, top, Class A, Class [I, Class [[LA; / stack
+f (ZBCS)V 0 4 | pop; return | | | 61 at 0 | 0 pop / locals int, int, int, int / stack
+f ([Z[B[C[S[J[F[D)V 0 7 | pop; return | | | 61 at 0 | 0 pop / locals Class [Z, Class [B, Class [C, Class [S, Class [J, Class [F, Class [D / stack
+f ([[[[D[[[LB;)V 0 2 | pop; return | | | 61 at 0 | 0 pop / locals Class [[[[D, Class [[[LB; / stack
+# names with the escapes of all names
+f (LA\\;[LA\\;)V 0 2 | pop; return | | | 61 at 0 | 0 pop / locals Class A\\u005c, Class [LA\\u005c; / stack
+# null, and an object by the offset of its `new` (0 is of the first, 4 of the second) until its constructor has returned
+f ()V 1 2 | aconst_null; astore_0; new [class A]; astore_1; pop; return | | | 61 at 6 | 6 pop / locals null, uninitialized(2) / stack
+f ()V 1 1 | new [class A]; astore_0; new [class A]; areturn | | | 76 at 7 | 7 areturn / locals uninitialized(0) / stack uninitialized(4)
+f ()V 2 1 | new [class A]; dup; astore_0; invokespecial [method A <init> ()V]; pop; return | | | 61 at 8 | 8 pop / locals Class A / stack
+f ()V 2 1 | return; new [class A]; aload_0; pop; pop; return | 1 append uninitialized 1 | | 63 at 4 | 4 aload_0 / locals / stack uninitialized(1)
+# the own object: uninitialized in a constructor until another one has returned, and then of the class K; so it is in g
+<init> ()V 0 1 | pop; return | | | 61 at 0 | 0 pop / locals uninitializedThis / stack / flags flagThisUninit
+<init> ()V 1 1 | aload_0; invokespecial [method java/lang/Object <init> ()V]; pop; return | | | 61 at 4 | 4 pop / locals Class K / stack
+<init> ()V 1 1 | aconst_null; astore_0; return | | | 74 at 2 | 2 return / locals null / stack / flags flagThisUninit
+g (I)V 0 2 | pop; return | | | 61 at 0 | 0 pop / locals Class K, int / stack
+# top in front of a local that is set, and none behind the last that is
+f ()V 1 4 | iconst_0; istore_2; pop; return | | | 61 at 2 | 2 pop / locals top, top, int / stack
+f ()V 2 4 | lconst_0; lstore_1; pop; return | | | 61 at 2 | 2 pop / locals top, long / stack
+f (J)V 1 2 | iconst_0; istore_0; pop; return | | | 61 at 2 | 2 pop / locals int / stack
+f (J)V 1 2 | iconst_0; istore_1; pop; return | | | 61 at 2 | 2 pop / locals top, int / stack
+f ()V 0 3 | return; pop; return | 1 append top, int | | 61 at 1 | 1 pop / locals top, int / stack
+f (I)V 0 1 | return; pop; return | 1 full [top] [] | | 61 at 1 | 1 pop / locals / stack
+f ()V 0 4 | pop; return | | | 61 at 0 | 0 pop / locals / stack
+# the stack from the bottom up; a long and a double is one item there, and top is told
+f ()V 8 0 | iconst_0; fconst_0; lconst_0; dconst_0; aconst_null; new [class A]; athrow | | | 62 at 8 | 8 athrow / locals / stack int, float, long, double, null, uninitialized(5)
+f (LA;[[J)V 2 2 | aload_0; aload_1; iadd; pop; return | | | 62 at 2 | 2 iadd / locals Class A, Class [[J / stack Class A, Class [[J
+f ()V 2 0 | return; pop; return | 1 full [] [int, top] | | 62 at 1 | 1 pop / locals / stack int, top
+# the frame that is declared at an instruction is the one before it, whether none comes or one that is assignable to it
+f (I)V 0 1 | return; pop; return | 1 same | | 61 at 1 | 1 pop / locals int / stack
+f (I)V 0 1 | nop; pop; return | 1 chop 1 | | 61 at 1 | 1 pop / locals / stack
+f (I)V 0 1 | pop; return | 0 full [top] [] | | 61 at 0 | 0 pop / locals / stack
+f (LC;)V 0 1 | pop; return | 0 full [class A] [] | | 61 at 0 | 0 pop / locals Class A / stack
+# and goes on from there
+f (LC;)V 1 1 | nop; aload_0; ireturn | 1 full [class A] [] | | 76 at 2 | 2 ireturn / locals Class A / stack Class A
+# for 69 the frame that comes stands in front of the one that is declared
+f (I)V 0 1 | return | 0 full [float] [] | | 69 at 0 | 0 return / locals int / stack / declared locals float / declared stack
+f ()V 1 0 | iconst_0; return | 1 same | | 69 at 1 | 1 return / locals / stack int / declared locals / declared stack
+f (LA;)V 2 2 | iconst_0; fconst_0; pop2; return | 2 full [top, int] [null, float] | | 69 at 2 | 2 pop2 / locals Class A / stack int, float / declared locals top, int / declared stack null, float
+<init> ()V 0 1 | return | 0 full [top] [] | | 69 at 0 | 0 return / locals uninitializedThis / stack / flags flagThisUninit / declared locals / declared stack
+<init> (I)V 1 2 | iload_1; ifeq 7; aload_0; invokespecial [method java/lang/Object <init> ()V]; return | 8 full [uninitializedThis, int] [] | | 69 at 8 | 8 return / locals Class K, int / stack / declared locals uninitializedThis, int / declared stack / declared flags flagThisUninit
+# for 77 only the frame before the instruction, also where the two were compared
+f (LA;)V 0 1 | nop; return | 1 full [class B] [] | | 77 at 1 missing B | 1 return / locals Class B / stack
+# for 68 the frame before the branch
+f (I)V 1 1 | iload_0; ifeq 3; return | 4 full [float] [] | | 68 at 1 | 1 ifeq 4 / locals int / stack int
+# in front of the exception table
+f (I)V 1 1 | fconst_0; fstore_0; return; pop; return | 3 same1 class java/lang/Throwable | 0 3 3 any | 73 at 2 | 2 return / locals float / stack / catch 0 3 3 any
+f (I)V 1 1 | nop; return; pop; return | 2 same1 class java/lang/Throwable | 1 1 2 any | 72 at 0 | 0 nop / locals int / stack / catch 1 1 2 any
+# none where control does not come and none is declared, and where the parameters do not fit
+f (I)V 0 1 | return; nop; return | | | 70 at 1 | 1 nop
+f (I)V 0 1 | goto 4; nop; return | 4 same | | 70 at 3 | 3 nop
+f (J)V 0 1 | return | | | 64 at 0 | 0 return
+"""
+# Classes of several methods ()V, each by its code and its max_locals. `told` stands behind a method of which frames are
+# printed: the frames of the methods in front of it have fewer than 65,536 types. All locals count, also those that are
+# top, and so does each item of the stack.
+BOUNDED = """
+pop 65535 told; pop 0 told; pop 1 told; pop 0; pop 5
+pop 65535 told; pop 65535 told; pop 0
+pop 65534 told; pop 1 told; pop 0 told
+return 65535; pop 65535 told; pop 1 told; pop 0
+dead 65535; pop 65535 told; pop 1 told; pop 0
+entry 32767 told; pop 1 told; pop 0
+entry 32767 told; entry 0 told; entry 0
+"""
+# By the name of a code: its instructions, the frames that its stack map declares, what is told, the instruction there,
+# and the lines of its frames. `pop` has one frame; `entry` has two, with one item on the stack of the first.
+CODES = {
+    "pop": ("pop; return", "", "61 at 0", "0 pop", "locals / stack"),
+    "return": ("return", "", "", "", ""),
+    "dead": ("return; nop; return", "", "70 at 1", "1 nop", ""),
+    "entry": ("iconst_0; return", "1 same", "69 at 1", "1 return", "locals / stack int / declared locals / declared stack"),
+}
+SENTENCES = {int(it.split()[0]): it.strip() for it in (line.split("|")[1] for line in METHODS.strip().splitlines())}
+
+
+def rows():
+    """The rows of the table, each with its name and the text whole."""
+    for line in ROWS.strip().splitlines():
+        if line.startswith("#"):
+            continue
+        head, code, body, entry, told, lines = (it.strip() for it in line.split("|"))
+        name, descriptor, stack, variables = head.split()
+        constants = Constants(descriptor, name)
+        data = assembled(code, constants)
+        nested = [attribute(constants.text("StackMapTable"), stack_map_of(body, constants.owner))] if body else []
+        handlers = [handler(entry, constants)] if entry else []
+        attributes = code_f(data, stack=int(stack), variables=int(variables), handlers=handlers, nested=nested)
+        k = replace(K, constants=constants.items, methods=[method_f(attributes, flags=STATIC if name == "f" else 0)])
+        first = f"method {name} {descriptor} refused {told}".replace("\\", "\\u005c")
+        sizes = f"stack {stack} locals {variables}"
+        yield f"{head} {code} {body}", [k.data(), *KNOWN], text([first, SENTENCES[int(told.split()[0])], sizes, *lines.split(" / ")])
+
+
+def bounded():
+    """The classes of several methods, each with the text whole."""
+    for row in BOUNDED.strip().splitlines():
+        constants, methods, said = [*CONSTANTS, utf8("StackMapTable")], [], ""
+        for number, words in enumerate(row.split("; ")):
+            kind, count, *is_told = words.split()
+            code, body, told, line, frames = CODES[kind]
+            constants.append(utf8(f"m{number}"))
+            nested = [attribute(len(CONSTANTS) + 1, stack_map_of(body, None))] if body else []
+            methods.append(member(STATIC, len(constants), 6, code_f(code_of(code), stack=1, variables=int(count), nested=nested)))
+            if told:
+                lines = [line, *(frames.split(" / ") if is_told else [])]
+                said += text([f"method m{number} ()V refused {told}", SENTENCES[int(told.split()[0])], f"stack 1 locals {count}", *lines])
+        yield f"frames of {row}", [replace(K, constants=constants, methods=methods).data(), OBJECT_CLASS], said
+
+
+def framed():
+    """Each row: what it is, the files, and the whole text that `explain` prints."""
+    yield from rows()
+    yield from bounded()
