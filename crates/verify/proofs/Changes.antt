@@ -1,11 +1,11 @@
 -- A local that is given a type, and the entries that were compared before.
-use Rattle.std.proofs.Common.{◌≡◌, ◌∙◌, ◌⊎◌, inl, inr, ℕ, zero, suc, Bool, true, false, List, [], ◌∷◌, ◌++◌, length, get_or, set, Option, Some, None, refl, sym, ap, subst, arith, append_assoc}
+use Rattle.std.proofs.Common.{◌≡◌, ◌∙◌, ◌⊎◌, inl, inr, ℕ, zero, suc, List, [], ◌∷◌, ◌++◌, length, get_or, set, Option, Some, None, refl, sym, ap, subst, arith, append_assoc}
 use Rattle.std.specs.Prelude.{All, Contains, IfSome}
 use Rattle.std.proofs.lemmas.List.{get_or_default}
-use Rattle.std.proofs.lemmas.List.Elements.{All-nil, All-push, All-append, All-pop, All-contains, Contains-append_left, Contains-append_right, Contains-append_cases, Contains-push, Contains-push_cases}
+use Rattle.std.proofs.lemmas.List.Elements.{All-nil, All-push, All-pop, All-contains, Contains-append_left, Contains-append_right, Contains-append_cases, Contains-push, Contains-push_cases}
 use Rattle.classfile.specs.Methods.{ExceptionEntry}
 use Rattle.hierarchy.specs.Class.{ClassFact}
-use Rattle.hierarchy.specs.Answer.{Outcome, yes, no}
+use Rattle.hierarchy.specs.Answer.{Outcome, yes}
 use Rattle.insn.specs.Offsets.{at_offset}
 use Rattle.frames.specs.FrameFact.{FrameFact}
 use Rattle.frames.specs.VerificationType.{VerificationType, type_of, top}
@@ -14,7 +14,7 @@ use Rattle.frames.specs.Assignable.{type_answer}
 use Rattle.frames.specs.DeclaredTables.{IsOf, AreOfOne}
 use Rattle.frames.specs.declared.declared_frames.DeclaredFrames.{DeclaredFrames}
 use Rattle.frames.specs.declared.declared_frames.Declared.{Declared}
-use Rattle.frames.specs.FrameAssignable.{both, item_answer, list_answer, stack_answer, flag_answer, frame_answer}
+use Rattle.frames.specs.FrameAssignable.{both, item_answer, list_answer, stack_answer, flag_answer}
 use Rattle.frames.proofs.Passing.{joined}
 use Rattle.frames.proofs.Sharing.{both_left, both_right}
 use Rattle.verify.specs.declared.exceptions.Entry.{Entry}

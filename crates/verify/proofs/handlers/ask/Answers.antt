@@ -3,7 +3,7 @@ use Rattle.insn.specs.Offsets.{at_offset}
 use Rattle.std.specs.Prelude.{IfSome}
 use Rattle.hierarchy.specs.Answer.{yes}
 use Rattle.frames.specs.Assignable.{type_answer}
-use Rattle.frames.specs.DeclaredTables.{frames_in, declared_view, IsOf, AreOfOne}
+use Rattle.frames.specs.DeclaredTables.{frames_in, IsOf, AreOfOne}
 use Rattle.frames.specs.FrameFact.{FrameFact}
 use Rattle.frames.specs.VerificationType.{VerificationType, type_of, top}
 use Rattle.frames.specs.declared.declared_frames.Declared.{Declared}

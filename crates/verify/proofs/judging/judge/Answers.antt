@@ -1,4 +1,4 @@
-use Rattle.std.proofs.Common.{◌≡◌, ◌∙◌, true, sym, subst}
+use Rattle.std.proofs.Common.{◌∙◌, sym, subst}
 use Rattle.insn.specs.Views.{act_view}
 use Rattle.frames.specs.DeclaredTables.{frames_in}
 use Rattle.rules.specs.Bodies.{method_view}

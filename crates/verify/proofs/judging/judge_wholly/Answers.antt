@@ -1,6 +1,5 @@
 use Rattle.std.proofs.Common.{◌≡◌, ◌∙◌, ◌&&◌, ◌∷◌, [], ℕ, Bool, true, false, is_none, Option, Some, None, Result, refl, sym, ap, subst}
 use Rattle.std.specs.Prelude.{OnOk, IsOk}
-use Rattle.hierarchy.specs.Class.{ClassFact}
 use Rattle.classfile.specs.Methods.{Method}
 use Rattle.insn.specs.Meanings.{Act}
 use Rattle.insn.specs.Views.{act_view}
@@ -19,7 +18,6 @@ use Rattle.rules.specs.Ways.{goes_on}
 use Rattle.rules.specs.declared.reason.Reason.{Reason}
 use Rattle.verify.specs.Handling.{Follows}
 use Rattle.verify.specs.Steps.{aside_conditions}
-use Rattle.verify.specs.TypeSafety.{Frames}
 use Rattle.verify.specs.Verdict.{at_conditions, before_conditions, handler_conditions, is_covered}
 use Rattle.verify.proofs.Comparing.{flag_kept}
 use Rattle.verify.proofs.InTurn.{on_ok, when_ok}

@@ -1,6 +1,5 @@
 use Rattle.std.proofs.Common.{sym, subst}
 use Rattle.frames.specs.DeclaredTables.{frames_in}
-use Rattle.rules.specs.Held.{held}
 use Rattle.verify.specs.Handling.{Follows}
 use Rattle.verify.proofs.judging.take_up.Goals as goal
 

@@ -1,4 +1,4 @@
-use Rattle.std.proofs.Common.{◌≡◌, ◌∙◌, true, false, arith, sym, subst}
+use Rattle.std.proofs.Common.{◌∙◌, arith, sym, subst}
 use Rattle.std.specs.Prelude.{OnOk}
 use Rattle.std.proofs.lemmas.Bool.Decides.{nat_tests}
 use Rattle.insn.specs.Views.{act_view}

@@ -1,4 +1,4 @@
-use Rattle.std.proofs.Common.{◌≡◌, ◌∙◌, List, Some, arith, refl, sym, ap, subst}
+use Rattle.std.proofs.Common.{◌∙◌, List, arith, refl, sym, subst}
 use Rattle.std.specs.Prelude.{OnOk, IfSome, option_map}
 use Rattle.std.proofs.lemmas.Bool.Decides.{nat_tests}
 use Rattle.frames.specs.DeclaredTables.{frames_in, declared_view, IsOf, AreOfOne}
@@ -9,7 +9,7 @@ use Rattle.verify.specs.declared.keeping.Replaced.{Replaced}
 use Rattle.verify.specs.Keeping.{restored}
 use Rattle.verify.specs.Verdict.{entered}
 use Rattle.verify.proofs.Changes.{follows_alone, follows_same, all_of_one, kept_is}
-use Rattle.verify.proofs.InTurn.{on_ok, when_ok, none_left}
+use Rattle.verify.proofs.InTurn.{on_ok, none_left}
 use Rattle.verify.proofs.handlers.Handlers.enter.Goals as goal
 
 pub returns-in_default : goal.returns-in_default

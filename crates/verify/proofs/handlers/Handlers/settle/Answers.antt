@@ -7,7 +7,7 @@ use Rattle.frames.specs.DeclaredTables.{frames_in}
 use Rattle.rules.specs.Held.{held}
 use Rattle.verify.specs.declared.exceptions.Entry.{Entry}
 use Rattle.verify.specs.Handling.{Tracks, IsJudged, IsMissing}
-use Rattle.verify.proofs.InTurn.{turn_ended, turn_no, turn_yes, turn_missing, lacks_now, turn_first, turn_none, turn_done, none_left}
+use Rattle.verify.proofs.InTurn.{turn_ended, turn_no, turn_yes, turn_missing, lacks_now, turn_none, turn_done, none_left}
 use Rattle.verify.proofs.handlers.Handlers.settle.Goals as goal
 use Rattle.verify.proofs.handlers.Handlers.settle.Goals.{in-Yes, in-Missing}
 

@@ -1,4 +1,3 @@
-use Rattle.std.proofs.Common.{◌≡◌, ℕ}
 use Rattle.frames.specs.VerificationType.{type_of}
 use Rattle.rules.specs.Held.{held, IsHolder}
 use Rattle.verify.proofs.Replacing.{replaced_none, replaced_more, replaced_all}

@@ -1,11 +1,5 @@
-use Rattle.std.proofs.Common.{◌≡◌, ◌⊎◌, ℕ, false, List, get_or, length}
-use Rattle.hierarchy.specs.Class.{ClassFact}
-use Rattle.frames.specs.FrameFact.{FrameFact}
-use Rattle.frames.specs.Objects.{is_initialized}
-use Rattle.frames.specs.VerificationType.{type_of, top}
-use Rattle.frames.specs.declared.declared_frames.DeclaredFrames.{DeclaredFrames}
+use Rattle.frames.specs.VerificationType.{type_of}
 use Rattle.rules.specs.Held.{held, IsHolder}
-use Rattle.verify.specs.Keeping.{AreKnown}
 use Rattle.verify.proofs.Replacing.{AreReplaced}
 use Rattle.verify.proofs.keeping.KnownLocals.replace_all.Given as goal
 
