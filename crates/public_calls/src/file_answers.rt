@@ -153,7 +153,7 @@ fn is_explained(alloc: Global, reads: &[Read], left: usize, text: &[u8]) -> bool
 #[test]
 fn explanations_that_are_cut(rt: HostRuntime) -> Result<(), Fail> {
     let falls =
-        b"method f ()V refused 71 at 0\n  71 FallsOff: the last instruction of the code goes on\n  stack 0 locals 0\n  0 nop\n";
+        b"method f ()V refused 71 at 0\n  71 FallsOff: the last instruction of the code goes on\n  stack 0 locals 0\n  0 nop\n  locals\n  stack\n";
     let broken =
         b"class refused 20 pool 1\n  20 BadIndex: an index is 0 where it may not be, past the constant pool, or the second one of a Long or Double\n  constant 1 Class #9\n";
     let rows: [(usize, u8, &[u8]); 2] = [(90, 0, falls), (12, 9, broken)];
@@ -232,7 +232,7 @@ fn is_explained_or_memory(alloc: Global, place: usize, byte: u8, size: usize) ->
 
 #[test]
 fn memory_runs_out_for_an_explanation(rt: HostRuntime) {
-    assert!(rt; is_explained_or_memory(rt.alloc(), 90, 0, 112));
+    assert!(rt; is_explained_or_memory(rt.alloc(), 90, 0, 129));
     assert!(rt; is_explained_or_memory(rt.alloc(), 12, 9, 158));
 }
 
