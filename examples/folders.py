@@ -1,4 +1,4 @@
-"""The classes of folders by their names, and those of them that classes of a jar name: the known classes of examples/judge_jar."""
+"""The classes of folders by their names, and the known classes of examples/judge_jar: those that the classes of a jar name."""
 import os
 import re
 
@@ -6,7 +6,6 @@ import re
 UNNAMED = ["java/io/Serializable", *(f"java/lang/{it}" for it in ("Class", "Cloneable", "Object", "String", "Throwable", "invoke/MethodHandle", "invoke/MethodType"))]
 # The bytes of each constant with its tag; of a text (1) they are three and so many more.
 SIZES = {3: 5, 4: 5, 5: 9, 6: 9, 7: 3, 8: 3, 9: 5, 10: 5, 11: 5, 12: 5, 15: 4, 16: 3, 17: 5, 18: 5, 19: 3, 20: 3}
-
 # The names of packages that are looked for.
 NAME = re.compile(r"[\w$]+", re.ASCII)
 

@@ -1,7 +1,7 @@
 """Jars as examples/judge_jar reads them: their classes, in files under numbers, and the jars within them.
 
-A jar that is as most are is read here, and unpacked by several processes. Each other jar or entry, with all that may be wrong with it, is read by
-`zipfile`, which takes four times as long.
+A jar that is as most are is read here, and several processes unpack it. `zipfile` reads each other jar or entry, and says
+what is wrong with it: it is slower.
 """
 import collections
 import contextlib
@@ -20,7 +20,7 @@ VERSION = re.compile(r"META-INF/versions/(\d+)/(.+)")
 ROOTS = ("BOOT-INF/classes/", "WEB-INF/classes/")
 # The record at the end of a jar; the one of an entry in the table, and in front of its bytes.
 END, LISTED, HEAD = struct.Struct("<4s4H2LH"), struct.Struct("<4s6H3L5H2L"), struct.Struct("<4s5H3L2H")
-# The flags of an entry that change nothing of how its bytes are read; that of a name in UTF-8; the ways in which its bytes are kept.
+# The flags of an entry that change nothing of how its bytes are read; that of a name in UTF-8; how its bytes are kept.
 FLAGS, UTF_8, STORED, DEFLATED = 0x80E, 0x800, 0, 8
 # Extra fields of an entry that say nothing of its name or bytes: the mark of a jar, times, and an owner.
 EXTRAS = {0xCAFE, 0x5455, 0x7875}
@@ -29,7 +29,7 @@ PART, PIECE = 1 << 19, 1 << 18
 # A file system in memory, for the files of classes where it has four times the room.
 MEMORY = "/dev/shm"
 
-# An entry of the table: its place there, the name, the name's bytes, and where in the jar it begins.
+# An entry of the table: its place there, its name, the bytes of that, where in the jar it begins, and so on.
 Entry = collections.namedtuple("Entry", "place name spelled begin flags kept sum packed size")
 
 
@@ -79,8 +79,10 @@ def elsewhere():
 
 def remove(folder, paths):
     for path in paths:
-        with contextlib.suppress(FileNotFoundError):
+        try:
             os.unlink(path)
+        except FileNotFoundError:
+            pass
     if folder.startswith(MEMORY):
         os.rmdir(folder)
 
@@ -99,9 +101,9 @@ def table(data):
         at += LISTED.size
         spelled = data[at : at + named]
         at += named + extra + comment
-        if mark != b"PK\1\2" or version & 255 > 63 or disk or at > end or b"\0" in spelled or extra and not is_usual(data[at - comment - extra : at - comment]):
+        if mark != b"PK\1\2" or version & 255 > 63 or disk or at > end or b"\0" in spelled or 0xFFFFFFFF in (packed, full, begin):
             return None
-        if 0xFFFFFFFF in (packed, full, begin):
+        if extra and not is_usual(data[at - comment - extra : at - comment]):
             return None
         try:
             name = spelled.decode("utf-8" if flags & UTF_8 else "ascii")
@@ -142,7 +144,7 @@ class Reader:
             self.entries, end = found
         else:
             infos = self.opened().infolist()
-            self.entries = [Entry(number, it.filename, None, it.header_offset, it.flag_bits, None, it.CRC, it.compress_size, it.file_size) for number, it in enumerate(infos)]
+            self.entries = [Entry(place, it.filename, None, 0, 0, None, it.CRC, it.compress_size, it.file_size) for place, it in enumerate(infos)]
             end = 0
         starts = sorted({it.begin for it in self.entries})
         self.ends = dict(zip(starts, [*starts[1:], end]))
@@ -162,7 +164,7 @@ class Reader:
 
         try:
             yield
-        except (OSError, zipfile.BadZipFile, NotImplementedError, RuntimeError, EOFError, zlib.error) as why:
+        except (OSError, zipfile.BadZipFile, NotImplementedError, RuntimeError, EOFError, UnicodeDecodeError, zlib.error) as why:
             raise Refused(f"{self.label} cannot be read: {why}") from why
 
     def read(self, entry, most):
@@ -189,8 +191,10 @@ class Reader:
 
 
 class Unpacking:
-    """Puts the bytes of entries into files, each into that beside it, and adds the classes that they name to the known ones. The processes that do
-    it side by side begin at once; `finish` waits for them."""
+    """Puts the bytes of each entry into the file beside it, and adds the classes that they name to the known ones.
+
+    Several processes do it side by side. They begin at once, and `finish` waits for them.
+    """
 
     def __init__(self, reader, work, known):
         self.reader, self.known, self.size = reader, known, 0
@@ -205,7 +209,7 @@ class Unpacking:
         self.parts = [(it, Child(self.put, it, left)) for it in parts] if count else [(work, None)]
 
     def put(self, work, other):
-        """Puts the bytes of each entry into its file, and gives the names in them; `other` reads an entry that is not as most are."""
+        """Puts the bytes of each entry into its file, and gives the names in them; `other` reads an unusual entry."""
         seen, pieces, size = set(), [], 0
         for entry, path in work:
             found = self.reader.plain(entry)
@@ -227,7 +231,7 @@ class Unpacking:
         for part, child in self.parts:
             for name in child.lines() if child else ():
                 self.known.add([name.decode()])
-            # Of a part with which a process did not come to an end this one tells what is wrong.
+            # Where a process failed, this one reads its part again, and tells what is wrong.
             if not child or child.end():
                 for name in self.put(part, lambda it: self.reader.read(it, MOST)):
                     self.known.add([name.decode()])
@@ -239,7 +243,7 @@ class Unpacking:
 
 
 def left(entry):
-    """A process beside others shares the place in the file at which zipfile reads, so it leaves such an entry to the first."""
+    """Leaves an unusual entry to the first process: all share the place in the file at which zipfile reads."""
     raise Refused(entry.name)
 
 
@@ -263,7 +267,8 @@ class Child:
         if self.number == 0:
             status = 1
             try:
-                with open(written, "wb") as it:
+                # Unbuffered, so that lines are read while the process works.
+                with open(written, "wb", buffering=0) as it:
                     it.writelines(line + b"\n" for line in work(*words))
                 status = 0
             finally:
@@ -284,8 +289,10 @@ class Child:
 
 
 class Jar:
-    """A jar, its classes in files under numbers, and the jars within it. In front of the names of its entries stands `outer`. The classes of folders
-    that its classes name are added to the known ones. The files have their bytes behind `finish`."""
+    """A jar, its classes in files under numbers, and the jars within it. `outer` stands in front of the names of its entries.
+
+    The files have their bytes, and the known classes are those that the jar names, after `finish`.
+    """
 
     def __init__(self, label, file, data, room, known, outer=""):
         self.label, self.outer, self.entries, self.files = label, outer, [], {}
