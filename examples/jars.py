@@ -4,6 +4,7 @@ import contextlib
 import io
 import os
 import re
+import tempfile
 import zipfile
 import zlib
 
@@ -13,6 +14,8 @@ MOST = 16777217
 MOST_CLASSES, MOST_NESTED = 1 << 32, 1 << 28
 # So many bytes are worth a process that unpacks them; in so many classes at once names are looked for.
 PART, PIECE = 1 << 19, 64
+# A file system in memory, whose files cost less than those of a disk.
+MEMORY = "/dev/shm"
 VERSION = re.compile(r"META-INF/versions/(\d+)/(.+)")
 ROOTS = ("BOOT-INF/classes/", "WEB-INF/classes/")
 # What `zipfile` raises where a jar is damaged, or kept in a way that it does not know.
@@ -33,13 +36,24 @@ class Classes:
         return next(filter(None, (self.files.get((it, name)) for it in self.versions)), None)
 
 
-class Jar:
-    """A jar, its classes in files of the next paths, and the jars within it. `outer` stands in front of the names of its entries.
+def in_memory(size):
+    """Where files of so many bytes go: into memory if it has four times the room, and TMPDIR does not say where; None for the usual place."""
+    try:
+        told = os.statvfs(MEMORY)
+    except OSError:
+        return None
+    has_room = os.access(MEMORY, os.W_OK) and told.f_bavail * told.f_frsize >= 4 * size
+    return MEMORY if has_room and not os.environ.get("TMPDIR") else None
 
-    `source` is its path, or a file in memory. The classes of the folders that it names are known afterwards.
+
+class Jar:
+    """A jar, its classes in files under numbers, and the jars within it. `outer` stands in front of the names of its entries.
+
+    `source` is its path, or a file in memory; `room` removes the files when it is left. The classes of the folders that the jar
+    names are known afterwards.
     """
 
-    def __init__(self, label, source, paths, known, outer=""):
+    def __init__(self, label, source, room, known, outer=""):
         self.label, self.source, self.known, self.outer, self.entries, self.files = label, source, known, outer, [], {}
         with self.told(), zipfile.ZipFile(source) as it:
             infos = [it for it in it.infolist() if not it.is_dir()]
@@ -52,8 +66,9 @@ class Jar:
         size = sum(min(it.file_size, MOST) for it in classes)
         if size > MOST_CLASSES:
             raise Refused(f"{label} has classes of more than {MOST_CLASSES} bytes")
-        work = [(it, self.add(it.filename, next(paths))) for it in classes]
         with self.told():
+            folder = room.enter_context(tempfile.TemporaryDirectory(dir=in_memory(size)))
+            work = [(it, self.add(it.filename, f"{folder}/{number}.class")) for number, it in enumerate(classes, 1)]
             self.unpack(work, min((os.cpu_count() or 1) - 1, size // PART))
 
     @contextlib.contextmanager
@@ -109,14 +124,14 @@ class Jar:
         """Its classes as those of a version see them: of one name that of the highest version up to this one."""
         return Classes(self.files, sorted({it for it, _ in self.files if it <= version}, reverse=True))
 
-    def within(self, paths):
+    def within(self, room):
         """The jars within it."""
         with self.told(), zipfile.ZipFile(self.source) as outer:
             for it in self.nested:
                 data = outer.open(it).read(MOST_NESTED + 1)
                 if len(data) > MOST_NESTED:
                     raise Refused(f"{it.filename} has more than {MOST_NESTED} bytes")
-                yield Jar(it.filename, io.BytesIO(data), paths, self.known, f"{it.filename}!")
+                yield Jar(it.filename, io.BytesIO(data), room, self.known, f"{it.filename}!")
 
 
 def beside(read, written, lines):
