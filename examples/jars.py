@@ -56,7 +56,7 @@ class Jar:
     def __init__(self, label, source, room, known, outer=""):
         self.label, self.source, self.known, self.outer, self.entries, self.files = label, source, known, outer, [], {}
         with self.told(), zipfile.ZipFile(source) as it:
-            infos = [it for it in it.infolist() if not it.is_dir()]
+            infos = [it for it in it.infolist() if not it.filename.endswith("/")]
         twice = [name for name, n in collections.Counter(it.filename for it in infos).items() if n > 1]
         if twice:
             raise Refused(f"{label} has the entry {twice[0]} twice")
