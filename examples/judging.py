@@ -9,48 +9,37 @@ could be another, since it misses a class that a place has, there is none.
 """
 import collections
 import os
-import pathlib
 import re
 import subprocess
 import sys
 import threading
 
-HERE = pathlib.Path(__file__).resolve().parent
+HERE = os.path.dirname(os.path.realpath(__file__))
+TOP = os.path.dirname(HERE)
 # In the repository, and where `.ci/install` puts it.
-WRAPPER, BUILT, INSTALLED = HERE.parent / "classck", HERE.parent / "crates/classck/out/classck", HERE.parent.parent / "bin/classck"
-PROGRAM = BUILT if WRAPPER.is_file() else INSTALLED
+WRAPPER, BUILT, INSTALLED = f"{TOP}/classck", f"{TOP}/crates/classck/out/classck", f"{os.path.dirname(TOP)}/bin/classck"
+PROGRAM = BUILT if os.path.isfile(WRAPPER) else INSTALLED
 HEAD = re.compile(r"class (.*) major \d+ minor \d+ flags [0-9a-f]{4}")
 MISSING = re.compile(r" refused 77 at \d+ missing (.*)$")
 REFUSED = re.compile(r"method .* refused (\d+) at \d+(?: missing .*| fault \d+)?$")
-HEADER = re.compile(r"file \d+(?: (.*))?")
-# The classes that a class may need and not name.
-UNNAMED = ["java/io/Serializable", *(f"java/lang/{it}" for it in ("Class", "Cloneable", "Object", "String", "Throwable", "invoke/MethodHandle", "invoke/MethodType"))]
-# The bytes of each constant behind its tag; of a text (1) they are its two bytes of length and so many more.
-SIZES = {3: 4, 4: 4, 5: 8, 6: 8, 7: 2, 8: 2, 9: 4, 10: 4, 11: 4, 12: 4, 15: 3, 16: 2, 17: 4, 18: 4, 19: 2, 20: 2}
 # The status of answers in which nothing is refused but what has no rule (60).
 WITHOUT_RULE = 3
 
 
-def build():
-    """Has the program built where it is not, or a source is newer. Ends with status 2 where that cannot be done. One that is installed is there."""
-    words = [WRAPPER, "check", HERE / "classes/Hello.class"]
-    if WRAPPER.is_file() and subprocess.run(words, stdout=subprocess.DEVNULL, check=False).returncode == 3:
+def begin_build():
+    """Begins to have the program built where it is not, or a source is newer, and gives the process. One that is installed is there."""
+    words = [WRAPPER, "check", f"{HERE}/classes/Hello.class"]
+    return subprocess.Popen(words, stdout=subprocess.DEVNULL) if os.path.isfile(WRAPPER) else None
+
+
+def end_build(process):
+    """Waits for it. Ends with status 2 where the program cannot be built."""
+    if process and process.wait() == 3:
         sys.exit(2)
 
 
-class Folder:
-    """Class files by their names below a folder."""
-
-    def __init__(self, path):
-        self.path = path
-
-    def find(self, name):
-        file = os.path.join(self.path, *name.split("/")) + ".class"
-        return file if os.path.isfile(file) else None
-
-    def packages(self):
-        """The folders in it, with which the names of its classes begin."""
-        return [it.name for it in os.scandir(self.path) if it.is_dir()] if os.path.isdir(self.path) else []
+def build():
+    end_build(begin_build())
 
 
 def found(name, places):
@@ -58,49 +47,20 @@ def found(name, places):
     return next(filter(None, (it.find(name) for it in places)), None)
 
 
-def pair(data, at):
-    """The number of two bytes."""
-    return data[at] << 8 | data[at + 1]
-
-
-def superclass(data):
-    """The name of the superclass in the bytes of a class file; None where there is none, or the bytes are no class file."""
-    try:
-        at, number, places, count = 10, 1, {}, pair(data, 8)
-        while number < count:
-            tag, places[number] = data[at], at
-            at += 3 + (data[at + 1] << 8 | data[at + 2]) if tag == 1 else 1 + SIZES[tag]
-            number += 2 if tag in (5, 6) else 1
-        text = places[pair(data, places[pair(data, at + 4)] + 1)]
-        return data[text + 3 : text + 3 + pair(data, text + 1)].decode()
-    except (IndexError, KeyError, UnicodeDecodeError):
-        return None
-
-
-def read(file):
-    with open(file, "rb") as it:
-        return it.read()
-
-
-def named_classes(files, folders):
-    """The files of the classes of the folders that these files name, with those above them, by their names."""
-    packages = sorted({re.escape(it) for folder in folders for it in folder.packages()}, key=len, reverse=True)
-    names = re.compile(rf"(?:{'|'.join(packages)})/[\w$/]+".encode())
-    wanted = {it.decode() for file in files for it in names.findall(read(file))} if packages else set()
-    wanted, known = [*UNNAMED, *wanted], {}
-    while wanted:
-        name = wanted.pop()
-        file = None if name in known else found(name, folders)
-        if file:
-            known[name] = file
-            wanted.append(superclass(read(file)) or UNNAMED[0])
-    return known
-
-
 def fits(words):
     """Whether a process can be given these words: they, the environment and a pointer to each have to fit."""
     given = [*words, *(f"{name}={value}" for name, value in os.environ.items())]
     return sum(len(os.fsencode(it)) + 9 for it in given) + 4096 < os.sysconf("SC_ARG_MAX")
+
+
+def missing_in(lines):
+    """The names of the classes that these lines miss."""
+    return [it[1] for it in (MISSING.search(line) for line in lines if " missing " in line) if it]
+
+
+def only_judged(text):
+    """Whether each line is of a method, and none refuses; False also where a name has such words."""
+    return " refused " not in text and text.startswith("method ") and text.count("\nmethod ") == text.count("\n")
 
 
 class Verifier:
@@ -149,52 +109,49 @@ class Verifier:
         while count != len(files):
             count = len(files)
             lines, errors, status = self.call("verify", *self.flags, "--", file, *files)
-            for line in lines:
-                if it := MISSING.search(line):
-                    self.add(it[1], places, seen, files)
-        return [*self.told(lines, [file, *files]), *(self.opened(it, [file, *files]) for it in errors)], status
+            for name in missing_in(lines):
+                self.add(name, places, seen, files)
+        return "\n".join([*self.told(lines, [file, *files]), *(self.opened(it, [file, *files]) for it in errors)]), status
 
     def each(self, files, known):
-        """From one process, of each class in these files its name and the lines of the answer; None where it gives none."""
-        words = ["verify-each", *self.flags, *(["--known", *map(os.path.abspath, known)] if known else []), "--", *files]
+        """From one process, of each class in these files its name and the answer; None where it gives none."""
+        words = ["verify-each", *self.flags, *(["--known", *known] if known else []), "--", *files]
         if not fits([PROGRAM, *words]):
             return None
-        lines, errors, _ = self.call(*words)
+        done = subprocess.run([PROGRAM, *words], stdout=subprocess.PIPE, stderr=subprocess.PIPE, check=False)
         answers = []
-        for line in lines:
-            it = HEADER.fullmatch(line) if line.startswith("file ") else None
-            if it:
-                answers.append((it[1], []))
-            elif answers:
-                answers[-1][1].append(line)
-        return answers if not errors and len(answers) == len(files) else None
+        for told in f"\n{done.stdout.decode()}".split("\nfile ")[1:]:
+            head, _, text = told.removesuffix("\n").partition("\n")
+            answers.append((head.partition(" ")[2] or None, text))
+        return answers if not done.stderr and len(answers) == len(files) else None
 
-    def judge_each(self, files, folders):
-        """The answers on the classes in these files, which have these names, each among the others and the classes of the folders; for each file.
+    def judge_each(self, files, known):
+        """The answers on the classes in these files, which have these names, each among the others and the known ones; for each file.
 
         No answer is given on a class that a folder has as well, or that has another name: none of the others sees it. None is given where the class
         is refused as a whole, or one of the places has a class that the answer misses: such a class is damaged, or below one that is.
         """
-        own = {name: file for name, file in files.items() if not found(name, folders)}
-        known = named_classes(own.values(), folders)
+        own = {name: file for name, file in files.items() if not known.find(name)}
         for _ in range(2):
-            answers = self.each(list(own.values()), list(known.values())) if own else None
+            answers = self.each(list(own.values()), list(known.files.values())) if own else None
             if answers is None:
                 return {}
             other = [name for name, (told, _) in zip(own, answers) if told not in (None, name)]
             if not other:
-                return {file: (lines, self.status(lines)) for file, (_, lines) in zip(own.values(), answers) if self.is_settled(lines, files, folders)}
+                found = ((file, text, self.settled(text, files, known)) for file, (_, text) in zip(own.values(), answers))
+                return {file: (text, status) for file, text, status in found if status is not None}
             own = {name: file for name, file in own.items() if name not in other}
         return {}
 
     @staticmethod
-    def is_settled(lines, files, folders):
-        missing = (MISSING.search(it) for it in lines if " missing " in it)
-        return all(it.startswith("method ") for it in lines) and not any(it and (it[1] in files or found(it[1], folders)) for it in missing)
-
-    @staticmethod
-    def status(lines):
-        return int(any(" refused " in it and REFUSED.fullmatch(it) is not None for it in lines))
+    def settled(text, files, known):
+        """The status of an answer that `judge` gives as well; None of one that it may not give."""
+        if only_judged(text):
+            return 0
+        lines = text.splitlines()
+        if not all(it.startswith("method ") for it in lines) or any(it in files or known.find(it) for it in missing_in(lines)):
+            return None
+        return int(any(REFUSED.fullmatch(it) for it in lines if " refused " in it))
 
     def told(self, lines, files):
         """The lines, with the superclass that is absent behind a 42."""
@@ -218,12 +175,16 @@ class Count:
         self.verified = self.no_code = self.classes = self.whole = self.status = 0
         self.refused = collections.Counter()
 
-    def add(self, lines, status):
+    def add(self, text, status):
         """Counts the answer on a class, and gives the lines of it that refuse."""
         self.classes += 1
         self.status = 2 if 2 in (status, self.status) else max(status, self.status)
+        if only_judged(text):
+            self.verified += f"{text}\n".count(" verified\n")
+            self.no_code += f"{text}\n".count(" no code\n")
+            return []
         refusing = []
-        for line in lines:
+        for line in text.splitlines():
             it = REFUSED.fullmatch(line) if " refused " in line else None
             self.verified += line.startswith("method ") and line.endswith(" verified")
             self.no_code += line.startswith("method ") and line.endswith(" no code")
