@@ -12,8 +12,8 @@ import zlib
 MOST = 16777217
 # So many bytes the classes of a jar have at most, and so many a jar within.
 MOST_CLASSES, MOST_NESTED = 1 << 32, 1 << 28
-# So many bytes are worth a process that unpacks them; in so many classes at once names are looked for.
-PART, PIECE = 1 << 19, 64
+# So many bytes are worth a process that unpacks them; in so many, or one class, names are looked for at once.
+PART, PIECE = 1 << 19, 1 << 18
 # A file system in memory, whose files cost less than those of a disk.
 MEMORY = "/dev/shm"
 VERSION = re.compile(r"META-INF/versions/(\d+)/(.+)")
@@ -105,16 +105,19 @@ class Jar:
 
     def put(self, work):
         """Puts the bytes of each entry into its file, and gives the names in them, each as a line."""
-        seen = set()
+        seen, found, size = set(), [], 0
         with zipfile.ZipFile(self.source) as jar:
-            for first in range(0, len(work), PIECE):
-                found = [jar.open(it).read(MOST) for it, _ in work[first : first + PIECE]]
-                for (_, path), data in zip(work[first:], found):
-                    with open(path, "wb") as it:
-                        it.write(data)
-                names = self.known.named(b"\n".join(found)) - seen if self.known else set()
-                yield from (it + b"\n" for it in names)
-                seen |= names
+            for entry, path in work:
+                data = jar.open(entry).read(MOST)
+                with open(path, "wb") as it:
+                    it.write(data)
+                found.append(data)
+                size += len(data)
+                if size > PIECE or entry is work[-1][0]:
+                    names = self.known.named(b"\n".join(found)) - seen if self.known else set()
+                    yield from (it + b"\n" for it in names)
+                    seen |= names
+                    found, size = [], 0
 
     def find(self, lines):
         for it in lines:
