@@ -18,7 +18,7 @@ PART, PIECE = 1 << 19, 1 << 18
 MEMORY = "/dev/shm"
 VERSION = re.compile(r"META-INF/versions/(\d+)/(.+)")
 ROOTS = ("BOOT-INF/classes/", "WEB-INF/classes/")
-# What `zipfile` raises where a jar is damaged, or kept in a way that it does not know.
+# The errors of `zipfile` where a jar is damaged, or kept in a way that it does not know.
 FAULTS = (OSError, ValueError, EOFError, RuntimeError, zipfile.BadZipFile, zlib.error)
 
 

@@ -178,7 +178,7 @@ fn sound_ones(
     Ok(sound)
 }
 
-/// Of the bootstrap methods of a class in turn whether each may be used.
+/// Tells of each bootstrap method of a class, in turn, whether it may be used.
 #[tactic(auto, unfolding(crate::specs::Bootstraps::bootstraps_of))]
 fn sound_of(alloc: Global, class: &ClassFile<'_>) -> Result<Vec<bool>, AllocError>
     ensures { IfOk result (AreSound class.now) }

@@ -113,7 +113,7 @@ abbrev pub IsFramedIf : Bool → List ClassFact → JudgedClass → ℕ → Verd
 IsFramedIf true classes c number v x = IsFramed classes c number v x
 IsFramedIf false classes c number v x = x ≡ no_frames
 
--- Of each method of a class, with these verdicts: frames are told of it where those of the methods in front have fewer types than MOST_KEPT.
+-- Frames are told of each method of a class, with these verdicts, where those of the methods in front have fewer types than MOST_KEPT.
 pub record AreFramed (classes : List ClassFact) (c : JudgedClass) (rs : List MethodVerdict) (xs : List FramesAt) : Type 0 where
   pub all : length xs ≡ length rs
   pub each : (number : ℕ) (r : MethodVerdict) (x : FramesAt) → slice_get rs number ≡ Some r → slice_get xs number ≡ Some x

@@ -3,7 +3,7 @@ use crate::handlers::Handlers;
 use crate::known::Known;
 use crate::place_set::PlaceSet;
 
-/// What is known of the running frame, and with which declared frames it was compared.
+/// Facts about the running frame, and the declared frames with which it was compared.
 #[derive(Drop)]
 pub struct Comparisons<'n, 'a> {
     /// Which declared frames it is known to fit.

@@ -1,4 +1,4 @@
--- Of each entry so far whether it may be used.
+-- So far it is told of each entry whether it may be used.
 use Rattle.std.proofs.Common.{◌≡◌, map, take}
 use Rattle.classfile.specs.Bootstraps.{is_sound}
 use Rattle.classfile.specs.BootstrapViews.{bootstrap_view}

@@ -1,4 +1,4 @@
--- Of the locals so far these are in use.
+-- So many of the locals so far are in use.
 use Rattle.std.proofs.Common.{◌≡◌, ◌≤◌, map, take}
 use Rattle.frames.specs.VerificationType.{type_of}
 use Rattle.printing.specs.Frames.{in_use}
