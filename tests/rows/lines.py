@@ -34,7 +34,19 @@ LINES = [
     ("explain .", "class refused 15 at 0", 2),
     ("explain K .", "known 1 refused 15 at 0", 2),
     ("explain K missing", "file 2 cannot be opened", 2),
-    ("explain --json K", "error: unexpected argument '--json' found", 2),
+    (
+        "explain --json K A",
+        '{"kind":"hierarchy","answer":"refused","number":42,"name":"K",'
+        '"sentence":"SuperMissing: the superclass of the class is not among the files"}',
+        1,
+    ),
+    ("explain --json --dynamic K O A", "", 0),
+    (
+        "explain --json .",
+        '{"kind":"class","answer":"refused","number":15,"at":0,"sentence":"ReadFailed: the file could not be read on from there"}',
+        2,
+    ),
+    ("explain --json --json K", "error: the argument '--json' cannot be used multiple times", 2),
     ("verify K O A", "method f ()V verified", 0),
     ("verify K A", "hierarchy refused 42 K", 1),
     ("play K O A", "play verified", 0),

@@ -1,9 +1,10 @@
-"""The objects that `--json` prints in place of the lines of `check` and `verify`, read off these lines, and rows of their escapes."""
+"""The objects that `--json` prints in place of the lines of `check`, `verify` and `explain`, read off these lines, and rows of their escapes."""
 import json
 import re
+from dataclasses import replace
 
-from tools.assembler import utf8
-from tools.class_k import K, OBJECT_CLASS, with_constant
+from tools.assembler import class_info, member, utf8
+from tools.class_k import K, OBJECT_CLASS, code_f, with_constant
 
 # Behind the number of a refusal: what stands in the line, and the fields that it is.
 ENDINGS = [
@@ -62,6 +63,51 @@ def fields(line):
         yield from ending(kind, refusal[1], refusal[2])
 
 
+# The lines below a refusal in an explanation, in their order, and the field that each is.
+EXPLAINED = [
+    (r"\d+ ([A-Z]\w+: .*)", "sentence"),
+    (r"stack (\d+) locals (\d+)", "sizes"),
+    (r"constant (.*)", "constant"),
+    (r"catch (.*)", "exception_table"),
+    (r"((?:declared )?(?:locals|stack|flags))((?: .*)?)", "frame"),
+    (r"(\d+ [a-z].*)", "instruction"),
+]
+
+
+def explained_line(line):
+    """The fields that a line below a refusal is, without the place of the entries of an exception table."""
+    found, kind = next((it, kind) for pattern, kind in EXPLAINED if (it := re.fullmatch(pattern, line)))
+    if kind == "sizes":
+        return [("max_stack", int(found[1])), ("max_locals", int(found[2]))]
+    if kind == "frame":
+        return [(found[1].replace(" ", "_"), [unescaped(it) for it in found[2][1:].split(", ")] if found[2] else [])]
+    return [(kind, unescaped(found[1]))]
+
+
+def explained(lines):
+    """The fields that the lines below a refusal are; a second sentence is the one on the fault behind the number."""
+    entries = []
+    for i, line in enumerate(lines):
+        for name, value in explained_line(line):
+            if name == "exception_table":
+                entries.append(value)
+            else:
+                yield "fault_sentence" if name == "sentence" and i > 0 else name, value
+    if entries:
+        yield "exception_table", entries
+
+
+def wanted_of_explained(text):
+    """The objects that stand for an explanation, as lists of fields."""
+    objects = []
+    for line in text.splitlines():
+        if not line.startswith("  "):
+            objects.append((line, []))
+        else:
+            objects[-1][1].append(line[2:])
+    return [[*fields(line), *explained(below if line.startswith("method ") else below[:1])] for line, below in objects]
+
+
 def wanted(text):
     """The objects that stand for the lines of an answer, as lists of fields."""
     return [list(fields(line)) for line in text.splitlines()]
@@ -90,5 +136,16 @@ def escapes():
     named = with_constant(2, utf8(NAME)).data()
     refused = f'{{"kind":"hierarchy","answer":"refused","number":42,"name":{ESCAPED}}}\n'
     yield "a superclass that is missing", ["verify", "--json"], [named], refused
+    # a method with a parameter of this class, which makes an object of it
+    constants = [*K.constants, utf8(NAME), class_info(8), utf8(b"(L" + NAME + b";)V")]
+    code = code_f(bytes.fromhex("bb 00 09 b1"), variables=1)
+    makes = replace(K, constants=constants, methods=[member(0x0009, 5, 10, code)]).data()
+    called = ESCAPED[1:-1]
+    explained_object = (
+        f'{{"kind":"method","name":"f","descriptor":"(L{called};)V","answer":"refused","number":65,"at":0,'
+        '"sentence":"StackOver: the stack after the instruction passes max_stack","max_stack":0,"max_locals":1,'
+        f'"instruction":"0 new #9","constant":"9 Class #8 {called}","locals":["Class {called}"],"stack":[]}}\n'
+    )
+    yield "a method with a name in its frame", ["explain", "--json"], [makes, OBJECT_CLASS], explained_object
     yield "a class", ["check", "--json"], [K.data()], '{"kind":"file","answer":"ok"}\n'
     yield "a method", ["verify", "--json"], [K.data(), OBJECT_CLASS], '{"kind":"method","name":"f","descriptor":"()V","answer":"verified"}\n'

@@ -37,7 +37,7 @@ same_answer laws command [] text other status next p q = (p.0 ∙ sym q.0, p.1 �
 same_answer laws (Check form) (read ∷ others) text other status next p q = one_said laws form (CheckTells form) (one_check form) read text other status next p q
 same_answer laws Show (read ∷ others) text other status next p q = one_said laws Plain ShowTells one_show read text other status next p q
 same_answer laws (Verify form profile) (read ∷ known) text other status next p q = one_verify laws (Told form) profile read known text other status next p q
-same_answer laws (Explain profile) (read ∷ known) text other status next p q = one_verify laws Explained profile read known text other status next p q
+same_answer laws (Explain form profile) (read ∷ known) text other status next p q = one_verify laws (Explained form) profile read known text other status next p q
 same_answer laws (Play profile) (read ∷ others) text other status next p q = one_play laws profile (read ∷ others) text other status next p q
 same_answer laws (VerifyEach profile classes) (read ∷ others) text other status next p q =
     one_each laws profile (take classes (read ∷ others)) (drop classes (read ∷ others)) text other status next p q

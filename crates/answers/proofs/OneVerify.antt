@@ -26,21 +26,21 @@ use Rattle.verify.specs.declared.coming.FramesAt.{FramesAt}
 use Rattle.verify.specs.Coming.{FramesFact, frames_view}
 use Rattle.printing.specs.Faults.{at_text}
 use Rattle.printing.specs.Names.{name_text, spelled_text}
-use Rattle.printing.specs.Json.{Field, number, name, spelled, object_line}
+use Rattle.printing.specs.Json.{Field, word, number, name, spelled, fields_then, fields_behind, object_then, object_line}
 use Rattle.answers.specs.Texts.{kind, answer}
 use Rattle.answers.specs.declared.command.Form.{Form}
 use Rattle.answers.specs.declared.command.Form.TheVariants.{Plain, Json}
 use Rattle.answers.specs.declared.manner.Manner.{Manner}
 use Rattle.answers.specs.declared.manner.Manner.TheVariants.{Told, Explained}
 use Rattle.printing.specs.Parts.{part_lines}
-use Rattle.answers.specs.Sentences.{sentence_line, fault_line, reason_lines, file_fault_number}
-use Rattle.answers.specs.Explanations.{code_part, explanation, explanations}
+use Rattle.answers.specs.Sentences.{sentence, fault_sentence, sentence_line, fault_line, reason_lines, sentence_fields, reason_sentence_fields, file_fault_number}
+use Rattle.answers.specs.Explanations.{code_part, code_fields, explanation, explanation_object, explanations}
 use Rattle.verify.specs.declared.files.FileFault.{FileFault}
 use Rattle.verify.specs.declared.files.FileFault.TheVariants as files
 use Rattle.verify.specs.declared.files.FileFault.TheVariants.{Malformed}
 use Rattle.verify.specs.Files.{Read, IsFormed, IsRefused, AreFormed, IsFirstRefused}
 use Rattle.answers.specs.Files.{refusal_status}
-use Rattle.answers.specs.Verdicts.{class_refusal, known_refusal, IsPart, IsTold, hierarchy_told, IsReportTold, fault_name, named_field, name_fields, hierarchy_refusal, reason_ending, reason_fields, verdict_text, verdict_fields, verdict_line, is_refusal, ClassSays, HierarchySays, KnownSays, VerifySays}
+use Rattle.answers.specs.Verdicts.{class_object, class_refusal, known_object, known_refusal, explained, verdict_object, IsPart, IsTold, hierarchy_told, IsReportTold, fault_name, named_field, name_fields, hierarchy_refusal, reason_ending, reason_fields, verdict_text, verdict_fields, verdict_line, is_refusal, ClassSays, HierarchySays, KnownSays, VerifySays}
 use Rattle.answers.proofs.OneFile.{Laws, one_formed, not_refused, one_refusal}
 
 false_true : false ≡ true → ⊥
@@ -79,10 +79,17 @@ same_refusal Json f g told class =
     let fields : name_fields f ≡ name_fields g = field_by_name f ∙ ap field_of class ∙ sym (field_by_name g) in
     ap (λ n. object_of n (name_fields f)) told ∙ ap (object_of (number_of g)) fields
 
+abbrev explained_object_of : ℕ → List Field → List ℕ
+explained_object_of n fields =
+    object_then (kind (codes "hierarchy")) (answer (codes "refused") ∷ (codes "number", number n) ∷ fields) (fields_behind (sentence_fields n))
+
 same_told : (manner : Manner) (f g : HierarchyFault) → number_of f ≡ number_of g → fault_class f ≡ fault_class g → hierarchy_told manner f ≡ hierarchy_told manner g
 same_told (Told form) f g told class = same_refusal form f g told class
-same_told Explained f g told class =
+same_told (Explained Plain) f g told class =
     ap (λ l. l ++ sentence_line (number_of f)) (same_refusal Plain f g told class) ∙ ap (λ n. hierarchy_refusal Plain g ++ sentence_line n) told
+same_told (Explained Json) f g told class =
+    let fields : name_fields f ≡ name_fields g = field_by_name f ∙ ap field_of class ∙ sym (field_by_name g) in
+    ap (λ n. explained_object_of n (name_fields f)) told ∙ ap (explained_object_of (number_of g)) fields
 
 -- ---- of verdicts
 
@@ -164,6 +171,15 @@ lines_by_view : (why : Reason) → reason_lines why ≡ lines_of (reason_view wh
 lines_by_view reasons.OutOfMemory = refl
 lines_by_view _ = refl
 
+abbrev sentences_of : Refusing → List Field
+sentences_of (reason n) = sentence_fields n
+sentences_of (class_missing name) = sentence_fields 77
+sentences_of (with_fault n fault) = (codes "sentence", word (sentence n)) ∷ (codes "fault_sentence", word (fault_sentence fault)) ∷ []
+
+sentences_by_view : (why : Reason) → reason_sentence_fields why ≡ sentences_of (reason_view why)
+sentences_by_view reasons.OutOfMemory = refl
+sentences_by_view _ = refl
+
 same_explanation : (pool : List Entry) (body : Option CodeBody) (line : List ℕ) (v w : Verdict) (x : FramesFact) → AreSameVerdict v w
     → explanation pool body line v x ≡ explanation pool body line w x
 same_explanation pool body line Verified Verified x e = refl
@@ -174,6 +190,36 @@ same_explanation pool body line (Refused at why) (Refused there other) x e =
     ∙ ap (λ n. line ++ (reason_lines other ++ code_part n pool body at x)) e.1
     ∙ ap (λ a. line ++ (reason_lines other ++ code_part (reason_number other) pool body a x)) e.0
 same_explanation pool body line _ _ x e = absurd e
+
+same_object : (pool : List Entry) (body : Option CodeBody) (begun : List ℕ → List ℕ) (v w : Verdict) (x : FramesFact) → AreSameVerdict v w
+    → explanation_object pool body begun v x ≡ explanation_object pool body begun w x
+same_object pool body begun Verified Verified x e = refl
+same_object pool body begun NoCode NoCode x e = refl
+same_object pool body begun (Refused at why) (Refused there other) x e =
+    let fields : reason_sentence_fields why ≡ reason_sentence_fields other = sentences_by_view why ∙ ap sentences_of e.2 ∙ sym (sentences_by_view other) in
+    ap (λ z. begun (fields_then z (code_fields (reason_number why) pool body at x))) fields
+    ∙ ap (λ n. begun (fields_then (reason_sentence_fields other) (code_fields n pool body at x))) e.1
+    ∙ ap (λ a. begun (fields_then (reason_sentence_fields other) (code_fields (reason_number other) pool body a x))) e.0
+same_object pool body begun _ _ x e = absurd e
+
+abbrev begun_of : List ℕ → List ℕ → List Field → List ℕ → List ℕ
+begun_of called descriptor verdict rest =
+    object_then (kind (codes "method")) ((codes "name", name called) ∷ (codes "descriptor", name descriptor) ∷ verdict) rest
+
+-- what is said of methods whose lines are the same, with the same frames
+same_said : (form : Form) (pool : List Entry) (body : Option CodeBody) (r q : MethodVerdict) (x y : FramesFact) → IsSameLine r q → x ≡ y
+    → explained form pool r body x ≡ explained form pool q body y
+same_said Plain pool body r q x y here e =
+    ap (λ l. explanation pool body l r.verdict x) (same_line Plain r q here)
+    ∙ same_explanation pool body (verdict_line Plain q) r.verdict q.verdict x here.verdict
+    ∙ ap (explanation pool body (verdict_line Plain q) q.verdict) e
+same_said Json pool body r q x y here e =
+    let by : (List ℕ → List ℕ) → List ℕ = λ (begun : List ℕ → List ℕ). explanation_object pool body begun r.verdict x in
+    ap (λ n. by (begun_of n r.descriptor.bytes.now (verdict_fields r.verdict))) here.name
+    ∙ ap (λ d. by (begun_of q.name.bytes.now d (verdict_fields r.verdict))) here.descriptor
+    ∙ ap (λ fs. by (begun_of q.name.bytes.now q.descriptor.bytes.now fs)) (same_verdict r.verdict q.verdict here.verdict).fields
+    ∙ same_object pool body (verdict_object q) r.verdict q.verdict x here.verdict
+    ∙ ap (explanation_object pool body (verdict_object q) q.verdict) e
 
 abbrev has_refusal : List MethodVerdict → Bool
 has_refusal rs = list_any (λ r. is_refusal r.verdict) rs
@@ -191,28 +237,25 @@ same_lines form (r ∷ rs) (q ∷ qs) e each =
       ap (λ x. x || has_refusal rs) (same_verdict r.verdict q.verdict here.verdict).refusal ∙ ap (λ x. is_refusal q.verdict || x) rest.1,
     )
 
-same_explanations : (pool : List Entry) (ms : List Member) (rs qs : List MethodVerdict) (xs ys : List FramesAt) → length rs ≡ length qs
+same_explanations : (form : Form) (pool : List Entry) (ms : List Member) (rs qs : List MethodVerdict) (xs ys : List FramesAt) → length rs ≡ length qs
     → ((number : ℕ) (r q : MethodVerdict) → slice_get rs number ≡ Some r → slice_get qs number ≡ Some q → IsSameLine r q)
     → length xs ≡ length ys
     → ((number : ℕ) (x y : FramesAt) → slice_get xs number ≡ Some x → slice_get ys number ≡ Some y → frames_view x ≡ frames_view y)
-    → explanations (verdict_line Plain) pool ms rs xs ≡ explanations (verdict_line Plain) pool ms qs ys
-same_explanations pool [] rs qs xs ys e each f all = refl
-same_explanations pool (m ∷ ms) [] [] xs ys e each f all = refl
-same_explanations pool (m ∷ ms) [] (q ∷ qs) xs ys e each f all = absurd (omega (arith, e))
-same_explanations pool (m ∷ ms) (r ∷ rs) [] xs ys e each f all = absurd (omega (arith, e))
-same_explanations pool (m ∷ ms) (r ∷ rs) (q ∷ qs) [] [] e each f all = refl
-same_explanations pool (m ∷ ms) (r ∷ rs) (q ∷ qs) [] (y ∷ ys) e each f all = absurd (omega (arith, f))
-same_explanations pool (m ∷ ms) (r ∷ rs) (q ∷ qs) (x ∷ xs) [] e each f all = absurd (omega (arith, f))
-same_explanations pool (m ∷ ms) (r ∷ rs) (q ∷ qs) (x ∷ xs) (y ∷ ys) e each f all =
+    → explanations (explained form pool) ms rs xs ≡ explanations (explained form pool) ms qs ys
+same_explanations form pool [] rs qs xs ys e each f all = refl
+same_explanations form pool (m ∷ ms) [] [] xs ys e each f all = refl
+same_explanations form pool (m ∷ ms) [] (q ∷ qs) xs ys e each f all = absurd (omega (arith, e))
+same_explanations form pool (m ∷ ms) (r ∷ rs) [] xs ys e each f all = absurd (omega (arith, e))
+same_explanations form pool (m ∷ ms) (r ∷ rs) (q ∷ qs) [] [] e each f all = refl
+same_explanations form pool (m ∷ ms) (r ∷ rs) (q ∷ qs) [] (y ∷ ys) e each f all = absurd (omega (arith, f))
+same_explanations form pool (m ∷ ms) (r ∷ rs) (q ∷ qs) (x ∷ xs) [] e each f all = absurd (omega (arith, f))
+same_explanations form pool (m ∷ ms) (r ∷ rs) (q ∷ qs) (x ∷ xs) (y ∷ ys) e each f all =
     let here = each zero r q refl refl in
     let body = code_of m.attributes in
-    let one : explanation pool body (verdict_line Plain r) r.verdict (frames_view x) ≡ explanation pool body (verdict_line Plain q) q.verdict (frames_view y) =
-    ap (λ l. explanation pool body l r.verdict (frames_view x)) (same_line Plain r q here)
-    ∙ same_explanation pool body (verdict_line Plain q) r.verdict q.verdict (frames_view x) here.verdict
-    ∙ ap (explanation pool body (verdict_line Plain q) q.verdict) (all zero x y refl refl) in
-    ap (λ z. z ++ explanations (verdict_line Plain) pool ms rs xs) one
-    ∙ ap (λ z. explanation pool body (verdict_line Plain q) q.verdict (frames_view y) ++ z)
-    (same_explanations pool ms rs qs xs ys (omega (arith, e)) (λ n. each (suc n)) (omega (arith, f)) (λ n. all (suc n)))
+    let one = same_said form pool body r q (frames_view x) (frames_view y) here (all zero x y refl refl) in
+    ap (λ z. z ++ explanations (explained form pool) ms rs xs) one
+    ∙ ap (λ z. explained form pool q body (frames_view y) ++ z)
+    (same_explanations form pool ms rs qs xs ys (omega (arith, e)) (λ n. each (suc n)) (omega (arith, f)) (λ n. all (suc n)))
 
 module _ (laws : Laws) where
   -- ---- of files
@@ -258,31 +301,32 @@ module _ (laws : Laws) where
   one_part read (files.Unread fault) text other p q = p ∙ sym q
   one_part read (files.NoClass fault) text other p q = p ∙ sym q
 
-  one_told : (manner : Manner) (read : Read) (r : FileFault) (line : Form → List ℕ) (text other : List ℕ)
-      → IsTold manner read r line text → IsTold manner read r line other → text ≡ other
-  one_told (Told form) read r line text other p q = p ∙ sym q
-  one_told Explained read r line text other (a, p, e) (b, q, f) =
+  one_told : (manner : Manner) (read : Read) (r : FileFault) (line : Form → List ℕ) (object : List ℕ → List ℕ) (text other : List ℕ)
+      → IsTold manner read r line object text → IsTold manner read r line object other → text ≡ other
+  one_told (Told form) read r line object text other p q = p ∙ sym q
+  one_told (Explained Json) read r line object text other p q = p ∙ sym q
+  one_told (Explained Plain) read r line object text other (a, p, e) (b, q, f) =
       e ∙ ap (λ x. line Plain ++ (sentence_line (file_fault_number r) ++ x)) (one_part read r a b p q) ∙ sym f
 
   -- of two that are the same
   same_known : (manner : Manner) (reads : List Read) (i j : ℕ) (r s : FileFault) (p : IsFirstRefused reads i r) (q : IsFirstRefused reads j s) (text other : List ℕ)
-      → IsTold manner p.read r (λ form. known_refusal form (i + 1) r) text → IsTold manner q.read s (λ form. known_refusal form (j + 1) s) other → text ≡ other
+      → IsTold manner p.read r (λ form. known_refusal form (i + 1) r) (known_object (i + 1) r) text → IsTold manner q.read s (λ form. known_refusal form (j + 1) s) (known_object (j + 1) s) other → text ≡ other
   same_known manner reads i j r s p q text other t u =
       let same = one_first reads i j r s p q in
       let read : p.read ≡ q.read = some_same p.read q.read (sym p.here ∙ ap (slice_get reads) same.0 ∙ q.here) in
-      let first : IsTold manner q.read r (λ form. known_refusal form (i + 1) r) text = subst (λ x. IsTold manner x r (λ form. known_refusal form (i + 1) r) text) read t in
-      let second : IsTold manner q.read s (λ form. known_refusal form (i + 1) s) text = subst (λ x. IsTold manner q.read x (λ form. known_refusal form (i + 1) x) text) same.1 first in
-      one_told manner q.read s (λ form. known_refusal form (j + 1) s) text other
-      (subst (λ n. IsTold manner q.read s (λ form. known_refusal form (n + 1) s) text) same.0 second) u
+      let first : IsTold manner q.read r (λ form. known_refusal form (i + 1) r) (known_object (i + 1) r) text = subst (λ x. IsTold manner x r (λ form. known_refusal form (i + 1) r) (known_object (i + 1) r) text) read t in
+      let second : IsTold manner q.read s (λ form. known_refusal form (i + 1) s) (known_object (i + 1) s) text = subst (λ x. IsTold manner q.read x (λ form. known_refusal form (i + 1) x) (known_object (i + 1) x) text) same.1 first in
+      one_told manner q.read s (λ form. known_refusal form (j + 1) s) (known_object (j + 1) s) text other
+      (subst (λ n. IsTold manner q.read s (λ form. known_refusal form (n + 1) s) (known_object (n + 1) s) text) same.0 second) u
 
   -- ---- what is said
 
   same_report : (manner : Manner) (classes : List ClassFact) (c : JudgedClass) (rs qs : List MethodVerdict) (text other : List ℕ) → IsSameReport rs qs
       → IsReportTold manner classes c rs text → IsReportTold manner classes c qs other → text ≡ other
   same_report (Told form) classes c rs qs text other same p q = p ∙ (same_lines form rs qs same.all same.each).0 ∙ sym q
-  same_report Explained classes c rs qs text other same (xs, p, t) (ys, q, u) =
+  same_report (Explained form) classes c rs qs text other same (xs, p, t) (ys, q, u) =
       let frames = laws.one_frames classes c rs qs xs ys same p q in
-      t ∙ same_explanations c.file.constant_pool c.file.methods rs qs xs ys same.all same.each frames.all frames.each ∙ sym u
+      t ∙ same_explanations form c.file.constant_pool c.file.methods rs qs xs ys same.all same.each frames.all frames.each ∙ sym u
 
   pub one_class : (manner : Manner) (classes : List ClassFact) (c : JudgedClass) (text other : List ℕ) (status next : ℕ)
       → ClassSays manner classes c text status → ClassSays manner classes c other next → (text ≡ other) × (status ≡ next)
@@ -316,7 +360,7 @@ module _ (laws : Laws) where
       → VerifySays manner profile read known text status → VerifySays manner profile read known other next → (text ≡ other) × (status ≡ next)
   one_verify manner profile read known text other status next (inl (r, p, t, s)) (inl (o, q, u, v)) =
       let same = one_refusal laws read r o p q in (
-        one_told manner read o (λ form. class_refusal form o) text other (subst (λ x. IsTold manner read x (λ form. class_refusal form x) text) same t) u,
+        one_told manner read o (λ form. class_refusal form o) (class_object o) text other (subst (λ x. IsTold manner read x (λ form. class_refusal form x) (class_object x) text) same t) u,
         s ∙ ap refusal_status same ∙ sym v,
       )
   one_verify manner profile read known text other status next (inl (r, p, t, s)) (inr (d, q, l)) = absurd (not_refused laws read d r q p)

@@ -8,14 +8,15 @@ use Rattle.insn.specs.Readings.{reading_of}
 use Rattle.frames.specs.FrameFact.{FrameFact}
 use Rattle.rules.specs.Reasons.{reason_number}
 use Rattle.rules.specs.ReasonNumbers.{not_assignable}
-use Rattle.printing.specs.Frames.{frame_lines}
-use Rattle.printing.specs.Classes.{sizes_line, line_at, named_at, catch_line}
+use Rattle.printing.specs.Frames.{frame_lines, frame_fields}
+use Rattle.printing.specs.Classes.{sizes_line, line_at, named_at, catch_line, size_fields, instruction_fields, named_fields_at, table_fields}
+use Rattle.printing.specs.Json.{Field, fields_then, fields_behind, object_end}
 use Rattle.verify.specs.declared.verdict.Verdict.{Verdict}
 use Rattle.verify.specs.declared.verdict.Verdict.TheVariants.{Verified, NoCode, Refused}
 use Rattle.verify.specs.declared.report.MethodVerdict.{MethodVerdict}
 use Rattle.verify.specs.declared.coming.FramesAt.{FramesAt}
 use Rattle.verify.specs.Coming.{FramesFact, before, frames_view}
-use Rattle.answers.specs.Sentences.{reason_lines}
+use Rattle.answers.specs.Sentences.{reason_lines, reason_sentence_fields}
 
 -- these numbers are about entries of the exception table
 abbrev pub is_of_table : ℕ → Bool
@@ -52,10 +53,46 @@ explanation pool body line Verified x = []
 explanation pool body line NoCode x = []
 explanation pool body line (Refused at why) x = line ++ (reason_lines why ++ code_part (reason_number why) pool body at x)
 
--- of methods, the verdicts on them and their frames, each with its line
-abbrev pub explanations : (MethodVerdict → List ℕ) → List Entry → List Member → List MethodVerdict → List FramesAt → List ℕ
-explanations line pool [] rs xs = []
-explanations line pool (m ∷ ms) [] xs = []
-explanations line pool (m ∷ ms) (r ∷ rs) [] = []
-explanations line pool (m ∷ ms) (r ∷ rs) (x ∷ xs) =
-    explanation pool (code_of m.attributes) (line r) r.verdict (frames_view x) ++ explanations line pool ms rs xs
+-- ---- as an object of JSON
+
+-- of a frame under these names, if there is one
+abbrev pub fields_if : List ℕ → List ℕ → List ℕ → Option FrameFact → List Field
+fields_if locals stack flags None = []
+fields_if locals stack flags (Some f) = frame_fields locals stack flags f
+
+abbrev pub frame_fields_of : Option FrameFact → List Field
+frame_fields_of f = fields_if (codes "locals") (codes "stack") (codes "flags") f
+
+abbrev pub declared_fields_of : Option FrameFact → List Field
+declared_fields_of f = fields_if (codes "declared_locals") (codes "declared_stack") (codes "declared_flags") f
+
+-- the frame before an instruction; where a number is about both, the one that comes and the one that is declared
+abbrev pub frame_fields_for : ℕ → FramesFact → List ℕ → List ℕ
+frame_fields_for n x rest =
+    if is_of_entry n then fields_then (frame_fields_of x.coming) (fields_then (declared_fields_of x.declared) rest)
+    else fields_then (frame_fields_of (before x.coming x.declared)) rest
+
+abbrev pub entry_fields_for : ℕ → List Entry → CodeBody → List Field
+entry_fields_for n pool body = if is_of_table n then table_fields pool body.exception_table else []
+
+-- of the code, up to the end of the object
+abbrev pub code_fields : ℕ → List Entry → Option CodeBody → ℕ → FramesFact → List ℕ
+code_fields n pool None at x = object_end
+code_fields n pool (Some body) at x =
+    fields_then (size_fields body) (fields_then (instruction_fields (reading_of body.code) at)
+    (fields_then (named_fields_at pool (reading_of body.code) at) (frame_fields_for n x (fields_behind (entry_fields_for n pool body)))))
+
+-- of a method whose object begins so, with this verdict and these frames at the instruction at which it is refused
+abbrev pub explanation_object : List Entry → Option CodeBody → (List ℕ → List ℕ) → Verdict → FramesFact → List ℕ
+explanation_object pool body begun Verified x = []
+explanation_object pool body begun NoCode x = []
+explanation_object pool body begun (Refused at why) x =
+    begun (fields_then (reason_sentence_fields why) (code_fields (reason_number why) pool body at x))
+
+-- ---- of methods, the verdicts on them and their frames, with what is said of each that has this code
+
+abbrev pub explanations : (MethodVerdict → Option CodeBody → FramesFact → List ℕ) → List Member → List MethodVerdict → List FramesAt → List ℕ
+explanations said [] rs xs = []
+explanations said (m ∷ ms) [] xs = []
+explanations said (m ∷ ms) (r ∷ rs) [] = []
+explanations said (m ∷ ms) (r ∷ rs) (x ∷ xs) = said r (code_of m.attributes) (frames_view x) ++ explanations said ms rs xs

@@ -6,6 +6,7 @@ use Rattle.classfile.specs.Conditions.{rule_number}
 use Rattle.rules.specs.declared.reason.Reason.{Reason}
 use Rattle.rules.specs.declared.reason.Reason.TheVariants.{BadStackMap, BadCode}
 use Rattle.rules.specs.Reasons.{reason_number}
+use Rattle.printing.specs.Json.{Field, word}
 use Rattle.verify.specs.declared.files.FileFault.{FileFault}
 use Rattle.verify.specs.declared.files.FileFault.TheVariants.{OutOfMemory, Unread, NoClass, Malformed}
 
@@ -119,6 +120,23 @@ fault_lines why = []
 -- of a method that is refused
 abbrev pub reason_lines : Reason → List ℕ
 reason_lines why = sentence_line (reason_number why) ++ fault_lines why
+
+-- ---- fields of objects of JSON
+
+abbrev pub sentence_fields : ℕ → List Field
+sentence_fields n = (codes "sentence", word (sentence n)) ∷ []
+
+-- of the fault in a stack map (78) or in code (79)
+abbrev pub fault_sentence_fields : Reason → List Field
+fault_sentence_fields (BadStackMap fault) = (codes "fault_sentence", word (fault_sentence fault)) ∷ []
+fault_sentence_fields (BadCode fault) = (codes "fault_sentence", word (fault_sentence fault)) ∷ []
+fault_sentence_fields why = []
+
+-- of a method that is refused
+abbrev pub reason_sentence_fields : Reason → List Field
+reason_sentence_fields why = (codes "sentence", word (sentence (reason_number why))) ∷ fault_sentence_fields why
+
+-- ---- numbers
 
 -- the number of the refusal of a file
 abbrev pub file_fault_number : FileFault → ℕ

@@ -1,7 +1,8 @@
 -- The answer of `verify` about a class and the classes that it may refer to.
-use Rattle.std.specs.Prelude.{◌≡◌, ◌≢◌, ◌⊎◌, ℕ, ◌+◌, Bool, true, false, if◌then◌else◌, List, [], ◌∷◌, ◌++◌, map, codes, decimal}
+use Rattle.std.specs.Prelude.{◌≡◌, ◌≢◌, ◌⊎◌, ℕ, ◌+◌, Bool, true, false, if◌then◌else◌, List, [], ◌∷◌, ◌++◌, map, codes, decimal, Option}
 use Rattle.std.specs.List.{flat_map, list_any}
-use Rattle.classfile.specs.Values.{Class}
+use Rattle.pool.specs.Entries.{Entry}
+use Rattle.classfile.specs.Values.{CodeBody, Class}
 use Rattle.classfile.specs.Methods.{JudgedClass}
 use Rattle.classfile.specs.CodeMethods.{judged}
 use Rattle.classfile.specs.declared.profile.Profile.{Profile}
@@ -19,18 +20,18 @@ use Rattle.verify.specs.declared.verdict.Verdict.TheVariants.{Verified, NoCode, 
 use Rattle.verify.specs.declared.report.MethodVerdict.{MethodVerdict}
 use Rattle.verify.specs.FinalSuper.{has_final_super}
 use Rattle.verify.specs.declared.coming.FramesAt.{FramesAt}
-use Rattle.verify.specs.Coming.{AreFramed}
+use Rattle.verify.specs.Coming.{FramesFact, AreFramed}
 use Rattle.verify.specs.Reports.{IsReport}
 use Rattle.printing.specs.Faults.{at_text}
 use Rattle.printing.specs.Names.{name_text, spelled_text}
-use Rattle.printing.specs.Json.{Field, number, spelled, name, object_line}
+use Rattle.printing.specs.Json.{Field, number, spelled, name, object_then, object_line, fields_behind}
 use Rattle.answers.specs.Texts.{refusal_text, refusal_fields, kind, answer}
 use Rattle.answers.specs.declared.command.Form.{Form}
 use Rattle.answers.specs.declared.command.Form.TheVariants.{Plain, Json}
 use Rattle.answers.specs.declared.manner.Manner.{Manner}
 use Rattle.answers.specs.declared.manner.Manner.TheVariants.{Told, Explained}
-use Rattle.answers.specs.Sentences.{sentence_line, file_fault_number}
-use Rattle.answers.specs.Explanations.{explanations}
+use Rattle.answers.specs.Sentences.{sentence_line, sentence_fields, file_fault_number}
+use Rattle.answers.specs.Explanations.{explanation, explanation_object, explanations}
 use Rattle.printing.specs.Parts.{part_lines}
 use Rattle.verify.specs.declared.files.FileFault.{FileFault}
 use Rattle.verify.specs.declared.files.FileFault.TheVariants.{Malformed}
@@ -39,9 +40,17 @@ use Rattle.answers.specs.Files.{refusal_status}
 
 -- ---- texts, in words or as objects of JSON
 
+-- up to a text behind its fields
+abbrev pub class_object : FileFault → List ℕ → List ℕ
+class_object r rest = object_then (kind (codes "class")) (answer (codes "refused") ∷ refusal_fields r) rest
+
 abbrev pub class_refusal : Form → FileFault → List ℕ
 class_refusal Plain r = codes "class refused " ++ (refusal_text r ++ codes "\n")
 class_refusal Json r = object_line (kind (codes "class") ∷ answer (codes "refused") ∷ refusal_fields r)
+
+abbrev pub known_object : ℕ → FileFault → List ℕ → List ℕ
+known_object position r rest =
+    object_then (kind (codes "known")) ((codes "position", number position) ∷ answer (codes "refused") ∷ refusal_fields r) rest
 
 -- of the known class at this position; they count from 1
 abbrev pub known_refusal : Form → ℕ → FileFault → List ℕ
@@ -78,6 +87,10 @@ hierarchy_refusal Plain f = codes "hierarchy refused " ++ (decimal (number_of f)
 hierarchy_refusal Json f =
     object_line (kind (codes "hierarchy") ∷ answer (codes "refused") ∷ (codes "number", number (number_of f)) ∷ name_fields f)
 
+abbrev pub hierarchy_object : HierarchyFault → List ℕ → List ℕ
+hierarchy_object f rest =
+    object_then (kind (codes "hierarchy")) (answer (codes "refused") ∷ (codes "number", number (number_of f)) ∷ name_fields f) rest
+
 -- the superclass of the class is final
 abbrev pub final_super_refusal : Form → List ℕ
 final_super_refusal Plain = codes "class refused 81\n"
@@ -113,6 +126,16 @@ verdict_line Plain r =
 verdict_line Json r =
     object_line (kind (codes "method") ∷ (codes "name", name r.name.bytes.now) ∷ (codes "descriptor", name r.descriptor.bytes.now) ∷ verdict_fields r.verdict)
 
+-- the object of a method, up to a text behind its fields
+abbrev pub verdict_object : MethodVerdict → List ℕ → List ℕ
+verdict_object r rest =
+    object_then (kind (codes "method")) ((codes "name", name r.name.bytes.now) ∷ (codes "descriptor", name r.descriptor.bytes.now) ∷ verdict_fields r.verdict) rest
+
+-- what `explain` says of a method with this code and these frames
+abbrev pub explained : Form → List Entry → MethodVerdict → Option CodeBody → FramesFact → List ℕ
+explained Plain pool r body x = explanation pool body (verdict_line Plain r) r.verdict x
+explained Json pool r body x = explanation_object pool body (verdict_object r) r.verdict x
+
 abbrev pub is_refusal : Verdict → Bool
 is_refusal Verified = false
 is_refusal NoCode = false
@@ -133,24 +156,28 @@ IsPart read r text = text ≡ []
 abbrev pub IsExplained : Read → FileFault → List ℕ → List ℕ → Type 0
 IsExplained read r line text = (part : List ℕ) × IsPart read r part × (text ≡ line ++ (sentence_line (file_fault_number r) ++ part))
 
--- of a file that is refused, and has a line in each form
-abbrev pub IsTold : Manner → Read → FileFault → (Form → List ℕ) → List ℕ → Type 0
-IsTold (Told form) read r line text = text ≡ line form
-IsTold Explained read r line text = IsExplained read r (line Plain) text
+-- of a file that is refused, and has a line in each form and an object of JSON
+abbrev pub IsTold : Manner → Read → FileFault → (Form → List ℕ) → (List ℕ → List ℕ) → List ℕ → Type 0
+IsTold (Told form) read r line object text = text ≡ line form
+IsTold (Explained Plain) read r line object text = IsExplained read r (line Plain) text
+IsTold (Explained Json) read r line object text = text ≡ object (fields_behind (sentence_fields (file_fault_number r)))
 
 abbrev pub hierarchy_told : Manner → HierarchyFault → List ℕ
 hierarchy_told (Told form) f = hierarchy_refusal form f
-hierarchy_told Explained f = hierarchy_refusal Plain f ++ sentence_line (number_of f)
+hierarchy_told (Explained Plain) f = hierarchy_refusal Plain f ++ sentence_line (number_of f)
+hierarchy_told (Explained Json) f = hierarchy_object f (fields_behind (sentence_fields (number_of f)))
 
 abbrev pub final_super_told : Manner → List ℕ
 final_super_told (Told form) = final_super_refusal form
-final_super_told Explained = final_super_refusal Plain ++ sentence_line 81
+final_super_told (Explained Plain) = final_super_refusal Plain ++ sentence_line 81
+final_super_told (Explained Json) =
+    object_line (kind (codes "class") ∷ answer (codes "refused") ∷ (codes "number", number 81) ∷ sentence_fields 81)
 
 -- the verdicts on the methods of a class; `explain` tells those that refuse, with the frames at the instructions at which they do
 abbrev pub IsReportTold : Manner → List ClassFact → JudgedClass → List MethodVerdict → List ℕ → Type 0
 IsReportTold (Told form) classes c rs text = text ≡ flat_map (verdict_line form) rs
-IsReportTold Explained classes c rs text =
-    (xs : List FramesAt) × AreFramed classes c rs xs × (text ≡ explanations (verdict_line Plain) c.file.constant_pool c.file.methods rs xs)
+IsReportTold (Explained form) classes c rs text =
+    (xs : List FramesAt) × AreFramed classes c rs xs × (text ≡ explanations (explained form c.file.constant_pool) c.file.methods rs xs)
 
 -- ---- what is said
 
@@ -173,11 +200,11 @@ HierarchySays manner classes c text status =
 -- Of a class and the files of the known ones: the first of these that is refused, or what is said of all.
 abbrev pub KnownSays : Manner → JudgedClass → List Read → List ℕ → ℕ → Type 0
 KnownSays manner c known text status =
-    ((i : ℕ) × (r : FileFault) × (first : IsFirstRefused known i r) × IsTold manner first.read r (λ form. known_refusal form (i + 1) r) text × (status ≡ refusal_status r))
+    ((i : ℕ) × (r : FileFault) × (first : IsFirstRefused known i r) × IsTold manner first.read r (λ form. known_refusal form (i + 1) r) (known_object (i + 1) r) text × (status ≡ refusal_status r))
     ⊎ ((cs : List Class) × AreFormed known cs × HierarchySays manner (map summary_of (c.file ∷ cs)) c text status)
 
 -- by a profile
 abbrev pub VerifySays : Manner → Profile → Read → List Read → List ℕ → ℕ → Type 0
 VerifySays manner profile read known text status =
-    ((r : FileFault) × IsRefused read r × IsTold manner read r (λ form. class_refusal form r) text × (status ≡ refusal_status r))
+    ((r : FileFault) × IsRefused read r × IsTold manner read r (λ form. class_refusal form r) (class_object r) text × (status ≡ refusal_status r))
     ⊎ ((c : Class) × IsFormed read c × KnownSays manner (judged profile c) known text status)

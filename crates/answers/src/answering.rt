@@ -44,8 +44,8 @@ pub fn answer<W: Write, S: BuildHasher + Drop>(
                 let manner = Manner::Told(form);
                 verify(alloc, manner, profile, read, known, hasher, out)
             }
-            Command::Explain(profile) => {
-                let manner = Manner::Explained;
+            Command::Explain(form, profile) => {
+                let manner = Manner::Explained(form);
                 verify(alloc, manner, profile, read, known, hasher, out)
             }
             Command::Play(profile) => play(alloc, profile, reads, hasher, out),

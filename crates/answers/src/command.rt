@@ -22,7 +22,7 @@ pub enum Command {
     Verify(Form, Profile),
     /// `explain CLASS KNOWN...`: the methods that `verify` refuses, and of each what its number says and what stands there; with
     /// `--dynamic` by [`Profile::Dynamic`].
-    Explain(Profile),
+    Explain(Form, Profile),
     /// `play CLASS...`: whether the classes in the files may run together, each method that has code verified; with `--dynamic` by
     /// [`Profile::Dynamic`].
     Play(Profile),

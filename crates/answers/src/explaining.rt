@@ -1,21 +1,24 @@
-//! The lines of `explain` about the methods of a class.
+//! The lines of `explain` about the methods of a class, or its objects of JSON.
 ghost use Rattle.std.specs.Prelude.{◌≡◌, map, [], codes, option_map};
 ghost use Rattle.classfile.specs.Methods.{code_of};
 ghost use Rattle.classfile.specs.Views.{member_view, code_view};
 ghost use Rattle.frames.specs.FrameFact.{frame_of};
 ghost use Rattle.rules.specs.Reasons.{reason_number};
 ghost use Rattle.verify.specs.Coming.{before, frames_view};
-ghost use Rattle.answers.specs.Explanations.{is_of_table, entries_for, lines_if, is_of_entry, frames_for, code_part, explanation, explanations};
-ghost use Rattle.answers.specs.Verdicts.{verdict_line};
+ghost use Rattle.answers.specs.Explanations.{is_of_table, entries_for, lines_if, is_of_entry, frames_for, code_part, explanation, frame_fields_of, declared_fields_of, frame_fields_for, entry_fields_for, code_fields, explanation_object, explanations};
+ghost use Rattle.printing.specs.Json.{fields_then, fields_behind};
+ghost use Rattle.answers.specs.Verdicts.{verdict_line, verdict_object, explained};
 ghost use Rattle.answers.specs.declared.command.Form.TheVariants.{Plain};
 
 use crate::command::Form;
-use crate::sentences::ReasonSentences;
-use crate::verdicts::VerdictLine;
+use crate::sentences::{ReasonSentenceFields, ReasonSentences};
+use crate::verdicts::{VerdictLine, VerdictObject};
 use classfile::{CodeAttr, Member};
+use frames::Frame;
 use pool::Pool;
 use printing::{
-    FrameLines, Handlers, InstructionAt, NamedAt, Print, Sizes, Then, Word, WriteFailed,
+    END, FrameFields, FrameLines, Handlers, HandlersField, InstructionAt, InstructionFields, NamedAt,
+    NamedFields, Print, SizeFields, Sizes, Then, Word, WriteFailed,
 };
 use rules::Reason;
 use std::io::Write;
@@ -200,9 +203,217 @@ impl<'m, 'r, 'a> Print for Explanation<'m, 'r, 'a> {
     }
 }
 
+/// The exception table of code as the last field of an object, where a reason is about it, and the end of the object.
+#[derive(Clone, Copy)]
+struct EntryFields<'m, 'a> {
+    reason: Reason<'a>,
+    pool: &'m Pool<'a>,
+    body: &'m CodeAttr<'a>,
+}
+
+impl<'m, 'a> Print for EntryFields<'m, 'a> {
+    ghost text = { λ t. fields_behind (entry_fields_for (reason_number t.reason) t.pool.now (code_view t.body.now)) };
+
+    fn put<W: Write>(&self, out: &mut W) -> Result<(), WriteFailed> {
+        if is_of_table(&self.reason) {
+            HandlersField {
+                pool: self.pool,
+                table: &self.body.exception_table,
+                behind: END,
+            }
+            .put(out)
+        } else {
+            END.put(out)
+        }
+    }
+}
+
+/// The fields of a frame, if there is one, and then what stands behind them.
+#[derive(Clone, Copy)]
+struct FrameIf<'r, 'a, B>(Option<&'r Frame<'a>>, B);
+
+impl<'r, 'a, B: Print + Copy> Print for FrameIf<'r, 'a, B> {
+    ghost text = { λ t. fields_then (frame_fields_of (option_map (λ f. frame_of f.now) t.0)) (B.text t.1) };
+
+    fn put<W: Write>(&self, out: &mut W) -> Result<(), WriteFailed> {
+        match self.0 {
+            Some(frame) => FrameFields {
+                locals: "locals",
+                stack: "stack",
+                flags: "flags",
+                frame,
+                behind: self.1,
+            }
+            .put(out),
+            None => self.1.put(out),
+        }
+    }
+}
+
+/// The fields of a frame that is declared, if one is, and then what stands behind them.
+#[derive(Clone, Copy)]
+struct DeclaredIf<'r, 'a, B>(Option<&'r Frame<'a>>, B);
+
+impl<'r, 'a, B: Print + Copy> Print for DeclaredIf<'r, 'a, B> {
+    ghost text = { λ t. fields_then (declared_fields_of (option_map (λ f. frame_of f.now) t.0)) (B.text t.1) };
+
+    fn put<W: Write>(&self, out: &mut W) -> Result<(), WriteFailed> {
+        match self.0 {
+            Some(frame) => FrameFields {
+                locals: "declared_locals",
+                stack: "declared_stack",
+                flags: "declared_flags",
+                frame,
+                behind: self.1,
+            }
+            .put(out),
+            None => self.1.put(out),
+        }
+    }
+}
+
+/// The fields of the frames at the instruction at which a method is refused for a reason, and then what stands behind them.
+#[derive(Clone, Copy)]
+struct FrameFieldsFor<'r, 'a, B> {
+    reason: Reason<'a>,
+    frames: &'r FramesAt<'a>,
+    behind: B,
+}
+
+impl<'r, 'a, B: Print + Copy> Print for FrameFieldsFor<'r, 'a, B> {
+    ghost text = { λ t. frame_fields_for (reason_number t.reason) (frames_view t.frames.now) (B.text t.behind) };
+
+    fn put<W: Write>(&self, out: &mut W) -> Result<(), WriteFailed> {
+        let coming = self.frames.coming.as_ref();
+        let declared = self.frames.declared.as_ref();
+        if is_of_entry(&self.reason) {
+            FrameIf(coming, DeclaredIf(declared, self.behind)).put(out)
+        } else {
+            match declared {
+                Some(_) => FrameIf(declared, self.behind).put(out),
+                None => FrameIf(coming, self.behind).put(out),
+            }
+        }
+    }
+}
+
+/// The fields on the code of a method which is refused at an offset for a reason, and the end of the object.
+#[derive(Clone, Copy)]
+struct CodeFields<'m, 'r, 'a> {
+    reason: Reason<'a>,
+    pool: &'m Pool<'a>,
+    member: &'m Member<'a>,
+    at: usize,
+    frames: &'r FramesAt<'a>,
+}
+
+impl<'m, 'r, 'a> Print for CodeFields<'m, 'r, 'a> {
+    ghost text = { λ t. code_fields (reason_number t.reason) t.pool.now (code_of (member_view t.member.now).attributes) t.at (frames_view t.frames.now) };
+
+    fn put<W: Write>(&self, out: &mut W) -> Result<(), WriteFailed> {
+        match self.member.code() {
+            None => END.put(out),
+            Some(body) => {
+                let code = body.code;
+                let at = self.at;
+                let pool = self.pool;
+                let reason = self.reason;
+                let frames = FrameFieldsFor {
+                    reason,
+                    frames: self.frames,
+                    behind: EntryFields { reason, pool, body },
+                };
+                let named = NamedFields {
+                    pool,
+                    code,
+                    at,
+                    behind: frames,
+                };
+                let behind = InstructionFields {
+                    code,
+                    at,
+                    behind: named,
+                };
+                SizeFields(body, behind).put(out)
+            }
+        }
+    }
+}
+
+/// A method and the verdict on it as an object of JSON, where it refuses, with the frames at the instruction at which it does.
+#[derive(Clone, Copy)]
+struct ExplanationObject<'m, 'r, 'a> {
+    pool: &'m Pool<'a>,
+    member: &'m Member<'a>,
+    method: MethodVerdict<'a>,
+    frames: &'r FramesAt<'a>,
+}
+
+impl<'m, 'r, 'a> Print for ExplanationObject<'m, 'r, 'a> {
+    ghost text = { λ t. explanation_object t.pool.now (code_of (member_view t.member.now).attributes) (verdict_object t.method) t.method.verdict (frames_view t.frames.now) };
+
+    fn put<W: Write>(&self, out: &mut W) -> Result<(), WriteFailed> {
+        match self.method.verdict {
+            Verdict::Verified | Verdict::NoCode => Word("").put(out),
+            Verdict::Refused { at, reason } => {
+                let code = CodeFields {
+                    reason,
+                    pool: self.pool,
+                    member: self.member,
+                    at,
+                    frames: self.frames,
+                };
+                VerdictObject {
+                    method: self.method,
+                    behind: ReasonSentenceFields(reason, code),
+                }
+                .put(out)
+            }
+        }
+    }
+}
+
+/// A method and the verdict on it in a form, which is explained where it refuses.
+#[derive(Clone, Copy)]
+struct Explained<'m, 'r, 'a> {
+    form: Form,
+    pool: &'m Pool<'a>,
+    member: &'m Member<'a>,
+    method: MethodVerdict<'a>,
+    frames: &'r FramesAt<'a>,
+}
+
+impl<'m, 'r, 'a> Print for Explained<'m, 'r, 'a> {
+    ghost text = { λ t. explained t.form t.pool.now t.method (code_of (member_view t.member.now).attributes) (frames_view t.frames.now) };
+
+    fn put<W: Write>(&self, out: &mut W) -> Result<(), WriteFailed> {
+        let pool = self.pool;
+        let member = self.member;
+        let method = self.method;
+        let frames = self.frames;
+        match self.form {
+            Form::Plain => Explanation {
+                pool,
+                member,
+                method,
+                frames,
+            }
+            .put(out),
+            Form::Json => ExplanationObject {
+                pool,
+                member,
+                method,
+                frames,
+            }
+            .put(out),
+        }
+    }
+}
+
 /// The methods of a class, whose names are in this pool, the verdicts on them, of which each is explained that refuses, and their frames.
 #[derive(Clone, Copy)]
 pub struct Explanations<'m, 'r, 'a> {
+    pub form: Form,
     pub pool: &'m Pool<'a>,
     pub members: &'m [Member<'a>],
     pub methods: &'r [MethodVerdict<'a>],
@@ -210,13 +421,14 @@ pub struct Explanations<'m, 'r, 'a> {
 }
 
 impl<'m, 'r, 'a> Print for Explanations<'m, 'r, 'a> {
-    ghost text = { λ t. explanations (verdict_line Plain) t.pool.now (map member_view t.members.now) t.methods.now t.frames.now };
+    ghost text = { λ t. explanations (explained t.form t.pool.now) (map member_view t.members.now) t.methods.now t.frames.now };
 
     fn put<W: Write>(&self, out: &mut W) -> Result<(), WriteFailed> {
         let count = self.members.len().min(self.methods.len());
         let count = count.min(self.frames.len());
         for i in 0..count {
-            let explanation = Explanation {
+            let explanation = Explained {
+                form: self.form,
                 pool: self.pool,
                 member: &self.members[i],
                 method: self.methods[i],

@@ -6,6 +6,6 @@ use crate::command::Form;
 pub enum Manner {
     /// `verify`: a line for each verdict, in this form.
     Told(Form),
-    /// `explain`: each refusal, and behind it what it says.
-    Explained,
+    /// `explain`: each refusal, and behind it what it says, in this form.
+    Explained(Form),
 }

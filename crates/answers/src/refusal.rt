@@ -1,6 +1,6 @@
 //! Why a file is no class that is well formed.
 ghost use Rattle.std.specs.Prelude.{◌≡◌};
-ghost use Rattle.printing.specs.Json.{fields_behind};
+ghost use Rattle.printing.specs.Json.{fields_then};
 ghost use Rattle.answers.specs.Texts.{refusal_text, refusal_fields, refusal_line};
 ghost use Rattle.answers.specs.Files.{refusal_status};
 
@@ -45,19 +45,21 @@ impl Print for Refusal {
     }
 }
 
-/// Why a file is no class that is well formed, as fields of an object.
+/// Why a file is no class that is well formed, as fields of an object, and then what stands behind them.
 #[derive(Clone, Copy)]
-pub struct RefusalFields(pub FileFault);
+pub struct RefusalFields<B>(pub FileFault, pub B);
 
-impl Print for RefusalFields {
-    ghost text = { λ t. fields_behind (refusal_fields t.0) };
+impl<B: Print + Copy> Print for RefusalFields<B> {
+    ghost text = { λ t. fields_then (refusal_fields t.0) (B.text t.1) };
 
     fn put<W: Write>(&self, out: &mut W) -> Result<(), WriteFailed> {
         match self.0 {
-            FileFault::OutOfMemory => More("number", Number(1_u64), END).put(out),
-            FileFault::Unread(fault) | FileFault::NoClass(fault) => FaultFields(fault).put(out),
+            FileFault::OutOfMemory => More("number", Number(1_u64), self.1).put(out),
+            FileFault::Unread(fault) | FileFault::NoClass(fault) => {
+                FaultFields(fault, self.1).put(out)
+            }
             FileFault::Malformed { rule, place } => {
-                let place = PlaceFields(place);
+                let place = PlaceFields(place, self.1);
                 More("number", Number(u64::from(rule.number())), place).put(out)
             }
         }
@@ -78,7 +80,8 @@ impl Print for RefusalLine {
         match self.form {
             Form::Plain => Then(Word("refused "), Then(self.refusal, Word("\n"))).put(out),
             Form::Json => {
-                let refused = More("answer", Quoted("refused"), RefusalFields(self.refusal.0));
+                let fields = RefusalFields(self.refusal.0, END);
+                let refused = More("answer", Quoted("refused"), fields);
                 Object("kind", Quoted("file"), refused).put(out)
             }
         }

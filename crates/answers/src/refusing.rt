@@ -3,10 +3,12 @@ ghost use Rattle.answers.specs.Verdicts.{hierarchy_told, final_super_told};
 
 use crate::command::Form;
 use crate::manner::Manner;
-use crate::sentences::{FinalSuperSentence, HierarchySentence};
-use crate::verdicts::{FinalSuper, HierarchyRefusal};
+use crate::sentences::{
+    FinalSuperSentence, FinalSuperSentenceField, HierarchySentence, HierarchySentenceField,
+};
+use crate::verdicts::{FinalSuper, HierarchyObject, HierarchyRefusal};
 use hierarchy::HierarchyFault;
-use printing::{Print, Then, WriteFailed};
+use printing::{More, Number, Object, Print, Quoted, Then, WriteFailed};
 use std::io::Write;
 
 /// The classes are no hierarchy.
@@ -23,9 +25,12 @@ impl<'a> Print for HierarchyTold<'a> {
         let fault = self.fault;
         match self.manner {
             Manner::Told(form) => HierarchyRefusal { form, fault }.put(out),
-            Manner::Explained => {
+            Manner::Explained(Form::Plain) => {
                 let form = Form::Plain;
                 Then(HierarchyRefusal { form, fault }, HierarchySentence(fault)).put(out)
+            }
+            Manner::Explained(Form::Json) => {
+                HierarchyObject(fault, HierarchySentenceField(fault)).put(out)
             }
         }
     }
@@ -41,7 +46,14 @@ impl Print for FinalSuperTold {
     fn put<W: Write>(&self, out: &mut W) -> Result<(), WriteFailed> {
         match self.0 {
             Manner::Told(form) => FinalSuper(form).put(out),
-            Manner::Explained => Then(FinalSuper(Form::Plain), FinalSuperSentence).put(out),
+            Manner::Explained(Form::Plain) => {
+                Then(FinalSuper(Form::Plain), FinalSuperSentence).put(out)
+            }
+            Manner::Explained(Form::Json) => {
+                let number = More("number", Number(81_u64), FinalSuperSentenceField);
+                let refused = More("answer", Quoted("refused"), number);
+                Object("kind", Quoted("class"), refused).put(out)
+            }
         }
     }
 }

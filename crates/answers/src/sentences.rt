@@ -4,12 +4,13 @@ ghost use Rattle.layout.specs.Refusals.{read_fault_number};
 ghost use Rattle.classfile.specs.Conditions.{rule_number};
 ghost use Rattle.hierarchy.specs.Faults.{number_of};
 ghost use Rattle.rules.specs.Reasons.{reason_number};
-ghost use Rattle.answers.specs.Sentences.{sentence, fault_sentence, numbered_line, sentence_line, fault_line, fault_lines, reason_lines, file_fault_number};
+ghost use Rattle.answers.specs.Sentences.{sentence, fault_sentence, numbered_line, sentence_line, fault_line, fault_lines, reason_lines, sentence_fields, fault_sentence_fields, reason_sentence_fields, file_fault_number};
+ghost use Rattle.printing.specs.Json.{fields_then, fields_behind};
 
 use classfile::FormRule;
 use hierarchy::HierarchyFault;
 use layout::ReadFault;
-use printing::{Number, Print, Then, Word, WriteFailed};
+use printing::{END, More, Number, Print, Quoted, Then, Word, WriteFailed};
 use rules::Reason;
 use std::io::Write;
 use verify::FileFault;
@@ -293,5 +294,75 @@ impl<'a> Print for ReasonSentences<'a> {
             text: reason_sentence(&self.0),
         };
         Then(line, ReasonFault(self.0)).put(out)
+    }
+}
+
+/// The sentence on the refusal of a file as the last field of an object.
+#[derive(Clone, Copy)]
+pub struct FileSentenceField(pub FileFault);
+
+impl Print for FileSentenceField {
+    ghost text = { λ t. fields_behind (sentence_fields (file_fault_number t.0)) };
+
+    fn put<W: Write>(&self, out: &mut W) -> Result<(), WriteFailed> {
+        More("sentence", Quoted(FileSentence(self.0).line().text), END).put(out)
+    }
+}
+
+/// The sentence on a fault of a hierarchy as the last field of an object.
+#[derive(Clone, Copy)]
+pub struct HierarchySentenceField<'a>(pub HierarchyFault<'a>);
+
+impl<'a> Print for HierarchySentenceField<'a> {
+    ghost text = { λ t. fields_behind (sentence_fields (number_of t.0)) };
+
+    fn put<W: Write>(&self, out: &mut W) -> Result<(), WriteFailed> {
+        More("sentence", Quoted(hierarchy_sentence(&self.0)), END).put(out)
+    }
+}
+
+/// The sentence on a final superclass as the last field of an object.
+#[derive(Clone, Copy)]
+pub struct FinalSuperSentenceField;
+
+impl Print for FinalSuperSentenceField {
+    ghost text = { λ t. fields_behind (sentence_fields 81) };
+
+    fn put<W: Write>(&self, out: &mut W) -> Result<(), WriteFailed> {
+        let text = "FinalSuper: the superclass of the class is final";
+        More("sentence", Quoted(text), END).put(out)
+    }
+}
+
+/// The sentence on the fault of a stack map or of code as a field, where a reason has one, and then what stands behind it.
+#[derive(Clone, Copy)]
+struct FaultSentenceFields<'a, B>(Reason<'a>, B);
+
+impl<'a, B: Print + Copy> Print for FaultSentenceFields<'a, B> {
+    ghost text = { λ t. fields_then (fault_sentence_fields t.0) (B.text t.1) };
+
+    fn put<W: Write>(&self, out: &mut W) -> Result<(), WriteFailed> {
+        match self.0 {
+            Reason::BadStackMap { fault } => {
+                More("fault_sentence", Quoted(fault_sentence(fault)), self.1).put(out)
+            }
+            Reason::BadCode { fault } => {
+                More("fault_sentence", Quoted(fault_sentence(fault)), self.1).put(out)
+            }
+            _ => self.1.put(out),
+        }
+    }
+}
+
+/// The sentences that say why a method is refused, as fields, and then what stands behind them.
+#[derive(Clone, Copy)]
+pub struct ReasonSentenceFields<'a, B>(pub Reason<'a>, pub B);
+
+impl<'a, B: Print + Copy> Print for ReasonSentenceFields<'a, B> {
+    ghost text = { λ t. fields_then (reason_sentence_fields t.0) (B.text t.1) };
+
+    fn put<W: Write>(&self, out: &mut W) -> Result<(), WriteFailed> {
+        let fault = FaultSentenceFields(self.0, self.1);
+        More("sentence", Quoted(reason_sentence(&self.0)), fault).put(out)
     }
 }

@@ -2,8 +2,8 @@
 ghost use Rattle.std.specs.Prelude.{◌≡◌};
 ghost use Rattle.std.specs.List.{flat_map};
 ghost use Rattle.printing.specs.Writing.{Writes};
-ghost use Rattle.printing.specs.Json.{fields_behind};
-ghost use Rattle.answers.specs.Verdicts.{class_refusal, known_refusal, fault_name, named_field, name_fields, hierarchy_refusal, final_super_refusal, reason_ending, reason_fields, verdict_text, verdict_fields, verdict_line, is_refusal, report_status};
+ghost use Rattle.printing.specs.Json.{fields_then};
+ghost use Rattle.answers.specs.Verdicts.{class_object, class_refusal, known_object, known_refusal, fault_name, named_field, name_fields, hierarchy_object, hierarchy_refusal, final_super_refusal, reason_ending, reason_fields, verdict_text, verdict_fields, verdict_object, verdict_line, is_refusal, report_status};
 
 use crate::command::Form;
 use crate::refusal::{Refusal, RefusalFields};
@@ -14,7 +14,20 @@ use printing::{
 };
 use rules::Reason;
 use std::io::Write;
-use verify::{MethodVerdict, Verdict};
+use verify::{FileFault, MethodVerdict, Verdict};
+
+/// The class that is to be verified is refused, as an object of JSON, and then what stands behind its fields.
+#[derive(Clone, Copy)]
+pub struct ClassObject<B>(pub FileFault, pub B);
+
+impl<B: Print + Copy> Print for ClassObject<B> {
+    ghost text = { λ t. class_object t.0 (B.text t.1) };
+
+    fn put<W: Write>(&self, out: &mut W) -> Result<(), WriteFailed> {
+        let refused = More("answer", Quoted("refused"), RefusalFields(self.0, self.1));
+        Object("kind", Quoted("class"), refused).put(out)
+    }
+}
 
 /// The class that is to be verified is refused.
 #[derive(Clone, Copy)]
@@ -29,11 +42,28 @@ impl Print for ClassRefusal {
     fn put<W: Write>(&self, out: &mut W) -> Result<(), WriteFailed> {
         match self.form {
             Form::Plain => Then(Word("class refused "), Then(self.refusal, Word("\n"))).put(out),
-            Form::Json => {
-                let refused = More("answer", Quoted("refused"), RefusalFields(self.refusal.0));
-                Object("kind", Quoted("class"), refused).put(out)
-            }
+            Form::Json => ClassObject(self.refusal.0, END).put(out),
         }
+    }
+}
+
+/// The known class of this number is refused, as an object of JSON, and then what stands behind its fields.
+#[derive(Clone, Copy)]
+pub struct KnownObject<B> {
+    /// It counts from 1.
+    pub number: usize,
+    pub fault: FileFault,
+    pub behind: B,
+}
+
+impl<B: Print + Copy> Print for KnownObject<B> {
+    ghost text = { λ t. known_object t.number t.fault (B.text t.behind) };
+
+    fn put<W: Write>(&self, out: &mut W) -> Result<(), WriteFailed> {
+        let fields = RefusalFields(self.fault, self.behind);
+        let refused = More("answer", Quoted("refused"), fields);
+        let position = More("position", Number(self.number), refused);
+        Object("kind", Quoted("known"), position).put(out)
     }
 }
 
@@ -56,10 +86,12 @@ impl Print for KnownRefusal {
                 let refused = Then(Word(" refused "), Then(self.refusal, Word("\n")));
                 Then(Word("known "), Then(number, refused)).put(out)
             }
-            Form::Json => {
-                let refused = More("answer", Quoted("refused"), RefusalFields(self.refusal.0));
-                Object("kind", Quoted("known"), More("position", number, refused)).put(out)
+            Form::Json => KnownObject {
+                number: self.number,
+                fault: self.refusal.0,
+                behind: END,
             }
+            .put(out),
         }
     }
 }
@@ -85,31 +117,50 @@ impl<'a> Print for FaultName<'a> {
     }
 }
 
-/// Writes the name of a class as the last field.
-fn put_named<W: Write>(out: &mut W, name: &[u8]) -> Result<(), WriteFailed>
-    ensures { Writes (W.contents out.old) (W.contents out.new) (fields_behind (named_field name.now)) result }
+/// Writes the name of a class as a field, and then what stands behind it.
+fn put_named<W: Write, B: Print + Copy>(
+    out: &mut W,
+    name: &[u8],
+    behind: B,
+) -> Result<(), WriteFailed>
+    ensures { Writes (W.contents out.old) (W.contents out.new) (fields_then (named_field name.now) (B.text behind)) result }
 {
-    More("name", QuotedSpelled(name), END).put(out)
+    More("name", QuotedSpelled(name), behind).put(out)
 }
 
-/// The name of the class that has a fault, as a field where it has one.
+/// The name of the class that has a fault, as a field where it has one, and then what stands behind it.
 #[derive(Clone, Copy)]
-struct NameFields<'a>(HierarchyFault<'a>);
+struct NameFields<'a, B>(HierarchyFault<'a>, B);
 
-impl<'a> Print for NameFields<'a> {
-    ghost text = { λ t. fields_behind (name_fields t.0) };
+impl<'a, B: Print + Copy> Print for NameFields<'a, B> {
+    ghost text = { λ t. fields_then (name_fields t.0) (B.text t.1) };
 
     fn put<W: Write>(&self, out: &mut W) -> Result<(), WriteFailed> {
         match self.0 {
-            HierarchyFault::OutOfMemory => END.put(out),
-            HierarchyFault::ClassTwice { name } => put_named(out, name),
-            HierarchyFault::Cycle { name } => put_named(out, name),
-            HierarchyFault::SuperMissing { name } => put_named(out, name),
-            HierarchyFault::NoObject => END.put(out),
-            HierarchyFault::BadArrayInterface { name } => put_named(out, name),
-            HierarchyFault::TooManyClasses => END.put(out),
-            HierarchyFault::InterfaceSuper { name } => put_named(out, name),
+            HierarchyFault::OutOfMemory => self.1.put(out),
+            HierarchyFault::ClassTwice { name } => put_named(out, name, self.1),
+            HierarchyFault::Cycle { name } => put_named(out, name, self.1),
+            HierarchyFault::SuperMissing { name } => put_named(out, name, self.1),
+            HierarchyFault::NoObject => self.1.put(out),
+            HierarchyFault::BadArrayInterface { name } => put_named(out, name, self.1),
+            HierarchyFault::TooManyClasses => self.1.put(out),
+            HierarchyFault::InterfaceSuper { name } => put_named(out, name, self.1),
         }
+    }
+}
+
+/// The classes are no hierarchy, as an object of JSON, and then what stands behind its fields.
+#[derive(Clone, Copy)]
+pub struct HierarchyObject<'a, B>(pub HierarchyFault<'a>, pub B);
+
+impl<'a, B: Print + Copy> Print for HierarchyObject<'a, B> {
+    ghost text = { λ t. hierarchy_object t.0 (B.text t.1) };
+
+    fn put<W: Write>(&self, out: &mut W) -> Result<(), WriteFailed> {
+        let name = NameFields(self.0, self.1);
+        let number = More("number", Number(u64::from(self.0.number())), name);
+        let refused = More("answer", Quoted("refused"), number);
+        Object("kind", Quoted("hierarchy"), refused).put(out)
     }
 }
 
@@ -124,17 +175,13 @@ impl<'a> Print for HierarchyRefusal<'a> {
     ghost text = { λ t. hierarchy_refusal t.form t.fault };
 
     fn put<W: Write>(&self, out: &mut W) -> Result<(), WriteFailed> {
-        let number = Number(u64::from(self.fault.number()));
         match self.form {
             Form::Plain => {
+                let number = Number(u64::from(self.fault.number()));
                 let name = Then(FaultName(self.fault), Word("\n"));
                 Then(Word("hierarchy refused "), Then(number, name)).put(out)
             }
-            Form::Json => {
-                let number = More("number", number, NameFields(self.fault));
-                let refused = More("answer", Quoted("refused"), number);
-                Object("kind", Quoted("hierarchy"), refused).put(out)
-            }
+            Form::Json => HierarchyObject(self.fault, END).put(out),
         }
     }
 }
@@ -176,20 +223,20 @@ impl<'a> Print for ReasonEnding<'a> {
     }
 }
 
-/// The end of a refusal, as a field where it has one.
+/// The end of a refusal, as a field where it has one, and then what stands behind it.
 #[derive(Clone, Copy)]
-struct ReasonFields<'a>(Reason<'a>);
+struct ReasonFields<'a, B>(Reason<'a>, B);
 
-impl<'a> Print for ReasonFields<'a> {
-    ghost text = { λ t. fields_behind (reason_fields t.0) };
+impl<'a, B: Print + Copy> Print for ReasonFields<'a, B> {
+    ghost text = { λ t. fields_then (reason_fields t.0) (B.text t.1) };
 
     fn put<W: Write>(&self, out: &mut W) -> Result<(), WriteFailed> {
         match self.0 {
-            Reason::ClassMissing(name) => More("missing", QuotedSpelled(name), END).put(out),
+            Reason::ClassMissing(name) => More("missing", QuotedSpelled(name), self.1).put(out),
             Reason::BadStackMap { fault } | Reason::BadCode { fault } => {
-                More("fault", Number(u64::from(fault)), END).put(out)
+                More("fault", Number(u64::from(fault)), self.1).put(out)
             }
-            _ => END.put(out),
+            _ => self.1.put(out),
         }
     }
 }
@@ -218,23 +265,42 @@ impl<'a> Print for VerdictText<'a> {
     }
 }
 
-/// The verdict on a method, as fields behind its name.
+/// The verdict on a method, as fields behind its name, and then what stands behind them.
 #[derive(Clone, Copy)]
-struct VerdictFields<'a>(Verdict<'a>);
+struct VerdictFields<'a, B>(Verdict<'a>, B);
 
-impl<'a> Print for VerdictFields<'a> {
-    ghost text = { λ t. fields_behind (verdict_fields t.0) };
+impl<'a, B: Print + Copy> Print for VerdictFields<'a, B> {
+    ghost text = { λ t. fields_then (verdict_fields t.0) (B.text t.1) };
 
     fn put<W: Write>(&self, out: &mut W) -> Result<(), WriteFailed> {
         match self.0 {
-            Verdict::Verified => More("answer", Quoted("verified"), END).put(out),
-            Verdict::NoCode => More("answer", Quoted("no code"), END).put(out),
+            Verdict::Verified => More("answer", Quoted("verified"), self.1).put(out),
+            Verdict::NoCode => More("answer", Quoted("no code"), self.1).put(out),
             Verdict::Refused { at, reason } => {
-                let place = More("at", Number(at), ReasonFields(reason));
+                let place = More("at", Number(at), ReasonFields(reason, self.1));
                 let number = More("number", Number(u64::from(reason.number())), place);
                 More("answer", Quoted("refused"), number).put(out)
             }
         }
+    }
+}
+
+/// The object of a method and the verdict on it, and then what stands behind its fields.
+#[derive(Clone, Copy)]
+pub struct VerdictObject<'a, B> {
+    pub method: MethodVerdict<'a>,
+    pub behind: B,
+}
+
+impl<'a, B: Print + Copy> Print for VerdictObject<'a, B> {
+    ghost text = { λ t. verdict_object t.method (B.text t.behind) };
+
+    fn put<W: Write>(&self, out: &mut W) -> Result<(), WriteFailed> {
+        let method = self.method;
+        let verdict = VerdictFields(method.verdict, self.behind);
+        let descriptor = More("descriptor", QuotedName(method.descriptor), verdict);
+        let name = More("name", QuotedName(method.name), descriptor);
+        Object("kind", Quoted("method"), name).put(out)
     }
 }
 
@@ -258,10 +324,8 @@ impl<'a> Print for VerdictLine<'a> {
                 Then(Word("method "), name).put(out)
             }
             Form::Json => {
-                let verdict = VerdictFields(method.verdict);
-                let descriptor = More("descriptor", QuotedName(method.descriptor), verdict);
-                let name = More("name", QuotedName(method.name), descriptor);
-                Object("kind", Quoted("method"), name).put(out)
+                let behind = END;
+                VerdictObject { method, behind }.put(out)
             }
         }
     }

@@ -7,10 +7,9 @@ ghost use Rattle.verify.specs.Files.{IsDecoded, IsFormed};
 ghost use Rattle.verify.specs.Among.{ReportsAmong};
 ghost use Rattle.answers.specs.Files.{read_view, refusal_status, CountsKnown};
 ghost use Rattle.answers.specs.Answers.{Answered};
-ghost use Rattle.answers.specs.Verdicts.{VerifySays, class_refusal, known_refusal, IsExplained, IsTold, report_status, verdict_line};
+ghost use Rattle.answers.specs.Verdicts.{VerifySays, class_object, class_refusal, known_object, known_refusal, IsExplained, IsTold, report_status, explained};
 ghost use Rattle.answers.specs.declared.fault.AnswerFault.TheVariants.{OutOfMemory};
 ghost use Rattle.answers.specs.Explanations.{explanations};
-ghost use Rattle.answers.specs.declared.command.Form.TheVariants.{Plain};
 ghost use Rattle.answers.specs.declared.manner.Manner.TheVariants as manners;
 
 use crate::command::Form;
@@ -20,9 +19,9 @@ use crate::manner::Manner;
 use crate::reads::{file_read, file_reads};
 use crate::refusal::Refusal;
 use crate::refusing::{FinalSuperTold, HierarchyTold};
-use crate::sentences::FileSentence;
+use crate::sentences::{FileSentence, FileSentenceField};
 use crate::telling::tell;
-use crate::verdicts::{ClassRefusal, KnownRefusal, ReportText};
+use crate::verdicts::{ClassObject, ClassRefusal, KnownObject, KnownRefusal, ReportText};
 use classfile::{ClassFile, Profile, decode, one_class};
 use layout::StreamFault;
 use printing::{PartLines, Print, Then, Word};
@@ -85,15 +84,18 @@ fn refuse_class<W: Write>(
     fault: FileFault,
     out: &mut W,
 ) -> Result<u8, AnswerFault>
-    ensures { Answered (λ t s. IsTold manner (read_view read.now) fault (λ form. class_refusal form fault) t × (s ≡ refusal_status fault)) (W.contents out.old) (W.contents out.new) result }
+    ensures { Answered (λ t s. IsTold manner (read_view read.now) fault (λ form. class_refusal form fault) (class_object fault) t × (s ≡ refusal_status fault)) (W.contents out.old) (W.contents out.new) result }
 {
     let refusal = Refusal(fault);
     match manner {
         Manner::Told(form) => tell(&ClassRefusal { form, refusal }, refusal.status(), out),
-        Manner::Explained => {
-            let form = Form::Plain;
-            explain_file(alloc, ClassRefusal { form, refusal }, read, fault, out)
-        }
+        Manner::Explained(form) => match form {
+            Form::Plain => explain_file(alloc, ClassRefusal { form, refusal }, read, fault, out),
+            Form::Json => {
+                let text = ClassObject(fault, FileSentenceField(fault));
+                tell(&text, refusal.status(), out)
+            }
+        },
     }
 }
 
@@ -106,7 +108,7 @@ fn refuse_known<W: Write>(
     fault: FileFault,
     out: &mut W,
 ) -> Result<u8, AnswerFault>
-    ensures { Answered (λ t s. IsTold manner (read_view read.now) fault (λ form. known_refusal form number fault) t × (s ≡ refusal_status fault)) (W.contents out.old) (W.contents out.new) result }
+    ensures { Answered (λ t s. IsTold manner (read_view read.now) fault (λ form. known_refusal form number fault) (known_object number fault) t × (s ≡ refusal_status fault)) (W.contents out.old) (W.contents out.new) result }
 {
     let refusal = Refusal(fault);
     match manner {
@@ -118,14 +120,24 @@ fn refuse_known<W: Write>(
             };
             tell(&line, refusal.status(), out)
         }
-        Manner::Explained => {
-            let line = KnownRefusal {
-                form: Form::Plain,
-                number,
-                refusal,
-            };
-            explain_file(alloc, line, read, fault, out)
-        }
+        Manner::Explained(form) => match form {
+            Form::Plain => {
+                let line = KnownRefusal {
+                    form,
+                    number,
+                    refusal,
+                };
+                explain_file(alloc, line, read, fault, out)
+            }
+            Form::Json => {
+                let text = KnownObject {
+                    number,
+                    fault,
+                    behind: FileSentenceField(fault),
+                };
+                tell(&text, refusal.status(), out)
+            }
+        },
     }
 }
 
@@ -156,19 +168,20 @@ fn refuse<W: Write>(
 /// Writes the explanations of the methods of a class, whose file was read so.
 fn explain<'a, W: Write>(
     alloc: Global,
+    form: Form,
     read: &'a Result<Vec<u8>, StreamFault>,
     found: &Explained<'a>,
     out: &mut W,
 ) -> Result<u8, AnswerFault>
     ensures { (c : Class) → IsFormed (read_view read.now) c → let rs = found.now.report.methods.items in
-        Answered (λ t s. (t ≡ explanations (verdict_line Plain) c.constant_pool c.methods rs found.now.frames.items) × (s ≡ report_status rs)) (W.contents out.old) (W.contents out.new) result }
+        Answered (λ t s. (t ≡ explanations (explained form c.constant_pool) c.methods rs found.now.frames.items) × (s ≡ report_status rs)) (W.contents out.old) (W.contents out.new) result }
 {
     one_class();
     match class_file(alloc, file_read(read)) {
         Ok(class) => {
-            let form = Form::Plain;
             let methods = &found.report.methods;
             let explanations = Explanations {
+                form,
                 pool: &class.constant_pool,
                 members: &class.methods,
                 methods,
@@ -210,21 +223,22 @@ fn tell_verdicts<'a, S: BuildHasher + Drop, W: Write>(
 /// Answers `explain`, as [`tell_verdicts`] answers `verify`.
 fn explain_verdicts<'a, S: BuildHasher + Drop, W: Write>(
     alloc: Global,
+    form: Form,
     profile: Profile,
     read: &'a Result<Vec<u8>, StreamFault>,
     known: &'a [Result<Vec<u8>, StreamFault>],
     hasher: S,
     out: &mut W,
 ) -> Result<u8, AnswerFault>
-    ensures { Answered (VerifySays manners.Explained profile (read_view read.now) (map read_view known.now)) (W.contents out.old) (W.contents out.new) result }
+    ensures { Answered (VerifySays (manners.Explained form) profile (read_view read.now) (map read_view known.now)) (W.contents out.old) (W.contents out.new) result }
 {
     let files = match file_reads(alloc, known) {
         Ok(files) => files,
         Err(fault) => return Err(fault),
     };
     match explain_among_under(alloc, profile, file_read(read), &files, hasher) {
-        Ok(found) => explain(alloc, read, &found, out),
-        Err(fault) => refuse(alloc, Manner::Explained, read, known, fault, out),
+        Ok(found) => explain(alloc, form, read, &found, out),
+        Err(fault) => refuse(alloc, Manner::Explained(form), read, known, fault, out),
     }
 }
 
@@ -243,6 +257,8 @@ pub fn verify<'a, S: BuildHasher + Drop, W: Write>(
 {
     match manner {
         Manner::Told(form) => tell_verdicts(alloc, form, profile, read, known, hasher, out),
-        Manner::Explained => explain_verdicts(alloc, profile, read, known, hasher, out),
+        Manner::Explained(form) => {
+            explain_verdicts(alloc, form, profile, read, known, hasher, out)
+        }
     }
 }

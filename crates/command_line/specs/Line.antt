@@ -44,9 +44,9 @@ dynamic = record (new_rule (codes "dynamic")) { long = Some (codes "dynamic"); a
 abbrev pub verify : Shape
 verify = (with_rule (with_rule (with_rule (with_rule (new_app (codes "verify")) class_file) known_files) dynamic) json).top
 
--- `explain` takes the same files
+-- `explain` takes the same words
 abbrev pub explain : Shape
-explain = (with_rule (with_rule (with_rule (new_app (codes "explain")) class_file) known_files) dynamic).top
+explain = (with_rule (with_rule (with_rule (with_rule (new_app (codes "explain")) class_file) known_files) dynamic) json).top
 
 -- the files of the classes that are in play, of which there is one at least
 abbrev pub class_files : Rule
@@ -90,7 +90,7 @@ abbrev pub files_in : Command → List Row → List Text
 files_in (Check form) rows = words_for (codes "FILE") rows
 files_in Show rows = words_for (codes "FILE") rows
 files_in (Verify form profile) rows = words_for (codes "CLASS") rows ++ words_for (codes "KNOWN") rows
-files_in (Explain profile) rows = words_for (codes "CLASS") rows ++ words_for (codes "KNOWN") rows
+files_in (Explain form profile) rows = words_for (codes "CLASS") rows ++ words_for (codes "KNOWN") rows
 files_in (Play profile) rows = words_for (codes "CLASS") rows
 files_in (VerifyEach profile classes) rows = words_for (codes "CLASS") rows ++ words_for (codes "KNOWN") rows
 
@@ -110,7 +110,7 @@ abbrev pub command_named : Text → List Row → Command
 command_named name rows =
     if bytes_eq name (codes "show") then Show
     else if bytes_eq name (codes "verify") then Verify (form_in rows) (profile_in rows)
-    else if bytes_eq name (codes "explain") then Explain (profile_in rows)
+    else if bytes_eq name (codes "explain") then Explain (form_in rows) (profile_in rows)
     else if bytes_eq name (codes "play") then Play (profile_in rows)
     else if bytes_eq name (codes "verify-each") then VerifyEach (profile_in rows) (length (words_for (codes "CLASS") rows))
     else Check (form_in rows)

@@ -190,12 +190,14 @@ fn verify<'a>(alloc: Global) -> Result<Parser<'a>, AllocError>
     )
 }
 
-/// `explain --dynamic CLASS KNOWN...`
+/// `explain --dynamic --json CLASS KNOWN...`
 fn explain<'a>(alloc: Global) -> Result<Parser<'a>, AllocError>
-    ensures app { IfOk result (λ c. app_of c ≡ with_rule (with_rule (with_rule (new_app (codes "explain")) class_file) known_files) dynamic) }
+    ensures app { IfOk result (λ c. app_of c ≡ with_rule (with_rule (with_rule (with_rule (new_app (codes "explain")) class_file) known_files) dynamic) json) }
     ensures local { IfOk result (λ c. (out-Command c).has_globals ≡ false) }
 {
-    let command = class_and_known(alloc, "explain")?.arg(dynamic(alloc))?;
+    let command = class_and_known(alloc, "explain")?
+        .arg(dynamic(alloc))?
+        .arg(json(alloc))?;
     Ok(
         command
             .about("Prints each method of a class that is refused, and why")
@@ -341,7 +343,7 @@ fn files(alloc: Global, command: Command, found: &ArgMatches<'_>) -> Result<Vec<
     let mut files = Vec::new(alloc);
     match command {
         Command::Check(_) | Command::Show => add_words(alloc, found, "FILE", &mut files)?,
-        Command::Verify(..) | Command::Explain(_) | Command::VerifyEach { .. } => {
+        Command::Verify(..) | Command::Explain(..) | Command::VerifyEach { .. } => {
             add_words(alloc, found, "CLASS", &mut files)?;
             add_words(alloc, found, "KNOWN", &mut files)?;
         }
@@ -412,7 +414,7 @@ fn command_named(name: &str, found: &ArgMatches<'_>) -> Command
     } else if name == "verify" {
         Command::Verify(form(found), profile(found))
     } else if name == "explain" {
-        Command::Explain(profile(found))
+        Command::Explain(form(found), profile(found))
     } else if name == "play" {
         Command::Play(profile(found))
     } else if name == "verify-each" {

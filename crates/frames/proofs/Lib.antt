@@ -29,3 +29,6 @@ pub mod Holding
 pub mod LocalTypes
 pub mod LocalWrites
 pub mod OneLocal
+pub mod StackItems
+pub mod StackMoves
+pub mod ListedItems

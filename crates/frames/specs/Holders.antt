@@ -1,4 +1,4 @@
--- The locals that came to hold each object that is not initialized. Words of the code's own steps.
+-- The places, of locals or of an operand stack, that came to hold each object that is not initialized. Words of the code's own steps.
 use Rattle.std.specs.Prelude.{◌≡◌, ◌≤◌, ℕ, zero, suc, ◌-◌, List, get_or, Option, Some, None, slice_get, nat_eq, if◌then◌else◌}
 use Rattle.frames.specs.VerificationType.{VerificationType, top, int, float, long, double, null, class, array, uninit_this, uninit}
 use Rattle.frames.specs.declared.holders.Holder.{Holder}
@@ -29,7 +29,7 @@ abbrev pub further : List Holder → ℕ → ℕ → ℕ
 further holders zero at = at
 further holders (suc n) at = further holders n (next_of (holder_at holders at))
 
--- a holder of this local is there, from a place on
+-- a holder of this place is there, from a place on
 pub record IsAmong (holders : List Holder) (at local : ℕ) : Type 0 where
   pub steps : ℕ
   pub holder : Holder

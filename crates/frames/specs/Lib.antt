@@ -16,6 +16,8 @@ pub mod Holders
 pub mod ObjectHolders
 pub mod LocalTypes
 pub mod Locals
+pub mod StackItems
+pub mod OperandStacks
 pub mod Chains
 pub mod Rising
 pub mod DeclaredViews

@@ -1,4 +1,4 @@
-//! The locals that came to hold objects that are not initialized.
+//! The places, of locals or of an operand stack, that came to hold objects that are not initialized.
 ghost use Rattle.std.specs.Prelude.{◌≡◌, ◌≤◌, ℕ, length, get_or, IfSome};
 ghost use Rattle.frames.specs.VerificationType.{type_of};
 ghost use Rattle.frames.specs.Holders.{number_of, LeadDown};
@@ -6,16 +6,16 @@ ghost use Rattle.frames.specs.Holders.{number_of, LeadDown};
 use crate::vtype::VType;
 use std::alloc::{AllocError, Global};
 
-/// A local that came to hold an object.
+/// A place that came to hold an object.
 #[derive(Clone, Copy)]
 pub struct Holder {
-    /// The number of the local.
+    /// The number of the local, or of the item from the bottom up.
     pub place: usize,
     /// The place of the holder in front that came to hold the same object, counted from 1; 0 where there is none.
     pub next: usize,
 }
 
-/// The locals that came to hold each object that is not initialized, the latest first. Some may hold it no more.
+/// The places that came to hold each object that is not initialized, the latest first. Some may hold it no more.
 #[derive(Drop)]
 pub struct Holders {
     // By the number of the object, the place of its latest holder, counted from 1; 0 where there is none.
@@ -93,7 +93,7 @@ impl Holders {
         Ok(())
     }
 
-    /// A local comes to hold this, which may be an object that is not initialized.
+    /// A place comes to hold this, which may be an object that is not initialized.
     pub fn put(&mut self, t: &VType<'_>, place: usize) -> Result<(), AllocError>
         ensures kept { (object : VerificationType) (local : ℕ) → Holds self.old object local → Holds self.new object local }
         ensures put { OnOk result (IsSome (number_of (type_of t.now)) → Holds self.new (type_of t.now) place) }

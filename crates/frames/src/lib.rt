@@ -13,12 +13,14 @@
 //! - `fitting`: which declared frames running locals are known to fit.
 //! - `frame`: frames.
 //! - `frame_fault`: why an entry is refused.
-//! - `holders`: the locals that came to hold objects that are not initialized.
+//! - `holders`: the places that came to hold objects that are not initialized.
 //! - `laws`: what the answers mean, by chains of superclasses and place by place.
 //! - `locals`: the local variables of a running frame.
 //! - `map_reading`, `map_writing`: the two directions of a stack map.
+//! - `moves`: the items of a stack in place.
 //! - `naming`: the types of what descriptors and Class constants name.
 //! - `objects`: objects that are not initialized.
+//! - `operand_stack`: the operand stack of a running frame.
 //! - `packed`: frames with their slots, compared by lanes.
 //! - `packing`: types as slots of four bytes.
 //! - `refusing`: an entry judged.
@@ -47,8 +49,10 @@ pub mod laws;
 mod locals;
 mod map_reading;
 mod map_writing;
+mod moves;
 mod naming;
 mod objects;
+mod operand_stack;
 mod packed;
 mod packing;
 mod refusing;
@@ -72,6 +76,7 @@ pub use holders::Holder;
 pub use locals::Locals;
 pub use naming::{array_of, held_by, number_type, reference_to};
 pub use objects::{is_made_at, is_object, is_own};
+pub use operand_stack::OperandStack;
 pub use packed::{Packed, packed_assignable};
 pub use packing::pack;
 pub use refusing::Limits;

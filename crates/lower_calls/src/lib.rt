@@ -18,6 +18,7 @@
 //! | `assignability` | `frames`: one type or frame where another is wanted |
 //! | `packed_frames` | `frames`: types as slots, and frames compared by them |
 //! | `stack_maps`, `declared_frames` | `frames`: stack maps both ways, and the frames that they declare |
+//! | `operand_stacks` | `frames`: the operand stack of a running frame, and the objects on it |
 //! | `running_locals` | `frames`: the local variables of a running frame, and the objects in them |
 //! | `instruction_rules` | `rules`: single instructions |
 //! | `instructions_in_place` | `rules`: instructions on a frame in place, the members that they name, and reasons taken together |
@@ -56,6 +57,8 @@ mod instructions_in_place;
 pub mod making;
 #[cfg(test)]
 mod named_constants;
+#[cfg(test)]
+mod operand_stacks;
 #[cfg(test)]
 mod packed_frames;
 #[cfg(test)]

@@ -8,6 +8,8 @@ use Rattle.names.specs.Names.{bracket}
 use Rattle.names.specs.Descriptors.{FieldDescriptor, dimensioned}
 use Rattle.frames.specs.declared.vtype.VType.{VType}
 use Rattle.frames.specs.VerificationType.{VerificationType, top, type_of}
+use Rattle.printing.specs.declared.within.Within.{Within}
+use Rattle.printing.specs.declared.within.Within.TheVariants.{Words}
 use Rattle.printing.specs.Frames.{descriptor_text, type_text, more_text, types_text, in_front, in_use, if_top}
 
 pub brackets_left : (n c : ℕ) → c < n → replicate (n - c) bracket ≡ bracket ∷ replicate (n - (c + 1)) bracket
@@ -17,9 +19,9 @@ pub no_brackets : (n c : ℕ) → n ≡ c → replicate (n - c) bracket ≡ []
 no_brackets n c e = let z : n - c ≡ 0 = omega (arith, e) in ap (λ k. replicate k bracket) z
 
 -- an array of so many dimensions begins with so many brackets
-pub dimensioned_text : (n : ℕ) (t : FieldDescriptor) → replicate n bracket ++ descriptor_text t ≡ descriptor_text (dimensioned n t)
-dimensioned_text zero t = refl
-dimensioned_text (suc n) t = ap (λ l. bracket ∷ l) (dimensioned_text n t)
+pub dimensioned_text : (within : Within) (n : ℕ) (t : FieldDescriptor) → replicate n bracket ++ descriptor_text within t ≡ descriptor_text within (dimensioned n t)
+dimensioned_text within zero t = refl
+dimensioned_text within (suc n) t = ap (λ l. bracket ∷ l) (dimensioned_text within n t)
 
 front_more : (t : VerificationType) (ts : List VerificationType) (x : VerificationType) → in_front t (ts ++ x ∷ []) ≡ t ∷ (ts ++ x ∷ [])
 front_more top [] x = refl
@@ -44,10 +46,10 @@ more_of (x ∷ xs) = ap (λ l. more_text (type_of x) ++ l) (more_of xs)
 
 -- the first one and the others
 pub row_text : (x : VType) (xs all : List VType) → all ≡ x ∷ xs
-    → (codes " " ++ type_text (type_of x)) ++ flat_map (λ y. more_text (type_of y)) xs ≡ types_text (map type_of all)
+    → (codes " " ++ type_text Words (type_of x)) ++ flat_map (λ y. more_text (type_of y)) xs ≡ types_text (map type_of all)
 row_text x xs all e =
-    append_assoc (codes " ") (type_text (type_of x)) (flat_map (λ y. more_text (type_of y)) xs)
-    ∙ ap (λ l. codes " " ++ (type_text (type_of x) ++ l)) (more_of xs)
+    append_assoc (codes " ") (type_text Words (type_of x)) (flat_map (λ y. more_text (type_of y)) xs)
+    ∙ ap (λ l. codes " " ++ (type_text Words (type_of x) ++ l)) (more_of xs)
     ∙ ap (λ l. types_text (map type_of l)) (sym e)
 
 -- ---- locals in use

@@ -2,3 +2,4 @@ pub mod FirstColumn
 pub mod Steps
 pub mod Writings
 pub mod Frames
+pub mod Fields

@@ -57,7 +57,9 @@ wide_text (wide_local opcode n) = codes "wide "
 wide_text (wide_increment opcode n by) = codes "wide "
 wide_text _ = []
 
+abbrev pub instruction_text : ℕ × Instruction → List ℕ
+instruction_text x =
+    decimal x.0 ++ (codes " " ++ (wide_text x.1.operands ++ (mnemonic (modified x.1.opcode x.1.operands) ++ operands_text x.0 x.1.operands)))
+
 abbrev pub instruction_line : ℕ × Instruction → List ℕ
-instruction_line x =
-    codes "  " ++ (decimal x.0 ++ (codes " " ++ (wide_text x.1.operands
-    ++ (mnemonic (modified x.1.opcode x.1.operands) ++ (operands_text x.0 x.1.operands ++ codes "\n")))))
+instruction_line x = codes "  " ++ (instruction_text x ++ codes "\n")

@@ -17,15 +17,31 @@ character_text unit = if is_unescaped unit then unit ∷ [] else 92 ∷ 117 ∷ 
 abbrev pub string_text : List ℕ → List ℕ
 string_text units = codes "\"" ++ (flat_map character_text units ++ codes "\"")
 
--- ---- values (RFC 8259, 3): strings and numbers
+-- ---- values (RFC 8259, 3): strings, numbers and arrays of strings
+
+-- characters of a string as they are written, within quotation marks
+abbrev pub enclosed : List ℕ → List ℕ
+enclosed characters = codes "\"" ++ (characters ++ codes "\"")
+
+abbrev pub following : List ℕ → List ℕ
+following characters = codes "," ++ enclosed characters
+
+-- an array of strings, each by its characters as they are written (RFC 8259, 5)
+abbrev pub array_text : List (List ℕ) → List ℕ
+array_text [] = codes "[]"
+array_text (s ∷ ss) = codes "[" ++ (enclosed s ++ (flat_map following ss ++ codes "]"))
 
 pub data Value : Type 0 where
   string : (units : List ℕ) → Value
   number : (n : ℕ) → Value
+  written : (characters : List ℕ) → Value
+  strings : (all : List (List ℕ)) → Value
 
 abbrev pub value_text : Value → List ℕ
 value_text (string units) = string_text units
 value_text (number n) = decimal n
+value_text (written characters) = enclosed characters
+value_text (strings all) = array_text all
 
 -- a word of ASCII
 abbrev pub word : List ℕ → Value
@@ -51,10 +67,22 @@ Field = List ℕ × Value
 abbrev pub field_text : Field → List ℕ
 field_text f = string_text f.0 ++ (codes ":" ++ value_text f.1)
 
--- the fields behind others, and the end of the object and of its line
+-- the fields behind others, and then this text
+abbrev pub fields_then : List Field → List ℕ → List ℕ
+fields_then [] rest = rest
+fields_then (f ∷ fs) rest = codes "," ++ (field_text f ++ fields_then fs rest)
+
+-- the end of an object and of its line
+abbrev pub object_end : List ℕ
+object_end = codes "}\n"
+
+-- the fields behind others, and the end
 abbrev pub fields_behind : List Field → List ℕ
-fields_behind [] = codes "}\n"
-fields_behind (f ∷ fs) = codes "," ++ (field_text f ++ fields_behind fs)
+fields_behind fs = fields_then fs object_end
+
+-- its first field, the others, and then this text
+abbrev pub object_then : Field → List Field → List ℕ → List ℕ
+object_then f fs rest = codes "{" ++ (field_text f ++ fields_then fs rest)
 
 abbrev pub object_line : List Field → List ℕ
 object_line [] = codes "{}\n"

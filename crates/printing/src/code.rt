@@ -8,14 +8,17 @@ ghost use Rattle.insn.specs.Readings.{reading_of};
 ghost use Rattle.insn.specs.Views.{view};
 ghost use Rattle.classfile.specs.Views.{handler_view, code_view};
 ghost use Rattle.printing.specs.Writing.{Writes};
-ghost use Rattle.printing.specs.Classes.{sizes_line, reading_lines, line_at, named_at, fault_of, caught_text, range_text, catch_line, code_lines};
+ghost use Rattle.printing.specs.Classes.{sizes_line, reading_lines, line_at, named_at, fault_of, caught_text, range_text, catch_line, catch_string, code_lines, size_fields, instruction_field, instruction_fields, named_fields_at, table_fields};
+ghost use Rattle.printing.specs.Json.{fields_then};
 ghost use Rattle.printing.specs.Instructions.{instruction_line};
-ghost use Rattle.printing.specs.Constants.{named_line};
+ghost use Rattle.printing.specs.Constants.{named_line, named_fields};
 
-use crate::constants::{ConstantLine, index_in};
-use crate::instruction::Located;
+use crate::constants::{ConstantFields, ConstantLine, index_in};
+use crate::instruction::{InstructionText, Located};
+use crate::json::{Enclosed, More, Strings};
 use crate::name::ClassName;
 use crate::print::{Lines, Number, Print, Then, Word, WriteFailed, put_lines};
+use crate::within::{ClassNameIn, Within};
 use classfile::{CodeAttr, ExceptionHandler};
 use insn::{CodeFault, Insn, Instructions};
 use pool::Pool;
@@ -110,6 +113,47 @@ impl<'a> Print for InstructionAt<'a> {
     }
 }
 
+/// Writes an instruction that was found at an offset as a field, if one was, and then what stands behind it.
+fn put_found_field<W: Write, B: Print + Copy>(
+    out: &mut W,
+    at: usize,
+    found: Option<Insn<'_>>,
+    behind: B,
+) -> Result<(), WriteFailed>
+    ensures { Writes (W.contents out.old) (W.contents out.new) (fields_then (option_map_or (λ i. instruction_field (at, view i)) found.entry []) (B.text behind)) result }
+{
+    match found {
+        Some(insn) => {
+            let text = InstructionText(Located { at, insn });
+            More("instruction", Enclosed(text), behind).put(out)
+        }
+        None => behind.put(out),
+    }
+}
+
+/// The instruction that begins at an offset of code as a field, and then what stands behind it; no field where none does, or where the
+/// code is refused.
+#[derive(Clone, Copy)]
+pub struct InstructionFields<'a, B> {
+    pub code: &'a [u8],
+    pub at: usize,
+    pub behind: B,
+}
+
+impl<'a, B: Print + Copy> Print for InstructionFields<'a, B> {
+    ghost text = { λ t. fields_then (instruction_fields (reading_of t.code.now) t.at) (B.text t.behind) };
+
+    fn put<W: Write>(&self, out: &mut W) -> Result<(), WriteFailed> {
+        match code_fault(self.code) {
+            Some(_) => self.behind.put(out),
+            None => {
+                let found = found_at(self.code, self.at);
+                put_found_field(out, self.at, found, self.behind)
+            }
+        }
+    }
+}
+
 /// Writes the line of the constant that an instruction names; nothing where it names none.
 fn put_constant<W: Write>(out: &mut W, pool: &Pool<'_>, insn: &Insn<'_>) -> Result<(), WriteFailed>
     ensures { Writes (W.contents out.old) (W.contents out.new) (named_line pool.now (view insn.now)) result }
@@ -157,15 +201,77 @@ impl<'p, 'a> Print for NamedAt<'p, 'a> {
     }
 }
 
-/// The class that an entry of an exception table catches, or `any`.
-#[derive(Clone, Copy)]
-struct Caught<'p, 'a>(ClassName<'p, 'a>);
+/// Writes the constant that an instruction names as a field, if it names one, and then what stands behind it.
+fn put_constant_field<W: Write, B: Print + Copy>(
+    out: &mut W,
+    pool: &Pool<'_>,
+    insn: &Insn<'_>,
+    behind: B,
+) -> Result<(), WriteFailed>
+    ensures { Writes (W.contents out.old) (W.contents out.new) (fields_then (named_fields pool.now (view insn.now)) (B.text behind)) result }
+{
+    match index_in(&insn.operands) {
+        Some(index) => {
+            let index = usize::from(index);
+            ConstantFields {
+                pool,
+                index,
+                behind,
+            }
+            .put(out)
+        }
+        None => behind.put(out),
+    }
+}
 
-impl<'p, 'a> Print for Caught<'p, 'a> {
-    ghost text = { λ t. caught_text t.0.pool.now t.0.index };
+/// Writes the constant that an instruction names which was found as a field, if one was, and then what stands behind it.
+fn put_named_field<W: Write, B: Print + Copy>(
+    out: &mut W,
+    pool: &Pool<'_>,
+    found: Option<Insn<'_>>,
+    behind: B,
+) -> Result<(), WriteFailed>
+    ensures { Writes (W.contents out.old) (W.contents out.new) (fields_then (option_map_or (λ i. named_fields pool.now (view i)) found.entry []) (B.text behind)) result }
+{
+    match found {
+        Some(insn) => put_constant_field(out, pool, &insn, behind),
+        None => behind.put(out),
+    }
+}
+
+/// The constant that the instruction names which begins at an offset of code, as a field, and then what stands behind it; no field where
+/// it names none, where none begins there, or where the code is refused.
+#[derive(Clone, Copy)]
+pub struct NamedFields<'p, 'a, B> {
+    pub pool: &'p Pool<'a>,
+    pub code: &'a [u8],
+    pub at: usize,
+    pub behind: B,
+}
+
+impl<'p, 'a, B: Print + Copy> Print for NamedFields<'p, 'a, B> {
+    ghost text = { λ t. fields_then (named_fields_at t.pool.now (reading_of t.code.now) t.at) (B.text t.behind) };
 
     fn put<W: Write>(&self, out: &mut W) -> Result<(), WriteFailed> {
-        if self.0.index == 0 {
+        match code_fault(self.code) {
+            Some(_) => self.behind.put(out),
+            None => {
+                let found = found_at(self.code, self.at);
+                put_named_field(out, self.pool, found, self.behind)
+            }
+        }
+    }
+}
+
+/// The class that an entry of an exception table catches, or `any`.
+#[derive(Clone, Copy)]
+struct Caught<'p, 'a>(ClassNameIn<'p, 'a>);
+
+impl<'p, 'a> Print for Caught<'p, 'a> {
+    ghost text = { λ t. caught_text t.0.0 t.0.1.pool.now t.0.1.index };
+
+    fn put<W: Write>(&self, out: &mut W) -> Result<(), WriteFailed> {
+        if self.0.1.index == 0 {
             Word("any").put(out)
         } else {
             self.0.put(out)
@@ -206,10 +312,11 @@ impl<'p, 'a> Lines<ExceptionHandler> for Handlers<'p, 'a> {
     ghost line = { λ t h. catch_line t.pool.now (handler_view h) };
 
     fn put_line<W: Write>(&self, item: &ExceptionHandler, out: &mut W) -> Result<(), WriteFailed> {
-        let caught = Caught(ClassName {
+        let class = ClassName {
             pool: self.pool,
             index: item.catch_type,
-        });
+        };
+        let caught = Caught(ClassNameIn(Within::Words, class));
         Then(
             Word("  catch "),
             Then(Range(*item), Then(Word(" "), Then(caught, Word("\n")))),
@@ -223,6 +330,53 @@ impl<'p, 'a> Print for Handlers<'p, 'a> {
 
     fn put<W: Write>(&self, out: &mut W) -> Result<(), WriteFailed> {
         put_lines(self, self.table, out)
+    }
+}
+
+/// The characters of an entry of an exception table in a string, whose class is in this pool.
+#[derive(Clone, Copy)]
+struct HandlerCharacters<'p, 'a>(&'p Pool<'a>);
+
+impl<'p, 'a> Lines<ExceptionHandler> for HandlerCharacters<'p, 'a> {
+    ghost line = { λ t h. catch_string t.0.now (handler_view h) };
+
+    fn put_line<W: Write>(&self, item: &ExceptionHandler, out: &mut W) -> Result<(), WriteFailed> {
+        let class = ClassName {
+            pool: self.0,
+            index: item.catch_type,
+        };
+        let caught = Caught(ClassNameIn(Within::Json, class));
+        Then(Range(*item), Then(Word(" "), caught)).put(out)
+    }
+}
+
+/// An exception table, whose classes are in this pool, as a field, and then what stands behind it.
+#[derive(Clone, Copy)]
+pub struct HandlersField<'p, 'a, B> {
+    pub pool: &'p Pool<'a>,
+    pub table: &'p [ExceptionHandler],
+    pub behind: B,
+}
+
+impl<'p, 'a, B: Print + Copy> Print for HandlersField<'p, 'a, B> {
+    ghost text = { λ t. fields_then (table_fields t.pool.now (map handler_view t.table.now)) (B.text t.behind) };
+
+    fn put<W: Write>(&self, out: &mut W) -> Result<(), WriteFailed> {
+        let entries = Strings(HandlerCharacters(self.pool), self.table);
+        More("exception_table", entries, self.behind).put(out)
+    }
+}
+
+/// The sizes of the stack and of the local variables of code, as fields, and then what stands behind them.
+#[derive(Clone, Copy)]
+pub struct SizeFields<'p, 'a, B>(pub &'p CodeAttr<'a>, pub B);
+
+impl<'p, 'a, B: Print + Copy> Print for SizeFields<'p, 'a, B> {
+    ghost text = { λ t. fields_then (size_fields (code_view t.0.now)) (B.text t.1) };
+
+    fn put<W: Write>(&self, out: &mut W) -> Result<(), WriteFailed> {
+        let locals = More("max_locals", Number(self.0.max_locals), self.1);
+        More("max_stack", Number(self.0.max_stack), locals).put(out)
     }
 }
 

@@ -4,11 +4,13 @@ ghost use Rattle.pool.specs.Views.{view};
 ghost use Rattle.pool.specs.Lookups.{text_at, class_name_at, name_and_type_at};
 ghost use Rattle.insn.specs.Views.{operands_view};
 ghost use Rattle.printing.specs.Writing.{Writes};
-ghost use Rattle.printing.specs.Constants.{behind, both_behind, text_behind, member_behind, bootstrap_behind, entry_text, standing, constant_line, index_in};
+ghost use Rattle.printing.specs.Constants.{behind, both_behind, text_behind, member_behind, bootstrap_behind, entry_text, standing, constant_line, index_in, entry_string, constant_fields};
+ghost use Rattle.printing.specs.Json.{fields_then};
 
 use crate::instruction::{Index, Value};
-use crate::name::Name;
+use crate::json::{Enclosed, More};
 use crate::print::{Number, Print, Then, Word, WriteFailed};
+use crate::within::{NameIn, Within};
 use insn::Operands;
 use pool::{Constant, Pool};
 use std::io::Write;
@@ -16,16 +18,17 @@ use std::io::Write;
 /// The text at an index, behind a blank; nothing where there is none.
 #[derive(Clone, Copy)]
 struct TextBehind<'p, 'a> {
+    within: Within,
     pool: &'p Pool<'a>,
     index: u16,
 }
 
 impl<'p, 'a> Print for TextBehind<'p, 'a> {
-    ghost text = { λ t. behind (text_at t.pool.now t.index) };
+    ghost text = { λ t. behind t.within (text_at t.pool.now t.index) };
 
     fn put<W: Write>(&self, out: &mut W) -> Result<(), WriteFailed> {
         match self.pool.text(self.index) {
-            Ok(text) => Then(Word(" "), Name(text)).put(out),
+            Ok(text) => Then(Word(" "), NameIn(self.within, text)).put(out),
             Err(_) => Word("").put(out),
         }
     }
@@ -34,16 +37,17 @@ impl<'p, 'a> Print for TextBehind<'p, 'a> {
 /// The name of the class at an index, behind a blank; nothing where there is none.
 #[derive(Clone, Copy)]
 struct ClassBehind<'p, 'a> {
+    within: Within,
     pool: &'p Pool<'a>,
     index: u16,
 }
 
 impl<'p, 'a> Print for ClassBehind<'p, 'a> {
-    ghost text = { λ t. behind (class_name_at t.pool.now t.index) };
+    ghost text = { λ t. behind t.within (class_name_at t.pool.now t.index) };
 
     fn put<W: Write>(&self, out: &mut W) -> Result<(), WriteFailed> {
         match self.pool.class_name(self.index) {
-            Ok(text) => Then(Word(" "), Name(text)).put(out),
+            Ok(text) => Then(Word(" "), NameIn(self.within, text)).put(out),
             Err(_) => Word("").put(out),
         }
     }
@@ -52,18 +56,20 @@ impl<'p, 'a> Print for ClassBehind<'p, 'a> {
 /// The name and the descriptor of the NameAndType at an index, each behind a blank; nothing where there is none.
 #[derive(Clone, Copy)]
 struct BothBehind<'p, 'a> {
+    within: Within,
     pool: &'p Pool<'a>,
     index: u16,
 }
 
 impl<'p, 'a> Print for BothBehind<'p, 'a> {
-    ghost text = { λ t. both_behind (name_and_type_at t.pool.now t.index) };
+    ghost text = { λ t. both_behind t.within (name_and_type_at t.pool.now t.index) };
 
     fn put<W: Write>(&self, out: &mut W) -> Result<(), WriteFailed> {
         match self.pool.name_and_type(self.index) {
             Ok(names) => {
-                let descriptor = Then(Word(" "), Name(names.descriptor));
-                Then(Word(" "), Then(Name(names.name), descriptor)).put(out)
+                let descriptor = Then(Word(" "), NameIn(self.within, names.descriptor));
+                let name = NameIn(self.within, names.name);
+                Then(Word(" "), Then(name, descriptor)).put(out)
             }
             Err(_) => Word("").put(out),
         }
@@ -73,31 +79,43 @@ impl<'p, 'a> Print for BothBehind<'p, 'a> {
 /// Writes a kind, an index and the text there.
 fn put_text<W: Write>(
     out: &mut W,
+    within: Within,
     kind: &str,
     pool: &Pool<'_>,
     index: u16,
 ) -> Result<(), WriteFailed>
-    ensures { Writes (W.contents out.old) (W.contents out.new) (kind.now ++ text_behind pool.now index) result }
+    ensures { Writes (W.contents out.old) (W.contents out.new) (kind.now ++ text_behind within pool.now index) result }
 {
-    let text = TextBehind { pool, index };
+    let text = TextBehind {
+        within,
+        pool,
+        index,
+    };
     Then(Word(kind), Then(Index(index), text)).put(out)
 }
 
 /// Writes a kind, and a member of a class behind the indices of both.
 fn put_reference<W: Write>(
     out: &mut W,
+    within: Within,
     kind: &str,
     pool: &Pool<'_>,
     class: u16,
     name_and_type: u16,
 ) -> Result<(), WriteFailed>
-    ensures { Writes (W.contents out.old) (W.contents out.new) (kind.now ++ member_behind pool.now class name_and_type) result }
+    ensures { Writes (W.contents out.old) (W.contents out.new) (kind.now ++ member_behind within pool.now class name_and_type) result }
 {
     let both = BothBehind {
+        within,
         pool,
         index: name_and_type,
     };
-    let names = Then(ClassBehind { pool, index: class }, both);
+    let class_name = ClassBehind {
+        within,
+        pool,
+        index: class,
+    };
+    let names = Then(class_name, both);
     let indices = Then(Index(class), Then(Index(name_and_type), names));
     Then(Word(kind), indices).put(out)
 }
@@ -105,14 +123,16 @@ fn put_reference<W: Write>(
 /// Writes a kind, the number of a bootstrap method, and a name and a descriptor behind their index.
 fn put_dynamic<W: Write>(
     out: &mut W,
+    within: Within,
     kind: &str,
     pool: &Pool<'_>,
     bootstrap: u16,
     name_and_type: u16,
 ) -> Result<(), WriteFailed>
-    ensures { Writes (W.contents out.old) (W.contents out.new) (kind.now ++ bootstrap_behind pool.now bootstrap name_and_type) result }
+    ensures { Writes (W.contents out.old) (W.contents out.new) (kind.now ++ bootstrap_behind within pool.now bootstrap name_and_type) result }
 {
     let both = BothBehind {
+        within,
         pool,
         index: name_and_type,
     };
@@ -123,41 +143,49 @@ fn put_dynamic<W: Write>(
 /// A constant of a pool by its kind, the numbers that it holds and the texts that these lead to.
 #[derive(Clone, Copy)]
 struct Entry<'p, 'a> {
+    within: Within,
     pool: &'p Pool<'a>,
     constant: Constant<'a>,
 }
 
 impl<'p, 'a> Print for Entry<'p, 'a> {
-    ghost text = { λ t. entry_text t.pool.now (view t.constant) };
+    ghost text = { λ t. entry_text t.within t.pool.now (view t.constant) };
 
     fn put<W: Write>(&self, out: &mut W) -> Result<(), WriteFailed> {
         let pool = self.pool;
+        let within = self.within;
         match self.constant {
-            Constant::Utf8(text) => Then(Word("Utf8 "), Name(text)).put(out),
+            Constant::Utf8(text) => Then(Word("Utf8 "), NameIn(within, text)).put(out),
             Constant::Integer { .. } => Word("Integer").put(out),
             Constant::Float { .. } => Word("Float").put(out),
             Constant::Long { .. } => Word("Long").put(out),
             Constant::Double { .. } => Word("Double").put(out),
-            Constant::Class { name } => put_text(out, "Class", pool, name),
-            Constant::String { text } => put_text(out, "String", pool, text),
+            Constant::Class { name } => put_text(out, within, "Class", pool, name),
+            Constant::String { text } => put_text(out, within, "String", pool, text),
             Constant::Fieldref {
                 class,
                 name_and_type,
-            } => put_reference(out, "Fieldref", pool, class, name_and_type),
+            } => put_reference(out, within, "Fieldref", pool, class, name_and_type),
             Constant::Methodref {
                 class,
                 name_and_type,
-            } => put_reference(out, "Methodref", pool, class, name_and_type),
+            } => put_reference(out, within, "Methodref", pool, class, name_and_type),
             Constant::InterfaceMethodref {
                 class,
                 name_and_type,
-            } => put_reference(out, "InterfaceMethodref", pool, class, name_and_type),
+            } => put_reference(out, within, "InterfaceMethodref", pool, class, name_and_type),
             Constant::NameAndType { name, descriptor } => {
+                let first = TextBehind {
+                    within,
+                    pool,
+                    index: name,
+                };
                 let second = TextBehind {
+                    within,
                     pool,
                     index: descriptor,
                 };
-                let texts = Then(TextBehind { pool, index: name }, second);
+                let texts = Then(first, second);
                 let indices = Then(Index(name), Then(Index(descriptor), texts));
                 Then(Word("NameAndType"), indices).put(out)
             }
@@ -166,15 +194,15 @@ impl<'p, 'a> Print for Entry<'p, 'a> {
                 Then(Value(kind.number()), Index(reference)),
             )
             .put(out),
-            Constant::MethodType { descriptor } => put_text(out, "MethodType", pool, descriptor),
+            Constant::MethodType { descriptor } => put_text(out, within, "MethodType", pool, descriptor),
             Constant::Dynamic {
                 bootstrap,
                 name_and_type,
-            } => put_dynamic(out, "Dynamic", pool, bootstrap, name_and_type),
+            } => put_dynamic(out, within, "Dynamic", pool, bootstrap, name_and_type),
             Constant::InvokeDynamic {
                 bootstrap,
                 name_and_type,
-            } => put_dynamic(out, "InvokeDynamic", pool, bootstrap, name_and_type),
+            } => put_dynamic(out, within, "InvokeDynamic", pool, bootstrap, name_and_type),
             Constant::Unusable => Word("second index of the constant before").put(out),
         }
     }
@@ -204,6 +232,7 @@ impl<'p, 'a> Print for ConstantLine<'p, 'a> {
         match standing(self.pool, self.index) {
             Some(constant) => {
                 let entry = Entry {
+                    within: Within::Words,
                     pool: self.pool,
                     constant,
                 };
@@ -211,6 +240,55 @@ impl<'p, 'a> Print for ConstantLine<'p, 'a> {
                 Then(Word("  constant "), Then(Number(self.index), behind)).put(out)
             }
             None => Word("").put(out),
+        }
+    }
+}
+
+/// The constant of an index, as the characters of a string.
+#[derive(Clone, Copy)]
+struct EntryString<'p, 'a> {
+    pool: &'p Pool<'a>,
+    index: usize,
+    constant: Constant<'a>,
+}
+
+impl<'p, 'a> Print for EntryString<'p, 'a> {
+    ghost text = { λ t. entry_string t.pool.now t.index (view t.constant) };
+
+    fn put<W: Write>(&self, out: &mut W) -> Result<(), WriteFailed> {
+        let entry = Entry {
+            within: Within::Json,
+            pool: self.pool,
+            constant: self.constant,
+        };
+        Then(Number(self.index), Then(Word(" "), entry)).put(out)
+    }
+}
+
+/// The constant at an index of the constant pool as a field, if one stands there, and then what stands behind it.
+#[derive(Clone, Copy)]
+pub struct ConstantFields<'p, 'a, B> {
+    pub pool: &'p Pool<'a>,
+    pub index: usize,
+    pub behind: B,
+}
+
+impl<'p, 'a, B: Print + Copy> Print for ConstantFields<'p, 'a, B> {
+    ghost text = { λ t. fields_then (constant_fields t.pool.now t.index) (B.text t.behind) };
+
+    fn put<W: Write>(&self, out: &mut W) -> Result<(), WriteFailed> {
+        let pool = self.pool;
+        let index = self.index;
+        match standing(pool, index) {
+            Some(constant) => {
+                let entry = EntryString {
+                    pool,
+                    index,
+                    constant,
+                };
+                More("constant", Enclosed(entry), self.behind).put(out)
+            }
+            None => self.behind.put(out),
         }
     }
 }

@@ -6,10 +6,13 @@ ghost use Rattle.names.specs.Descriptors.{base_of};
 ghost use Rattle.names.specs.Names.{bracket};
 ghost use Rattle.frames.specs.VerificationType.{type_of};
 ghost use Rattle.frames.specs.FrameFact.{frame_of};
-ghost use Rattle.printing.specs.Frames.{descriptor_text, type_text, more_text, types_text, in_use, if_top, types_line, flags_line, frame_lines};
+ghost use Rattle.printing.specs.Frames.{descriptor_text, type_text, more_text, types_text, in_use, if_top, types_line, flags_line, frame_lines, flag_fields, frame_fields};
+ghost use Rattle.printing.specs.Json.{fields_then};
+ghost use Rattle.printing.specs.declared.within.Within.TheVariants as within;
 
-use crate::name::Spelled;
+use crate::json::{More as MoreFields, Strings};
 use crate::print::{Lines, Number, Print, Then, Word, WriteFailed, put_bytes, put_lines};
+use crate::within::{SpelledIn, Within};
 use frames::{Frame, VType};
 use names::{Base, Primitive};
 use std::io::Write;
@@ -34,13 +37,13 @@ impl Print for Brackets {
 
 /// The descriptor of what the elements of an array are, below all dimensions.
 #[derive(Clone, Copy)]
-struct Elements<'a>(Base<'a>);
+struct Elements<'a>(Within, Base<'a>);
 
 impl<'a> Print for Elements<'a> {
-    ghost text = { λ t. descriptor_text (base_of t.0) };
+    ghost text = { λ t. descriptor_text t.0 (base_of t.1) };
 
     fn put<W: Write>(&self, out: &mut W) -> Result<(), WriteFailed> {
-        match self.0 {
+        match self.1 {
             Base::Primitive(Primitive::Byte) => Word("B").put(out),
             Base::Primitive(Primitive::Char) => Word("C").put(out),
             Base::Primitive(Primitive::Double) => Word("D").put(out),
@@ -49,29 +52,33 @@ impl<'a> Print for Elements<'a> {
             Base::Primitive(Primitive::Long) => Word("J").put(out),
             Base::Primitive(Primitive::Short) => Word("S").put(out),
             Base::Primitive(Primitive::Boolean) => Word("Z").put(out),
-            Base::Class(name) => Then(Word("L"), Then(Spelled(name), Word(";"))).put(out),
+            Base::Class(name) => {
+                let name = SpelledIn(self.0, name);
+                Then(Word("L"), Then(name, Word(";"))).put(out)
+            },
         }
     }
 }
 
-/// A verification type by the name that the standard gives it (JVMS 4.10.1.2): a class by its name, an array by its descriptor.
+/// A verification type by the name that the standard gives it (JVMS 4.10.1.2): a class by its name, an array by its descriptor,
+/// where names are written so.
 #[derive(Clone, Copy)]
-pub struct TypeText<'a>(pub VType<'a>);
+pub struct TypeText<'a>(pub Within, pub VType<'a>);
 
 impl<'a> Print for TypeText<'a> {
-    ghost text = { λ t. type_text (type_of t.0) };
+    ghost text = { λ t. type_text t.0 (type_of t.1) };
 
     fn put<W: Write>(&self, out: &mut W) -> Result<(), WriteFailed> {
-        match self.0 {
+        match self.1 {
             VType::Top => Word("top").put(out),
             VType::Int => Word("int").put(out),
             VType::Float => Word("float").put(out),
             VType::Long => Word("long").put(out),
             VType::Double => Word("double").put(out),
             VType::Null => Word("null").put(out),
-            VType::Class(name) => Then(Word("Class "), Spelled(name)).put(out),
+            VType::Class(name) => Then(Word("Class "), SpelledIn(self.0, name)).put(out),
             VType::Array { dims, base } => {
-                let below = Then(Brackets(dims.saturating_sub(1)), Elements(base));
+                let below = Then(Brackets(dims.saturating_sub(1)), Elements(self.0, base));
                 Then(Word("Class ["), below).put(out)
             }
             VType::UninitThis => Word("uninitializedThis").put(out),
@@ -90,7 +97,7 @@ impl<'a> Lines<VType<'a>> for More {
     ghost line = { λ t x. more_text (type_of x) };
 
     fn put_line<W: Write>(&self, item: &VType<'a>, out: &mut W) -> Result<(), WriteFailed> {
-        Then(Word(", "), TypeText(*item)).put(out)
+        Then(Word(", "), TypeText(Within::Words, *item)).put(out)
     }
 }
 
@@ -104,7 +111,7 @@ impl<'t, 'a> Print for Types<'t, 'a> {
     fn put<W: Write>(&self, out: &mut W) -> Result<(), WriteFailed> {
         match self.0.split_first() {
             None => Word("").put(out),
-            Some((first, others)) => match Then(Word(" "), TypeText(*first)).put(out) {
+            Some((first, others)) => match Then(Word(" "), TypeText(Within::Words, *first)).put(out) {
                 Ok(()) => put_lines(&More, others, out),
                 Err(failed) => Err(failed),
             },
@@ -202,5 +209,65 @@ impl<'f, 'a> Print for FrameLines<'f, 'a> {
             types: &self.frame.stack,
         };
         Then(locals, Then(stack, FlagsLine { label, flag })).put(out)
+    }
+}
+
+/// The characters of a type in a string.
+#[derive(Clone, Copy)]
+struct TypeCharacters;
+
+impl<'a> Lines<VType<'a>> for TypeCharacters {
+    ghost line = { λ t x. type_text within.Json (type_of x) };
+
+    fn put_line<W: Write>(&self, item: &VType<'a>, out: &mut W) -> Result<(), WriteFailed> {
+        TypeText(Within::Json, *item).put(out)
+    }
+}
+
+/// The field of the flag, where it stands, and then what stands behind it.
+#[derive(Clone, Copy)]
+struct FlagFields<B> {
+    name: &'static str,
+    flag: bool,
+    behind: B,
+}
+
+impl<B: Print + Copy> Print for FlagFields<B> {
+    ghost text = { λ t. fields_then (flag_fields t.name.now t.flag) (B.text t.behind) };
+
+    fn put<W: Write>(&self, out: &mut W) -> Result<(), WriteFailed> {
+        if self.flag {
+            let flag = Word("[\"flagThisUninit\"]");
+            MoreFields(self.name, flag, self.behind).put(out)
+        } else {
+            self.behind.put(out)
+        }
+    }
+}
+
+/// A frame as fields of these names, and then what stands behind them: its locals without the tops behind the last that is none, its
+/// stack from the bottom up, and flagThisUninit where it has the flag.
+#[derive(Clone, Copy)]
+pub struct FrameFields<'f, 'a, B> {
+    pub locals: &'static str,
+    pub stack: &'static str,
+    pub flags: &'static str,
+    pub frame: &'f Frame<'a>,
+    pub behind: B,
+}
+
+impl<'f, 'a, B: Print + Copy> Print for FrameFields<'f, 'a, B> {
+    ghost text = { λ t. fields_then (frame_fields t.locals.now t.stack.now t.flags.now (frame_of t.frame.now)) (B.text t.behind) };
+
+    fn put<W: Write>(&self, out: &mut W) -> Result<(), WriteFailed> {
+        let (types, _) = self.frame.locals.split_at(count_in_use(&self.frame.locals));
+        let flags = FlagFields {
+            name: self.flags,
+            flag: self.frame.flag,
+            behind: self.behind,
+        };
+        let stack = Strings(TypeCharacters, &self.frame.stack);
+        let stack = MoreFields(self.stack, stack, flags);
+        MoreFields(self.locals, Strings(TypeCharacters, types), stack).put(out)
     }
 }

@@ -223,6 +223,23 @@ impl<'a> Print for OperandsOf<'a> {
     }
 }
 
+/// An instruction with its offset, its name and its operands.
+#[derive(Clone, Copy)]
+pub struct InstructionText<'a>(pub Located<'a>);
+
+impl<'a> Print for InstructionText<'a> {
+    ghost use Rattle.insn.specs.Views.{located};
+    ghost use Rattle.printing.specs.Instructions.{instruction_text};
+
+    ghost text = { λ t. instruction_text (located (t.0.at, t.0.insn)) };
+
+    fn put<W: Write>(&self, out: &mut W) -> Result<(), WriteFailed> {
+        let name = Word(mnemonic(&self.0.insn));
+        let named = Then(self.0.wide(), Then(name, OperandsOf(self.0)));
+        Then(Number(self.0.at), Then(Word(" "), named)).put(out)
+    }
+}
+
 impl<'a> Print for Located<'a> {
     ghost use Rattle.insn.specs.Views.{located};
     ghost use Rattle.printing.specs.Instructions.{instruction_line};
@@ -230,22 +247,7 @@ impl<'a> Print for Located<'a> {
     ghost text = { λ t. instruction_line (located (t.at, t.insn)) };
 
     fn put<W: Write>(&self, out: &mut W) -> Result<(), WriteFailed> {
-        Then(
-            Word("  "),
-            Then(
-                Number(self.at),
-                Then(
-                    Word(" "),
-                    Then(
-                        self.wide(),
-                        Then(
-                            Word(mnemonic(&self.insn)),
-                            Then(OperandsOf(*self), Word("\n")),
-                        ),
-                    ),
-                ),
-            ),
-        )
-        .put(out)
+        let text = Then(InstructionText(*self), Word("\n"));
+        Then(Word("  "), text).put(out)
     }
 }

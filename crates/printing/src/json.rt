@@ -1,7 +1,8 @@
 //! Objects of JSON (RFC 8259), each on a line of its own, written field by field.
-ghost use Rattle.std.specs.Prelude.{◌++◌, codes};
+ghost use Rattle.std.specs.Prelude.{◌++◌, codes, map};
+ghost use Rattle.std.specs.List.{flat_map};
 ghost use Rattle.printing.specs.Writing.{Writes};
-ghost use Rattle.printing.specs.Json.{character_text, string_text};
+ghost use Rattle.printing.specs.Json.{character_text, string_text, enclosed, following, array_text};
 
 use crate::name::digit;
 use crate::print::{Lines, Print, Then, Word, WriteFailed, put_bytes, put_lines};
@@ -58,7 +59,7 @@ impl<'a> Print for WordCharacters<'a> {
 
 /// The units of a name, each a unit of a string.
 #[derive(Clone, Copy)]
-struct NameCharacters<'a>(Text<'a>);
+pub struct NameCharacters<'a>(pub Text<'a>);
 
 impl<'a> Print for NameCharacters<'a> {
     ghost use Rattle.std.specs.List.{flat_map};
@@ -74,6 +75,24 @@ impl<'a> Print for NameCharacters<'a> {
             }
         }
         Ok(())
+    }
+}
+
+/// Bytes that spell a text, each unit of it a unit of a string. Of other bytes nothing is written.
+#[derive(Clone, Copy)]
+pub struct SpelledCharacters<'a>(pub &'a [u8]);
+
+impl<'a> Print for SpelledCharacters<'a> {
+    ghost use Rattle.std.specs.List.{flat_map};
+    ghost use Rattle.printing.specs.Json.{spelled_units};
+
+    ghost text = { λ t. flat_map character_text (spelled_units t.0.now) };
+
+    fn put<W: Write>(&self, out: &mut W) -> Result<(), WriteFailed> {
+        match check_text(self.0) {
+            Ok(text) => NameCharacters(text).put(out),
+            Err(_) => Word("").put(out),
+        }
     }
 }
 
@@ -117,6 +136,73 @@ impl<'a> Print for QuotedSpelled<'a> {
         match check_text(self.0) {
             Ok(text) => QuotedName(text).put(out),
             Err(_) => Quoted("").put(out),
+        }
+    }
+}
+
+/// A text whose characters are written as those of a string, within quotation marks.
+#[derive(Clone, Copy)]
+pub struct Enclosed<C>(pub C);
+
+impl<C: Print + Copy> Print for Enclosed<C> {
+    ghost text = { λ t. enclosed (C.text t.0) };
+
+    fn put<W: Write>(&self, out: &mut W) -> Result<(), WriteFailed> {
+        Then(Word("\""), Then(self.0, Word("\""))).put(out)
+    }
+}
+
+/// The line of an item.
+#[derive(Clone, Copy)]
+struct Line<'t, L, T>(L, &'t T);
+
+impl<'t, T: Copy, L: Lines<T>> Print for Line<'t, L, T> {
+    ghost text = { λ t. L.line t.0 t.1.now };
+
+    fn put<W: Write>(&self, out: &mut W) -> Result<(), WriteFailed> {
+        self.0.put_line(self.1, out)
+    }
+}
+
+/// Strings behind the first one of an array, each behind a comma.
+#[derive(Clone, Copy)]
+struct Following<L>(L);
+
+impl<T: Copy, L: Lines<T> + Copy> Lines<T> for Following<L> {
+    ghost line = { λ t x. following (L.line t.0 x) };
+
+    fn put_line<W: Write>(&self, item: &T, out: &mut W) -> Result<(), WriteFailed> {
+        Then(Word(","), Enclosed(Line(self.0, item))).put(out)
+    }
+}
+
+/// The strings of these items, each behind a comma.
+#[derive(Clone, Copy)]
+struct Others<'t, L, T>(L, &'t [T]);
+
+impl<'t, T: Copy, L: Lines<T> + Copy> Print for Others<'t, L, T> {
+    ghost text = { λ t. flat_map (λ x. following (L.line t.0 x)) t.1.now };
+
+    fn put<W: Write>(&self, out: &mut W) -> Result<(), WriteFailed> {
+        put_lines(&Following(self.0), self.1, out)
+    }
+}
+
+/// An array of strings (RFC 8259, 5), one of each item, whose line is the characters of its string as they are written.
+#[derive(Clone, Copy)]
+pub struct Strings<'t, L, T>(pub L, pub &'t [T]);
+
+impl<'t, T: Copy, L: Lines<T> + Copy> Print for Strings<'t, L, T> {
+    ghost text = { λ t. array_text (map (L.line t.0) t.1.now) };
+
+    fn put<W: Write>(&self, out: &mut W) -> Result<(), WriteFailed> {
+        match self.1.split_first() {
+            None => Word("[]").put(out),
+            Some((first, others)) => {
+                let others = Then(Others(self.0, others), Word("]"));
+                let first = Enclosed(Line(self.0, first));
+                Then(Word("["), Then(first, others)).put(out)
+            }
         }
     }
 }

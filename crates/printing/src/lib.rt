@@ -10,7 +10,8 @@
 //! - `json`: objects of JSON (RFC 8259), field by field.
 //! - `instruction`: the line of an instruction.
 //! - `code`: the lines of a method's code, and those of one instruction of it.
-//! - `frame`: the lines of a frame.
+//! - `frame`: the lines of a frame, and a frame as fields of an object of JSON.
+//! - `within`: names in a line of words, or in a string of JSON.
 //! - `constants`: the line of a constant; `parts`: the part of a class file at a place.
 //! - `class_attributes`: the lines of records and sealed classes.
 //! - `listing`: the lines of a class file.
@@ -28,12 +29,16 @@ mod listing;
 mod name;
 mod parts;
 mod print;
+mod within;
 
-pub use code::{Handlers, InstructionAt, NamedAt, Sizes};
+pub use code::{
+    Handlers, HandlersField, InstructionAt, InstructionFields, NamedAt, NamedFields, SizeFields, Sizes,
+};
 pub use fault_fields::{FaultFields, PlaceFields};
-pub use frame::{FrameLines, TypeText};
-pub use json::{END, More, Object, Quoted, QuotedName, QuotedSpelled};
+pub use frame::{FrameFields, FrameLines, TypeText};
+pub use json::{END, Enclosed, More, Object, Quoted, QuotedName, QuotedSpelled, Strings};
 pub use listing::Listing;
 pub use name::{ClassName, ConstantText, Hexadecimal, Name, Spelled};
 pub use parts::PartLines;
 pub use print::{Lines, Number, Print, Then, Word, WriteFailed, put_bytes, put_lines};
+pub use within::Within;

@@ -117,7 +117,7 @@ fn lines(rt: HostRuntime) {
         asks(
             alloc,
             &["classck", "explain", "K", "O"],
-            Command::Explain(Profile::Default),
+            Command::Explain(Form::Plain, Profile::Default),
             2,
             "O"
         )
@@ -126,7 +126,7 @@ fn lines(rt: HostRuntime) {
         asks(
             alloc,
             &["classck", "explain", "--dynamic", "K"],
-            Command::Explain(Profile::Dynamic),
+            Command::Explain(Form::Plain, Profile::Dynamic),
             1,
             "K"
         )

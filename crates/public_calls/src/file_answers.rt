@@ -141,7 +141,7 @@ fn is_explained(alloc: Global, reads: &[Read], left: usize, text: &[u8]) -> bool
         left,
         taken: Vec::new(alloc),
     };
-    let command = Command::Explain(Profile::Default);
+    let command = Command::Explain(Form::Plain, Profile::Default);
     let answered = match answer(alloc, command, reads, hasher(), &mut out) {
         Ok(status) => left >= text.len() && status == 1,
         Err(fault) => left < text.len() && matches!(fault, AnswerFault::WriteFailed),
@@ -223,7 +223,7 @@ fn is_explained_or_memory(alloc: Global, place: usize, byte: u8, size: usize) ->
         return true;
     };
     let mut out = Counted { taken: 0 };
-    let command = Command::Explain(Profile::Default);
+    let command = Command::Explain(Form::Plain, Profile::Default);
     match answer(alloc, command, &reads, hasher(), &mut out) {
         Ok(status) => status == 1 && out.taken == size,
         Err(fault) => matches!(fault, AnswerFault::OutOfMemory) && out.taken == 0,

@@ -2,7 +2,6 @@ pub mod Elements
 mod Examples
 pub mod Going
 pub mod HeldLocals
-pub mod Holding
 pub mod Keeping
 pub mod Moving
 pub mod Plainly

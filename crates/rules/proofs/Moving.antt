@@ -1,22 +1,15 @@
 -- Instructions that move what is on the stack.
-use Rattle.std.proofs.Common.{◌≡◌, ℕ, ◌+◌, ◌-◌, ◌<◌, ◌≤◌, Bool, ◌&&◌, true, false, List, [], ◌∷◌, ◌++◌, length, get_or, take, drop, map, reverse, refl, sym, ◌∙◌, ap, arith, Some, None, if◌then◌else◌, slice_get}
-use Rattle.std.proofs.lemmas.List.{drop_more, drop_all, map-append, reverse-append, length-append, length-map, length-reverse, length-drop, take-append-drop, length-take-le, take_rest, append_assoc, get_or-reverse}
-use Rattle.std.proofs.Math.Seq.{drop-append-add, take-append_seam}
-use Rattle.std.proofs.Math.ListN.{get_or-append, get_or-map}
-use Rattle.std.proofs.lemmas.Option.{slice_get-get_or, slice_get_past}
+use Rattle.std.proofs.Common.{◌≡◌, ℕ, ◌+◌, ◌<◌, ◌≤◌, Bool, ◌&&◌, true, false, List, [], ◌∷◌, length, get_or, drop, map, refl, ◌∙◌, ap, arith, Some, None, if◌then◌else◌}
+use Rattle.std.proofs.lemmas.List.{drop_more, drop_all}
 use Rattle.insn.specs.declared.stack.StackOperator.{StackOperator}
 use Rattle.insn.specs.declared.stack.StackOperator.TheVariants.{Pop, Pop2, Dup, DupX1, DupX2, Dup2, Dup2X1, Dup2X2, Swap}
 use Rattle.insn.specs.declared.stack.StackPlace.{StackPlace}
 use Rattle.insn.specs.declared.stack.StackForm as raw
 use Rattle.insn.specs.Acts.{StackForm, stack_forms}
-use Rattle.insn.specs.Stacks.{beneath, chosen, with_item, rearranged, units_taken}
+use Rattle.insn.specs.Stacks.{units_taken}
 use Rattle.insn.specs.Views.{stack_form_view}
-use Rattle.frames.specs.declared.vtype.VType.{VType}
-use Rattle.frames.specs.VerificationType.{VerificationType, type_of}
+use Rattle.frames.specs.VerificationType.{VerificationType}
 use Rattle.rules.specs.After.{fits_place, fits_places, form_for}
-use Rattle.rules.specs.Outcomes.{Pushes}
-use Rattle.rules.specs.Views.{stack_of}
-use Rattle.rules.proofs.Taking.{stack_last}
 
 pub few_units : (operator : StackOperator) → units_taken (stack_forms operator) ≤ 6
 few_units Pop = omega arith
@@ -56,109 +49,3 @@ form_step g form gs ts false fits later e = later e
 pub form_takes : (ts : List VerificationType) (forms : List StackForm) (form : StackForm) → form_for forms ts ≡ Some form → fits_places form.takes ts ≡ true
 form_takes ts [] form e = cc
 form_takes ts (g ∷ gs) form e = form_step g form gs ts (fits_places g.takes ts) refl (form_takes ts gs form) e
-
--- ---- what is pushed
-
--- the item of a number, as it lies in the vector
-pub item_at : (xs : List VType) (n i : ℕ) (d : VType) → n < length xs → i ≡ length xs - 1 - n → slice_get (stack_of xs) n ≡ Some (type_of (get_or xs i d))
-item_at xs n i d lt at =
-    let within : n < length (map type_of xs) = omega (arith, length-map xs type_of) in
-    slice_get-get_or (stack_of xs) n (type_of d) (omega (arith, length-reverse (map type_of xs), within))
-    ∙ ap Some (get_or-reverse (map type_of xs) n (type_of d) within ∙ ap (λ k. get_or (map type_of xs) k (type_of d)) (ap (λ k. k - 1 - n) (length-map xs type_of) ∙ sym at) ∙ get_or-map type_of xs i d)
-
--- a list by its first item and the slice of the others
-pub first_and_others : (ns : List ℕ) (d : ℕ) → 1 ≤ length ns → ns ≡ get_or ns 0 d ∷ take (length ns - 1) (drop 1 ns)
-first_and_others [] d le = absurd (omega (arith, le))
-first_and_others (n ∷ ns) d le = ap (λ z. n ∷ z) (sym (take_rest (n ∷ ns) 1))
-
-module _ (number : ℕ) (numbers : List ℕ) (old mid : List VType) (p : Pushes numbers old mid) where
-  pub pushes_item : (i : ℕ) (d : VType) (item : VType) (new : List VType) → number < length old → i ≡ length old - 1 - number → item ≡ get_or mid i d → new ≡ mid ++ item ∷ [] → Pushes (number ∷ numbers) old new
-  pushes_item i d item new lt at read pushed = record {
-    added = p.added ++ item ∷ [];
-    all = pushed ∙ ap (λ z. z ++ item ∷ []) p.all ∙ append_assoc old p.added (item ∷ []);
-    are_chosen = stack_last p.added item ∙ ap (λ z. type_of item ∷ z) p.are_chosen ∙ sym (ap (λ z. with_item z (chosen (stack_of old) numbers)) (item_at old number i d lt at ∙ ap (λ z. Some (type_of z)) (sym (read ∙ ap (λ z. get_or z i d) p.all ∙ get_or-append old p.added d i (omega (arith, lt, at))))));
-  }
-
-  pub pushes_none : length old ≤ number → Pushes (number ∷ numbers) old mid
-  pushes_none le = record {
-    added = p.added;
-    all = p.all;
-    are_chosen = p.are_chosen ∙ sym (ap (λ z. with_item z (chosen (stack_of old) numbers)) (slice_get_past (stack_of old) number (omega (arith, le, length-map old type_of, length-reverse (map type_of old)))));
-  }
-
--- ---- what is taken off
-
--- the stack while items are taken off from under what was pushed
-pub record Removes (numbers : List ℕ) (below counter : ℕ) (old now : List VType) : Type 0 where
-  pub added : List VType
-  pub from : below ≤ counter
-  pub to : counter ≤ length old
-  pub all : now ≡ take below old ++ (drop counter old ++ added)
-  pub are_chosen : stack_of added ≡ chosen (stack_of old) numbers
-
-pub removes_first : (numbers : List ℕ) (below : ℕ) (old now : List VType) → below ≤ length old → Pushes numbers old now → Removes numbers below below old now
-removes_first numbers below old now le p = record {
-  added = p.added;
-  from = omega arith;
-  to = le;
-  all = p.all ∙ ap (λ z. z ++ p.added) (sym (take-append-drop below old)) ∙ append_assoc (take below old) (drop below old) p.added;
-  are_chosen = p.are_chosen;
-}
-
-module _ (numbers : List ℕ) (below counter : ℕ) (old now : List VType) (r : Removes numbers below counter old now) where
-  pub removes_room : counter < length old → below < length now
-  removes_room lt =
-      let e : length now ≡ length (take below old) + (length (drop counter old) + length r.added) = ap length r.all ∙ length-append (take below old) (drop counter old ++ r.added) ∙ ap (λ z. length (take below old) + z) (length-append (drop counter old) r.added) in
-      let f : length (take below old) ≡ below = length-take-le below old (omega (arith, r.from, r.to)) in
-      let g : length (drop counter old) ≡ length old - counter = length-drop counter old in
-      omega (arith, e, f, g, lt)
-
-  pub removes_next : (d : VType) (new : List VType) → counter < length old → new ≡ take below now ++ drop (below + 1) now → Removes numbers below (counter + 1) old new
-  removes_next d new lt e =
-      let front = take below old in
-      let rest = drop (counter + 1) old ++ r.added in
-      let f : length front ≡ below = length-take-le below old (omega (arith, r.from, r.to)) in
-      let whole : now ≡ front ++ (get_or old counter d ∷ rest) = r.all ∙ ap (λ z. front ++ (z ++ r.added)) (drop_more old counter d lt) in
-      record {
-        added = r.added;
-        from = omega (arith, r.from);
-        to = omega (arith, lt);
-        all = e ∙ ap (λ z. take below z ++ drop (below + 1) z) whole
-            ∙ ap (λ z. z ++ drop (below + 1) (front ++ (get_or old counter d ∷ rest))) (ap (λ k. take k (front ++ (get_or old counter d ∷ rest))) (sym f) ∙ take-append_seam front (get_or old counter d ∷ rest))
-            ∙ ap (λ z. front ++ z) (ap (λ k. drop (k + 1) (front ++ (get_or old counter d ∷ rest))) (sym f) ∙ drop-append-add front (get_or old counter d ∷ rest) 1);
-        are_chosen = r.are_chosen;
-      }
-
-module _ (numbers : List ℕ) (below counter : ℕ) (old now : List VType) (r : Removes numbers below counter old now) where
-  front_size : length (take below old) ≡ below
-  front_size = length-take-le below old (omega (arith, r.from, r.to))
-
-  pub removes_kept : (k : ℕ) → k ≡ below → take k now ≡ take k old
-  removes_kept k e =
-      ap (λ z. take z now) e ∙ ap (take below) r.all
-      ∙ ap (λ z. take z (take below old ++ (drop counter old ++ r.added))) (sym front_size)
-      ∙ take-append_seam (take below old) (drop counter old ++ r.added)
-      ∙ ap (λ z. take z old) (sym e)
-
-  pub removes_above : (k : ℕ) → k ≡ below → k ≤ length now
-  removes_above k e = omega (arith, e, front_size, ap length r.all ∙ length-append (take below old) (drop counter old ++ r.added))
-
-beneath_front : {A B : Type 0} → (ws : List A) (xs ys : List B) → length ws ≡ length xs → beneath ws (xs ++ ys) ≡ ys
-beneath_front [] [] ys e = refl
-beneath_front [] (x ∷ xs) ys e = absurd (omega (arith, e))
-beneath_front (w ∷ ws) [] ys e = absurd (omega (arith, e))
-beneath_front (w ∷ ws) (x ∷ xs) ys e = beneath_front ws xs ys (omega (arith, e))
-
-stack_append : (xs ys : List VType) → stack_of (xs ++ ys) ≡ stack_of ys ++ stack_of xs
-stack_append xs ys = ap reverse (map-append type_of xs ys) ∙ reverse-append (map type_of xs) (map type_of ys)
-
-pub removes_end : (form : StackForm) (below counter : ℕ) (old now : List VType) → length old ≤ counter → below + length form.takes ≡ length old → Removes form.leaves below counter old now → stack_of now ≡ rearranged form (stack_of old)
-removes_end form below counter old now le size r =
-    let front = take below old in
-    let back = drop below old in
-    let f : length back ≡ length old - below = length-drop below old in
-    let g : length (stack_of back) ≡ length back = length-reverse (map type_of back) ∙ length-map back type_of in
-    let whole : stack_of old ≡ stack_of back ++ stack_of front = ap stack_of (sym (take-append-drop below old)) ∙ stack_append front back in
-    ap stack_of (r.all ∙ ap (λ z. front ++ (z ++ r.added)) (drop_all counter old le)) ∙ stack_append front r.added
-    ∙ ap (λ z. z ++ stack_of front) r.are_chosen
-    ∙ ap (λ z. chosen (stack_of old) form.leaves ++ z) (sym (ap (beneath form.takes) whole ∙ beneath_front form.takes (stack_of back) (stack_of front) (omega (arith, f, g, size))))

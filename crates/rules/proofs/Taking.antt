@@ -1,21 +1,18 @@
 -- Operands one by one, and how many units a stack has.
 use Rattle.std.specs.Prelude.{IsTrue}
-use Rattle.std.proofs.Common.{◌≡◌, ℕ, ◌+◌, ◌<◌, ◌≤◌, Bool, false, inl, inr, List, [], ◌∷◌, true, ◌++◌, length, get_or, drop, map, reverse, refl, sym, ◌∙◌, ap, subst, arith}
-use Rattle.std.proofs.lemmas.List.{drop_more, drop_all, map-append, reverse-append}
+use Rattle.std.proofs.Common.{◌≡◌, ℕ, ◌+◌, ◌<◌, ◌≤◌, Bool, false, inl, inr, List, [], ◌∷◌, true, length, get_or, drop, map, refl, sym, ◌∙◌, ap, subst, arith}
+use Rattle.std.proofs.lemmas.List.{drop_more, drop_all}
 use Rattle.std.proofs.lemmas.Bool.{cases_lt, false≢true}
 use Rattle.hierarchy.specs.Class.{ClassFact}
 use Rattle.hierarchy.specs.Answer.{Outcome, yes, no, missing}
 use Rattle.insn.specs.Stacks.{beneath}
-use Rattle.frames.specs.declared.vtype.VType.{VType}
-use Rattle.frames.specs.VerificationType.{VerificationType, type_of}
+use Rattle.frames.specs.VerificationType.{VerificationType}
 use Rattle.frames.specs.FrameAssignable.{both}
-use Rattle.frames.specs.Slots.{units_of}
 use Rattle.frames.specs.FrameFact.{FrameFact}
 use Rattle.rules.specs.After.{with_stack}
 use Rattle.rules.specs.Plans.{Want}
 use Rattle.rules.specs.Rules.{is_short, operands, accepts}
 use Rattle.rules.specs.Outcomes.{Took, TookOff, pushed}
-use Rattle.rules.specs.Views.{stack_of}
 
 pub both_together : (a b c : Outcome) → both (both a b) c ≡ both a (both b c)
 both_together yes b c = refl
@@ -30,10 +27,6 @@ pub both_yes : (a : Outcome) → both a yes ≡ a
 both_yes yes = refl
 both_yes no = refl
 both_yes (missing n) = refl
-
--- the last of the vector is the top
-pub stack_last : (xs : List VType) (t : VType) → stack_of (xs ++ t ∷ []) ≡ type_of t ∷ stack_of xs
-stack_last xs t = ap reverse (map-append type_of xs (t ∷ [])) ∙ reverse-append (map type_of xs) (type_of t ∷ [])
 
 -- what is still to be taken: `ws` from `us`
 pub record Rest (cs : List ClassFact) (wants : List Want) (ts : List VerificationType) (a : Outcome) (ws : List Want) (us : List VerificationType) : Type 0 where
@@ -67,15 +60,6 @@ rest_all : {A : Type 0} (asked : A → Want) (cs : List ClassFact) (all : List A
 rest_all asked cs all i wants ts a us le r = rest_end cs wants ts a us (subst (λ z. Rest cs wants ts a (map asked z) us) (drop_all i all le) r)
 
 -- ---- units
-
--- how many units a stack has does not hang on its order
-pub units_append : (xs ys : List VerificationType) → units_of (xs ++ ys) ≡ units_of xs + units_of ys
-units_append [] ys = omega arith
-units_append (x ∷ xs) ys = omega (arith, units_append xs ys)
-
-pub units_reverse : (xs : List VerificationType) → units_of (reverse xs) ≡ units_of xs
-units_reverse [] = refl
-units_reverse (x ∷ xs) = ap units_of (reverse-append (x ∷ []) xs) ∙ units_append (reverse xs) (x ∷ []) ∙ omega (arith, units_reverse xs)
 
 pub has_fewer : (units count : ℕ) (b : Bool) → b ≡ false → (count ≤ units → IsTrue b) → units < count
 has_fewer units count true e h = cc

@@ -1,13 +1,12 @@
 -- The answers of the calls of this crate.
-use Rattle.std.specs.Prelude.{◌≡◌, ◌⊎◌, ℕ, List, [], ◌∷◌, ◌++◌, false, Option, Some, None, Result, MatchResult}
+use Rattle.std.specs.Prelude.{◌≡◌, ◌⊎◌, List, [], ◌∷◌, ◌++◌, false, Option, Some, None, Result, MatchResult}
 use Rattle.classfile.specs.Methods.{Method}
 use Rattle.hierarchy.specs.Class.{ClassFact}
 use Rattle.hierarchy.specs.Answer.{Outcome}
 use Rattle.names.specs.Descriptors.{FieldDescriptor, primitive}
 use Rattle.insn.specs.declared.operation.Kind.{Kind}
 use Rattle.insn.specs.Meanings.{Act}
-use Rattle.insn.specs.Stacks.{beneath, chosen, computed_as}
-use Rattle.frames.specs.declared.vtype.VType.{VType}
+use Rattle.insn.specs.Stacks.{beneath, computed_as}
 use Rattle.frames.specs.VerificationType.{VerificationType}
 use Rattle.frames.specs.FrameFact.{FrameFact}
 use Rattle.frames.specs.Conditions.{Conditions, reason, least, missing_if}
@@ -18,7 +17,6 @@ use Rattle.rules.specs.Plans.{Want}
 use Rattle.rules.specs.After.{with_stack}
 use Rattle.rules.specs.Rules.{is_short, operands, is_too_wide}
 use Rattle.rules.specs.Reasons.{reason_view}
-use Rattle.rules.specs.Views.{stack_of}
 
 -- Done exactly where no condition holds, and then the frame is the one that is wanted; otherwise the least reason, or want of memory.
 pub record Done (cs : Conditions) (wanted now : FrameFact) (r : Result Unit Reason) : Type 0 where
@@ -51,9 +49,3 @@ settled m answer f = (reason stack_over, is_too_wide m f) ∷ missing_if answer 
 abbrev pub result_kind : Option FieldDescriptor → Option Kind
 result_kind (Some (primitive p)) = Some (computed_as p)
 result_kind _ = None
-
--- the items of these numbers now stand on what was there, the first one on top
-pub record Pushes (numbers : List ℕ) (old new : List VType) : Type 0 where
-  pub added : List VType
-  pub all : new ≡ old ++ added
-  pub are_chosen : stack_of added ≡ chosen (stack_of old) numbers

@@ -59,7 +59,6 @@ mod kept_items;
 mod making;
 mod members;
 mod merging;
-mod moves;
 mod naming;
 mod operands;
 mod own_object;

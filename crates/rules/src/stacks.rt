@@ -11,7 +11,7 @@ ghost use Rattle.rules.specs.Rules.{conditions};
 ghost use Rattle.rules.specs.Bodies.{method_view};
 ghost use Rattle.rules.specs.Held.{held};
 ghost use Rattle.rules.specs.Views.{stack_of};
-ghost use Rattle.rules.specs.Outcomes.{Done, Pushes};
+ghost use Rattle.rules.specs.Outcomes.{Done};
 
 use crate::families::settle;
 use crate::reason::Reason;

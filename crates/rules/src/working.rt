@@ -2,15 +2,12 @@
 ghost use Rattle.std.specs.Prelude.{◌≡◌, ℕ, map, get_or, length, OnOk, IfSome};
 ghost use Rattle.frames.specs.DeclaredTables.{declared_view, AreKept};
 ghost use Rattle.frames.specs.Locals.{local, locals_in};
+ghost use Rattle.frames.specs.OperandStacks.{stack_in};
 ghost use Rattle.frames.specs.VerificationType.{type_of, top};
 ghost use Rattle.rules.specs.After.{flag_after};
-ghost use Rattle.rules.specs.Views.{stack_of};
-ghost use Rattle.rules.specs.Working.{IsCounted};
 
-use crate::moves::{rearrange, wides};
-use crate::replacing::{is_among, replace};
 use crate::slots::{is_wide, store};
-use frames::{Declared, Frame, Holder, Locals, StackFitting, VType};
+use frames::{Declared, Frame, Holder, Locals, OperandStack, StackFitting, VType};
 use hierarchy::{Answer, Classes};
 use insn::StackForm;
 use std::alloc::{AllocError, Global};
@@ -22,12 +19,8 @@ pub struct Working<'a> {
     pub alloc: Global,
     locals: Locals<'a>,
     max_locals: u16,
-    // From the bottom up.
-    stack: Vec<VType<'a>>,
-    // How many items of the stack are a long or a double.
-    wides: usize,
+    stack: OperandStack<'a>,
     flag: bool,
-    ghost counted: { IsCounted stack.items wides },
 }
 
 impl<'a> Working<'a> {
@@ -59,8 +52,7 @@ impl<'a> Working<'a> {
             alloc,
             locals: Locals::new(alloc),
             max_locals,
-            stack: Vec::new(alloc),
-            wides: 0,
+            stack: OperandStack::new(alloc),
             flag,
         }
     }
@@ -69,22 +61,14 @@ impl<'a> Working<'a> {
     pub fn push(&mut self, t: VType<'a>) -> Result<(), AllocError>
         ensures { OnOk result (held self.new ≡ pushed (type_of t.entry ∷ []) (held self.old)) }
     {
-        self.stack.push(t)?;
-        if is_wide(&t) {
-            self.wides += 1;
-        }
-        Ok(())
+        self.stack.push(t)
     }
 
     /// Takes the top of the stack off.
     pub fn pop(&mut self) -> Option<VType<'a>>
         ensures { MatchOption result (((held self.old).stack ≡ []) × (held self.new ≡ held self.old)) (λ t. held self.old ≡ pushed (type_of t ∷ []) (held self.new)) }
     {
-        let t = self.stack.pop()?;
-        if is_wide(&t) {
-            self.wides -= 1;
-        }
-        Some(t)
+        self.stack.pop()
     }
 
     /// How many local variables it has.
@@ -116,7 +100,7 @@ impl<'a> Working<'a> {
     pub fn has_wide_top(&self) -> bool
         ensures { result ≡ is_wide (top_of (held self.now).stack) }
     {
-        match self.stack.last() {
+        match self.stack.types().last() {
             Some(t) => is_wide(t),
             None => false,
         }
@@ -126,8 +110,7 @@ impl<'a> Working<'a> {
     pub fn has_units(&self, count: usize) -> bool
         ensures { IsTrue result ↔ (count ≤ units_of (held self.now).stack) }
     {
-        let height = self.stack.len();
-        count <= height || count - height <= self.wides
+        self.stack.has_units(count)
     }
 
     /// Whether the stack has more units than this.
@@ -172,7 +155,7 @@ impl<'a> Working<'a> {
     pub fn stack(&self) -> &[VType<'a>]
         ensures { stack_of result.now ≡ (held self.now).stack }
     {
-        &self.stack
+        self.stack.types()
     }
 
     /// Begins anew with these locals and nothing on the stack, in the memory that it has.
@@ -187,7 +170,6 @@ impl<'a> Working<'a> {
     {
         self.locals.clear();
         self.stack.clear();
-        self.wides = 0;
         self.max_locals = max_locals;
         self.flag = flag;
         set_all(locals, &mut self.locals)
@@ -211,7 +193,7 @@ impl<'a> Working<'a> {
         items.answer(
             declared,
             self.locals(),
-            &self.stack,
+            self.stack.types(),
             self.flag,
             fits,
             classes,
@@ -229,12 +211,8 @@ impl<'a> Working<'a> {
         requires kept { IfSome kept (AreKept declared.now (held self.old).locals) }
         ensures { OnOk result (held self.new ≡ declared_view declared.now) }
     {
-        if let Err(error) = write(declared, kept, &mut self.locals, &mut self.stack) {
-            self.stack.clear();
-            self.wides = 0;
-            return Err(error);
-        }
-        self.wides = wides(&self.stack);
+        declared.write_locals(kept, &mut self.locals)?;
+        self.stack.take_on(declared)?;
         self.flag = declared.flag();
         Ok(())
     }
@@ -262,7 +240,7 @@ impl<'a> Working<'a> {
     pub fn has_made(&self, at: u16) -> bool
         ensures { result ≡ is_on_stack at (held self.now).stack }
     {
-        is_among(at, &self.stack)
+        self.stack.has(&VType::Uninit(at))
     }
 
     /// Forgets the object that the `new` at this offset has made: the locals that hold it become top.
@@ -277,7 +255,7 @@ impl<'a> Working<'a> {
         ensures { held self.new ≡ initialized_frame (type_of object.now) class.now (held self.old) }
     {
         self.locals.replace(object, VType::Class(class));
-        replace(object, VType::Class(class), &mut self.stack);
+        self.stack.replace(object, VType::Class(class));
         self.flag = flag_after(object, self.flag);
     }
 
@@ -286,15 +264,7 @@ impl<'a> Working<'a> {
         requires { length form.takes.now ≤ length (held self.old).stack }
         ensures { OnOk result (held self.new ≡ with_stack (held self.old) (rearranged (stack_form_view form) (held self.old).stack)) }
     {
-        let below = self.stack.len() - form.takes.len();
-        let before = wides(&self.stack[below..]);
-        if let Err(error) = rearrange(form, &mut self.stack) {
-            self.stack.clear();
-            self.wides = 0;
-            return Err(error);
-        }
-        self.wides = self.wides - before + wides(&self.stack[below..]);
-        Ok(())
+        self.stack.rearrange(form)
     }
 
     /// A copy of a frame that has max_locals locals.
@@ -308,15 +278,12 @@ impl<'a> Working<'a> {
     {
         let mut locals = Locals::new(alloc);
         set_all(&frame.locals, &mut locals)?;
-        let mut stack = Vec::new(alloc);
-        stack.extend_from_slice(&frame.stack)?;
-        let wides = wides(&stack);
+        let stack = OperandStack::from_types(alloc, &frame.stack)?;
         Ok(Working {
             alloc,
             locals,
             max_locals,
             stack,
-            wides,
             flag: frame.flag,
         })
     }
@@ -335,7 +302,7 @@ impl<'a> Working<'a> {
         let locals = locals.into_types(usize::from(max_locals))?;
         Ok(Frame {
             locals,
-            stack,
+            stack: stack.into_types(),
             flag,
         })
     }
@@ -349,20 +316,6 @@ fn flag_after(object: &VType<'_>, flag: bool) -> bool
         VType::UninitThis => false,
         _ => flag,
     }
-}
-
-/// Writes the locals and the stack of a declared frame.
-fn write<'a>(
-    declared: &Declared<'_, 'a>,
-    kept: Option<Declared<'_, 'a>>,
-    locals: &mut Locals<'a>,
-    stack: &mut Vec<VType<'a>>,
-) -> Result<(), AllocError>
-    requires { IfSome kept (AreKept declared.now (locals_in locals.old (length (declared_view declared.now).locals))) }
-    ensures { let d = declared_view declared.now in OnOk result ((locals_in locals.new (length d.locals) ≡ d.locals) × (stack_of stack.new.items ≡ d.stack)) }
-{
-    declared.write_locals(kept, locals)?;
-    declared.write_stack(stack)
 }
 
 /// Gives locals these types, from 0 up, and makes all beyond them top.

@@ -45,7 +45,7 @@ returns-in-Explain-clause-answered g c =
     let all : take (length reads - 1) (drop 1 reads) ≡ drop 1 reads = take_all (length reads - 1) (drop 1 reads) (omega (arith, length-drop 1 reads)) in
     rw (split read_view reads read c.in-len1-up.len_at_least c.read-item.is)
     (subst (λ command. Answered (Says command (read_view read ∷ map read_view (drop 1 reads))) (held c.args.out.now) (held c.verify-in-Explain.new.out) c.verify-in-Explain.result) (sym c.in-Explain.is)
-    (subst (λ known. Answered (VerifySays Explained c.in-Explain.profile (read_view read) (map read_view known)) (held c.args.out.now) (held c.verify-in-Explain.new.out) c.verify-in-Explain.result) all c.verify-in-Explain.ensures))
+    (subst (λ known. Answered (VerifySays (Explained c.in-Explain.form) c.in-Explain.profile (read_view read) (map read_view known)) (held c.args.out.now) (held c.verify-in-Explain.new.out) c.verify-in-Explain.result) all c.verify-in-Explain.ensures))
 
 pub returns-in-Play-clause-answered : goal.returns-in-Play-clause-answered
 returns-in-Play-clause-answered g c =

@@ -9,9 +9,8 @@ use Rattle.classfile.specs.Methods.{JudgedClass}
 use Rattle.hierarchy.specs.Class.{ClassFact}
 use Rattle.verify.specs.Reports.{IsReport}
 use Rattle.answers.specs.Files.{read_view, CountsKnown}
-use Rattle.answers.specs.Verdicts.{report_status, verdict_line, VerifySays}
+use Rattle.answers.specs.Verdicts.{report_status, explained, VerifySays}
 use Rattle.answers.specs.Explanations.{explanations}
-use Rattle.answers.specs.declared.command.Form.TheVariants.{Plain}
 use Rattle.answers.specs.declared.manner.Manner.TheVariants.{Explained}
 use Rattle.answers.proofs.Refused.{counted}
 use Rattle.answers.proofs.Tellings.{answered_more}
@@ -30,7 +29,7 @@ returns-in-Ok-explain_among_under g c =
     let (class, cs, formed, all, hierarchy, fine, is) = told in
     let rs = found.report.methods.items in
     let xs = found.frames.items in
-    answered_more (λ t s. (t ≡ explanations (verdict_line Plain) class.constant_pool class.methods rs xs) × (s ≡ report_status rs)) (VerifySays Explained c.args.profile read known)
+    answered_more (λ t s. (t ≡ explanations (explained c.args.form class.constant_pool) class.methods rs xs) × (s ≡ report_status rs)) (VerifySays (Explained c.args.form) c.args.profile read known)
     (λ text status p. inr (class, formed, inr (cs, all, inr (hierarchy, inr (fine, (rs, is.0, (xs, is.1, p.0), p.1))))))
     (held c.args.out.now) (held c.explain.new.out) c.explain.result (c.explain.ensures class formed)
 

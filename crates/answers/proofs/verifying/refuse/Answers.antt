@@ -2,7 +2,7 @@ use Rattle.std.proofs.Common.{◌≡◌, ◌∙◌, inl, inr, map, Err, ap, subs
 use Rattle.verify.specs.declared.among.AmongFault.TheVariants.{Refused, KnownRefused, NoHierarchy, FinalSuper}
 use Rattle.verify.specs.Among.{ReportsAmong}
 use Rattle.answers.specs.Files.{read_view, refusal_status}
-use Rattle.answers.specs.Verdicts.{class_refusal, known_refusal, hierarchy_told, final_super_told, IsTold, VerifySays}
+use Rattle.answers.specs.Verdicts.{class_object, class_refusal, known_object, known_refusal, hierarchy_told, final_super_told, IsTold, VerifySays}
 use Rattle.answers.proofs.Refused.{read_there}
 use Rattle.answers.proofs.Tellings.{answered_more}
 use Rattle.answers.proofs.verifying.refuse.Goals as goal
@@ -14,7 +14,7 @@ returns-in-Refused g c = λ profile told.
     let known = map read_view c.args.known.now in
     let fault = c.in-Refused.fault in
     let why : ReportsAmong profile read known (Err (Refused fault)) = subst (λ e. ReportsAmong profile read known (Err e)) c.in-Refused.is told in
-    answered_more (λ t s. IsTold c.args.manner read fault (λ form. class_refusal form fault) t × (s ≡ refusal_status fault)) (VerifySays c.args.manner profile read known)
+    answered_more (λ t s. IsTold c.args.manner read fault (λ form. class_refusal form fault) (class_object fault) t × (s ≡ refusal_status fault)) (VerifySays c.args.manner profile read known)
     (λ text status p. inl (fault, why, p.0, p.1))
     (held c.args.out.now) (held c.refuse_class.new.out) c.refuse_class.result c.refuse_class.ensures
 
@@ -29,7 +29,7 @@ returns-in-KnownRefused g c = λ profile told.
     let (class, i, formed, counted, first) = why in
     let here = c.index-known-number.result in
     let same : read_view here ≡ first.read = ap read_view c.index-known-number.is ∙ read_there read_view c.args.known.now i number here first.read counted first.here in
-    answered_more (λ t s. IsTold c.args.manner (read_view here) fault (λ form. known_refusal form number fault) t × (s ≡ refusal_status fault)) (VerifySays c.args.manner profile read known)
+    answered_more (λ t s. IsTold c.args.manner (read_view here) fault (λ form. known_refusal form number fault) (known_object number fault) t × (s ≡ refusal_status fault)) (VerifySays c.args.manner profile read known)
     (λ text status p. inr (
       class,
       formed,
@@ -37,7 +37,7 @@ returns-in-KnownRefused g c = λ profile told.
         i,
         fault,
         first,
-        subst (λ n. IsTold c.args.manner first.read fault (λ form. known_refusal form n fault) text) counted (subst (λ r. IsTold c.args.manner r fault (λ form. known_refusal form number fault) text) same p.0),
+        subst (λ n. IsTold c.args.manner first.read fault (λ form. known_refusal form n fault) (known_object n fault) text) counted (subst (λ r. IsTold c.args.manner r fault (λ form. known_refusal form number fault) (known_object number fault) text) same p.0),
         p.1,
       ),
     ))

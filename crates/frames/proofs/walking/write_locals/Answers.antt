@@ -1,4 +1,4 @@
-use Rattle.std.proofs.Common.{◌≡◌, ◌∙◌, ◌≤◌, ℕ, ap, sym, arith}
+use Rattle.std.proofs.Common.{◌∙◌, ap, sym, arith}
 use Rattle.frames.specs.VerificationType.{type_of}
 use Rattle.frames.specs.Slots.{units_of}
 use Rattle.frames.specs.Chains.{types_at, below_of, one_set}

@@ -1,4 +1,4 @@
-use Rattle.std.proofs.Common.{◌≡◌, ℕ}
+use Rattle.std.proofs.Common.{ℕ}
 use Rattle.frames.specs.Slots.{units_of}
 use Rattle.frames.specs.Chains.{types_at, IsOn, AreTopFrom, AreWritten}
 use Rattle.frames.specs.Locals.{local}

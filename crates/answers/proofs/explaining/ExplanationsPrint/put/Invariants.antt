@@ -3,8 +3,7 @@ use Rattle.std.proofs.Common.{map, drop}
 use Rattle.classfile.specs.Views.{member_view}
 use Rattle.printing.proofs.Writings.{SoFar}
 use Rattle.answers.specs.Explanations.{explanations}
-use Rattle.answers.specs.Verdicts.{verdict_line}
-use Rattle.answers.specs.declared.command.Form.TheVariants.{Plain}
+use Rattle.answers.specs.Verdicts.{explained}
 use Rattle.answers.proofs.explaining.ExplanationsPrint.put.Given as goal
 
 abbrev pub invariant-loop-i : goal.invariant-loop-i
@@ -14,5 +13,5 @@ invariant-loop-i g l =
     let members = l.self.members.now in
     let methods = l.self.methods.now in
     let frames = l.self.frames.now in
-    SoFar (held l.initial.out) (held l.out) (explanations (verdict_line Plain) pool (map member_view members) methods frames)
-    (explanations (verdict_line Plain) pool (map member_view (drop l.i members)) (drop l.i methods) (drop l.i frames))
+    SoFar (held l.initial.out) (held l.out) (explanations (explained l.self.form pool) (map member_view members) methods frames)
+    (explanations (explained l.self.form pool) (map member_view (drop l.i members)) (drop l.i methods) (drop l.i frames))

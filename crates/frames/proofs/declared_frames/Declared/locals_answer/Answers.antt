@@ -1,4 +1,4 @@
-use Rattle.std.proofs.Common.{◌≡◌, ◌≤◌, ◌∙◌, [], false, map, length, ap, sym, arith}
+use Rattle.std.proofs.Common.{◌≤◌, ◌∙◌, [], false, map, length, ap, sym, arith}
 use Rattle.frames.specs.VerificationType.{type_of}
 use Rattle.frames.specs.Assignable.{type_answer}
 use Rattle.frames.specs.FrameAssignable.{list_answer, slot_answer}

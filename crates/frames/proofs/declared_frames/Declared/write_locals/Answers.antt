@@ -1,6 +1,5 @@
-use Rattle.std.proofs.Common.{◌≡◌, ◌∙◌, length, arith}
+use Rattle.std.proofs.Common.{length}
 use Rattle.std.proofs.lemmas.Result.{on_ok_weaker}
-use Rattle.frames.specs.Locals.{local}
 use Rattle.frames.specs.DeclaredTables.{declared_view}
 use Rattle.frames.proofs.LocalWrites.{of_chain}
 use Rattle.frames.proofs.declared_frames.Declared.write_locals.Goals as goal

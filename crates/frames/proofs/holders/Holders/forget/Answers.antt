@@ -1,4 +1,4 @@
-use Rattle.std.proofs.Common.{◌∙◌, ap, sym, arith}
+use Rattle.std.proofs.Common.{◌∙◌, sym, arith}
 use Rattle.frames.specs.Holders.{number_of}
 use Rattle.frames.specs.ObjectHolders.{Holds}
 use Rattle.frames.proofs.Holding.{forget_kept}

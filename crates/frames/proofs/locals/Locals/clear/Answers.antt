@@ -1,4 +1,4 @@
-use Rattle.std.proofs.Common.{◌≡◌, ◌∙◌, ◌+◌, ◌<◌, ◌≤◌, ℕ, List, length, ap, sym, subst, arith}
+use Rattle.std.proofs.Common.{◌∙◌, ◌+◌, ◌<◌, ◌≤◌, ℕ, List, length, ap, sym, subst, arith}
 use Rattle.frames.specs.LocalTypes.{is_top, type_at}
 use Rattle.frames.specs.Locals.{local}
 use Rattle.frames.specs.VerificationType.{top}

@@ -1,6 +1,5 @@
 use Rattle.std.proofs.Common.{◌≡◌, ◌∙◌, true, false, ap, sym, arith}
 use Rattle.std.specs.Prelude.{is_some}
-use Rattle.frames.specs.VerificationType.{type_of}
 use Rattle.frames.specs.Locals.{local}
 use Rattle.frames.proofs.LocalTypes.{type_set, within_used, listed_set}
 use Rattle.frames.proofs.locals.Locals.give.Goals as goal

@@ -1,7 +1,7 @@
-use Rattle.std.proofs.Common.{◌≡◌, ◌∙◌, ◌++◌, ◌∷◌, [], ℕ, Bool, true, false, List, if◌then◌else◌, ap, sym, subst}
+use Rattle.std.proofs.Common.{◌≡◌, ◌∙◌, ◌++◌, ◌∷◌, [], ℕ, Bool, true, false, List, if◌then◌else◌, ap}
 use Rattle.std.specs.Prelude.{is_ok}
 use Rattle.frames.specs.LocalTypes.{is_among}
-use Rattle.frames.proofs.LocalTypes.{listed_push, among_more, among_last, type_here}
+use Rattle.frames.proofs.LocalTypes.{listed_push, among_more, among_last}
 use Rattle.frames.proofs.locals.Locals.list.Goals as goal
 
 pub invariant_of-self : goal.invariant_of-self

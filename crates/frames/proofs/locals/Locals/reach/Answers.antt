@@ -1,4 +1,4 @@
-use Rattle.std.proofs.Common.{◌≡◌, ◌≤◌, ◌+◌, ℕ, length, ap, arith}
+use Rattle.std.proofs.Common.{◌+◌, ap, arith}
 use Rattle.std.specs.Prelude.{is_ok}
 use Rattle.frames.specs.LocalTypes.{type_at}
 use Rattle.frames.specs.Locals.{local}

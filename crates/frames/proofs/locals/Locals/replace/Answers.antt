@@ -1,4 +1,4 @@
-use Rattle.std.proofs.Common.{◌≡◌, ◌≢◌, ◌∙◌, ℕ, true, ap, sym, subst}
+use Rattle.std.proofs.Common.{◌≡◌, ◌∙◌, true, ap, sym, subst}
 use Rattle.frames.specs.VerificationType.{type_of}
 use Rattle.frames.specs.Objects.{is_initialized}
 use Rattle.frames.specs.Holders.{IsAmong}

@@ -1,4 +1,4 @@
-use Rattle.std.proofs.Common.{◌≡◌, ℕ}
+use Rattle.std.proofs.Common.{ℕ}
 use Rattle.frames.specs.VerificationType.{type_of}
 use Rattle.frames.specs.Locals.{local, IsHolder}
 use Rattle.frames.proofs.LocalTypes.{IsOpen}

@@ -1,8 +1,6 @@
-use Rattle.std.proofs.Common.{◌≡◌, ◌<◌, ◌∙◌, ℕ, List, length, if◌then◌else◌, ap, sym, subst, arith}
+use Rattle.std.proofs.Common.{◌<◌, ◌∙◌, length, if◌then◌else◌, ap, sym, subst, arith}
 use Rattle.std.specs.Prelude.{nat_eq}
-use Rattle.std.proofs.Math.Logic.{∥∥₁_map}
-use Rattle.frames.specs.declared.vtype.VType.{VType}
-use Rattle.frames.specs.VerificationType.{VerificationType, type_of}
+use Rattle.frames.specs.VerificationType.{type_of}
 use Rattle.frames.specs.ObjectHolders.{Holds}
 use Rattle.frames.specs.LocalTypes.{type_at}
 use Rattle.frames.specs.Locals.{local}

@@ -17,16 +17,16 @@ returns-in-Array g c =
     let r = c.put-in-Array.result in
     let below = base_of c.in-Array.base in
     let n : c.saturating_sub.result ≡ c.in-Array.dims - 1 = omega (arith, c.saturating_sub.ensures) in
-    subst (λ (v : VType). Writes a b (type_text (type_of v)) r) (sym c.in-Array.is)
+    subst (λ (v : VType). Writes a b (type_text c.args.self.now.0 (type_of v)) r) (sym c.in-Array.is)
     (subst (λ (l : List ℕ). Writes a b (codes "Class [" ++ l) r)
-    (ap (λ k. replicate k bracket ++ descriptor_text below) n ∙ dimensioned_text (c.in-Array.dims - 1) below) c.put-in-Array.ensures)
+    (ap (λ k. replicate k bracket ++ descriptor_text c.args.self.now.0 below) n ∙ dimensioned_text c.args.self.now.0 (c.in-Array.dims - 1) below) c.put-in-Array.ensures)
 
 pub returns-in-UninitThis : goal.returns-in-UninitThis
 returns-in-UninitThis g c =
     let held = g.W.Write.contents in
-    subst (λ (v : VType). Writes (held c.args.out.now) (held c.put-in-UninitThis.new.out) (type_text (type_of v)) c.put-in-UninitThis.result) (sym c.in-UninitThis.is) c.put-in-UninitThis.ensures
+    subst (λ (v : VType). Writes (held c.args.out.now) (held c.put-in-UninitThis.new.out) (type_text c.args.self.now.0 (type_of v)) c.put-in-UninitThis.result) (sym c.in-UninitThis.is) c.put-in-UninitThis.ensures
 
 pub returns-in-Uninit : goal.returns-in-Uninit
 returns-in-Uninit g c =
     let held = g.W.Write.contents in
-    subst (λ (v : VType). Writes (held c.args.out.now) (held c.put-in-Uninit.new.out) (type_text (type_of v)) c.put-in-Uninit.result) (sym c.in-Uninit.is) c.put-in-Uninit.ensures
+    subst (λ (v : VType). Writes (held c.args.out.now) (held c.put-in-Uninit.new.out) (type_text c.args.self.now.0 (type_of v)) c.put-in-Uninit.result) (sym c.in-Uninit.is) c.put-in-Uninit.ensures

@@ -1,13 +1,14 @@
 use Rattle.std.proofs.Common.{◌≡◌, ◌∙◌, List, map, reverse, sym, ap, subst}
 use Rattle.std.proofs.lemmas.List.{reverse-reverse}
 use Rattle.frames.specs.declared.vtype.VType.{VType}
-use Rattle.frames.specs.VerificationType.{type_of}
+use Rattle.frames.specs.VerificationType.{VerificationType, type_of}
 use Rattle.frames.specs.StackFitting.{AreStackFitting}
+use Rattle.rules.specs.Held.{held}
 use Rattle.rules.proofs.working.Working.answer_for.Goals as goal
 
 -- the stack from the bottom up
-upwards : (items now : List VType) → now ≡ items → reverse (reverse (map type_of items)) ≡ map type_of now
-upwards items now e = reverse-reverse (map type_of items) ∙ ap (map type_of) (sym e)
+upwards : (types : List VType) (stack : List VerificationType) → reverse (map type_of types) ≡ stack → reverse stack ≡ map type_of types
+upwards types stack e = ap reverse (sym e) ∙ reverse-reverse (map type_of types)
 
 pub answer-requires-clause-known : goal.answer-requires-clause-known
 answer-requires-clause-known g c =
@@ -15,9 +16,9 @@ answer-requires-clause-known g c =
     record {
       table = known.table;
       own = known.own;
-      fitting = subst (λ ts. AreStackFitting (g.C.Classes.content c.args.classes.now) known.table ts c.args.items.now) (upwards c.args.self.now.stack.items c.deref.result.now c.deref.ensures.value) known.fitting;
+      fitting = subst (λ ts. AreStackFitting (g.C.Classes.content c.args.classes.now) known.table ts c.args.items.now) (upwards c.types.result.now (held c.args.self.now).stack c.types.ensures) known.fitting;
     }
 
 pub returns-clause-items : goal.returns-clause-items
 returns-clause-items g c = λ t own.
-    subst (λ ts. AreStackFitting (g.C.Classes.content c.args.classes.now) t ts c.answer.new.self) (sym (upwards c.args.self.now.stack.items c.deref.result.now c.deref.ensures.value)) (c.answer.ensures.known t own)
+    subst (λ ts. AreStackFitting (g.C.Classes.content c.args.classes.now) t ts c.answer.new.self) (sym (upwards c.types.result.now (held c.args.self.now).stack c.types.ensures)) (c.answer.ensures.known t own)

@@ -1,11 +1,19 @@
-use Rattle.std.proofs.Common.{sym, ◌∙◌}
-use Rattle.rules.proofs.Holding.{popped_some, popped_wide}
+use Rattle.std.proofs.Common.{◌≡◌, List, [], ◌∷◌, Option, Some, None, ap}
+use Rattle.std.specs.Prelude.{MatchOption}
+use Rattle.frames.specs.declared.vtype.VType.{VType}
+use Rattle.frames.specs.VerificationType.{VerificationType, type_of}
+use Rattle.frames.specs.FrameFact.{FrameFact}
+use Rattle.frames.specs.OperandStacks.{stack_in}
+use Rattle.rules.specs.After.{with_stack}
+use Rattle.rules.specs.Held.{held}
+use Rattle.rules.specs.Outcomes.{pushed}
 use Rattle.rules.proofs.working.Working.pop.Goals as goal
 
-pub overflow_sub-self : goal.overflow_sub-self
-overflow_sub-self c = popped_some c.args.self.now.stack.items c.pop.new.self.items c.in_ok-t.t c.args.self.now.wides c.in_ok-t.ensures.items c.args.self.now.counted.units (sym c.is_wide.ensures ∙ c.if-is_wide.true)
+-- the same of the frame as of its stack
+in_frame : (f : FrameFact) (old new : List VerificationType) (o : Option VType) → MatchOption o ((old ≡ []) × (new ≡ old)) (λ t. old ≡ type_of t ∷ new)
+    → MatchOption o ((old ≡ []) × (with_stack f new ≡ with_stack f old)) (λ t. with_stack f old ≡ pushed (type_of t ∷ []) (with_stack f new))
+in_frame f old new None e = (e.0, ap (with_stack f) e.1)
+in_frame f old new (Some t) e = ap (with_stack f) e
 
-pub invariant_of-self-then-is_wide : goal.invariant_of-self-then-is_wide
-invariant_of-self-then-is_wide c = record {
-  counted = record { units = popped_wide c.args.self.now.stack.items c.pop.new.self.items c.in_ok-t.t c.args.self.now.wides c.in_ok-t.ensures.items c.args.self.now.counted.units (sym c.is_wide.ensures ∙ c.if-is_wide.true) };
-}
+pub returns : goal.returns
+returns c = let f = held c.args.self.now in in_frame f f.stack (stack_in c.pop.new.self) c.pop.result c.pop.ensures

@@ -1,6 +1,8 @@
-use Rattle.std.proofs.Common.{arith}
-use Rattle.rules.proofs.Holding.{wides_most}
+use Rattle.std.proofs.Common.{ap}
+use Rattle.std.proofs.lemmas.Result.{on_ok_weaker}
+use Rattle.rules.specs.After.{with_stack}
+use Rattle.rules.specs.Held.{held}
 use Rattle.rules.proofs.working.Working.push.Goals as goal
 
-pub overflow_add-self : goal.overflow_add-self
-overflow_add-self c = omega (arith, wides_most c.args.self.now.stack.items c.args.self.now.wides c.args.self.now.counted.units, c.in_ok-push.ensures.len, c.push.new.self.ok.0, c.args.self.now.stack.ok.0)
+pub returns : goal.returns
+returns c = on_ok_weaker c.push.result (λ e. ap (with_stack (held c.args.self.now)) e) c.push.ensures

@@ -5,8 +5,8 @@ use Rattle.frames.proofs.Writing.{same_fact}
 use Rattle.rules.proofs.HeldLocals.{locals_length}
 use Rattle.rules.proofs.working.Working.take_on.Goals as goal
 
-pub write-requires : goal.write-requires
-write-requires c =
+pub write_locals-requires : goal.write_locals-requires
+write_locals-requires c =
     let w = c.args.self.now in
     let size : length (declared_view c.args.declared.now).locals ≡ w.max_locals = c.requires.size ∙ locals_length w.locals w.max_locals in
     subst (λ n. IfSome c.args.kept (AreKept c.args.declared.now (locals_in w.locals n))) (sym size) c.requires.kept
@@ -16,4 +16,4 @@ returns c =
     let w = c.args.self.now in
     let d = declared_view c.args.declared.now in
     let size : length d.locals ≡ w.max_locals = c.requires.size ∙ locals_length w.locals w.max_locals in
-    same_fact _ d (ap (locals_in c.write.new.locals) (sym size) ∙ c.in_default.ensures.0) c.in_default.ensures.1 c.flag-self.ensures
+    same_fact _ d (ap (locals_in c.write_locals.new.locals) (sym size) ∙ c.in_ok-write_locals.ensures) c.in_ok-take_on.ensures c.flag-self.ensures

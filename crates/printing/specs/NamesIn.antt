@@ -1,0 +1,28 @@
+-- Names as they are written in a line of words, or in a string of JSON (RFC 8259, 7).
+use Rattle.std.specs.Prelude.{ℕ, List, [], Result, Ok, Err}
+use Rattle.std.specs.List.{flat_map}
+use Rattle.names.specs.Units.{units_of}
+use Rattle.pool.specs.declared.fault.PoolFault.{PoolFault}
+use Rattle.pool.specs.Entries.{Entry}
+use Rattle.pool.specs.Lookups.{class_name_at}
+use Rattle.printing.specs.Names.{name_text, spelled_text}
+use Rattle.printing.specs.Json.{character_text, spelled_units}
+use Rattle.printing.specs.declared.within.Within.{Within}
+use Rattle.printing.specs.declared.within.Within.TheVariants.{Words, Json}
+
+abbrev pub name_in : Within → List ℕ → List ℕ
+name_in Words bytes = name_text bytes
+name_in Json bytes = flat_map character_text (units_of bytes)
+
+-- of bytes that spell no text nothing
+abbrev pub spelled_in : Within → List ℕ → List ℕ
+spelled_in Words bytes = spelled_text bytes
+spelled_in Json bytes = flat_map character_text (spelled_units bytes)
+
+-- of a constant that is not there nothing
+abbrev pub looked_up_in : Within → Result (List ℕ) PoolFault → List ℕ
+looked_up_in within (Ok bytes) = name_in within bytes
+looked_up_in within (Err fault) = []
+
+abbrev pub class_in : Within → List Entry → ℕ → List ℕ
+class_in within pool index = looked_up_in within (class_name_at pool index)
