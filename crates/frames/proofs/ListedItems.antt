@@ -18,7 +18,7 @@ use Rattle.frames.specs.StackItems.{top_first, AreListedFrom, ItemsAreListed, ha
 use Rattle.frames.proofs.Holding.{among_some, among_none}
 use Rattle.frames.proofs.LocalTypes.{type_here, type_past, same_object, has_number, replaced_gone}
 
-clash : false ≡ true → ⊥
+pub clash : false ≡ true → ⊥
 clash e = cc
 
 -- ---- what is listed
@@ -211,6 +211,10 @@ object_within object xs i own = by (either i (length xs))
 abbrev pub AreAhead : VerificationType → List VType → List Holder → ℕ → Type 0
 AreAhead object xs hs at = (i : ℕ) → is_initialized object (type_at xs i) ≡ true → ∥ IsAmong hs at i ∥₁
 
+-- and those below a place are
+abbrev pub AreAheadBelow : ℕ → VerificationType → List VType → List Holder → ℕ → Type 0
+AreAheadBelow below object xs hs at = (i : ℕ) → i < below → is_initialized object (type_at xs i) ≡ true → ∥ IsAmong hs at i ∥₁
+
 pub ahead_behind : (hs : List Holder) (at : ℕ) (h : Holder) → holder_at hs at ≡ Some h → (i : ℕ) → i ≢ h.place → ∥ IsAmong hs at i ∥₁ → ∥ IsAmong hs h.next i ∥₁
 ahead_behind hs at h e i ne a = ∥∥₁_map a (λ m. by (among_some hs at i h e m))
   where
@@ -232,6 +236,17 @@ module _ (object : VerificationType) (xs : List VType) where
   pub ahead_next : (hs : List Holder) (at : ℕ) (h : Holder) → holder_at hs at ≡ Some h → is_initialized object (type_at xs h.place) ≡ false → AreAhead object xs hs at → AreAhead object xs hs h.next
   ahead_next hs at h e other ahead i own =
       ahead_behind hs at h e i (λ same. clash (sym other ∙ ap (λ k. is_initialized object (type_at xs k)) (sym same) ∙ own)) (ahead i own)
+
+  pub ahead_past : (hs : List Holder) (at : ℕ) (h : Holder) → holder_at hs at ≡ Some h → (below was : ℕ) → below ≤ was → ((i : ℕ) → i < below → is_initialized object (type_at xs i) ≡ true → i ≢ h.place)
+      → AreAheadBelow was object xs hs at → AreAheadBelow below object xs hs h.next
+  ahead_past hs at h e below was le apart ahead i lt own = ahead_behind hs at h e i (apart i lt own) (ahead i (omega (arith, lt, le)) own)
+
+  pub none_below : (hs : List Holder) (at : ℕ) → holder_at hs at ≡ None → (below : ℕ) → AreAheadBelow below object xs hs at → (i : ℕ) → i < below → is_initialized object (type_at xs i) ≡ false
+  none_below hs at e below ahead i lt = by (is_initialized object (type_at xs i)) refl
+    where
+      by : (b : Bool) → is_initialized object (type_at xs i) ≡ b → is_initialized object (type_at xs i) ≡ false
+      by false own = own
+      by true own = absurd (∥∥₁_elim (ahead i lt own) (λ x y. absurd x) (λ m. among_none hs at i e m))
 
   or_last : (a b c : Bool) → ((a || b) || c) ≡ (a || (b || c))
   or_last true b c = refl

@@ -21,9 +21,9 @@ use std::alloc::{AllocError, Global};
 
 /// The operand stack of a running frame.
 ///
-/// For each object that is not initialized it lists the places that came to hold it, so that one which is looked for or replaced is found without
-/// going through all items. A place stays listed when its item is popped. Each such object that is pushed, left by a form or declared adds at most
-/// one entry, and all entries go when the stack begins anew.
+/// For each object that is not initialized it lists the places that came to hold it, so that one which is looked for or
+/// replaced is found without going through all items. A place stays listed when its item is popped. Each such object
+/// that is pushed, left by a form or declared adds at most one entry, and all entries go when the stack begins anew.
 #[derive(Drop)]
 pub struct OperandStack<'a> {
     // From the bottom up.
@@ -107,10 +107,11 @@ fn replace_listed<'a>(
 }
 
 impl<'a> OperandStack<'a> {
-    ghost use Rattle.std.specs.Prelude.{◌↔◌, [], ◌∷◌, IsTrue, MatchOption, IfOk};
+    ghost use Rattle.std.specs.Prelude.{◌↔◌, [], ◌∷◌, true, false, IsTrue, MatchOption, IfOk};
     ghost use Rattle.frames.specs.FrameAssignable.{width_of};
     ghost use Rattle.frames.specs.Slots.{units_of};
-    ghost use Rattle.frames.specs.OperandStacks.{stack_in};
+    ghost use Rattle.frames.specs.OperandStacks.{stack_in, item};
+    ghost use Rattle.frames.specs.Objects.{is_initialized};
 
     /// With nothing on it.
     pub fn new(alloc: Global) -> OperandStack<'a>
@@ -226,6 +227,25 @@ impl<'a> OperandStack<'a> {
             at = holder.next;
         }
         false
+    }
+
+    /// How many items from the bottom up, at most so many, are of other types than this object, which is not
+    /// initialized: all in front of the first one that is of it.
+    pub fn items_before(&self, object: &VType<'_>, limit: usize) -> usize
+        ensures few { result ≤ limit }
+        ensures other { (i : ℕ) → i < result → is_initialized (type_of object.now) (item (stack_in self.now) i) ≡ false }
+        ensures first { result < limit → is_initialized (type_of object.now) (item (stack_in self.now) result) ≡ true }
+    {
+        let mut first = limit;
+        let mut at = self.holders.first(object);
+        while let Some(holder) = self.holders.get(at) {
+            let place = holder.place;
+            if place < first && is_object(object, &at_or_top(&self.types, place)) {
+                first = place;
+            }
+            at = holder.next;
+        }
+        first
     }
 
     /// Puts a type, which is of no such object, in the place of an object which is not initialized.

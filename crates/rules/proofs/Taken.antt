@@ -30,7 +30,8 @@ use Rattle.rules.specs.Table.{plan, return_number, return_reference, return_noth
 use Rattle.rules.specs.After.{after, top_of, rest_of, form_for, fits_places, initialized, class_after, rearranged_by, element_of, local_of}
 use Rattle.rules.specs.Naming.{method_index, site_index}
 use Rattle.rules.specs.Ways.{is_plain, special_index}
-use Rattle.rules.specs.Taken.{most_taken, taken, at_most, with_receiver, without_receiver, item, IsOther}
+use Rattle.frames.specs.OperandStacks.{item}
+use Rattle.rules.specs.Taken.{most_taken, taken, at_most, with_receiver, without_receiver, IsOther}
 use Rattle.rules.proofs.Arguments.{map_reversed}
 use Rattle.rules.proofs.Made.{beneath_drops, count_on}
 

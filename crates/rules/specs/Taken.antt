@@ -1,13 +1,13 @@
 -- How many items of the stack an instruction takes, and the items beneath them, which stay.
-use Rattle.std.specs.Prelude.{◌≡◌, ℕ, ◌+◌, ◌<◌, false, max, List, [], ◌∷◌, length, reverse, get_or, Option, Some, None}
+use Rattle.std.specs.Prelude.{◌≡◌, ℕ, ◌+◌, ◌<◌, false, max, List, [], ◌∷◌, length, Option, Some, None}
 use Rattle.pool.specs.Members.{MethodConstant, CallSite}
 use Rattle.insn.specs.Acts.{StackForm}
 use Rattle.insn.specs.Meanings as acts
 use Rattle.insn.specs.Meanings.{Act}
 use Rattle.insn.specs.Stacks.{beneath}
-use Rattle.frames.specs.VerificationType.{VerificationType, top}
 use Rattle.frames.specs.FrameFact.{FrameFact}
 use Rattle.frames.specs.Objects.{is_initialized}
+use Rattle.frames.specs.OperandStacks.{item}
 use Rattle.rules.specs.Plans.{Plan, pops, loads, stores, counts, rearranges, loads_element, makes, constructs, calls_special, returns, refuses}
 use Rattle.rules.specs.After.{top_of}
 
@@ -52,10 +52,6 @@ at_most (acts.NewMultiArray i n) called site = n
 at_most _ called site = 4
 
 -- ---- the items beneath
-
--- an item of a stack that has its top first, counted from the bottom
-abbrev pub item : List VerificationType → ℕ → VerificationType
-item stack i = get_or (reverse stack) i top
 
 -- where a plan calls a constructor on an object, an item is of another one
 abbrev pub IsOther : Plan → FrameFact → ℕ → Type 0

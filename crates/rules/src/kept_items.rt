@@ -1,8 +1,8 @@
 //! The items of the stack that an instruction leaves as they are.
-ghost use Rattle.std.specs.Prelude.{◌≡◌, ◌≤◌, ◌<◌, ℕ, true, false, [], length, map, option_map, get_or};
+ghost use Rattle.std.specs.Prelude.{◌≡◌, ◌≤◌, ◌<◌, ℕ, true, false, [], option_map};
 ghost use Rattle.insn.specs.Views.{act_view};
 ghost use Rattle.frames.specs.Objects.{is_initialized};
-ghost use Rattle.frames.specs.VerificationType.{VerificationType, type_of, top};
+ghost use Rattle.frames.specs.OperandStacks.{item};
 ghost use Rattle.pool.specs.MemberViews.{method_constant_view, call_site_view};
 ghost use Rattle.insn.specs.Stacks.{beneath};
 ghost use Rattle.rules.specs.After.{after, top_of};
@@ -11,15 +11,13 @@ ghost use Rattle.rules.specs.Held.{held};
 ghost use Rattle.rules.specs.Naming.{IsNamed};
 ghost use Rattle.rules.specs.Plans.{arguments_on};
 ghost use Rattle.rules.specs.Table.{plan};
-ghost use Rattle.rules.specs.Views.{stack_of};
-ghost use Rattle.rules.specs.Taken.{taken, at_most, with_receiver, without_receiver, item, KeepsItems};
+ghost use Rattle.rules.specs.Taken.{taken, at_most, with_receiver, without_receiver, KeepsItems};
 ghost use Rattle.rules.specs.Ways.{is_plain};
 
 use crate::naming::Named;
 use crate::own_object::{item_beneath, special_index};
 use crate::working::Working;
 use classfile::CodeMethod;
-use frames::{VType, is_object};
 use insn::Act;
 use pool::{CallSite, MethodConstant};
 
@@ -71,43 +69,20 @@ fn taken_by(method: &CodeMethod<'_, '_>, act: &Act<'_>, named: &Named<'_>) -> us
     at_most(act, called, site)
 }
 
-/// Whether a type is that of an object that is not initialized.
-fn is_uninitialized(t: &VType<'_>) -> bool
-    ensures { result ≡ false → (other : VerificationType) → is_initialized (type_of t.now) other ≡ false }
-{
-    matches!(t, VType::UninitThis | VType::Uninit(_))
-}
-
-/// How many items stand in front of the first one that is of an object; all, where none is.
-fn first_of(object: &VType<'_>, items: &[VType<'_>]) -> usize
-    ensures few { result ≤ length items.now }
-    ensures other { (i : ℕ) → i < result → is_initialized (type_of object.now) (get_or (map type_of items.now) i top) ≡ false }
-{
-    for i in 0..items.len() {
-        if is_object(object, &items[i]) {
-            return i;
-        }
-    }
-    items.len()
-}
-
-/// How many of so many items from the bottom up stand in front of the first one that is of the object beneath the arguments of a call, if that is not
-/// initialized.
-fn first_of_receiver<'a>(called: &MethodConstant<'a>, stack: &[VType<'a>], limit: usize) -> usize
-    requires { limit ≤ length stack.now }
+/// How many items from the bottom up, at most so many, stand in front of the first one that is of the object beneath
+/// the arguments of a call, where that is not initialized.
+fn first_of_receiver(called: &MethodConstant<'_>, frame: &Working<'_>, limit: usize) -> usize
     ensures few { result ≤ limit }
-    ensures other { let object = top_of (beneath (arguments_on (method_constant_view called.now).type.params []) (stack_of stack.now)) in
-        (i : ℕ) → i < result → is_initialized object (item (stack_of stack.now) i) ≡ false }
+    ensures other { let stack = (held frame.now).stack in
+        let object = top_of (beneath (arguments_on (method_constant_view called.now).type.params []) stack) in
+        (i : ℕ) → i < result → is_initialized object (item stack i) ≡ false }
 {
-    let receiver = item_beneath(called.method_type.params.len(), stack);
-    if !is_uninitialized(&receiver) {
-        return limit;
-    }
-    first_of(&receiver, &stack[..limit])
+    let receiver = item_beneath(called.method_type.params.len(), frame.stack());
+    frame.items_before(&receiver, limit)
 }
 
-/// How many items of the stack, from the bottom up, an instruction leaves as they are, at least: it takes those above them, and calls no
-/// constructor on an object that stands among them.
+/// How many items of the stack, from the bottom up, an instruction leaves as they are, at least: it takes those above
+/// them, and calls no constructor on an object that stands among them.
 pub fn items_kept<'a>(
     method: &CodeMethod<'_, 'a>,
     act: &Act<'a>,
@@ -117,13 +92,15 @@ pub fn items_kept<'a>(
     requires { IsNamed (method_view method.now) (act_view act.now) named.now }
     ensures { (at : ℕ) → let m = method_view method.now in let f = held frame.now in KeepsItems result f (after m at (plan m (act_view act.now)) f) }
 {
-    let stack = frame.stack();
-    let beneath = stack.len().saturating_sub(taken_by(method, act, named));
+    let beneath = frame
+        .stack()
+        .len()
+        .saturating_sub(taken_by(method, act, named));
     match special_index(act) {
         None => beneath,
         Some(_) => match named.method() {
             None => beneath,
-            Some(called) => first_of_receiver(called, stack, beneath),
+            Some(called) => first_of_receiver(called, frame, beneath),
         },
     }
 }

@@ -24,7 +24,7 @@ pub struct Working<'a> {
 }
 
 impl<'a> Working<'a> {
-    ghost use Rattle.std.specs.Prelude.{◌<◌, ◌≤◌, ◌≢◌, ◌↔◌, ℕ, [], ◌∷◌, IsTrue, nat_lt, length, map, reverse, set, get_or, None, IsSome, MatchOption, OnOk, IfOk, IfSome};
+    ghost use Rattle.std.specs.Prelude.{◌<◌, ◌≤◌, ◌≢◌, ◌↔◌, ℕ, true, false, [], ◌∷◌, IsTrue, nat_lt, length, map, reverse, set, get_or, None, IsSome, MatchOption, OnOk, IfOk, IfSome};
     ghost use Rattle.frames.specs.Slots.{units_of, is_wide};
     ghost use Rattle.insn.specs.Stacks.{rearranged};
     ghost use Rattle.insn.specs.Views.{stack_form_view};
@@ -37,6 +37,8 @@ impl<'a> Working<'a> {
     ghost use Rattle.rules.specs.Working.{empty_frame, with_locals};
     ghost use Rattle.rules.specs.Held.{held, IsHolder};
     ghost use Rattle.frames.specs.HeldFrames.{held_locals, held_frame};
+    ghost use Rattle.frames.specs.Objects.{is_initialized};
+    ghost use Rattle.frames.specs.OperandStacks.{item};
     ghost use Rattle.frames.specs.Holders.{number_of};
     ghost use Rattle.hierarchy.specs.Answer.{outcome_of};
     ghost use Rattle.frames.specs.FrameAssignable.{frame_answer};
@@ -158,6 +160,16 @@ impl<'a> Working<'a> {
         self.stack.types()
     }
 
+    /// How many items of the stack from the bottom up, at most so many, are of other types than this object, which is
+    /// not initialized: all in front of the first one that is of it.
+    pub fn items_before(&self, object: &VType<'_>, limit: usize) -> usize
+        ensures few { result ≤ limit }
+        ensures other { (i : ℕ) → i < result → is_initialized (type_of object.now) (item (held self.now).stack i) ≡ false }
+        ensures first { result < limit → is_initialized (type_of object.now) (item (held self.now).stack result) ≡ true }
+    {
+        self.stack.items_before(object, limit)
+    }
+
     /// Begins anew with these locals and nothing on the stack, in the memory that it has.
     pub fn start(
         &mut self,
@@ -175,8 +187,9 @@ impl<'a> Working<'a> {
         set_all(locals, &mut self.locals)
     }
 
-    /// Whether this frame may stand where one is declared (JVMS 4.10.1.4). Where its locals are known to fit another frame of the same stack
-    /// map, only those are compared that the two declared frames do not share, and of its items those that are not known to fit.
+    /// Whether this frame may stand where one is declared (JVMS 4.10.1.4). Where its locals are known to fit another
+    /// frame of the same stack map, only those are compared that the two declared frames do not share, and of its items
+    /// those that are not known to fit.
     pub fn answer_for<C: Classes>(
         &self,
         declared: &Declared<'_, 'a>,
@@ -200,8 +213,9 @@ impl<'a> Working<'a> {
         )
     }
 
-    /// Becomes a declared frame, in the memory that it has. Where it has the locals of another frame of the same stack map, this one may be
-    /// `kept`: then only the locals are written that the two do not share. Nothing is said of the locals and the stack where memory ran out.
+    /// Becomes a declared frame, in the memory that it has. Where it has the locals of another frame of the same stack
+    /// map, this one may be `kept`: then only the locals are written that the two do not share. Nothing is said of the
+    /// locals and the stack where memory ran out.
     pub fn take_on(
         &mut self,
         declared: &Declared<'_, 'a>,
