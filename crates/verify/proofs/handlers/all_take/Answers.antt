@@ -1,5 +1,5 @@
-use Rattle.std.proofs.Common.{◌≡◌, Bool, true, false, ℕ, refl, subst, arith}
-use Rattle.std.specs.Prelude.{All, not}
+use Rattle.std.proofs.Common.{ℕ, subst, arith}
+use Rattle.std.specs.Prelude.{All}
 use Rattle.std.proofs.lemmas.List.{take_all}
 use Rattle.std.proofs.lemmas.List.Elements.{All-more}
 use Rattle.frames.specs.DeclaredTables.{frames_in}

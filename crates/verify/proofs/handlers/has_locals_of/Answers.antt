@@ -2,7 +2,6 @@ use Rattle.std.proofs.Common.{◌∙◌, Some, option_map, sym, ap}
 use Rattle.insn.specs.Offsets.{at_offset}
 use Rattle.frames.specs.DeclaredTables.{frames_in}
 use Rattle.frames.specs.FrameFact.{FrameFact}
-use Rattle.frames.specs.VerificationType.{VerificationType}
 use Rattle.verify.proofs.Changes.{of_one}
 use Rattle.verify.proofs.handlers.has_locals_of.Goals as goal
 

@@ -1,5 +1,4 @@
-use Rattle.std.proofs.Common.{take, sym, subst, arith}
-use Rattle.std.specs.Prelude.{All}
+use Rattle.std.proofs.Common.{take, subst, arith}
 use Rattle.std.proofs.lemmas.List.{take_all}
 use Rattle.std.proofs.lemmas.List.Elements.{All-more}
 use Rattle.frames.specs.DeclaredTables.{frames_in}

@@ -28,8 +28,8 @@ returns g c = λ es at f n b l k.
       | then-len-eq-MOST_TAKEN w ↦
           let was = c.ask_all.new.self in
           let none =
-              subst (λ (ts : List Change). Tracks es at (IsSettled cs frames ts at n) was.by_start.items was.begun was.fresh.items was.settled.items) (sym w.clear.ensures.items)
-              (taken_none cs frames es was.taken.items at n was.by_start.items was.begun was.fresh.items was.settled.items parted.0.0) in
+          subst (λ (ts : List Change). Tracks es at (IsSettled cs frames ts at n) was.by_start.items was.begun was.fresh.items was.settled.items) (sym w.clear.ensures.items)
+          (taken_none cs frames es was.taken.items at n was.by_start.items was.begun was.fresh.items was.settled.items parted.0.0) in
           subst known (sym w.self-is) ((none, parted.0.1), parted.1)
       | else-len-eq-MOST_TAKEN w ↦ subst known (sym w.self-is) parted
     ] in

@@ -75,12 +75,12 @@ loop-entry-preserved g c =
       turn = λ es t ahead.
           let so = IsJudged classes frames c.args.at f in
           let tracked = λ (o : Option Missing) (k : Tracks es c.args.at (so o) h.by_start.items h.begun popped (h.settled.items ++ x ∷ [])).
-              subst (λ (xs : List Entry). Tracks es c.args.at (so o) h.by_start.items h.begun popped xs) (sym pushed) k in
+          subst (λ (xs : List Entry). Tracks es c.args.at (so o) h.by_start.items h.begun popped xs) (sym pushed) k in
           let was = c.loop-entry.invariant.turn es t ahead in
           let taken = subst (λ (xs : List Entry). Tracks es c.args.at (IsJudged classes frames c.args.at f so_far) h.by_start.items h.begun xs h.settled.items) c.in-Some.ensures.items was.tracks in
           let told = sym c.in_ok-caught_answer.ensures.told in
           let represented = subst (AreRepresented frames standing) (sym pushed) (All-push (λ (e : Entry). IsRepresented frames standing e.handler) h.settled.items x
-              (represented_more frames h.representatives.items standing c.in_ok-represent.ensures.more h.settled.items was.represented) c.in_ok-represent.ensures.now) in
+          (represented_more frames h.representatives.items standing c.in_ok-represent.ensures.more h.settled.items was.represented) c.in_ok-represent.ensures.now) in
           elim c.match-branch-2.branch [
             | in-Yes w ↦ record {
               tracks =
