@@ -1,5 +1,5 @@
 -- A local that is given a type, and the entries that were compared before.
-use Rattle.std.proofs.Common.{◌≡◌, ◌∙◌, ◌⊎◌, inl, inr, ℕ, zero, suc, List, [], ◌∷◌, ◌++◌, length, get_or, set, Option, Some, None, refl, sym, ap, subst, arith, append_assoc}
+use Rattle.std.proofs.Common.{◌≡◌, ◌∙◌, ◌⊎◌, inl, inr, ℕ, zero, suc, List, [], ◌∷◌, ◌++◌, length, get_or, set, Option, Some, None, option_map, refl, sym, ap, subst, arith, append_assoc}
 use Rattle.std.specs.Prelude.{All, Contains, IfSome}
 use Rattle.std.proofs.lemmas.List.{get_or_default}
 use Rattle.std.proofs.lemmas.List.Elements.{All-nil, All-push, All-pop, All-contains, Contains-append_left, Contains-append_right, Contains-append_cases, Contains-push, Contains-push_cases}
@@ -25,7 +25,7 @@ use Rattle.verify.specs.ExceptionTables.{entry_view}
 use Rattle.verify.specs.Catching.{answer_at}
 use Rattle.verify.specs.Keeping.{Keeps, IsSameBeneath}
 use Rattle.verify.specs.declared.keeping.Replaced.{Replaced}
-use Rattle.verify.specs.Handling.{Tracks, Takes, IsAmong, IsSettled, Follows, HasBegun}
+use Rattle.verify.specs.Handling.{Tracks, Takes, TakesAt, IsAmong, IsSettled, Follows, AreRepresented, HasBegun}
 use Rattle.verify.proofs.InTurn.{same_settled}
 use Rattle.verify.proofs.Tracking.{tracked_again, tracked_later, tracked_settled, tracked_moved, tracked_so}
 
@@ -67,16 +67,18 @@ module _ (classes : List ClassFact) (frames : Frames) (taken : List Change) (at 
 
 pub follows_same : (classes : List ClassFact) (frames : Frames) (es : List ExceptionEntry) (at : ℕ) (f g : FrameFact) (h : Handlers) → f.locals ≡ g.locals → f.flag ≡ g.flag
     → Follows classes frames es at f h → Follows classes frames es at g h
-follows_same classes frames es at f g h l b t =
-    tracked_later es at (IsSettled classes frames h.taken.items at f) h.by_start.items h.begun h.fresh.items h.settled.items at (IsSettled classes frames h.taken.items at g) (omega arith)
-    (settled_same classes frames h.taken.items at f g (record { locals = l; flag = b })) t
+follows_same classes frames es at f g h l b t = (
+  tracked_later es at (IsSettled classes frames h.taken.items at f) h.by_start.items h.begun h.fresh.items h.settled.items at (IsSettled classes frames h.taken.items at g) (omega arith)
+      (settled_same classes frames h.taken.items at f g (record { locals = l; flag = b })) t.0,
+  t.1,
+)
 
 -- where no entry was compared, nothing is known of the frame
 pub follows_alone : (classes : List ClassFact) (frames : Frames) (es : List ExceptionEntry) (at : ℕ) (f g : FrameFact) (h : Handlers) → h.settled.items ≡ []
     → Follows classes frames es at f h → Follows classes frames es at g h
 follows_alone classes frames es at f g h none t =
     let now_so = IsSettled classes frames h.taken.items at g in
-    tracked_so es at (IsSettled classes frames h.taken.items at f) h.by_start.items h.begun h.fresh.items h.settled.items now_so (subst (All now_so) (sym none) (All-nil now_so)) t
+    (tracked_so es at (IsSettled classes frames h.taken.items at f) h.by_start.items h.begun h.fresh.items h.settled.items now_so (subst (All now_so) (sym none) (All-nil now_so)) t.0, t.1)
 
 -- ---- from one list of locals to another
 
@@ -98,9 +100,40 @@ takes_among classes frames taken at n t f e (c, among, number, type) s =
 
 pub follows_among : (classes : List ClassFact) (frames : Frames) (es : List ExceptionEntry) (at n : ℕ) (t : VerificationType) (f g : FrameFact) (h : Handlers) → g.flag ≡ f.flag → g.locals ≡ set f.locals n t
     → IsAmong h.taken.items n t → Follows classes frames es at f h → Follows classes frames es at g h
-follows_among classes frames es at n t f g h b l among follows =
-    tracked_later es at (IsSettled classes frames h.taken.items at f) h.by_start.items h.begun h.fresh.items h.settled.items at (IsSettled classes frames h.taken.items at g) (omega arith)
-    (λ e s. settled_stays classes frames h.taken.items at f g n t b l e (takes_among classes frames h.taken.items at n t f e among s) s) follows
+follows_among classes frames es at n t f g h b l among follows = (
+  tracked_later es at (IsSettled classes frames h.taken.items at f) h.by_start.items h.begun h.fresh.items h.settled.items at (IsSettled classes frames h.taken.items at g) (omega arith)
+      (λ e s. settled_stays classes frames h.taken.items at f g n t b l e (takes_among classes frames h.taken.items at n t f e among s) s) follows.0,
+  follows.1,
+)
+
+-- ---- a change that all representatives take
+
+same_locals_take : (classes : List ClassFact) (n : ℕ) (t : VerificationType) (one other : Option FrameFact) → option_map (λ d. d.locals) one ≡ option_map (λ d. d.locals) other
+    → IfSome other (λ d. type_answer classes t (get_or d.locals n top) ≡ yes) → IfSome one (λ d. type_answer classes t (get_or d.locals n top) ≡ yes)
+same_locals_take classes n t None other e takes = tt
+same_locals_take classes n t (Some d) None e takes = cc
+same_locals_take classes n t (Some d) (Some k) e takes =
+    let same : d.locals ≡ k.locals = cc in
+    subst (λ (ls : List VerificationType). type_answer classes t (get_or ls n top) ≡ yes) (sym same) takes
+
+pub represented_take : (classes : List ClassFact) (frames : Frames) (n : ℕ) (t : VerificationType) (representatives : List ℕ) (settled : List Entry)
+    → All (λ (h : ℕ). TakesAt classes frames h n t) representatives → AreRepresented frames representatives settled → All (λ (e : Entry). Takes classes frames e n t) settled
+represented_take classes frames n t representatives settled take represented = λ k d lt.
+    let (one, among, same) = represented k d lt in
+    same_locals_take classes n t (at_offset frames (get_or settled k d).handler) (at_offset frames one) same
+    (All-contains (λ (h : ℕ). TakesAt classes frames h n t) representatives one take among)
+
+pub follows_taken : (classes : List ClassFact) (frames : Frames) (es : List ExceptionEntry) (at n : ℕ) (t : VerificationType) (f g : FrameFact) (h : Handlers) → g.flag ≡ f.flag → g.locals ≡ set f.locals n t
+    → All (λ (e : Entry). Takes classes frames e n t) h.settled.items → Follows classes frames es at f h → Follows classes frames es at g h
+follows_taken classes frames es at n t f g h b l take follows = (
+  tracked_so es at (IsSettled classes frames h.taken.items at f) h.by_start.items h.begun h.fresh.items h.settled.items (IsSettled classes frames h.taken.items at g)
+      (λ k d lt. settled_stays classes frames h.taken.items at f g n t b l (get_or h.settled.items k d) (take k d lt) (follows.0.so k d lt)) follows.0,
+  follows.1,
+)
+
+-- more of them stand for no fewer
+pub represented_more : (frames : Frames) (old new : List ℕ) → ((h : ℕ) → Contains old h → Contains new h) → (settled : List Entry) → AreRepresented frames old settled → AreRepresented frames new settled
+represented_more frames old new more settled represented = λ k d lt. let (one, among, same) = represented k d lt in (one, more one among, same)
 
 -- ---- entries that are gone through
 
@@ -187,12 +220,18 @@ taken_none classes frames es taken at g by_start begun fresh settled t =
 -- all entries that were compared take one more change
 pub follows_more : (classes : List ClassFact) (frames : Frames) (es : List ExceptionEntry) (at : ℕ) (g : FrameFact) (h : Handlers) (x : Change) (pushed : List Change) → pushed ≡ h.taken.items ++ x ∷ []
     → Follows classes frames es at g h × All (λ e. Takes classes frames e x.local (type_of x.vtype)) h.settled.items
-    → Tracks es at (IsSettled classes frames pushed at g) h.by_start.items h.begun h.fresh.items h.settled.items
-follows_more classes frames es at g h x pushed e p =
-    subst (λ ts. Tracks es at (IsSettled classes frames ts at g) h.by_start.items h.begun h.fresh.items h.settled.items) (sym e)
-    (taken_more classes frames es h.taken.items at g x h.by_start.items h.begun h.fresh.items h.settled.items p.1 p.0)
+    → Tracks es at (IsSettled classes frames pushed at g) h.by_start.items h.begun h.fresh.items h.settled.items × AreRepresented frames h.representatives.items h.settled.items
+follows_more classes frames es at g h x pushed e p = (
+  subst (λ ts. Tracks es at (IsSettled classes frames ts at g) h.by_start.items h.begun h.fresh.items h.settled.items) (sym e)
+      (taken_more classes frames es h.taken.items at g x h.by_start.items h.begun h.fresh.items h.settled.items p.1 p.0.0),
+  p.0.1,
+)
 
 -- ---- the frame that is kept
+
+pub of_one : (t : DeclaredFrames) (d e : Declared) → IsOf t d → IsOf t e → AreOfOne d e
+unfolding IsOf AreOfOne
+of_one t d e p q = (p.0 ∙ sym q.0, p.1 ∙ sym q.1)
 
 pub all_of_one : (t : DeclaredFrames) (f : FrameFact) (rs : List Replaced) (to : Declared) → IsOf t to → (o : Option Declared) → IfSome o (Keeps t f rs) → IfSome o (λ from. AreOfOne from to)
 unfolding IsOf AreOfOne

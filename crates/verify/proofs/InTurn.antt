@@ -20,7 +20,7 @@ use Rattle.verify.specs.Verdict.{handler_conditions}
 use Rattle.verify.specs.Keeping.{IsSameBeneath}
 use Rattle.verify.specs.ExceptionTables.{entry_view}
 use Rattle.verify.specs.Catching.{caught_answer}
-use Rattle.verify.specs.Handling.{Tracks, Takes, MayCome, IsSettled, Follows, AreAhead, IsEarlier, IsLater, IsJudged, IsMissing, Settles, Catches}
+use Rattle.verify.specs.Handling.{Tracks, Takes, MayCome, IsSettled, Follows, AreAhead, IsEarlier, IsLater, IsJudged, IsMissing, IsRepresented, AreRepresented, Settles, Catches}
 use Rattle.verify.proofs.Caught.{none_against, one_against, first_missing, AreLacking}
 use Rattle.verify.proofs.Tracking.{tracked_again, tracked_later, tracked_without, tracked_settled, taken_begun, covered_compared, covered_ends, begun_covers}
 
@@ -29,6 +29,7 @@ pub record InTurn (classes : List ClassFact) (frames : Frames) (es : List Except
   pub tracks : Tracks es at (IsJudged classes frames at f so_far) h.by_start.items h.begun h.fresh.items h.settled.items
   pub ahead : AreAhead at h
   pub lacks : IfSome so_far (IsMissing classes frames es at f)
+  pub represented : AreRepresented frames h.representatives.items h.settled.items
 
 module _ (classes : List ClassFact) (frames : Frames) (es : List ExceptionEntry) (at : ℕ) (f : FrameFact) where
   abbrev answer : ExceptionEntry → Outcome
@@ -38,9 +39,10 @@ module _ (classes : List ClassFact) (frames : Frames) (es : List ExceptionEntry)
   turn_first h t ahead = record {
     tracks =
         tracked_later es at (IsSettled classes frames h.taken.items at f) h.by_start.items h.begun h.fresh.items h.settled.items at (IsJudged classes frames at f None) (omega arith)
-        (λ e s lt. inl (s.comes lt)) t;
+        (λ e s lt. inl (s.comes lt)) t.0;
     ahead = ahead;
     lacks = tt;
+    represented = t.1;
   }
 
   -- ---- an entry is taken
@@ -118,9 +120,11 @@ module _ (classes : List ClassFact) (frames : Frames) (es : List ExceptionEntry)
       taken e = subst (All (λ (c : Change). Takes classes frames e c.local (type_of c.vtype))) (sym untaken) (All-nil (λ (c : Change). Takes classes frames e c.local (type_of c.vtype)))
 
       all_settled : Follows classes frames es at f h
-      all_settled =
-          tracked_later es at (IsJudged classes frames at f None) h.by_start.items h.begun h.fresh.items h.settled.items at (IsSettled classes frames h.taken.items at f) (omega arith)
-          (λ e j. record { comes = λ lt. is_yes e (j lt); takes = taken e }) t.tracks
+      all_settled = (
+        tracked_later es at (IsJudged classes frames at f None) h.by_start.items h.begun h.fresh.items h.settled.items at (IsSettled classes frames h.taken.items at f) (omega arith)
+            (λ e j. record { comes = λ lt. is_yes e (j lt); takes = taken e }) t.tracks,
+        t.represented,
+      )
   turn_done (Some m) h none untaken t = record { outcome = first_missing classes frames at f es m.place t.lacks.entry m.name.now t.lacks.here t.lacks.covered t.lacks.answer lacking }
     where
       tracks : Tracks es at (IsJudged classes frames at f (Some m)) h.by_start.items h.begun [] h.settled.items
@@ -171,6 +175,16 @@ again_by es at was_so now_so by_start begun fresh settled now left (Ok u) p q t 
     (subst (λ xs. Tracks es at now_so by_start begun (fresh ++ settled) xs) (sym q) (tracked_again es at was_so by_start begun fresh settled t now_so))
 again_by es at was_so now_so by_start begun fresh settled now left (Err e) p q t = tt
 
+pub represented_none : (frames : Frames) (representatives : List ℕ) (settled : List Entry) → settled ≡ [] → AreRepresented frames representatives settled
+represented_none frames representatives settled none = subst (AreRepresented frames representatives) (sym none) (All-nil (λ (e : Entry). IsRepresented frames representatives e.handler))
+
+-- none is left, and a handler stands for each
+pub with_none : {E : Type 0} (P : Type 0) (frames : Frames) (representatives : List ℕ) (settled left : List Entry) (r : Result Unit E) → left ≡ (if is_ok r then [] else settled)
+    → OnOk r P → OnOk r (P × AreRepresented frames representatives left)
+with_none P frames representatives settled left (Ok u) q p =
+    (p, represented_none frames representatives left q)
+with_none P frames representatives settled left (Err e) q p = tt
+
 pub none_left : (xs : List Entry) (n : ℕ) → n ≡ length xs → n ≡ 0 → xs ≡ []
 none_left [] n e z = refl
 none_left (x ∷ xs) n e z = absurd (omega (arith, e, z))
@@ -178,13 +192,19 @@ none_left (x ∷ xs) n e z = absurd (omega (arith, e, z))
 -- the same at a later offset
 pub follows_later : (classes : List ClassFact) (frames : Frames) (es : List ExceptionEntry) (at to : ℕ) (f : FrameFact) (h : Handlers) → at ≤ to
     → Follows classes frames es at f h → Follows classes frames es to f h
-follows_later classes frames es at to f h le t =
-    tracked_later es at (IsSettled classes frames h.taken.items at f) h.by_start.items h.begun h.fresh.items h.settled.items to (IsSettled classes frames h.taken.items to f) le
-    (λ e s. record { comes = λ lt. s.comes (omega (arith, le, lt)); takes = s.takes }) t
+follows_later classes frames es at to f h le t = (
+  tracked_later es at (IsSettled classes frames h.taken.items at f) h.by_start.items h.begun h.fresh.items h.settled.items to (IsSettled classes frames h.taken.items to f) le
+      (λ e s. record { comes = λ lt. s.comes (omega (arith, le, lt)); takes = s.takes }) t.0,
+  t.1,
+)
 
 pub when_ok : {T E : Type 0} (P : Type 0) (r : Result T E) → IsOk r → OnOk r P → P
 when_ok P (Ok x) e p = p
 when_ok P (Err x) e p = cc
+
+pub on_more : {T E : Type 0} (r : Result T E) (P Q : Type 0) → OnOk r P → (P → Q) → OnOk r Q
+on_more (Ok x) P Q p f = f p
+on_more (Err e) P Q p f = p
 
 -- what follows from an answer that is one
 pub on_ok : {T E : Type 0} {P : Type 0} (r : Result T E) → ((x : T) → r ≡ Ok x → P) → OnOk r P

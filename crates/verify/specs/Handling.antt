@@ -1,5 +1,5 @@
 -- The entries of an exception table while a pass goes over the code: which are to come, and which are compared with the frame as it is.
-use Rattle.std.specs.Prelude.{◌≡◌, ◌⊎◌, ℕ, ◌≤◌, ◌<◌, true, List, length, get_or, slice_get, slice_index_or, Option, Some, None, Result, IfSome, OnOk, MatchResult, MatchOption, All, Contains}
+use Rattle.std.specs.Prelude.{◌≡◌, ◌⊎◌, ℕ, ◌≤◌, ◌<◌, true, List, length, get_or, slice_get, slice_index_or, Option, Some, None, option_map, Result, IfSome, OnOk, MatchResult, MatchOption, All, Contains}
 use Rattle.std.specs.List.Sorted.{IsNonDecreasingBy}
 use Rattle.classfile.specs.Methods.{ExceptionEntry, covers}
 use Rattle.hierarchy.specs.Class.{ClassFact}
@@ -53,9 +53,13 @@ pub record Tracks (es : List ExceptionEntry) (at : ℕ) (is_so : Entry → Type 
   pub every : (place : ℕ) (e : ExceptionEntry) → slice_get es place ≡ Some e → at < e.to
       → IsToCome by_start begun place ⊎ (Holds fresh place ⊎ Holds settled place)
 
--- the frame of an entry's handler takes this type as the local of a number
+-- the frame of a handler takes this type as the local of a number
+abbrev pub TakesAt : List ClassFact → Frames → (handler : ℕ) → ℕ → VerificationType → Type 0
+TakesAt classes frames handler n t = IfSome (at_offset frames handler) (λ d. type_answer classes t (get_or d.locals n top) ≡ yes)
+
+-- the frame of an entry's handler does
 abbrev pub Takes : List ClassFact → Frames → Entry → ℕ → VerificationType → Type 0
-Takes classes frames e n t = IfSome (at_offset frames e.handler) (λ d. type_answer classes t (get_or d.locals n top) ≡ yes)
+Takes classes frames e n t = TakesAt classes frames e.handler n t
 
 -- a local of this number was given this type
 abbrev pub IsAmong : List Change → ℕ → VerificationType → Type 0
@@ -70,10 +74,26 @@ pub record IsSettled (classes : List ClassFact) (frames : Frames) (taken : List 
   pub comes : MayCome classes frames at f e
   pub takes : All (λ (c : Change). Takes classes frames e c.local (type_of c.vtype)) taken
 
+-- the frames of two handlers have the same locals, or neither handler has a frame
+abbrev pub HaveSameLocals : Frames → ℕ → ℕ → Type 0
+HaveSameLocals frames one other = option_map (λ d. d.locals) (at_offset frames one) ≡ option_map (λ d. d.locals) (at_offset frames other)
+
+-- one of these handlers stands for a handler, since their frames have the same locals
+abbrev pub IsRepresented : Frames → List ℕ → ℕ → Type 0
+IsRepresented frames representatives handler = (one : ℕ) × Contains representatives one × HaveSameLocals frames handler one
+
+-- for the handler of each entry one of them stands
+abbrev pub AreRepresented : Frames → List ℕ → List Entry → Type 0
+AreRepresented frames representatives es = All (λ e. IsRepresented frames representatives e.handler) es
+
 -- those that were compared are so with the frame as it is
-abbrev pub Follows : List ClassFact → Frames → List ExceptionEntry → ℕ → FrameFact → Handlers → Type 0
-Follows classes frames es at f h =
+abbrev pub AreCompared : List ClassFact → Frames → List ExceptionEntry → ℕ → FrameFact → Handlers → Type 0
+AreCompared classes frames es at f h =
     Tracks es at (IsSettled classes frames h.taken.items at f) h.by_start.items h.begun h.fresh.items h.settled.items
+
+-- and one handler stands for that of each
+abbrev pub Follows : List ClassFact → Frames → List ExceptionEntry → ℕ → FrameFact → Handlers → Type 0
+Follows classes frames es at f h = AreCompared classes frames es at f h × AreRepresented frames h.representatives.items h.settled.items
 
 -- those that are to come begin behind the offset
 abbrev pub AreAhead : ℕ → Handlers → Type 0

@@ -1,12 +1,12 @@
 //! The exception handlers of a method, while a pass goes over its code (JVMS 4.10.1.6).
-ghost use Rattle.std.specs.Prelude.{◌≡◌, true, false, option_map, IfSome, IsSomeAnd};
+ghost use Rattle.std.specs.Prelude.{◌≡◌, ℕ, true, false, option_map, IfSome, IsSomeAnd, OnOk, All, Contains};
 ghost use Rattle.frames.specs.DeclaredTables.{frames_in};
 ghost use Rattle.frames.specs.FrameFact.{FrameFact};
 ghost use Rattle.frames.specs.VerificationType.{type_of};
 ghost use Rattle.rules.specs.After.{top_of};
 ghost use Rattle.rules.specs.Held.{held};
 ghost use Rattle.rules.specs.Replacing.{ChangesOnly};
-ghost use Rattle.verify.specs.Handling.{IsEarlier, IsAmong, Takes};
+ghost use Rattle.verify.specs.Handling.{IsEarlier, IsAmong, Takes, TakesAt, HaveSameLocals, IsRepresented, AreRepresented};
 ghost use Rattle.verify.specs.Asking.{IsAsked};
 
 use crate::catching::{caught_answer, takes};
@@ -20,6 +20,9 @@ use std::alloc::{AllocError, Global};
 
 // So many changes are kept that all settled entries took.
 const MOST_TAKEN: usize = 256;
+
+// With so many representatives, the latest ones, the frame of a handler is compared.
+const LATEST: usize = 8;
 
 /// The class that is missing for the entry that stands first in the table, of those whose comparison needs one.
 #[derive(Clone, Copy)]
@@ -51,6 +54,8 @@ pub struct Handlers<'a> {
     fresh: Vec<Entry<'a>>,
     // Entries already checked against the current locals.
     settled: Vec<Entry<'a>>,
+    // Handlers, by their offsets: the frame of each settled entry's handler has the locals of the frame of one of them.
+    representatives: Vec<u16>,
     // Changes that the frames of their handlers take, so that another one of these is not compared.
     taken: Vec<Change<'a>>,
     // Entries that are gone through.
@@ -155,8 +160,100 @@ fn ask<'n, 'a, C: Classes>(
     Some(Asked { declared, takes })
 }
 
+/// Whether the frame of a handler takes a change.
+fn takes_at<'a, C: Classes>(
+    handler: u16,
+    change: &Change<'a>,
+    frames: &DeclaredFrames<'a>,
+    classes: &C,
+) -> bool
+    ensures { result ≡ true → TakesAt (C.content classes.now) (frames_in frames.now) handler change.now.local (type_of change.now.vtype) }
+{
+    match frames.find(u32::from(handler)) {
+        None => false,
+        Some(declared) => takes(&declared, change.local, &change.vtype, classes),
+    }
+}
+
+/// Whether the frame of each of these handlers takes a change.
+fn all_take<'a, C: Classes>(
+    handlers: &[u16],
+    change: &Change<'a>,
+    frames: &DeclaredFrames<'a>,
+    classes: &C,
+) -> bool
+    ensures { result ≡ true → All (λ h. TakesAt (C.content classes.now) (frames_in frames.now) h change.now.local (type_of change.now.vtype)) handlers.now }
+{
+    for handler in handlers {
+        if !takes_at(*handler, change, frames, classes) {
+            return false;
+        }
+    }
+    true
+}
+
+/// Whether the frame of a handler is known to have the locals of that of another one.
+fn has_locals_of(handler: u16, other: u16, frames: &DeclaredFrames<'_>) -> bool
+    ensures { result ≡ true → HaveSameLocals (frames_in frames.now) handler other }
+{
+    if handler == other {
+        return true;
+    }
+    let Some(one) = frames.find(u32::from(handler)) else {
+        return false;
+    };
+    match frames.find(u32::from(other)) {
+        None => false,
+        Some(two) => one.keeps_locals_of(&two),
+    }
+}
+
+/// Whether the frame of a handler is known to have the locals of that of one of the last of these handlers.
+fn is_represented(handler: u16, representatives: &[u16], frames: &DeclaredFrames<'_>) -> bool
+    ensures { result ≡ true → IsRepresented (frames_in frames.now) representatives.now handler }
+{
+    let first = representatives.len().saturating_sub(LATEST);
+    for place in first..representatives.len() {
+        if has_locals_of(handler, representatives[place], frames) {
+            return true;
+        }
+    }
+    false
+}
+
+/// Makes the handler one of these representatives, unless one of them is known to stand for it.
+fn represent(
+    representatives: &mut Vec<u16>,
+    handler: u16,
+    frames: &DeclaredFrames<'_>,
+) -> Result<(), AllocError>
+    ensures now { OnOk result (IsRepresented (frames_in frames.now) representatives.new.items handler) }
+    ensures more { OnOk result ((h : ℕ) → Contains representatives.old.items h → Contains representatives.new.items h) }
+{
+    if is_represented(handler, representatives, frames) {
+        return Ok(());
+    }
+    representatives.push(handler)?;
+    Ok(())
+}
+
+/// Gives the handlers of these entries representatives, in the place of others.
+fn represent_all(
+    representatives: &mut Vec<u16>,
+    entries: &[Entry<'_>],
+    frames: &DeclaredFrames<'_>,
+) -> Result<(), AllocError>
+    ensures { OnOk result (AreRepresented (frames_in frames.now) representatives.new.items entries.now) }
+{
+    representatives.clear();
+    for entry in entries {
+        represent(representatives, entry.handler, frames)?;
+    }
+    Ok(())
+}
+
 impl<'a> Handlers<'a> {
-    ghost use Rattle.std.specs.Prelude.{◌<◌, ◌≤◌, ℕ, List, length, map, set, slice_index_or, None, IfOk, OnOk, All};
+    ghost use Rattle.std.specs.Prelude.{◌<◌, ◌≤◌, List, length, map, set, slice_index_or, None, IfOk};
     ghost use Rattle.std.specs.List.Sorted.{IsNonDecreasingBy};
     ghost use Rattle.hierarchy.specs.Class.{ClassFact};
     ghost use Rattle.classfile.specs.Methods.{ExceptionEntry, Method};
@@ -171,7 +268,7 @@ impl<'a> Handlers<'a> {
     ghost use Rattle.verify.specs.TypeSafety.{Frames};
     ghost use Rattle.verify.specs.Keeping.{AreKnown, IsKept, restored};
     ghost use Rattle.verify.specs.ExceptionTables.{entry_view, AreNumbered};
-    ghost use Rattle.verify.specs.Handling.{Follows, AreAhead, Settles, Catches};
+    ghost use Rattle.verify.specs.Handling.{AreCompared, Follows, AreAhead, Settles, Catches};
     ghost use Rattle.frames.specs.Conditions.{least};
     ghost use Rattle.verify.specs.Verdict.{entered, is_covered, handler_conditions};
     ghost use Rattle.verify.specs.declared.exceptions.Entry as entries;
@@ -188,6 +285,7 @@ impl<'a> Handlers<'a> {
             begun: 0,
             fresh: Vec::new(alloc),
             settled: Vec::new(alloc),
+            representatives: Vec::new(alloc),
             taken: Vec::new(alloc),
             moved: Vec::new(alloc),
             room: Vec::new(alloc),
@@ -234,6 +332,7 @@ impl<'a> Handlers<'a> {
         ensures { (cs : List ClassFact) (frames : Frames) (es : List ExceptionEntry) (at : ℕ) (f g : FrameFact)
             → Follows cs frames es at f self.old → OnOk result (Follows cs frames es at g self.new) }
     {
+        self.representatives.clear();
         self.fresh.append(&mut self.settled)
     }
 
@@ -246,7 +345,7 @@ impl<'a> Handlers<'a> {
     ) -> Result<(), AllocError>
         ensures { let cs = C.content classes.now in let t = frames_in frames.now in (es : List ExceptionEntry) (at : ℕ) (f g : FrameFact)
             → g.flag ≡ f.flag → g.locals ≡ set f.locals change.now.local (type_of change.now.vtype)
-            → Follows cs t es at f self.old → OnOk result (Follows cs t es at g self.new × All (λ e. Takes cs t e change.now.local (type_of change.now.vtype)) self.new.settled.items) }
+            → AreCompared cs t es at f self.old → OnOk result (AreCompared cs t es at g self.new × All (λ e. Takes cs t e change.now.local (type_of change.now.vtype)) self.new.settled.items) }
     {
         self.moved.clear();
         self.moved.append(&mut self.settled)?;
@@ -260,6 +359,24 @@ impl<'a> Handlers<'a> {
             }
         }
         Ok(())
+    }
+
+    // A local is given a type. Unless each representative takes it, the entries are asked one by one.
+    fn ask_all<C: Classes>(
+        &mut self,
+        change: &Change<'a>,
+        frames: &DeclaredFrames<'a>,
+        classes: &C,
+    ) -> Result<(), AllocError>
+        ensures { let cs = C.content classes.now in let t = frames_in frames.now in (es : List ExceptionEntry) (at : ℕ) (f g : FrameFact)
+            → g.flag ≡ f.flag → g.locals ≡ set f.locals change.now.local (type_of change.now.vtype)
+            → Follows cs t es at f self.old → OnOk result (Follows cs t es at g self.new × All (λ e. Takes cs t e change.now.local (type_of change.now.vtype)) self.new.settled.items) }
+    {
+        if all_take(&self.representatives, change, frames, classes) {
+            return Ok(());
+        }
+        self.part(change, frames, classes)?;
+        represent_all(&mut self.representatives, &self.settled, frames)
     }
 
     // A local is given a type. Where it was given that before, nothing is compared.
@@ -278,7 +395,7 @@ impl<'a> Handlers<'a> {
         if is_among(&change, &self.taken) {
             return Ok(());
         }
-        self.part(&change, frames, classes)?;
+        self.ask_all(&change, frames, classes)?;
         if self.taken.len() == MOST_TAKEN {
             self.taken.clear();
         }
@@ -473,6 +590,7 @@ impl<'a> Handlers<'a> {
                 Answer::No => return Err(Reason::HandlerNotAssignable),
                 Answer::Missing(name) => missing = Some(earlier(missing, entry.place, name)),
             }
+            represent(&mut self.representatives, entry.handler, frames)?;
             self.settled.push(entry)?;
         }
         Ok(missing)
@@ -484,6 +602,7 @@ impl<'a> Handlers<'a> {
             → Follows cs frames es at f self.old → AreAhead at self.old
             → IfOk result (λ b. (b ≡ is_covered es at) × Follows cs frames es at f self.new × AreAhead at self.new) }
     {
+        self.representatives.clear();
         self.fresh.append(&mut self.settled)?;
         while let Some(entry) = self.fresh.pop() {
             if at < entry.to {

@@ -3,17 +3,12 @@ use Rattle.insn.specs.Offsets.{at_offset}
 use Rattle.std.specs.Prelude.{IfSome}
 use Rattle.hierarchy.specs.Answer.{yes}
 use Rattle.frames.specs.Assignable.{type_answer}
-use Rattle.frames.specs.DeclaredTables.{frames_in, IsOf, AreOfOne}
+use Rattle.frames.specs.DeclaredTables.{frames_in}
 use Rattle.frames.specs.FrameFact.{FrameFact}
 use Rattle.frames.specs.VerificationType.{VerificationType, type_of, top}
-use Rattle.frames.specs.declared.declared_frames.Declared.{Declared}
-use Rattle.frames.specs.declared.declared_frames.DeclaredFrames.{DeclaredFrames}
 use Rattle.verify.specs.Asking.{IsAsked}
+use Rattle.verify.proofs.Changes.{of_one}
 use Rattle.verify.proofs.handlers.ask.Goals as goal
-
-of_one : (t : DeclaredFrames) (d e : Declared) → IsOf t d → IsOf t e → AreOfOne d e
-unfolding IsOf AreOfOne
-of_one t d e p q = (p.0 ∙ sym q.0, p.1 ∙ sym q.1)
 
 pub returns-then-keeps_locals_of-clause-asked : goal.returns-then-keeps_locals_of-clause-asked
 returns-then-keeps_locals_of-clause-asked g c =

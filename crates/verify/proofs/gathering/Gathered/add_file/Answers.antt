@@ -1,13 +1,9 @@
-use Rattle.std.proofs.Common.{◌∙◌, Result, Ok, Err, ap, refl, inl, inr}
-use Rattle.std.specs.Prelude.{OnOk}
+use Rattle.std.proofs.Common.{◌∙◌, ap, refl, inl, inr}
 use Rattle.hierarchy.specs.Summary.{facts_of}
 use Rattle.verify.specs.Files.{read_of}
 use Rattle.verify.specs.Each.{with_class}
+use Rattle.verify.proofs.InTurn.{on_more}
 use Rattle.verify.proofs.gathering.Gathered.add_file.Goals as goal
-
-on_more : {A E : Type 0} (r : Result A E) (P Q : Type 0) → OnOk r P → (P → Q) → OnOk r Q
-on_more (Ok x) P Q p f = f p
-on_more (Err e) P Q p f = p
 
 pub returns-in-Ok-clause-added : goal.returns-in-Ok-clause-added
 returns-in-Ok-clause-added c =

@@ -13,7 +13,7 @@ none_if (Some x) false e h = cc
 pub returns-then-is_empty : goal.returns-then-is_empty
 returns-then-is_empty c = λ e cs frames es f t.
     let h = c.args.self.now in
-    let ahead = c.next.ensures.none (none_if c.next.result c.is_none.result c.is_none.ensures e) t.rises in
+    let ahead = c.next.ensures.none (none_if c.next.result c.is_none.result c.is_none.ensures e) t.0.rises in
     let is = sym c.is_empty.ensures ∙ c.if-is_empty.true in
     let empty = none_left h.fresh.items h.fresh.len h.fresh.ok.0 (grind (arith, nat_tests, is)) in
     (ahead, turn_nothing cs frames es c.args.at f h empty (turn_first cs frames es c.args.at f h t ahead))

@@ -21,17 +21,16 @@ returns g c = λ es at f n b l k.
     let cs = g.C.Classes.content c.args.classes.now in
     let frames = frames_in c.args.frames.now in
     let change : Change = record { local = c.args.local; vtype = c.args.vtype } in
-    let parted = c.in_ok-part.ensures es at f n b l k in
+    let parted = c.in_ok-ask_all.ensures es at f n b l k in
     let known = λ (h : Handlers). Follows cs frames es at n h × All (λ (e : Entry). Takes cs frames e c.args.local (type_of c.args.vtype)) h.settled.items in
     let h = c.if-len-eq-MOST_TAKEN.self in
     let all : known h = elim c.if-len-eq-MOST_TAKEN.branch [
       | then-len-eq-MOST_TAKEN w ↦
-          let was = c.part.new.self in
-          subst known (sym w.self-is) (
-            subst (λ (ts : List Change). Tracks es at (IsSettled cs frames ts at n) was.by_start.items was.begun was.fresh.items was.settled.items) (sym w.clear.ensures.items)
-                (taken_none cs frames es was.taken.items at n was.by_start.items was.begun was.fresh.items was.settled.items parted.0),
-            parted.1,
-          )
+          let was = c.ask_all.new.self in
+          let none =
+          subst (λ (ts : List Change). Tracks es at (IsSettled cs frames ts at n) was.by_start.items was.begun was.fresh.items was.settled.items) (sym w.clear.ensures.items)
+          (taken_none cs frames es was.taken.items at n was.by_start.items was.begun was.fresh.items was.settled.items parted.0.0) in
+          subst known (sym w.self-is) ((none, parted.0.1), parted.1)
       | else-len-eq-MOST_TAKEN w ↦ subst known (sym w.self-is) parted
     ] in
     follows_more cs frames es at n h change c.push.new.self.items c.in_ok-push.ensures.items all

@@ -2,7 +2,7 @@ use Rattle.std.proofs.Common.{[], List, sym, ◌∙◌, subst, arith}
 use Rattle.std.proofs.lemmas.List.{append-nil}
 use Rattle.verify.specs.declared.exceptions.Entry.{Entry}
 use Rattle.verify.specs.Handling.{Tracks, IsSettled}
-use Rattle.verify.proofs.InTurn.{none_left}
+use Rattle.verify.proofs.InTurn.{none_left, represented_none}
 use Rattle.verify.proofs.Tracking.{tracked_again, tracked_without, open_covers, ended_cover_none}
 use Rattle.verify.proofs.handlers.Handlers.covers.Goals as goal
 
@@ -10,7 +10,7 @@ pub loop-entry-init : goal.loop-entry-init
 loop-entry-init c = λ cs frames es f t ahead.
     let h = c.args.self.now in
     let so = IsSettled cs frames h.taken.items c.args.at f in
-    let again = tracked_again es c.args.at so h.by_start.items h.begun h.fresh.items h.settled.items t so in
+    let again = tracked_again es c.args.at so h.by_start.items h.begun h.fresh.items h.settled.items t.0 so in
     let whole = subst (λ (xs : List Entry). Tracks es c.args.at so h.by_start.items h.begun xs []) (sym c.in_ok-append.ensures.items) again in (
       subst (λ (xs : List Entry). Tracks es c.args.at so h.by_start.items h.begun c.append.new.self.items xs) (sym c.in_ok-append.ensures.other_items) whole,
       ahead,
@@ -32,7 +32,10 @@ returns-then-at-entry c = λ cs frames es f t ahead.
     let (was, on, none) = c.loop-entry.invariant cs frames es f t ahead in
     let taken = subst (λ (xs : List Entry). Tracks es c.args.at so h.by_start.items h.begun xs h.settled.items) c.in-Some.ensures.items was in (
       sym (open_covers es c.args.at so h.by_start.items h.begun c.pop.new.self.items h.settled.items c.in-Some.entry taken c.if-at-entry.true),
-      subst (λ (xs : List Entry). Tracks es c.args.at so h.by_start.items h.begun xs h.settled.items) (sym c.in_ok-push.ensures.items) taken,
+      (
+        subst (λ (xs : List Entry). Tracks es c.args.at so h.by_start.items h.begun xs h.settled.items) (sym c.in_ok-push.ensures.items) taken,
+        represented_none frames h.representatives.items h.settled.items none,
+      ),
       on,
     )
 
@@ -45,4 +48,4 @@ returns c = λ cs frames es f t ahead.
     let left = subst (λ (xs : List Entry). Tracks es c.args.at so h.by_start.items h.begun xs h.settled.items) (c.in_default.ensures.items ∙ append-nil c.pop.new.self.items) was in
     let bare = subst (λ (xs : List Entry). Tracks es c.args.at so h.by_start.items h.begun xs []) empty
     (subst (λ (xs : List Entry). Tracks es c.args.at so h.by_start.items h.begun c.pop.new.self.items xs) none left) in
-    (sym (ended_cover_none es c.args.at so h.by_start.items h.begun bare on), left, on)
+    (sym (ended_cover_none es c.args.at so h.by_start.items h.begun bare on), (left, represented_none frames h.representatives.items h.settled.items none), on)

@@ -1,12 +1,15 @@
-use Rattle.std.proofs.Common.{◌<◌, List, Some, sym, ◌∙◌, ap, subst, arith, inr}
+use Rattle.std.proofs.Common.{◌<◌, List, [], ◌∷◌, ◌++◌, Option, Some, sym, ◌∙◌, ap, subst, arith, inr}
 use Rattle.std.specs.Prelude.{IfSome}
 use Rattle.std.proofs.lemmas.Bool.Decides.{nat_tests}
 use Rattle.std.proofs.lemmas.List.{append-nil}
+use Rattle.std.proofs.lemmas.List.Elements.{All-push}
 use Rattle.hierarchy.specs.Answer.{outcome_of}
 use Rattle.frames.specs.DeclaredTables.{frames_in}
 use Rattle.rules.specs.Held.{held}
 use Rattle.verify.specs.declared.exceptions.Entry.{Entry}
-use Rattle.verify.specs.Handling.{Tracks, IsJudged, IsMissing}
+use Rattle.verify.specs.declared.handlers.Missing.{Missing}
+use Rattle.verify.specs.Handling.{Tracks, IsJudged, IsMissing, IsRepresented, AreRepresented}
+use Rattle.verify.proofs.Changes.{represented_more}
 use Rattle.verify.proofs.InTurn.{turn_ended, turn_no, turn_yes, turn_missing, lacks_now, turn_none, turn_done, none_left}
 use Rattle.verify.proofs.handlers.Handlers.settle.Goals as goal
 use Rattle.verify.proofs.handlers.Handlers.settle.Goals.{in-Yes, in-Missing}
@@ -28,6 +31,7 @@ loop-entry-preserved-then-entry-at g c =
             tracks = turn_ended classes frames es c.args.at f so_far h.by_start.items h.begun c.pop.new.self.items h.settled.items c.in-Some.entry taken (omega (arith, c.if-entry-at.true));
             ahead = was.ahead;
             lacks = was.lacks;
+            represented = was.represented;
           };
     }
 
@@ -63,28 +67,37 @@ loop-entry-preserved g c =
     let x = c.in-Some.entry in
     let popped = c.pop.new.self.items in
     let lt : c.args.at < x.to = omega (arith, c.if-entry-at.false) in
+    let standing = c.represent.new.representatives.items in
+    let pushed = c.in_ok-push.ensures.items in
     record {
       known = c.in_ok-caught_answer.ensures.known;
       untaken = c.loop-entry.invariant.untaken;
       turn = λ es t ahead.
+          let so = IsJudged classes frames c.args.at f in
+          let tracked = λ (o : Option Missing) (k : Tracks es c.args.at (so o) h.by_start.items h.begun popped (h.settled.items ++ x ∷ [])).
+          subst (λ (xs : List Entry). Tracks es c.args.at (so o) h.by_start.items h.begun popped xs) (sym pushed) k in
           let was = c.loop-entry.invariant.turn es t ahead in
           let taken = subst (λ (xs : List Entry). Tracks es c.args.at (IsJudged classes frames c.args.at f so_far) h.by_start.items h.begun xs h.settled.items) c.in-Some.ensures.items was.tracks in
           let told = sym c.in_ok-caught_answer.ensures.told in
+          let represented = subst (AreRepresented frames standing) (sym pushed) (All-push (λ (e : Entry). IsRepresented frames standing e.handler) h.settled.items x
+          (represented_more frames h.representatives.items standing c.in_ok-represent.ensures.more h.settled.items was.represented) c.in_ok-represent.ensures.now) in
           elim c.match-branch-2.branch [
             | in-Yes w ↦ record {
               tracks =
-                  subst (λ o. Tracks es c.args.at (IsJudged classes frames c.args.at f o) h.by_start.items h.begun popped c.push.new.self.items) (sym w.missing-is)
-                  (subst (λ (xs : List Entry). Tracks es c.args.at (IsJudged classes frames c.args.at f so_far) h.by_start.items h.begun popped xs) (sym c.in_ok-push.ensures.items)
+                  subst (λ o. Tracks es c.args.at (so o) h.by_start.items h.begun popped c.push.new.self.items) (sym w.missing-is)
+                  (tracked so_far
                   (turn_yes classes frames es c.args.at f so_far h.by_start.items h.begun popped h.settled.items x taken (told ∙ ap outcome_of w.in-Yes.is)));
               ahead = was.ahead;
               lacks = subst (λ o. IfSome o (IsMissing classes frames es c.args.at f)) (sym w.missing-is) was.lacks;
+              represented = represented;
             }
             | in-Missing w ↦ record {
               tracks =
-                  subst (λ o. Tracks es c.args.at (IsJudged classes frames c.args.at f o) h.by_start.items h.begun popped c.push.new.self.items) (sym w.missing-is)
-                  (subst (λ (xs : List Entry). Tracks es c.args.at (IsJudged classes frames c.args.at f (Some w.earlier.result)) h.by_start.items h.begun popped xs) (sym c.in_ok-push.ensures.items)
+                  subst (λ o. Tracks es c.args.at (so o) h.by_start.items h.begun popped c.push.new.self.items) (sym w.missing-is)
+                  (tracked (Some w.earlier.result)
                   (turn_missing classes frames es c.args.at f so_far h.by_start.items h.begun popped h.settled.items x taken w.in-Missing.name.now w.earlier.result lt (told ∙ ap outcome_of w.in-Missing.is) w.earlier.ensures));
               ahead = was.ahead;
+              represented = represented;
               lacks = subst (λ o. IfSome o (IsMissing classes frames es c.args.at f)) (sym w.missing-is)
                   (lacks_now classes frames es c.args.at f so_far h.by_start.items h.begun popped h.settled.items x taken w.in-Missing.name.now w.earlier.result lt (told ∙ ap outcome_of w.in-Missing.is) w.earlier.ensures was.lacks);
             }
@@ -100,6 +113,6 @@ returns-clause-settled g c = λ es t ahead.
     let so_far = c.loop-entry.missing in
     let was = c.loop-entry.invariant.turn es t ahead in
     let left = subst (λ (xs : List Entry). Tracks es c.args.at (IsJudged classes frames c.args.at f so_far) h.by_start.items h.begun xs h.settled.items) (c.in_default.ensures.items ∙ append-nil c.pop.new.self.items) was.tracks in
-    turn_done classes frames es c.args.at f so_far (record { by_start = h.by_start; begun = h.begun; fresh = c.pop.new.self; settled = h.settled; taken = h.taken; moved = h.moved; room = h.room })
+    turn_done classes frames es c.args.at f so_far (record { by_start = h.by_start; begun = h.begun; fresh = c.pop.new.self; settled = h.settled; representatives = h.representatives; taken = h.taken; moved = h.moved; room = h.room })
     (none_left c.pop.new.self.items c.pop.new.self.len c.pop.new.self.ok.0 c.in_default.ensures.cases.1) c.loop-entry.invariant.untaken
-    (record { tracks = left; ahead = was.ahead; lacks = was.lacks })
+    (record { tracks = left; ahead = was.ahead; lacks = was.lacks; represented = was.represented })

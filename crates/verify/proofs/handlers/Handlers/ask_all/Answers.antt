@@ -1,0 +1,28 @@
+use Rattle.std.proofs.Common.{ℕ, List, subst}
+use Rattle.std.specs.Prelude.{All, OnOk}
+use Rattle.frames.specs.DeclaredTables.{frames_in}
+use Rattle.frames.specs.VerificationType.{type_of}
+use Rattle.verify.specs.declared.exceptions.Entry.{Entry}
+use Rattle.verify.specs.Handling.{TakesAt, AreRepresented}
+use Rattle.verify.proofs.Changes.{represented_take, follows_taken}
+use Rattle.verify.proofs.InTurn.{on_more}
+use Rattle.verify.proofs.handlers.Handlers.ask_all.Goals as goal
+
+pub returns-then-all_take : goal.returns-then-all_take
+returns-then-all_take g c = λ es at f n b l k.
+    let cs = g.C.Classes.content c.args.classes.now in
+    let frames = frames_in c.args.frames.now in
+    let h = c.args.self.now in
+    let local = c.args.change.now.local in
+    let t = type_of c.args.change.now.vtype in
+    let all = subst (λ (hs : List ℕ). All (λ (i : ℕ). TakesAt cs frames i local t) hs) c.deref.ensures.value (c.all_take.ensures c.if-all_take.true) in
+    let take = represented_take cs frames local t h.representatives.items h.settled.items all k.1 in
+    (follows_taken cs frames es at local t f n h b l take k, take)
+
+pub returns : goal.returns
+returns g c = λ es at f n b l k.
+    let frames = frames_in c.args.frames.now in
+    let now = c.in_ok-part.ensures es at f n b l k.0 in
+    let standing = c.represent_all.new.representatives.items in
+    let told = subst (λ (xs : List Entry). OnOk c.represent_all.result (AreRepresented frames standing xs)) c.deref-2.ensures.value c.represent_all.ensures in
+    on_more c.represent_all.result _ _ told (λ represented. ((now.0, represented), now.1))
