@@ -69,6 +69,9 @@ EXPLAINED = [
     (r"stack (\d+) locals (\d+)", "sizes"),
     (r"constant (.*)", "constant"),
     (r"catch (.*)", "exception_table"),
+    (r"(local|stack) (\d+): (.*) is not assignable to (.*)", "mismatch"),
+    (r"stack: items that come (\d+), declared (\d+)", "stack_size"),
+    (r"flags: flagThisUninit comes and is not declared", "flags"),
     (r"((?:declared )?(?:locals|stack|flags))((?: .*)?)", "frame"),
     (r"(\d+ [a-z].*)", "instruction"),
 ]
@@ -79,6 +82,12 @@ def explained_line(line):
     found, kind = next((it, kind) for pattern, kind in EXPLAINED if (it := re.fullmatch(pattern, line)))
     if kind == "sizes":
         return [("max_stack", int(found[1])), ("max_locals", int(found[2]))]
+    if kind == "mismatch":
+        return [("differs", found[1]), ("index", int(found[2])), ("type", unescaped(found[3])), ("declared_type", unescaped(found[4]))]
+    if kind == "stack_size":
+        return [("differs", kind), ("size", int(found[1])), ("declared_size", int(found[2]))]
+    if kind == "flags":
+        return [("differs", kind)]
     if kind == "frame":
         return [(found[1].replace(" ", "_"), [unescaped(it) for it in found[2][1:].split(", ")] if found[2] else [])]
     return [(kind, unescaped(found[1]))]

@@ -6,9 +6,11 @@ use Rattle.classfile.specs.Values.{CodeBody, Member}
 use Rattle.classfile.specs.Methods.{code_of}
 use Rattle.insn.specs.Readings.{reading_of}
 use Rattle.frames.specs.FrameFact.{FrameFact}
+use Rattle.frames.specs.Differences.{DifferenceFact}
 use Rattle.rules.specs.Reasons.{reason_number}
 use Rattle.rules.specs.ReasonNumbers.{not_assignable}
 use Rattle.printing.specs.Frames.{frame_lines, frame_fields}
+use Rattle.printing.specs.Differences.{difference_line, difference_fields}
 use Rattle.printing.specs.Classes.{sizes_line, line_at, named_at, catch_line, size_fields, instruction_fields, named_fields_at, table_fields}
 use Rattle.printing.specs.Json.{Field, fields_then, fields_behind, object_end}
 use Rattle.verify.specs.declared.verdict.Verdict.{Verdict}
@@ -30,14 +32,19 @@ abbrev pub lines_if : List ℕ → Option FrameFact → List ℕ
 lines_if label None = []
 lines_if label (Some f) = frame_lines label f
 
+-- of a difference, if there is one
+abbrev pub difference_line_of : Option DifferenceFact → List ℕ
+difference_line_of None = []
+difference_line_of (Some d) = difference_line d
+
 -- this number is about the frame that comes to an instruction and the one that is declared there
 abbrev pub is_of_entry : ℕ → Bool
 is_of_entry n = nat_eq n not_assignable
 
--- the frame before an instruction; where a number is about both, the one that comes and the one that is declared
+-- the frame before an instruction; where a number is about both, the one that comes, the one that is declared, and what differs
 abbrev pub frames_for : ℕ → FramesFact → List ℕ
 frames_for n x =
-    if is_of_entry n then lines_if [] x.coming ++ lines_if (codes "declared ") x.declared
+    if is_of_entry n then lines_if [] x.coming ++ (lines_if (codes "declared ") x.declared ++ difference_line_of x.difference)
     else lines_if [] (before x.coming x.declared)
 
 -- of the code, as `show` has it: its sizes, the instruction at the offset with the constant that it names, the frames there, and the
@@ -66,10 +73,17 @@ frame_fields_of f = fields_if (codes "locals") (codes "stack") (codes "flags") f
 abbrev pub declared_fields_of : Option FrameFact → List Field
 declared_fields_of f = fields_if (codes "declared_locals") (codes "declared_stack") (codes "declared_flags") f
 
--- the frame before an instruction; where a number is about both, the one that comes and the one that is declared
+abbrev pub difference_fields_of : Option DifferenceFact → List Field
+difference_fields_of None = []
+difference_fields_of (Some d) = difference_fields d
+
+abbrev pub fields_of_both : FramesFact → List ℕ → List ℕ
+fields_of_both x rest = fields_then (frame_fields_of x.coming) (fields_then (declared_fields_of x.declared) (fields_then (difference_fields_of x.difference) rest))
+
+-- the frame before an instruction; where a number is about both, the one that comes, the one that is declared, and what differs
 abbrev pub frame_fields_for : ℕ → FramesFact → List ℕ → List ℕ
 frame_fields_for n x rest =
-    if is_of_entry n then fields_then (frame_fields_of x.coming) (fields_then (declared_fields_of x.declared) rest)
+    if is_of_entry n then fields_of_both x rest
     else fields_then (frame_fields_of (before x.coming x.declared)) rest
 
 abbrev pub entry_fields_for : ℕ → List Entry → CodeBody → List Field

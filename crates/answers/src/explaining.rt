@@ -3,9 +3,10 @@ ghost use Rattle.std.specs.Prelude.{◌≡◌, map, [], codes, option_map};
 ghost use Rattle.classfile.specs.Methods.{code_of};
 ghost use Rattle.classfile.specs.Views.{member_view, code_view};
 ghost use Rattle.frames.specs.FrameFact.{frame_of};
+ghost use Rattle.frames.specs.Differences.{difference_of};
 ghost use Rattle.rules.specs.Reasons.{reason_number};
 ghost use Rattle.verify.specs.Coming.{before, frames_view};
-ghost use Rattle.answers.specs.Explanations.{is_of_table, entries_for, lines_if, is_of_entry, frames_for, code_part, explanation, frame_fields_of, declared_fields_of, frame_fields_for, entry_fields_for, code_fields, explanation_object, explanations};
+ghost use Rattle.answers.specs.Explanations.{is_of_table, entries_for, lines_if, difference_line_of, is_of_entry, frames_for, code_part, explanation, frame_fields_of, declared_fields_of, difference_fields_of, frame_fields_for, entry_fields_for, code_fields, explanation_object, explanations};
 ghost use Rattle.printing.specs.Json.{fields_then, fields_behind};
 ghost use Rattle.answers.specs.Verdicts.{verdict_line, verdict_object, explained};
 ghost use Rattle.answers.specs.declared.command.Form.TheVariants.{Plain};
@@ -14,10 +15,10 @@ use crate::command::Form;
 use crate::sentences::{ReasonSentenceFields, ReasonSentences};
 use crate::verdicts::{VerdictLine, VerdictObject};
 use classfile::{CodeAttr, Member};
-use frames::Frame;
+use frames::{Difference, Frame};
 use pool::Pool;
 use printing::{
-    END, FrameFields, FrameLines, Handlers, HandlersField, InstructionAt, InstructionFields, NamedAt,
+    DifferenceFields, DifferenceLine, END, FrameFields, FrameLines, Handlers, HandlersField, InstructionAt, InstructionFields, NamedAt,
     NamedFields, Print, SizeFields, Sizes, Then, Word, WriteFailed,
 };
 use rules::Reason;
@@ -101,6 +102,21 @@ impl<'r, 'a> Print for Declared<'r, 'a> {
     }
 }
 
+/// The line of the first difference of the frame that comes from the declared one, if there is one.
+#[derive(Clone, Copy)]
+struct Differing<'r, 'a>(&'r FramesAt<'a>);
+
+impl<'r, 'a> Print for Differing<'r, 'a> {
+    ghost text = { λ t. difference_line_of (frames_view t.0.now).difference };
+
+    fn put<W: Write>(&self, out: &mut W) -> Result<(), WriteFailed> {
+        match self.0.difference {
+            Some(difference) => DifferenceLine(difference).put(out),
+            None => Word("").put(out),
+        }
+    }
+}
+
 /// The lines of the frame before an instruction, if there is one.
 #[derive(Clone, Copy)]
 struct Before<'r, 'a>(&'r FramesAt<'a>);
@@ -128,7 +144,8 @@ impl<'r, 'a> Print for FramesFor<'r, 'a> {
 
     fn put<W: Write>(&self, out: &mut W) -> Result<(), WriteFailed> {
         if is_of_entry(&self.reason) {
-            Then(Coming(self.frames), Declared(self.frames)).put(out)
+            let declared = Then(Declared(self.frames), Differing(self.frames));
+            Then(Coming(self.frames), declared).put(out)
         } else {
             Before(self.frames).put(out)
         }
@@ -272,6 +289,21 @@ impl<'r, 'a, B: Print + Copy> Print for DeclaredIf<'r, 'a, B> {
     }
 }
 
+/// The fields of a difference, if there is one, and then what stands behind them.
+#[derive(Clone, Copy)]
+struct DifferenceIf<'a, B>(Option<Difference<'a>>, B);
+
+impl<'a, B: Print + Copy> Print for DifferenceIf<'a, B> {
+    ghost text = { λ t. fields_then (difference_fields_of (option_map difference_of t.0)) (B.text t.1) };
+
+    fn put<W: Write>(&self, out: &mut W) -> Result<(), WriteFailed> {
+        match self.0 {
+            Some(difference) => DifferenceFields(difference, self.1).put(out),
+            None => self.1.put(out),
+        }
+    }
+}
+
 /// The fields of the frames at the instruction at which a method is refused for a reason, and then what stands behind them.
 #[derive(Clone, Copy)]
 struct FrameFieldsFor<'r, 'a, B> {
@@ -287,7 +319,8 @@ impl<'r, 'a, B: Print + Copy> Print for FrameFieldsFor<'r, 'a, B> {
         let coming = self.frames.coming.as_ref();
         let declared = self.frames.declared.as_ref();
         if is_of_entry(&self.reason) {
-            FrameIf(coming, DeclaredIf(declared, self.behind)).put(out)
+            let difference = DifferenceIf(self.frames.difference, self.behind);
+            FrameIf(coming, DeclaredIf(declared, difference)).put(out)
         } else {
             match declared {
                 Some(_) => FrameIf(declared, self.behind).put(out),

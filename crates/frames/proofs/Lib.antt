@@ -7,6 +7,7 @@ pub mod PackedRows
 pub mod Slots
 pub mod Types
 pub mod Frames
+pub mod Differences
 mod Examples
 pub mod Steps
 pub mod Chains

@@ -2,6 +2,7 @@ pub mod VerificationType
 pub mod FrameFact
 pub mod Assignable
 pub mod FrameAssignable
+pub mod Differences
 pub mod Meaning
 pub mod Conditions
 pub mod FrameReasons

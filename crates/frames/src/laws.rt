@@ -1,5 +1,6 @@
 //! The meaning of the answers of the comparisons, and that declared frames tell the same in both of their forms.
 ghost use Rattle.frames.specs.DeclaredForms.{FormsAgree};
+ghost use Rattle.frames.specs.Differences.{DifferencesAreNo};
 ghost use Rattle.frames.specs.Packing.{EqualSlotsAreEqualTypes, EqualSlotsAreYes};
 ghost use Rattle.frames.specs.Meaning.{ClassesHaveOneAnswer, TypesMean, FramesHaveOneAnswer, FramesToThemselves};
 
@@ -17,6 +18,11 @@ pub fn types_mean()
 /// A comparison of two frames has one answer, by those of their slots.
 pub fn frames_have_one_answer()
     ensures { FramesHaveOneAnswer }
+{}
+
+/// A frame differs from another of as many locals exactly where the comparison of the two is `No`.
+pub fn differences_are_no()
+    ensures { DifferencesAreNo }
 {}
 
 /// Each frame is assignable to itself.

@@ -10,6 +10,7 @@
 //! - `constants`: the classes that entries name by the constant pool.
 //! - `declared_frames`: the frames that a stack map declares.
 //! - `declaring`: these frames made from the entries.
+//! - `difference`: what differs first of two frames.
 //! - `fitting`: which declared frames running locals are known to fit.
 //! - `frame`: frames.
 //! - `frame_fault`: why an entry is refused.
@@ -41,6 +42,7 @@ mod compare_frames;
 mod constants;
 mod declared_frames;
 mod declaring;
+mod difference;
 mod fitting;
 mod frame;
 mod frame_fault;
@@ -69,6 +71,7 @@ pub use compare::assignable;
 pub use compare_frames::{both, frame_assignable, width};
 pub use declared_frames::{Declared, DeclaredFrames};
 pub use declaring::declare;
+pub use difference::{Difference, Mismatch, first_difference};
 pub use fitting::Fitting;
 pub use frame::Frame;
 pub use frame_fault::FrameFault;

@@ -16,6 +16,7 @@
 //! | `ancestor_rows` | `hierarchy`: rows of ancestors |
 //! | `guarded_members` | `hierarchy`: references to protected members of other packages |
 //! | `assignability` | `frames`: one type or frame where another is wanted |
+//! | `differences` | `frames`: the first difference of two frames |
 //! | `packed_frames` | `frames`: types as slots, and frames compared by them |
 //! | `stack_maps`, `declared_frames` | `frames`: stack maps both ways, and the frames that they declare |
 //! | `operand_stacks` | `frames`: the operand stack of a running frame, and the objects on it |
@@ -48,6 +49,8 @@ mod code_writing;
 mod constant_pools;
 #[cfg(test)]
 mod declared_frames;
+#[cfg(test)]
+mod differences;
 #[cfg(test)]
 mod guarded_members;
 #[cfg(test)]

@@ -5,6 +5,7 @@ pub mod Instructions
 pub mod Frames
 pub mod Classes
 pub mod Json
+pub mod Differences
 pub mod NamesIn
 pub mod FaultFields
 pub mod Constants

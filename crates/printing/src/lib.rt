@@ -11,6 +11,7 @@
 //! - `instruction`: the line of an instruction.
 //! - `code`: the lines of a method's code, and those of one instruction of it.
 //! - `frame`: the lines of a frame, and a frame as fields of an object of JSON.
+//! - `differences`: the line of what differs first of two frames, and its fields.
 //! - `within`: names in a line of words, or in a string of JSON.
 //! - `constants`: the line of a constant; `parts`: the part of a class file at a place.
 //! - `class_attributes`: the lines of records and sealed classes.
@@ -20,6 +21,7 @@
 mod class_attributes;
 mod code;
 mod constants;
+mod differences;
 mod fault_fields;
 mod faults;
 mod frame;
@@ -34,6 +36,7 @@ mod within;
 pub use code::{
     Handlers, HandlersField, InstructionAt, InstructionFields, NamedAt, NamedFields, SizeFields, Sizes,
 };
+pub use differences::{DifferenceFields, DifferenceLine};
 pub use fault_fields::{FaultFields, PlaceFields};
 pub use frame::{FrameFields, FrameLines, TypeText};
 pub use json::{END, Enclosed, More, Object, Quoted, QuotedName, QuotedSpelled, Strings};

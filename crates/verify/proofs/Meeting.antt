@@ -28,7 +28,7 @@ use Rattle.verify.specs.declared.verdict.VerifyFault.{VerifyFault}
 use Rattle.verify.specs.InitialFrames.{initial_types, initial_frame, is_uninitialized}
 use Rattle.verify.specs.TypeSafety.{Frames, Declares}
 use Rattle.verify.specs.Verdict.{frames_declared}
-use Rattle.verify.specs.Coming.{FramesFact, before, frame_if, going, met, met_under, frames_at}
+use Rattle.verify.specs.Coming.{FramesFact, frames_with, before, frame_if, going, met, met_under, frames_at}
 use Rattle.verify.proofs.Declared.{good_frames}
 use Rattle.verify.proofs.Going.{ways}
 use Rattle.verify.proofs.Premises.{not_at, frames_there}
@@ -80,10 +80,10 @@ module _ (classes : List ClassFact) (m : Method Act) (frames : Frames) (at : ℕ
     pub goes_past : (total : FramesFact) → total ≡ met_at (c ∷ cs) coming → nat_eq c.0 at ≡ false → (declared next : Option FrameFact) → declared ≡ at_offset frames c.0 → next ≡ goes_from c coming declared → total ≡ met_at cs next
     goes_past total same e declared next d n = same ∙ passed e ∙ ap (λ o. met_at cs (goes_from c coming o)) (sym d) ∙ ap (met_at cs) (sym n)
 
-    pub meets : (total : FramesFact) → total ≡ met_at (c ∷ cs) coming → nat_eq c.0 at ≡ true → (declared : Option FrameFact) → declared ≡ at_offset frames c.0 → total ≡ record { coming = coming; declared = declared }
+    pub meets : (total : FramesFact) → total ≡ met_at (c ∷ cs) coming → nat_eq c.0 at ≡ true → (declared : Option FrameFact) → declared ≡ at_offset frames c.0 → total ≡ frames_with classes coming declared
     meets total same e declared d =
-        let here : met_at (c ∷ cs) coming ≡ record { coming = coming; declared = at_offset frames c.0 } = rw e refl in
-        same ∙ here ∙ ap (λ (o : Option FrameFact). let x : FramesFact = record { coming = coming; declared = o } in x) (sym d)
+        let here : met_at (c ∷ cs) coming ≡ frames_with classes coming (at_offset frames c.0) = rw e refl in
+        same ∙ here ∙ ap (frames_with classes coming) (sym d)
 
   -- what comes to a declared frame in front of the offset does not matter
   module _ (last : ℕ) (lt : last < at) (declared : IsStart frames last) where

@@ -14,7 +14,7 @@ use Rattle.rules.specs.Rules.{conditions}
 use Rattle.verify.specs.InitialFrames.{initial_frame}
 use Rattle.verify.specs.TypeSafety.{Frames}
 use Rattle.verify.specs.Verdict.{refused, refused_or, at_conditions, entry, entered, arrives, passes}
-use Rattle.verify.specs.Coming.{FramesFact, before, frame_if, going, met}
+use Rattle.verify.specs.Coming.{FramesFact, frames_with, before, frame_if, going, met}
 use Rattle.verify.specs.JudgedFrames.{entry_by, IsJudgedBy, FramesAreJudged}
 use Rattle.verify.proofs.Declared.{none_least}
 use Rattle.verify.proofs.Reasons.{none_told, none_apart}
@@ -51,7 +51,7 @@ module _ (plan : Plans) (classes : List ClassFact) (m : Method Act) (frames : Fr
     declared = at_offset frames c.0
 
     -- of the first instruction
-    first_met : (coming : Option FrameFact) → met_at (c ∷ cs) coming c.0 ≡ record { coming = coming; declared = declared }
+    first_met : (coming : Option FrameFact) → met_at (c ∷ cs) coming c.0 ≡ frames_with classes coming declared
     first_met coming = rw (eq-eqb c.0 c.0 refl) refl
 
     first_here : at_offset (c ∷ cs) c.0 ≡ Some c.1

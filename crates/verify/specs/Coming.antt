@@ -9,6 +9,7 @@ use Rattle.insn.specs.Instructions.{Instruction}
 use Rattle.insn.specs.Code.{SpellsCode}
 use Rattle.insn.specs.Offsets.{at_offset, acts}
 use Rattle.frames.specs.FrameFact.{FrameFact, frame_of}
+use Rattle.frames.specs.Differences.{DifferenceFact, first_difference, difference_of}
 use Rattle.frames.specs.Slots.{in_locals}
 use Rattle.frames.specs.Conditions.{least}
 use Rattle.rules.specs.Plans.{Plan, falls}
@@ -25,13 +26,22 @@ use Rattle.verify.specs.declared.verdict.Verdict.{Verdict}
 use Rattle.verify.specs.declared.verdict.Verdict.TheVariants.{Verified, NoCode, Refused}
 use Rattle.verify.specs.declared.report.MethodVerdict.{MethodVerdict}
 
--- at an offset: the frame that comes there, if one does, and the one that is declared there, if one is
+-- at an offset: the frame that comes there, if one does; the one that is declared there, if one is; and their difference
 pub record FramesFact : Type 0 where
   pub coming : Option FrameFact
   pub declared : Option FrameFact
+  pub difference : Option DifferenceFact
 
 abbrev pub no_frames : FramesFact
-no_frames = record { coming = None; declared = None }
+no_frames = record { coming = None; declared = None; difference = None }
+
+-- the first one, where there are both frames
+abbrev pub difference_if : List ClassFact → Option FrameFact → Option FrameFact → Option DifferenceFact
+difference_if classes (Some coming) (Some declared) = first_difference classes coming declared
+difference_if classes _ _ = None
+
+abbrev pub frames_with : List ClassFact → Option FrameFact → Option FrameFact → FramesFact
+frames_with classes coming declared = record { coming = coming; declared = declared; difference = difference_if classes coming declared }
 
 -- the frame before an instruction: the one that is declared there, and otherwise the one that comes
 abbrev pub before : Option FrameFact → Option FrameFact → Option FrameFact
@@ -50,7 +60,7 @@ going classes m at p (Some f) = frame_if (falls p && is_none (least (conditions 
 abbrev pub met : Plans → List ClassFact → Method Act → Frames → List (ℕ × Act) → Option FrameFact → ℕ → FramesFact
 met plan classes m frames [] coming at = no_frames
 met plan classes m frames (c ∷ cs) coming at =
-    if nat_eq c.0 at then record { coming = coming; declared = at_offset frames c.0 }
+    if nat_eq c.0 at then frames_with classes coming (at_offset frames c.0)
     else met plan classes m frames cs (going classes m c.0 (plan m c.1) (before coming (at_offset frames c.0))) at
 
 abbrev pub met_under : Plans → List ClassFact → Method Act → Result Frames MapRefusal → ℕ → FramesFact
@@ -66,7 +76,8 @@ frames_at plan classes m at =
 -- ---- what is answered
 
 abbrev pub frames_view : FramesAt → FramesFact
-frames_view x = record { coming = option_map frame_of x.coming; declared = option_map frame_of x.declared }
+frames_view x =
+    record { coming = option_map frame_of x.coming; declared = option_map frame_of x.declared; difference = option_map difference_of x.difference }
 
 -- the method of this number has code, its bytes are instructions, and these are its frames at an offset
 pub record HasFrames (classes : List ClassFact) (c : JudgedClass) (number at : ℕ) (x : FramesFact) : Type 0 where

@@ -1,4 +1,4 @@
-//! The frames at an instruction: the one that comes to it, and the one that is declared there.
+//! The frames at an instruction: the one that comes to it, the one that is declared there, and the first difference.
 ghost use Rattle.std.specs.Prelude.{◌≡◌, ◌≢◌, ◌⊎◌, ◌<◌, ◌≤◌, ◌-◌, ℕ, true, false, Ok, Some, List, length, map, option_map, IfOk, IfErr, IfSome};
 ghost use Rattle.layout.specs.declared.limits.TheConstants.{MAX_CODE_BYTES};
 ghost use Rattle.names.specs.Types.{type_of};
@@ -12,6 +12,7 @@ ghost use Rattle.insn.specs.Code.{SpellsCode};
 ghost use Rattle.insn.specs.Offsets.{at_offset, IsStart};
 ghost use Rattle.insn.specs.Views.{act_view};
 ghost use Rattle.frames.specs.FrameFact.{frame_of};
+ghost use Rattle.frames.specs.Differences.{difference_of};
 ghost use Rattle.frames.specs.DeclaredTables.{declared_view, frames_in};
 ghost use Rattle.frames.specs.MarkedCode.{code_in};
 ghost use Rattle.rules.specs.Bodies.{method_view};
@@ -20,7 +21,7 @@ ghost use Rattle.rules.specs.declared.reason.Reason.TheVariants as reasons;
 ghost use Rattle.rules.specs.Table.{plan};
 ghost use Rattle.verify.specs.declared.verdict.VerifyFault.TheVariants.{OutOfMemory};
 ghost use Rattle.verify.specs.Verdict.{frames_declared};
-ghost use Rattle.verify.specs.Coming.{no_frames, before, frame_if, going, met, frames_at, frames_view, frame_size, frames_size, AreFramesOf};
+ghost use Rattle.verify.specs.Coming.{no_frames, difference_if, frames_with, before, frame_if, going, met, frames_at, frames_view, frame_size, frames_size, AreFramesOf};
 
 use crate::body::Body;
 use crate::initial::{begins_uninitialized, initial_locals, initial_types};
@@ -28,7 +29,7 @@ use crate::method::types_of;
 use crate::stack_maps::declared_frames;
 use crate::verdict::VerifyFault;
 use classfile::CodeMethod;
-use frames::{CodeStarts, Declared, DeclaredFrames, Frame};
+use frames::{CodeStarts, Declared, DeclaredFrames, Difference, Frame, first_difference};
 use hierarchy::Classes;
 use insn::{Act, CodeFault, Instructions};
 use names::FieldType;
@@ -47,6 +48,8 @@ pub struct FramesAt<'a> {
     pub coming: Option<Frame<'a>>,
     /// The frame that the stack map declares there, if it declares one.
     pub declared: Option<Frame<'a>>,
+    /// The first difference of the one that comes from the declared one, where there are both and one is found.
+    pub difference: Option<Difference<'a>>,
 }
 
 impl<'a> FramesAt<'a> {
@@ -57,6 +60,7 @@ impl<'a> FramesAt<'a> {
         FramesAt {
             coming: None,
             declared: None,
+            difference: None,
         }
     }
 
@@ -197,16 +201,32 @@ fn copy_of<'a>(
     frame.into_frame()
 }
 
-/// The frame that comes, if it does, and the one that is declared.
-fn meet<'a>(
+/// The first difference of a frame that comes from the declared one, where there are both.
+fn difference_if<'a, C: Classes>(
+    coming: &Option<Frame<'a>>,
+    declared: &Option<Frame<'a>>,
+    classes: &C,
+) -> Option<Difference<'a>>
+    ensures { option_map difference_of result
+        ≡ difference_if (C.content classes.now) (option_map frame_of coming.now) (option_map frame_of declared.now) }
+{
+    match (coming, declared) {
+        (Some(coming), Some(declared)) => first_difference(coming, declared, classes),
+        _ => None,
+    }
+}
+
+/// The frame that comes, if it does, the one that is declared, and their difference.
+fn meet<'a, C: Classes>(
     alloc: Global,
     comes: bool,
     frame: Working<'a>,
     declared: Option<Declared<'_, 'a>>,
     max_locals: u16,
+    classes: &C,
 ) -> Result<FramesAt<'a>, AllocError>
     requires { IfSome declared (λ d. length (declared_view d).locals ≡ max_locals) }
-    ensures { IfOk result (λ x. frames_view x ≡ record { coming = frame_if comes (held frame.entry); declared = option_map declared_view declared.entry }) }
+    ensures { IfOk result (λ x. frames_view x ≡ frames_with (C.content classes.now) (frame_if comes (held frame.entry)) (option_map declared_view declared.entry)) }
 {
     let coming = if comes {
         Some(frame.into_frame()?)
@@ -217,7 +237,12 @@ fn meet<'a>(
         Some(declared) => Some(copy_of(alloc, &declared, max_locals)?),
         None => None,
     };
-    Ok(FramesAt { coming, declared })
+    let difference = difference_if(&coming, &declared, classes);
+    Ok(FramesAt {
+        coming,
+        declared,
+        difference,
+    })
 }
 
 /// The frames at an offset of code, by one walk over it with the frame with which the method begins. No instruction is run in front of the
@@ -248,7 +273,8 @@ fn walk<'a, C: Classes>(
         let act = code.take_act();
         let declared = body.frames.find(u32::from(here));
         if usize::from(here) == at {
-            return Ok(meet(body.alloc, comes, frame, declared, max_locals)?);
+            let classes = body.classes;
+            return Ok(meet(body.alloc, comes, frame, declared, max_locals, classes)?);
         }
         if usize::from(here) >= last {
             comes = step(body, here, act, declared, comes, constants, &mut frame)?;

@@ -18,7 +18,7 @@ method f ()V refused 65 at 1 | 65 StackOver: the stack after the instruction pas
 method f ()V refused 66 at 0 | 66 WrongConstant: the constant, or the byte, is none that the instruction may have | stack 1 locals 0 | 0 new #8 | constant 8 Integer | locals | stack
 method f ()V refused 67 at 0 | 67 NoFrameAtTarget: the stack map declares no frame at a target of the instruction | stack 0 locals 0 | 0 goto 3 | locals | stack
 method f ()LA; refused 68 at 1 | 68 NotAssignableAtTarget: the frame after the instruction is not assignable to the one that is declared at a target | stack 1 locals 0 | 1 goto 4 | locals | stack int
-method f ()V refused 69 at 1 | 69 NotAssignable: the frame that comes to the instruction is not assignable to the one that is declared there | stack 1 locals 0 | 1 return | locals | stack int | declared locals | declared stack
+method f ()V refused 69 at 1 | 69 NotAssignable: the frame that comes to the instruction is not assignable to the one that is declared there | stack 1 locals 0 | 1 return | locals | stack int | declared locals | declared stack | stack: items that come 1, declared 0
 method f ()V refused 70 at 1 | 70 NoFrame: the instruction before never goes on, and the stack map declares no frame here | stack 0 locals 0 | 1 nop
 method f ()V refused 71 at 0 | 71 FallsOff: the last instruction of the code goes on | stack 0 locals 0 | 0 nop | locals | stack
 method f ()V refused 72 at 0 | 72 BadException: an entry of the exception table has a wrong range or handler, or catches what is no Throwable | stack 1 locals 0 | 0 return | locals | stack | catch 0 0 1 any

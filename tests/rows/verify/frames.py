@@ -49,12 +49,20 @@ f (I)V 0 1 | pop; return | 0 full [top] [] | | 61 at 0 | 0 pop / locals / stack
 f (LC;)V 0 1 | pop; return | 0 full [class A] [] | | 61 at 0 | 0 pop / locals Class A / stack
 # and goes on from there
 f (LC;)V 1 1 | nop; aload_0; ireturn | 1 full [class A] [] | | 76 at 2 | 2 ireturn / locals Class A / stack Class A
-# for 69 the frame that comes stands in front of the one that is declared
-f (I)V 0 1 | return | 0 full [float] [] | | 69 at 0 | 0 return / locals int / stack / declared locals float / declared stack
-f ()V 1 0 | iconst_0; return | 1 same | | 69 at 1 | 1 return / locals / stack int / declared locals / declared stack
-f (LA;)V 2 2 | iconst_0; fconst_0; pop2; return | 2 full [top, int] [null, float] | | 69 at 2 | 2 pop2 / locals Class A / stack int, float / declared locals top, int / declared stack null, float
-<init> ()V 0 1 | return | 0 full [top] [] | | 69 at 0 | 0 return / locals uninitializedThis / stack / flags flagThisUninit / declared locals / declared stack
-<init> (I)V 1 2 | iload_1; ifeq 7; aload_0; invokespecial [method java/lang/Object <init> ()V]; return | 8 full [uninitializedThis, int] [] | | 69 at 8 | 8 return / locals Class K, int / stack / declared locals uninitializedThis, int / declared stack / declared flags flagThisUninit
+# for 69 the frame that comes stands in front of the one that is declared, and what differs behind them: the flag, a local, the size of the stack, or an item of it
+f (I)V 0 1 | return | 0 full [float] [] | | 69 at 0 | 0 return / locals int / stack / declared locals float / declared stack / local 0: int is not assignable to float
+f ()V 1 0 | iconst_0; return | 1 same | | 69 at 1 | 1 return / locals / stack int / declared locals / declared stack / stack: items that come 1, declared 0
+f (LA;)V 2 2 | iconst_0; fconst_0; pop2; return | 2 full [top, int] [null, float] | | 69 at 2 | 2 pop2 / locals Class A / stack int, float / declared locals top, int / declared stack null, float / local 1: top is not assignable to int
+<init> ()V 0 1 | return | 0 full [top] [] | | 69 at 0 | 0 return / locals uninitializedThis / stack / flags flagThisUninit / declared locals / declared stack / flags: flagThisUninit comes and is not declared
+<init> (I)V 1 2 | iload_1; ifeq 7; aload_0; invokespecial [method java/lang/Object <init> ()V]; return | 8 full [uninitializedThis, int] [] | | 69 at 8 | 8 return / locals Class K, int / stack / declared locals uninitializedThis, int / declared stack / declared flags flagThisUninit / local 0: Class K is not assignable to uninitializedThis
+f ()V 2 0 | iconst_0; fconst_0; pop2; return | 2 full [] [int, int] | | 69 at 2 | 2 pop2 / locals / stack int, float / declared locals / declared stack int, int / stack 1: float is not assignable to int
+f ()V 4 0 | lconst_0; dconst_0; pop2; return | 2 full [] [int, float] | | 69 at 2 | 2 pop2 / locals / stack long, double / declared locals / declared stack int, float / stack 0: long is not assignable to int
+f (LA;)V 0 1 | return | 0 full [class C] [] | | 69 at 0 | 0 return / locals Class A / stack / declared locals Class C / declared stack / local 0: Class A is not assignable to Class C
+f (IJ)V 1 3 | iload_0; pop; return | 1 full [float, long] [float] | | 69 at 1 | 1 pop / locals int, long / stack int / declared locals float, long / declared stack float / local 0: int is not assignable to float
+# an item of the stack keeps its width, so a long does not stand for top there; it does as a local
+f (J)V 2 2 | lload_0; pop2; return | 1 full [top] [top] | | 69 at 1 | 1 pop2 / locals long / stack long / declared locals / declared stack top / stack 0: long is not assignable to top
+# a class that is missing in a comparison is no difference
+f (LA;I)V 0 2 | return | 0 full [class B, float] [] | | 69 at 0 | 0 return / locals Class A, int / stack / declared locals Class B, float / declared stack / local 1: int is not assignable to float
 # for 77 only the frame before the instruction, also where the two were compared
 f (LA;)V 0 1 | nop; return | 1 full [class B] [] | | 77 at 1 missing B | 1 return / locals Class B / stack
 # for 68 the frame before the branch
@@ -85,7 +93,7 @@ CODES = {
     "pop": ("pop; return", "", "61 at 0", "0 pop", "locals / stack"),
     "return": ("return", "", "", "", ""),
     "dead": ("return; nop; return", "", "70 at 1", "1 nop", ""),
-    "entry": ("iconst_0; return", "1 same", "69 at 1", "1 return", "locals / stack int / declared locals / declared stack"),
+    "entry": ("iconst_0; return", "1 same", "69 at 1", "1 return", "locals / stack int / declared locals / declared stack / stack: items that come 1, declared 0"),
 }
 SENTENCES = {int(it.split()[0]): it.strip() for it in (line.split("|")[1] for line in METHODS.strip().splitlines())}
 

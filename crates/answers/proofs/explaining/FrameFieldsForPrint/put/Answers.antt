@@ -5,7 +5,7 @@ use Rattle.rules.specs.Reasons.{reason_number}
 use Rattle.verify.specs.Coming.{before, frames_view}
 use Rattle.printing.specs.Json.{fields_then}
 use Rattle.printing.specs.Writing.{Writes}
-use Rattle.answers.specs.Explanations.{is_of_entry, frame_fields_of, declared_fields_of}
+use Rattle.answers.specs.Explanations.{is_of_entry, frame_fields_of, declared_fields_of, difference_fields_of}
 use Rattle.answers.proofs.explaining.FrameFieldsForPrint.put.Goals as goal
 
 copied : {A B : Type 0} (f : A → B) (o : Option (Bor A)) → option_map (λ b. f b.now) o ≡ option_map f (option_copied o)
@@ -23,7 +23,8 @@ returns-then-is_of_entry g c =
     let x = frames_view self.frames.now in
     let coming = copied frame_of c.as_ref-coming.result ∙ ap (option_map frame_of) c.as_ref-coming.ensures.value in
     let declared = copied frame_of c.as_ref-declared.result ∙ ap (option_map frame_of) c.as_ref-declared.ensures.value in
-    let both : Option FrameFact → Option FrameFact → List ℕ = λ (a b : Option FrameFact). fields_then (frame_fields_of a) (fields_then (declared_fields_of b) rest) in
+    let both : Option FrameFact → Option FrameFact → List ℕ = λ (a b : Option FrameFact).
+    fields_then (frame_fields_of a) (fields_then (declared_fields_of b) (fields_then (difference_fields_of x.difference) rest)) in
     let here : true ≡ is_of_entry (reason_number self.reason) = sym c.if-is_of_entry.true ∙ c.is_of_entry.ensures in
     subst (λ (t : List ℕ). Writes (held c.args.out.now) (held c.put.new.out) t c.put.result)
     (ap (λ a. both a (option_map (λ f. frame_of f.now) c.as_ref-declared.result)) coming ∙ ap (both x.coming) declared
@@ -37,7 +38,8 @@ returns-in-Some g c =
     let x = frames_view self.frames.now in
     let declared = copied frame_of c.as_ref-declared.result ∙ ap (option_map frame_of) c.as_ref-declared.ensures.value in
     let first = declared_first (λ f. frame_of f.now) c.as_ref-declared.result c.in-Some.field-0 x.coming c.in-Some.is in
-    let both : Option FrameFact → Option FrameFact → List ℕ = λ (a b : Option FrameFact). fields_then (frame_fields_of a) (fields_then (declared_fields_of b) rest) in
+    let both : Option FrameFact → Option FrameFact → List ℕ = λ (a b : Option FrameFact).
+    fields_then (frame_fields_of a) (fields_then (declared_fields_of b) (fields_then (difference_fields_of x.difference) rest)) in
     let here : false ≡ is_of_entry (reason_number self.reason) = sym c.if-is_of_entry.false ∙ c.is_of_entry.ensures in
     subst (λ (t : List ℕ). Writes (held c.args.out.now) (held c.put-in-Some.new.out) t c.put-in-Some.result)
     (ap (λ o. fields_then (frame_fields_of o) rest) (first ∙ ap (before x.coming) declared)

@@ -1,0 +1,32 @@
+-- The line that tells the first difference of a frame that comes from the declared one (JVMS 4.10.1.4), and its fields.
+use Rattle.std.specs.Prelude.{ℕ, List, [], ◌∷◌, ◌++◌, codes, decimal}
+use Rattle.frames.specs.Differences.{MismatchFact, DifferenceFact, flag, local, sizes, item}
+use Rattle.printing.specs.Frames.{type_text}
+use Rattle.printing.specs.Json.{Field, number, word, written}
+use Rattle.printing.specs.declared.within.Within.TheVariants.{Words, Json}
+
+-- two types, of which the one that comes is not assignable to the declared one
+abbrev pub types_differ : MismatchFact → List ℕ
+types_differ m = type_text Words m.from ++ (codes " is not assignable to " ++ (type_text Words m.to ++ codes "\n"))
+
+abbrev pub mismatch_line : List ℕ → MismatchFact → List ℕ
+mismatch_line part m = codes "  " ++ (part ++ (codes " " ++ (decimal m.place ++ (codes ": " ++ types_differ m))))
+
+abbrev pub difference_line : DifferenceFact → List ℕ
+difference_line flag = codes "  flags: flagThisUninit comes and is not declared\n"
+difference_line (local m) = mismatch_line (codes "local") m
+difference_line (sizes from to) = codes "  stack: items that come " ++ (decimal from ++ (codes ", declared " ++ (decimal to ++ codes "\n")))
+difference_line (item m) = mismatch_line (codes "stack") m
+
+-- ---- as fields of an object of JSON
+
+abbrev pub mismatch_fields : List ℕ → MismatchFact → List Field
+mismatch_fields part m =
+    (codes "differs", word part) ∷ (codes "index", number m.place) ∷ (codes "type", written (type_text Json m.from))
+    ∷ (codes "declared_type", written (type_text Json m.to)) ∷ []
+
+abbrev pub difference_fields : DifferenceFact → List Field
+difference_fields flag = (codes "differs", word (codes "flags")) ∷ []
+difference_fields (local m) = mismatch_fields (codes "local") m
+difference_fields (sizes from to) = (codes "differs", word (codes "stack_size")) ∷ (codes "size", number from) ∷ (codes "declared_size", number to) ∷ []
+difference_fields (item m) = mismatch_fields (codes "stack") m
