@@ -6,8 +6,10 @@ ghost use Rattle.printing.specs.Json.{character_text, string_text, enclosed, fol
 
 use crate::name::digit;
 use crate::print::{Lines, Print, Then, Word, WriteFailed, put_bytes, put_lines};
-use names::{Text, check_text};
+use crate::runs::{Escapes, put_units};
+use names::{Text, check_text, first_set};
 use std::io::Write;
+use std::simd::prelude::*;
 
 /// Writes a unit of a string: printable ASCII as it is, and any other unit, the quotation mark and the backslash as `\u` and
 /// four small hexadecimal digits.
@@ -28,6 +30,29 @@ fn put_character<W: Write>(out: &mut W, unit: u16) -> Result<(), WriteFailed>
                 digit(unit % 16),
             ],
         )
+    }
+}
+
+/// The escapes of a string.
+struct StringEscapes;
+
+impl Escapes for StringEscapes {
+    ghost text = { character_text };
+
+    fn stands(byte: u8) -> bool {
+        byte >= 32 && byte <= 126 && byte != 92 && byte != 34
+    }
+
+    fn in_sixteen(bytes: &[u8], at: usize) -> usize {
+        let v = u8x16::from_slice(&bytes[at..]);
+        let outside = (v - u8x16::splat(32)).simd_ge(u8x16::splat(127 - 32));
+        let marks = v.simd_eq(u8x16::splat(92)) | v.simd_eq(u8x16::splat(34));
+        let stops = outside | marks;
+        first_set(stops.to_bitmask(), 16)
+    }
+
+    fn put_unit<W: Write>(out: &mut W, unit: u16) -> Result<(), WriteFailed> {
+        put_character(out, unit)
     }
 }
 
@@ -68,13 +93,7 @@ impl<'a> Print for NameCharacters<'a> {
     ghost text = { λ t. flat_map character_text (units_of t.0.bytes.now) };
 
     fn put<W: Write>(&self, out: &mut W) -> Result<(), WriteFailed> {
-        for unit in self.0.iter() {
-            match put_character(out, unit) {
-                Ok(()) => {}
-                Err(failed) => return Err(failed),
-            }
-        }
-        Ok(())
+        put_units::<StringEscapes, W>(self.0.bytes(), out)
     }
 }
 

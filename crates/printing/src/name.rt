@@ -4,9 +4,11 @@ ghost use Rattle.printing.specs.Writing.{Writes};
 ghost use Rattle.printing.specs.Names.{digit, hexadecimal, unit_text, name_text, constant_text, class_text};
 
 use crate::print::{Print, WriteFailed, put_bytes};
-use names::{Text, check_text};
+use crate::runs::{Escapes, put_units};
+use names::{Text, check_text, first_set};
 use pool::Pool;
 use std::io::Write;
+use std::simd::prelude::*;
 
 /// A number in four small hexadecimal digits, as flags are written.
 #[derive(Clone, Copy)]
@@ -63,17 +65,33 @@ fn put_unit<W: Write>(out: &mut W, unit: u16) -> Result<(), WriteFailed>
     }
 }
 
+/// The escapes of a [`Name`].
+struct NameEscapes;
+
+impl Escapes for NameEscapes {
+    ghost text = { unit_text };
+
+    fn stands(byte: u8) -> bool {
+        byte >= 32 && byte <= 126 && byte != 92
+    }
+
+    fn in_sixteen(bytes: &[u8], at: usize) -> usize {
+        let v = u8x16::from_slice(&bytes[at..]);
+        let outside = (v - u8x16::splat(32)).simd_ge(u8x16::splat(127 - 32));
+        let stops = outside | v.simd_eq(u8x16::splat(92));
+        first_set(stops.to_bitmask(), 16)
+    }
+
+    fn put_unit<W: Write>(out: &mut W, unit: u16) -> Result<(), WriteFailed> {
+        put_unit(out, unit)
+    }
+}
+
 impl<'a> Print for Name<'a> {
     ghost text = { λ t. name_text t.0.bytes.now };
 
     fn put<W: Write>(&self, out: &mut W) -> Result<(), WriteFailed> {
-        for unit in self.0.iter() {
-            match put_unit(out, unit) {
-                Ok(()) => {}
-                Err(failed) => return Err(failed),
-            }
-        }
-        Ok(())
+        put_units::<NameEscapes, W>(self.0.bytes(), out)
     }
 }
 
