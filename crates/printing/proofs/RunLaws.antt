@@ -1,12 +1,13 @@
 -- Bytes that stand as they are are the text of the units that they spell.
-use Rattle.std.proofs.Common.{◌≡◌, ◌≤◌, ◌<◌, ◌+◌, ℕ, zero, suc, List, [], ◌∷◌, ◌++◌, length, take, drop, refl, sym, ap, ap₂, ◌∙◌, subst, Bool, true, ◌&&◌, Some, None, arith}
+use Rattle.std.proofs.Common.{◌≡◌, ◌≤◌, ◌<◌, ◌+◌, ℕ, zero, suc, List, [], ◌∷◌, ◌++◌, length, take, drop, refl, sym, ap, ap₂, ◌∙◌, subst, Bool, true, ◌&&◌, Some, None, slice_index, arith}
 use Rattle.std.proofs.lemmas.Bool.Decides.{nat_tests}
 use Rattle.std.specs.List.{flat_map}
 use Rattle.names.specs.Units.{unit_at, units_of}
 use Rattle.names.proofs.UnitLaws.{again_one, units_on_from, no_units}
 use Rattle.printing.specs.Names.{is_plain, unit_text}
 use Rattle.printing.specs.Json.{is_unescaped, character_text}
-use Rattle.printing.specs.Runs.{StandsAlone, StandBetween, StandInFront}
+use Rattle.names.specs.Forms.{AreIn}
+use Rattle.printing.specs.Runs.{StandsAlone, StandBetween, StandIn, StandInFront}
 
 module _ (text : ℕ → List ℕ) where
   -- a run in front of other bytes
@@ -32,3 +33,8 @@ plain_stands b is = record { some = grind (arith, nat_tests); one = grind (arith
 
 pub unescaped_stands : (b : ℕ) → is_unescaped b ≡ true → StandsAlone character_text b
 unescaped_stands b is = record { some = grind (arith, nat_tests); one = grind (arith, nat_tests); alone = rw is refl }
+
+-- bytes of a kind all of which stand as they are
+pub stand_in : (text : ℕ → List ℕ) (is : ℕ → Bool) → ((b : ℕ) → is b ≡ true → StandsAlone text b)
+    → (bytes : List ℕ) (at n count : ℕ) → AreIn is bytes at n count → StandIn text bytes at n count
+stand_in text is stands bytes at n count are = (are.0, λ k from to. stands (slice_index bytes k) (are.1 k from to))

@@ -63,14 +63,18 @@ pub(crate) fn put_units<E: Escapes, W: Write>(
     let mut rest = bytes;
     'units: loop {
         let (run, behind) = rest.split_at(run_in_front::<E>(rest));
-        put_bytes(out, run)?;
-        match unit_at(behind) {
-            None => return Ok(()),
-            Some((unit, n)) => {
-                E::put_unit(out, unit)?;
-                let (_, after) = behind.split_at(n);
-                rest = after;
-            }
+        match put_bytes(out, run) {
+            Ok(()) => {}
+            Err(failed) => return Err(failed),
         }
+        let Some((unit, n)) = unit_at(behind) else {
+            return Ok(());
+        };
+        match E::put_unit(out, unit) {
+            Ok(()) => {}
+            Err(failed) => return Err(failed),
+        }
+        let (_, after) = behind.split_at(n);
+        rest = after;
     }
 }

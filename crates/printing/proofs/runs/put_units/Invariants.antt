@@ -8,7 +8,7 @@ use Rattle.printing.proofs.runs.put_units.Given as goal
 abbrev pub invariant-units : goal.invariant-units
 invariant-units g l =
     let text = flat_map g.E.Escapes.text in
-    SoFar (g.W.Write.contents l.initial.out) (g.W.Write.contents l.out) (text (units_of l.fn.bytes.now)) (text (units_of l.rest))
+    SoFar (g.W.Write.contents l.initial.out) (g.W.Write.contents l.out) (text (units_of l.fn.bytes)) (text (units_of l.rest))
 
 abbrev pub decreases-units : goal.decreases-units
 decreases-units g l = length l.rest
