@@ -67,14 +67,16 @@ pub(crate) fn put_units<E: Escapes, W: Write>(
             Ok(()) => {}
             Err(failed) => return Err(failed),
         }
-        let Some((unit, n)) = unit_at(behind) else {
-            return Ok(());
-        };
-        match E::put_unit(out, unit) {
-            Ok(()) => {}
-            Err(failed) => return Err(failed),
+        match unit_at(behind) {
+            None => return Ok(()),
+            Some((unit, n)) => {
+                match E::put_unit(out, unit) {
+                    Ok(()) => {}
+                    Err(failed) => return Err(failed),
+                }
+                let (_, after) = behind.split_at(n);
+                rest = after;
+            }
         }
-        let (_, after) = behind.split_at(n);
-        rest = after;
     }
 }
