@@ -36,6 +36,13 @@ module _ (text : ℕ → List ℕ) where
       let one = units_on_from (b ∷ bytes) b 1 (again_one b bytes first.some first.one) in
       ap (flat_map text) one ∙ ap₂ (λ t rest. t ++ rest) first.alone (run_text n bytes behind)
 
+  -- a run of units that take a byte each
+  pub bytes_text : (bytes : List ℕ) → StandInFront text bytes (length bytes) → flat_map text bytes ≡ bytes
+  bytes_text [] stand = refl
+  bytes_text (b ∷ bytes) stand =
+      let behind : StandInFront text bytes (length bytes) = (omega arith, λ k from to. stand.1 (suc k) (omega arith) (omega (arith, to))) in
+      ap₂ (λ t rest. t ++ rest) (stand.1 0 (omega arith) (omega arith)).alone (bytes_text bytes behind)
+
   -- behind what was written, a run in front of other bytes
   module _ (a b : Option (List ℕ)) (whole bytes run behind : List ℕ) (n : ℕ) (stand : StandInFront text bytes n)
       (front : run ≡ take n bytes) (back : behind ≡ drop n bytes) (so : SoFar a b whole (written bytes)) where

@@ -1,7 +1,7 @@
 //! Flags, names, and texts of the constant pool.
 ghost use Rattle.std.specs.Prelude.{◌≡◌, ◌<◌};
 ghost use Rattle.printing.specs.Writing.{Writes};
-ghost use Rattle.printing.specs.Names.{digit, hexadecimal, unit_text, name_text, constant_text, class_text};
+ghost use Rattle.printing.specs.Names.{digit, hexadecimal, is_plain, unit_text, name_text, constant_text, class_text};
 
 use crate::print::{Print, WriteFailed, put_bytes};
 use crate::runs::{Escapes, put_units};
@@ -45,10 +45,17 @@ impl Print for Hexadecimal {
 #[derive(Clone, Copy)]
 pub struct Name<'a>(pub Text<'a>);
 
+/// Whether a unit stands as it is.
+pub(crate) fn is_plain(unit: u16) -> bool
+    ensures { result ≡ is_plain unit }
+{
+    unit >= 32 && unit <= 126 && unit != 92
+}
+
 fn put_unit<W: Write>(out: &mut W, unit: u16) -> Result<(), WriteFailed>
     ensures { Writes (W.contents out.old) (W.contents out.new) (unit_text unit) result }
 {
-    if unit >= 32 && unit <= 126 && unit != 92 {
+    if is_plain(unit) {
         put_bytes(out, &[unit as u8])
     } else {
         put_bytes(
@@ -72,7 +79,7 @@ impl Escapes for NameEscapes {
     ghost text = { unit_text };
 
     fn stands(byte: u8) -> bool {
-        byte >= 32 && byte <= 126 && byte != 92
+        is_plain(u16::from(byte))
     }
 
     fn in_sixteen(bytes: &[u8], at: usize) -> usize {

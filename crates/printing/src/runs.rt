@@ -43,7 +43,7 @@ fn sixteens_in_front<E: Escapes>(bytes: &[u8]) -> usize
 }
 
 /// How many bytes in front are seen to stand as they are.
-fn run_in_front<E: Escapes>(bytes: &[u8]) -> usize
+pub(crate) fn run_in_front<E: Escapes>(bytes: &[u8]) -> usize
     ensures { StandInFront E.text bytes.now result }
 {
     let mut at = sixteens_in_front::<E>(bytes);
@@ -54,10 +54,7 @@ fn run_in_front<E: Escapes>(bytes: &[u8]) -> usize
 }
 
 /// Writes the texts of the units that the bytes spell.
-pub(crate) fn put_units<E: Escapes, W: Write>(
-    bytes: &[u8],
-    out: &mut W,
-) -> Result<(), WriteFailed>
+pub(crate) fn put_units<E: Escapes, W: Write>(bytes: &[u8], out: &mut W) -> Result<(), WriteFailed>
     ensures { Writes (W.contents out.old) (W.contents out.new) (flat_map E.text (units_of bytes.now)) result }
 {
     let mut rest = bytes;

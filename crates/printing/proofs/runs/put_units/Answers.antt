@@ -19,7 +19,7 @@ returns-in-None g c =
     let behind = c.split_at.result.1.now in
     let none : unit_at behind ≡ None = cc (c.in-None.ensures) in
     let so = run_written text (held c.args.out.now) (held c.units.out) whole c.units.rest.now c.split_at.result.0.now behind c.run_in_front.result
-        c.run_in_front.ensures c.split_at.ensures.front c.split_at.ensures.back c.units.invariant (held c.put_bytes.new.out) c.in-Ok.ensures in
+    c.run_in_front.ensures c.split_at.ensures.front c.split_at.ensures.back c.units.invariant (held c.put_bytes.new.out) c.in-Ok.ensures in
     units_written text (held c.args.out.now) (held c.put_bytes.new.out) whole behind none so
 
 pub returns-in-Err-put_unit : goal.returns-in-Err-put_unit
@@ -30,7 +30,7 @@ returns-in-Err-put_unit g c =
     let behind = c.split_at.result.1.now in
     let some : unit_at behind ≡ Some (c.in-Some.unit, c.in-Some.n) = cc (c.in-Some.ensures) in
     let so = run_written text (held c.args.out.now) (held c.units.out) whole c.units.rest.now c.split_at.result.0.now behind c.run_in_front.result
-        c.run_in_front.ensures c.split_at.ensures.front c.split_at.ensures.back c.units.invariant (held c.put_bytes.new.out) c.in-Ok.ensures in
+    c.run_in_front.ensures c.split_at.ensures.front c.split_at.ensures.back c.units.invariant (held c.put_bytes.new.out) c.in-Ok.ensures in
     unit_stops text (held c.args.out.now) (held c.put_bytes.new.out) whole behind c.in-Some.unit c.in-Some.n some so (held c.put_unit.new.out) c.in-Err-put_unit.ensures
 
 pub units-preserved : goal.units-preserved
@@ -41,5 +41,5 @@ units-preserved g c =
     let behind = c.split_at.result.1.now in
     let some : unit_at behind ≡ Some (c.in-Some.unit, c.in-Some.n) = cc (c.in-Some.ensures) in
     let so = run_written text (held c.args.out.now) (held c.units.out) whole c.units.rest.now c.split_at.result.0.now behind c.run_in_front.result
-        c.run_in_front.ensures c.split_at.ensures.front c.split_at.ensures.back c.units.invariant (held c.put_bytes.new.out) c.in-Ok.ensures in
+    c.run_in_front.ensures c.split_at.ensures.front c.split_at.ensures.back c.units.invariant (held c.put_bytes.new.out) c.in-Ok.ensures in
     unit_written text (held c.args.out.now) (held c.put_bytes.new.out) whole behind c.in-Some.unit c.in-Some.n some so (held c.put_unit.new.out) c.split_at-in-Some.result.1.now c.split_at-in-Some.ensures.back c.in-Ok-put_unit.ensures
