@@ -23,9 +23,9 @@ pub(crate) trait ByLanes {
         ensures { AreIn is bytes.now at 8 result };
 }
 
-/// The place of the lowest bit that is set, or `lanes` where none is.
+/// The place of the lowest bit that is set, or `lanes` where none is. Takes no memory.
 #[inline(always)]
-pub(crate) fn first_set(mask: u64, lanes: usize) -> usize
+pub fn first_set(mask: u64, lanes: usize) -> usize
     ensures { result ≡ first_set mask lanes }
 {
     if mask == 0 {

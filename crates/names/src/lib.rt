@@ -44,6 +44,7 @@ mod text;
 mod type_end;
 
 pub use base::{Base, Primitive};
+pub use by_lanes::first_set;
 pub use descriptor::{FieldType, MethodType};
 pub use fault::NameFault;
 pub use field_descriptor::is_field_descriptor;
@@ -59,4 +60,4 @@ pub use shape::{MethodShape, method_shape};
 pub use standard::{
     CLASS, CLONEABLE, INIT, METHOD_HANDLE, METHOD_TYPE, OBJECT, SERIALIZABLE, STRING, THROWABLE,
 };
-pub use text::{Text, TextUnits, check_text, one_unit_list, spell, text_answers, units};
+pub use text::{Text, TextUnits, check_text, one_unit_list, spell, text_answers, unit_at, units};

@@ -103,8 +103,8 @@ fn longer_at(bytes: &[u8]) -> Option<(u16, usize)>
     }
 }
 
-/// The unit that the bytes begin with, and how many bytes it takes.
-fn unit_at(bytes: &[u8]) -> Option<(u16, usize)>
+/// The unit that the bytes begin with, and how many bytes it takes. Takes no memory.
+pub fn unit_at(bytes: &[u8]) -> Option<(u16, usize)>
     ensures { result ≡ unit_at bytes.now }
 {
     match bytes {

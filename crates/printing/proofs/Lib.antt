@@ -3,3 +3,4 @@ pub mod Steps
 pub mod Writings
 pub mod Frames
 pub mod Fields
+pub mod RunLaws

@@ -1,6 +1,7 @@
 pub mod Writing
 pub mod Faults
 pub mod Names
+pub mod Runs
 pub mod Instructions
 pub mod Frames
 pub mod Classes

@@ -1,20 +1,29 @@
 //! Objects of JSON (RFC 8259), each on a line of its own, written field by field.
-ghost use Rattle.std.specs.Prelude.{◌++◌, codes, map};
+ghost use Rattle.std.specs.Prelude.{◌≡◌, ◌++◌, codes, map};
 ghost use Rattle.std.specs.List.{flat_map};
 ghost use Rattle.printing.specs.Writing.{Writes};
-ghost use Rattle.printing.specs.Json.{character_text, string_text, enclosed, following, array_text};
+ghost use Rattle.printing.specs.Json.{is_unescaped, character_text, string_text, enclosed, following, array_text};
 
-use crate::name::digit;
+use crate::name::{digit, is_plain};
 use crate::print::{Lines, Print, Then, Word, WriteFailed, put_bytes, put_lines};
-use names::{Text, check_text};
+use crate::runs::{Escapes, put_units, run_in_front};
+use names::{Text, check_text, first_set};
 use std::io::Write;
+use std::simd::prelude::*;
+
+/// Whether a unit of a string stands as it is.
+fn is_unescaped(unit: u16) -> bool
+    ensures { result ≡ is_unescaped unit }
+{
+    is_plain(unit) && unit != 34
+}
 
 /// Writes a unit of a string: printable ASCII as it is, and any other unit, the quotation mark and the backslash as `\u` and
 /// four small hexadecimal digits.
 fn put_character<W: Write>(out: &mut W, unit: u16) -> Result<(), WriteFailed>
     ensures { Writes (W.contents out.old) (W.contents out.new) (character_text unit) result }
 {
-    if unit >= 32 && unit <= 126 && unit != 92 && unit != 34 {
+    if is_unescaped(unit) {
         put_bytes(out, &[unit as u8])
     } else {
         put_bytes(
@@ -28,6 +37,29 @@ fn put_character<W: Write>(out: &mut W, unit: u16) -> Result<(), WriteFailed>
                 digit(unit % 16),
             ],
         )
+    }
+}
+
+/// The escapes of a string.
+struct StringEscapes;
+
+impl Escapes for StringEscapes {
+    ghost text = { character_text };
+
+    fn stands(byte: u8) -> bool {
+        is_unescaped(u16::from(byte))
+    }
+
+    fn in_sixteen(bytes: &[u8], at: usize) -> usize {
+        let v = u8x16::from_slice(&bytes[at..]);
+        let outside = (v - u8x16::splat(32)).simd_ge(u8x16::splat(127 - 32));
+        let marks = v.simd_eq(u8x16::splat(92)) | v.simd_eq(u8x16::splat(34));
+        let stops = outside | marks;
+        first_set(stops.to_bitmask(), 16)
+    }
+
+    fn put_unit<W: Write>(out: &mut W, unit: u16) -> Result<(), WriteFailed> {
+        put_character(out, unit)
     }
 }
 
@@ -53,7 +85,11 @@ impl<'a> Print for WordCharacters<'a> {
     ghost text = { λ t. flat_map character_text t.0.now };
 
     fn put<W: Write>(&self, out: &mut W) -> Result<(), WriteFailed> {
-        put_lines(&Ascii, self.0.as_bytes(), out)
+        let bytes = self.0.as_bytes();
+        if run_in_front::<StringEscapes>(bytes) == bytes.len() {
+            return put_bytes(out, bytes);
+        }
+        put_lines(&Ascii, bytes, out)
     }
 }
 
@@ -68,13 +104,7 @@ impl<'a> Print for NameCharacters<'a> {
     ghost text = { λ t. flat_map character_text (units_of t.0.bytes.now) };
 
     fn put<W: Write>(&self, out: &mut W) -> Result<(), WriteFailed> {
-        for unit in self.0.iter() {
-            match put_character(out, unit) {
-                Ok(()) => {}
-                Err(failed) => return Err(failed),
-            }
-        }
-        Ok(())
+        put_units::<StringEscapes, W>(self.0.bytes(), out)
     }
 }
 

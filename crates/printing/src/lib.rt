@@ -6,6 +6,7 @@
 //!
 //! - `print`: the trait [`Print`], words, numbers, one text behind another, and lines of a list.
 //! - `name`: flags in hexadecimal digits, names with escapes, and texts of the constant pool.
+//! - `runs`: names in runs of units that stand as they are.
 //! - `faults`: why something is refused, and where; `fault_fields`: the same as fields of an object of JSON.
 //! - `json`: objects of JSON (RFC 8259), field by field.
 //! - `instruction`: the line of an instruction.
@@ -31,6 +32,7 @@ mod listing;
 mod name;
 mod parts;
 mod print;
+mod runs;
 mod within;
 
 pub use code::{

@@ -1,12 +1,14 @@
 //! Flags, names, and texts of the constant pool.
 ghost use Rattle.std.specs.Prelude.{◌≡◌, ◌<◌};
 ghost use Rattle.printing.specs.Writing.{Writes};
-ghost use Rattle.printing.specs.Names.{digit, hexadecimal, unit_text, name_text, constant_text, class_text};
+ghost use Rattle.printing.specs.Names.{digit, hexadecimal, is_plain, unit_text, name_text, constant_text, class_text};
 
 use crate::print::{Print, WriteFailed, put_bytes};
-use names::{Text, check_text};
+use crate::runs::{Escapes, put_units};
+use names::{Text, check_text, first_set};
 use pool::Pool;
 use std::io::Write;
+use std::simd::prelude::*;
 
 /// A number in four small hexadecimal digits, as flags are written.
 #[derive(Clone, Copy)]
@@ -43,10 +45,17 @@ impl Print for Hexadecimal {
 #[derive(Clone, Copy)]
 pub struct Name<'a>(pub Text<'a>);
 
+/// Whether a unit stands as it is.
+pub(crate) fn is_plain(unit: u16) -> bool
+    ensures { result ≡ is_plain unit }
+{
+    unit >= 32 && unit <= 126 && unit != 92
+}
+
 fn put_unit<W: Write>(out: &mut W, unit: u16) -> Result<(), WriteFailed>
     ensures { Writes (W.contents out.old) (W.contents out.new) (unit_text unit) result }
 {
-    if unit >= 32 && unit <= 126 && unit != 92 {
+    if is_plain(unit) {
         put_bytes(out, &[unit as u8])
     } else {
         put_bytes(
@@ -63,17 +72,33 @@ fn put_unit<W: Write>(out: &mut W, unit: u16) -> Result<(), WriteFailed>
     }
 }
 
+/// The escapes of a [`Name`].
+struct NameEscapes;
+
+impl Escapes for NameEscapes {
+    ghost text = { unit_text };
+
+    fn stands(byte: u8) -> bool {
+        is_plain(u16::from(byte))
+    }
+
+    fn in_sixteen(bytes: &[u8], at: usize) -> usize {
+        let v = u8x16::from_slice(&bytes[at..]);
+        let outside = (v - u8x16::splat(32)).simd_ge(u8x16::splat(127 - 32));
+        let stops = outside | v.simd_eq(u8x16::splat(92));
+        first_set(stops.to_bitmask(), 16)
+    }
+
+    fn put_unit<W: Write>(out: &mut W, unit: u16) -> Result<(), WriteFailed> {
+        put_unit(out, unit)
+    }
+}
+
 impl<'a> Print for Name<'a> {
     ghost text = { λ t. name_text t.0.bytes.now };
 
     fn put<W: Write>(&self, out: &mut W) -> Result<(), WriteFailed> {
-        for unit in self.0.iter() {
-            match put_unit(out, unit) {
-                Ok(()) => {}
-                Err(failed) => return Err(failed),
-            }
-        }
-        Ok(())
+        put_units::<NameEscapes, W>(self.0.bytes(), out)
     }
 }
 

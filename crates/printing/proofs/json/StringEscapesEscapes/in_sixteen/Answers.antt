@@ -1,0 +1,15 @@
+use Rattle.std.proofs.Common.{ℕ, leb, cond, bit_or, refl, arith}
+use Rattle.std.proofs.lemmas.Simd.{zip2_splat, length-chunk}
+use lib.Lanes.{chunk}
+use Rattle.names.proofs.Lanes.{joined, splat_is, passes_in}
+use Rattle.printing.specs.Json.{is_unescaped, character_text}
+use Rattle.printing.proofs.RunLaws.{stand_in, unescaped_stands}
+use Rattle.printing.proofs.json.StringEscapesEscapes.in_sixteen.Goals as goal
+
+pub returns : goal.returns
+returns c =
+    let v = chunk c.args.at 16 c.args.bytes.now in
+    let long = length-chunk c.args.at 16 c.args.bytes.now c.requires in
+    stand_in character_text is_unescaped unescaped_stands c.args.bytes.now c.args.at 16 _
+    (passes_in is_unescaped c.args.bytes.now c.args.at 16 _ _ c.requires (omega arith) c.type_inv.bytes c.first_set.ensures _
+    (joined bit_or _ _ v (joined (λ a b. cond (leb a b) 255 0) _ _ v (splat_is v 16 95 long) (zip2_splat {Y = ℕ} _ v 16 32 long)) (joined bit_or _ _ v (zip2_splat {Y = ℕ} _ v 16 92 long) (zip2_splat {Y = ℕ} _ v 16 34 long))) refl)
