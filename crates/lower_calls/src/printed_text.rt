@@ -3,7 +3,7 @@ use crate::making::K;
 use classfile::{Place, decode};
 use layout::ReadFault;
 use names::check_text;
-use printing::{Listing, Name, Print, Then, Word};
+use printing::{Listing, Name, Print, Quoted, QuotedName, Then, Word};
 use std::alloc::Global;
 use std::test::*;
 
@@ -53,4 +53,24 @@ fn names_and_faults(rt: HostRuntime) {
         )
     );
     assert!(rt; is_printed(alloc, &Place::Field(3), b" field 3"));
+}
+
+/// Whether the text is printed so as a string of JSON.
+fn is_quoted(alloc: Global, text: &[u8], want: &[u8]) -> bool {
+    match check_text(text) {
+        Ok(text) => is_printed(alloc, &QuotedName(text), want),
+        Err(_) => false,
+    }
+}
+
+/// A quotation mark and a delete behind more bytes than lanes tell at once.
+const LONG: &[u8] = b"java/util/HashMap\"Node\x7f";
+
+#[test]
+fn runs_and_escapes(rt: HostRuntime) {
+    let alloc = rt.alloc();
+    assert!(rt; is_named(alloc, LONG, b"java/util/HashMap\"Node\\u007f"));
+    assert!(rt; is_quoted(alloc, LONG, b"\"java/util/HashMap\\u0022Node\\u007f\""));
+    assert!(rt; is_printed(alloc, &Quoted("max_stack"), b"\"max_stack\""));
+    assert!(rt; is_printed(alloc, &Quoted("a\"b"), b"\"a\\u0022b\""));
 }

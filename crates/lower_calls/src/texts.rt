@@ -1,9 +1,9 @@
 use names::{
     Base, FieldType, MethodShape, MethodType, NameFault, NameForms, Text, check_text,
-    field_answers, field_type, is_class_name, is_field_descriptor, is_field_name, is_method_name,
-    method_answers, method_shape, method_type, name_forms, names_by_units, one_field_type,
-    one_method_type, one_unit_list, parameter_types, reference_type, result_type, spell,
-    text_answers, units,
+    field_answers, field_type, first_set, is_class_name, is_field_descriptor, is_field_name,
+    is_method_name, method_answers, method_shape, method_type, name_forms, names_by_units,
+    one_field_type, one_method_type, one_unit_list, parameter_types, reference_type, result_type,
+    spell, text_answers, unit_at, units,
 };
 use std::alloc::Global;
 use std::test::*;
@@ -23,6 +23,15 @@ fn laws_are_called() {
 const UNITS: [u16; 3] = [0, 0xD83D, 0xDE00];
 
 const SPELLING: [u8; 8] = [0xC0, 0x80, 0xED, 0xA0, 0xBD, 0xED, 0xB8, 0x80];
+
+#[test]
+fn units_and_bits_in_front(rt: HostRuntime) {
+    assert!(rt; unit_at(&SPELLING) == Some((0, 2)));
+    assert!(rt; unit_at(b"ab") == Some((0x61, 1)));
+    assert!(rt; unit_at(&SPELLING[1..]).is_none());
+    assert!(rt; first_set(0, 16) == 16);
+    assert!(rt; first_set(8, 16) == 3);
+}
 
 /// Whether the bytes are these; or memory ran out, where it may.
 fn are_bytes(answer: Result<Vec<u8>, NameFault>, want: &[u8], may_fail: bool) -> bool {

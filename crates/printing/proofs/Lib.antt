@@ -4,3 +4,4 @@ pub mod Writings
 pub mod Frames
 pub mod Fields
 pub mod RunLaws
+pub mod OffsetTexts

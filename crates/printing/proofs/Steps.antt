@@ -1,13 +1,14 @@
 -- Code that is gone through instruction by instruction.
-use Rattle.std.proofs.Common.{◌≡◌, ℕ, List, [], ◌∷◌, ◌∙◌, Some, None, Result, Ok, Err, refl, sym, ap, subst, arith}
+use Rattle.std.proofs.Common.{◌≡◌, ◌<◌, ℕ, List, [], ◌∷◌, ◌∙◌, length, Option, Some, None, Result, Ok, Err, refl, sym, ap, subst, arith}
 use Rattle.std.proofs.lemmas.Bool.Decides.{nat_tests}
 use Rattle.layout.specs.Place.{Place}
 use Rattle.insn.specs.declared.fault.CodeFault.{CodeFault}
 use Rattle.insn.specs.Instructions.{Instruction}
-use Rattle.insn.specs.Code.{StepsThrough}
-use Rattle.insn.specs.Offsets.{at_offset}
+use Rattle.insn.specs.Code.{StepsThrough, StepsBy}
+use Rattle.insn.specs.Offsets.{at_offset, by_made}
 use Rattle.insn.specs.Readings.{Reading, behind}
 use Rattle.insn.proofs.Readings.{reading_at, step_reads, stop_reads, end_reads}
+use Rattle.insn.proofs.CodeLaws.{told_step, shorter}
 use Rattle.printing.specs.Classes.{fault_of}
 
 fault_of_behind : (x : ℕ × Instruction) (r : Reading) → fault_of (behind x r) ≡ fault_of r
@@ -31,6 +32,26 @@ end_is view old new s = end_reads view old new s
 
 pub fault_end : {X : Type 0} (view : X → ℕ × Instruction) (old new : Place) → StepsThrough view old None new → fault_of (reading_at old) ≡ None
 fault_end view old new s = ap fault_of (end_reads view old new s)
+
+-- steps that tell of an instruction where it begins
+module _ (old new : Place) (step : Result (ℕ × Option ℕ) CodeFault) (s : StepsBy (λ (y : ℕ × Option ℕ). y) by_made old (Some step) new) where
+  through : (x : ℕ × Option ℕ) → step ≡ Ok x → (i : Instruction) × (x ≡ by_made (old.at, i)) × StepsThrough (λ (y : ℕ × Instruction). y) old (Some (Ok (old.at, i))) new
+  through x is = told_step (λ (y : ℕ × Option ℕ). y) by_made old new step x s is
+
+  pub start_behind : (x : ℕ × Option ℕ) → step ≡ Ok x → fault_of (reading_at old) ≡ fault_of (reading_at new)
+  start_behind x is =
+      let (i, same, on) = through x is in
+      fault_behind (λ (y : ℕ × Instruction). y) old new (Ok (old.at, i)) (old.at, i) on refl
+
+  pub start_shorter : (x : ℕ × Option ℕ) → step ≡ Ok x → length new.rest < length old.rest
+  start_shorter x is =
+      let (i, same, on) = through x is in
+      let (here, first, spells, took) = on in
+      shorter first i old new spells took
+
+  pub start_here : (e : CodeFault) → step ≡ Err e → fault_of (reading_at old) ≡ Some e
+  start_here e is =
+      fault_here (λ (y : ℕ × Instruction). y) old new (Err e) e (subst (λ (r : Result (ℕ × Option ℕ) CodeFault). StepsBy (λ (y : ℕ × Option ℕ). y) by_made old (Some r) new) is s) refl
 
 -- what is left of instructions behind one
 pub left_behind : (x : ℕ × Instruction) (r : Reading) (xs : List (ℕ × Instruction)) → behind x r ≡ Ok xs → (ys : List (ℕ × Instruction)) × (r ≡ Ok ys) × (xs ≡ x ∷ ys)

@@ -63,3 +63,11 @@ instruction_text x =
 
 abbrev pub instruction_line : ℕ × Instruction → List ℕ
 instruction_line x = codes "  " ++ (instruction_text x ++ codes "\n")
+
+-- ---- words of the code's own steps: parts of an instruction's line
+
+abbrev pub named_text : ℕ × Instruction → List ℕ
+named_text x = wide_text x.1.operands ++ (mnemonic (modified x.1.opcode x.1.operands) ++ operands_text x.0 x.1.operands)
+
+abbrev pub offset_text : ℕ → List ℕ
+offset_text at = codes "  " ++ (decimal at ++ codes " ")

@@ -28,7 +28,8 @@ use std::io::Write;
 pub fn code_fault(code: &[u8]) -> Option<CodeFault>
     ensures { result ≡ fault_of (reading_of code.now) }
 {
-    for step in Instructions::new(code) {
+    let mut instructions = Instructions::new(code);
+    while let Some(step) = instructions.next_start() {
         match step {
             Ok(_) => {}
             Err(fault) => return Some(fault),

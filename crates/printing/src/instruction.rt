@@ -1,11 +1,11 @@
 //! The line of an instruction (JVMS 6.5).
-ghost use Rattle.std.specs.Prelude.{◌≡◌, ◌++◌, codes};
+ghost use Rattle.std.specs.Prelude.{◌≡◌, ◌≤◌, ◌<◌, ◌++◌, codes};
 ghost use Rattle.std.specs.List.{flat_map};
 ghost use Rattle.printing.specs.Writing.{Writes};
-ghost use Rattle.printing.specs.Instructions.{target_text, pair_text, wide_text, operands_text};
+ghost use Rattle.printing.specs.Instructions.{target_text, pair_text, wide_text, operands_text, offset_text};
 ghost use Rattle.insn.specs.Views.{operands_view};
 
-use crate::print::{Number, Print, Then, Word, WriteFailed};
+use crate::print::{Number, Print, Then, Word, WriteFailed, put_bytes};
 use insn::{Insn, LookupSwitch, Operands, Pairs, TableSwitch, Targets, mnemonic};
 use itoa::Integer;
 use std::io::Write;
@@ -223,6 +223,22 @@ impl<'a> Print for OperandsOf<'a> {
     }
 }
 
+/// The name of an instruction and its operands.
+#[derive(Clone, Copy)]
+struct Named<'a>(Located<'a>);
+
+impl<'a> Print for Named<'a> {
+    ghost use Rattle.insn.specs.Views.{view};
+    ghost use Rattle.printing.specs.Instructions.{named_text};
+
+    ghost text = { λ t. named_text (t.0.at, view t.0.insn) };
+
+    fn put<W: Write>(&self, out: &mut W) -> Result<(), WriteFailed> {
+        let name = Word(mnemonic(&self.0.insn));
+        Then(self.0.wide(), Then(name, OperandsOf(self.0))).put(out)
+    }
+}
+
 /// An instruction with its offset, its name and its operands.
 #[derive(Clone, Copy)]
 pub struct InstructionText<'a>(pub Located<'a>);
@@ -234,10 +250,71 @@ impl<'a> Print for InstructionText<'a> {
     ghost text = { λ t. instruction_text (located (t.0.at, t.0.insn)) };
 
     fn put<W: Write>(&self, out: &mut W) -> Result<(), WriteFailed> {
-        let name = Word(mnemonic(&self.0.insn));
-        let named = Then(self.0.wide(), Then(name, OperandsOf(self.0)));
-        Then(Number(self.0.at), Then(Word(" "), named)).put(out)
+        Then(Number(self.0.at), Then(Word(" "), Named(self.0))).put(out)
     }
+}
+
+/// The offset of an instruction, with the blanks around it in its line.
+#[derive(Clone, Copy)]
+struct Offset(usize);
+
+impl Print for Offset {
+    ghost text = { λ t. offset_text t.0 };
+
+    fn put<W: Write>(&self, out: &mut W) -> Result<(), WriteFailed> {
+        if self.0 >= 1_000 && self.0 < 10_000 {
+            put_offset_of_four(out, self.0)
+        } else if self.0 >= 10_000 && self.0 < 100_000 {
+            put_offset_of_five(out, self.0)
+        } else {
+            Then(Word("  "), Then(Number(self.0), Word(" "))).put(out)
+        }
+    }
+}
+
+/// Writes an offset of four digits at once.
+fn put_offset_of_four<W: Write>(out: &mut W, at: usize) -> Result<(), WriteFailed>
+    requires { (1000 ≤ at) × (at < 10000) }
+    ensures { Writes (W.contents out.old) (W.contents out.new) (offset_text at) result }
+{
+    let tens = at / 10;
+    let hundreds = tens / 10;
+    let thousands = hundreds / 10;
+    put_bytes(
+        out,
+        &[
+            b' ',
+            b' ',
+            b'0' + thousands as u8,
+            b'0' + (hundreds % 10) as u8,
+            b'0' + (tens % 10) as u8,
+            b'0' + (at % 10) as u8,
+            b' ',
+        ],
+    )
+}
+
+/// Writes an offset of five digits at once.
+fn put_offset_of_five<W: Write>(out: &mut W, at: usize) -> Result<(), WriteFailed>
+    requires { (10000 ≤ at) × (at < 100000) }
+    ensures { Writes (W.contents out.old) (W.contents out.new) (offset_text at) result }
+{
+    let tens = at / 10;
+    let hundreds = tens / 10;
+    let thousands = hundreds / 10;
+    put_bytes(
+        out,
+        &[
+            b' ',
+            b' ',
+            b'0' + (thousands / 10) as u8,
+            b'0' + (thousands % 10) as u8,
+            b'0' + (hundreds % 10) as u8,
+            b'0' + (tens % 10) as u8,
+            b'0' + (at % 10) as u8,
+            b' ',
+        ],
+    )
 }
 
 impl<'a> Print for Located<'a> {
@@ -247,7 +324,6 @@ impl<'a> Print for Located<'a> {
     ghost text = { λ t. instruction_line (located (t.at, t.insn)) };
 
     fn put<W: Write>(&self, out: &mut W) -> Result<(), WriteFailed> {
-        let text = Then(InstructionText(*self), Word("\n"));
-        Then(Word("  "), text).put(out)
+        Then(Offset(self.at), Then(Named(*self), Word("\n"))).put(out)
     }
 }
