@@ -1,4 +1,4 @@
-//! The line of the first difference of a frame that comes from the declared one (JVMS 4.10.1.4), and its fields of JSON.
+//! The line of the first difference of a frame that comes from the declared one (JVMS 4.10.1.4), and its JSON fields.
 ghost use Rattle.frames.specs.Differences.{mismatch_of, difference_of};
 ghost use Rattle.printing.specs.Differences.{types_differ, mismatch_line, difference_line, mismatch_fields, difference_fields};
 ghost use Rattle.printing.specs.Json.{fields_then};
