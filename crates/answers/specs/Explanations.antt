@@ -41,7 +41,7 @@ difference_line_of (Some d) = difference_line d
 abbrev pub is_of_entry : ℕ → Bool
 is_of_entry n = nat_eq n not_assignable
 
--- the frame before an instruction; where a number is about both, the one that comes, the one that is declared, and what differs
+-- the frame before an instruction; where a number is about both, the one that comes, the declared one, and what differs
 abbrev pub frames_for : ℕ → FramesFact → List ℕ
 frames_for n x =
     if is_of_entry n then lines_if [] x.coming ++ (lines_if (codes "declared ") x.declared ++ difference_line_of x.difference)
@@ -80,7 +80,7 @@ difference_fields_of (Some d) = difference_fields d
 abbrev pub fields_of_both : FramesFact → List ℕ → List ℕ
 fields_of_both x rest = fields_then (frame_fields_of x.coming) (fields_then (declared_fields_of x.declared) (fields_then (difference_fields_of x.difference) rest))
 
--- the frame before an instruction; where a number is about both, the one that comes, the one that is declared, and what differs
+-- the frame before an instruction; where a number is about both, the one that comes, the declared one, and what differs
 abbrev pub frame_fields_for : ℕ → FramesFact → List ℕ → List ℕ
 frame_fields_for n x rest =
     if is_of_entry n then fields_of_both x rest

@@ -18,8 +18,9 @@ use classfile::{CodeAttr, Member};
 use frames::{Difference, Frame};
 use pool::Pool;
 use printing::{
-    DifferenceFields, DifferenceLine, END, FrameFields, FrameLines, Handlers, HandlersField, InstructionAt, InstructionFields, NamedAt,
-    NamedFields, Print, SizeFields, Sizes, Then, Word, WriteFailed,
+    DifferenceFields, DifferenceLine, END, FrameFields, FrameLines, Handlers, HandlersField,
+    InstructionAt, InstructionFields, NamedAt, NamedFields, Print, SizeFields, Sizes, Then, Word,
+    WriteFailed,
 };
 use rules::Reason;
 use std::io::Write;

@@ -1,5 +1,5 @@
 -- The first difference of two frames, found place by place.
-use Rattle.std.proofs.Common.{◌≡◌, ◌≢◌, ◌∙◌, ℕ, suc, ◌<◌, ◌≤◌, ◌+◌, Bool, true, false, ◌||◌, cond, is_some, nat_eq, List, [], ◌∷◌, map, length, drop, get_or, reverse, Option, Some, None, refl, sym, ap, arith, add-one, drop-cons, if◌then◌else◌, ◌⊎◌, inl, inr, eqb-true, eq-eqb, true≢false}
+use Rattle.std.proofs.Common.{◌≡◌, ◌≢◌, ◌∙◌, ℕ, suc, ◌<◌, ◌≤◌, ◌+◌, Bool, true, false, ◌||◌, is_some, nat_eq, List, [], ◌∷◌, map, length, drop, get_or, reverse, Option, Some, None, refl, sym, ap, arith, add-one, drop-cons, if◌then◌else◌, ◌⊎◌, inl, inr, eqb-true, eq-eqb, true≢false}
 use Rattle.std.proofs.lemmas.List.{length-reverse, reverse-reverse, drop_all}
 use Rattle.std.specs.Option.{option_or, option_map}
 use Rattle.hierarchy.specs.Class.{ClassFact}
@@ -9,8 +9,8 @@ use Rattle.frames.specs.VerificationType.{VerificationType, type_of}
 use Rattle.frames.specs.FrameFact.{FrameFact}
 use Rattle.frames.specs.Assignable.{type_answer}
 use Rattle.frames.specs.FrameAssignable.{both, item_answer, list_answer, stack_answer, flag_answer, frame_answer}
-use Rattle.frames.specs.Differences.{MismatchFact, DifferenceFact, flag, local, sizes, item, is_no, first_mismatch, flag_difference, size_difference, local_difference, stack_difference, first_difference, DifferencesAreNo}
-use Rattle.frames.proofs.Slots.{list_uneven, stack_uneven, stack_reverse}
+use Rattle.frames.specs.Differences.{DifferenceFact, flag, local, sizes, item, is_no, first_mismatch, flag_difference, local_difference, stack_difference, first_difference, DifferencesAreNo}
+use Rattle.frames.proofs.Slots.{stack_uneven, stack_reverse}
 
 module _ (f : VerificationType → VerificationType → Outcome) where
   -- the rest of two lists from a place on

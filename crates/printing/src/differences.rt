@@ -1,4 +1,4 @@
-//! The line of the first difference of a frame that comes from the declared one (JVMS 4.10.1.4), and its fields in an object of JSON.
+//! The line of the first difference of a frame that comes from the declared one (JVMS 4.10.1.4), and its JSON fields.
 ghost use Rattle.frames.specs.Differences.{mismatch_of, difference_of};
 ghost use Rattle.printing.specs.Differences.{types_differ, mismatch_line, difference_line, mismatch_fields, difference_fields};
 ghost use Rattle.printing.specs.Json.{fields_then};
@@ -20,7 +20,11 @@ impl<'a> Print for TypesDiffer<'a> {
     fn put<W: Write>(&self, out: &mut W) -> Result<(), WriteFailed> {
         let from = TypeText(Within::Words, self.0.from);
         let to = TypeText(Within::Words, self.0.to);
-        Then(from, Then(Word(" is not assignable to "), Then(to, Word("\n")))).put(out)
+        Then(
+            from,
+            Then(Word(" is not assignable to "), Then(to, Word("\n"))),
+        )
+        .put(out)
     }
 }
 

@@ -26,7 +26,7 @@ use Rattle.verify.specs.declared.verdict.Verdict.{Verdict}
 use Rattle.verify.specs.declared.verdict.Verdict.TheVariants.{Verified, NoCode, Refused}
 use Rattle.verify.specs.declared.report.MethodVerdict.{MethodVerdict}
 
--- at an offset: the frame that comes there, if one does; the one that is declared there, if one is; and their difference
+-- at an offset: the frame that comes there, if any, the one that is declared, if any, and their difference
 pub record FramesFact : Type 0 where
   pub coming : Option FrameFact
   pub declared : Option FrameFact

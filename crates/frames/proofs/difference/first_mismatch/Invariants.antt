@@ -1,4 +1,4 @@
-use Rattle.std.proofs.Common.{◌≡◌, map, drop, length}
+use Rattle.std.proofs.Common.{◌≡◌, map, drop}
 use Rattle.frames.specs.VerificationType.{type_of}
 use Rattle.frames.specs.FrameAssignable.{slot_answer}
 use Rattle.frames.specs.Differences.{first_mismatch}
