@@ -41,7 +41,8 @@ Says command [] text status = (text ≡ []) × (status ≡ 0)
 Says (Check form) (read ∷ others) text status = FileSays form (CheckTells form) read text status
 Says Show (read ∷ others) text status = FileSays Plain ShowTells read text status
 Says (Verify form profile) (read ∷ known) text status = VerifySays (manners.Told form) profile read known text status
-Says (Explain form profile) (read ∷ known) text status = VerifySays (manners.Explained form) profile read known text status
+Says (Explain form profile) (read ∷ known) text status =
+    VerifySays (manners.Explained form) profile read known text status
 Says (Play profile) (read ∷ others) text status = PlaySays profile (read ∷ others) text status
 Says (VerifyEach profile classes) (read ∷ others) text status =
     EachSays profile (take classes (read ∷ others)) (drop classes (read ∷ others)) text status

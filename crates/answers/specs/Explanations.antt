@@ -1,4 +1,5 @@
--- The lines of `explain` about the methods of a class: of each that is refused its line, what the number says, and what is shown of its code.
+-- The lines of `explain` about the methods of a class: of each that is refused its line, what the number says, and what
+-- is shown of its code.
 use Rattle.std.specs.Prelude.{ℕ, Bool, ◌||◌, nat_eq, if◌then◌else◌, List, [], ◌∷◌, ◌++◌, Option, Some, None, codes}
 use Rattle.std.specs.List.{flat_map}
 use Rattle.pool.specs.Entries.{Entry}
@@ -44,21 +45,24 @@ is_of_entry n = nat_eq n not_assignable
 -- the frame before an instruction; where a number is about both, the one that comes, the declared one, and what differs
 abbrev pub frames_for : ℕ → FramesFact → List ℕ
 frames_for n x =
-    if is_of_entry n then lines_if [] x.coming ++ (lines_if (codes "declared ") x.declared ++ difference_line_of x.difference)
+    if is_of_entry n then lines_if [] x.coming
+    ++ (lines_if (codes "declared ") x.declared ++ difference_line_of x.difference)
     else lines_if [] (before x.coming x.declared)
 
--- of the code, as `show` has it: its sizes, the instruction at the offset with the constant that it names, the frames there, and the
--- exception table where a number is about it
+-- of the code, as `show` has it: its sizes, the instruction at the offset with the constant that it names, the frames
+-- there, and the exception table where a number is about it
 abbrev pub code_part : ℕ → List Entry → Option CodeBody → ℕ → FramesFact → List ℕ
 code_part n pool None at x = []
 code_part n pool (Some body) at x =
-    sizes_line body ++ (line_at (reading_of body.code) at ++ (named_at pool (reading_of body.code) at ++ (frames_for n x ++ entries_for n pool body)))
+    sizes_line body ++ (line_at (reading_of body.code) at
+    ++ (named_at pool (reading_of body.code) at ++ (frames_for n x ++ entries_for n pool body)))
 
 -- of a method with this line, this verdict and these frames at the instruction at which it is refused
 abbrev pub explanation : List Entry → Option CodeBody → List ℕ → Verdict → FramesFact → List ℕ
 explanation pool body line Verified x = []
 explanation pool body line NoCode x = []
-explanation pool body line (Refused at why) x = line ++ (reason_lines why ++ code_part (reason_number why) pool body at x)
+explanation pool body line (Refused at why) x =
+    line ++ (reason_lines why ++ code_part (reason_number why) pool body at x)
 
 -- ---- as an object of JSON
 
@@ -78,7 +82,8 @@ difference_fields_of None = []
 difference_fields_of (Some d) = difference_fields d
 
 abbrev pub fields_of_both : FramesFact → List ℕ → List ℕ
-fields_of_both x rest = fields_then (frame_fields_of x.coming) (fields_then (declared_fields_of x.declared) (fields_then (difference_fields_of x.difference) rest))
+fields_of_both x rest = fields_then (frame_fields_of x.coming)
+    (fields_then (declared_fields_of x.declared) (fields_then (difference_fields_of x.difference) rest))
 
 -- the frame before an instruction; where a number is about both, the one that comes, the declared one, and what differs
 abbrev pub frame_fields_for : ℕ → FramesFact → List ℕ → List ℕ
@@ -94,7 +99,8 @@ abbrev pub code_fields : ℕ → List Entry → Option CodeBody → ℕ → Fram
 code_fields n pool None at x = object_end
 code_fields n pool (Some body) at x =
     fields_then (size_fields body) (fields_then (instruction_fields (reading_of body.code) at)
-    (fields_then (named_fields_at pool (reading_of body.code) at) (frame_fields_for n x (fields_behind (entry_fields_for n pool body)))))
+    (fields_then (named_fields_at pool (reading_of body.code) at)
+    (frame_fields_for n x (fields_behind (entry_fields_for n pool body)))))
 
 -- of a method whose object begins so, with this verdict and these frames at the instruction at which it is refused
 abbrev pub explanation_object : List Entry → Option CodeBody → (List ℕ → List ℕ) → Verdict → FramesFact → List ℕ
@@ -105,8 +111,10 @@ explanation_object pool body begun (Refused at why) x =
 
 -- ---- of methods, the verdicts on them and their frames, with what is said of each that has this code
 
-abbrev pub explanations : (MethodVerdict → Option CodeBody → FramesFact → List ℕ) → List Member → List MethodVerdict → List FramesAt → List ℕ
+abbrev pub explanations : (MethodVerdict → Option CodeBody → FramesFact → List ℕ) → List Member → List MethodVerdict
+    → List FramesAt → List ℕ
 explanations said [] rs xs = []
 explanations said (m ∷ ms) [] xs = []
 explanations said (m ∷ ms) (r ∷ rs) [] = []
-explanations said (m ∷ ms) (r ∷ rs) (x ∷ xs) = said r (code_of m.attributes) (frames_view x) ++ explanations said ms rs xs
+explanations said (m ∷ ms) (r ∷ rs) (x ∷ xs) =
+    said r (code_of m.attributes) (frames_view x) ++ explanations said ms rs xs

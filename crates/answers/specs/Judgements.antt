@@ -1,4 +1,5 @@
--- The answer of `verify-each` about many files, and about the files of the classes that they may refer to besides one another.
+-- The answer of `verify-each` about many files, and about the files of the classes that they may refer to besides one
+-- another.
 use Rattle.std.specs.Prelude.{◌≡◌, ◌⊎◌, ℕ, ◌+◌, List, [], ◌∷◌, ◌++◌, codes, decimal, nat_lt, if◌then◌else◌}
 use Rattle.std.specs.List.{flat_map}
 use Rattle.classfile.specs.declared.profile.Profile.{Profile}
@@ -63,4 +64,5 @@ worst_status (j ∷ js) = greater (judgement_status j) (worst_status js)
 abbrev pub EachSays : Profile → List Read → List Read → List ℕ → ℕ → Type 0
 EachSays profile reads known text status =
     ((js : List Judgement) × JudgesEach profile reads known js × (text ≡ lines_from 1 js) × (status ≡ worst_status js))
-    ⊎ ((f : HierarchyFault) × JudgesNone reads known (NoHierarchy f) × (text ≡ hierarchy_refusal Plain f) × (status ≡ 1))
+    ⊎ ((f : HierarchyFault) × JudgesNone reads known (NoHierarchy f) × (text ≡ hierarchy_refusal Plain f)
+    × (status ≡ 1))

@@ -27,7 +27,8 @@ abbrev pub numbered_refusal : ℕ → FileFault → List ℕ
 numbered_refusal number r = codes "class " ++ (decimal number ++ (codes " refused " ++ (refusal_text r ++ codes "\n")))
 
 abbrev pub rule_refusal : ℕ → PlayRule → List ℕ
-rule_refusal number rule = codes "class " ++ (decimal number ++ (codes " refused " ++ (decimal (rule_number rule) ++ codes "\n")))
+rule_refusal number rule = codes "class "
+    ++ (decimal number ++ (codes " refused " ++ (decimal (rule_number rule) ++ codes "\n")))
 
 abbrev pub method_refusal : ℕ → MethodVerdict → List ℕ
 method_refusal number r = codes "class " ++ (decimal number ++ (codes " " ++ verdict_line Plain r))
@@ -41,7 +42,8 @@ play_verified = codes "play verified\n"
 abbrev pub BrokenSays : List ClassFact → List JudgedClass → ℕ → JudgedClass → List ℕ → ℕ → Type 0
 BrokenSays classes cs place c text status =
     ((rule : PlayRule) × Breaks classes cs place c rule × (text ≡ rule_refusal (place + 1) rule) × (status ≡ 1))
-    ⊎ ((n : ℕ) × (r : MethodVerdict) × HasRefused classes cs place c n r × (text ≡ method_refusal (place + 1) r) × (status ≡ 1))
+    ⊎ ((n : ℕ) × (r : MethodVerdict) × HasRefused classes cs place c n r × (text ≡ method_refusal (place + 1) r)
+    × (status ≡ 1))
 
 -- of classes in their hierarchy: the first that breaks a rule, or that all are verified
 abbrev pub ClassesSay : List ClassFact → List JudgedClass → List ℕ → ℕ → Type 0
@@ -52,11 +54,13 @@ ClassesSay classes cs text status =
 -- why they are no hierarchy, or what is said of them in it
 abbrev pub TogetherSay : List JudgedClass → List ℕ → ℕ → Type 0
 TogetherSay cs text status =
-    ((f : HierarchyFault) × (f ≢ OutOfMemory) × FaultOf (facts_in cs) f × (text ≡ hierarchy_refusal Plain f) × (status ≡ 1))
+    ((f : HierarchyFault) × (f ≢ OutOfMemory) × FaultOf (facts_in cs) f × (text ≡ hierarchy_refusal Plain f)
+    × (status ≡ 1))
     ⊎ (IsHierarchy (facts_in cs) × ClassesSay (facts_in cs) cs text status)
 
 -- the first file that is refused, or what is said of the classes by a profile
 abbrev pub PlaySays : Profile → List Read → List ℕ → ℕ → Type 0
 PlaySays profile reads text status =
-    ((i : ℕ) × (r : FileFault) × IsFirstRefused reads i r × (text ≡ numbered_refusal (i + 1) r) × (status ≡ refusal_status r))
+    ((i : ℕ) × (r : FileFault) × IsFirstRefused reads i r × (text ≡ numbered_refusal (i + 1) r)
+    × (status ≡ refusal_status r))
     ⊎ ((cs : List Class) × AreFormed reads cs × TogetherSay (map (judged profile) cs) text status)

@@ -50,13 +50,16 @@ class_refusal Json r = object_line (kind (codes "class") ∷ answer (codes "refu
 
 abbrev pub known_object : ℕ → FileFault → List ℕ → List ℕ
 known_object position r rest =
-    object_then (kind (codes "known")) ((codes "position", number position) ∷ answer (codes "refused") ∷ refusal_fields r) rest
+    object_then (kind (codes "known"))
+    ((codes "position", number position) ∷ answer (codes "refused") ∷ refusal_fields r) rest
 
 -- of the known class at this position; they count from 1
 abbrev pub known_refusal : Form → ℕ → FileFault → List ℕ
-known_refusal Plain position r = codes "known " ++ (decimal position ++ (codes " refused " ++ (refusal_text r ++ codes "\n")))
+known_refusal Plain position r =
+    codes "known " ++ (decimal position ++ (codes " refused " ++ (refusal_text r ++ codes "\n")))
 known_refusal Json position r =
-    object_line (kind (codes "known") ∷ (codes "position", number position) ∷ answer (codes "refused") ∷ refusal_fields r)
+    object_line (kind (codes "known") ∷ (codes "position", number position) ∷ answer (codes "refused")
+    ∷ refusal_fields r)
 
 -- the name of the class that has the fault, where it has one
 abbrev pub fault_name : HierarchyFault → List ℕ
@@ -85,16 +88,19 @@ name_fields (InterfaceSuper name) = named_field name.now
 abbrev pub hierarchy_refusal : Form → HierarchyFault → List ℕ
 hierarchy_refusal Plain f = codes "hierarchy refused " ++ (decimal (number_of f) ++ (fault_name f ++ codes "\n"))
 hierarchy_refusal Json f =
-    object_line (kind (codes "hierarchy") ∷ answer (codes "refused") ∷ (codes "number", number (number_of f)) ∷ name_fields f)
+    object_line (kind (codes "hierarchy") ∷ answer (codes "refused") ∷ (codes "number", number (number_of f))
+    ∷ name_fields f)
 
 abbrev pub hierarchy_object : HierarchyFault → List ℕ → List ℕ
 hierarchy_object f rest =
-    object_then (kind (codes "hierarchy")) (answer (codes "refused") ∷ (codes "number", number (number_of f)) ∷ name_fields f) rest
+    object_then (kind (codes "hierarchy"))
+    (answer (codes "refused") ∷ (codes "number", number (number_of f)) ∷ name_fields f) rest
 
 -- the superclass of the class is final
 abbrev pub final_super_refusal : Form → List ℕ
 final_super_refusal Plain = codes "class refused 81\n"
-final_super_refusal Json = object_line (kind (codes "class") ∷ answer (codes "refused") ∷ (codes "number", number 81) ∷ [])
+final_super_refusal Json = object_line
+    (kind (codes "class") ∷ answer (codes "refused") ∷ (codes "number", number 81) ∷ [])
 
 -- behind a reason: the class that is missing, or the number of the fault in a stack map or in code
 abbrev pub reason_ending : Reason → List ℕ
@@ -118,18 +124,23 @@ abbrev pub verdict_fields : Verdict → List Field
 verdict_fields Verified = answer (codes "verified") ∷ []
 verdict_fields NoCode = answer (codes "no code") ∷ []
 verdict_fields (Refused at why) =
-    answer (codes "refused") ∷ (codes "number", number (reason_number why)) ∷ (codes "at", number at) ∷ reason_fields why
+    answer (codes "refused") ∷ (codes "number", number (reason_number why)) ∷ (codes "at", number at)
+    ∷ reason_fields why
 
 abbrev pub verdict_line : Form → MethodVerdict → List ℕ
 verdict_line Plain r =
-    codes "method " ++ (name_text r.name.bytes.now ++ (codes " " ++ (name_text r.descriptor.bytes.now ++ (verdict_text r.verdict ++ codes "\n"))))
+    codes "method " ++ (name_text r.name.bytes.now
+    ++ (codes " " ++ (name_text r.descriptor.bytes.now ++ (verdict_text r.verdict ++ codes "\n"))))
 verdict_line Json r =
-    object_line (kind (codes "method") ∷ (codes "name", name r.name.bytes.now) ∷ (codes "descriptor", name r.descriptor.bytes.now) ∷ verdict_fields r.verdict)
+    object_line (kind (codes "method") ∷ (codes "name", name r.name.bytes.now)
+    ∷ (codes "descriptor", name r.descriptor.bytes.now) ∷ verdict_fields r.verdict)
 
 -- the object of a method, up to a text behind its fields
 abbrev pub verdict_object : MethodVerdict → List ℕ → List ℕ
 verdict_object r rest =
-    object_then (kind (codes "method")) ((codes "name", name r.name.bytes.now) ∷ (codes "descriptor", name r.descriptor.bytes.now) ∷ verdict_fields r.verdict) rest
+    object_then (kind (codes "method"))
+    ((codes "name", name r.name.bytes.now) ∷ (codes "descriptor", name r.descriptor.bytes.now)
+    ∷ verdict_fields r.verdict) rest
 
 -- what `explain` says of a method with this code and these frames
 abbrev pub explained : Form → List Entry → MethodVerdict → Option CodeBody → FramesFact → List ℕ
@@ -154,7 +165,8 @@ IsPart read r text = text ≡ []
 
 -- of a file with this line that is refused
 abbrev pub IsExplained : Read → FileFault → List ℕ → List ℕ → Type 0
-IsExplained read r line text = (part : List ℕ) × IsPart read r part × (text ≡ line ++ (sentence_line (file_fault_number r) ++ part))
+IsExplained read r line text = (part : List ℕ) × IsPart read r part
+    × (text ≡ line ++ (sentence_line (file_fault_number r) ++ part))
 
 -- of a file that is refused, and has a line in each form and an object of JSON
 abbrev pub IsTold : Manner → Read → FileFault → (Form → List ℕ) → (List ℕ → List ℕ) → List ℕ → Type 0
@@ -173,17 +185,20 @@ final_super_told (Explained Plain) = final_super_refusal Plain ++ sentence_line 
 final_super_told (Explained Json) =
     object_line (kind (codes "class") ∷ answer (codes "refused") ∷ (codes "number", number 81) ∷ sentence_fields 81)
 
--- the verdicts on the methods of a class; `explain` tells those that refuse, with the frames at the instructions at which they do
+-- the verdicts on the methods of a class; `explain` tells those that refuse, with the frames at the instructions at
+-- which they do
 abbrev pub IsReportTold : Manner → List ClassFact → JudgedClass → List MethodVerdict → List ℕ → Type 0
 IsReportTold (Told form) classes c rs text = text ≡ flat_map (verdict_line form) rs
 IsReportTold (Explained form) classes c rs text =
-    (xs : List FramesAt) × AreFramed classes c rs xs × (text ≡ explanations (explained form c.file.constant_pool) c.file.methods rs xs)
+    (xs : List FramesAt) × AreFramed classes c rs xs
+    × (text ≡ explanations (explained form c.file.constant_pool) c.file.methods rs xs)
 
 -- ---- what is said
 
 -- the verdicts on the methods of a class
 abbrev pub ReportSays : Manner → List ClassFact → JudgedClass → List ℕ → ℕ → Type 0
-ReportSays manner classes c text status = (rs : List MethodVerdict) × IsReport classes c rs × IsReportTold manner classes c rs text × (status ≡ report_status rs)
+ReportSays manner classes c text status = (rs : List MethodVerdict) × IsReport classes c rs
+    × IsReportTold manner classes c rs text × (status ≡ report_status rs)
 
 -- Of a class in a hierarchy: that its superclass is final, or the verdicts on its methods.
 abbrev pub ClassSays : Manner → List ClassFact → JudgedClass → List ℕ → ℕ → Type 0
@@ -200,11 +215,14 @@ HierarchySays manner classes c text status =
 -- Of a class and the files of the known ones: the first of these that is refused, or what is said of all.
 abbrev pub KnownSays : Manner → JudgedClass → List Read → List ℕ → ℕ → Type 0
 KnownSays manner c known text status =
-    ((i : ℕ) × (r : FileFault) × (first : IsFirstRefused known i r) × IsTold manner first.read r (λ form. known_refusal form (i + 1) r) (known_object (i + 1) r) text × (status ≡ refusal_status r))
+    ((i : ℕ) × (r : FileFault) × (first : IsFirstRefused known i r)
+    × IsTold manner first.read r (λ form. known_refusal form (i + 1) r) (known_object (i + 1) r) text
+    × (status ≡ refusal_status r))
     ⊎ ((cs : List Class) × AreFormed known cs × HierarchySays manner (map summary_of (c.file ∷ cs)) c text status)
 
 -- by a profile
 abbrev pub VerifySays : Manner → Profile → Read → List Read → List ℕ → ℕ → Type 0
 VerifySays manner profile read known text status =
-    ((r : FileFault) × IsRefused read r × IsTold manner read r (λ form. class_refusal form r) (class_object r) text × (status ≡ refusal_status r))
+    ((r : FileFault) × IsRefused read r × IsTold manner read r (λ form. class_refusal form r) (class_object r) text
+    × (status ≡ refusal_status r))
     ⊎ ((c : Class) × IsFormed read c × KnownSays manner (judged profile c) known text status)

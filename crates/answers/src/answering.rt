@@ -29,7 +29,8 @@ pub fn answer<W: Write, S: BuildHasher + Drop>(
     hasher: S,
     out: &mut W,
 ) -> Result<u8, AnswerFault>
-    ensures answered { Answered (Says command (map read_view reads.now)) (W.contents out.old) (W.contents out.new) result }
+    ensures answered { Answered (Says command (map read_view reads.now)) (W.contents out.old)
+        (W.contents out.new) result }
     ensures memory { has_lost (map read_view reads.now) ≡ true → result ≡ Err OutOfMemory }
 {
     if has_lost(reads) {

@@ -38,7 +38,8 @@ pub fn check<W: Write>(
     read: &Result<Vec<u8>, StreamFault>,
     out: &mut W,
 ) -> Result<u8, AnswerFault>
-    ensures { Answered (FileSays form (CheckTells form) (read_view read.now)) (W.contents out.old) (W.contents out.new) result }
+    ensures { Answered (FileSays form (CheckTells form) (read_view read.now)) (W.contents out.old)
+        (W.contents out.new) result }
 {
     match class_file(alloc, file_read(read)) {
         Ok(_class) => tell(&OkLine(form), 0, out),

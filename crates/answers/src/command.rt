@@ -17,16 +17,17 @@ pub enum Command {
     Check(Form),
     /// `show FILE`: what the class file holds.
     Show,
-    /// `verify CLASS KNOWN...`: the verdicts on the methods of the class in the first file, which may refer to the classes
-    /// in the others; with `--dynamic` by [`Profile::Dynamic`].
+    /// `verify CLASS KNOWN...`: the verdicts on the methods of the class in the first file, which may refer to the
+    /// classes in the others; with `--dynamic` by [`Profile::Dynamic`].
     Verify(Form, Profile),
-    /// `explain CLASS KNOWN...`: the methods that `verify` refuses, and of each what its number says and what stands there; with
-    /// `--dynamic` by [`Profile::Dynamic`].
+    /// `explain CLASS KNOWN...`: the methods that `verify` refuses, and of each what its number says and what stands
+    /// there; with `--dynamic` by [`Profile::Dynamic`].
     Explain(Form, Profile),
-    /// `play CLASS...`: whether the classes in the files may run together, each method that has code verified; with `--dynamic` by
-    /// [`Profile::Dynamic`].
+    /// `play CLASS...`: whether the classes in the files may run together, each method that has code verified; with
+    /// `--dynamic` by [`Profile::Dynamic`].
     Play(Profile),
-    /// `verify-each CLASS... --known KNOWN...`: the verdicts on the methods of each of the classes in the first so many files, which may
-    /// refer to one another and to the classes in the others; with `--dynamic` by [`Profile::Dynamic`].
+    /// `verify-each CLASS... --known KNOWN...`: the verdicts on the methods of each of the classes in the first so many
+    /// files, which may refer to one another and to the classes in the others; with `--dynamic` by
+    /// [`Profile::Dynamic`].
     VerifyEach { profile: Profile, classes: usize },
 }

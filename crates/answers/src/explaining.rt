@@ -164,7 +164,8 @@ struct CodePart<'m, 'r, 'a> {
 }
 
 impl<'m, 'r, 'a> Print for CodePart<'m, 'r, 'a> {
-    ghost text = { λ t. code_part (reason_number t.reason) t.pool.now (code_of (member_view t.member.now).attributes) t.at (frames_view t.frames.now) };
+    ghost text = { λ t. code_part (reason_number t.reason) t.pool.now
+        (code_of (member_view t.member.now).attributes) t.at (frames_view t.frames.now) };
 
     fn put<W: Write>(&self, out: &mut W) -> Result<(), WriteFailed> {
         match self.member.code() {
@@ -188,7 +189,8 @@ impl<'m, 'r, 'a> Print for CodePart<'m, 'r, 'a> {
     }
 }
 
-/// A method and the verdict on it, which is explained where it refuses, with the frames at the instruction at which it does.
+/// A method and the verdict on it, which is explained where it refuses, with the frames at the instruction at which it
+/// does.
 #[derive(Clone, Copy)]
 struct Explanation<'m, 'r, 'a> {
     pool: &'m Pool<'a>,
@@ -198,7 +200,8 @@ struct Explanation<'m, 'r, 'a> {
 }
 
 impl<'m, 'r, 'a> Print for Explanation<'m, 'r, 'a> {
-    ghost text = { λ t. explanation t.pool.now (code_of (member_view t.member.now).attributes) (verdict_line Plain t.method) t.method.verdict (frames_view t.frames.now) };
+    ghost text = { λ t. explanation t.pool.now (code_of (member_view t.member.now).attributes)
+        (verdict_line Plain t.method) t.method.verdict (frames_view t.frames.now) };
 
     fn put<W: Write>(&self, out: &mut W) -> Result<(), WriteFailed> {
         match self.method.verdict {
@@ -305,7 +308,8 @@ impl<'a, B: Print + Copy> Print for DifferenceIf<'a, B> {
     }
 }
 
-/// The fields of the frames at the instruction at which a method is refused for a reason, and then what stands behind them.
+/// The fields of the frames at the instruction at which a method is refused for a reason, and then what stands behind
+/// them.
 #[derive(Clone, Copy)]
 struct FrameFieldsFor<'r, 'a, B> {
     reason: Reason<'a>,
@@ -342,7 +346,8 @@ struct CodeFields<'m, 'r, 'a> {
 }
 
 impl<'m, 'r, 'a> Print for CodeFields<'m, 'r, 'a> {
-    ghost text = { λ t. code_fields (reason_number t.reason) t.pool.now (code_of (member_view t.member.now).attributes) t.at (frames_view t.frames.now) };
+    ghost text = { λ t. code_fields (reason_number t.reason) t.pool.now
+        (code_of (member_view t.member.now).attributes) t.at (frames_view t.frames.now) };
 
     fn put<W: Write>(&self, out: &mut W) -> Result<(), WriteFailed> {
         match self.member.code() {
@@ -374,7 +379,8 @@ impl<'m, 'r, 'a> Print for CodeFields<'m, 'r, 'a> {
     }
 }
 
-/// A method and the verdict on it as an object of JSON, where it refuses, with the frames at the instruction at which it does.
+/// A method and the verdict on it as an object of JSON, where it refuses, with the frames at the instruction at which
+/// it does.
 #[derive(Clone, Copy)]
 struct ExplanationObject<'m, 'r, 'a> {
     pool: &'m Pool<'a>,
@@ -384,7 +390,8 @@ struct ExplanationObject<'m, 'r, 'a> {
 }
 
 impl<'m, 'r, 'a> Print for ExplanationObject<'m, 'r, 'a> {
-    ghost text = { λ t. explanation_object t.pool.now (code_of (member_view t.member.now).attributes) (verdict_object t.method) t.method.verdict (frames_view t.frames.now) };
+    ghost text = { λ t. explanation_object t.pool.now (code_of (member_view t.member.now).attributes)
+        (verdict_object t.method) t.method.verdict (frames_view t.frames.now) };
 
     fn put<W: Write>(&self, out: &mut W) -> Result<(), WriteFailed> {
         match self.method.verdict {
@@ -418,7 +425,8 @@ struct Explained<'m, 'r, 'a> {
 }
 
 impl<'m, 'r, 'a> Print for Explained<'m, 'r, 'a> {
-    ghost text = { λ t. explained t.form t.pool.now t.method (code_of (member_view t.member.now).attributes) (frames_view t.frames.now) };
+    ghost text = { λ t. explained t.form t.pool.now t.method (code_of (member_view t.member.now).attributes)
+        (frames_view t.frames.now) };
 
     fn put<W: Write>(&self, out: &mut W) -> Result<(), WriteFailed> {
         let pool = self.pool;
@@ -444,7 +452,8 @@ impl<'m, 'r, 'a> Print for Explained<'m, 'r, 'a> {
     }
 }
 
-/// The methods of a class, whose names are in this pool, the verdicts on them, of which each is explained that refuses, and their frames.
+/// The methods of a class, whose names are in this pool, the verdicts on them, of which each is explained that refuses,
+/// and their frames.
 #[derive(Clone, Copy)]
 pub struct Explanations<'m, 'r, 'a> {
     pub form: Form,
@@ -455,7 +464,8 @@ pub struct Explanations<'m, 'r, 'a> {
 }
 
 impl<'m, 'r, 'a> Print for Explanations<'m, 'r, 'a> {
-    ghost text = { λ t. explanations (explained t.form t.pool.now) (map member_view t.members.now) t.methods.now t.frames.now };
+    ghost text = { λ t. explanations (explained t.form t.pool.now)
+        (map member_view t.members.now) t.methods.now t.frames.now };
 
     fn put<W: Write>(&self, out: &mut W) -> Result<(), WriteFailed> {
         let count = self.members.len().min(self.methods.len());

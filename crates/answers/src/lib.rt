@@ -1,9 +1,9 @@
 //! The answers on files, once these are read: a text and a status.
 //!
-//! `answer` (`answering`) answers each [`Command`], with a module for each: `checking`, `showing`, `verifying`, `playing`,
-//! `verifying_each`. What is said is decided by the verifier, of files as they were read (`reads`), and then written (`telling`,
-//! `refusal`, `verdicts`, `plays`, `judgements`). `verifying` answers `explain` too, in a `manner` of its own (`refusing`, `explaining`,
-//! `sentences`).
+//! `answer` (`answering`) answers each [`Command`], with a module for each: `checking`, `showing`, `verifying`,
+//! `playing`, `verifying_each`. What is said is decided by the verifier, of files as they were read (`reads`), and then
+//! written (`telling`, `refusal`, `verdicts`, `plays`, `judgements`). `verifying` answers `explain` too, in a `manner`
+//! of its own (`refusing`, `explaining`, `sentences`).
 #![tactic(auto)]
 
 mod answering;

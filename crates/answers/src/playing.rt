@@ -24,7 +24,8 @@ use verify::{TogetherFault, verify_together_under};
 
 /// Writes why the classes may not run together.
 fn refuse<W: Write>(fault: TogetherFault<'_>, out: &mut W) -> Result<u8, AnswerFault>
-    ensures { (profile : ProfileFact) (reads : List Read) → NotTogether profile reads fault.entry → Answered (PlaySays profile reads) (W.contents out.old) (W.contents out.new) result }
+    ensures { (profile : ProfileFact) (reads : List Read) → NotTogether profile reads fault.entry
+        → Answered (PlaySays profile reads) (W.contents out.old) (W.contents out.new) result }
 {
     match fault {
         TogetherFault::OutOfMemory => Err(AnswerFault::OutOfMemory),

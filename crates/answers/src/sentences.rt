@@ -334,7 +334,8 @@ impl Print for FinalSuperSentenceField {
     }
 }
 
-/// The sentence on the fault of a stack map or of code as a field, where a reason has one, and then what stands behind it.
+/// The sentence on the fault of a stack map or of code as a field, where a reason has one, and then what stands behind
+/// it.
 #[derive(Clone, Copy)]
 struct FaultSentenceFields<'a, B>(Reason<'a>, B);
 

@@ -19,7 +19,8 @@ pub fn show<W: Write>(
     read: &Result<Vec<u8>, StreamFault>,
     out: &mut W,
 ) -> Result<u8, AnswerFault>
-    ensures { Answered (FileSays Plain ShowTells (read_view read.now)) (W.contents out.old) (W.contents out.new) result }
+    ensures { Answered (FileSays Plain ShowTells (read_view read.now)) (W.contents out.old)
+        (W.contents out.new) result }
 {
     match class_file(alloc, file_read(read)) {
         Ok(class) => {

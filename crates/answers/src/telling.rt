@@ -24,7 +24,8 @@ pub fn tell<T: Print, W: Write>(text: &T, status: u8, out: &mut W) -> Result<u8,
 
 /// Writes why a file is refused.
 pub fn refuse<W: Write>(form: Form, fault: FileFault, out: &mut W) -> Result<u8, AnswerFault>
-    ensures { Answered (λ t s. (fault ≢ OutOfMemory) × (t ≡ refusal_line form fault) × (s ≡ refusal_status fault)) (W.contents out.old) (W.contents out.new) result }
+    ensures { Answered (λ t s. (fault ≢ OutOfMemory) × (t ≡ refusal_line form fault) × (s ≡ refusal_status fault))
+        (W.contents out.old) (W.contents out.new) result }
 {
     if let FileFault::OutOfMemory = fault {
         return Err(AnswerFault::OutOfMemory);

@@ -123,7 +123,8 @@ fn put_named<W: Write, B: Print + Copy>(
     name: &[u8],
     behind: B,
 ) -> Result<(), WriteFailed>
-    ensures { Writes (W.contents out.old) (W.contents out.new) (fields_then (named_field name.now) (B.text behind)) result }
+    ensures { Writes (W.contents out.old) (W.contents out.new)
+        (fields_then (named_field name.now) (B.text behind)) result }
 {
     More("name", QuotedSpelled(name), behind).put(out)
 }

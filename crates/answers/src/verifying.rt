@@ -57,7 +57,8 @@ fn explain_file<T: Print + Copy, W: Write>(
     fault: FileFault,
     out: &mut W,
 ) -> Result<u8, AnswerFault>
-    ensures { Answered (λ t s. IsExplained (read_view read.now) fault (T.text line) t × (s ≡ refusal_status fault)) (W.contents out.old) (W.contents out.new) result }
+    ensures { Answered (λ t s. IsExplained (read_view read.now) fault (T.text line) t × (s ≡ refusal_status fault))
+        (W.contents out.old) (W.contents out.new) result }
 {
     let sentence = FileSentence(fault);
     match fault {
@@ -84,7 +85,8 @@ fn refuse_class<W: Write>(
     fault: FileFault,
     out: &mut W,
 ) -> Result<u8, AnswerFault>
-    ensures { Answered (λ t s. IsTold manner (read_view read.now) fault (λ form. class_refusal form fault) (class_object fault) t × (s ≡ refusal_status fault)) (W.contents out.old) (W.contents out.new) result }
+    ensures { Answered (λ t s. IsTold manner (read_view read.now) fault (λ form. class_refusal form fault)
+        (class_object fault) t × (s ≡ refusal_status fault)) (W.contents out.old) (W.contents out.new) result }
 {
     let refusal = Refusal(fault);
     match manner {
@@ -108,7 +110,8 @@ fn refuse_known<W: Write>(
     fault: FileFault,
     out: &mut W,
 ) -> Result<u8, AnswerFault>
-    ensures { Answered (λ t s. IsTold manner (read_view read.now) fault (λ form. known_refusal form number fault) (known_object number fault) t × (s ≡ refusal_status fault)) (W.contents out.old) (W.contents out.new) result }
+    ensures { Answered (λ t s. IsTold manner (read_view read.now) fault (λ form. known_refusal form number fault)
+        (known_object number fault) t × (s ≡ refusal_status fault)) (W.contents out.old) (W.contents out.new) result }
 {
     let refusal = Refusal(fault);
     match manner {
@@ -141,7 +144,8 @@ fn refuse_known<W: Write>(
     }
 }
 
-/// Writes why there are no verdicts, of the class in the first file and of those in the known files, which were read so.
+/// Writes why there are no verdicts, of the class in the first file and of those in the known files, which were read
+/// so.
 fn refuse<W: Write>(
     alloc: Global,
     manner: Manner,
@@ -151,7 +155,10 @@ fn refuse<W: Write>(
     out: &mut W,
 ) -> Result<u8, AnswerFault>
     requires { CountsKnown fault (length known.now) }
-    ensures { (profile : ProfileFact) → ReportsAmong profile (read_view read.now) (map read_view known.now) (Err fault.entry) → Answered (VerifySays manner profile (read_view read.now) (map read_view known.now)) (W.contents out.old) (W.contents out.new) result }
+    ensures { (profile : ProfileFact)
+        → ReportsAmong profile (read_view read.now) (map read_view known.now) (Err fault.entry)
+        → Answered (VerifySays manner profile (read_view read.now) (map read_view known.now)) (W.contents out.old)
+        (W.contents out.new) result }
 {
     match fault {
         AmongFault::OutOfMemory => Err(AnswerFault::OutOfMemory),
@@ -174,7 +181,8 @@ fn explain<'a, W: Write>(
     out: &mut W,
 ) -> Result<u8, AnswerFault>
     ensures { (c : Class) → IsFormed (read_view read.now) c → let rs = found.now.report.methods.items in
-        Answered (λ t s. (t ≡ explanations (explained form c.constant_pool) c.methods rs found.now.frames.items) × (s ≡ report_status rs)) (W.contents out.old) (W.contents out.new) result }
+        Answered (λ t s. (t ≡ explanations (explained form c.constant_pool) c.methods rs found.now.frames.items)
+        × (s ≡ report_status rs)) (W.contents out.old) (W.contents out.new) result }
 {
     one_class();
     match class_file(alloc, file_read(read)) {
@@ -194,7 +202,8 @@ fn explain<'a, W: Write>(
     }
 }
 
-/// Answers `verify` in a form of the file of a class and of the files of the classes that it may refer to, which were read so, by a profile.
+/// Answers `verify` in a form of the file of a class and of the files of the classes that it may refer to, which were
+/// read so, by a profile.
 fn tell_verdicts<'a, S: BuildHasher + Drop, W: Write>(
     alloc: Global,
     form: Form,
@@ -204,7 +213,8 @@ fn tell_verdicts<'a, S: BuildHasher + Drop, W: Write>(
     hasher: S,
     out: &mut W,
 ) -> Result<u8, AnswerFault>
-    ensures { Answered (VerifySays (manners.Told form) profile (read_view read.now) (map read_view known.now)) (W.contents out.old) (W.contents out.new) result }
+    ensures { Answered (VerifySays (manners.Told form) profile (read_view read.now) (map read_view known.now))
+        (W.contents out.old) (W.contents out.new) result }
 {
     let files = match file_reads(alloc, known) {
         Ok(files) => files,
@@ -230,7 +240,8 @@ fn explain_verdicts<'a, S: BuildHasher + Drop, W: Write>(
     hasher: S,
     out: &mut W,
 ) -> Result<u8, AnswerFault>
-    ensures { Answered (VerifySays (manners.Explained form) profile (read_view read.now) (map read_view known.now)) (W.contents out.old) (W.contents out.new) result }
+    ensures { Answered (VerifySays (manners.Explained form) profile (read_view read.now) (map read_view known.now))
+        (W.contents out.old) (W.contents out.new) result }
 {
     let files = match file_reads(alloc, known) {
         Ok(files) => files,
@@ -242,8 +253,8 @@ fn explain_verdicts<'a, S: BuildHasher + Drop, W: Write>(
     }
 }
 
-/// Answers `verify`, or `explain`, of the file of a class and of the files of the classes that it may refer to, which were read so, by a
-/// profile.
+/// Answers `verify`, or `explain`, of the file of a class and of the files of the classes that it may refer to, which
+/// were read so, by a profile.
 pub fn verify<'a, S: BuildHasher + Drop, W: Write>(
     alloc: Global,
     manner: Manner,
@@ -253,7 +264,8 @@ pub fn verify<'a, S: BuildHasher + Drop, W: Write>(
     hasher: S,
     out: &mut W,
 ) -> Result<u8, AnswerFault>
-    ensures { Answered (VerifySays manner profile (read_view read.now) (map read_view known.now)) (W.contents out.old) (W.contents out.new) result }
+    ensures { Answered (VerifySays manner profile (read_view read.now) (map read_view known.now)) (W.contents out.old)
+        (W.contents out.new) result }
 {
     match manner {
         Manner::Told(form) => tell_verdicts(alloc, form, profile, read, known, hasher, out),

@@ -17,7 +17,8 @@ use std::hash::BuildHasher;
 use std::io::Write;
 use verify::{EachFault, verify_each as judge_each};
 
-/// Answers `verify-each` of the files of classes and of those that they may refer to besides one another, which were read so, by a profile.
+/// Answers `verify-each` of the files of classes and of those that they may refer to besides one another, which were
+/// read so, by a profile.
 fn verify_among<'a, S: BuildHasher + Drop, W: Write>(
     alloc: Global,
     profile: Profile,
@@ -26,7 +27,8 @@ fn verify_among<'a, S: BuildHasher + Drop, W: Write>(
     hasher: S,
     out: &mut W,
 ) -> Result<u8, AnswerFault>
-    ensures { Answered (EachSays profile (map read_view reads.now) (map read_view known.now)) (W.contents out.old) (W.contents out.new) result }
+    ensures { Answered (EachSays profile (map read_view reads.now) (map read_view known.now)) (W.contents out.old)
+        (W.contents out.new) result }
 {
     let files = match file_reads(alloc, reads) {
         Ok(files) => files,
@@ -49,7 +51,8 @@ fn verify_among<'a, S: BuildHasher + Drop, W: Write>(
     }
 }
 
-/// Answers `verify-each` of files, which were read so, by a profile: of the first so many, the others being those of known classes.
+/// Answers `verify-each` of files, which were read so, by a profile: of the first so many, the others being those of
+/// known classes.
 pub fn verify_each<S: BuildHasher + Drop, W: Write>(
     alloc: Global,
     profile: Profile,
@@ -58,7 +61,8 @@ pub fn verify_each<S: BuildHasher + Drop, W: Write>(
     hasher: S,
     out: &mut W,
 ) -> Result<u8, AnswerFault>
-    ensures { Answered (EachSays profile (take classes (map read_view reads.now)) (drop classes (map read_view reads.now))) (W.contents out.old) (W.contents out.new) result }
+    ensures { Answered (EachSays profile (take classes (map read_view reads.now))
+        (drop classes (map read_view reads.now))) (W.contents out.old) (W.contents out.new) result }
 {
     let (files, known) = reads.split_at(classes.min(reads.len()));
     verify_among(alloc, profile, files, known, hasher, out)

@@ -13,10 +13,12 @@ use std::alloc::Global;
 use std::fs::File;
 use std::io::{BufReader, Read};
 
-/// A byte that stands behind the bytes of a class, if there is one, is appended to them: it tells that the file is longer.
+/// A byte that stands behind the bytes of a class, if there is one, is appended to them: it tells that the file is
+/// longer.
 fn read_behind<R: Read>(mut bytes: Vec<u8>, reader: &mut R) -> Result<Vec<u8>, StreamFault>
     ensures bytes { IfOk result (λ v. IfSome (R.remaining reader.old) (λ rest. v.items ≡ bytes.items ++ take 1 rest)) }
-    ensures fault { IfErr result (λ e. (e.why ≡ OutOfMemory) ⊎ ((e.why ≡ ReadFailed e.taken) × (e.taken ≡ length bytes.items))) }
+    ensures fault { IfErr result (λ e. (e.why ≡ OutOfMemory)
+        ⊎ ((e.why ≡ ReadFailed e.taken) × (e.taken ≡ length bytes.items))) }
 {
     let taken = bytes.len();
     let mut next = [0];
@@ -41,7 +43,8 @@ fn read_whole<R: Read>(alloc: Global, reader: &mut R) -> Result<Vec<u8>, StreamF
     // Where it is known what the reader gives, that is the front of it that is an outline, and the byte behind it.
     ensures bytes { IfOk result (λ v. IfSome (R.remaining reader.old) (λ stream. ReadsOn stream v.items)) }
     // Otherwise it has no such front, or memory ran out, or the reader failed.
-    ensures fault { IfErr result (λ e. IfSome (R.remaining reader.old) (λ stream. IsLostOr (OutlineFault stream) e.why)) }
+    ensures fault { IfErr result (λ e. IfSome (R.remaining reader.old)
+        (λ stream. IsLostOr (OutlineFault stream) e.why)) }
 {
     let class = read_class(alloc, reader)?;
     read_behind(class, reader)

@@ -35,36 +35,53 @@ abbrev pub class_file : Rule
 class_file = record (new_rule (codes "CLASS")) { required = true }
 
 abbrev pub known_files : Rule
-known_files = record (new_rule (codes "KNOWN")) { range = Some (record { start_inclusive = 0; end_inclusive = usize_max }) }
+known_files = record (new_rule (codes "KNOWN")) {
+  range =
+      Some (record { start_inclusive = 0; end_inclusive = usize_max });
+}
 
 -- `--dynamic`: by the profile that judges dynamic calls and constants
 abbrev pub dynamic : Rule
 dynamic = record (new_rule (codes "dynamic")) { long = Some (codes "dynamic"); action = Some SetTrue }
 
 abbrev pub verify : Shape
-verify = (with_rule (with_rule (with_rule (with_rule (new_app (codes "verify")) class_file) known_files) dynamic) json).top
+verify = (with_rule (with_rule
+    (with_rule (with_rule (new_app (codes "verify")) class_file) known_files) dynamic) json).top
 
 -- `explain` takes the same words
 abbrev pub explain : Shape
-explain = (with_rule (with_rule (with_rule (with_rule (new_app (codes "explain")) class_file) known_files) dynamic) json).top
+explain = (with_rule (with_rule
+    (with_rule (with_rule (new_app (codes "explain")) class_file) known_files) dynamic) json).top
 
 -- the files of the classes that are in play, of which there is one at least
 abbrev pub class_files : Rule
-class_files = record (new_rule (codes "CLASS")) { required = true; range = Some (record { start_inclusive = 1; end_inclusive = usize_max }) }
+class_files = record (new_rule (codes "CLASS")) {
+  required = true;
+  range =
+      Some (record { start_inclusive = 1; end_inclusive = usize_max });
+}
 
 abbrev pub play : Shape
 play = (with_rule (with_rule (new_app (codes "play")) class_files) dynamic).top
 
 -- any number of files of other classes that they may refer to, behind `--known`
 abbrev pub known_option : Rule
-known_option = record (new_rule (codes "KNOWN")) { long = Some (codes "known"); action = Some Append; range = Some (record { start_inclusive = 1; end_inclusive = usize_max }) }
+known_option = record (new_rule (codes "KNOWN")) {
+  long = Some (codes "known");
+  action = Some Append;
+  range =
+      Some (record { start_inclusive = 1; end_inclusive = usize_max });
+}
 
 abbrev pub verify_each : Shape
 verify_each = (with_rule (with_rule (with_rule (new_app (codes "verify-each")) class_files) known_option) dynamic).top
 
 -- the program itself, which tells its version, and of which a command must be asked
 abbrev pub program : App
-program = record (new_app (codes "classck")) { top = record (new_app (codes "classck")).top { has_version = true; subcommand_required = true } }
+program = record (new_app (codes "classck")) {
+  top =
+      record (new_app (codes "classck")).top { has_version = true; subcommand_required = true };
+}
 
 -- the commands of one file
 abbrev pub line_of_file : App
@@ -105,14 +122,16 @@ form_in rows = if is_true (words_for (codes "json") rows) then Json else Plain
 abbrev pub profile_in : List Row → Profile
 profile_in rows = if is_true (words_for (codes "dynamic") rows) then Dynamic else Default
 
--- the command of a name, with the form, the profile and the classes that the words behind it ask for; `clap` takes no other name than theirs
+-- the command of a name, with the form, the profile and the classes that the words behind it ask for; `clap` takes no
+-- other name than theirs
 abbrev pub command_named : Text → List Row → Command
 command_named name rows =
     if bytes_eq name (codes "show") then Show
     else if bytes_eq name (codes "verify") then Verify (form_in rows) (profile_in rows)
     else if bytes_eq name (codes "explain") then Explain (form_in rows) (profile_in rows)
     else if bytes_eq name (codes "play") then Play (profile_in rows)
-    else if bytes_eq name (codes "verify-each") then VerifyEach (profile_in rows) (length (words_for (codes "CLASS") rows))
+    else if bytes_eq name (codes "verify-each")
+    then VerifyEach (profile_in rows) (length (words_for (codes "CLASS") rows))
     else Check (form_in rows)
 
 -- what the matches of a line ask for
@@ -131,5 +150,6 @@ ToldBy e (NoRequest f) = (f ≡ e) × (kind_of e ≡ kind.OutOfMemory → ⊥)
 
 -- The request of these words, where `clap` takes them; otherwise one of the kinds of fault that it finds in them.
 abbrev pub Asks : List Text → Result Request LineFault → Type 0
-Asks words (Ok r) = (fault_of line words ≡ []) × (asked (subcommand_of line words) ≡ Some (r.command, map string_bytes r.files.items))
+Asks words (Ok r) = (fault_of line words ≡ [])
+    × (asked (subcommand_of line words) ≡ Some (r.command, map string_bytes r.files.items))
 Asks words (Err e) = IsFault (fault_of line words) e

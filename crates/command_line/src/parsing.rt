@@ -177,7 +177,9 @@ fn class_and_known<'a>(alloc: Global, name: &'a str) -> Result<Parser<'a>, Alloc
 
 /// `verify --dynamic --json CLASS KNOWN...`
 fn verify<'a>(alloc: Global) -> Result<Parser<'a>, AllocError>
-    ensures app { IfOk result (λ c. app_of c ≡ with_rule (with_rule (with_rule (with_rule (new_app (codes "verify")) class_file) known_files) dynamic) json) }
+    ensures app { IfOk result (λ c. app_of c
+        ≡ with_rule (with_rule (with_rule
+        (with_rule (new_app (codes "verify")) class_file) known_files) dynamic) json) }
     ensures local { IfOk result (λ c. (out-Command c).has_globals ≡ false) }
 {
     let command = class_and_known(alloc, "verify")?
@@ -192,7 +194,9 @@ fn verify<'a>(alloc: Global) -> Result<Parser<'a>, AllocError>
 
 /// `explain --dynamic --json CLASS KNOWN...`
 fn explain<'a>(alloc: Global) -> Result<Parser<'a>, AllocError>
-    ensures app { IfOk result (λ c. app_of c ≡ with_rule (with_rule (with_rule (with_rule (new_app (codes "explain")) class_file) known_files) dynamic) json) }
+    ensures app { IfOk result (λ c. app_of c
+        ≡ with_rule (with_rule (with_rule
+        (with_rule (new_app (codes "explain")) class_file) known_files) dynamic) json) }
     ensures local { IfOk result (λ c. (out-Command c).has_globals ≡ false) }
 {
     let command = class_and_known(alloc, "explain")?
@@ -253,7 +257,8 @@ fn known_option<'a>(alloc: Global) -> Arg<'a>
 
 /// A command that takes the files of classes and, behind `--known`, those of others.
 fn classes_and_known<'a>(alloc: Global) -> Result<Parser<'a>, AllocError>
-    ensures app { IfOk result (λ c. app_of c ≡ with_rule (with_rule (new_app (codes "verify-each")) class_files) known_option) }
+    ensures app { IfOk result (λ c. app_of c
+        ≡ with_rule (with_rule (new_app (codes "verify-each")) class_files) known_option) }
     ensures local { IfOk result (λ c. (out-Command c).has_globals ≡ false) }
 {
     Parser::new(alloc, "verify-each")
@@ -263,7 +268,8 @@ fn classes_and_known<'a>(alloc: Global) -> Result<Parser<'a>, AllocError>
 
 /// `verify-each --dynamic CLASS... --known KNOWN...`
 fn verify_each<'a>(alloc: Global) -> Result<Parser<'a>, AllocError>
-    ensures app { IfOk result (λ c. app_of c ≡ with_rule (with_rule (with_rule (new_app (codes "verify-each")) class_files) known_option) dynamic) }
+    ensures app { IfOk result (λ c. app_of c
+        ≡ with_rule (with_rule (with_rule (new_app (codes "verify-each")) class_files) known_option) dynamic) }
     ensures local { IfOk result (λ c. (out-Command c).has_globals ≡ false) }
 {
     let command = classes_and_known(alloc)?.arg(dynamic(alloc))?;
@@ -312,7 +318,8 @@ fn parser<'a>(alloc: Global) -> Result<Parser<'a>, AllocError>
 
 /// Adds copies of the words.
 fn add_owned(alloc: Global, words: &[&str], files: &mut Vec<String>) -> Result<(), AllocError>
-    ensures { OnOk result (map string_bytes files.new.items ≡ map string_bytes files.old.items ++ map (λ w. w.now) words.now) }
+    ensures { OnOk result (map string_bytes files.new.items ≡ map string_bytes files.old.items
+        ++ map (λ w. w.now) words.now) }
 {
     for word in words {
         files.push(String::from_str(alloc, word)?)?;
@@ -328,7 +335,8 @@ fn add_words(
     name: &str,
     files: &mut Vec<String>,
 ) -> Result<(), AllocError>
-    ensures { OnOk result (map string_bytes files.new.items ≡ map string_bytes files.old.items ++ words_for name.now (rows_of (found_of found.now))) }
+    ensures { OnOk result (map string_bytes files.new.items ≡ map string_bytes files.old.items
+        ++ words_for name.now (rows_of (found_of found.now))) }
 {
     match found.get_strs(name) {
         Some(words) => add_owned(alloc, words, files),

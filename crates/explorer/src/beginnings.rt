@@ -14,7 +14,8 @@ use std::collections::BTreeMap;
 /// The address of the receiver.
 const RECEIVER: u32 = 1;
 
-/// The status of a receiver: the own object of an instance initialization method is yet to be initialized, but for that of `java/lang/Object`.
+/// The status of a receiver: the own object of an instance initialization method is yet to be initialized, but for that
+/// of `java/lang/Object`.
 fn status_of(method: &CodeMethod<'_, '_>) -> Status {
     if method.is_init && own_class(method) != OBJECT {
         Status::This

@@ -1,6 +1,7 @@
 //! Numbers by chance.
 
-/// A linear congruential generator of 64 bits, with the constants of Knuth's MMIX. Of each of its states the upper half is used.
+/// A linear congruential generator of 64 bits, with the constants of Knuth's MMIX. Of each of its states the upper half
+/// is used.
 #[derive(Drop)]
 pub struct Chance {
     state: u64,

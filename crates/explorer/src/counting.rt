@@ -155,7 +155,8 @@ fn has_code_of(class: &ClassFile<'_>, other: &ClassFile<'_>, number: usize) -> b
     }
 }
 
-/// Whether the method of a number is verified; none where it has no code, or the classes have another in the place of its class.
+/// Whether the method of a number is verified; none where it has no code, or the classes have another in the place of
+/// its class.
 fn is_verified<C: Classes>(
     alloc: Global,
     formed: &Formed<'_, '_>,

@@ -1,9 +1,11 @@
-//! `explorer`: walks the abstract machine through the methods of a class, by choices that are drawn by chance and are the same in each run.
+//! `explorer`: walks the abstract machine through the methods of a class, by choices that are drawn by chance and are
+//! the same in each run.
 //!
-//! The first word is the file of a class, and the others are those of the classes that it may refer to. A method that is verified is walked through
-//! from states in which it may begin, and so are the methods of damaged copies of the class. One line says how many methods that are verified
-//! there were, how many steps were taken in them and how many faults were met, and how many methods that are refused met a fault.
-//! A method that is verified meets none; those that are refused show that the walks come to the places where faults are.
+//! The first word is the file of a class, and the others are those of the classes that it may refer to. A method that
+//! is verified is walked through from states in which it may begin, and so are the methods of damaged copies of the
+//! class. One line says how many methods that are verified there were, how many steps were taken in them and how many
+//! faults were met, and how many methods that are refused met a fault. A method that is verified meets none; those that
+//! are refused show that the walks come to the places where faults are.
 //!
 //! | File | What it has |
 //! |---|---|

@@ -11,7 +11,8 @@ use std::alloc::Global;
 /// How many choices may come to nothing in a state before another beginning is looked for.
 const PATIENCE: usize = 100;
 
-/// The surroundings of a walk: the method as the class has it and as the machine takes it, its instructions, and the types of which objects are made.
+/// The surroundings of a walk: the method as the class has it and as the machine takes it, its instructions, and the
+/// types of which objects are made.
 #[derive(Drop)]
 pub struct Scene<'e, 'c, 'a, C: Classes> {
     pub declared: &'e CodeMethod<'c, 'a>,

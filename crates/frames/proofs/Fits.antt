@@ -11,7 +11,7 @@ use Rattle.frames.specs.Slots.{units_of}
 use Rattle.frames.specs.Assignable.{type_answer}
 use Rattle.frames.specs.FrameAssignable.{both, slot_answer, list_answer}
 use Rattle.frames.specs.HeldFrames.{held_locals}
-use Rattle.frames.specs.Chains.{link_at, types_at, AreLinked, FitsAt, chain_answer, place}
+use Rattle.frames.specs.TypeChains.{link_at, types_at, AreLinked, FitsAt, chain_answer, place}
 use Rattle.frames.specs.DeclaredViews.{locals_at, fact_of}
 use Rattle.frames.specs.DeclaredTables.{declared_view, IsOf}
 use Rattle.frames.specs.declared.chain.Link.{Link}
@@ -19,7 +19,7 @@ use Rattle.frames.specs.declared.declared_frames.DeclaredFrames.{DeclaredFrames}
 use Rattle.frames.specs.declared.declared_frames.Declared.{Declared}
 use Rattle.frames.specs.declared.fitting.Fitting.{Fitting}
 use Rattle.frames.specs.Fitting.{IsMarked, IsSeen, HasChanged, AreFitBut, FitAll, AreFitting, AreFittingFor, AreSameBut}
-use Rattle.frames.proofs.Chains.{types_step, types_bottom}
+use Rattle.frames.proofs.TypeChains.{types_step, types_bottom}
 use Rattle.frames.proofs.Walks.{locals_walked}
 use Rattle.frames.proofs.Finding.{locals_filled}
 use Rattle.frames.proofs.Comparison.{get_padded, padded, held_length}

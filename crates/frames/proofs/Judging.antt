@@ -10,7 +10,7 @@ use Rattle.frames.specs.DeclaredFrames.{any_info}
 use Rattle.frames.specs.declared.stack_map.TypeInfo.{TypeInfo as Info}
 use Rattle.hierarchy.proofs.Names.{none_some}
 use Rattle.frames.specs.Slots.{units_of, in_locals}
-use Rattle.frames.specs.Chains.{types_at}
+use Rattle.frames.specs.TypeChains.{types_at}
 use Rattle.frames.specs.DeclaredViews.{locals_at}
 use Rattle.frames.specs.declared.chain.Link.{Link}
 use Rattle.frames.proofs.Walks.{units_in}

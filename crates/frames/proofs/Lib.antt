@@ -10,7 +10,7 @@ pub mod Frames
 pub mod Differences
 mod Examples
 pub mod Steps
-pub mod Chains
+pub mod TypeChains
 pub mod Leaving
 pub mod Walks
 pub mod Judging

@@ -6,7 +6,7 @@ use Rattle.std.proofs.lemmas.List.{reverse-append, get_or_append_left, get_or-ap
 use Rattle.frames.specs.VerificationType.{VerificationType, type_of, top}
 use Rattle.frames.specs.Slots.{is_wide, units_of, in_locals}
 use Rattle.frames.specs.FrameAssignable.{width_of}
-use Rattle.frames.specs.Chains.{link_at, types_at, AreLinked, IsOn, local_in, one_set, AreTopFrom, AreBelow, AreOfChain, AreWritten}
+use Rattle.frames.specs.TypeChains.{link_at, types_at, AreLinked, IsOn, local_in, one_set, AreTopFrom, AreBelow, AreOfChain, AreWritten}
 use Rattle.frames.specs.DeclaredViews.{locals_at, fact_of, IsInside}
 use Rattle.frames.specs.DeclaredTables.{declared_view, AreOfOne, AreKept}
 use Rattle.frames.specs.Locals.{local, locals_in}
@@ -14,7 +14,7 @@ use Rattle.frames.specs.declared.chain.Link.{Link}
 use Rattle.frames.specs.declared.after.FrameTops.{FrameTops}
 use Rattle.frames.specs.declared.locals.Locals.{Locals}
 use Rattle.frames.specs.declared.declared_frames.Declared.{Declared}
-use Rattle.frames.proofs.Chains.{types_step}
+use Rattle.frames.proofs.TypeChains.{types_step}
 use Rattle.frames.proofs.Sharing.{types_on}
 use Rattle.frames.proofs.Walks.{in_append, in_top, units_in, width_is}
 use Rattle.frames.proofs.Finding.{locals_filled}

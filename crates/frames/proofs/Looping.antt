@@ -12,13 +12,13 @@ use Rattle.frames.specs.Conditions.{Reason, reason, least}
 use Rattle.frames.specs.FrameReasons.{frame_fault_number}
 use Rattle.frames.specs.StackMaps.{MapEntry}
 use Rattle.frames.specs.DeclaredFrames.{locals_of, stack_of, delta_of, offset_of, frame_with, frame_before, declared_from, any_info, infos_of, names_nothing, names_no_class, is_made_nowhere, chops_more, entry_conditions}
-use Rattle.frames.specs.Chains.{types_at, AreLinked}
+use Rattle.frames.specs.TypeChains.{types_at, AreLinked}
 use Rattle.frames.specs.DeclaredViews.{locals_at, fact_of, facts_of, IsInside, AreInside, Made}
 use Rattle.frames.specs.Judging.{told, front_of, against, Declared}
 use Rattle.frames.specs.declared.chain.Link.{Link}
 use Rattle.frames.specs.declared.after.FrameTops.{FrameTops}
 use Rattle.frames.specs.declared.frame_fault.FrameFault.{FrameFault}
-use Rattle.frames.proofs.Chains.{get_cases, types_kept}
+use Rattle.frames.proofs.TypeChains.{get_cases, types_kept}
 use Rattle.frames.proofs.Leaving.{locals_kept}
 use Rattle.frames.proofs.Judging.{within, units_in_locals}
 

@@ -14,8 +14,8 @@ use Rattle.insn.specs.Readings.{or_none, instructions_in}
 use Rattle.insn.specs.Views.{view, views}
 use Rattle.insn.proofs.CodeLaws.{SoFar, told_step, told_fault, code_step, code_whole, shorter, has_bytes}
 use Rattle.insn.proofs.Readings.{only_reading}
-use Rattle.frames.specs.declared.code_starts.Mark.{Mark}
-use Rattle.frames.specs.declared.code_starts.Mark.TheVariants.{Inside}
+use Rattle.frames.specs.declared.code_starts.StartKind.{StartKind}
+use Rattle.frames.specs.declared.code_starts.StartKind.TheVariants.{Inside}
 use Rattle.frames.specs.DeclaredFrames.{is_new}
 use Rattle.frames.specs.Marks.{IsMark, AreMarks, AreClear}
 
@@ -44,17 +44,17 @@ last_here (y ∷ xs) x k free e = by (eqb y.0 k) free (λ f. last_here xs x k f 
     by false f g = g f
 
 -- the bytes in front of the cursor are marked
-pub record Marking (code : List ℕ) (p : Place) (marks : List Mark) : Type 0 where
+pub record Marking (code : List ℕ) (p : Place) (marks : List StartKind) : Type 0 where
   pub done : List (ℕ × Instruction)
   pub so_far : SoFar code p done
   pub right : AreMarks marks (acts done)
   pub beyond : (k : ℕ) → p.at ≤ k → at_offset (acts done) k ≡ None
   pub long : length marks ≡ length code
 
-pub clear_marked : (marks : List Mark) → AreClear marks → AreMarks marks []
-clear_marked marks h k = subst (λ (x : Mark). IsMark x None) (sym (h k)) (record { start = refl; new = refl; index = refl })
+pub clear_marked : (marks : List StartKind) → AreClear marks → AreMarks marks []
+clear_marked marks h k = subst (λ (x : StartKind). IsMark x None) (sym (h k)) (record { start = refl; new = refl; index = refl })
 
-pub marking_first : (code : List ℕ) (p : Place) (marks : List Mark) → p ≡ record { at = 0; rest = code } → AreClear marks → length marks ≡ length code → Marking code p marks
+pub marking_first : (code : List ℕ) (p : Place) (marks : List StartKind) → p ≡ record { at = 0; rest = code } → AreClear marks → length marks ≡ length code → Marking code p marks
 marking_first code p marks e h long =
     subst (λ (q : Place). Marking code q marks) (sym e) (record {
       done = [];
@@ -64,7 +64,7 @@ marking_first code p marks e h long =
       long = long;
     })
 
-module _ (code : List ℕ) (old new : Place) (marks : List Mark) (step : Result (ℕ × Option ℕ) CodeFault) (x : ℕ × Option ℕ) (now : Marking code old marks) (stepped : StepsBy (λ (y : ℕ × Option ℕ). y) by_made old (Some step) new) (is : step ≡ Ok x) where
+module _ (code : List ℕ) (old new : Place) (marks : List StartKind) (step : Result (ℕ × Option ℕ) CodeFault) (x : ℕ × Option ℕ) (now : Marking code old marks) (stepped : StepsBy (λ (y : ℕ × Option ℕ). y) by_made old (Some step) new) (is : step ≡ Ok x) where
   told : (i : Instruction) × (x ≡ by_made (old.at, i)) × StepsThrough (λ (y : ℕ × Instruction). y) old (Some (Ok (old.at, i))) new
   told = told_step (λ (y : ℕ × Option ℕ). y) by_made old new step x stepped is
 
@@ -97,17 +97,17 @@ module _ (code : List ℕ) (old new : Place) (marks : List Mark) (step : Result 
   free : at_offset (acts now.done) x.0 ≡ None
   free = now.beyond x.0 (omega (arith, start))
 
-  right_here : (m : Mark) → IsMark m (Some (act instruction)) → IsMark (get_or (set marks x.0 m) x.0 Inside) (at_offset (acts now.done ++ (x.0, act instruction) ∷ []) x.0)
+  right_here : (m : StartKind) → IsMark m (Some (act instruction)) → IsMark (get_or (set marks x.0 m) x.0 Inside) (at_offset (acts now.done ++ (x.0, act instruction) ∷ []) x.0)
   right_here m h =
       let same : eqb x.0 x.0 ≡ true = grind (arith, nat_tests) in
       rw (get_or-set_same marks x.0 m Inside marking_within, last_here (acts now.done) (x.0, act instruction) x.0 free same) h
 
-  right_there : (m : Mark) (k : ℕ) → k ≢ x.0 → IsMark (get_or (set marks x.0 m) k Inside) (at_offset (acts now.done ++ (x.0, act instruction) ∷ []) k)
+  right_there : (m : StartKind) (k : ℕ) → k ≢ x.0 → IsMark (get_or (set marks x.0 m) k Inside) (at_offset (acts now.done ++ (x.0, act instruction) ∷ []) k)
   right_there m k other =
       let differs : eqb x.0 k ≡ false = grind (arith, nat_tests, other) in
       rw (get_or-set_other marks x.0 k m Inside other, last_other (acts now.done) (x.0, act instruction) k differs) (now.right k)
 
-  right_at : (m : Mark) → IsMark m (Some (act instruction)) → (k : ℕ) → IsMark (get_or (set marks x.0 m) k Inside) (at_offset (acts now.done ++ (x.0, act instruction) ∷ []) k)
+  right_at : (m : StartKind) → IsMark m (Some (act instruction)) → (k : ℕ) → IsMark (get_or (set marks x.0 m) k Inside) (at_offset (acts now.done ++ (x.0, act instruction) ∷ []) k)
   right_at m h k = by (cases_eq k x.0)
     where
       by : (k ≡ x.0) ⊎ (k ≢ x.0) → IsMark (get_or (set marks x.0 m) k Inside) (at_offset (acts now.done ++ (x.0, act instruction) ∷ []) k)
@@ -120,7 +120,7 @@ module _ (code : List ℕ) (old new : Place) (marks : List Mark) (step : Result 
       let differs : eqb x.0 k ≡ false = grind (arith, nat_tests, longer, le) in
       last_other (acts now.done) (x.0, act instruction) k differs ∙ now.beyond k (omega (arith, longer, start, le))
 
-  pub marking_next : (m : Mark) → ((a : Act) → x.1 ≡ made_index a → IsMark m (Some a)) → Marking code new (set marks x.0 m)
+  pub marking_next : (m : StartKind) → ((a : Act) → x.1 ≡ made_index a → IsMark m (Some a)) → Marking code new (set marks x.0 m)
   marking_next m marked = let h = marked (act instruction) made in record {
     done = now.done ++ (x.0, instruction) ∷ [];
     so_far = code_step code now.done (now.done ++ (x.0, instruction) ∷ []) old new (x.0, instruction) now.so_far start refl (read.1, read.2, read.3);
@@ -131,20 +131,20 @@ module _ (code : List ℕ) (old new : Place) (marks : List Mark) (step : Result 
 
 -- ---- the end
 
-pub marking_last : (code : List ℕ) (p : Place) (marks : List Mark) → Marking code p marks → p.rest ≡ [] → AreMarks marks (acts (instructions_in code))
+pub marking_last : (code : List ℕ) (p : Place) (marks : List StartKind) → Marking code p marks → p.rest ≡ [] → AreMarks marks (acts (instructions_in code))
 marking_last code p marks now end =
     let whole = code_whole code now.done p now.so_far (ap (λ (l : List ℕ). length l) end) in
     subst (λ (xs : List (ℕ × Instruction)). AreMarks marks (acts xs)) (sym (ap or_none (only_reading code (Ok now.done) whole))) now.right
 
-pub marking_spells : (code : List ℕ) (p : Place) (marks : List Mark) → Marking code p marks → p.rest ≡ [] → (xs : List (ℕ × Instruction)) × SpellsCode 0 code xs
+pub marking_spells : (code : List ℕ) (p : Place) (marks : List StartKind) → Marking code p marks → p.rest ≡ [] → (xs : List (ℕ × Instruction)) × SpellsCode 0 code xs
 marking_spells code p marks now end = (now.done, code_whole code now.done p now.so_far (ap (λ (l : List ℕ). length l) end))
 
-pub marking_fault : (code : List ℕ) (old new : Place) (marks : List Mark) (step : Result (ℕ × Option ℕ) CodeFault) (e : CodeFault) → Marking code old marks → StepsBy (λ (y : ℕ × Option ℕ). y) by_made old (Some step) new → step ≡ Err e → FaultyCode code e
+pub marking_fault : (code : List ℕ) (old new : Place) (marks : List StartKind) (step : Result (ℕ × Option ℕ) CodeFault) (e : CodeFault) → Marking code old marks → StepsBy (λ (y : ℕ × Option ℕ). y) by_made old (Some step) new → step ≡ Err e → FaultyCode code e
 marking_fault code old new marks step e now stepped is = told_fault (λ (y : ℕ × Option ℕ). y) by_made code now.done old new step e now.so_far stepped is
 
 -- ---- a list from its end
 
-pub marked_front : (marks : List Mark) (x : ℕ × Act) (xs : List (ℕ × Act)) (m : Mark) → x.0 < length marks → IsMark m (Some x.1) → AreMarks marks xs → AreMarks (set marks x.0 m) (x ∷ xs)
+pub marked_front : (marks : List StartKind) (x : ℕ × Act) (xs : List (ℕ × Act)) (m : StartKind) → x.0 < length marks → IsMark m (Some x.1) → AreMarks marks xs → AreMarks (set marks x.0 m) (x ∷ xs)
 marked_front marks x xs m lt h rest k = by (cases_eq k x.0)
   where
     by : (k ≡ x.0) ⊎ (k ≢ x.0) → IsMark (get_or (set marks x.0 m) k Inside) (at_offset (x ∷ xs) k)
@@ -156,7 +156,7 @@ marked_front marks x xs m lt h rest k = by (cases_eq k x.0)
         let differs : eqb x.0 k ≡ false = grind (arith, nat_tests, other) in
         rw (get_or-set_other marks x.0 k m Inside other, differs) (rest k)
 
-pub marked_from : (list : List (ℕ × Insn)) (i : ℕ) (marks : List Mark) (d : ℕ × Insn) (m : Mark) (at : ℕ) → 0 < i → i ≤ length list → at ≡ (get_or list (i - 1) d).0 → at < length marks
+pub marked_from : (list : List (ℕ × Insn)) (i : ℕ) (marks : List StartKind) (d : ℕ × Insn) (m : StartKind) (at : ℕ) → 0 < i → i ≤ length list → at ≡ (get_or list (i - 1) d).0 → at < length marks
     → IsMark m (Some (act (view (get_or list (i - 1) d).1))) → AreMarks marks (acts (views (drop i list))) → AreMarks (set marks at m) (acts (views (drop (i - 1) list)))
 marked_from list i marks d m at more le e lt h rest =
     let x = get_or list (i - 1) d in

@@ -5,7 +5,7 @@ use Rattle.std.proofs.lemmas.Bool.Decides.{nat_tests, eqb_tells}
 use Rattle.frames.specs.VerificationType.{VerificationType, top}
 use Rattle.frames.specs.FrameAssignable.{width_of}
 use Rattle.frames.specs.Slots.{is_wide, units_of}
-use Rattle.frames.specs.Chains.{types_at, type_at_unit, local_in}
+use Rattle.frames.specs.TypeChains.{types_at, type_at_unit, local_in}
 use Rattle.frames.specs.DeclaredTables.{declared_view}
 use Rattle.frames.specs.declared.declared_frames.Declared.{Declared}
 use Rattle.frames.proofs.LocalWrites.{in_lower, in_past, in_here, in_half, fact_local}

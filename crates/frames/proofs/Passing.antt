@@ -3,7 +3,7 @@ use Rattle.std.proofs.Common.{◌≡◌, ◌∙◌, ℕ, zero, suc, ◌-◌, ◌
 use Rattle.std.proofs.lemmas.List.{length-replicate, reverse-append, take-append-le, drop-replicate}
 use Rattle.frames.specs.VerificationType.{VerificationType, top}
 use Rattle.frames.specs.Slots.{units_of, in_locals}
-use Rattle.frames.specs.Chains.{types_at, AreLinked, IsOn}
+use Rattle.frames.specs.TypeChains.{types_at, AreLinked, IsOn}
 use Rattle.frames.specs.DeclaredViews.{locals_at, fact_of}
 use Rattle.frames.specs.DeclaredTables.{declared_view, AreOfOne}
 use Rattle.frames.specs.Fitting.{AreSameBut}

@@ -10,13 +10,13 @@ use Rattle.frames.specs.Assignable.{type_answer}
 use Rattle.frames.specs.FrameAssignable.{both, slot_answer, item_answer, list_answer, stack_answer, flag_answer, frame_answer}
 use Rattle.frames.specs.FrameFact.{FrameFact}
 use Rattle.frames.specs.HeldFrames.{held_locals}
-use Rattle.frames.specs.Chains.{link_at, types_at, below_of, down, AreLinked, IsOn, LeadsTo, chain_answer, place}
+use Rattle.frames.specs.TypeChains.{link_at, types_at, below_of, down, AreLinked, IsOn, LeadsTo, chain_answer, place}
 use Rattle.frames.specs.DeclaredViews.{locals_at, fact_of, IsInside}
 use Rattle.frames.specs.DeclaredTables.{declared_view, IsOf, AreOfOne, AreFit}
 use Rattle.frames.specs.declared.chain.Link.{Link}
 use Rattle.frames.specs.declared.declared_frames.DeclaredFrames.{DeclaredFrames}
 use Rattle.frames.specs.declared.declared_frames.Declared.{Declared}
-use Rattle.frames.proofs.Chains.{linked_lower, linked_jump, link_nowhere, types_step, types_none, types_bottom}
+use Rattle.frames.proofs.TypeChains.{linked_lower, linked_jump, link_nowhere, types_step, types_none, types_bottom}
 use Rattle.frames.proofs.Frames.{list_itself}
 use Rattle.frames.proofs.Walks.{locals_walked}
 use Rattle.frames.proofs.Finding.{locals_filled}

@@ -8,7 +8,7 @@ use Rattle.hierarchy.specs.Class.{ClassFact}
 use Rattle.hierarchy.specs.Answer.{yes}
 use Rattle.frames.specs.VerificationType.{VerificationType, top}
 use Rattle.frames.specs.FrameAssignable.{slot_answer}
-use Rattle.frames.specs.Chains.{types_at, chain_answer, place}
+use Rattle.frames.specs.TypeChains.{types_at, chain_answer, place}
 use Rattle.frames.specs.DeclaredTables.{IsOf}
 use Rattle.frames.specs.declared.declared_frames.DeclaredFrames.{DeclaredFrames}
 use Rattle.frames.specs.declared.declared_frames.Declared.{Declared}

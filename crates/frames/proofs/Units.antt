@@ -4,9 +4,9 @@ use Rattle.std.proofs.lemmas.Bool.Decides.{nat_tests}
 use Rattle.frames.specs.VerificationType.{VerificationType, type_of, top, int, float, long, double, null, class, array, uninit_this, uninit}
 use Rattle.frames.specs.Slots.{units_of}
 use Rattle.frames.specs.FrameAssignable.{width_of}
-use Rattle.frames.specs.Chains.{link_at, types_at, type_at_unit, AreLinked, IsOn}
+use Rattle.frames.specs.TypeChains.{link_at, types_at, type_at_unit, AreLinked, IsOn}
 use Rattle.frames.specs.declared.chain.Link.{Link}
-use Rattle.frames.proofs.Chains.{types_step, types_none}
+use Rattle.frames.proofs.TypeChains.{types_step, types_none}
 use Rattle.frames.proofs.Sharing.{types_on}
 
 pub not_empty : (t : VerificationType) → 1 ≤ width_of t

@@ -1,4 +1,5 @@
--- When a type may stand where another is wanted (JVMS 4.10.1.2), as an answer that computes: yes, no, or the class that would be needed and is absent.
+-- When a type may stand where another is wanted (JVMS 4.10.1.2), as an answer that computes: yes, no, or the class that
+-- would be needed and is absent.
 use Rattle.std.specs.Prelude.{◌==◌, ◌||◌, ℕ, List, Option, Some, None, Bool, true, false, if◌then◌else◌}
 use Rattle.std.specs.Str.{bytes_eq}
 use Rattle.names.specs.declared.base.Primitive.{Primitive}

@@ -20,5 +20,6 @@ AreAlike _ _ = ⊥
 -- of each stack map
 abbrev pub FormsAgree : Type 0
 FormsAgree =
-    (answer : Result (List (ℕ × FrameFact)) Reason) (r : Result DeclaredFrames FrameFault) (s : Result (Vec (ℕ × Frame) Global) FrameFault)
+    (answer : Result (List (ℕ × FrameFact)) Reason) (r : Result DeclaredFrames FrameFault)
+    (s : Result (Vec (ℕ × Frame) Global) FrameFault)
     → IsDeclared answer r → AreTold answer s → AreAlike r s

@@ -123,7 +123,8 @@ chops_more _ before = false
 -- ---- the frames
 
 module _ (pool : List Entry) (code : List (ℕ × Act)) (max_locals max_stack : ℕ) where
-  abbrev pub entry_conditions : ℕ → MapEntry → List VerificationType → List VerificationType → List VerificationType → Conditions
+  abbrev pub entry_conditions : ℕ → MapEntry → List VerificationType → List VerificationType → List VerificationType
+      → Conditions
   entry_conditions at e before locals stack =
       (reason bad_index, any_info (names_nothing pool) (infos_of e))
       ∷ (reason wrong_kind, any_info (names_no_class pool) (infos_of e))
@@ -135,23 +136,30 @@ module _ (pool : List Entry) (code : List (ℕ × Act)) (max_locals max_stack : 
       ∷ []
 
   abbrev pub frame_with : List VerificationType → List VerificationType → FrameFact
-  frame_with locals stack = record { locals = all_locals max_locals locals; stack = stack; flag = has_uninit_this locals }
+  frame_with locals stack = record {
+    locals = all_locals max_locals locals;
+    stack = stack;
+    flag =
+        has_uninit_this locals;
+  }
 
   -- a frame in front of others, unless there is a reason against it
-  abbrev pub frame_before : Option Reason → ℕ → FrameFact → Result (List (ℕ × FrameFact)) Reason → Result (List (ℕ × FrameFact)) Reason
+  abbrev pub frame_before : Option Reason → ℕ → FrameFact → Result (List (ℕ × FrameFact)) Reason
+      → Result (List (ℕ × FrameFact)) Reason
   frame_before (Some r) at frame others = Err r
   frame_before None at frame (Ok others) = Ok ((at, frame) ∷ others)
   frame_before None at frame (Err r) = Err r
 
-  -- The frames that entries declare, each with its offset, or the reason against the first that is refused. `before` is the
-  -- offset of the entry in front of them, and the locals are those that it left.
+  -- The frames that entries declare, each with its offset, or the reason against the first that is refused. `before` is
+  -- the offset of the entry in front of them, and the locals are those that it left.
   abbrev pub declared_from : Option ℕ → List VerificationType → List MapEntry → Result (List (ℕ × FrameFact)) Reason
   declared_from before locals [] = Ok []
   declared_from before locals (e ∷ es) =
       let at = offset_of before e in
       let now = locals_of pool locals e in
       let stack = stack_of pool e in
-      frame_before (least (entry_conditions at e locals now stack)) at (frame_with now stack) (declared_from (Some at) now es)
+      frame_before (least (entry_conditions at e locals now stack)) at (frame_with now stack)
+      (declared_from (Some at) now es)
 
   -- the frames of a stack map, whose locals begin as the receiver and the parameters
   abbrev pub declared_frames : List VerificationType → List MapEntry → Result (List (ℕ × FrameFact)) Reason

@@ -42,7 +42,8 @@ pub record AreKept (other : Declared) (locals : List VerificationType) (kept : D
   pub same : locals ≡ (declared_view kept).locals
 
 -- locals may stand where those of a frame are declared that stands in one table with another
-pub record AreFit (classes : List ClassFact) (other : Declared) (locals : List VerificationType) (fits : Declared) : Type 0 where
+pub record AreFit (classes : List ClassFact) (other : Declared) (locals : List VerificationType)
+    (fits : Declared) : Type 0 where
   pub of_one : AreOfOne fits other
   pub answer : list_answer (type_answer classes) locals (declared_view fits).locals ≡ yes
 

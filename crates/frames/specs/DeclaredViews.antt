@@ -6,7 +6,7 @@ use Rattle.frames.specs.VerificationType.{VerificationType}
 use Rattle.frames.specs.Slots.{units_of, all_locals}
 use Rattle.frames.specs.FrameFact.{FrameFact}
 use Rattle.frames.specs.DeclaredFrames.{has_uninit_this, locals_of, stack_of}
-use Rattle.frames.specs.Chains.{types_at}
+use Rattle.frames.specs.TypeChains.{types_at}
 use Rattle.frames.specs.declared.chain.Link.{Link}
 use Rattle.frames.specs.declared.after.FrameTops.{FrameTops}
 
@@ -15,7 +15,12 @@ unfoldable pub locals_at : List Link → ℕ → List VerificationType
 locals_at links here = reverse (types_at links here)
 
 unfoldable pub fact_of : List Link → ℕ → FrameTops → FrameFact
-fact_of links max_locals f = record { locals = all_locals max_locals (locals_at links f.locals); stack = types_at links f.stack; flag = has_uninit_this (locals_at links f.locals) }
+fact_of links max_locals f = record {
+  locals = all_locals max_locals (locals_at links f.locals);
+  stack =
+      types_at links f.stack;
+  flag = has_uninit_this (locals_at links f.locals);
+}
 
 unfoldable pub facts_of : List Link → ℕ → List FrameTops → List (ℕ × FrameFact)
 facts_of links max_locals frames = map (λ f. (f.at, fact_of links max_locals f)) frames

@@ -30,9 +30,11 @@ is_no no = true
 is_no (missing _) = false
 
 -- the first place of two lists, of which the first types stand at this place, where the answer is no
-abbrev pub first_mismatch : (VerificationType → VerificationType → Outcome) → ℕ → List VerificationType → List VerificationType → Option MismatchFact
+abbrev pub first_mismatch : (VerificationType → VerificationType → Outcome) → ℕ → List VerificationType
+    → List VerificationType → Option MismatchFact
 first_mismatch answer place (x ∷ xs) (y ∷ ys) =
-    if is_no (answer x y) then Some (record { place = place; from = x; to = y }) else first_mismatch answer (suc place) xs ys
+    if is_no (answer x y) then Some (record { place = place; from = x; to = y })
+    else first_mismatch answer (suc place) xs ys
 first_mismatch answer place _ _ = None
 
 abbrev pub flag_difference : Bool → Bool → Option DifferenceFact
@@ -47,12 +49,15 @@ local_difference classes xs ys = option_map local (first_mismatch (type_answer c
 
 -- of stacks with their bottoms first: the numbers of items, and then the items
 abbrev pub stack_difference : List ClassFact → List VerificationType → List VerificationType → Option DifferenceFact
-stack_difference classes xs ys = option_or (size_difference (length xs) (length ys)) (option_map item (first_mismatch (item_answer classes) 0 xs ys))
+stack_difference classes xs ys =
+    option_or (size_difference (length xs) (length ys)) (option_map item (first_mismatch (item_answer classes) 0 xs ys))
 
 -- of one frame from another: the flag first, then the locals, and then the stack
 abbrev pub first_difference : List ClassFact → FrameFact → FrameFact → Option DifferenceFact
 first_difference classes f g =
-    option_or (flag_difference f.flag g.flag) (option_or (local_difference classes f.locals g.locals) (stack_difference classes (reverse f.stack) (reverse g.stack)))
+    option_or (flag_difference f.flag g.flag)
+    (option_or (local_difference classes f.locals g.locals)
+    (stack_difference classes (reverse f.stack) (reverse g.stack)))
 
 -- ---- what values of the program stand for
 

@@ -4,7 +4,7 @@ use Rattle.hierarchy.specs.Class.{ClassFact}
 use Rattle.hierarchy.specs.Answer.{yes}
 use Rattle.frames.specs.VerificationType.{VerificationType, top}
 use Rattle.frames.specs.FrameAssignable.{slot_answer}
-use Rattle.frames.specs.Chains.{types_at, place}
+use Rattle.frames.specs.TypeChains.{types_at, place}
 use Rattle.frames.specs.DeclaredTables.{IsOf}
 use Rattle.frames.specs.declared.declared_frames.DeclaredFrames.{DeclaredFrames}
 use Rattle.frames.specs.declared.declared_frames.Declared.{Declared}
@@ -31,23 +31,30 @@ pub record HasChanged (x : Fitting) (moment index : ℕ) : Type 0 where
 
 -- ---- what is known
 
--- Where each type of a chain stands, on the stack by items and in locals by units, the slot there may stand for it or has changed.
-abbrev pub AreFitBut : (on_stack : Bool) → (ℕ → Type 0) → List ClassFact → List VerificationType → List VerificationType → Type 0
+-- Where each type of a chain stands, on the stack by items and in locals by units, the slot there may stand for it or
+-- has changed.
+abbrev pub AreFitBut : (on_stack : Bool) → (ℕ → Type 0) → List ClassFact → List VerificationType → List VerificationType
+    → Type 0
 AreFitBut on_stack changed classes slots [] = Unit {0}
 AreFitBut on_stack changed classes slots (t ∷ ts) =
-    AreFitBut on_stack changed classes slots ts × (changed (place on_stack ts) ⊎ (slot_answer classes on_stack (get_or slots (place on_stack ts) top) t ≡ yes))
+    AreFitBut on_stack changed classes slots ts
+    × (changed (place on_stack ts) ⊎ (slot_answer classes on_stack (get_or slots (place on_stack ts) top) t ≡ yes))
 
 -- it may stand for each
 abbrev pub FitAll : (on_stack : Bool) → List ClassFact → List VerificationType → List VerificationType → Type 0
 FitAll on_stack classes slots ts = AreFitBut on_stack (λ index. ⊥) classes slots ts
 
--- Locals fit each marked chain of a table but for those that changed since its mark, and no mark is of a moment to come.
-pub record AreFitting (classes : List ClassFact) (t : DeclaredFrames) (locals : List VerificationType) (x : Fitting) : Type 0 where
+-- Locals fit each marked chain of a table but for those that changed since its mark, and no mark is of a moment to
+-- come.
+pub record AreFitting (classes : List ClassFact) (t : DeclaredFrames) (locals : List VerificationType)
+    (x : Fitting) : Type 0 where
   pub early : (link moment : ℕ) → slice_get x.marks.items link ≡ Some (Some moment) → moment ≤ length x.changes.items
-  pub fit : (link moment : ℕ) → IsMarked x link moment → AreFitBut false (HasChanged x moment) classes locals (types_at t.chains.links.items (suc link))
+  pub fit : (link moment : ℕ) → IsMarked x link moment
+      → AreFitBut false (HasChanged x moment) classes locals (types_at t.chains.links.items (suc link))
 
 -- the same of the table that a declared frame is of
-pub record AreFittingFor (classes : List ClassFact) (d : Declared) (locals : List VerificationType) (x : Fitting) : Type 0 where
+pub record AreFittingFor (classes : List ClassFact) (d : Declared) (locals : List VerificationType)
+    (x : Fitting) : Type 0 where
   pub table : DeclaredFrames
   pub own : IsOf table d
   pub fitting : AreFitting classes table locals x

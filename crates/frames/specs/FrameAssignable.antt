@@ -30,13 +30,15 @@ slot_answer classes false = type_answer classes
 slot_answer classes true = item_answer classes
 
 -- slots one by one, the first ones first
-abbrev pub list_answer : (VerificationType → VerificationType → Outcome) → List VerificationType → List VerificationType → Outcome
+abbrev pub list_answer : (VerificationType → VerificationType → Outcome) → List VerificationType → List VerificationType
+    → Outcome
 list_answer answer [] [] = yes
 list_answer answer (x ∷ xs) (y ∷ ys) = both (answer x y) (list_answer answer xs ys)
 list_answer answer _ _ = no
 
 -- items of two stacks with their tops first, the bottom ones first
-abbrev pub stack_answer : (VerificationType → VerificationType → Outcome) → List VerificationType → List VerificationType → Outcome
+abbrev pub stack_answer : (VerificationType → VerificationType → Outcome) → List VerificationType
+    → List VerificationType → Outcome
 stack_answer answer [] [] = yes
 stack_answer answer (x ∷ xs) (y ∷ ys) = both (stack_answer answer xs ys) (answer x y)
 stack_answer answer _ _ = no
@@ -49,4 +51,6 @@ flag_answer _ _ = yes
 -- one frame to another
 abbrev pub frame_answer : List ClassFact → FrameFact → FrameFact → Outcome
 frame_answer classes f g =
-    both (flag_answer f.flag g.flag) (both (list_answer (type_answer classes) f.locals g.locals) (stack_answer (item_answer classes) f.stack g.stack))
+    both (flag_answer f.flag g.flag)
+    (both (list_answer (type_answer classes) f.locals g.locals)
+    (stack_answer (item_answer classes) f.stack g.stack))

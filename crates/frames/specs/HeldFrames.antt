@@ -10,4 +10,5 @@ held_locals locals max_locals = map type_of locals ++ replicate (max_locals - le
 
 -- the stack from the bottom up
 abbrev pub held_frame : List VType → ℕ → List VType → Bool → FrameFact
-held_frame locals max_locals stack flag = record { locals = held_locals locals max_locals; stack = reverse (map type_of stack); flag = flag }
+held_frame locals max_locals stack flag =
+    record { locals = held_locals locals max_locals; stack = reverse (map type_of stack); flag = flag }

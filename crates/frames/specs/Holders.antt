@@ -1,4 +1,5 @@
--- The places, of locals or of an operand stack, that came to hold each object that is not initialized. Words of the code's own steps.
+-- The places, of locals or of an operand stack, that came to hold each object that is not initialized. Words of the
+-- code's own steps.
 use Rattle.std.specs.Prelude.{◌≡◌, ◌≤◌, ℕ, zero, suc, ◌-◌, List, get_or, Option, Some, None, slice_get, nat_eq, if◌then◌else◌}
 use Rattle.frames.specs.VerificationType.{VerificationType, top, int, float, long, double, null, class, array, uninit_this, uninit}
 use Rattle.frames.specs.declared.holders.Holder.{Holder}

@@ -10,7 +10,7 @@ use Rattle.frames.specs.Conditions.{Reason, reason, least}
 use Rattle.frames.specs.FrameReasons.{frame_fault_number}
 use Rattle.frames.specs.StackMaps.{TypeInfo, MapEntry}
 use Rattle.frames.specs.DeclaredFrames.{names_nothing, names_no_class, is_made_nowhere, offset_of, locals_of, stack_of, entry_conditions}
-use Rattle.frames.specs.Chains.{types_at}
+use Rattle.frames.specs.TypeChains.{types_at}
 use Rattle.frames.specs.DeclaredViews.{locals_at, facts_of, AreInside, Made}
 use Rattle.frames.specs.declared.chain.Link.{Link}
 use Rattle.frames.specs.declared.after.FrameTops.{FrameTops}
@@ -39,23 +39,29 @@ front_of (suc n) = Some n
 -- the least reason against an entry, by the first offset behind those in front and the locals that they leave
 abbrev pub against : List Entry → List (ℕ × Act) → ℕ → ℕ → ℕ → List VerificationType → MapEntry → Option Reason
 against pool code max_locals max_stack behind ts e =
-    least (entry_conditions pool code max_locals max_stack (offset_of (front_of behind) e) e ts (locals_of pool ts e) (stack_of pool e))
+    least (entry_conditions pool code max_locals max_stack (offset_of (front_of behind) e) e ts (locals_of pool ts e)
+    (stack_of pool e))
 
 -- it is not refused, and its frame is there
-pub record Declared (pool : List Entry) (code : List (ℕ × Act)) (max_locals max_stack : ℕ) (old new : List Link) (behind before : ℕ) (e : MapEntry) (f : FrameTops) : Type 0 where
+pub record Declared (pool : List Entry) (code : List (ℕ × Act)) (max_locals max_stack : ℕ) (old new : List Link)
+    (behind before : ℕ) (e : MapEntry) (f : FrameTops) : Type 0 where
   pub free : against pool code max_locals max_stack behind (locals_at old before) e ≡ None
   pub at : f.at ≡ offset_of (front_of behind) e
   pub units : units_of (types_at new f.locals) ≤ max_locals
   pub made : Made pool old new before e f
 
-abbrev pub Declares : List Entry → List (ℕ × Act) → ℕ → ℕ → List Link → List Link → ℕ → ℕ → MapEntry → Result FrameTops FrameFault → Type 0
-Declares pool code max_locals max_stack old new behind before e (Ok f) = Declared pool code max_locals max_stack old new behind before e f
+abbrev pub Declares : List Entry → List (ℕ × Act) → ℕ → ℕ → List Link → List Link → ℕ → ℕ → MapEntry
+    → Result FrameTops FrameFault → Type 0
+Declares pool code max_locals max_stack old new behind before e (Ok f) =
+    Declared pool code max_locals max_stack old new behind before e f
 Declares pool code max_locals max_stack old new behind before e (Err fault) =
     against pool code max_locals max_stack behind (locals_at old before) e ≡ Some (reason (frame_fault_number fault))
 
 -- ---- all of them
 
-abbrev pub AreDeclared : {A : Type 0} → Result (List (ℕ × FrameFact)) Reason → ℕ → List Link → List FrameTops → Result A FrameFault → Type 0
+abbrev pub AreDeclared : {A : Type 0} → Result (List (ℕ × FrameFact)) Reason → ℕ → List Link → List FrameTops
+    → Result A FrameFault → Type 0
 AreDeclared answer max_locals links frames (Ok u) =
-    (answer ≡ Ok (facts_of links max_locals frames)) × AreInside links max_locals frames × StartsRise 0 (facts_of links max_locals frames)
+    (answer ≡ Ok (facts_of links max_locals frames)) × AreInside links max_locals frames
+    × StartsRise 0 (facts_of links max_locals frames)
 AreDeclared answer max_locals links frames (Err fault) = answer ≡ Err (reason (frame_fault_number fault))

@@ -19,7 +19,7 @@ pub mod LocalTypes
 pub mod Locals
 pub mod StackItems
 pub mod OperandStacks
-pub mod Chains
+pub mod TypeChains
 pub mod Rising
 pub mod DeclaredViews
 pub mod Judging

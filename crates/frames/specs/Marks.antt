@@ -3,20 +3,20 @@ use Rattle.std.specs.Prelude.{◌≡◌, ℕ, Bool, true, false, List, Option, S
 use Rattle.insn.specs.Meanings.{Act, made_index}
 use Rattle.insn.specs.Offsets.{at_offset}
 use Rattle.frames.specs.DeclaredFrames.{is_new}
-use Rattle.frames.specs.declared.code_starts.Mark.{Mark}
-use Rattle.frames.specs.declared.code_starts.Mark.TheVariants.{Inside, Start, New}
+use Rattle.frames.specs.declared.code_starts.StartKind.{StartKind}
+use Rattle.frames.specs.declared.code_starts.StartKind.TheVariants.{Inside, Start, New}
 
-abbrev pub is_start_mark : Mark → Bool
+abbrev pub is_start_mark : StartKind → Bool
 is_start_mark Inside = false
 is_start_mark Start = true
 is_start_mark (New index) = true
 
-abbrev pub is_new_mark : Mark → Bool
+abbrev pub is_new_mark : StartKind → Bool
 is_new_mark Inside = false
 is_new_mark Start = false
 is_new_mark (New index) = true
 
-abbrev pub index_of_mark : Mark → Option ℕ
+abbrev pub index_of_mark : StartKind → Option ℕ
 index_of_mark Inside = None
 index_of_mark Start = None
 index_of_mark (New index) = Some index
@@ -27,15 +27,15 @@ new_index (Some what) = made_index what
 new_index None = None
 
 -- the mark of what stands at an offset
-pub record IsMark (m : Mark) (what : Option Act) : Type 0 where
+pub record IsMark (m : StartKind) (what : Option Act) : Type 0 where
   pub start : is_start_mark m ≡ is_some what
   pub new : is_new_mark m ≡ is_new what
   pub index : index_of_mark m ≡ new_index what
 
 -- behind the last mark no instruction begins
-abbrev pub AreMarks : List Mark → List (ℕ × Act) → Type 0
+abbrev pub AreMarks : List StartKind → List (ℕ × Act) → Type 0
 AreMarks marks code = (at : ℕ) → IsMark (get_or marks at Inside) (at_offset code at)
 
 -- no instruction is marked
-abbrev pub AreClear : List Mark → Type 0
+abbrev pub AreClear : List StartKind → Type 0
 AreClear marks = (at : ℕ) → get_or marks at Inside ≡ Inside

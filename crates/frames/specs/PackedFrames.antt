@@ -1,4 +1,5 @@
--- Frames with their slots, and the answers for their places one by one: the locals from 0 up, then the stack from the bottom up.
+-- Frames with their slots, and the answers for their places one by one: the locals from 0 up, then the stack from the
+-- bottom up.
 use Rattle.std.specs.Prelude.{◌≡◌, List, [], ◌∷◌}
 use Rattle.hierarchy.specs.Class.{ClassFact}
 use Rattle.hierarchy.specs.Answer.{Outcome, yes}

@@ -1,4 +1,5 @@
--- Types as slots, numbers of four bytes: a tag, and behind it what tells types of one tag apart. The tags are those of stack maps (JVMS 4.7.4), and 9 for arrays of primitive types.
+-- Types as slots, numbers of four bytes: a tag, and behind it what tells types of one tag apart. The tags are those of
+-- stack maps (JVMS 4.7.4), and 9 for arrays of primitive types.
 use Rattle.std.specs.Prelude.{◌≡◌, ◌≢◌, ℕ, ◌+◌, ◌*◌, ◌&&◌, nat_lt, if◌then◌else◌, List, ◌++◌, map, reverse, Option, Some, None}
 use Rattle.names.specs.declared.base.Primitive.{Primitive}
 use Rattle.names.specs.declared.base.Primitive.TheVariants.{Byte, Char, Double, Float, Int, Long, Short, Boolean}
@@ -61,8 +62,10 @@ slots_of classes f = map (slot_of classes) (types_of f)
 
 -- equal slots, that of absent classes aside, mean equal types
 abbrev pub EqualSlotsAreEqualTypes : Type 0
-EqualSlotsAreEqualTypes = (classes : List ClassFact) (s t : VerificationType) → slot_of classes s ≡ slot_of classes t → slot_of classes t ≢ absent_slot → s ≡ t
+EqualSlotsAreEqualTypes = (classes : List ClassFact) (s t : VerificationType) → slot_of classes s ≡ slot_of classes t
+    → slot_of classes t ≢ absent_slot → s ≡ t
 
 -- and so yes, in locals and on the stack
 abbrev pub EqualSlotsAreYes : Type 0
-EqualSlotsAreYes = (classes : List ClassFact) (s t : VerificationType) → slot_of classes s ≡ slot_of classes t → slot_of classes t ≢ absent_slot → item_answer classes s t ≡ yes
+EqualSlotsAreYes = (classes : List ClassFact) (s t : VerificationType) → slot_of classes s ≡ slot_of classes t
+    → slot_of classes t ≢ absent_slot → item_answer classes s t ≡ yes

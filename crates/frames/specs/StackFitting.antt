@@ -2,7 +2,7 @@
 use Rattle.std.specs.Prelude.{◌≡◌, ◌≤◌, ◌<◌, ℕ, ◌-◌, suc, true, List, length, get_or, Some, slice_get}
 use Rattle.hierarchy.specs.Class.{ClassFact}
 use Rattle.frames.specs.VerificationType.{VerificationType, top}
-use Rattle.frames.specs.Chains.{types_at}
+use Rattle.frames.specs.TypeChains.{types_at}
 use Rattle.frames.specs.DeclaredTables.{IsOf}
 use Rattle.frames.specs.Fitting.{AreFitBut}
 use Rattle.frames.specs.declared.declared_frames.DeclaredFrames.{DeclaredFrames}
@@ -40,14 +40,18 @@ AreLowsEarly x = (i : ℕ) (low : Low) → slice_get x.lows.items i ≡ Some low
 
 -- ---- what is known
 
--- Items, from the bottom up, fit each marked chain of a table but for those that may have changed since its mark, and no mark is of the first moment or one to come.
-pub record AreStackFitting (classes : List ClassFact) (t : DeclaredFrames) (items : List VerificationType) (x : StackFitting) : Type 0 where
+-- Items, from the bottom up, fit each marked chain of a table but for those that may have changed since its mark, and
+-- no mark is of the first moment or one to come.
+pub record AreStackFitting (classes : List ClassFact) (t : DeclaredFrames) (items : List VerificationType)
+    (x : StackFitting) : Type 0 where
   pub early : (link moment : ℕ) → IsStackMarked x link moment → (1 ≤ moment) × (moment ≤ x.moment)
   pub lows : AreLowsEarly x
-  pub fit : (link moment : ℕ) → IsStackMarked x link moment → AreFitBut true (HasSunk x.lows.items moment) classes items (types_at t.chains.links.items (suc link))
+  pub fit : (link moment : ℕ) → IsStackMarked x link moment
+      → AreFitBut true (HasSunk x.lows.items moment) classes items (types_at t.chains.links.items (suc link))
 
 -- the facts for the table that a declared frame is of
-pub record AreStackFittingFor (classes : List ClassFact) (d : Declared) (items : List VerificationType) (x : StackFitting) : Type 0 where
+pub record AreStackFittingFor (classes : List ClassFact) (d : Declared) (items : List VerificationType)
+    (x : StackFitting) : Type 0 where
   pub table : DeclaredFrames
   pub own : IsOf table d
   pub fitting : AreStackFitting classes table items x

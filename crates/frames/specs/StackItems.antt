@@ -20,7 +20,8 @@ pub record IsCounted (types : List VType) (wides : ℕ) : Type 0 where
 
 -- from a place up, each item that is an object which is not initialized is listed
 abbrev pub AreListedFrom : ℕ → List VType → Holders → Type 0
-AreListedFrom from types holders = (i : ℕ) → from ≤ i → IsSome (number_of (type_at types i)) → ∥ Holds holders (type_at types i) i ∥₁
+AreListedFrom from types holders = (i : ℕ) → from ≤ i → IsSome (number_of (type_at types i))
+    → ∥ Holds holders (type_at types i) i ∥₁
 
 pub record ItemsAreListed (types : List VType) (holders : Holders) : Type 0 where
   pub all : AreListedFrom 0 types holders

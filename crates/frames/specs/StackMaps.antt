@@ -50,11 +50,14 @@ entry_behind type =
     if nat_le type 63 then done (same type)
     else if nat_le type 127 then andthen type_info (λ item. done (same_with_item (type - 64) item))
     else if nat_le type 246 then refuse (λ at. BadFrameType (at - 1))
-    else if nat_eq type 247 then andthen (number 2) (λ delta. andthen type_info (λ item. done (same_with_item_extended delta item)))
+    else if nat_eq type 247 then andthen (number 2)
+    (λ delta. andthen type_info (λ item. done (same_with_item_extended delta item)))
     else if nat_le type 250 then andthen (number 2) (λ delta. done (chop (251 - type) delta))
     else if nat_eq type 251 then andthen (number 2) (λ delta. done (same_extended delta))
-    else if nat_le type 254 then andthen (number 2) (λ delta. andthen (times (type - 251) type_info) (λ locals. done (append delta locals)))
-    else andthen (number 2) (λ delta. andthen type_table (λ locals. andthen type_table (λ stack. done (full delta locals stack))))
+    else if nat_le type 254 then andthen (number 2)
+    (λ delta. andthen (times (type - 251) type_info) (λ locals. done (append delta locals)))
+    else andthen (number 2) (λ delta. andthen type_table
+    (λ locals. andthen type_table (λ stack. done (full delta locals stack))))
 
 unfoldable pub map_entry : Format MapEntry
 map_entry = andthen (number 1) entry_behind

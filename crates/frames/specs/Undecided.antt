@@ -19,4 +19,5 @@ pub record AreDecidedLanes (a b : List ℕ) (n count : ℕ) : Type 0 where
 -- the first place from one on that is not decided
 abbrev pub IsFirstUndecided : List ℕ → List ℕ → ℕ → Option ℕ → Type 0
 IsFirstUndecided a b from None = AreDecided a b from (length a)
-IsFirstUndecided a b from (Some i) = (from ≤ i) × (i < length a) × (is_undecided (slice_index a i) (slice_index b i) ≡ true) × AreDecided a b from i
+IsFirstUndecided a b from (Some i) = (from ≤ i) × (i < length a)
+    × (is_undecided (slice_index a i) (slice_index b i) ≡ true) × AreDecided a b from i

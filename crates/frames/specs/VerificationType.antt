@@ -1,4 +1,5 @@
--- Verification types (JVMS 4.10.1.2), with class names as lists of bytes. An array has the type of its components, as a field descriptor.
+-- Verification types (JVMS 4.10.1.2), with class names as lists of bytes. An array has the type of its components, as a
+-- field descriptor.
 use Rattle.std.specs.Prelude.{ℕ, ◌-◌, List}
 use Rattle.names.specs.Descriptors.{FieldDescriptor, base_of, dimensioned}
 use Rattle.frames.specs.declared.vtype.VType.{VType}

@@ -2,10 +2,10 @@
 ghost use Rattle.std.specs.Prelude.{◌≡◌, ◌≤◌, ◌++◌, map, reverse, length, IfOk};
 ghost use Rattle.frames.specs.MapViews.{info_of, entry_of};
 ghost use Rattle.frames.specs.DeclaredFrames.{types_given, locals_of, stack_of};
-ghost use Rattle.frames.specs.Chains.{types_at, Grown};
+ghost use Rattle.frames.specs.TypeChains.{types_at, Grown};
 ghost use Rattle.frames.specs.DeclaredViews.{locals_at, Made};
 
-use crate::chain::Chains;
+use crate::chain::TypeChains;
 use crate::constants::type_given;
 use crate::stack_map::{MapEntry, TypeInfo};
 use pool::Descriptors;
@@ -21,14 +21,15 @@ pub struct FrameTops {
 
 // Puts the types that an entry gives on top of a chain, the last of them on top of all.
 fn push_given<'a>(
-    chains: &mut Chains<'a>,
+    chains: &mut TypeChains<'a>,
     infos: &[TypeInfo],
     below: usize,
     constants: &mut Descriptors<'_, 'a>,
 ) -> Result<usize, AllocError>
     requires { below ≤ length chains.old.links.items }
     ensures same { constants.new ≡ constants.old }
-    ensures pushed { IfOk result (Grown chains.old.links.items chains.new.links.items (reverse (types_given constants.old (map info_of infos.now)) ++ types_at chains.old.links.items below)) }
+    ensures pushed { IfOk result (Grown chains.old.links.items chains.new.links.items
+        (reverse (types_given constants.old (map info_of infos.now)) ++ types_at chains.old.links.items below)) }
 {
     let mut at = below;
     for info in infos {
@@ -40,14 +41,15 @@ fn push_given<'a>(
 
 // Where the locals behind an entry begin, in front of which they began at a place.
 fn locals_after<'a>(
-    chains: &mut Chains<'a>,
+    chains: &mut TypeChains<'a>,
     before: usize,
     entry: &MapEntry,
     constants: &mut Descriptors<'_, 'a>,
 ) -> Result<usize, AllocError>
     requires { before ≤ length chains.old.links.items }
     ensures same { constants.new ≡ constants.old }
-    ensures left { IfOk result (Grown chains.old.links.items chains.new.links.items (reverse (locals_of constants.old (locals_at chains.old.links.items before) (entry_of entry.now)))) }
+    ensures left { IfOk result (Grown chains.old.links.items chains.new.links.items
+        (reverse (locals_of constants.old (locals_at chains.old.links.items before) (entry_of entry.now)))) }
 {
     match entry {
         MapEntry::Same(_)
@@ -62,12 +64,13 @@ fn locals_after<'a>(
 
 // Where the stack at an entry begins.
 fn stack_after<'a>(
-    chains: &mut Chains<'a>,
+    chains: &mut TypeChains<'a>,
     entry: &MapEntry,
     constants: &mut Descriptors<'_, 'a>,
 ) -> Result<usize, AllocError>
     ensures same { constants.new ≡ constants.old }
-    ensures left { IfOk result (Grown chains.old.links.items chains.new.links.items (stack_of constants.old (entry_of entry.now))) }
+    ensures left { IfOk result (Grown chains.old.links.items chains.new.links.items
+        (stack_of constants.old (entry_of entry.now))) }
 {
     match entry {
         MapEntry::Same(_)
@@ -84,7 +87,7 @@ fn stack_after<'a>(
 
 /// The frame that an entry declares at an offset, behind locals that begin at a place. Nothing is judged.
 pub fn frame_after<'a>(
-    chains: &mut Chains<'a>,
+    chains: &mut TypeChains<'a>,
     before: usize,
     at: u32,
     entry: &MapEntry,
@@ -93,7 +96,8 @@ pub fn frame_after<'a>(
     requires { before ≤ length chains.old.links.items }
     ensures same { constants.new ≡ constants.old }
     ensures place { IfOk result (λ f. f.at ≡ at) }
-    ensures made { IfOk result (Made constants.old chains.old.links.items chains.new.links.items before (entry_of entry.now)) }
+    ensures made { IfOk result (Made constants.old chains.old.links.items chains.new.links.items before
+        (entry_of entry.now)) }
 {
     let locals = locals_after(chains, before, entry, constants)?;
     let stack = stack_after(chains, entry, constants)?;

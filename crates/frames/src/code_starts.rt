@@ -6,7 +6,7 @@ ghost use Rattle.insn.specs.Meanings.{Act, made_index};
 ghost use Rattle.insn.specs.Offsets.{acts};
 ghost use Rattle.insn.specs.Readings.{instructions_in};
 ghost use Rattle.insn.specs.Views.{views};
-ghost use Rattle.frames.specs.declared.code_starts.Mark.TheVariants.{Inside};
+ghost use Rattle.frames.specs.declared.code_starts.StartKind.TheVariants.{Inside};
 ghost use Rattle.frames.specs.DeclaredFrames.{is_new};
 ghost use Rattle.frames.specs.Marks.{IsMark, AreMarks, AreClear, is_start_mark, is_new_mark, index_of_mark};
 
@@ -16,7 +16,7 @@ use std::alloc::{AllocError, Global};
 
 /// The thing that stands at an offset of code.
 #[derive(Clone, Copy, Debug)]
-pub enum Mark {
+pub enum StartKind {
     /// No instruction begins there.
     Inside,
     /// An instruction begins there that is no `new`.
@@ -32,70 +32,70 @@ pub enum Mark {
 #[derive(Drop)]
 pub struct CodeStarts<'a> {
     code: &'a [u8],
-    marks: Vec<Mark>,
+    marks: Vec<StartKind>,
     ghost marked: { AreMarks marks.items (acts (instructions_in code.now)) },
     ghost few: { length marks.items ≤ 65536 },
 }
 
 // The mark of an instruction that makes an object of this class, or of none.
-fn mark_of(made: Option<u16>) -> Mark
+fn mark_of(made: Option<u16>) -> StartKind
     ensures { (what : Act) → made ≡ made_index what → IsMark result (Some what) }
 {
     match made {
-        Some(index) => Mark::New { index },
-        None => Mark::Start,
+        Some(index) => StartKind::New { index },
+        None => StartKind::Start,
     }
 }
 
-fn mark_at(marks: &[Mark], at: usize) -> Mark
+fn mark_at(marks: &[StartKind], at: usize) -> StartKind
     ensures { result ≡ get_or marks.now at Inside }
 {
     if at < marks.len() {
         marks[at]
     } else {
-        Mark::Inside
+        StartKind::Inside
     }
 }
 
-fn is_start(mark: Mark) -> bool
+fn is_start(mark: StartKind) -> bool
     ensures { result ≡ is_start_mark mark }
 {
     match mark {
-        Mark::Inside => false,
-        Mark::Start | Mark::New { .. } => true,
+        StartKind::Inside => false,
+        StartKind::Start | StartKind::New { .. } => true,
     }
 }
 
-fn is_new(mark: Mark) -> bool
+fn is_new(mark: StartKind) -> bool
     ensures { result ≡ is_new_mark mark }
 {
     match mark {
-        Mark::New { .. } => true,
-        Mark::Inside | Mark::Start => false,
+        StartKind::New { .. } => true,
+        StartKind::Inside | StartKind::Start => false,
     }
 }
 
-fn index_of(mark: Mark) -> Option<u16>
+fn index_of(mark: StartKind) -> Option<u16>
     ensures { result ≡ index_of_mark mark }
 {
     match mark {
-        Mark::New { index } => Some(index),
-        Mark::Inside | Mark::Start => None,
+        StartKind::New { index } => Some(index),
+        StartKind::Inside | StartKind::Start => None,
     }
 }
 
 // So many marks, at none of which an instruction begins.
-fn clear_marks(marks: &mut Vec<Mark>, count: usize) -> Result<(), AllocError>
+fn clear_marks(marks: &mut Vec<StartKind>, count: usize) -> Result<(), AllocError>
     ensures clear { AreClear marks.new.items }
     ensures len { OnOk result (length marks.new.items ≡ count) }
 {
     marks.clear();
-    marks.resize(count, Mark::Inside)
+    marks.resize(count, StartKind::Inside)
 }
 
 // Marks where instructions begin; or tells the fault of the first that is none, and then nothing of the marks.
 #[inline(never)]
-fn mark_starts(code: &[u8], marks: &mut [Mark]) -> Result<(), CodeFault>
+fn mark_starts(code: &[u8], marks: &mut [StartKind]) -> Result<(), CodeFault>
     requires clear { AreClear marks.old }
     requires len { length marks.old ≡ length code.now }
     ensures marked { OnOk result (AreMarks marks.new (acts (instructions_in code.now))) }
@@ -111,7 +111,7 @@ fn mark_starts(code: &[u8], marks: &mut [Mark]) -> Result<(), CodeFault>
 }
 
 // Marks where instructions of a list begin, the last first, so that of several at one offset the first is marked.
-fn mark_list(list: &[(u16, Insn<'_>)], marks: &mut [Mark])
+fn mark_list(list: &[(u16, Insn<'_>)], marks: &mut [StartKind])
     requires clear { AreClear marks.old }
     requires len { length marks.old ≡ 65536 }
     ensures { AreMarks marks.new (acts (views list.now)) }
@@ -127,15 +127,15 @@ impl<'a> CodeStarts<'a> {
     ghost use Rattle.layout.specs.declared.limits.TheConstants.{MAX_CODE_BYTES};
     ghost use Rattle.frames.specs.MarkedCode.{code_in};
 
-    /// Where the instructions of this code begin, which has at most 65,535 bytes (JVMS 4.7.3); or the fault of the first that is none, 31 to
-    /// 35; or 1 where memory ran out.
+    /// Where the instructions of this code begin, which has at most 65,535 bytes (JVMS 4.7.3); or the fault of the
+    /// first that is none, 31 to 35; or 1 where memory ran out.
     pub fn new(alloc: Global, code: &'a [u8]) -> Result<CodeStarts<'a>, CodeFault>
         requires { length code.now ≤ MAX_CODE_BYTES }
         ensures found { IfOk result (λ s. code_in s ≡ code.now) }
         ensures spelled { OnOk result ((xs : List (ℕ × Instruction)) × SpellsCode 0 code.now xs) }
         ensures fault { IfErr result (λ e. UnlessMemory e (FaultyCode code.now e)) }
     {
-        let mut marks: Vec<Mark> = Vec::new(alloc);
+        let mut marks: Vec<StartKind> = Vec::new(alloc);
         clear_marks(&mut marks, code.len())?;
         mark_starts(code, &mut marks)?;
         Ok(CodeStarts { code, marks })
@@ -165,7 +165,7 @@ impl<'a> Starts for CodeStarts<'a> {
 #[derive(Drop)]
 pub struct ListStarts<'c, 'a> {
     list: &'c [(u16, Insn<'a>)],
-    marks: Vec<Mark>,
+    marks: Vec<StartKind>,
     ghost marked: { AreMarks marks.items (acts (views list.now)) },
     ghost few: { length marks.items ≤ 65536 },
 }
@@ -178,7 +178,7 @@ impl<'c, 'a> ListStarts<'c, 'a> {
     pub fn new(alloc: Global, list: &'c [(u16, Insn<'a>)]) -> Result<ListStarts<'c, 'a>, AllocError>
         ensures { IfOk result (λ s. list_in s ≡ views list.now) }
     {
-        let mut marks: Vec<Mark> = Vec::new(alloc);
+        let mut marks: Vec<StartKind> = Vec::new(alloc);
         clear_marks(&mut marks, 65_536)?;
         mark_list(list, &mut marks);
         Ok(ListStarts { list, marks })

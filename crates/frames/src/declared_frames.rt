@@ -7,7 +7,7 @@ ghost use Rattle.frames.specs.Rising.{StartsRise-prop};
 ghost use Rattle.frames.specs.DeclaredViews.{IsInside, AreInside, facts_of};
 
 use crate::after::FrameTops;
-use crate::chain::Chains;
+use crate::chain::TypeChains;
 use crate::compare_frames::both;
 use crate::frame::Frame;
 use crate::locals::Locals;
@@ -20,17 +20,18 @@ use std::alloc::{AllocError, Global};
 /// stands there once.
 #[derive(Drop)]
 pub struct DeclaredFrames<'a> {
-    chains: Chains<'a>,
+    chains: TypeChains<'a>,
     frames: Vec<FrameTops>,
     max_locals: u16,
     ghost inside: { AreInside chains.links.items max_locals frames.items },
-    ghost rises: { StartsRise 0 (facts_of chains.links.items max_locals frames.items) } by { StartsRise-prop 0 (facts_of chains.links.items max_locals frames.items) },
+    ghost rises: { StartsRise 0 (facts_of chains.links.items max_locals frames.items) } by { StartsRise-prop 0
+        (facts_of chains.links.items max_locals frames.items) },
 }
 
 /// A declared frame.
 #[derive(Clone, Copy)]
 pub struct Declared<'n, 'a> {
-    pub(crate) chains: &'n Chains<'a>,
+    pub(crate) chains: &'n TypeChains<'a>,
     pub(crate) tops: FrameTops,
     pub(crate) max_locals: u16,
     ghost inside: { IsInside chains.now.links.items max_locals tops },
@@ -44,7 +45,7 @@ impl<'a> DeclaredFrames<'a> {
     /// The frames of these chains.
     #[tactic(auto, unfolding(crate::specs::DeclaredTables::frames_in, crate::specs::DeclaredTables::locals_in))]
     pub(crate) fn new(
-        chains: Chains<'a>,
+        chains: TypeChains<'a>,
         frames: Vec<FrameTops>,
         max_locals: u16,
     ) -> DeclaredFrames<'a>
@@ -65,7 +66,7 @@ impl<'a> DeclaredFrames<'a> {
         ensures frames { frames_in result ≡ [] }
         ensures locals { locals_in result ≡ max_locals }
     {
-        let chains = Chains::new(alloc);
+        let chains = TypeChains::new(alloc);
         let frames = Vec::new(alloc);
         DeclaredFrames::new(chains, frames, max_locals)
     }
@@ -110,7 +111,9 @@ impl<'a> DeclaredFrames<'a> {
 
     /// The place of the frame that is declared at an offset in bytes. Takes no memory.
     pub fn place(&self, at: u32) -> Option<usize>
-        ensures { MatchOption result (at_offset (frames_in self.now) at ≡ None) (λ i. IsSomeAnd (slice_get (frames_in self.now) i) (λ x. (x.0 ≡ at) × (at_offset (frames_in self.now) at ≡ Some x.1))) }
+        ensures { MatchOption result (at_offset (frames_in self.now) at ≡ None)
+            (λ i. IsSomeAnd (slice_get (frames_in self.now) i)
+            (λ x. (x.0 ≡ at) × (at_offset (frames_in self.now) at ≡ Some x.1))) }
     {
         match self.frames.binary_search_by_key(&at, |frame| frame.at) {
             Ok(place) => Some(place),
@@ -145,7 +148,7 @@ impl<'n, 'a> Declared<'n, 'a> {
     ghost use Rattle.frames.specs.FrameFact.{frame_of};
     ghost use Rattle.frames.specs.HeldFrames.{held_locals, held_frame};
     ghost use Rattle.frames.specs.Slots.{units_of};
-    ghost use Rattle.frames.specs.Chains.{types_at, chain_answer, place, IsOn, AreTopFrom, AreBelow};
+    ghost use Rattle.frames.specs.TypeChains.{types_at, chain_answer, place, IsOn, AreTopFrom, AreBelow};
     ghost use Rattle.frames.specs.Locals.{local, locals_in};
     ghost use Rattle.frames.specs.DeclaredTables.{declared_view, AreOfOne, AreKept, AreFit};
 
@@ -159,7 +162,8 @@ impl<'n, 'a> Declared<'n, 'a> {
     /// Whether the locals are known to be those of another frame of the same stack map: where no entry between the two
     /// changed them. Otherwise they may be the same as well.
     pub fn keeps_locals_of(&self, other: &Declared<'_, 'a>) -> bool
-        ensures { result ≡ true → AreOfOne self.now other.now → (declared_view self.now).locals ≡ (declared_view other.now).locals }
+        ensures { result ≡ true → AreOfOne self.now other.now
+            → (declared_view self.now).locals ≡ (declared_view other.now).locals }
     {
         self.tops.locals == other.tops.locals
     }
@@ -168,7 +172,8 @@ impl<'n, 'a> Declared<'n, 'a> {
     fn shared(&self, other: Option<Declared<'_, 'a>>) -> usize
         requires { IfSome other (λ k. AreOfOne k self.now) }
         ensures own { IsOn self.now.chains.now.links.items self.now.tops.locals result }
-        ensures other { MatchOption other.entry (result ≡ 0) (λ k. IsOn self.now.chains.now.links.items k.tops.locals result) }
+        ensures other { MatchOption other.entry (result ≡ 0)
+            (λ k. IsOn self.now.chains.now.links.items k.tops.locals result) }
     {
         match other {
             Some(other) => self.chains.common(self.tops.locals, other.tops.locals),
@@ -180,12 +185,14 @@ impl<'n, 'a> Declared<'n, 'a> {
     pub fn locals_answer<C: Classes>(&self, locals: &[VType<'a>], classes: &C) -> Answer<'a>
         requires { length locals.now ≤ length (declared_view self.now).locals }
         ensures { let d = declared_view self.now in
-            outcome_of result ≡ list_answer (type_answer (C.content classes.now)) (held_locals locals.now (length d.locals)) d.locals }
+            outcome_of result ≡ list_answer (type_answer (C.content classes.now))
+            (held_locals locals.now (length d.locals)) d.locals }
     {
         chain_assignable(locals, self.chains, self.tops.locals, 0, false, classes)
     }
 
-    /// The type of the local variable of a number: top at the second half of a long or double, and beyond those in use. Takes no memory.
+    /// The type of the local variable of a number: top at the second half of a long or double, and beyond those in use.
+    /// Takes no memory.
     pub fn local(&self, number: usize) -> VType<'a>
         ensures { type_of result ≡ get_or (declared_view self.now).locals number top }
     {
@@ -210,11 +217,16 @@ impl<'n, 'a> Declared<'n, 'a> {
         floor: usize,
         classes: &C,
     ) -> Answer<'a>
-        requires fits { IfSome fits (AreFit (C.content classes.now) self.now (held_locals locals.now (length (declared_view self.now).locals))) }
-        requires floor { chain_answer (slot_answer (C.content classes.now) true) (place true) (map type_of stack.now) (types_at self.now.chains.now.links.items floor) ≡ yes }
+        requires fits { IfSome fits (AreFit (C.content classes.now) self.now
+            (held_locals locals.now (length (declared_view self.now).locals))) }
+        requires floor { chain_answer (slot_answer (C.content classes.now) true) (place true) (map type_of stack.now)
+            (types_at self.now.chains.now.links.items floor) ≡ yes }
         ensures told { let d = declared_view self.now in
-            outcome_of result ≡ frame_answer (C.content classes.now) (held_frame locals.now (length d.locals) stack.now flag) d }
-        ensures items { outcome_of result ≡ yes → chain_answer (slot_answer (C.content classes.now) true) (place true) (map type_of stack.now) (types_at self.now.chains.now.links.items self.now.tops.stack) ≡ yes }
+            outcome_of result ≡ frame_answer (C.content classes.now)
+            (held_frame locals.now (length d.locals) stack.now flag) d }
+        ensures items { outcome_of result ≡ yes
+            → chain_answer (slot_answer (C.content classes.now) true) (place true) (map type_of stack.now)
+            (types_at self.now.chains.now.links.items self.now.tops.stack) ≡ yes }
     {
         if locals.len() > usize::from(self.max_locals) {
             return Answer::No;
@@ -259,8 +271,9 @@ impl<'n, 'a> Declared<'n, 'a> {
         })
     }
 
-    /// Gives locals the types of this frame, by units: a long or double is its type and then top, and all beyond are top. Where they are those
-    /// of another frame of the same stack map, this one may be `kept`: then only those are set that the two frames do not share.
+    /// Gives locals the types of this frame, by units: a long or double is its type and then top, and all beyond are
+    /// top. Where they are those of another frame of the same stack map, this one may be `kept`: then only those are
+    /// set that the two frames do not share.
     pub fn write_locals(
         &self,
         kept: Option<Declared<'_, 'a>>,
@@ -274,8 +287,8 @@ impl<'n, 'a> Declared<'n, 'a> {
         write_locals(self.chains, self.tops.locals, shared, locals)
     }
 
-    // Makes locals top that this frame does not have: all of them, where they are not known to be those of another frame. Those that the two
-    // share stay.
+    // Makes locals top that this frame does not have: all of them, where they are not known to be those of another
+    // frame. Those that the two share stay.
     fn clear_above(
         &self,
         kept: Option<Declared<'_, 'a>>,
@@ -284,8 +297,10 @@ impl<'n, 'a> Declared<'n, 'a> {
     ) -> Result<(), AllocError>
         requires kept { IfSome kept (AreKept self.now (locals_in locals.old (length (declared_view self.now).locals))) }
         requires own { IsOn self.now.chains.now.links.items self.now.tops.locals shared }
-        requires other { MatchOption kept (shared ≡ 0) (λ k. IsOn self.now.chains.now.links.items k.tops.locals shared) }
-        ensures top { OnOk result (AreTopFrom (units_of (types_at self.now.chains.now.links.items self.now.tops.locals)) (length (declared_view self.now).locals) (local locals.new)) }
+        requires other { MatchOption kept (shared ≡ 0)
+            (λ k. IsOn self.now.chains.now.links.items k.tops.locals shared) }
+        ensures top { OnOk result (AreTopFrom (units_of (types_at self.now.chains.now.links.items self.now.tops.locals))
+            (length (declared_view self.now).locals) (local locals.new)) }
         ensures below { OnOk result (AreBelow self.now.chains.now.links.items shared (local locals.new)) }
     {
         let Some(kept) = kept else {
@@ -301,7 +316,8 @@ impl<'n, 'a> Declared<'n, 'a> {
 
     /// How many units of locals are in use: all beyond them are top.
     pub fn units(&self) -> u16
-        ensures { let locals = (declared_view self.now).locals in (n : ℕ) → result ≤ n → drop n locals ≡ replicate (length locals - n) top }
+        ensures { let locals = (declared_view self.now).locals in
+            (n : ℕ) → result ≤ n → drop n locals ≡ replicate (length locals - n) top }
     {
         self.chains
             .units(self.tops.locals)

@@ -8,7 +8,7 @@ ghost use Rattle.frames.specs.Judging.{Declares, AreDeclared};
 ghost use Rattle.frames.specs.DeclaredTables.{IsDeclared, locals_in};
 
 use crate::after::{FrameTops, frame_after};
-use crate::chain::Chains;
+use crate::chain::TypeChains;
 use crate::declared_frames::DeclaredFrames;
 use crate::frame_fault::FrameFault;
 use crate::refusing::{Limits, judge};
@@ -32,9 +32,10 @@ fn delta(entry: &MapEntry) -> u16
     }
 }
 
-// The frame of an entry, whose offset is its delta behind the first offset behind the entry in front; or its least fault.
+// The frame of an entry, whose offset is its delta behind the first offset behind the entry in front; or its least
+// fault.
 fn declare_one<'a, S: Starts>(
-    chains: &mut Chains<'a>,
+    chains: &mut TypeChains<'a>,
     before: usize,
     behind: u32,
     entry: &MapEntry,
@@ -46,7 +47,9 @@ fn declare_one<'a, S: Starts>(
     requires inside { before ≤ length chains.old.links.items }
     ensures same { constants.new ≡ constants.old }
     ensures small { IfOk result (λ r. IfOk r (λ f. f.at < 65536)) }
-    ensures declares { IfOk result (Declares limits.now.pool.now (S.code limits.now.starts.now) limits.now.max_locals limits.now.max_stack chains.old.links.items chains.new.links.items behind before (entry_of entry.now)) }
+    ensures declares { IfOk result
+        (Declares limits.now.pool.now
+        (S.code limits.now.starts.now) limits.now.max_locals limits.now.max_stack chains.old.links.items chains.new.links.items behind before (entry_of entry.now)) }
 {
     let at = behind + u32::from(delta(entry));
     let frame = frame_after(chains, before, at, entry, constants)?;
@@ -56,10 +59,10 @@ fn declare_one<'a, S: Starts>(
     }
 }
 
-// Puts the frames of entries behind the others, of which there are none; or tells the least fault of the first entry that
-// is refused.
+// Puts the frames of entries behind the others, of which there are none; or tells the least fault of the first entry
+// that is refused.
 fn declare_all<'a, S: Starts>(
-    chains: &mut Chains<'a>,
+    chains: &mut TypeChains<'a>,
     frames: &mut Vec<FrameTops>,
     first: usize,
     entries: &[MapEntry],
@@ -70,7 +73,11 @@ fn declare_all<'a, S: Starts>(
     requires empty { frames.old.items ≡ [] }
     requires inside { first ≤ length chains.old.links.items }
     ensures same { constants.new ≡ constants.old }
-    ensures declared { IfOk result (AreDeclared (declared_frames limits.now.pool.now (S.code limits.now.starts.now) limits.now.max_locals limits.now.max_stack (locals_at chains.old.links.items first) (map entry_of entries.now)) limits.now.max_locals chains.new.links.items frames.new.items) }
+    ensures declared { IfOk result
+        (AreDeclared (declared_frames limits.now.pool.now
+        (S.code limits.now.starts.now) limits.now.max_locals limits.now.max_stack
+        (locals_at chains.old.links.items first)
+        (map entry_of entries.now)) limits.now.max_locals chains.new.links.items frames.new.items) }
 {
     let mut before = first;
     let mut behind = 0;
@@ -92,8 +99,8 @@ fn declare_all<'a, S: Starts>(
 ///
 /// `initial` has the types of the receiver and of the parameters, a long or double being one of them. Locals and stacks
 /// are counted in units. The memory that is taken is a small multiple of the entries and of the texts that they name.
-/// `constants` are those of the limits' pool: the name of an array class is read once, however many entries of however many
-/// stack maps name it.
+/// `constants` are those of the limits' pool: the name of an array class is read once, however many entries of however
+/// many stack maps name it.
 pub fn declare<'a, S: Starts>(
     alloc: Global,
     entries: &[MapEntry],
@@ -103,10 +110,13 @@ pub fn declare<'a, S: Starts>(
 ) -> Result<Result<DeclaredFrames<'a>, FrameFault>, AllocError>
     requires { constants.old ≡ limits.now.pool.now }
     ensures same { constants.new ≡ constants.old }
-    ensures declared { IfOk result (IsDeclared (declared_frames limits.now.pool.now (S.code limits.now.starts.now) limits.now.max_locals limits.now.max_stack (map type_of initial.now) (map entry_of entries.now))) }
+    ensures declared { IfOk result
+        (IsDeclared (declared_frames limits.now.pool.now
+        (S.code limits.now.starts.now) limits.now.max_locals limits.now.max_stack (map type_of initial.now)
+        (map entry_of entries.now))) }
     ensures locals { IfOk result (λ r. IfOk r (λ t. locals_in t ≡ limits.now.max_locals)) }
 {
-    let mut chains: Chains<'a> = Chains::new(alloc);
+    let mut chains: TypeChains<'a> = TypeChains::new(alloc);
     let mut frames = Vec::new(alloc);
     let first = chains.push_all(initial, 0)?;
     match declare_all(&mut chains, &mut frames, first, entries, limits, constants)? {

@@ -59,7 +59,8 @@ fn stack_difference<'n, C: Classes>(
     to: &[VType<'n>],
     classes: &C,
 ) -> Option<Difference<'n>>
-    ensures { option_map difference_of result ≡ stack_difference (C.content classes.now) (map type_of from.now) (map type_of to.now) }
+    ensures { option_map difference_of result
+        ≡ stack_difference (C.content classes.now) (map type_of from.now) (map type_of to.now) }
 {
     if from.len() != to.len() {
         return Some(Difference::Sizes {
@@ -81,7 +82,8 @@ pub fn first_difference<'n, C: Classes>(
     to: &Frame<'n>,
     classes: &C,
 ) -> Option<Difference<'n>>
-    ensures { option_map difference_of result ≡ first_difference (C.content classes.now) (frame_of from.now) (frame_of to.now) }
+    ensures { option_map difference_of result
+        ≡ first_difference (C.content classes.now) (frame_of from.now) (frame_of to.now) }
 {
     if !keeps_flag(from, to) {
         return Some(Difference::Flag);

@@ -1,9 +1,9 @@
 //! Which declared frames the locals of a running frame fit, as far as it is known.
 ghost use Rattle.std.specs.Prelude.{◌≡◌, length, map, true, IfSome};
 ghost use Rattle.frames.specs.VerificationType.{type_of};
-ghost use Rattle.frames.specs.Chains.{types_at, FitsAt};
+ghost use Rattle.frames.specs.TypeChains.{types_at, FitsAt};
 
-use crate::chain::Chains;
+use crate::chain::TypeChains;
 use crate::compare::assignable;
 use crate::declared_frames::{Declared, DeclaredFrames};
 use crate::vtype::VType;
@@ -13,8 +13,8 @@ use std::alloc::{AllocError, Global};
 
 /// Which chains of declared frames locals that change are known to fit.
 ///
-/// A moment is the number of changes in front of it. Each link has the moment, if there is one, at which the locals were
-/// last seen to fit the chain from there down: since then they do, but for those that changed.
+/// A moment is the number of changes in front of it. Each link has the moment, if there is one, at which the locals
+/// were last seen to fit the chain from there down: since then they do, but for those that changed.
 #[derive(Drop)]
 pub struct Fitting {
     /// One for each link of the table's chains; none where it has no room in four bytes.
@@ -36,13 +36,14 @@ struct Floor {
 
 // Whether the local of an index may stand for the type of a chain that begins there, if one does.
 fn local_fits<'a, C: Classes>(
-    chains: &Chains<'a>,
+    chains: &TypeChains<'a>,
     place: usize,
     index: usize,
     locals: &[VType<'a>],
     classes: &C,
 ) -> bool
-    ensures { result ≡ true → FitsAt (C.content classes.now) (map type_of locals.now) (types_at chains.now.links.items place) index }
+    ensures { result ≡ true → FitsAt (C.content classes.now) (map type_of locals.now)
+        (types_at chains.now.links.items place) index }
 {
     match chains.type_at_unit(place, index) {
         Some(vtype) => {
@@ -67,7 +68,8 @@ impl Fitting {
 
     /// Nothing is known yet of the frames of a table.
     pub fn new(alloc: Global, frames: &DeclaredFrames<'_>) -> Result<Fitting, AllocError>
-        ensures { IfOk result (λ x. (classes : List ClassFact) (locals : List VerificationType) → AreFitting classes frames.now locals x) }
+        ensures { IfOk result (λ x. (classes : List ClassFact) (locals : List VerificationType)
+            → AreFitting classes frames.now locals x) }
     {
         let mut marks: Vec<Option<u32>> = Vec::new(alloc);
         marks.resize(frames.links(), None)?;
@@ -80,7 +82,8 @@ impl Fitting {
 
     /// All locals may have changed. Takes constant time.
     pub fn forget(&mut self) -> Result<(), AllocError>
-        ensures { (classes : List ClassFact) (t : DeclaredFrames) (before after : List VerificationType) → AreFitting classes t before self.old → OnOk result (AreFitting classes t after self.new) }
+        ensures { (classes : List ClassFact) (t : DeclaredFrames) (before after : List VerificationType)
+            → AreFitting classes t before self.old → OnOk result (AreFitting classes t after self.new) }
     {
         self.changes.push(0)?;
         self.known_from = self.changes.len();
@@ -89,7 +92,9 @@ impl Fitting {
 
     /// The local of this index may have changed, and no other.
     pub fn changed(&mut self, index: u16) -> Result<(), AllocError>
-        ensures { (classes : List ClassFact) (t : DeclaredFrames) (before after : List VerificationType) → AreSameBut index before after → AreFitting classes t before self.old → OnOk result (AreFitting classes t after self.new) }
+        ensures { (classes : List ClassFact) (t : DeclaredFrames) (before after : List VerificationType)
+            → AreSameBut index before after → AreFitting classes t before self.old
+            → OnOk result (AreFitting classes t after self.new) }
     {
         self.changes.push(index)?;
         Ok(())
@@ -102,7 +107,8 @@ impl Fitting {
         to: &Declared<'_, 'a>,
     ) -> Result<(), AllocError>
         requires { AreOfOne from.now to.now }
-        ensures { (classes : List ClassFact) (t : DeclaredFrames) → AreFitting classes t (declared_view from.now).locals self.old
+        ensures { (classes : List ClassFact) (t : DeclaredFrames)
+            → AreFitting classes t (declared_view from.now).locals self.old
             → OnOk result (AreFitting classes t (declared_view to.now).locals self.new) }
     {
         let end = from.units().max(to.units());
@@ -128,7 +134,7 @@ impl Fitting {
 
     // The place of a chain by which the least is compared: each type above it, and each local that changed since its
     // moment. At the bottom nothing is left.
-    fn floor(&self, chains: &Chains<'_>, high: usize) -> Floor
+    fn floor(&self, chains: &TypeChains<'_>, high: usize) -> Floor
         ensures { (result.place ≡ 0) ⊎ IsSeen self.now result.place result.moment }
     {
         let now = self.changes.len();
@@ -167,12 +173,13 @@ impl Fitting {
     fn changes_fit<'a, C: Classes>(
         &self,
         moment: usize,
-        chains: &Chains<'a>,
+        chains: &TypeChains<'a>,
         place: usize,
         locals: &[VType<'a>],
         classes: &C,
     ) -> bool
-        ensures { result ≡ true → (index : ℕ) → HasChanged self.now moment index → FitsAt (C.content classes.now) (map type_of locals.now) (types_at chains.now.links.items place) index }
+        ensures { result ≡ true → (index : ℕ) → HasChanged self.now moment index
+            → FitsAt (C.content classes.now) (map type_of locals.now) (types_at chains.now.links.items place) index }
     {
         for change in moment..self.changes.len() {
             let index = usize::from(self.changes[change]);
@@ -185,7 +192,9 @@ impl Fitting {
 
     // The locals fit the chain from a place down now.
     fn see(&mut self, place: usize)
-        ensures { (classes : List ClassFact) (t : DeclaredFrames) (locals : List VerificationType) → FitAll false classes locals (types_at t.chains.links.items place) → AreFitting classes t locals self.old → AreFitting classes t locals self.new }
+        ensures { (classes : List ClassFact) (t : DeclaredFrames) (locals : List VerificationType)
+            → FitAll false classes locals (types_at t.chains.links.items place) → AreFitting classes t locals self.old
+            → AreFitting classes t locals self.new }
     {
         if place == 0 || self.marks.len() < place {
             return;
@@ -194,8 +203,11 @@ impl Fitting {
     }
 
     // The locals fit a chain now, and so each chain that begins on it. Those down to a floor are marked.
-    fn see_down(&mut self, chains: &Chains<'_>, high: usize, floor: usize)
-        ensures { (classes : List ClassFact) (t : DeclaredFrames) (locals : List VerificationType) → t.chains.links.items ≡ chains.now.links.items → FitAll false classes locals (types_at chains.now.links.items high) → AreFitting classes t locals self.old → AreFitting classes t locals self.new }
+    fn see_down(&mut self, chains: &TypeChains<'_>, high: usize, floor: usize)
+        ensures { (classes : List ClassFact) (t : DeclaredFrames) (locals : List VerificationType)
+            → t.chains.links.items ≡ chains.now.links.items
+            → FitAll false classes locals (types_at chains.now.links.items high) → AreFitting classes t locals self.old
+            → AreFitting classes t locals self.new }
     {
         let mut at = high;
         while let Some(link) = chains.link(at) {
@@ -215,9 +227,14 @@ impl Fitting {
         locals: &[VType<'a>],
         classes: &C,
     ) -> bool
-        requires { AreFittingFor (C.content classes.now) declared.now (held_locals locals.now (length (declared_view declared.now).locals)) self.old }
-        ensures kept { (t : DeclaredFrames) → IsOf t declared.now → AreFitting (C.content classes.now) t (held_locals locals.now (length (declared_view declared.now).locals)) self.new }
-        ensures fit { result ≡ true → list_answer (type_answer (C.content classes.now)) (held_locals locals.now (length (declared_view declared.now).locals)) (declared_view declared.now).locals ≡ yes }
+        requires { AreFittingFor (C.content classes.now) declared.now
+            (held_locals locals.now (length (declared_view declared.now).locals)) self.old }
+        ensures kept { (t : DeclaredFrames) → IsOf t declared.now
+            → AreFitting (C.content classes.now) t
+            (held_locals locals.now (length (declared_view declared.now).locals)) self.new }
+        ensures fit { result ≡ true → list_answer (type_answer (C.content classes.now))
+            (held_locals locals.now (length (declared_view declared.now).locals)) (declared_view declared.now).locals
+            ≡ yes }
     {
         if usize::from(declared.max_locals) < locals.len() {
             return false;

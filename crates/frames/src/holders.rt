@@ -95,7 +95,8 @@ impl Holders {
 
     /// A place comes to hold this, which may be an object that is not initialized.
     pub fn put(&mut self, t: &VType<'_>, place: usize) -> Result<(), AllocError>
-        ensures kept { (object : VerificationType) (local : ℕ) → Holds self.old object local → Holds self.new object local }
+        ensures kept { (object : VerificationType) (local : ℕ) → Holds self.old object local
+            → Holds self.new object local }
         ensures put { OnOk result (IsSome (number_of (type_of t.now)) → Holds self.new (type_of t.now) place) }
     {
         let Some(number) = number(t) else {
@@ -110,7 +111,8 @@ impl Holders {
 
     /// Forgets those of an object.
     pub fn forget(&mut self, object: &VType<'_>)
-        ensures { (other : VerificationType) (local : ℕ) → number_of other ≢ number_of (type_of object.now) → Holds self.old other local → Holds self.new other local }
+        ensures { (other : VerificationType) (local : ℕ) → number_of other ≢ number_of (type_of object.now)
+            → Holds self.old other local → Holds self.new other local }
     {
         let Some(number) = number(object) else {
             return;

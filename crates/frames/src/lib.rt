@@ -1,6 +1,6 @@
-//! Verification types and frames, and when one may stand where another is wanted; stack maps. Proved against the answers in
-//! specs/Assignable.antt and specs/FrameAssignable.antt (JVMS 4.10.1.2 and 4.10.1.4), and the formats in specs/StackMaps.antt (4.7.4).
-//! The calls to know are [`frame_assignable`] and [`read_map`].
+//! Verification types and frames, and when one may stand where another is wanted; stack maps. Proved against the
+//! answers in specs/Assignable.antt and specs/FrameAssignable.antt (JVMS 4.10.1.2 and 4.10.1.4), and the formats in
+//! specs/StackMaps.antt (4.7.4). The calls to know are [`frame_assignable`] and [`read_map`].
 //!
 //! - `after`: the locals and the stack that an entry of a stack map leaves.
 //! - `chain`: types that share what lies below, as the locals of entries do.

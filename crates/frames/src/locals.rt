@@ -98,7 +98,8 @@ impl<'a> Locals<'a> {
     /// Gives a local a type.
     pub fn set(&mut self, place: usize, t: VType<'a>) -> Result<(), AllocError>
         requires { place + 1 < 2 ^ 64 }
-        ensures { OnOk result ((i : ℕ) → local self.new i ≡ (if nat_eq i place then type_of t.entry else local self.old i)) }
+        ensures { OnOk result ((i : ℕ)
+            → local self.new i ≡ (if nat_eq i place then type_of t.entry else local self.old i)) }
     {
         self.reach(place)?;
         self.holders.put(&t, place)?;
@@ -131,7 +132,8 @@ impl<'a> Locals<'a> {
 
     /// Where the locals begin that came to hold an object which is not initialized.
     pub fn first_holder(&self, object: &VType<'_>) -> usize
-        ensures { (i : ℕ) → local self.now i ≡ type_of object.now → IsSome (number_of (type_of object.now)) → IsHolder self.now result i }
+        ensures { (i : ℕ) → local self.now i ≡ type_of object.now → IsSome (number_of (type_of object.now))
+            → IsHolder self.now result i }
     {
         self.holders.first(object)
     }
@@ -139,7 +141,8 @@ impl<'a> Locals<'a> {
     /// One of these, and where the others begin.
     pub fn holder(&self, at: usize) -> Option<Holder>
         ensures down { IfSome result (λ h. h.next < at) }
-        ensures some { IfSome result (λ h. (i : ℕ) → i ≢ h.place → IsHolder self.now at i → IsHolder self.now h.next i) }
+        ensures some { IfSome result (λ h. (i : ℕ) → i ≢ h.place → IsHolder self.now at i
+            → IsHolder self.now h.next i) }
         ensures none { result ≡ None → (i : ℕ) → IsHolder self.now at i → ⊥ }
     {
         self.holders.get(at)

@@ -1,5 +1,5 @@
-//! Reading stack maps (JVMS 4.7.4). After an error a cursor stands somewhere in between; [`Part::take`](layout::Part::take) leaves it
-//! as it was.
+//! Reading stack maps (JVMS 4.7.4). After an error a cursor stands somewhere in between;
+//! [`Part::take`](layout::Part::take) leaves it as it was.
 ghost use Rattle.std.specs.Prelude.{◌<◌, ◌≤◌, ◌-◌, map};
 ghost use Rattle.layout.specs.Faults.{GoesOn};
 ghost use Rattle.layout.specs.Format.{times, andthen, number, done};
@@ -53,7 +53,8 @@ fn type_table(alloc: Global, cursor: &mut Cursor<'_>) -> Result<Vec<TypeInfo>, R
 #[tactic(auto, using(crate::proofs::Steps::steps))]
 fn with_item(frame_type: u8, cursor: &mut Cursor<'_>) -> Result<MapEntry, ReadFault>
     requires { 64 ≤ frame_type }
-    ensures { GoesOn (andthen type_info (λ item. done (maps.same_with_item (frame_type - 64) item))) entry_of cursor.old cursor.new result }
+    ensures { GoesOn (andthen type_info
+        (λ item. done (maps.same_with_item (frame_type - 64) item))) entry_of cursor.old cursor.new result }
 {
     let item = read_type(cursor)?;
     Ok(MapEntry::SameWithItem(frame_type - 64, item))
@@ -61,7 +62,9 @@ fn with_item(frame_type: u8, cursor: &mut Cursor<'_>) -> Result<MapEntry, ReadFa
 
 #[tactic(auto, using(crate::proofs::Steps::steps))]
 fn with_item_extended(cursor: &mut Cursor<'_>) -> Result<MapEntry, ReadFault>
-    ensures { GoesOn (andthen (number 2) (λ delta. andthen type_info (λ item. done (maps.same_with_item_extended delta item)))) entry_of cursor.old cursor.new result }
+    ensures { GoesOn (andthen (number 2)
+        (λ delta. andthen type_info (λ item. done
+        (maps.same_with_item_extended delta item)))) entry_of cursor.old cursor.new result }
 {
     let delta = cursor.u2()?;
     let item = read_type(cursor)?;
@@ -71,7 +74,9 @@ fn with_item_extended(cursor: &mut Cursor<'_>) -> Result<MapEntry, ReadFault>
 #[tactic(auto, using(crate::proofs::Steps::steps))]
 fn append(alloc: Global, frame_type: u8, cursor: &mut Cursor<'_>) -> Result<MapEntry, ReadFault>
     requires { 251 ≤ frame_type }
-    ensures { GoesOn (andthen (number 2) (λ delta. andthen (times (frame_type - 251) type_info) (λ locals. done (maps.append delta locals)))) entry_of cursor.old cursor.new result }
+    ensures { GoesOn (andthen (number 2)
+        (λ delta. andthen (times (frame_type - 251) type_info)
+        (λ locals. done (maps.append delta locals)))) entry_of cursor.old cursor.new result }
 {
     let delta = cursor.u2()?;
     let locals = many::<TypeInfo>(alloc, cursor, (frame_type - 251) as u16)?;
@@ -80,7 +85,9 @@ fn append(alloc: Global, frame_type: u8, cursor: &mut Cursor<'_>) -> Result<MapE
 
 #[tactic(auto, using(crate::proofs::Steps::steps))]
 fn full(alloc: Global, cursor: &mut Cursor<'_>) -> Result<MapEntry, ReadFault>
-    ensures { GoesOn (andthen (number 2) (λ delta. andthen type_table (λ locals. andthen type_table (λ stack. done (maps.full delta locals stack))))) entry_of cursor.old cursor.new result }
+    ensures { GoesOn (andthen (number 2)
+        (λ delta. andthen type_table (λ locals. andthen type_table
+        (λ stack. done (maps.full delta locals stack))))) entry_of cursor.old cursor.new result }
 {
     let delta = cursor.u2()?;
     let locals = type_table(alloc, cursor)?;

@@ -121,7 +121,9 @@ fn put_full(
     locals: &Vec<TypeInfo>,
     stack: &Vec<TypeInfo>,
 ) -> Result<(), WriteFault>
-    ensures { Goes (field 2 delta ++ (counted type_pieces (map info_of locals.now.items) ++ counted type_pieces (map info_of stack.now.items))) out.old out.new result }
+    ensures { Goes (field 2 delta
+        ++ (counted type_pieces (map info_of locals.now.items)
+        ++ counted type_pieces (map info_of stack.now.items))) out.old out.new result }
 {
     out.put_u2(delta)?;
     put_type_table(out, locals)?;

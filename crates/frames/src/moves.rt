@@ -33,8 +33,10 @@ fn push_chosen(numbers: &[usize], stack: &mut Vec<VType<'_>>) -> Result<(), Allo
 /// Takes the items of a form off, and pushes what it leaves.
 pub fn rearrange(form: StackForm, stack: &mut Vec<VType<'_>>) -> Result<(), AllocError>
     requires { length form.takes.now ≤ length stack.old.items }
-    ensures all { OnOk result (top_first stack.new.items ≡ rearranged (stack_form_view form) (top_first stack.old.items)) }
-    ensures kept { OnOk result (take (length stack.old.items - length form.takes.now) stack.new.items ≡ take (length stack.old.items - length form.takes.now) stack.old.items) }
+    ensures all { OnOk result (top_first stack.new.items
+        ≡ rearranged (stack_form_view form) (top_first stack.old.items)) }
+    ensures kept { OnOk result (take (length stack.old.items - length form.takes.now) stack.new.items
+        ≡ take (length stack.old.items - length form.takes.now) stack.old.items) }
     ensures above { OnOk result (length stack.old.items - length form.takes.now ≤ length stack.new.items) }
 {
     let height = stack.len();

@@ -32,7 +32,8 @@ pub fn reference_to<'a>(t: RefType<'a>) -> VType<'a>
     }
 }
 
-/// The type of what a field or a parameter of this type holds (JVMS 4.10.1.2): a boolean, byte, char or short is an int.
+/// The type of what a field or a parameter of this type holds (JVMS 4.10.1.2): a boolean, byte, char or short is an
+/// int.
 pub fn held_by<'a>(t: &FieldType<'a>) -> VType<'a>
     ensures { type_of result ≡ descriptor_type (names.type_of t.now) }
 {

@@ -37,7 +37,8 @@ pub struct OperandStack<'a> {
 
 /// Lists the items from a place up.
 fn list(types: &[VType<'_>], from: usize, holders: &mut Holders) -> Result<(), AllocError>
-    ensures kept { (object : VerificationType) (place : ℕ) → Holds holders.old object place → Holds holders.new object place }
+    ensures kept { (object : VerificationType) (place : ℕ) → Holds holders.old object place
+        → Holds holders.new object place }
     ensures listed { OnOk result (AreListedFrom from types.now holders.new) }
 {
     for place in from..types.len() {
@@ -52,7 +53,8 @@ fn write<'a>(
     types: &mut Vec<VType<'a>>,
     holders: &mut Holders,
 ) -> Result<(), AllocError>
-    ensures { OnOk result ((top_first types.new.items ≡ (declared_view declared.now).stack) × ItemsAreListed types.new.items holders.new) }
+    ensures { OnOk result ((top_first types.new.items ≡ (declared_view declared.now).stack)
+        × ItemsAreListed types.new.items holders.new) }
 {
     declared.write_stack(types)?;
     list(types, 0, holders)
@@ -66,8 +68,10 @@ fn rearrange_listed(
 ) -> Result<(), AllocError>
     requires few { length form.takes.now ≤ length types.old.items }
     requires listed { ItemsAreListed types.old.items holders.old }
-    ensures all { OnOk result (top_first types.new.items ≡ rearranged (stack_form_view form) (top_first types.old.items)) }
-    ensures kept { OnOk result (take (length types.old.items - length form.takes.now) types.new.items ≡ take (length types.old.items - length form.takes.now) types.old.items) }
+    ensures all { OnOk result (top_first types.new.items
+        ≡ rearranged (stack_form_view form) (top_first types.old.items)) }
+    ensures kept { OnOk result (take (length types.old.items - length form.takes.now) types.new.items
+        ≡ take (length types.old.items - length form.takes.now) types.old.items) }
     ensures above { OnOk result (length types.old.items - length form.takes.now ≤ length types.new.items) }
     ensures listed { OnOk result (ItemsAreListed types.new.items holders.new) }
 {
@@ -94,7 +98,8 @@ fn replace_listed<'a>(
     requires none { number_of (type_of by) ≡ None }
     requires listed { ItemsAreListed types.old.items holders.now }
     ensures size { length types.new.items ≡ length types.old.items }
-    ensures types { (i : ℕ) → type_at types.new.items i ≡ replaced (type_of object.now) (type_of by.entry) (type_at types.old.items i) }
+    ensures types { (i : ℕ) → type_at types.new.items i
+        ≡ replaced (type_of object.now) (type_of by.entry) (type_at types.old.items i) }
 {
     let mut at = holders.first(object);
     while let Some(holder) = holders.get(at) {
@@ -170,7 +175,8 @@ impl<'a> OperandStack<'a> {
 
     /// Takes the top off.
     pub fn pop(&mut self) -> Option<VType<'a>>
-        ensures { MatchOption result ((stack_in self.old ≡ []) × (stack_in self.new ≡ stack_in self.old)) (λ t. stack_in self.old ≡ type_of t ∷ stack_in self.new) }
+        ensures { MatchOption result ((stack_in self.old ≡ []) × (stack_in self.new ≡ stack_in self.old))
+            (λ t. stack_in self.old ≡ type_of t ∷ stack_in self.new) }
     {
         let t = self.types.pop()?;
         self.wides -= extra(&t);
@@ -233,7 +239,8 @@ impl<'a> OperandStack<'a> {
     /// initialized: all in front of the first one that is of it.
     pub fn items_before(&self, object: &VType<'_>, limit: usize) -> usize
         ensures few { result ≤ limit }
-        ensures other { (i : ℕ) → i < result → is_initialized (type_of object.now) (item (stack_in self.now) i) ≡ false }
+        ensures other { (i : ℕ) → i < result
+            → is_initialized (type_of object.now) (item (stack_in self.now) i) ≡ false }
         ensures first { result < limit → is_initialized (type_of object.now) (item (stack_in self.now) result) ≡ true }
     {
         let mut first = limit;

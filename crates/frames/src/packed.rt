@@ -39,7 +39,8 @@ fn push_slots<C: Classes>(
     types: &[VType<'_>],
     classes: &C,
 ) -> Result<(), AllocError>
-    ensures { OnOk result (slots.new.items ≡ slots.old.items ++ map (slot_of (C.content classes.now)) (map type_of types.now)) }
+    ensures { OnOk result (slots.new.items ≡ slots.old.items
+        ++ map (slot_of (C.content classes.now)) (map type_of types.now)) }
 {
     for vtype in types {
         slots.push(pack(vtype, classes))?;
@@ -96,7 +97,8 @@ fn place_assignable<'n, C: Classes>(
 ) -> Answer<'n>
     requires alike { IsAlike (frame_of from.now) (frame_of to.now) }
     requires within { place < length from.now.locals.items + length from.now.stack.items }
-    ensures { slice_get (slot_answers (C.content classes.now) (frame_of from.now) (frame_of to.now)) place ≡ Some (outcome_of result) }
+    ensures { slice_get (slot_answers (C.content classes.now) (frame_of from.now) (frame_of to.now)) place
+        ≡ Some (outcome_of result) }
 {
     let count = from.locals.len();
     if place < count {
@@ -118,7 +120,8 @@ pub fn packed_assignable<'n, C: Classes>(
 ) -> Answer<'n>
     requires from { IsPacked (C.content classes.now) from.now }
     requires to { IsPacked (C.content classes.now) to.now }
-    ensures { outcome_of result ≡ frame_answer (C.content classes.now) (frame_of from.now.frame) (frame_of to.now.frame) }
+    ensures { outcome_of result ≡ frame_answer (C.content classes.now) (frame_of from.now.frame)
+        (frame_of to.now.frame) }
 {
     if !are_alike(&from.frame, &to.frame) {
         return Answer::No;

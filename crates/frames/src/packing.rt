@@ -42,9 +42,9 @@ fn class_slot(dims: u8, place: Option<u16>) -> u32
     }
 }
 
-/// A type in four bytes: a tag, for an array the number of its dimensions, and the place of a class, the offset of a `new`
-/// or the number of a primitive type. All absent classes and arrays of them have the slot [`ABSENT`]; of other types equal
-/// slots are equal types. Takes no memory.
+/// A type in four bytes: a tag, for an array the number of its dimensions, and the place of a class, the offset of a
+/// `new` or the number of a primitive type. All absent classes and arrays of them have the slot [`ABSENT`]; of other
+/// types equal slots are equal types. Takes no memory.
 pub fn pack<C: Classes>(vtype: &VType<'_>, classes: &C) -> u32
     ensures { result ≡ slot_of (C.content classes.now) (type_of vtype.now) }
 {

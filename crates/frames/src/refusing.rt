@@ -3,12 +3,12 @@ ghost use Rattle.std.specs.Prelude.{◌≡◌, ◌<◌, map, None};
 ghost use Rattle.frames.specs.MapViews.{info_of, entry_of};
 ghost use Rattle.frames.specs.Conditions.{least};
 ghost use Rattle.frames.specs.DeclaredFrames.{any_info, infos_of, chops_more, entry_conditions};
-ghost use Rattle.frames.specs.Chains.{types_at};
+ghost use Rattle.frames.specs.TypeChains.{types_at};
 ghost use Rattle.frames.specs.DeclaredViews.{locals_at};
 ghost use Rattle.frames.specs.Judging.{is_wrong, told};
 
 use crate::after::FrameTops;
-use crate::chain::Chains;
+use crate::chain::TypeChains;
 use crate::constants::{is_absent, is_other};
 use crate::frame_fault::FrameFault;
 use crate::stack_map::{MapEntry, TypeInfo};
@@ -79,7 +79,7 @@ fn has_wrong<S: Starts>(wrong: Wrong, entry: &MapEntry, pool: &Pool<'_>, starts:
 }
 
 /// Whether an entry takes more locals off than there are from a place down.
-fn chops_more(chains: &Chains<'_>, before: usize, entry: &MapEntry) -> bool
+fn chops_more(chains: &TypeChains<'_>, before: usize, entry: &MapEntry) -> bool
     ensures { result ≡ chops_more (entry_of entry.now) (locals_at chains.now.links.items before) }
 {
     match entry {
@@ -90,7 +90,7 @@ fn chops_more(chains: &Chains<'_>, before: usize, entry: &MapEntry) -> bool
 
 /// The least fault of an entry that declares this frame, behind locals that begin at a place.
 pub fn judge<S: Starts>(
-    chains: &Chains<'_>,
+    chains: &TypeChains<'_>,
     before: usize,
     entry: &MapEntry,
     frame: FrameTops,
@@ -98,7 +98,9 @@ pub fn judge<S: Starts>(
 ) -> Option<FrameFault>
     ensures small { result ≡ None → frame.at < 65536 }
     ensures least { let links = chains.now.links.items in
-        told result ≡ least (entry_conditions limits.now.pool.now (S.code limits.now.starts.now) limits.now.max_locals limits.now.max_stack frame.at (entry_of entry.now) (locals_at links before) (locals_at links frame.locals) (types_at links frame.stack)) }
+        told result ≡ least (entry_conditions limits.now.pool.now
+        (S.code limits.now.starts.now) limits.now.max_locals limits.now.max_stack frame.at (entry_of entry.now)
+        (locals_at links before) (locals_at links frame.locals) (types_at links frame.stack)) }
 {
     let pool = limits.pool;
     let starts = limits.starts;

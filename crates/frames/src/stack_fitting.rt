@@ -2,12 +2,12 @@
 ghost use Rattle.std.specs.Prelude.{◌≡◌, ◌≤◌, ℕ, true, List, length};
 ghost use Rattle.hierarchy.specs.Class.{ClassFact};
 ghost use Rattle.frames.specs.VerificationType.{VerificationType};
-ghost use Rattle.frames.specs.Chains.{types_at};
+ghost use Rattle.frames.specs.TypeChains.{types_at};
 ghost use Rattle.frames.specs.Fitting.{AreFitBut};
 ghost use Rattle.frames.specs.StackFitting.{HasSunk};
 ghost use Rattle.frames.specs.declared.stack_fitting.Low.{Low};
 
-use crate::chain::Chains;
+use crate::chain::TypeChains;
 use crate::declared_frames::{Declared, DeclaredFrames};
 use crate::vtype::VType;
 use hierarchy::{Answer, Classes};
@@ -27,8 +27,9 @@ pub struct Low {
 
 /// Which stacks of declared frames a stack that changes is known to fit.
 ///
-/// A moment is the number of stacks that were seen to fit a declared one before it. Each declared stack has the moment, if there is one, at which
-/// the running stack was last seen to fit it: since then the items do that are below all heights of later moments.
+/// A moment is the number of stacks that were seen to fit a declared one before it. Each declared stack has the moment,
+/// if there is one, at which the running stack was last seen to fit it: since then the items do that are below all
+/// heights of later moments.
 #[derive(Drop)]
 pub struct StackFitting {
     /// One for each link of the table's chains; none at all where nothing is kept, since no stack is deep.
@@ -39,9 +40,10 @@ pub struct StackFitting {
 }
 
 /// The place on a chain below which all types stand below a height.
-fn place_below(chains: &Chains<'_>, top: usize, height: usize) -> usize
+fn place_below(chains: &TypeChains<'_>, top: usize, height: usize) -> usize
     ensures few { length (types_at chains.now.links.items result) ≤ height }
-    ensures on { (lows : List Low) (moment : ℕ) (classes : List ClassFact) (items : List VerificationType) → AreFitBut true (HasSunk lows moment) classes items (types_at chains.now.links.items top)
+    ensures on { (lows : List Low) (moment : ℕ) (classes : List ClassFact) (items : List VerificationType)
+        → AreFitBut true (HasSunk lows moment) classes items (types_at chains.now.links.items top)
         → AreFitBut true (HasSunk lows moment) classes items (types_at chains.now.links.items result) }
 {
     let mut at = top;
@@ -59,7 +61,7 @@ impl StackFitting {
     ghost use Rattle.hierarchy.specs.Answer.{yes, outcome_of};
     ghost use Rattle.frames.specs.VerificationType.{type_of};
     ghost use Rattle.frames.specs.Assignable.{type_answer};
-    ghost use Rattle.frames.specs.Chains.{chain_answer, place};
+    ghost use Rattle.frames.specs.TypeChains.{chain_answer, place};
     ghost use Rattle.frames.specs.FrameAssignable.{slot_answer, list_answer, frame_answer};
     ghost use Rattle.frames.specs.HeldFrames.{held_locals, held_frame};
     ghost use Rattle.frames.specs.DeclaredTables.{declared_view, IsOf, AreFit};
@@ -67,13 +69,15 @@ impl StackFitting {
     ghost use Rattle.frames.specs.StackFitting.{HasSunk, IsStackMarked, AreLowsEarly, AreStackFitting, AreStackFittingFor, AreSameBelow, IsLast, HasLast};
     ghost use Rattle.frames.specs.declared.declared_frames.DeclaredFrames.{DeclaredFrames};
 
-    /// Nothing is known yet of the frames of a table, and nothing will be where a stack has so few units that it is soon compared.
+    /// Nothing is known yet of the frames of a table, and nothing will be where a stack has so few units that it is
+    /// soon compared.
     pub fn new(
         alloc: Global,
         frames: &DeclaredFrames<'_>,
         max_stack: u16,
     ) -> Result<StackFitting, AllocError>
-        ensures { IfOk result (λ x. (classes : List ClassFact) (items : List VerificationType) → AreStackFitting classes frames.now items x) }
+        ensures { IfOk result (λ x. (classes : List ClassFact) (items : List VerificationType)
+            → AreStackFitting classes frames.now items x) }
     {
         let mut marks: Vec<Option<u32>> = Vec::new(alloc);
         if max_stack > SHALLOW {
@@ -91,7 +95,8 @@ impl StackFitting {
         ensures marks { self.new.marks ≡ self.old.marks }
         ensures moment { self.new.moment ≡ self.old.moment }
         ensures lows { AreLowsEarly self.old → AreLowsEarly self.new }
-        ensures sunk { (moment item : ℕ) → HasSunk self.old.lows.items moment item → HasSunk self.new.lows.items moment item ⊎ (height ≤ item) }
+        ensures sunk { (moment item : ℕ) → HasSunk self.old.lows.items moment item
+            → HasSunk self.new.lows.items moment item ⊎ (height ≤ item) }
         ensures last { IsLast self.new.lows.items (λ low. low.height < height) }
     {
         while let Some(low) = self.lows.last() {
@@ -114,7 +119,8 @@ impl StackFitting {
 
     /// The items from a height on may have changed, and none below it.
     pub fn changed_from(&mut self, height: usize) -> Result<(), AllocError>
-        ensures { (classes : List ClassFact) (t : DeclaredFrames) (before after : List VerificationType) → AreSameBelow height before after
+        ensures { (classes : List ClassFact) (t : DeclaredFrames) (before after : List VerificationType)
+            → AreSameBelow height before after
             → AreStackFitting classes t before self.old → OnOk result (AreStackFitting classes t after self.new) }
     {
         if self.moment == 0 {
@@ -154,9 +160,11 @@ impl StackFitting {
     }
 
     // The place on a declared stack's chain from which down the items are known to fit.
-    fn floor(&self, chains: &Chains<'_>, top: usize) -> usize
-        ensures { (classes : List ClassFact) (t : DeclaredFrames) (items : List VerificationType) → t.chains.links.items ≡ chains.now.links.items → AreStackFitting classes t items self.now
-            → chain_answer (slot_answer classes true) (place true) items (types_at chains.now.links.items result) ≡ yes }
+    fn floor(&self, chains: &TypeChains<'_>, top: usize) -> usize
+        ensures { (classes : List ClassFact) (t : DeclaredFrames) (items : List VerificationType)
+            → t.chains.links.items ≡ chains.now.links.items → AreStackFitting classes t items self.now
+            → chain_answer (slot_answer classes true) (place true) items (types_at chains.now.links.items result)
+            ≡ yes }
     {
         match self.moment(top) {
             Some(moment) => place_below(chains, top, self.unchanged_since(moment)),
@@ -166,7 +174,8 @@ impl StackFitting {
 
     // The stack fits the chain from a place down now.
     fn see(&mut self, place: usize)
-        ensures { (classes : List ClassFact) (t : DeclaredFrames) (items : List VerificationType) → FitAll true classes items (types_at t.chains.links.items place)
+        ensures { (classes : List ClassFact) (t : DeclaredFrames) (items : List VerificationType)
+            → FitAll true classes items (types_at t.chains.links.items place)
             → AreStackFitting classes t items self.old → AreStackFitting classes t items self.new }
     {
         if place == 0 || self.marks.len() < place {
@@ -179,9 +188,9 @@ impl StackFitting {
         self.marks[place - 1] = Some(next);
     }
 
-    /// Whether a frame may stand where one is declared (JVMS 4.10.1.4): one that has these locals, all beyond them being top, this stack from the
-    /// bottom up, and this flag. Items that are known to fit are not compared again, nor are locals that the declared frame shares with one that they
-    /// are known to fit. Takes no memory.
+    /// Whether a frame may stand where one is declared (JVMS 4.10.1.4): one that has these locals, all beyond them
+    /// being top, this stack from the bottom up, and this flag. Items that are known to fit are not compared again, nor
+    /// are locals that the declared frame shares with one that they are known to fit. Takes no memory.
     pub fn answer<'a, C: Classes>(
         &mut self,
         declared: &Declared<'_, 'a>,
@@ -191,11 +200,14 @@ impl StackFitting {
         fits: Option<Declared<'_, 'a>>,
         classes: &C,
     ) -> Answer<'a>
-        requires fits { IfSome fits (AreFit (C.content classes.now) declared.now (held_locals locals.now (length (declared_view declared.now).locals))) }
+        requires fits { IfSome fits (AreFit (C.content classes.now) declared.now
+            (held_locals locals.now (length (declared_view declared.now).locals))) }
         requires known { AreStackFittingFor (C.content classes.now) declared.now (map type_of stack.now) self.old }
         ensures told { let d = declared_view declared.now in
-            outcome_of result ≡ frame_answer (C.content classes.now) (held_frame locals.now (length d.locals) stack.now flag) d }
-        ensures known { (t : DeclaredFrames) → IsOf t declared.now → AreStackFitting (C.content classes.now) t (map type_of stack.now) self.new }
+            outcome_of result ≡ frame_answer (C.content classes.now)
+            (held_frame locals.now (length d.locals) stack.now flag) d }
+        ensures known { (t : DeclaredFrames) → IsOf t declared.now
+            → AreStackFitting (C.content classes.now) t (map type_of stack.now) self.new }
     {
         let chains = declared.chains;
         let top = declared.tops.stack;

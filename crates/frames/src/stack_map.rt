@@ -90,8 +90,8 @@ impl<'a> StackMap<'a> {
     }
 }
 
-/// A tag, and a number of two bytes behind 7 and 8. Refused are 2 `EndsEarly` at a number that is not whole, and 48 `BadTypeTag`
-/// at a tag over 8. Each value has a spelling.
+/// A tag, and a number of two bytes behind 7 and 8. Refused are 2 `EndsEarly` at a number that is not whole, and 48
+/// `BadTypeTag` at a tag over 8. Each value has a spelling.
 impl<'a> Part<'a> for TypeInfo {
     ghost use Rattle.frames.specs.StackMaps as maps;
     ghost use Rattle.frames.specs.MapLaws.{writes_type};
@@ -121,10 +121,10 @@ impl<'a> Part<'a> for TypeInfo {
     }
 }
 
-/// A frame type, and what its form has. Refused are, as the first fault in the order of the bytes, 2 `EndsEarly` at a number that is
-/// not whole, 47 `BadFrameType` at a frame type from 128 to 246, and 48 `BadTypeTag`. Without a spelling, 18, are a `Same` or
-/// `SameWithItem` with a delta over 63, and a `Chop` or `Append` of none or more than 3; a `Full` with more than 65,535 types in a
-/// list is too large, 17.
+/// A frame type, and what its form has. Refused are, as the first fault in the order of the bytes, 2 `EndsEarly` at a
+/// number that is not whole, 47 `BadFrameType` at a frame type from 128 to 246, and 48 `BadTypeTag`. Without a
+/// spelling, 18, are a `Same` or `SameWithItem` with a delta over 63, and a `Chop` or `Append` of none or more than 3;
+/// a `Full` with more than 65,535 types in a list is too large, 17.
 impl<'a> Part<'a> for MapEntry {
     ghost use Rattle.frames.specs.StackMaps as maps;
     ghost use Rattle.frames.specs.MapLaws.{writes_entry};
@@ -154,8 +154,9 @@ impl<'a> Part<'a> for MapEntry {
     }
 }
 
-/// A count of two bytes, and so many entries. Refused are the first fault of an entry, in the order of the bytes, and 2 `EndsEarly`
-/// at a count that is not whole. 17 is more than 65,535 entries; an entry that is too large or has no spelling is as it is alone.
+/// A count of two bytes, and so many entries. Refused are the first fault of an entry, in the order of the bytes, and 2
+/// `EndsEarly` at a count that is not whole. 17 is more than 65,535 entries; an entry that is too large or has no
+/// spelling is as it is alone.
 impl<'a> Part<'a> for StackMap<'a> {
     ghost use Rattle.std.specs.Prelude.{List};
     ghost use Rattle.frames.specs.StackMaps as maps;
@@ -187,8 +188,9 @@ impl<'a> Part<'a> for StackMap<'a> {
 
 /// The stack map that the body of a StackMapTable spells, all of it.
 ///
-/// Otherwise the first fault in the order of the bytes: 2 where a part passes the end, 47 for a frame type, 48 for a type's tag, and
-/// 12 at the first byte left over; or 1 where memory runs out. Places count bytes from the body's first.
+/// Otherwise the first fault in the order of the bytes: 2 where a part passes the end, 47 for a frame type, 48 for a
+/// type's tag, and 12 at the first byte left over; or 1 where memory runs out. Places count bytes from the body's
+/// first.
 pub fn read_map<'a>(alloc: Global, body: &'a [u8]) -> Result<StackMap<'a>, ReadFault>
     // The answer is spelled by the body.
     ensures found { IfOk result (λ m. IsMap body.now m) }

@@ -1,13 +1,13 @@
-//! Chains gone through from the top down.
+//! TypeChains gone through from the top down.
 ghost use Rattle.std.specs.Prelude.{◌≡◌, ◌+◌, ◌++◌, ℕ, map, reverse, get_or, OnOk};
 ghost use Rattle.hierarchy.specs.Answer.{yes, outcome_of};
 ghost use Rattle.frames.specs.VerificationType.{type_of, top};
 ghost use Rattle.frames.specs.FrameAssignable.{slot_answer, width_of};
 ghost use Rattle.frames.specs.Slots.{units_of};
 ghost use Rattle.frames.specs.Locals.{local};
-ghost use Rattle.frames.specs.Chains.{types_at, chain_answer, place, IsOn, one_set, AreBelow, AreTopFrom, AreOfChain};
+ghost use Rattle.frames.specs.TypeChains.{types_at, chain_answer, place, IsOn, one_set, AreBelow, AreTopFrom, AreOfChain};
 
-use crate::chain::Chains;
+use crate::chain::TypeChains;
 use crate::compare_frames::{both, slot_assignable, width};
 use crate::locals::Locals;
 use crate::vtype::VType;
@@ -25,7 +25,7 @@ pub fn at_or_top<'a>(from: &[VType<'a>], place: usize) -> VType<'a>
 }
 
 // Where a type stands whose lower ones are those from a place down: on the stack by items, in locals by units.
-fn place_of(chains: &Chains<'_>, below: usize, on_stack: bool) -> usize
+fn place_of(chains: &TypeChains<'_>, below: usize, on_stack: bool) -> usize
     ensures { result ≡ place on_stack (types_at chains.now.links.items below) }
 {
     if on_stack {
@@ -35,18 +35,20 @@ fn place_of(chains: &Chains<'_>, below: usize, on_stack: bool) -> usize
     }
 }
 
-/// The slots from the bottom up to those of a chain, of which the lowest that lacks a class names it. From the floor down they are known
-/// to be assignable, and not looked at.
+/// The slots from the bottom up to those of a chain, of which the lowest that lacks a class names it. From the floor
+/// down they are known to be assignable, and not looked at.
 pub fn chain_assignable<'a, C: Classes>(
     from: &[VType<'a>],
-    chains: &Chains<'a>,
+    chains: &TypeChains<'a>,
     top: usize,
     floor: usize,
     on_stack: bool,
     classes: &C,
 ) -> Answer<'a>
-    requires { chain_answer (slot_answer (C.content classes.now) on_stack) (place on_stack) (map type_of from.now) (types_at chains.now.links.items floor) ≡ yes }
-    ensures { outcome_of result ≡ chain_answer (slot_answer (C.content classes.now) on_stack) (place on_stack) (map type_of from.now) (types_at chains.now.links.items top) }
+    requires { chain_answer (slot_answer (C.content classes.now) on_stack) (place on_stack) (map type_of from.now)
+        (types_at chains.now.links.items floor) ≡ yes }
+    ensures { outcome_of result ≡ chain_answer (slot_answer (C.content classes.now) on_stack) (place on_stack)
+        (map type_of from.now) (types_at chains.now.links.items top) }
 {
     let mut at = top;
     let mut so_far = Answer::Yes;
@@ -67,11 +69,12 @@ pub fn chain_assignable<'a, C: Classes>(
 
 // Puts the types of a chain behind the others, the top one first.
 fn write_down<'a>(
-    chains: &Chains<'a>,
+    chains: &TypeChains<'a>,
     top: usize,
     out: &mut Vec<VType<'a>>,
 ) -> Result<(), AllocError>
-    ensures { OnOk result (map type_of out.new.items ≡ map type_of out.old.items ++ types_at chains.now.links.items top) }
+    ensures { OnOk result (map type_of out.new.items ≡ map type_of out.old.items
+        ++ types_at chains.now.links.items top) }
 {
     let mut at = top;
     while let Some(link) = chains.link(at) {
@@ -83,7 +86,7 @@ fn write_down<'a>(
 
 /// Writes the types of a chain to a vector in place of what it holds, from the bottom up.
 pub fn write_stack<'a>(
-    chains: &Chains<'a>,
+    chains: &TypeChains<'a>,
     top: usize,
     out: &mut Vec<VType<'a>>,
 ) -> Result<(), AllocError>
@@ -114,7 +117,7 @@ fn set_local<'a>(
 
 /// Gives locals the types of a chain above a floor, by units: those below are of the chain, and those above are top.
 pub fn write_locals<'a>(
-    chains: &Chains<'a>,
+    chains: &TypeChains<'a>,
     top: usize,
     floor: usize,
     locals: &mut Locals<'a>,

@@ -35,11 +35,11 @@ fn to_frames<'a>(
 
 /// The frames that a stack map declares, each with its offset in bytes (JVMS 4.7.4).
 ///
-/// Otherwise the first entry that is refused gives the fault, by the least number of those that hold of it: 8, 9 or 49 to 53. 1
-/// where memory runs out.
+/// Otherwise the first entry that is refused gives the fault, by the least number of those that hold of it: 8, 9 or 49
+/// to 53. 1 where memory runs out.
 ///
-/// `code` has the instructions of the method with their offsets, of which the first at an offset counts. `initial` has the
-/// types of the receiver and of the parameters, a long or double being one of them. Each frame has all its locals:
+/// `code` has the instructions of the method with their offsets, of which the first at an offset counts. `initial` has
+/// the types of the receiver and of the parameters, a long or double being one of them. Each frame has all its locals:
 /// [`declare`] makes the same frames in less memory.
 pub fn declared<'a>(
     alloc: Global,
@@ -50,7 +50,8 @@ pub fn declared<'a>(
     max_locals: u16,
     max_stack: u16,
 ) -> Result<Vec<(u16, Frame<'a>)>, FrameFault>
-    ensures { AreTold (declared_frames pool.now (acts (views code.now)) max_locals max_stack (map type_of initial.now) stack_map.now) result }
+    ensures { AreTold (declared_frames pool.now (acts (views code.now)) max_locals max_stack
+        (map type_of initial.now) stack_map.now) result }
 {
     let starts = ListStarts::new(alloc, code)?;
     let mut constants = Descriptors::new(alloc, pool);

@@ -1,5 +1,5 @@
-//! Lines of classes, each below the one before, and flat lists, kept in rows of ancestors or asked by a walk along their
-//! superclasses, for `bench/hierarchy` to measure.
+//! Lines of classes, each below the one before, and flat lists, kept in rows of ancestors or asked by a walk along
+//! their superclasses, for `bench/hierarchy` to measure.
 use hierarchy::{Answer, Chains, Classes, Rows, Summary};
 use names::OBJECT;
 use std::alloc::{AllocError, Global};
@@ -20,8 +20,8 @@ fn summary<'a>(alloc: Global, name: &'a [u8], superclass: Option<&'a [u8]>) -> S
     }
 }
 
-/// The classes of these names and `java/lang/Object`: each below the one behind it, and the last below Object; or all below
-/// Object.
+/// The classes of these names and `java/lang/Object`: each below the one behind it, and the last below Object; or all
+/// below Object.
 fn list_of<'a>(
     alloc: Global,
     names: &'a [[u8; 2]],

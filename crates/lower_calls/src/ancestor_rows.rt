@@ -35,11 +35,11 @@ fn check_climbs<'s, 'a, S: BuildHasher>(rt: &impl Abort, rows: &Rows<'s, 'a, S>)
         (b"C6", b"C6", Answer::Yes, 0),
         (b"C6", b"B", Answer::No, 0),
     ];
-    for (a, b, want, looks) in questions {
+    for (a, b, expected, looks) in questions {
         let (answer, looked) = rows.climb(a, b);
-        assert!(rt; answer == want);
+        assert!(rt; answer == expected);
         assert!(rt; looked == looks);
-        assert!(rt; rows.is_subclass(a, b) == want);
+        assert!(rt; rows.is_subclass(a, b) == expected);
     }
 }
 
@@ -77,9 +77,9 @@ fn a_line_of_classes(rt: HostRuntime) {
 }
 
 /// Whether both refuse a list for the same, which is this.
-fn are_refused(alloc: Global, classes: &[Summary<'_>], want: HierarchyFault<'_>) -> bool {
-    Rows::new(alloc, classes, hasher()).err() == Some(want)
-        && Chains::new(alloc, classes, hasher()).err() == Some(want)
+fn are_refused(alloc: Global, classes: &[Summary<'_>], expected: HierarchyFault<'_>) -> bool {
+    Rows::new(alloc, classes, hasher()).err() == Some(expected)
+        && Chains::new(alloc, classes, hasher()).err() == Some(expected)
 }
 
 #[test]
@@ -133,7 +133,8 @@ fn numbers(alloc: Global, count: u16) -> Result<Vec<[u8; 2]>, AllocError> {
     (0..count).map(|number| number.to_be_bytes()).collect(alloc)
 }
 
-/// `java/lang/Object`, and classes of these names: each below the one behind it, and the last below Object; or all below Object.
+/// `java/lang/Object`, and classes of these names: each below the one behind it, and the last below Object; or all
+/// below Object.
 fn many<'a>(
     alloc: Global,
     names: &'a [[u8; 2]],

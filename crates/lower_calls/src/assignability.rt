@@ -55,11 +55,11 @@ fn array_rows<'a>() -> [(VType<'a>, VType<'a>, Answer<'a>); 4] {
 }
 
 fn check_types<C: Classes>(rt: &impl Abort, classes: &C) {
-    for (from, to, want) in class_rows() {
-        assert!(rt; assignable(&from, &to, classes) == want);
+    for (from, to, expected) in class_rows() {
+        assert!(rt; assignable(&from, &to, classes) == expected);
     }
-    for (from, to, want) in array_rows() {
-        assert!(rt; assignable(&from, &to, classes) == want);
+    for (from, to, expected) in array_rows() {
+        assert!(rt; assignable(&from, &to, classes) == expected);
     }
 }
 
@@ -80,10 +80,10 @@ fn is_answered<'a, C: Classes>(
     from: Result<Frame<'a>, AllocError>,
     to: Result<Frame<'a>, AllocError>,
     classes: &C,
-    want: Answer<'a>,
+    expected: Answer<'a>,
 ) -> bool {
     match (from, to) {
-        (Ok(from), Ok(to)) => frame_assignable(&from, &to, classes) == want,
+        (Ok(from), Ok(to)) => frame_assignable(&from, &to, classes) == expected,
         _ => false,
     }
 }
@@ -96,9 +96,9 @@ fn check_stacks<C: Classes>(rt: &impl Abort, alloc: Global, classes: &C) {
         (&[A, VType::Int], &[B, A], Answer::No),
         (&[A, A], &[A, B], Answer::Missing(b"B")),
     ];
-    for (from, to, want) in rows {
+    for (from, to, expected) in rows {
         let (from, to) = (frame(alloc, &[], from, false), frame(alloc, &[], to, false));
-        assert!(rt; is_answered(from, to, classes, want));
+        assert!(rt; is_answered(from, to, classes, expected));
     }
 }
 
@@ -107,9 +107,9 @@ fn check_locals<C: Classes>(rt: &impl Abort, alloc: Global, classes: &C) {
     let long = frame(alloc, &[VType::Long, VType::Top], &[], false);
     let unknown = frame(alloc, &[VType::Top, VType::Top], &[], false);
     assert!(rt; is_answered(long, unknown, classes, Answer::Yes));
-    for (from, to, want) in [(true, false, Answer::No), (false, true, Answer::Yes)] {
+    for (from, to, expected) in [(true, false, Answer::No), (false, true, Answer::Yes)] {
         let (from, to) = (frame(alloc, &[A], &[], from), frame(alloc, &[A], &[], to));
-        assert!(rt; is_answered(from, to, classes, want));
+        assert!(rt; is_answered(from, to, classes, expected));
     }
 }
 

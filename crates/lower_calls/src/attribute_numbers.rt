@@ -93,7 +93,8 @@ fn with_text(alloc: Global, major: u8, text: &[u8]) -> Result<Vec<u8>, AllocErro
     Ok(bytes)
 }
 
-/// Whether the class in these bytes is written with one more attribute, or no bytes spell it; nothing where memory runs out.
+/// Whether the class in these bytes is written with one more attribute, or no bytes spell it; nothing where memory runs
+/// out.
 fn is_written<'a>(alloc: Global, bytes: &'a [u8], attribute: ClassAttribute<'a>) -> Option<bool> {
     let mut class = decode(alloc, bytes).ok()?;
     class.attributes.push(attribute).ok()?;

@@ -118,7 +118,8 @@ fn instructions_one_by_one(rt: HostRuntime) {
     assert!(rt; Instructions::new(&[]).next().is_none());
 }
 
-/// The meaning of the first instruction of code, and where the second begins; none where memory runs out, or there is no code.
+/// The meaning of the first instruction of code, and where the second begins; none where memory runs out, or there is
+/// no code.
 fn first_act(alloc: Global, code: &[u8]) -> Option<(Act<'_>, usize)> {
     if code.len() > MAX_CODE_BYTES {
         return None;
@@ -174,9 +175,9 @@ fn instructions_by_where_they_begin(rt: HostRuntime) {
 }
 
 /// True where `Debug` writes the value as this text, or memory ran out.
-fn is_shown<T: Debug>(alloc: Global, shown: &T, want: &str) -> bool {
+fn is_shown<T: Debug>(alloc: Global, shown: &T, expected: &str) -> bool {
     match format!(in alloc; "{shown:?}") {
-        Ok(text) => text.as_str() == want,
+        Ok(text) => text.as_str() == expected,
         Err(_) => false,
     }
 }

@@ -19,10 +19,10 @@ fn is_first<'a, C: Classes>(
     from: Result<Frame<'a>, AllocError>,
     to: Result<Frame<'a>, AllocError>,
     classes: &C,
-    want: Option<Difference<'a>>,
+    expected: Option<Difference<'a>>,
 ) -> bool {
     match (from, to) {
-        (Ok(from), Ok(to)) => first_difference(&from, &to, classes) == want,
+        (Ok(from), Ok(to)) => first_difference(&from, &to, classes) == expected,
         _ => false,
     }
 }
@@ -50,9 +50,9 @@ fn check_locals<C: Classes>(rt: &impl Abort, alloc: Global, classes: &C) {
         (&[A, VType::Null], &[B, A], None),
         (&[VType::Long, VType::Top], &[VType::Top, VType::Top], None),
     ];
-    for (from, to, want) in rows {
+    for (from, to, expected) in rows {
         let (from, to) = (frame(alloc, from, &[], false), frame(alloc, to, &[], false));
-        assert!(rt; is_first(from, to, classes, want));
+        assert!(rt; is_first(from, to, classes, expected));
     }
 }
 
@@ -76,9 +76,9 @@ fn check_stacks<C: Classes>(rt: &impl Abort, alloc: Global, classes: &C) {
         ),
         (&[A, A], &[A, B], None),
     ];
-    for (from, to, want) in rows {
+    for (from, to, expected) in rows {
         let (from, to) = (frame(alloc, &[], from, false), frame(alloc, &[], to, false));
-        assert!(rt; is_first(from, to, classes, want));
+        assert!(rt; is_first(from, to, classes, expected));
     }
 }
 

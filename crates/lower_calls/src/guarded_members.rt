@@ -51,8 +51,8 @@ fn protected_members<'a>(alloc: Global) -> Result<Vec<MemberSummary<'a>>, AllocE
     members.to_vec(alloc)
 }
 
-/// `p/Q` and `p/P` below it declare members, and below that are classes of four packages. `B`, which declares members too, is in the package without a name,
-/// as is `L` below it.
+/// `p/Q` and `p/P` below it declare members, and below that are classes of four packages. `B`, which declares members
+/// too, is in the package without a name, as is `L` below it.
 fn setting<'a>(
     alloc: Global,
     of_q: Vec<MemberSummary<'a>>,
@@ -97,11 +97,11 @@ fn guard<C: Classes>(
     classes: &C,
     class: &[u8],
     references: &[MemberRef<'_>],
-    want: &[bool],
+    expected: &[bool],
     may_fail: bool,
 ) -> bool {
     match guarded(alloc, classes, class, references) {
-        Ok(answers) => answers.as_slice() == want,
+        Ok(answers) => answers.as_slice() == expected,
         Err(_) => may_fail,
     }
 }
@@ -113,7 +113,7 @@ fn guard_prepared<C: Classes>(
     list: &[Summary<'_>],
     class: &[u8],
     references: &[MemberRef<'_>],
-    want: &[bool],
+    expected: &[bool],
     may_fail: bool,
 ) -> bool {
     let Ok(names): Result<Vec<&[u8]>, AllocError> = list.iter().map(|it| it.name).collect(alloc)
@@ -121,7 +121,7 @@ fn guard_prepared<C: Classes>(
         return may_fail;
     };
     match Prepared::new(alloc, classes, &names) {
-        Ok(prepared) => guard(alloc, &prepared, class, references, want, may_fail),
+        Ok(prepared) => guard(alloc, &prepared, class, references, expected, may_fail),
         Err(_) => may_fail,
     }
 }
@@ -131,7 +131,7 @@ fn are_guarded(
     alloc: Global,
     class: &[u8],
     references: &[MemberRef<'_>],
-    want: &[bool],
+    expected: &[bool],
     may_fail: bool,
 ) -> bool {
     let Ok(of_q) = protected_members(alloc) else {
@@ -148,14 +148,16 @@ fn are_guarded(
     match Rows::new(alloc, &list, hasher()) {
         Err(fault) => may_fail && fault.number() == 1,
         Ok(classes) => {
-            guard(alloc, &classes, class, references, want, may_fail)
-                && guard_prepared(alloc, &classes, &list, class, references, want, may_fail)
+            guard(alloc, &classes, class, references, expected, may_fail)
+                && guard_prepared(
+                    alloc, &classes, &list, class, references, expected, may_fail,
+                )
         }
     }
 }
 
-/// Of one class: a declaration two classes up, and one that is public in between; a static one; a method; other descriptors and kinds;
-/// its own class, one below it and one beside it; and a class above that declares nothing.
+/// Of one class: a declaration two classes up, and one that is public in between; a static one; a method; other
+/// descriptors and kinds; its own class, one below it and one beside it; and a class above that declares nothing.
 fn all_kinds(alloc: Global, may_fail: bool) -> bool {
     let references = [
         field_of(b"p/P", b"x"),
@@ -171,10 +173,10 @@ fn all_kinds(alloc: Global, may_fail: bool) -> bool {
         field_of(b"B", b"z"),
         field_of(OBJECT, b"x"),
     ];
-    let want = [
+    let expected = [
         true, true, false, true, true, true, false, false, false, false, false, false,
     ];
-    are_guarded(alloc, b"K", &references, &want, may_fail)
+    are_guarded(alloc, b"K", &references, &expected, may_fail)
 }
 
 /// One field, asked of a class above.

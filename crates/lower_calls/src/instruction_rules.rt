@@ -134,8 +134,8 @@ fn judge_class<'a>(alloc: Global, class: &ClassFile<'a>, frame: &Frame<'a>) -> J
     }
 }
 
-/// The outcome of the rule on the instruction in `<init>` of this class file, before which these types stand on the stack and
-/// nothing is known of the local variables.
+/// The outcome of the rule on the instruction in `<init>` of this class file, before which these types stand on the
+/// stack and nothing is known of the local variables.
 fn judge<'a>(alloc: Global, bytes: &'a [u8], stack: &[VType<'a>], flag: bool) -> Judged<'a> {
     let before = frame(alloc, &[VType::Top, VType::Top], stack, flag);
     match (decode(alloc, bytes), before) {

@@ -9,8 +9,8 @@ use layout::MAX_CODE_BYTES;
 use names::{Base, OBJECT};
 use rules::{
     ClassConstants, Env, Reason, Working, branches_by, check_member, constructs_own, first_reason,
-    goes_on, is_plain, keeps_locals, own_class, plans_go_as_acts, replaced_object, run, run_plain,
-    stored_to, together,
+    goes_on, is_plain, keeps_locals, own_class, replaced_object, run, run_plain, stored_to,
+    together, typing_rules_go_as_acts,
 };
 use std::alloc::Global;
 use std::test::*;
@@ -190,7 +190,7 @@ fn own_objects(rt: HostRuntime) {
 fn ways_of_acts(rt: HostRuntime) {
     let (goto, call) = (Act::Goto { offset: 3 }, Act::InvokeSpecial { index: 9 });
     let store = Act::StoreReference { local: 1 };
-    plans_go_as_acts();
+    typing_rules_go_as_acts();
     assert!(rt; !goes_on(&goto) && goes_on(&call) && goes_on(&store));
     assert!(rt; keeps_locals(&goto) && !keeps_locals(&call) && !keeps_locals(&store));
     assert!(rt; stored_to(&store) == Some(1) && stored_to(&goto).is_none());

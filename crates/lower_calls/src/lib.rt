@@ -1,4 +1,6 @@
-//! The tests of the public calls of the libraries below the verifier, and of `printing`. They stand in a crate of their own, so that each library is proved once and not a second time with its tests; `public_calls` has those of the libraries above, so that the two can be proved beside each other.
+//! The tests of the public calls of the libraries below the verifier, and of `printing`. They stand in a crate of their
+//! own, so that each library is proved once and not a second time with its tests; `public_calls` has those of the
+//! libraries above, so that the two can be proved beside each other.
 //!
 //! | File | What it tests |
 //! |---|---|

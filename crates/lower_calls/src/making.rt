@@ -1,4 +1,5 @@
-//! Values that tests of several files use: class files of one method, summaries of classes, frames, and texts as they are written.
+//! Values that tests of several files use: class files of one method, summaries of classes, frames, and texts as they
+//! are written.
 use frames::{Frame, VType};
 use hierarchy::{Kind, MemberSummary, Summary};
 use layout::{Part, WriteFault};
@@ -75,7 +76,8 @@ pub fn object_with_clone<'a>(alloc: Global) -> Result<Summary<'a>, AllocError> {
     Ok(above)
 }
 
-/// The summaries of `java/lang/Object`, of a class A and a class C below it, and of an interface I; there is no class B.
+/// The summaries of `java/lang/Object`, of a class A and a class C below it, and of an interface I; there is no class
+/// B.
 pub fn setting<'a>(alloc: Global) -> [Summary<'a>; 4] {
     [
         object(alloc),
@@ -108,26 +110,26 @@ pub fn hasher() -> BuildHasherDefault<FoldHasher> {
 pub const OUT_OF_MEMORY: u8 = 1;
 
 /// Whether these bytes are written; or memory ran out, where it may.
-pub fn are_written(written: Result<Vec<u8>, WriteFault>, want: &[u8], may_fail: bool) -> bool {
+pub fn are_written(written: Result<Vec<u8>, WriteFault>, expected: &[u8], may_fail: bool) -> bool {
     match written {
-        Ok(bytes) => bytes.as_slice() == want,
+        Ok(bytes) => bytes.as_slice() == expected,
         Err(fault) => may_fail && matches!(fault, WriteFault::OutOfMemory),
     }
 }
 
 /// Whether the part is written as these bytes; or memory ran out, where it may, and nothing is written.
-pub fn is_put<'a, P: Part<'a>>(alloc: Global, part: &P, want: &[u8], may_fail: bool) -> bool {
+pub fn is_put<'a, P: Part<'a>>(alloc: Global, part: &P, expected: &[u8], may_fail: bool) -> bool {
     let mut out = Vec::new(alloc);
     match part.put(&mut out) {
-        Ok(()) => out.as_slice() == want,
+        Ok(()) => out.as_slice() == expected,
         Err(fault) => may_fail && matches!(fault, WriteFault::OutOfMemory) && out.is_empty(),
     }
 }
 
 /// True where the value is displayed as this text, or memory ran out.
-pub fn is_shown<T: Display>(alloc: Global, shown: &T, want: &str) -> bool {
+pub fn is_shown<T: Display>(alloc: Global, shown: &T, expected: &str) -> bool {
     match format!(in alloc; "{shown}") {
-        Ok(text) => text.as_str() == want,
+        Ok(text) => text.as_str() == expected,
         Err(_) => false,
     }
 }

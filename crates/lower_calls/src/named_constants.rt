@@ -4,7 +4,8 @@ use pool::{Descriptors, FieldConstant, MethodConstant, Pool};
 use std::alloc::{AllocError, Global};
 use std::test::*;
 
-/// At 6 a field of a long descriptor, at 9 a method of one, at 11 an array of a long name, and at 14 a method of a short descriptor.
+/// At 6 a field of a long descriptor, at 9 a method of one, at 11 an array of a long name, and at 14 a method of a
+/// short descriptor.
 const NAMED: [u8; 121] = [
     0, 15, 1, 0, 1, 65, 7, 0, 1, 1, 0, 1, 102, 1, 0, 18, 76, 106, 97, 118, 97, 47, 108, 97, 110,
     103, 47, 83, 116, 114, 105, 110, 103, 59, 12, 0, 3, 0, 4, 9, 0, 2, 0, 5, 1, 0, 22, 40, 76, 106,

@@ -8,7 +8,8 @@ const MADE: VType<'static> = VType::Uninit(7);
 
 const OTHER: VType<'static> = VType::Uninit(9);
 
-/// An object that is not initialized, a long and another such object, which stands where the first one stood too and was popped.
+/// An object that is not initialized, a long and another such object, which stands where the first one stood too and
+/// was popped.
 fn objects(alloc: Global) -> Result<OperandStack<'static>, AllocError> {
     let mut stack = OperandStack::new(alloc);
     stack.push(MADE)?;

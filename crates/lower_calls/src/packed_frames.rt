@@ -77,11 +77,11 @@ fn packed_answer<'n, C: Classes>(
     from: &Frame<'n>,
     to: &Frame<'n>,
     classes: &C,
-    want: Answer<'n>,
+    expected: Answer<'n>,
 ) -> Result<bool, FrameFault> {
     let from = Packed::new(alloc, from, classes)?;
     let to = Packed::new(alloc, to, classes)?;
-    Ok(packed_assignable(&from, &to, classes) == want)
+    Ok(packed_assignable(&from, &to, classes) == expected)
 }
 
 /// So many ints, with another type at a place.
@@ -118,8 +118,8 @@ fn agree_at<C: Classes>(
     for locals in [0, count / 2, count] {
         let from = cut(alloc, &ours, locals)?;
         let to = cut(alloc, &theirs, locals)?;
-        let want = frame_assignable(&from, &to, classes);
-        if !packed_answer(alloc, &from, &to, classes, want)? {
+        let expected = frame_assignable(&from, &to, classes);
+        if !packed_answer(alloc, &from, &to, classes, expected)? {
             return Ok(false);
         }
     }

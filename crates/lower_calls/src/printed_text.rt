@@ -8,9 +8,9 @@ use std::alloc::Global;
 use std::test::*;
 
 /// True where this is printed, or memory ran out.
-fn is_printed<T: Print>(alloc: Global, text: &T, want: &[u8]) -> bool {
+fn is_printed<T: Print>(alloc: Global, text: &T, expected: &[u8]) -> bool {
     let mut out: Vec<u8> = Vec::new(alloc);
-    text.put(&mut out).is_ok() && out.as_slice() == want
+    text.put(&mut out).is_ok() && out.as_slice() == expected
 }
 
 /// The lines of K.
@@ -33,9 +33,9 @@ fn a_class(rt: HostRuntime) {
 }
 
 /// Whether the text is printed so, with escapes.
-fn is_named(alloc: Global, text: &[u8], want: &[u8]) -> bool {
+fn is_named(alloc: Global, text: &[u8], expected: &[u8]) -> bool {
     match check_text(text) {
-        Ok(text) => is_printed(alloc, &Name(text), want),
+        Ok(text) => is_printed(alloc, &Name(text), expected),
         Err(_) => false,
     }
 }
@@ -56,9 +56,9 @@ fn names_and_faults(rt: HostRuntime) {
 }
 
 /// Whether the text is printed so as a string of JSON.
-fn is_quoted(alloc: Global, text: &[u8], want: &[u8]) -> bool {
+fn is_quoted(alloc: Global, text: &[u8], expected: &[u8]) -> bool {
     match check_text(text) {
-        Ok(text) => is_printed(alloc, &QuotedName(text), want),
+        Ok(text) => is_printed(alloc, &QuotedName(text), expected),
         Err(_) => false,
     }
 }

@@ -79,7 +79,8 @@ fn is_read(alloc: Global, may_fail: bool) -> bool {
     }
 }
 
-/// Whether a stack map in front of other bytes is taken, and these are left; or memory ran out, where it may, and nothing is taken.
+/// Whether a stack map in front of other bytes is taken, and these are left; or memory ran out, where it may, and
+/// nothing is taken.
 fn is_taken(alloc: Global, may_fail: bool) -> bool {
     let mut cursor = Cursor::starting(4, &[0, 2, 5, 252, 0, 1, 4, 251]);
     match StackMap::take(alloc, &mut cursor) {

@@ -20,8 +20,8 @@ const STARTS: [usize; 36] = [
 /// The sizes of the pieces in which the bytes are handed out.
 const PIECES: [usize; 4] = [1, 2, 7, 8_192];
 
-/// Gives its first bytes in pieces of at most so many, and then fails once, as an interrupted read does, where it is to; then it gives
-/// the others, and ends.
+/// Gives its first bytes in pieces of at most so many, and then fails once, as an interrupted read does, where it is
+/// to; then it gives the others, and ends.
 #[derive(Drop)]
 struct Pieces<'a> {
     first: &'a [u8],

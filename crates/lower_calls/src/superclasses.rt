@@ -62,8 +62,8 @@ fn is_refused(alloc: Global) -> bool {
         summary(alloc, b"A", Some(OBJECT), false),
         summary(alloc, b"I", Some(b"A"), true),
     ];
-    let want = HierarchyFault::InterfaceSuper { name: b"I" };
-    refusal(alloc, &list) == Some(want) && want.number() == 46
+    let expected = HierarchyFault::InterfaceSuper { name: b"I" };
+    refusal(alloc, &list) == Some(expected) && expected.number() == 46
 }
 
 /// No program shows a list without classes, or that.

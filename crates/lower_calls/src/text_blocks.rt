@@ -4,7 +4,8 @@ use std::test::*;
 /// Lengths around those that lanes take at once.
 const LENGTHS: [usize; 10] = [0, 1, 31, 32, 33, 63, 64, 65, 96, 100];
 
-/// Parts that begin no unit: a zero, bytes that only go on, units in too many bytes, one that is cut short, and one in four bytes.
+/// Parts that begin no unit: a zero, bytes that only go on, units in too many bytes, one that is cut short, and one in
+/// four bytes.
 const WRONG: [[u8; 3]; 8] = [
     [0, b'a', b'a'],
     [0x80, b'a', b'a'],
@@ -72,8 +73,8 @@ fn longer_at_each_place(rt: HostRuntime) {
                 let mut bytes = [b'a'; 100];
                 put(&mut bytes, part, place);
                 let whole = place.saturating_add(size) <= length;
-                let want = if whole { None } else { Some(place) };
-                assert!(rt; fault(&bytes, length) == want);
+                let expected = if whole { None } else { Some(place) };
+                assert!(rt; fault(&bytes, length) == expected);
             }
         }
     }

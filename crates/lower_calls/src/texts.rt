@@ -34,17 +34,17 @@ fn units_and_bits_in_front(rt: HostRuntime) {
 }
 
 /// Whether the bytes are these; or memory ran out, where it may.
-fn are_bytes(answer: Result<Vec<u8>, NameFault>, want: &[u8], may_fail: bool) -> bool {
+fn are_bytes(answer: Result<Vec<u8>, NameFault>, expected: &[u8], may_fail: bool) -> bool {
     match answer {
-        Ok(bytes) => bytes.as_slice() == want,
+        Ok(bytes) => bytes.as_slice() == expected,
         Err(fault) => may_fail && matches!(fault, NameFault::OutOfMemory),
     }
 }
 
 /// Whether the text has these units; or memory ran out, where it may.
-fn has_units(alloc: Global, text: Text<'_>, want: &[u16], may_fail: bool) -> bool {
+fn has_units(alloc: Global, text: Text<'_>, expected: &[u16], may_fail: bool) -> bool {
     match units(alloc, text) {
-        Ok(units) => units.as_slice() == want,
+        Ok(units) => units.as_slice() == expected,
         Err(fault) => may_fail && matches!(fault, NameFault::OutOfMemory),
     }
 }
@@ -125,7 +125,8 @@ fn has_widths(method: &MethodType<'_>) -> bool {
     method.params.len() == 3 && method.width(false) == 4 && method.width(true) == 5
 }
 
-/// Whether it is the descriptor of a method, with such parameters, and written as it is; or memory ran out, where it may.
+/// Whether it is the descriptor of a method, with such parameters, and written as it is; or memory ran out, where it
+/// may.
 fn is_method(alloc: Global, descriptor: &[u8], may_fail: bool) -> bool {
     let Ok(text) = check_text(descriptor) else {
         return false;

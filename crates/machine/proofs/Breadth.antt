@@ -15,8 +15,8 @@ use Rattle.insn.specs.Offsets.{at_offset, next_offset, IsAmong, led_to}
 use Rattle.names.specs.Descriptors.{FieldDescriptor, primitive, class as class_descriptor, array as array_descriptor}
 use Rattle.machine.specs.Values.{Value, number, null, reference}
 use Rattle.machine.specs.Heap.{Status, ready, made, this, Object, object, Heap, with_object, IsBelow, FitsReference, IsFresh, with_fresh}
-use Rattle.machine.specs.Tasks as tasks
-use Rattle.machine.specs.Tasks.{Need, Reply, Task, task, targets, needs_of}
+use Rattle.machine.specs.Effects as effects
+use Rattle.machine.specs.Effects.{Demand, Reply, Effect, effect, targets, demands_of}
 use Rattle.machine.specs.Demands.{State, AllMeet, IsMade, IsOwn, MeetsRest, IsNoFault}
 use Rattle.machine.specs.Steps.{Replies, IsNull, moved_with, IsLive, IsLast, Does, IsBranch}
 use Rattle.machine.specs.ByType.{kind_of, IsOf}
@@ -62,14 +62,14 @@ live_where : (l : Option ℕ) (vs : List Value) → IsNotNull l vs → IsLive l 
 live_where None vs n = tt
 live_where (Some i) vs n = λ k. n (null_where (slice_get vs i) k)
 
-last_where : (t : Task) → leaves_it t ≡ true → IsLast t
-last_where (tasks.leaves ns) r = tt
-last_where tasks.ends r = tt
+last_where : (t : Effect) → leaves_it t ≡ true → IsLast t
+last_where (effects.leaves ns) r = tt
+last_where effects.ends r = tt
 last_where _ r = cc
 
 -- ---- what an instruction does
 
--- what is asked of the choices, and of the answer, as a task is seen
+-- what is asked of the choices, and of the answer, as an effect is seen
 abbrev pub MayBy : World → Outlook → State → Type 0
 MayBy w x s = (x.returns ≡ false) × (x.throws ≡ false) × IsNotNull x.object s.stack × Passes w s.heap x.casts s.stack
 
@@ -80,16 +80,16 @@ pub true_false : true ≡ false → ⊥
 true_false e = cc
 
 replies : (w : World) (s : State) (r : Reply) (n : ℕ) (answer : Option Value) → IsAnswer w s (reply_asks r n) answer → (vs : List Value) × Replies w s.heap r answer vs
-replies w s tasks.no_reply n answer e = ([], (e, refl))
-replies w s (tasks.gives_number k) n answer e = (number k ∷ [], (e, refl))
-replies w s tasks.gives_null n answer e = (null ∷ [], (e, refl))
-replies w s (tasks.gives_answer t) n answer e = (e.0 ∷ [], (e.0, e.1, fits_where w s.heap t e.0 e.2, refl))
+replies w s effects.no_reply n answer e = ([], (e, refl))
+replies w s (effects.gives_number k) n answer e = (number k ∷ [], (e, refl))
+replies w s effects.gives_null n answer e = (null ∷ [], (e, refl))
+replies w s (effects.gives_answer t) n answer e = (e.0 ∷ [], (e.0, e.1, fits_where w s.heap t e.0 e.2, refl))
 
 passed : (w : World) (h : Heap) (t : ReferenceType) (vs : List Value) → Passes w h (Some t) vs → (v : Value) × (rest : List Value) × (vs ≡ v ∷ rest) × FitsReference w h t v
 passed w h t [] f = elim f [ ]
 passed w h t (v ∷ vs) f = (v, vs, refl, reference_where w h t v f)
 
-first_one : (w : World) (h : Heap) (n : Need) (vs : List Value) → AllMeet w h (n ∷ []) vs → (v : Value) × (rest : List Value) × (vs ≡ v ∷ rest)
+first_one : (w : World) (h : Heap) (n : Demand) (vs : List Value) → AllMeet w h (n ∷ []) vs → (v : Value) × (rest : List Value) × (vs ≡ v ∷ rest)
 first_one w h n (v ∷ vs) f = (v, vs, refl)
 first_one w h n [] f = elim f [ ]
 
@@ -103,28 +103,28 @@ made_there m h c a (inl i) = (class_type c, made, i.here)
 made_there m h c a (inr i) = (i.type, this, i.here)
 
 module _ (w : World) (m : Method Act) (s : State) (fresh : List (ℕ × ReferenceType)) (f : IsFresh s.heap fresh) where
-  does : (t : Task) (answer : Option Value) (to : ℕ) → AllMeet w s.heap (needs_of t) s.stack → MeetsRest w m t s → MayBy w (outlook_of t) (with_new s fresh) → IsAnswer w (with_new s fresh) (asks_in t) answer → (u : State) × Does w t (with_new s fresh) answer to u
-  does (tasks.operates ns l r os b) answer to am mr go_on an = let k = replies w (with_new s fresh) r (length ns) answer an in (_, (live_where l s.stack go_on.2, (k.0, k.1, refl)))
-  does (tasks.calls_special c ns l r) answer to am mr go_on an = let k = replies w (with_new s fresh) r (length ns) answer an in (_, (live_where l s.stack go_on.2, (k.0, k.1, refl)))
-  does (tasks.reads n i) answer to am mr go_on an = (_, (mr.value, mr.here, an, refl))
-  does (tasks.writes n i k) answer to am mr go_on an = let q = first_one w s.heap n s.stack am in (_, (q.0, q.1, q.2, an, refl))
-  does (tasks.increments i) answer to am mr go_on an = (_, (an, refl))
-  does (tasks.moves fs) answer to am mr go_on an = (_, (mr.form, mr.among, mr.fits, an, refl))
-  does tasks.takes_element answer to am mr go_on an =
+  does : (t : Effect) (answer : Option Value) (to : ℕ) → AllMeet w s.heap (demands_of t) s.stack → MeetsRest w m t s → MayBy w (outlook_of t) (with_new s fresh) → IsAnswer w (with_new s fresh) (asks_in t) answer → (u : State) × Does w t (with_new s fresh) answer to u
+  does (effects.operates ns l r os b) answer to am mr go_on an = let k = replies w (with_new s fresh) r (length ns) answer an in (_, (live_where l s.stack go_on.2, (k.0, k.1, refl)))
+  does (effects.calls_special c ns l r) answer to am mr go_on an = let k = replies w (with_new s fresh) r (length ns) answer an in (_, (live_where l s.stack go_on.2, (k.0, k.1, refl)))
+  does (effects.reads n i) answer to am mr go_on an = (_, (mr.value, mr.here, an, refl))
+  does (effects.writes n i k) answer to am mr go_on an = let q = first_one w s.heap n s.stack am in (_, (q.0, q.1, q.2, an, refl))
+  does (effects.increments i) answer to am mr go_on an = (_, (an, refl))
+  does (effects.moves fs) answer to am mr go_on an = (_, (mr.form, mr.among, mr.fits, an, refl))
+  does effects.takes_element answer to am mr go_on an =
       let q = second_one s.stack an.address an.array in
       (_, (q.0, an.address, an.component, q.1, an.value, q.2, an.type, fits_where w (with_fresh s.heap fresh) an.component an.value an.fits, an.is, refl))
-  does (tasks.passes r) answer to am mr go_on an =
+  does (effects.passes r) answer to am mr go_on an =
       let q = passed w (with_fresh s.heap fresh) r s.stack go_on.3 in
       (_, (q.0, q.1, q.2, q.3, an, refl))
-  does (tasks.creates c) answer to am mr go_on an = (_, (an.address, an.is, an.unused, an.in_range, refl))
-  does (tasks.makes_array ns r) answer to am mr go_on an = (_, (an.address, an.is, an.unused, an.in_range, refl))
-  does (tasks.initializes c ns) answer to am mr go_on an =
+  does (effects.creates c) answer to am mr go_on an = (_, (an.address, an.is, an.unused, an.in_range, refl))
+  does (effects.makes_array ns r) answer to am mr go_on an = (_, (an.address, an.is, an.unused, an.in_range, refl))
+  does (effects.initializes c ns) answer to am mr go_on an =
       let i = made_there m s.heap c mr.address mr.uninitialized in
       (_, (mr.address, mr.rest, i.0, i.1, mr.here, keeps fresh s.heap mr.address (object i.0 i.1) f i.2, an, refl))
-  does (tasks.leaves ns) answer to am mr go_on an = absurd (true_false go_on.0)
-  does (tasks.throws n) answer to am mr go_on an = absurd (true_false go_on.1)
-  does tasks.ends answer to am mr go_on an = absurd (true_false go_on.0)
-  does tasks.stuck answer to am mr go_on an = elim mr [ ]
+  does (effects.leaves ns) answer to am mr go_on an = absurd (true_false go_on.0)
+  does (effects.throws n) answer to am mr go_on an = absurd (true_false go_on.1)
+  does effects.ends answer to am mr go_on an = absurd (true_false go_on.0)
+  does effects.stuck answer to am mr go_on an = elim mr [ ]
 
   -- ---- something to answer
 
@@ -134,19 +134,19 @@ module _ (w : World) (m : Method Act) (s : State) (fresh : List (ℕ × Referenc
   field_value (array_descriptor c) = (null, tt)
 
   reply : (r : Reply) (n : ℕ) → (answer : Option Value) × IsAnswer w (with_new s fresh) (reply_asks r n) answer
-  reply tasks.no_reply n = (None, refl)
-  reply (tasks.gives_number k) n = (None, refl)
-  reply tasks.gives_null n = (None, refl)
-  reply (tasks.gives_answer t) n = let v = field_value t in (Some v.0, (v.0, refl, v.1))
+  reply effects.no_reply n = (None, refl)
+  reply (effects.gives_number k) n = (None, refl)
+  reply effects.gives_null n = (None, refl)
+  reply (effects.gives_answer t) n = let v = field_value t in (Some v.0, (v.0, refl, v.1))
 
-  element_at : (vs : List Value) → vs ≡ s.stack → AllMeet w s.heap (needs_of tasks.takes_element) vs → IsNotNull (Some 1) vs → (answer : Option Value) × IsElement w (with_new s fresh) answer
+  element_at : (vs : List Value) → vs ≡ s.stack → AllMeet w s.heap (demands_of effects.takes_element) vs → IsNotNull (Some 1) vs → (answer : Option Value) × IsElement w (with_new s fresh) answer
   element_at [] e am live = elim am [ ]
   element_at (i ∷ []) e am live = elim am.1 [ ]
   element_at (i ∷ (number k ∷ vs)) e am live = elim am.1.0 [ ]
   element_at (i ∷ (null ∷ vs)) e am live = absurd (live refl)
   element_at (i ∷ (reference a ∷ vs)) e am live = by am.1.0.0 am.1.0.1 am.1.0.2
     where
-      by : (x : ReferenceType) → s.heap a ≡ Some (object x ready) → IsBelow w x tasks.objects → (answer : Option Value) × IsElement w (with_new s fresh) answer
+      by : (x : ReferenceType) → s.heap a ≡ Some (object x ready) → IsBelow w x effects.objects → (answer : Option Value) × IsElement w (with_new s fresh) answer
       by (class_type n) at b = elim b [ ]
       by (array_type c) at b = let v = field_value c in (
         Some v.0,
@@ -161,22 +161,22 @@ module _ (w : World) (m : Method Act) (s : State) (fresh : List (ℕ × Referenc
         },
       )
 
-  answered : (t : Task) → AllMeet w s.heap (needs_of t) s.stack → MayBy w (outlook_of t) (with_new s fresh) → MakesNone (asks_in t) → (answer : Option Value) × IsAnswer w (with_new s fresh) (asks_in t) answer
-  answered (tasks.operates ns l r os b) am go_on none = reply r (length ns)
-  answered (tasks.calls_special c ns l r) am go_on none = reply r (length ns)
-  answered (tasks.reads n i) am go_on none = (None, refl)
-  answered (tasks.writes n i k) am go_on none = (None, refl)
-  answered (tasks.increments i) am go_on none = (None, refl)
-  answered (tasks.moves fs) am go_on none = (None, refl)
-  answered tasks.takes_element am go_on none = element_at s.stack refl am go_on.2
-  answered (tasks.passes r) am go_on none = (None, refl)
-  answered (tasks.creates c) am go_on none = elim none [ ]
-  answered (tasks.makes_array ns r) am go_on none = elim none [ ]
-  answered (tasks.initializes c ns) am go_on none = (None, refl)
-  answered (tasks.leaves ns) am go_on none = (None, refl)
-  answered (tasks.throws x) am go_on none = (None, refl)
-  answered tasks.ends am go_on none = (None, refl)
-  answered tasks.stuck am go_on none = (None, refl)
+  answered : (t : Effect) → AllMeet w s.heap (demands_of t) s.stack → MayBy w (outlook_of t) (with_new s fresh) → MakesNone (asks_in t) → (answer : Option Value) × IsAnswer w (with_new s fresh) (asks_in t) answer
+  answered (effects.operates ns l r os b) am go_on none = reply r (length ns)
+  answered (effects.calls_special c ns l r) am go_on none = reply r (length ns)
+  answered (effects.reads n i) am go_on none = (None, refl)
+  answered (effects.writes n i k) am go_on none = (None, refl)
+  answered (effects.increments i) am go_on none = (None, refl)
+  answered (effects.moves fs) am go_on none = (None, refl)
+  answered effects.takes_element am go_on none = element_at s.stack refl am go_on.2
+  answered (effects.passes r) am go_on none = (None, refl)
+  answered (effects.creates c) am go_on none = elim none [ ]
+  answered (effects.makes_array ns r) am go_on none = elim none [ ]
+  answered (effects.initializes c ns) am go_on none = (None, refl)
+  answered (effects.leaves ns) am go_on none = (None, refl)
+  answered (effects.throws x) am go_on none = (None, refl)
+  answered effects.ends am go_on none = (None, refl)
+  answered effects.stuck am go_on none = (None, refl)
 
   told_to : (os : List ℤ) (to : ℕ) → (branch : Option ℕ) × IsTold os branch to × IsBranch (led_to s.at os) branch to
   told_to [] to = (None, refl, refl)
@@ -186,22 +186,22 @@ module _ (w : World) (m : Method Act) (s : State) (fresh : List (ℕ × Referenc
     same_act : n.act ≡ act
     same_act = let q : Some n.act ≡ Some act = sym n.here ∙ here in cc
 
-    not_stuck : task m act ≡ tasks.stuck → ⊥
-    not_stuck e = subst (λ t. MeetsRest w m t s) e (subst (λ a. MeetsRest w m (task m a) s) same_act n.operands.others)
+    not_stuck : effect m act ≡ effects.stuck → ⊥
+    not_stuck e = subst (λ t. MeetsRest w m t s) e (subst (λ a. MeetsRest w m (effect m a) s) same_act n.operands.others)
 
-    same : outlook_of (task m act) ≡ outlook m act
+    same : outlook_of (effect m act) ≡ outlook m act
     same = seen m act not_stuck
 
-    may_by : MayGoOn w m act (with_new s fresh) → MayBy w (outlook_of (task m act)) (with_new s fresh)
+    may_by : MayGoOn w m act (with_new s fresh) → MayBy w (outlook_of (effect m act)) (with_new s fresh)
     may_by go_on = subst (λ x. MayBy w x (with_new s fresh)) (sym same) go_on
 
-    all_meet : AllMeet w s.heap (needs_of (task m act)) s.stack
-    all_meet = subst (λ a. AllMeet w s.heap (needs_of (task m a)) s.stack) same_act n.operands.operands
+    all_meet : AllMeet w s.heap (demands_of (effect m act)) s.stack
+    all_meet = subst (λ a. AllMeet w s.heap (demands_of (effect m a)) s.stack) same_act n.operands.operands
 
     step : MayGoOn w m act (with_new s fresh) → (answer : Option Value) → IsAnswer w (with_new s fresh) (asks m act) answer → (to : ℕ) → IsWay m s.at act to → HasStep w m s act fresh answer to
     step go_on answer an to goes =
-        let mr = subst (λ a. MeetsRest w m (task m a) s) same_act n.operands.others in
-        let d = does (task m act) answer to all_meet mr (may_by go_on) (subst (λ x. IsAnswer w (with_new s fresh) x.asks answer) (sym same) an) in
+        let mr = subst (λ a. MeetsRest w m (effect m a) s) same_act n.operands.others in
+        let d = does (effect m act) answer to all_meet mr (may_by go_on) (subst (λ x. IsAnswer w (with_new s fresh) x.asks answer) (sym same) an) in
         let b = told_to (jumps act) to in
         record {
           branch = b.0;
@@ -223,45 +223,45 @@ module _ (w : World) (m : Method Act) (s : State) (fresh : List (ℕ × Referenc
 
     -- ---- somewhere to go
 
-    on : tasks.falls (task m act) ≡ true → (to : ℕ) × WayBy m s.at (outlook_of (task m act)) to
-    on e = let k = n.control.next (subst (λ a. tasks.falls (task m a) ≡ true) (sym same_act) e) in (k.0, inr (e, k.1))
+    on : effects.falls (effect m act) ≡ true → (to : ℕ) × WayBy m s.at (outlook_of (effect m act)) to
+    on e = let k = n.control.next (subst (λ a. effects.falls (effect m a) ≡ true) (sym same_act) e) in (k.0, inr (e, k.1))
 
-    along : (z : ℤ) (zs : List ℤ) → tasks.offsets_of (task m act) ≡ z ∷ zs → (to : ℕ) × WayBy m s.at (outlook_of (task m act)) to
+    along : (z : ℤ) (zs : List ℤ) → effects.offsets_of (effect m act) ≡ z ∷ zs → (to : ℕ) × WayBy m s.at (outlook_of (effect m act)) to
     along z zs e =
         let t : ℤ = pos s.at +ℤ z in
-        let i : IsAmong t (targets s.at (task m act)) = subst (λ os. IsAmong t (led_to s.at os)) (sym e) (inl refl) in
-        let k = n.control.branches t (subst (λ a. IsAmong t (targets s.at (task m a))) (sym same_act) i) in
-        (k.0, inl (subst (λ u. IsAmong u (targets s.at (task m act))) k.1 i))
+        let i : IsAmong t (targets s.at (effect m act)) = subst (λ os. IsAmong t (led_to s.at os)) (sym e) (inl refl) in
+        let k = n.control.branches t (subst (λ a. IsAmong t (targets s.at (effect m a))) (sym same_act) i) in
+        (k.0, inl (subst (λ u. IsAmong u (targets s.at (effect m act))) k.1 i))
 
-    ways : (t : Task) → Flows t → MayBy w (outlook_of t) (with_new s fresh) → (t ≡ tasks.stuck → ⊥) → (tasks.falls t ≡ true) ⊎ ((z : ℤ) × (zs : List ℤ) × (tasks.offsets_of t ≡ z ∷ zs))
-    ways (tasks.operates ns l r os b) f go_on e = f
-    ways (tasks.calls_special c ns l r) f go_on e = inl refl
-    ways (tasks.reads n i) f go_on e = inl refl
-    ways (tasks.writes n i k) f go_on e = inl refl
-    ways (tasks.increments i) f go_on e = inl refl
-    ways (tasks.moves fs) f go_on e = inl refl
-    ways tasks.takes_element f go_on e = inl refl
-    ways (tasks.passes r) f go_on e = inl refl
-    ways (tasks.creates c) f go_on e = inl refl
-    ways (tasks.makes_array ns r) f go_on e = inl refl
-    ways (tasks.initializes c ns) f go_on e = inl refl
-    ways (tasks.leaves ns) f go_on e = absurd (true_false go_on.0)
-    ways (tasks.throws x) f go_on e = absurd (true_false go_on.1)
-    ways tasks.ends f go_on e = absurd (true_false go_on.0)
-    ways tasks.stuck f go_on e = absurd (e refl)
+    ways : (t : Effect) → Flows t → MayBy w (outlook_of t) (with_new s fresh) → (t ≡ effects.stuck → ⊥) → (effects.falls t ≡ true) ⊎ ((z : ℤ) × (zs : List ℤ) × (effects.offsets_of t ≡ z ∷ zs))
+    ways (effects.operates ns l r os b) f go_on e = f
+    ways (effects.calls_special c ns l r) f go_on e = inl refl
+    ways (effects.reads n i) f go_on e = inl refl
+    ways (effects.writes n i k) f go_on e = inl refl
+    ways (effects.increments i) f go_on e = inl refl
+    ways (effects.moves fs) f go_on e = inl refl
+    ways effects.takes_element f go_on e = inl refl
+    ways (effects.passes r) f go_on e = inl refl
+    ways (effects.creates c) f go_on e = inl refl
+    ways (effects.makes_array ns r) f go_on e = inl refl
+    ways (effects.initializes c ns) f go_on e = inl refl
+    ways (effects.leaves ns) f go_on e = absurd (true_false go_on.0)
+    ways (effects.throws x) f go_on e = absurd (true_false go_on.1)
+    ways effects.ends f go_on e = absurd (true_false go_on.0)
+    ways effects.stuck f go_on e = absurd (e refl)
 
     somewhere : MayGoOn w m act (with_new s fresh) → (to : ℕ) × IsWay m s.at act to
     somewhere go_on =
-        let k = by (ways (task m act) (flows m act) (may_by go_on) not_stuck) in
+        let k = by (ways (effect m act) (flows m act) (may_by go_on) not_stuck) in
         (k.0, subst (λ x. WayBy m s.at x k.0) same k.1)
       where
-        by : (tasks.falls (task m act) ≡ true) ⊎ ((z : ℤ) × (zs : List ℤ) × (tasks.offsets_of (task m act) ≡ z ∷ zs)) → (to : ℕ) × WayBy m s.at (outlook_of (task m act)) to
+        by : (effects.falls (effect m act) ≡ true) ⊎ ((z : ℤ) × (zs : List ℤ) × (effects.offsets_of (effect m act) ≡ z ∷ zs)) → (to : ℕ) × WayBy m s.at (outlook_of (effect m act)) to
         by (inl e) = on e
         by (inr e) = along e.0 e.1 e.2
 
     something : MayGoOn w m act (with_new s fresh) → MakesNone (asks m act) → (answer : Option Value) × IsAnswer w (with_new s fresh) (asks m act) answer
     something go_on none =
-        let k = answered (task m act) all_meet (may_by go_on) (subst (λ x. MakesNone x.asks) (sym same) none) in
+        let k = answered (effect m act) all_meet (may_by go_on) (subst (λ x. MakesNone x.asks) (sym same) none) in
         (k.0, subst (λ x. IsAnswer w (with_new s fresh) x.asks k.0) same k.1)
 
     choices : HasChoices w m s act fresh
@@ -277,7 +277,7 @@ module _ (w : World) (m : Method Act) (s : State) (fresh : List (ℕ × Referenc
           unused = f;
           no_branch = refl;
           no_answer = refl;
-          last = last_where (task m act) (subst (λ x. x.returns ≡ true) (sym same) l);
+          last = last_where (effect m act) (subst (λ x. x.returns ≡ true) (sym same) l);
         },
       );
       raises = λ a x at b. (

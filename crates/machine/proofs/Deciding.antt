@@ -9,7 +9,7 @@ use Rattle.insn.specs.Meanings.{Act}
 use Rattle.insn.specs.Offsets.{at_offset, IsStart, has_offset, first_offset, next_offset, IsAmong}
 use Rattle.machine.specs.Values.{Value}
 use Rattle.machine.specs.Heap.{Heap}
-use Rattle.machine.specs.Tasks.{Need, of_kind, of_type, some_reference, some_array, some_array_for, own_or_of, Task, needs_of, falls, targets, Tasks}
+use Rattle.machine.specs.Effects.{Demand, of_kind, of_type, some_reference, some_array, some_array_for, own_or_of, Effect, demands_of, falls, targets, Effects}
 use Rattle.machine.specs.Values as values
 use Rattle.machine.specs.Demands.{State, AllMeet, MeetsRest, HasRoom, IsUsable, AllUsable, EndsReady, LeadsToStart, IsNoFaultBy}
 use Rattle.machine.specs.Demands as demands
@@ -85,10 +85,10 @@ begin_all : (m : Method Act) (ts : List ℤ) → ((target : ℤ) → IsAmong tar
 begin_all m [] f = refl
 begin_all m (t ∷ ts) f = join (begins m.code t) (all_begin m.code ts) (start_begins m t (f t (inl refl))) (begin_all m ts (λ target a. f target (inr a)))
 
--- ---- what meets a need is usable
+-- ---- what meets a demand is usable
 
 module _ (world : World) (heap : Heap) where
-  usable : (n : Need) (v : Value) → demands.Meets world heap n v → IsUsable heap n v
+  usable : (n : Demand) (v : Value) → demands.Meets world heap n v → IsUsable heap n v
   usable (of_kind kind) v p = tt
   usable some_reference v p = tt
   usable (of_type type) (values.number kind) p = absurd p
@@ -105,7 +105,7 @@ module _ (world : World) (heap : Heap) where
   usable (own_or_of class) (values.reference a) (inl p) = inl (p.0, p.1)
   usable (own_or_of class) v (inr p) = inr p
 
-  all_usable : (ns : List Need) (vs : List Value) → AllMeet world heap ns vs → AllUsable heap ns vs
+  all_usable : (ns : List Demand) (vs : List Value) → AllMeet world heap ns vs → AllUsable heap ns vs
   all_usable [] vs p = tt
   all_usable (n ∷ ns) [] p = tt
   all_usable (n ∷ ns) (v ∷ vs) p = (usable n v p.0, all_usable ns vs p.1)
@@ -118,15 +118,15 @@ same_length a b e = grind (arith, nat_tests, e)
 length_same : (a b : ℕ) → a ≡ b → nat_eq a b ≡ true
 length_same a b e = grind (arith, nat_tests, e)
 
-module _ (task : Tasks) (world : World) (m : Method Act) (s : State) (act : Act) (t : Task) (next : Option ℕ)
-    (here : at_offset m.code s.at ≡ Some act) (what : t ≡ task m act) (after : next_offset m.code s.at ≡ next) where
+module _ (effect : Effects) (world : World) (m : Method Act) (s : State) (act : Act) (t : Effect) (next : Option ℕ)
+    (here : at_offset m.code s.at ≡ Some act) (what : t ≡ effect m act) (after : next_offset m.code s.at ≡ next) where
   abbrev on : Bool
   on = not (falls t) || is_some next
 
   abbrev ways_begin : Bool
   ways_begin = all_begin m.code (targets s.at t)
 
-  pub no_fault : Meets world m t next s → IsNoFaultBy task world m s
+  pub no_fault : Meets world m t next s → IsNoFaultBy effect world m s
   no_fault p =
       let whole = split (nat_eq (length s.locals) m.max_locals) (paired_behind false s.locals) p.locals in
       let ways = split on (ways_begin && all_lead m.code s.at m.exceptions) p.control in
@@ -135,7 +135,7 @@ module _ (task : Tasks) (world : World) (m : Method Act) (s : State) (act : Act)
         act = act;
         here = here;
         operands = record {
-          operands = subst (λ z. AllMeet world s.heap (needs_of z) s.stack) what p.operands;
+          operands = subst (λ z. AllMeet world s.heap (demands_of z) s.stack) what p.operands;
           others = subst (λ z. MeetsRest world m z s) what p.others;
           all_locals = same_length (length s.locals) m.max_locals whole.0;
           paired = paired_is false s.locals whole.1;
@@ -148,14 +148,14 @@ module _ (task : Tasks) (world : World) (m : Method Act) (s : State) (act : Act)
               (n.0, after ∙ n.1, start_of m.code n.0 (next_begins m.code s.at n.0 (after ∙ n.1)));
           caught = lead m.code s.at m.exceptions others.1;
         };
-        objects = record { uses = subst (λ z. AllUsable s.heap (needs_of z) s.stack) what (all_usable world s.heap (needs_of t) s.stack p.operands) };
+        objects = record { uses = subst (λ z. AllUsable s.heap (demands_of z) s.stack) what (all_usable world s.heap (demands_of t) s.stack p.operands) };
         own_object = record { own = subst (λ z. EndsReady m z s) what p.own_object };
       }
 
-  met : (n : IsNoFaultBy task world m s) → task m n.act ≡ t → Meets world m t next s
+  met : (n : IsNoFaultBy effect world m s) → effect m n.act ≡ t → Meets world m t next s
   met n e = record {
     locals = join (nat_eq (length s.locals) m.max_locals) (paired_behind false s.locals) (length_same (length s.locals) m.max_locals n.operands.all_locals) (is_paired false s.locals n.operands.paired);
-    operands = subst (λ z. AllMeet world s.heap (needs_of z) s.stack) e n.operands.operands;
+    operands = subst (λ z. AllMeet world s.heap (demands_of z) s.stack) e n.operands.operands;
     others = subst (λ z. MeetsRest world m z s) e n.operands.others;
     before = n.stack.before;
     after = subst (λ z. HasRoom m z s) e n.stack.after;
@@ -167,7 +167,7 @@ module _ (task : Tasks) (world : World) (m : Method Act) (s : State) (act : Act)
     own_object = subst (λ z. EndsReady m z s) e n.own_object.own;
   }
 
-  pub meets : IsNoFaultBy task world m s → Meets world m t next s
+  pub meets : IsNoFaultBy effect world m s → Meets world m t next s
   meets n =
       let same : n.act ≡ act = cc (n.here, here) in
-      met n (ap (task m) same ∙ sym what)
+      met n (ap (effect m) same ∙ sym what)

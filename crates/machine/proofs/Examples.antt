@@ -17,8 +17,8 @@ use Rattle.insn.specs.Meanings.{Act}
 use Rattle.insn.specs.Offsets.{IsAmong, led_to}
 use Rattle.machine.specs.Values.{Value, number, null, reference, empty, depth_of}
 use Rattle.machine.specs.Heap.{ready, made, object, Heap, with_object}
-use Rattle.machine.specs.Tasks as tables
-use Rattle.machine.specs.Tasks.{task, needs_of}
+use Rattle.machine.specs.Effects as tables
+use Rattle.machine.specs.Effects.{effect, demands_of}
 use Rattle.machine.specs.Demands.{State, AllMeet, MeetsRest, HasRoom, AllUsable, EndsReady, IsNoFault}
 use Rattle.machine.specs.Steps.{go, raise, goes_on, ended, IsBranch, Does, Happens}
 
@@ -76,10 +76,10 @@ with_made = with_object heap 9 (object (class_type (codes "A")) made)
 
 module _ (act : Act) (exceptions : List ExceptionEntry) (stack : List Value) (objects : Heap) where
   -- no fault, where the instruction has no targets
-  fine : AllMeet world objects (needs_of (task (method act exceptions) act)) stack → MeetsRest world (method act exceptions) (task (method act exceptions) act) (at 0 stack objects)
-      → depth_of stack ≤ 4 → HasRoom (method act exceptions) (task (method act exceptions) act) (at 0 stack objects) → tables.offsets_of (task (method act exceptions) act) ≡ []
-      → ((e : ExceptionEntry) → IsAmong e exceptions → e.handler ≡ 3) → AllUsable objects (needs_of (task (method act exceptions) act)) stack
-      → EndsReady (method act exceptions) (task (method act exceptions) act) (at 0 stack objects) → IsNoFault world (method act exceptions) (at 0 stack objects)
+  fine : AllMeet world objects (demands_of (effect (method act exceptions) act)) stack → MeetsRest world (method act exceptions) (effect (method act exceptions) act) (at 0 stack objects)
+      → depth_of stack ≤ 4 → HasRoom (method act exceptions) (effect (method act exceptions) act) (at 0 stack objects) → tables.offsets_of (effect (method act exceptions) act) ≡ []
+      → ((e : ExceptionEntry) → IsAmong e exceptions → e.handler ≡ 3) → AllUsable objects (demands_of (effect (method act exceptions) act)) stack
+      → EndsReady (method act exceptions) (effect (method act exceptions) act) (at 0 stack objects) → IsNoFault world (method act exceptions) (at 0 stack objects)
   fine meets others before room none handlers uses own = record {
     act = act;
     here = refl;
@@ -95,8 +95,8 @@ module _ (act : Act) (exceptions : List ExceptionEntry) (stack : List Value) (ob
   }
 
   -- from there on to the return
-  on : IsNoFault world (method act exceptions) (at 0 stack objects) → (answer : Option Value) (t : State) → tables.falls (task (method act exceptions) act) ≡ true
-      → tables.offsets_of (task (method act exceptions) act) ≡ [] → Does world (task (method act exceptions) act) (at 0 stack objects) answer 3 t
+  on : IsNoFault world (method act exceptions) (at 0 stack objects) → (answer : Option Value) (t : State) → tables.falls (effect (method act exceptions) act) ≡ true
+      → tables.offsets_of (effect (method act exceptions) act) ≡ [] → Does world (effect (method act exceptions) act) (at 0 stack objects) answer 3 t
       → Happens world (method act exceptions) (at 0 stack objects) (go None answer []) (goes_on t)
   on n answer t falls none does = (
     n,

@@ -16,8 +16,8 @@ mod Addresses
 mod Moves
 pub mod Apart
 mod Forms
-mod Needs
-mod Effects
+mod OperandDemands
+mod EffectLaws
 mod Deciding
 mod Writes
 mod Raised

@@ -23,8 +23,8 @@ use Rattle.insn.specs.Offsets.{IsAmong}
 use Rattle.insn.proofs.ByUnits.{forms_move_units}
 use Rattle.machine.specs.Values.{Value, number, null, reference, place_of}
 use Rattle.machine.specs.Heap.{with_fresh}
-use Rattle.machine.specs.Tasks as tasks
-use Rattle.machine.specs.Tasks.{Need, Reply, Task, task, stuck}
+use Rattle.machine.specs.Effects as effects
+use Rattle.machine.specs.Effects.{Demand, Reply, Effect, effect, stuck}
 use Rattle.machine.specs.Demands.{State, AreForm, MeetsRest}
 use Rattle.machine.specs.Steps.{Replies, Does}
 use Rattle.machine.specs.ByType.{units_of, units_of_all}
@@ -156,7 +156,7 @@ are_moved op f top passed vs us k fits e =
       moved = e ∙ ap (λ z. z ++ beneath f.takes vs) picked ∙ ap (λ z. moved_by op a.items b.items ++ z) under;
     }
 
--- ---- of a task
+-- ---- of an effect
 
 -- known by the act, or moved by a form
 data Left : Type 0 where
@@ -168,23 +168,23 @@ IsLeftBy (known l) s answer stack = IsLeft l s answer stack
 IsLeftBy (formed forms) s answer stack = (f : StackForm) × IsAmong f forms × AreForm f.takes s.stack × (stack ≡ rearranged f s.stack)
 
 abbrev reply_left : Reply → ℕ → Leaves
-reply_left tasks.no_reply n = nothing n
-reply_left (tasks.gives_number k) n = a_number k n
-reply_left tasks.gives_null n = a_null n
-reply_left (tasks.gives_answer t) n = the_answer n
+reply_left effects.no_reply n = nothing n
+reply_left (effects.gives_number k) n = a_number k n
+reply_left effects.gives_null n = a_null n
+reply_left (effects.gives_answer t) n = the_answer n
 
-abbrev left_in : Task → Left
-left_in (tasks.operates ns live r os on) = known (reply_left r (length ns))
-left_in (tasks.calls_special c ns live r) = known (reply_left r (length ns))
-left_in (tasks.reads n i) = known (the_local i)
-left_in (tasks.writes n i k) = known (nothing 1)
-left_in (tasks.increments i) = known (nothing 0)
-left_in (tasks.moves fs) = formed fs
-left_in tasks.takes_element = known (the_answer 2)
-left_in (tasks.passes t) = known the_top
-left_in (tasks.creates c) = known (the_answer 0)
-left_in (tasks.makes_array ns t) = known (the_answer (length ns))
-left_in (tasks.initializes c ns) = known (nothing (length ns + 1))
+abbrev left_in : Effect → Left
+left_in (effects.operates ns live r os on) = known (reply_left r (length ns))
+left_in (effects.calls_special c ns live r) = known (reply_left r (length ns))
+left_in (effects.reads n i) = known (the_local i)
+left_in (effects.writes n i k) = known (nothing 1)
+left_in (effects.increments i) = known (nothing 0)
+left_in (effects.moves fs) = formed fs
+left_in effects.takes_element = known (the_answer 2)
+left_in (effects.passes t) = known the_top
+left_in (effects.creates c) = known (the_answer 0)
+left_in (effects.makes_array ns t) = known (the_answer (length ns))
+left_in (effects.initializes c ns) = known (nothing (length ns + 1))
 left_in _ = known (nothing 0)
 
 next_dropped : (n : ℕ) (vs rest : List Value) (v : Value) → drop n vs ≡ v ∷ rest → drop (n + 1) vs ≡ rest
@@ -196,44 +196,44 @@ next_dropped (suc n) (u ∷ vs) rest v e =
     ap (λ k. drop k (u ∷ vs)) at ∙ next_dropped n vs rest v e
 
 module _ (w : World) (s : State) (answer : Option Value) (to : ℕ) where
-  replied : (ns : List Need) (r : Reply) (vs us : List Value) → Replies w s.heap r answer vs → us ≡ vs ++ beneath ns s.stack → IsLeft (reply_left r (length ns)) s answer us
-  replied ns tasks.no_reply vs us k e = e ∙ ap (λ z. z ++ beneath ns s.stack) k.1 ∙ beneath_drop ns s.stack
-  replied ns (tasks.gives_number x) vs us k e = e ∙ ap (λ z. z ++ beneath ns s.stack) k.1 ∙ ap (λ z. number x ∷ z) (beneath_drop ns s.stack)
-  replied ns tasks.gives_null vs us k e = e ∙ ap (λ z. z ++ beneath ns s.stack) k.1 ∙ ap (λ z. null ∷ z) (beneath_drop ns s.stack)
-  replied ns (tasks.gives_answer t) vs us k e = (k.0, k.1, e ∙ ap (λ z. z ++ beneath ns s.stack) k.3 ∙ ap (λ z. k.0 ∷ z) (beneath_drop ns s.stack))
+  replied : (ns : List Demand) (r : Reply) (vs us : List Value) → Replies w s.heap r answer vs → us ≡ vs ++ beneath ns s.stack → IsLeft (reply_left r (length ns)) s answer us
+  replied ns effects.no_reply vs us k e = e ∙ ap (λ z. z ++ beneath ns s.stack) k.1 ∙ beneath_drop ns s.stack
+  replied ns (effects.gives_number x) vs us k e = e ∙ ap (λ z. z ++ beneath ns s.stack) k.1 ∙ ap (λ z. number x ∷ z) (beneath_drop ns s.stack)
+  replied ns effects.gives_null vs us k e = e ∙ ap (λ z. z ++ beneath ns s.stack) k.1 ∙ ap (λ z. null ∷ z) (beneath_drop ns s.stack)
+  replied ns (effects.gives_answer t) vs us k e = (k.0, k.1, e ∙ ap (λ z. z ++ beneath ns s.stack) k.3 ∙ ap (λ z. k.0 ∷ z) (beneath_drop ns s.stack))
 
-  left_by : (t : Task) (u : State) → Does w t s answer to u → IsLeftBy (left_in t) s answer u.stack
-  left_by (tasks.operates ns l r os b) u d = replied ns r d.1.0 u.stack d.1.1 (ap (λ z. z.stack) d.1.2)
-  left_by (tasks.calls_special c ns l r) u d = replied ns r d.1.0 u.stack d.1.1 (ap (λ z. z.stack) d.1.2)
-  left_by (tasks.reads n i) u d = (d.0, d.1, ap (λ z. z.stack) d.3)
-  left_by (tasks.writes n i k) u d = ap (λ z. z.stack) d.4 ∙ ap (λ z. drop 1 z) (sym d.2)
-  left_by (tasks.increments i) u d = ap (λ z. z.stack) d.1
-  left_by (tasks.moves fs) u d = (d.0, d.1, d.2, ap (λ z. z.stack) d.4)
-  left_by tasks.takes_element u d = (d.4, d.8, ap (λ z. z.stack) d.9 ∙ ap (λ z. d.4 ∷ z) (sym (ap (λ z. drop 2 z) d.5)))
-  left_by (tasks.passes t) u d = ap (λ z. z.stack) d.5 ∙ sym d.2
-  left_by (tasks.creates c) u d = (reference d.0, d.1, ap (λ z. z.stack) d.4)
-  left_by (tasks.makes_array ns t) u d = (reference d.0, d.1, ap (λ z. z.stack) d.4 ∙ ap (λ z. reference d.0 ∷ z) (beneath_drop ns s.stack))
-  left_by (tasks.initializes c ns) u d =
+  left_by : (t : Effect) (u : State) → Does w t s answer to u → IsLeftBy (left_in t) s answer u.stack
+  left_by (effects.operates ns l r os b) u d = replied ns r d.1.0 u.stack d.1.1 (ap (λ z. z.stack) d.1.2)
+  left_by (effects.calls_special c ns l r) u d = replied ns r d.1.0 u.stack d.1.1 (ap (λ z. z.stack) d.1.2)
+  left_by (effects.reads n i) u d = (d.0, d.1, ap (λ z. z.stack) d.3)
+  left_by (effects.writes n i k) u d = ap (λ z. z.stack) d.4 ∙ ap (λ z. drop 1 z) (sym d.2)
+  left_by (effects.increments i) u d = ap (λ z. z.stack) d.1
+  left_by (effects.moves fs) u d = (d.0, d.1, d.2, ap (λ z. z.stack) d.4)
+  left_by effects.takes_element u d = (d.4, d.8, ap (λ z. z.stack) d.9 ∙ ap (λ z. d.4 ∷ z) (sym (ap (λ z. drop 2 z) d.5)))
+  left_by (effects.passes t) u d = ap (λ z. z.stack) d.5 ∙ sym d.2
+  left_by (effects.creates c) u d = (reference d.0, d.1, ap (λ z. z.stack) d.4)
+  left_by (effects.makes_array ns t) u d = (reference d.0, d.1, ap (λ z. z.stack) d.4 ∙ ap (λ z. reference d.0 ∷ z) (beneath_drop ns s.stack))
+  left_by (effects.initializes c ns) u d =
       ap (λ z. z.stack) d.7 ∙ sym (next_dropped (length ns) s.stack d.1 (reference d.0) (sym (beneath_drop ns s.stack) ∙ d.4))
-  left_by (tasks.leaves ns) u d = elim d [ ]
-  left_by (tasks.throws n) u d = elim d [ ]
-  left_by tasks.ends u d = elim d [ ]
-  left_by tasks.stuck u d = elim d [ ]
+  left_by (effects.leaves ns) u d = elim d [ ]
+  left_by (effects.throws n) u d = elim d [ ]
+  left_by effects.ends u d = elim d [ ]
+  left_by effects.stuck u d = elim d [ ]
 
--- ---- each instruction's task leaves what its act and constant say
+-- ---- each instruction's effect leaves what its act and constant say
 
-abbrev Seen : Task → Leaves → Type 0
+abbrev Seen : Effect → Leaves → Type 0
 Seen t l = (t ≡ stuck → ⊥) → left_in t ≡ known l
 
-where_allowed : (b : Bool) (t : Task) (l : Leaves) → left_in t ≡ known l → Seen (tasks.where_allowed b t) l
+where_allowed : (b : Bool) (t : Effect) (l : Leaves) → left_in t ≡ known l → Seen (effects.where_allowed b t) l
 where_allowed true t l q e = q
 where_allowed false t l q e = absurd (e refl)
 
-computed_seen : (judged : Bool) (units : ℕ) (t : Option FieldDescriptor) → Seen (tasks.load_dynamic judged units t) (the_answer 0)
-computed_seen judged units (Some t) e = where_allowed _ (tasks.operates [] None (tasks.gives_answer t) [] true) (the_answer 0) refl e
+computed_seen : (judged : Bool) (units : ℕ) (t : Option FieldDescriptor) → Seen (effects.load_dynamic judged units t) (the_answer 0)
+computed_seen judged units (Some t) e = where_allowed _ (effects.operates [] None (effects.gives_answer t) [] true) (the_answer 0) refl e
 computed_seen judged units None e = absurd (e refl)
 
-constant_seen : (m : Method Act) (t : Option FieldDescriptor) (c : Option Entry) → Seen (tasks.load_constant m t c) (the_answer 0)
+constant_seen : (m : Method Act) (t : Option FieldDescriptor) (c : Option Entry) → Seen (effects.load_constant m t c) (the_answer 0)
 constant_seen m t (Some (entries.Integer bits)) e = refl
 constant_seen m t (Some (entries.Float bits)) e = refl
 constant_seen m t (Some (entries.String text)) e = refl
@@ -243,107 +243,107 @@ constant_seen m t (Some (entries.MethodHandle k target)) e = refl
 constant_seen m t (Some (entries.Dynamic bootstrap name)) e = computed_seen m.dynamic 1 t e
 constant_seen m t _ e = absurd (e refl)
 
-wide_constant_seen : (m : Method Act) (t : Option FieldDescriptor) (c : Option Entry) → Seen (tasks.load_wide_constant m t c) (by_act.wide_constant_left c)
+wide_constant_seen : (m : Method Act) (t : Option FieldDescriptor) (c : Option Entry) → Seen (effects.load_wide_constant m t c) (by_act.wide_constant_left c)
 wide_constant_seen m t (Some (entries.Long high low)) e = refl
 wide_constant_seen m t (Some (entries.Double high low)) e = refl
 wide_constant_seen m t (Some (entries.Dynamic bootstrap name)) e = computed_seen m.dynamic 2 t e
 wide_constant_seen m t _ e = absurd (e refl)
 
-get_static_seen : (c : Option FieldConstant) → Seen (tasks.get_static c) (the_answer 0)
+get_static_seen : (c : Option FieldConstant) → Seen (effects.get_static c) (the_answer 0)
 get_static_seen (Some f) e = refl
 get_static_seen None e = absurd (e refl)
 
-put_static_seen : (c : Option FieldConstant) → Seen (tasks.put_static c) (nothing 1)
+put_static_seen : (c : Option FieldConstant) → Seen (effects.put_static c) (nothing 1)
 put_static_seen (Some f) e = refl
 put_static_seen None e = absurd (e refl)
 
-get_field_seen : (c : Option FieldConstant) → Seen (tasks.get_field c) (the_answer 1)
+get_field_seen : (c : Option FieldConstant) → Seen (effects.get_field c) (the_answer 1)
 get_field_seen (Some f) e = refl
 get_field_seen None e = absurd (e refl)
 
-put_field_seen : (m : Method Act) (c : Option FieldConstant) → Seen (tasks.put_field m c) (nothing 2)
+put_field_seen : (m : Method Act) (c : Option FieldConstant) → Seen (effects.put_field m c) (nothing 2)
 put_field_seen m (Some f) e = refl
 put_field_seen m None e = absurd (e refl)
 
-reply_seen : (r : Option FieldDescriptor) (n k : ℕ) → n ≡ k → known (reply_left (tasks.reply_of r) n) ≡ known (by_act.result_left r k)
+reply_seen : (r : Option FieldDescriptor) (n k : ℕ) → n ≡ k → known (reply_left (effects.reply_of r) n) ≡ known (by_act.result_left r k)
 reply_seen None n k e = ap (λ z. known (nothing z)) e
 reply_seen (Some t) n k e = ap (λ z. known (the_answer z)) e
 
-called : (c : MethodConstant) (ns : List Need)
-    → known (reply_left (tasks.reply_of c.type.result) (length (tasks.arguments_on c.type.params ns))) ≡ known (by_act.call_left (Some c) (length ns))
-called c ns = reply_seen c.type.result (length (tasks.arguments_on c.type.params ns)) (length c.type.params + length ns) (arguments_long c.type.params ns)
+called : (c : MethodConstant) (ns : List Demand)
+    → known (reply_left (effects.reply_of c.type.result) (length (effects.arguments_on c.type.params ns))) ≡ known (by_act.call_left (Some c) (length ns))
+called c ns = reply_seen c.type.result (length (effects.arguments_on c.type.params ns)) (length c.type.params + length ns) (arguments_long c.type.params ns)
 
-static_seen : (n : ℕ) (c : Option MethodConstant) → Seen (tasks.invoke_static n c) (by_act.call_left c 0)
-static_seen n (Some c) e = where_allowed _ (tasks.static_call c) (by_act.call_left (Some c) 0) (called c []) e
+static_seen : (n : ℕ) (c : Option MethodConstant) → Seen (effects.invoke_static n c) (by_act.call_left c 0)
+static_seen n (Some c) e = where_allowed _ (effects.static_call c) (by_act.call_left (Some c) 0) (called c []) e
 static_seen n None e = absurd (e refl)
 
-site_seen : (m : Method Act) (c : Option CallSite) → Seen (tasks.invoke_dynamic m c) (by_act.site_left c)
+site_seen : (m : Method Act) (c : Option CallSite) → Seen (effects.invoke_dynamic m c) (by_act.site_left c)
 site_seen m (Some c) e =
     let long = arguments_long c.type.params [] in
-    where_allowed _ (tasks.call_of c.type) (by_act.site_left (Some c))
-    (reply_seen c.type.result (length (tasks.arguments_on c.type.params [])) (length c.type.params) (omega (arith, long))) e
+    where_allowed _ (effects.call_of c.type) (by_act.site_left (Some c))
+    (reply_seen c.type.result (length (effects.arguments_on c.type.params [])) (length c.type.params) (omega (arith, long))) e
 site_seen m None e = absurd (e refl)
 
-virtual_seen : (c : Option MethodConstant) → Seen (tasks.invoke_virtual c) (by_act.call_left c 1)
-virtual_seen (Some c) e = where_allowed _ (tasks.call_on c.class c) (by_act.call_left (Some c) 1) (called c (tasks.of_type c.class ∷ [])) e
+virtual_seen : (c : Option MethodConstant) → Seen (effects.invoke_virtual c) (by_act.call_left c 1)
+virtual_seen (Some c) e = where_allowed _ (effects.call_on c.class c) (by_act.call_left (Some c) 1) (called c (effects.of_type c.class ∷ [])) e
 virtual_seen None e = absurd (e refl)
 
-interface_seen : (n : ℕ) (c : Option MethodConstant) → Seen (tasks.invoke_interface n c) (by_act.call_left c 1)
-interface_seen n (Some c) e = where_allowed _ (tasks.call_on c.class c) (by_act.call_left (Some c) 1) (called c (tasks.of_type c.class ∷ [])) e
+interface_seen : (n : ℕ) (c : Option MethodConstant) → Seen (effects.invoke_interface n c) (by_act.call_left c 1)
+interface_seen n (Some c) e = where_allowed _ (effects.call_on c.class c) (by_act.call_left (Some c) 1) (called c (effects.of_type c.class ∷ [])) e
 interface_seen n None e = absurd (e refl)
 
-constructor_seen : (c : MethodConstant) (r : ReferenceType) → Seen (tasks.constructor_call c r) (nothing (length c.type.params + 1))
+constructor_seen : (c : MethodConstant) (r : ReferenceType) → Seen (effects.constructor_call c r) (nothing (length c.type.params + 1))
 constructor_seen c (class_type name) e =
-    let long : length (tasks.arguments_on c.type.params []) + 1 ≡ length c.type.params + 1 = let k = arguments_long c.type.params [] in omega (arith, k) in
-    where_allowed _ (tasks.initializes name (tasks.arguments_on c.type.params [])) (nothing (length c.type.params + 1)) (ap (λ z. known (nothing z)) long) e
+    let long : length (effects.arguments_on c.type.params []) + 1 ≡ length c.type.params + 1 = let k = arguments_long c.type.params [] in omega (arith, k) in
+    where_allowed _ (effects.initializes name (effects.arguments_on c.type.params [])) (nothing (length c.type.params + 1)) (ap (λ z. known (nothing z)) long) e
 constructor_seen c (array_type component) e = absurd (e refl)
 
-special_seen : (n : ℕ) (me : List ℕ) (c : Option MethodConstant) → Seen (tasks.invoke_special n me c) (by_act.special_left c)
-special_seen n me (Some c) = by (tasks.is_init_name c)
+special_seen : (n : ℕ) (me : List ℕ) (c : Option MethodConstant) → Seen (effects.invoke_special n me c) (by_act.special_left c)
+special_seen n me (Some c) = by (effects.is_init_name c)
   where
-    by : (b : Bool) → Seen (if b then tasks.constructor_call c c.class else tasks.special_call n me c) (if b then nothing (length c.type.params + 1) else by_act.call_left (Some c) 1)
+    by : (b : Bool) → Seen (if b then effects.constructor_call c c.class else effects.special_call n me c) (if b then nothing (length c.type.params + 1) else by_act.call_left (Some c) 1)
     by true = constructor_seen c c.class
-    by false = λ e. where_allowed _ (tasks.calls_special c.class _ _ _) (by_act.call_left (Some c) 1) (called c (tasks.of_type (class_type me) ∷ [])) e
+    by false = λ e. where_allowed _ (effects.calls_special c.class _ _ _) (by_act.call_left (Some c) 1) (called c (effects.of_type (class_type me) ∷ [])) e
 special_seen n me None = λ e. absurd (e refl)
 
-new_seen : (c : Option ReferenceType) → Seen (tasks.new_object c) (the_answer 0)
+new_seen : (c : Option ReferenceType) → Seen (effects.new_object c) (the_answer 0)
 new_seen (Some (class_type name)) e = refl
 new_seen _ e = absurd (e refl)
 
-new_array_seen : (p : Option Primitive) → Seen (tasks.new_array p) (the_answer 1)
+new_array_seen : (p : Option Primitive) → Seen (effects.new_array p) (the_answer 1)
 new_array_seen (Some p) e = refl
 new_array_seen None e = absurd (e refl)
 
-array_of_seen : (c : Option ReferenceType) → Seen (tasks.new_reference_array c) (the_answer 1)
-array_of_seen (Some t) e = where_allowed _ (tasks.makes_array (tasks.of_kind kinds.Int ∷ []) (array_type (descriptor_of t))) (the_answer 1) refl e
+array_of_seen : (c : Option ReferenceType) → Seen (effects.new_reference_array c) (the_answer 1)
+array_of_seen (Some t) e = where_allowed _ (effects.makes_array (effects.of_kind kinds.Int ∷ []) (array_type (descriptor_of t))) (the_answer 1) refl e
 array_of_seen None e = absurd (e refl)
 
-by_counts_seen : (n : ℕ) (c : Option ReferenceType) → Seen (tasks.new_multi_array n c) (the_answer n)
-by_counts_seen n (Some t) e = where_allowed _ (tasks.makes_array (tasks.sizes n) t) (the_answer n) (ap (λ k. known (the_answer k)) (sizes_long n)) e
+by_counts_seen : (n : ℕ) (c : Option ReferenceType) → Seen (effects.new_multi_array n c) (the_answer n)
+by_counts_seen n (Some t) e = where_allowed _ (effects.makes_array (effects.sizes n) t) (the_answer n) (ap (λ k. known (the_answer k)) (sizes_long n)) e
 by_counts_seen n None e = absurd (e refl)
 
-cast_seen : (c : Option ReferenceType) → Seen (tasks.check_cast c) the_top
+cast_seen : (c : Option ReferenceType) → Seen (effects.check_cast c) the_top
 cast_seen (Some t) e = refl
 cast_seen None e = absurd (e refl)
 
-instance_seen : (c : Option ReferenceType) → Seen (tasks.instance_of c) (a_number kinds.Int 1)
+instance_seen : (c : Option ReferenceType) → Seen (effects.instance_of c) (a_number kinds.Int 1)
 instance_seen (Some t) e = refl
 instance_seen None e = absurd (e refl)
 
-number_returned : (t : Option FieldDescriptor) (k : Kind) → Seen (tasks.return_number t k) (nothing 0)
-number_returned (Some (primitive p)) k e = where_allowed _ (tasks.leaves (tasks.of_kind k ∷ [])) (nothing 0) refl e
+number_returned : (t : Option FieldDescriptor) (k : Kind) → Seen (effects.return_number t k) (nothing 0)
+number_returned (Some (primitive p)) k e = where_allowed _ (effects.leaves (effects.of_kind k ∷ [])) (nothing 0) refl e
 number_returned _ k e = absurd (e refl)
 
-reference_returned : (t : Option FieldDescriptor) → Seen (tasks.return_reference t) (nothing 0)
+reference_returned : (t : Option FieldDescriptor) → Seen (effects.return_reference t) (nothing 0)
 reference_returned (Some (class_descriptor c)) e = refl
 reference_returned (Some (array_descriptor c)) e = refl
 reference_returned _ e = absurd (e refl)
 
-nothing_returned : (t : Option FieldDescriptor) → Seen (tasks.return_nothing t) (nothing 0)
+nothing_returned : (t : Option FieldDescriptor) → Seen (effects.return_nothing t) (nothing 0)
 nothing_returned None e = refl
 nothing_returned (Some t) e = absurd (e refl)
 
-kinds_long : (ks : List Kind) → length (tasks.needs_of_kinds ks) ≡ length ks
+kinds_long : (ks : List Kind) → length (effects.demands_of_kinds ks) ≡ length ks
 kinds_long [] = refl
 kinds_long (k ∷ ks) = ap suc (kinds_long ks)
 
@@ -352,7 +352,7 @@ abbrev left_of : Method Act → Act → Left
 left_of m (acts.Stack op) = formed (stack_forms op)
 left_of m a = known (leaves m a)
 
-seen : (m : Method Act) (a : Act) → (task m a ≡ stuck → ⊥) → left_in (task m a) ≡ left_of m a
+seen : (m : Method Act) (a : Act) → (effect m a ≡ stuck → ⊥) → left_in (effect m a) ≡ left_of m a
 seen m acts.Nothing e = refl
 seen m (acts.Constant k) e = refl
 seen m acts.ConstantNull e = refl
@@ -412,9 +412,9 @@ stack_bounds w m s act here branch answer fresh t h =
     let steps = h.1 in
     let same : steps.act ≡ act = some_same steps.act act (sym steps.here ∙ here) in
     let also : h.0.act ≡ act = some_same h.0.act act (sym h.0.here ∙ here) in
-    let not_stuck : task m act ≡ stuck → ⊥ = λ e. subst (λ k. MeetsRest w m k s) e (subst (λ a. MeetsRest w m (task m a) s) also h.0.operands.others) in
-    let k : IsLeftBy (left_in (task m act)) before answer t.stack = left_by w before answer steps.to (task m act) t (subst (λ a. Does w (task m a) before answer steps.to t) same steps.does) in
-    told m act s answer t.stack (subst (λ l. IsLeftBy l s answer t.stack) (seen m act not_stuck) (as_before (left_in (task m act)) k))
+    let not_stuck : effect m act ≡ stuck → ⊥ = λ e. subst (λ k. MeetsRest w m k s) e (subst (λ a. MeetsRest w m (effect m a) s) also h.0.operands.others) in
+    let k : IsLeftBy (left_in (effect m act)) before answer t.stack = left_by w before answer steps.to (effect m act) t (subst (λ a. Does w (effect m a) before answer steps.to t) same steps.does) in
+    told m act s answer t.stack (subst (λ l. IsLeftBy l s answer t.stack) (seen m act not_stuck) (as_before (left_in (effect m act)) k))
   where
     some_same : (a b : Act) → Some a ≡ Some b → a ≡ b
     some_same a b e = cc

@@ -1,8 +1,10 @@
--- The machine leaves nothing out and adds nothing: each way to go, each answer of its type, each exception and each world has its place in a run, and
--- no other way to go, answer or exception has one (JVMS 2.6, 2.10, 2.11, 4.10.1.2). So a theorem about all runs is about all that a real machine may do.
--- Ways to go, returns, receivers, answers, new objects and what is not null have words of their own, by the act and the constant that it names, and so
--- have the values of a type: a table of the machine that takes another operand or gives another answer then breaks a law, and does not change it. Which
--- type is below which is the machine's own word, which the law of what fits ties to the verifier's.
+-- The machine leaves nothing out and adds nothing: each way to go, each answer of its type, each exception and each
+-- world has its place in a run, and no other way to go, answer or exception has one (JVMS 2.6, 2.10, 2.11, 4.10.1.2).
+-- So a theorem about all runs is about all that a real machine may do. Ways to go, returns, receivers, answers, new
+-- objects and what is not null have words of their own, by the act and the constant that it names, and so have the
+-- values of a type: a table of the machine that takes another operand or gives another answer then breaks a law, and
+-- does not change it. Which type is below which is the machine's own word, which the law of what fits ties to the
+-- verifier's.
 use Rattle.std.specs.Prelude.{◌≡◌, ◌≢◌, ℕ, ℤ, ◌<◌, ◌≤◌, ◌^◌, pos, true, false, List, [], ◌∷◌, drop, slice_get, bytes_eq, if◌then◌else◌, Option, Some, None, ◌⊎◌}
 use Rattle.names.specs.Descriptors.{FieldDescriptor}
 use Rattle.names.specs.ReferenceTypes.{ReferenceType, class_type, array_type, descriptor_of, dimensions_of}
@@ -27,11 +29,13 @@ use Rattle.machine.specs.Steps.{go, raise, goes_on, ended, Happens}
 abbrev pub with_new : State → List (ℕ × ReferenceType) → State
 with_new s fresh = record { at = s.at; stack = s.stack; locals = s.locals; heap = with_fresh s.heap fresh }
 
--- objects that come into being: at addresses of 32 bits that are unused and differ, of any types of at most 255 dimensions
+-- objects that come into being: at addresses of 32 bits that are unused and differ, of any types of at most 255
+-- dimensions
 abbrev pub AreNew : Heap → List (ℕ × ReferenceType) → Type 0
 AreNew heap [] = Unit {0}
 AreNew heap (x ∷ xs) =
-    (heap x.0 ≡ None) × (x.0 < 2 ^ 32) × (dimensions_of x.1 ≤ 255) × ((y : ℕ × ReferenceType) → IsAmong y xs → y.0 ≢ x.0) × AreNew heap xs
+    (heap x.0 ≡ None) × (x.0 < 2 ^ 32) × (dimensions_of x.1 ≤ 255)
+    × ((y : ℕ × ReferenceType) → IsAmong y xs → y.0 ≢ x.0) × AreNew heap xs
 
 -- the item of this place of the stack is not null, where one is asked for
 abbrev pub IsNotNull : Option ℕ → List Value → Type 0
@@ -44,10 +48,12 @@ Passes world heap None vs = Unit {0}
 Passes world heap (Some type) [] = ⊥
 Passes world heap (Some type) (v ∷ vs) = IsOf world heap (descriptor_of type) v
 
--- The instruction may go on: it is no return and no athrow, what only raises where it is null is not, and a cast passes.
+-- The instruction may go on: it is no return and no athrow, what only raises where it is null is not, and a cast
+-- passes.
 abbrev pub MayGoOn : World → Method Act → Act → State → Type 0
 MayGoOn world m act s =
-    (is_return act ≡ false) × (is_throw act ≡ false) × IsNotNull (object_place m act) s.stack × Passes world s.heap (cast_to m act) s.stack
+    (is_return act ≡ false) × (is_throw act ≡ false) × IsNotNull (object_place m act) s.stack
+    × Passes world s.heap (cast_to m act) s.stack
 
 -- an element of the array that stands beneath the index
 pub record IsElement (world : World) (s : State) (answer : Option Value) : Type 0 where
@@ -65,8 +71,8 @@ pub record IsUnused (s : State) (answer : Option Value) : Type 0 where
   pub unused : s.heap address ≡ None
   pub in_range : address < 2 ^ 32
 
--- The values that may be answered: each value that fits the type that is asked, or the component of an array; each address that is unused;
--- and nothing where nothing is asked.
+-- The values that may be answered: each value that fits the type that is asked, or the component of an array; each
+-- address that is unused; and nothing where nothing is asked.
 abbrev pub IsAnswer : World → State → Asks → Option Value → Type 0
 IsAnswer world s nothing answer = answer ≡ None
 IsAnswer world s (a_value type operands) answer = (v : Value) × (answer ≡ Some v) × IsOf world s.heap type v
@@ -80,7 +86,8 @@ MakesNone _ = Unit {0}
 
 -- a way to go: a target, or the next start where the instruction falls through
 abbrev pub IsWay : Method Act → ℕ → Act → ℕ → Type 0
-IsWay m from act to = IsAmong (pos to) (led_to from (jumps act)) ⊎ ((is_followed act ≡ true) × (next_offset m.code from ≡ Some to))
+IsWay m from act to = IsAmong (pos to) (led_to from (jumps act))
+    ⊎ ((is_followed act ≡ true) × (next_offset m.code from ≡ Some to))
 
 -- the offset that is chosen is told exactly by a branch or switch
 abbrev pub IsTold : List ℤ → Option ℕ → ℕ → Type 0
@@ -100,11 +107,13 @@ pub record HasStep (world : World) (m : Method Act) (s : State) (act : Act)
 -- an exception to each entry that covers the instruction and catches it
 abbrev pub HasCatches : World → Method Act → State → ℕ → ReferenceType → List (ℕ × ReferenceType) → Type 0
 HasCatches world m s address type fresh =
-    (entry : ℕ) (e : ExceptionEntry) → slice_get m.exceptions entry ≡ Some e → covers e s.at ≡ true → IsBelow world type e.caught
+    (entry : ℕ) (e : ExceptionEntry) → slice_get m.exceptions entry ≡ Some e → covers e s.at ≡ true
+    → IsBelow world type e.caught
     → (t : State) × Happens world m s (raise address fresh (Some entry)) (goes_on t)
 
 -- what may come of an instruction at a state, where these objects come into being
-pub record HasChoices (world : World) (m : Method Act) (s : State) (act : Act) (fresh : List (ℕ × ReferenceType)) : Type 0 where
+pub record HasChoices (world : World) (m : Method Act) (s : State) (act : Act)
+    (fresh : List (ℕ × ReferenceType)) : Type 0 where
   -- to every target, and on to the next start, with every answer
   pub steps : MayGoOn world m act (with_new s fresh)
       → (answer : Option Value) → IsAnswer world (with_new s fresh) (asks m act) answer
@@ -133,11 +142,13 @@ IsPushed nothing answer stack t = Unit {0}
 IsPushed (a_value type operands) answer stack t = (v : Value) × (answer ≡ Some v) × (t.stack ≡ v ∷ drop operands stack)
 IsPushed an_element answer stack t = (v : Value) × (answer ≡ Some v) × (t.stack ≡ v ∷ drop 2 stack)
 IsPushed (an_address made_there operands) answer stack t =
-    (a : ℕ) × (answer ≡ Some (reference a)) × (t.stack ≡ reference a ∷ drop operands stack) × (t.heap a ≡ Some made_there)
+    (a : ℕ) × (answer ≡ Some (reference a)) × (t.stack ≡ reference a ∷ drop operands stack)
+    × (t.heap a ≡ Some made_there)
 
 -- objects that are ready stay as they are
 abbrev pub StayReady : Heap → Heap → Type 0
-StayReady before behind = (a : ℕ) (x : ReferenceType) → before a ≡ Some (object x ready) → behind a ≡ Some (object x ready)
+StayReady before behind = (a : ℕ) (x : ReferenceType) → before a ≡ Some (object x ready)
+    → behind a ≡ Some (object x ready)
 
 -- the state behind a step
 pub record IsSuccessor (world : World) (m : Method Act) (s : State) (act : Act)
@@ -152,9 +163,11 @@ pub record IsSuccessor (world : World) (m : Method Act) (s : State) (act : Act)
 
 -- an object that is raised is a Throwable, and ready
 abbrev pub IsThrowable : World → Heap → ℕ → ReferenceType → Type 0
-IsThrowable world heap address type = (heap address ≡ Some (object type ready)) × IsBelow world type (class_type throwable_name)
+IsThrowable world heap address type = (heap address ≡ Some (object type ready))
+    × IsBelow world type (class_type throwable_name)
 
--- the state behind a catch: at the handler of an entry that covers the instruction and catches the object, which stands alone on the stack
+-- the state behind a catch: at the handler of an entry that covers the instruction and catches the object, which stands
+-- alone on the stack
 pub record IsCatch (world : World) (m : Method Act) (s : State)
     (address : ℕ) (fresh : List (ℕ × ReferenceType)) (entry : ℕ) (t : State) : Type 0 where
   pub type : ReferenceType
@@ -169,10 +182,13 @@ pub record IsCatch (world : World) (m : Method Act) (s : State)
   pub heap : t.heap ≡ with_fresh s.heap fresh
 
 -- what comes of an instruction at a state, where these objects come into being
-pub record HasBounds (world : World) (m : Method Act) (s : State) (act : Act) (fresh : List (ℕ × ReferenceType)) : Type 0 where
-  pub steps : (branch : Option ℕ) (answer : Option Value) (t : State) → Happens world m s (go branch answer fresh) (goes_on t)
+pub record HasBounds (world : World) (m : Method Act) (s : State) (act : Act)
+    (fresh : List (ℕ × ReferenceType)) : Type 0 where
+  pub steps : (branch : Option ℕ) (answer : Option Value) (t : State)
+      → Happens world m s (go branch answer fresh) (goes_on t)
       → IsSuccessor world m s act branch answer fresh t
-  pub returns : (branch : Option ℕ) (answer : Option Value) → Happens world m s (go branch answer fresh) ended → is_return act ≡ true
+  pub returns : (branch : Option ℕ) (answer : Option Value) → Happens world m s (go branch answer fresh) ended
+      → is_return act ≡ true
   pub catches : (address entry : ℕ) (t : State) → Happens world m s (raise address fresh (Some entry)) (goes_on t)
       → IsCatch world m s address fresh entry t
   pub raises : (address : ℕ) → Happens world m s (raise address fresh None) ended
@@ -197,7 +213,8 @@ class_entry superclass = record { superclass = superclass; interface = false }
 -- A hierarchy extends itself; so does it with one more interface, and with one more class under any superclass or none.
 pub record HasWorlds (classes : List ClassFact) : Type 0 where
   pub itself : Extends (world_of classes) classes
-  pub interfaces : (name : List ℕ) → IsAbsent classes name → Extends (with_class (world_of classes) name interface_entry) classes
+  pub interfaces : (name : List ℕ) → IsAbsent classes name
+      → Extends (with_class (world_of classes) name interface_entry) classes
   pub more_classes : (name : List ℕ) → IsAbsent classes name → name ≢ cloneable_name → name ≢ serializable_name
       → (superclass : Option (List ℕ)) → Extends (with_class (world_of classes) name (class_entry superclass)) classes
 

@@ -1,5 +1,6 @@
--- The ways of an instruction, by its act and the constant that it names (JVMS 2.10, 2.11, 6.5): where it leads, which operand only
--- raises where it is null, and what it answers. The laws of breadth speak in these words, and not in those of the machine's own table.
+-- The ways of an instruction, by its act and the constant that it names (JVMS 2.10, 2.11, 6.5): where it leads, which
+-- operand only raises where it is null, and what it answers. The laws of breadth speak in these words, and not in those
+-- of the machine's own table.
 use Rattle.std.specs.Prelude.{ℕ, ◌+◌, ℤ, Bool, true, false, bytes_eq, if◌then◌else◌, List, [], ◌∷◌, length, Option, Some, None}
 use Rattle.names.specs.declared.base.Primitive.{Primitive}
 use Rattle.names.specs.declared.base.Primitive.TheVariants as primitives
@@ -157,7 +158,8 @@ array_by_counts None counts = nothing
 
 abbrev pub asks : Method Act → Act → Asks
 asks m (acts.LoadConstant i) = constant_value (dynamic_type_at m.constant_pool i) (constant_at m.constant_pool i)
-asks m (acts.LoadWideConstant i) = wide_constant_value (dynamic_type_at m.constant_pool i) (constant_at m.constant_pool i)
+asks m (acts.LoadWideConstant i) =
+    wide_constant_value (dynamic_type_at m.constant_pool i) (constant_at m.constant_pool i)
 asks m (acts.GetStatic i) = field_value (field_at m.constant_pool i) 0
 asks m (acts.GetField i) = field_value (field_at m.constant_pool i) 1
 asks m (acts.InvokeStatic i) = call_value (method_at m.constant_pool i) 0

@@ -1,5 +1,5 @@
--- The values of a type (JVMS 2.3, 2.4, 2.11.1), value by value. The laws of breadth speak in these words, and not in those by which the machine
--- tells what fits.
+-- The values of a type (JVMS 2.3, 2.4, 2.11.1), value by value. The laws of breadth speak in these words, and not in
+-- those by which the machine tells what fits.
 use Rattle.std.specs.Prelude.{◌≡◌, ℕ, ◌+◌, List, [], ◌∷◌, Some}
 use Rattle.names.specs.declared.base.Primitive.{Primitive}
 use Rattle.names.specs.declared.base.Primitive.TheVariants.{Boolean, Byte, Char, Short, Int, Long, Float, Double}
@@ -34,7 +34,8 @@ pub record IsReadyOf (world : World) (heap : Heap) (type : FieldDescriptor) (a :
   pub here : heap a ≡ Some (object run_time ready)
   pub below : IsBelowType world (descriptor_of run_time) type
 
--- a number of a primitive type of its kind; null of each type of references; an address of an object that is ready and of a type below
+-- a number of a primitive type of its kind; null of each type of references; an address of an object that is ready and
+-- of a type below
 abbrev pub IsOf : World → Heap → FieldDescriptor → Value → Type 0
 IsOf world heap type (number kind) = (p : Primitive) × (type ≡ primitive p) × (kind ≡ kind_of p)
 IsOf world heap type null = IsOfReferences type

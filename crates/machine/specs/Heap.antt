@@ -9,7 +9,8 @@ use Rattle.insn.specs.Acts.{takes_array}
 use Rattle.insn.specs.Stacks.{computed_as}
 use Rattle.machine.specs.Values.{Value, number, null, reference}
 
--- Which constructors have returned: one of the object; none, and it was made by this run's `new`; none, and it is the own object.
+-- Which constructors have returned: one of the object; none, and it was made by this run's `new`; none, and it is the
+-- own object.
 pub data Status : Type 0 where
   ready made this : Status
 
@@ -57,7 +58,8 @@ IsNoPrimitive (array component) = Unit {0}
 
 -- all classes and arrays are below Object and below every interface
 abbrev pub IsBelowClass : World → FieldDescriptor → List ℕ → Type 0
-IsBelowClass world x name = IsNoPrimitive x × ((name ≡ object_name) ⊎ (IsInterface world name ⊎ IsBelowByName world x name))
+IsBelowClass world x name = IsNoPrimitive x
+    × ((name ≡ object_name) ⊎ (IsInterface world name ⊎ IsBelowByName world x name))
 
 -- arrays by their components
 abbrev pub IsBelowType : World → FieldDescriptor → FieldDescriptor → Type 0
@@ -132,7 +134,8 @@ HasNoThis heap = (a : ℕ) (x : ReferenceType) → heap a ≡ Some (object x thi
 
 abbrev pub IsFresh : Heap → List (ℕ × ReferenceType) → Type 0
 IsFresh heap [] = Unit {0}
-IsFresh heap (x ∷ xs) = (heap x.0 ≡ None) × IsAddress x.0 × IsRunTimeType x.1 × IsFresh (with_object heap x.0 (object x.1 ready)) xs
+IsFresh heap (x ∷ xs) = (heap x.0 ≡ None) × IsAddress x.0 × IsRunTimeType x.1
+    × IsFresh (with_object heap x.0 (object x.1 ready)) xs
 
 abbrev pub with_fresh : Heap → List (ℕ × ReferenceType) → Heap
 with_fresh heap [] = heap

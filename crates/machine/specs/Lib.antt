@@ -1,6 +1,6 @@
 pub mod Values
 pub mod Heap
-pub mod Tasks
+pub mod Effects
 pub mod Demands
 pub mod Steps
 pub mod Runs

@@ -1,5 +1,5 @@
--- The operand stack behind an instruction, by its act and the constant that it names (JVMS 2.6.2, 2.11, 6.5): how many operands are gone, and what
--- stands on what was beneath them.
+-- The operand stack behind an instruction, by its act and the constant that it names (JVMS 2.6.2, 2.11, 6.5): how many
+-- operands are gone, and what stands on what was beneath them.
 use Rattle.std.specs.Prelude.{◌≡◌, ℕ, ◌+◌, if◌then◌else◌, bytes_eq, List, ◌∷◌, ◌++◌, length, drop, slice_get, Option, Some, None}
 use Rattle.names.specs.Descriptors.{FieldDescriptor}
 use Rattle.names.specs.ReferenceTypes.{ReferenceType}
@@ -122,7 +122,8 @@ IsLeft (nothing operands) s answer stack = stack ≡ drop operands s.stack
 IsLeft (a_number kind operands) s answer stack = stack ≡ number kind ∷ drop operands s.stack
 IsLeft (a_null operands) s answer stack = stack ≡ null ∷ drop operands s.stack
 IsLeft (the_answer operands) s answer stack = (v : Value) × (answer ≡ Some v) × (stack ≡ v ∷ drop operands s.stack)
-IsLeft (the_local local) s answer stack = (v : Value) × (slice_get s.locals local ≡ Some (holds v)) × (stack ≡ v ∷ s.stack)
+IsLeft (the_local local) s answer stack = (v : Value) × (slice_get s.locals local ≡ Some (holds v))
+    × (stack ≡ v ∷ s.stack)
 IsLeft the_top s answer stack = stack ≡ s.stack
 IsLeft (the_items operator) s answer stack = AreMoved operator s.stack stack
 

@@ -15,9 +15,11 @@ Receives world m heap own no_receiver vs = vs ≡ []
 Receives world m heap own ready_receiver vs =
     (a : ℕ) × (vs ≡ reference a ∷ []) × FitsReference world heap (class_type m.class) (reference a)
 Receives world m heap own own_receiver vs =
-    (vs ≡ reference own ∷ []) × ((x : List ℕ) × (heap own ≡ Some (object (class_type x) this)) × IsSubclassIn world x m.class)
+    (vs ≡ reference own ∷ []) × ((x : List ℕ) × (heap own ≡ Some (object (class_type x) this))
+    × IsSubclassIn world x m.class)
 
--- A state in which the method may begin. No object is one that its run will have made, and none but the receiver is its own.
+-- A state in which the method may begin. No object is one that its run will have made, and none but the receiver is its
+-- own.
 pub record IsInitial {A : Type 0} (world : World) (m : Method A) (s : State) : Type 0 where
   pub at : s.at ≡ 0
   pub stack : s.stack ≡ []
@@ -30,10 +32,12 @@ pub record IsInitial {A : Type 0} (world : World) (m : Method A) (s : State) : T
   pub locals : s.locals ≡ all_slots m.max_locals (receiver ++ arguments)
   pub objects : IsHeap s.heap
   pub none_made : (a : ℕ) (x : ReferenceType) → s.heap a ≡ Some (object x made) → ⊥
-  pub only_own : (a : ℕ) (x : ReferenceType) → s.heap a ≡ Some (object x this) → (receiver_of m ≡ own_receiver) × (a ≡ own)
+  pub only_own : (a : ℕ) (x : ReferenceType) → s.heap a ≡ Some (object x this) → (receiver_of m ≡ own_receiver)
+      × (a ≡ own)
 
 -- It begins with these values, the receiver first, and with these objects.
-pub record IsBeginning {A : Type 0} (world : World) (m : Method A) (values : List Value) (heap : Heap) (s : State) : Type 0 where
+pub record IsBeginning {A : Type 0} (world : World) (m : Method A) (values : List Value) (heap : Heap)
+    (s : State) : Type 0 where
   pub initial : IsInitial world m s
   pub with_values : values ≡ initial.receiver ++ initial.arguments
   pub with_objects : s.heap ≡ heap

@@ -11,11 +11,12 @@ use Rattle.insn.specs.Offsets.{at_offset, next_offset, IsAmong}
 use Rattle.insn.specs.Meanings.{Act}
 use Rattle.machine.specs.Values.{Value, number, null, reference, holds, stored}
 use Rattle.machine.specs.Heap.{Status, ready, made, object, Heap, with_object, IsAddress, IsBelow, FitsReference, FitsField, IsFresh, with_fresh}
-use Rattle.machine.specs.Tasks as tables
-use Rattle.machine.specs.Tasks.{Need, Reply, no_reply, gives_number, gives_null, gives_answer, Task, operates, reads, writes, increments, moves, takes_element, passes, creates, makes_array, initializes, calls_special, leaves, ends, Tasks, falls, targets}
+use Rattle.machine.specs.Effects as tables
+use Rattle.machine.specs.Effects.{Demand, Reply, no_reply, gives_number, gives_null, gives_answer, Effect, operates, reads, writes, increments, moves, takes_element, passes, creates, makes_array, initializes, calls_special, leaves, ends, Effects, falls, targets}
 use Rattle.machine.specs.Demands.{State, AreForm, IsNoFaultBy}
 
--- A choice settles whatever an instruction leaves open. Objects that come into being meanwhile are made first, each at an address.
+-- A choice settles whatever an instruction leaves open. Objects that come into being meanwhile are made first, each at
+-- an address.
 pub data Choice : Type 0 where
   -- the offset gone to, given exactly where there are targets, and the value that is answered, if one is
   go : (branch : Option ℕ) (answer : Option Value) (fresh : List (ℕ × ReferenceType)) → Choice
@@ -33,7 +34,8 @@ abbrev pub Replies : World → Heap → Reply → Option Value → List Value �
 Replies world heap no_reply answer vs = (answer ≡ None) × (vs ≡ [])
 Replies world heap (gives_number kind) answer vs = (answer ≡ None) × (vs ≡ number kind ∷ [])
 Replies world heap gives_null answer vs = (answer ≡ None) × (vs ≡ null ∷ [])
-Replies world heap (gives_answer type) answer vs = (v : Value) × (answer ≡ Some v) × FitsField world heap type v × (vs ≡ v ∷ [])
+Replies world heap (gives_answer type) answer vs = (v : Value) × (answer ≡ Some v) × FitsField world heap type v
+    × (vs ≡ v ∷ [])
 
 abbrev pub IsNull : Option Value → Type 0
 IsNull (Some null) = Unit {0}
@@ -53,25 +55,28 @@ abbrev pub moved_with : State → ℕ → List Value → Heap → State
 moved_with s at stack heap = record { at = at; stack = stack; locals = s.locals; heap = heap }
 
 -- operands are taken and a reply is given
-abbrev pub Operates : World → List Need → Option ℕ → Reply → State → Option Value → ℕ → State → Type 0
-Operates world needs live reply s answer at t =
-    IsLive live s.stack × ((vs : List Value) × Replies world s.heap reply answer vs × (t ≡ moved s at (vs ++ beneath needs s.stack)))
+abbrev pub Operates : World → List Demand → Option ℕ → Reply → State → Option Value → ℕ → State → Type 0
+Operates world demands live reply s answer at t =
+    IsLive live s.stack × ((vs : List Value) × Replies world s.heap reply answer vs
+    × (t ≡ moved s at (vs ++ beneath demands s.stack)))
 
 -- Its effect, from one state on its way to an offset to another state, by the answer that is chosen.
-abbrev pub Does : World → Task → State → Option Value → ℕ → State → Type 0
-Does world (operates needs live reply offsets on) s answer at t = Operates world needs live reply s answer at t
-Does world (calls_special class needs live reply) s answer at t = Operates world needs live reply s answer at t
-Does world (reads need local) s answer at t =
+abbrev pub Does : World → Effect → State → Option Value → ℕ → State → Type 0
+Does world (operates demands live reply offsets on) s answer at t = Operates world demands live reply s answer at t
+Does world (calls_special class demands live reply) s answer at t = Operates world demands live reply s answer at t
+Does world (reads demand local) s answer at t =
     (v : Value) × (slice_get s.locals local ≡ Some (holds v)) × (answer ≡ None) × (t ≡ moved s at (v ∷ s.stack))
-Does world (writes need local width) s answer at t =
+Does world (writes demand local width) s answer at t =
     (v : Value) × (rest : List Value) × (s.stack ≡ v ∷ rest) × (answer ≡ None)
     × (t ≡ record { at = at; stack = rest; locals = stored v local s.locals; heap = s.heap })
 Does world (increments local) s answer at t = (answer ≡ None) × (t ≡ moved s at s.stack)
 Does world (moves forms) s answer at t =
-    (f : StackForm) × IsAmong f forms × AreForm f.takes s.stack × (answer ≡ None) × (t ≡ moved s at (rearranged f s.stack))
+    (f : StackForm) × IsAmong f forms × AreForm f.takes s.stack × (answer ≡ None)
+    × (t ≡ moved s at (rearranged f s.stack))
 Does world takes_element s answer at t =
     (i : Value) × (a : ℕ) × (component : FieldDescriptor) × (rest : List Value) × (v : Value)
-    × (s.stack ≡ i ∷ reference a ∷ rest) × (s.heap a ≡ Some (object (array_type component) ready)) × FitsField world s.heap component v
+    × (s.stack ≡ i ∷ reference a ∷ rest) × (s.heap a ≡ Some (object (array_type component) ready))
+    × FitsField world s.heap component v
     × (answer ≡ Some v) × (t ≡ moved s at (v ∷ rest))
 Does world (passes type) s answer at t =
     (v : Value) × (rest : List Value) × (s.stack ≡ v ∷ rest) × FitsReference world s.heap type v × (answer ≡ None)
@@ -79,12 +84,12 @@ Does world (passes type) s answer at t =
 Does world (creates class) s answer at t =
     (a : ℕ) × (answer ≡ Some (reference a)) × (s.heap a ≡ None) × IsAddress a
     × (t ≡ moved_with s at (reference a ∷ s.stack) (with_object s.heap a (object (class_type class) made)))
-Does world (makes_array needs type) s answer at t =
+Does world (makes_array demands type) s answer at t =
     (a : ℕ) × (answer ≡ Some (reference a)) × (s.heap a ≡ None) × IsAddress a
-    × (t ≡ moved_with s at (reference a ∷ beneath needs s.stack) (with_object s.heap a (object type ready)))
-Does world (initializes class needs) s answer at t =
+    × (t ≡ moved_with s at (reference a ∷ beneath demands s.stack) (with_object s.heap a (object type ready)))
+Does world (initializes class demands) s answer at t =
     (a : ℕ) × (rest : List Value) × (x : ReferenceType) × (status : Status)
-    × (beneath needs s.stack ≡ reference a ∷ rest) × (s.heap a ≡ Some (object x status)) × (answer ≡ None)
+    × (beneath demands s.stack ≡ reference a ∷ rest) × (s.heap a ≡ Some (object x status)) × (answer ≡ None)
     × (t ≡ moved_with s at rest (with_object s.heap a (object x ready)))
 Does world _ s answer at t = ⊥
 
@@ -96,32 +101,34 @@ IsBranch [] branch at = branch ≡ None
 IsBranch (target ∷ others) branch at = branch ≡ Some at
 
 -- it goes to a target, or on
-abbrev pub GoesTo : Method Act → ℕ → Task → ℕ → Type 0
+abbrev pub GoesTo : Method Act → ℕ → Effect → ℕ → Type 0
 GoesTo m from t at = IsAmong (pos at) (targets from t) ⊎ ((falls t ≡ true) × (next_offset m.code from ≡ Some at))
 
-pub record StepsBy (task : Tasks) (world : World) (m : Method Act) (s : State)
+pub record StepsBy (effect : Effects) (world : World) (m : Method Act) (s : State)
     (branch : Option ℕ) (answer : Option Value) (fresh : List (ℕ × ReferenceType)) (t : State) : Type 0 where
   pub act : Act
   pub here : at_offset m.code s.at ≡ Some act
   pub unused : IsFresh s.heap fresh
   pub to : ℕ
-  pub branches : IsBranch (targets s.at (task m act)) branch to
-  pub goes : GoesTo m s.at (task m act) to
-  pub does : Does world (task m act) (record { at = s.at; stack = s.stack; locals = s.locals; heap = with_fresh s.heap fresh }) answer to t
+  pub branches : IsBranch (targets s.at (effect m act)) branch to
+  pub goes : GoesTo m s.at (effect m act) to
+  pub does : Does world (effect m act)
+      (record { at = s.at; stack = s.stack; locals = s.locals; heap = with_fresh s.heap fresh }) answer to t
 
 -- a return
-abbrev pub IsLast : Task → Type 0
-IsLast (leaves needs) = Unit {0}
+abbrev pub IsLast : Effect → Type 0
+IsLast (leaves demands) = Unit {0}
 IsLast ends = Unit {0}
 IsLast _ = ⊥
 
-pub record EndsBy (task : Tasks) (m : Method Act) (s : State) (branch : Option ℕ) (answer : Option Value) (fresh : List (ℕ × ReferenceType)) : Type 0 where
+pub record EndsBy (effect : Effects) (m : Method Act) (s : State) (branch : Option ℕ) (answer : Option Value)
+    (fresh : List (ℕ × ReferenceType)) : Type 0 where
   pub act : Act
   pub here : at_offset m.code s.at ≡ Some act
   pub unused : IsFresh s.heap fresh
   pub no_branch : branch ≡ None
   pub no_answer : answer ≡ None
-  pub last : IsLast (task m act)
+  pub last : IsLast (effect m act)
 
 -- ---- exceptions
 
@@ -143,16 +150,20 @@ pub record IsCaught (world : World) (m : Method Act) (s : State)
   pub result : t ≡ moved_with s by_entry.handler (reference address ∷ []) (with_fresh s.heap fresh)
 
 -- what comes of a choice, at a state that is no fault
-abbrev pub HappensBy : Tasks → World → Method Act → State → Choice → Outcome → Type 0
-HappensBy task world m s (go branch answer fresh) (goes_on t) = IsNoFaultBy task world m s × StepsBy task world m s branch answer fresh t
-HappensBy task world m s (go branch answer fresh) ended = IsNoFaultBy task world m s × EndsBy task m s branch answer fresh
-HappensBy task world m s (raise address fresh (Some entry)) (goes_on t) = IsNoFaultBy task world m s × IsCaught world m s address fresh entry t
-HappensBy task world m s (raise address fresh None) ended = IsNoFaultBy task world m s × IsRaised world s address fresh
-HappensBy task world m s _ _ = ⊥
+abbrev pub HappensBy : Effects → World → Method Act → State → Choice → Outcome → Type 0
+HappensBy effect world m s (go branch answer fresh) (goes_on t) = IsNoFaultBy effect world m s
+    × StepsBy effect world m s branch answer fresh t
+HappensBy effect world m s (go branch answer fresh) ended = IsNoFaultBy effect world m s
+    × EndsBy effect m s branch answer fresh
+HappensBy effect world m s (raise address fresh (Some entry)) (goes_on t) = IsNoFaultBy effect world m s
+    × IsCaught world m s address fresh entry t
+HappensBy effect world m s (raise address fresh None) ended = IsNoFaultBy effect world m s
+    × IsRaised world s address fresh
+HappensBy effect world m s _ _ = ⊥
 
--- by the tasks of all instructions
+-- by the effects of all instructions
 abbrev pub Steps : World → Method Act → State → Option ℕ → Option Value → List (ℕ × ReferenceType) → State → Type 0
-Steps = StepsBy tables.task
+Steps = StepsBy tables.effect
 
 abbrev pub Happens : World → Method Act → State → Choice → Outcome → Type 0
-Happens = HappensBy tables.task
+Happens = HappensBy tables.effect

@@ -1,6 +1,7 @@
--- The references that an instruction uses, by its act and the constant that it names (JVMS 2.9.1, 4.10.1.4, 6.5): arguments, receivers aside from
--- that of an `<init>`, the objects of fields, arrays, what is stored in a field or an array, and what is cast, thrown or returned. Each is null, or its
--- object's constructor has returned. References that are copied, stored in local variables, compared, tested or locked are not used.
+-- The references that an instruction uses, by its act and the constant that it names (JVMS 2.9.1, 4.10.1.4, 6.5):
+-- arguments, receivers aside from that of an `<init>`, the objects of fields, arrays, what is stored in a field or an
+-- array, and what is cast, thrown or returned. Each is null, or its object's constructor has returned. References that
+-- are copied, stored in local variables, compared, tested or locked are not used.
 use Rattle.std.specs.Prelude.{◌≡◌, ℕ, true, List, [], ◌∷◌, ◌++◌, length, slice_get, Option, Some, None, ◌⊎◌}
 use Rattle.names.specs.Descriptors.{FieldDescriptor, primitive, class, array}
 use Rattle.names.specs.ReferenceTypes.{ReferenceType}
@@ -49,9 +50,12 @@ abbrev pub used : Method Act → Act → List ℕ
 used m (acts.GetField i) = 0 ∷ []
 used m (acts.PutField i) = value_used (field_at m.constant_pool i)
 used m (acts.PutStatic i) = value_used (field_at m.constant_pool i)
-used m (acts.InvokeVirtual i) = receiver_used (method_at m.constant_pool i) ++ arguments_used (method_at m.constant_pool i)
-used m (acts.InvokeInterface i count) = receiver_used (method_at m.constant_pool i) ++ arguments_used (method_at m.constant_pool i)
-used m (acts.InvokeSpecial i) = receiver_used (other_than_init (method_at m.constant_pool i)) ++ arguments_used (method_at m.constant_pool i)
+used m (acts.InvokeVirtual i) =
+    receiver_used (method_at m.constant_pool i) ++ arguments_used (method_at m.constant_pool i)
+used m (acts.InvokeInterface i count) =
+    receiver_used (method_at m.constant_pool i) ++ arguments_used (method_at m.constant_pool i)
+used m (acts.InvokeSpecial i) =
+    receiver_used (other_than_init (method_at m.constant_pool i)) ++ arguments_used (method_at m.constant_pool i)
 used m (acts.InvokeStatic i) = arguments_used (method_at m.constant_pool i)
 used m (acts.InvokeDynamic i) = site_arguments_used (call_site_at m.constant_pool i)
 used m (acts.LoadElement element) = 1 ∷ []
@@ -79,7 +83,8 @@ IsInitialized heap a = (x : ReferenceType) × (heap a ≡ Some (object x ready))
 -- Its fields may be set too: in an instance initialization method the own object's, where its class declares the field.
 abbrev pub MayBeSet : Method Act → Heap → FieldConstant → ℕ → Type 0
 MayBeSet m heap f a =
-    IsInitialized heap a ⊎ ((m.is_init ≡ true) × (is_own_field m f ≡ true) × ((x : ReferenceType) × (heap a ≡ Some (object x this))))
+    IsInitialized heap a ⊎ ((m.is_init ≡ true) × (is_own_field m f ≡ true)
+    × ((x : ReferenceType) × (heap a ≡ Some (object x this))))
 
 -- null, or an address of which this holds
 abbrev pub IsNullOr : (ℕ → Type 0) → Option Value → Type 0
@@ -92,16 +97,21 @@ pub record UsesInitialized (m : Method Act) (s : State) (act : Act) : Type 0 whe
 
 -- no object that an instruction uses is one that is not initialized, whatever is on the stack
 pub record UsesNoOther (m : Method Act) (s : State) (act : Act) : Type 0 where
-  pub operands : (place a : ℕ) → IsAmong place (used m act) → slice_get s.stack place ≡ Some (reference a) → IsInitialized s.heap a
-  pub set : (f : FieldConstant) (a : ℕ) → field_set m act ≡ Some f → slice_get s.stack 1 ≡ Some (reference a) → MayBeSet m s.heap f a
+  pub operands : (place a : ℕ) → IsAmong place (used m act) → slice_get s.stack place ≡ Some (reference a)
+      → IsInitialized s.heap a
+  pub set : (f : FieldConstant) (a : ℕ) → field_set m act ≡ Some f → slice_get s.stack 1 ≡ Some (reference a)
+      → MayBeSet m s.heap f a
 
 -- ---- the laws
 
 -- The part of the demands that speaks of operands says so alone.
 abbrev pub OperandsAreInitialized : Type 0
-OperandsAreInitialized = (world : World) (m : Method Act) (s : State) (act : Act) → HasOperands world m s act → UsesInitialized m s act
+OperandsAreInitialized = (world : World) (m : Method Act) (s : State) (act : Act) → HasOperands world m s act
+    → UsesInitialized m s act
 
--- So does the part that speaks of objects, whatever is on the stack, where the instruction's operands can be there at some state.
+-- So does the part that speaks of objects, whatever is on the stack, where the instruction's operands can be there at
+-- some state.
 abbrev pub ObjectsAreInitialized : Type 0
 ObjectsAreInitialized =
-    (world : World) (m : Method Act) (some s : State) (act : Act) → HasOperands world m some act → UsesReady m s act → UsesNoOther m s act
+    (world : World) (m : Method Act) (some s : State) (act : Act) → HasOperands world m some act → UsesReady m s act
+    → UsesNoOther m s act

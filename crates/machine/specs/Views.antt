@@ -63,7 +63,13 @@ abbrev pub heap_view : BTreeMap ℕ RawObject → Heap
 heap_view objects = λ a. option_map object_view (get nat_cmp objects a)
 
 abbrev pub state_view : RawState → State
-state_view s = record { at = s.at; stack = stack_of s.stack.items; locals = locals_of s.locals.items; heap = heap_view s.heap }
+state_view s = record {
+  at = s.at;
+  stack = stack_of s.stack.items;
+  locals = locals_of s.locals.items;
+  heap =
+      heap_view s.heap;
+}
 
 abbrev pub fresh_view : List (ℕ × RunType) → List (ℕ × ReferenceType)
 fresh_view xs = map (λ x. (x.0, run_type_view x.1)) xs

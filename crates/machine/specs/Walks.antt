@@ -17,12 +17,15 @@ pub data Stop : Type 0 where
   -- nothing comes of the next choice, at a state that is no fault
   no_choice : Stop
 
--- By these choices the method comes from a state to a stop; so many of the choices lead to a state or to the method's end.
+-- By these choices the method comes from a state to a stop; so many of the choices lead to a state or to the method's
+-- end.
 pub data Walks (world : World) (m : Method Act) : State → List Choice → ℕ → Stop → Type 0 where
   stops : {s : State} → Walks world m s [] 0 (more s)
   faulty : {s : State} {c : Choice} {cs : List Choice} → (IsNoFault world m s → ⊥) → Walks world m s (c ∷ cs) 0 fault
-  refused : {s : State} {c : Choice} {cs : List Choice} → IsNoFault world m s → ((o : Outcome) → Happens world m s c o → ⊥)
+  refused : {s : State} {c : Choice} {cs : List Choice} → IsNoFault world m s
+      → ((o : Outcome) → Happens world m s c o → ⊥)
       → Walks world m s (c ∷ cs) 0 no_choice
   ends : {s : State} {c : Choice} {cs : List Choice} → Happens world m s c ended → Walks world m s (c ∷ cs) 1 returned
-  goes : {s t : State} {c : Choice} {cs : List Choice} {n : ℕ} {stop : Stop} → Happens world m s c (goes_on t) → Walks world m t cs n stop
+  goes : {s t : State} {c : Choice} {cs : List Choice} {n : ℕ} {stop : Stop} → Happens world m s c (goes_on t)
+      → Walks world m t cs n stop
       → Walks world m s (c ∷ cs) (suc n) stop

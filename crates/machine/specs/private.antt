@@ -2,7 +2,7 @@
 pub mod Beginnings
 pub mod Constants
 pub mod Decided
-pub mod Deeds
+pub mod EffectViews
 pub mod Demanded
 pub mod Happening
 pub mod Rising

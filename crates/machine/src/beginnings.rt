@@ -20,7 +20,7 @@ use crate::heaps::{are_objects, copy_of};
 use crate::held::take_values;
 use crate::items::{Slot, Value, is_wide_value};
 use crate::objects::{Object, RunType, Status};
-use crate::operands::{has_room, meets, need_of};
+use crate::operands::{demand_of, has_room, meets};
 use crate::own_class::class_name;
 use crate::snapshot::State;
 use classfile::CodeMethod;
@@ -101,7 +101,8 @@ fn is_receiver<C: Classes>(
     heap: &BTreeMap<u32, Object<'_>>,
     classes: &C,
 ) -> bool
-    ensures { IsTrue result ↔ IsReceiver (world_of (C.content classes.now)) class.now (heap_view heap.now) (value_view value) }
+    ensures { IsTrue result ↔ IsReceiver (world_of (C.content classes.now)) class.now (heap_view heap.now)
+        (value_view value) }
 {
     match value {
         Value::Ref(_) => fits_reference(heap, RunType::Class(class), value, classes),
@@ -116,7 +117,8 @@ fn own_at<C: Classes>(
     heap: &BTreeMap<u32, Object<'_>>,
     classes: &C,
 ) -> Option<u32>
-    ensures { let w = world_of (C.content classes.now) in MatchOption result (IsOwn w class.now (heap_view heap.now) (value_view value) → ⊥)
+    ensures { let w = world_of (C.content classes.now) in
+        MatchOption result (IsOwn w class.now (heap_view heap.now) (value_view value) → ⊥)
         (λ a. (value_view value ≡ reference a) × IsOwnObject w class.now (heap_view heap.now) a) }
 {
     let Value::Ref(address) = value else {
@@ -135,9 +137,10 @@ fn fits<C: Classes>(
     heap: &BTreeMap<u32, Object<'_>>,
     classes: &C,
 ) -> bool
-    ensures { IsTrue result ↔ FitsField (world_of (C.content classes.now)) (heap_view heap.now) (type_of t.entry) (value_view value) }
+    ensures { IsTrue result ↔ FitsField (world_of (C.content classes.now)) (heap_view heap.now) (type_of t.entry)
+        (value_view value) }
 {
-    meets(need_of(t), value, heap, classes)
+    meets(demand_of(t), value, heap, classes)
 }
 
 // Whether as many values as there are types fit them, each its own.
@@ -147,7 +150,8 @@ fn all_fit<C: Classes>(
     heap: &BTreeMap<u32, Object<'_>>,
     classes: &C,
 ) -> bool
-    ensures { IsTrue result ↔ AllFit (world_of (C.content classes.now)) (heap_view heap.now) (map type_of types.now) (map value_view values.now) }
+    ensures { IsTrue result ↔ AllFit (world_of (C.content classes.now)) (heap_view heap.now) (map type_of types.now)
+        (map value_view values.now) }
 {
     match types {
         [] => values.is_empty(),
@@ -176,7 +180,8 @@ impl<'a> Beginning<'a> {
         })
     }
 
-    // Whether the method may begin with these arguments behind a receiver, all of the values together, and with these objects.
+    // Whether the method may begin with these arguments behind a receiver, all of the values together, and with these
+    // objects.
     fn may_take<C: Classes>(
         &self,
         own: Option<u32>,
@@ -185,7 +190,8 @@ impl<'a> Beginning<'a> {
         heap: &BTreeMap<u32, Object<'_>>,
         classes: &C,
     ) -> bool
-        ensures { IsTrue result ↔ BehindReceiver (world_of (C.content classes.now)) (beginning_view self.now) own (map value_view values.now) (map value_view arguments.now) (heap_view heap.now) }
+        ensures { IsTrue result ↔ BehindReceiver (world_of (C.content classes.now)) (beginning_view self.now) own
+            (map value_view values.now) (map value_view arguments.now) (heap_view heap.now) }
     {
         if !all_fit(&self.types.params, arguments, heap, classes) {
             return false;
@@ -204,7 +210,8 @@ impl<'a> Beginning<'a> {
         classes: &C,
     ) -> bool
         requires { (beginning_view self.now).receiver ≡ ready_receiver }
-        ensures { IsTrue result ↔ MayBegin (world_of (C.content classes.now)) (beginning_view self.now) (map value_view values.now) (heap_view heap.now) }
+        ensures { IsTrue result ↔ MayBegin (world_of (C.content classes.now)) (beginning_view self.now)
+            (map value_view values.now) (heap_view heap.now) }
     {
         let [receiver, arguments @ ..] = values else {
             return false;
@@ -223,7 +230,8 @@ impl<'a> Beginning<'a> {
         classes: &C,
     ) -> bool
         requires { (beginning_view self.now).receiver ≡ own_receiver }
-        ensures { IsTrue result ↔ MayBegin (world_of (C.content classes.now)) (beginning_view self.now) (map value_view values.now) (heap_view heap.now) }
+        ensures { IsTrue result ↔ MayBegin (world_of (C.content classes.now)) (beginning_view self.now)
+            (map value_view values.now) (heap_view heap.now) }
     {
         let [receiver, arguments @ ..] = values else {
             return false;
@@ -251,7 +259,8 @@ impl<'a> Beginning<'a> {
         heap: &BTreeMap<u32, Object<'_>>,
         classes: &C,
     ) -> bool
-        ensures { IsTrue result ↔ MayBegin (world_of (C.content classes.now)) (beginning_view self.now) (map value_view values.now) (heap_view heap.now) }
+        ensures { IsTrue result ↔ MayBegin (world_of (C.content classes.now)) (beginning_view self.now)
+            (map value_view values.now) (heap_view heap.now) }
     {
         match self.receiver {
             Receiver::Nothing => self.may_take(None, values, values, heap, classes),
@@ -263,7 +272,8 @@ impl<'a> Beginning<'a> {
 
 // Puts a value behind the others, a long or double with its second half.
 fn put_value(value: Value, locals: &mut Vec<Slot>) -> Result<(), AllocError>
-    ensures { OnOk result (locals_of locals.new.items ≡ locals_of locals.old.items ++ in_slots (value_view value ∷ [])) }
+    ensures { OnOk result (locals_of locals.new.items ≡ locals_of locals.old.items
+        ++ in_slots (value_view value ∷ [])) }
 {
     locals.push(Slot::Value(value))?;
     if !is_wide_value(value) {
@@ -286,12 +296,13 @@ fn locals_with(alloc: Global, values: &[Value], limit: u16) -> Result<Vec<Slot>,
     Ok(locals)
 }
 
-/// The state in which the method begins with these arguments, of which the receiver is the first where it has one, and with these
-/// objects, in the world that has these classes and no other (JVMS 2.6.1, 4.10.1.6).
+/// The state in which the method begins with these arguments, of which the receiver is the first where it has one, and
+/// with these objects, in the world that has these classes and no other (JVMS 2.6.1, 4.10.1.6).
 ///
-/// Refused is, by 55, what it does not begin with: a receiver that is null or of another class, or in an instance initialization method is not its
-/// own object; another number of arguments than its descriptor has parameters, or one that does not fit its type; values that take more
-/// units than max_locals; an object that is yet to be initialized and is not the receiver. Or 1.
+/// Refused is, by 55, what it does not begin with: a receiver that is null or of another class, or in an instance
+/// initialization method is not its own object; another number of arguments than its descriptor has parameters, or one
+/// that does not fit its type; values that take more units than max_locals; an object that is yet to be initialized and
+/// is not the receiver. Or 1.
 pub fn initial<'a, C: Classes>(
     alloc: Global,
     method: &Method<'_, 'a>,
@@ -299,9 +310,11 @@ pub fn initial<'a, C: Classes>(
     heap: &BTreeMap<u32, Object<'a>>,
     classes: &C,
 ) -> Result<State<'a>, StepFault>
-    ensures begins { IfOk result (λ s. IsBeginning (world_of (C.content classes.now)) (method_view method.now) (map value_view args.now) (heap_view heap.now) (state_view s)) }
+    ensures begins { IfOk result (λ s. IsBeginning (world_of (C.content classes.now)) (method_view method.now)
+        (map value_view args.now) (heap_view heap.now) (state_view s)) }
     ensures refused { IfErr result (λ e. (e ≡ OutOfMemory) ⊎ ((e ≡ NotInitial)
-        × ((s : Moment) → IsBeginning (world_of (C.content classes.now)) (method_view method.now) (map value_view args.now) (heap_view heap.now) s → ⊥))) }
+        × ((s : Moment) → IsBeginning (world_of (C.content classes.now)) (method_view method.now)
+        (map value_view args.now) (heap_view heap.now) s → ⊥))) }
 {
     let beginning = Beginning::of(alloc, &method.declared)?;
     if !beginning.may_begin(args, heap, classes) {
@@ -315,15 +328,17 @@ pub fn initial<'a, C: Classes>(
     })
 }
 
-/// Whether the method begins in this state, in the world that has these classes and no other (JVMS 2.6.1, 4.10.1.6). Its code is not looked
-/// at. The only refusal is want of memory.
+/// Whether the method begins in this state, in the world that has these classes and no other (JVMS 2.6.1, 4.10.1.6).
+/// Its code is not looked at. The only refusal is want of memory.
 pub fn is_initial<'a, C: Classes>(
     alloc: Global,
     method: &CodeMethod<'_, 'a>,
     state: &State<'a>,
     classes: &C,
 ) -> Result<bool, AllocError>
-    ensures { IfOk result (λ b. IsTrue b ↔ IsInitial {A = ℕ} (world_of (C.content classes.now)) (code_method_view method.now []) (state_view state.now)) }
+    ensures { IfOk result (λ b. IsTrue b
+        ↔ IsInitial {A = ℕ} (world_of (C.content classes.now)) (code_method_view method.now [])
+        (state_view state.now)) }
 {
     if state.offset() != 0 {
         return Ok(false);

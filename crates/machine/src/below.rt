@@ -62,7 +62,8 @@ fn base_below<C: Classes>(x: Base<'_>, y: Base<'_>, classes: &C) -> bool
 
 // Below `d` and `e` dimensions.
 fn component_below<C: Classes>(d: u8, x: Base<'_>, e: u8, y: Base<'_>, classes: &C) -> bool
-    ensures { result ≡ type_below (C.content classes.now) (dimensioned d (base_of x.entry)) (dimensioned e (base_of y.entry)) }
+    ensures { result ≡ type_below (C.content classes.now) (dimensioned d (base_of x.entry))
+        (dimensioned e (base_of y.entry)) }
 {
     if d < e {
         return false;
@@ -77,7 +78,8 @@ fn component_below<C: Classes>(d: u8, x: Base<'_>, e: u8, y: Base<'_>, classes: 
 }
 
 fn type_below<C: Classes>(x: RunType<'_>, t: RunType<'_>, classes: &C) -> bool
-    ensures { result ≡ type_below (C.content classes.now) (descriptor_of (run_type_view x.entry)) (descriptor_of (run_type_view t.entry)) }
+    ensures { result ≡ type_below (C.content classes.now) (descriptor_of (run_type_view x.entry))
+        (descriptor_of (run_type_view t.entry)) }
 {
     match x {
         RunType::Class(a) => match t {
@@ -95,7 +97,8 @@ fn type_below<C: Classes>(x: RunType<'_>, t: RunType<'_>, classes: &C) -> bool
 
 /// Whether an object of the first type is below the second. Takes no memory.
 pub fn is_below<C: Classes>(x: RunType<'_>, t: RunType<'_>, classes: &C) -> bool
-    ensures { IsTrue result ↔ IsBelow (world_of (C.content classes.now)) (run_type_view x.entry) (run_type_view t.entry) }
+    ensures { IsTrue result ↔ IsBelow (world_of (C.content classes.now)) (run_type_view x.entry)
+        (run_type_view t.entry) }
 {
     type_below(x, t, classes)
 }

@@ -4,51 +4,56 @@ ghost use Rattle.names.specs.Descriptors.{MethodDescriptor, method_width};
 ghost use Rattle.names.specs.ReferenceTypes.{class_type, is_class_type};
 ghost use Rattle.names.specs.Types.{type_of, method_of};
 ghost use Rattle.pool.specs.Members.{method_at, call_site_at};
-ghost use Rattle.machine.specs.Tasks.{of_type, arguments_on, reply_of, is_init_name, may_name, call_of, call_on, invoke_static, invoke_virtual, may_invoke_interface, invoke_interface, constructor_call, special_call, invoke_special, is_special_name, invoke_dynamic};
+ghost use Rattle.machine.specs.Effects.{of_type, arguments_on, reply_of, is_init_name, may_name, call_of, call_on, invoke_static, invoke_virtual, may_invoke_interface, invoke_interface, constructor_call, special_call, invoke_special, is_special_name, invoke_dynamic};
 ghost use Rattle.machine.specs.private.Constants.{constant_view, site_view};
-ghost use Rattle.machine.specs.private.Deeds.{need_view, needs_view, reply_view, task_view};
+ghost use Rattle.machine.specs.private.EffectViews.{demand_view, demands_view, reply_view, effect_view};
 ghost use Rattle.machine.specs.Bodies.{method_view};
 ghost use Rattle.machine.specs.Views.{run_type_view};
 
 use crate::body::Method;
 use crate::constants::{CallSite, MethodConstant, call_site_at, method_at};
-use crate::deed::{Deed, Need, Operation, Reply, operates};
+use crate::effect::{Demand, Effect, Operation, Reply, operates};
 use crate::objects::RunType;
-use crate::operands::need_of;
+use crate::operands::demand_of;
 use insn::Branches;
 use names::{FieldType, INIT, MethodType};
 use pool::Pool;
 use std::alloc::{AllocError, Global};
 
 // Pushes what is needed of the arguments, that of the last one first.
-fn push_arguments<'a>(params: &[FieldType<'a>], needs: &mut Vec<Need<'a>>) -> Result<(), AllocError>
-    ensures { OnOk result (needs_view needs.new.items ≡ needs_view needs.old.items ++ arguments_on (map type_of params.now) []) }
+fn push_arguments<'a>(
+    params: &[FieldType<'a>],
+    demands: &mut Vec<Demand<'a>>,
+) -> Result<(), AllocError>
+    ensures { OnOk result (demands_view demands.new.items ≡ demands_view demands.old.items
+        ++ arguments_on (map type_of params.now) []) }
 {
     match params {
         [] => Ok(()),
         [param, params @ ..] => {
-            push_arguments(params, needs)?;
-            needs.push(need_of(*param))?;
+            push_arguments(params, demands)?;
+            demands.push(demand_of(*param))?;
             Ok(())
         }
     }
 }
 
-// The needs of the arguments, the last one on top, and of the receiver beneath them, if there is one.
+// The demands of the arguments, the last one on top, and of the receiver beneath them, if there is one.
 fn arguments_on<'a>(
     alloc: Global,
     params: &[FieldType<'a>],
-    receiver: Option<Need<'a>>,
-) -> Result<Vec<Need<'a>>, AllocError>
-    ensures { IfOk result (λ v. needs_view v.items ≡ arguments_on (map type_of params.now) (option_to_list (option_map need_view receiver.entry))) }
+    receiver: Option<Demand<'a>>,
+) -> Result<Vec<Demand<'a>>, AllocError>
+    ensures { IfOk result (λ v. demands_view v.items
+        ≡ arguments_on (map type_of params.now) (option_to_list (option_map demand_view receiver.entry))) }
 {
-    let mut needs = Vec::new(alloc);
-    push_arguments(params, &mut needs)?;
+    let mut demands = Vec::new(alloc);
+    push_arguments(params, &mut demands)?;
     match receiver {
-        None => Ok(needs),
-        Some(need) => {
-            needs.push(need)?;
-            Ok(needs)
+        None => Ok(demands),
+        Some(demand) => {
+            demands.push(demand)?;
+            Ok(demands)
         }
     }
 }
@@ -63,11 +68,11 @@ fn reply_of(result_type: Option<FieldType<'_>>) -> Reply<'_>
 }
 
 // A call of a method of these types, without a receiver.
-fn call_of<'a>(alloc: Global, called: &MethodType<'a>) -> Result<Deed<'a>, AllocError>
-    ensures { IfOk result (λ d. task_view d ≡ call_of (method_of called.now)) }
+fn call_of<'a>(alloc: Global, called: &MethodType<'a>) -> Result<Effect<'a>, AllocError>
+    ensures { IfOk result (λ d. effect_view d ≡ call_of (method_of called.now)) }
 {
-    let needs = arguments_on(alloc, &called.params, None)?;
-    Ok(operates(needs, None, reply_of(called.result)))
+    let demands = arguments_on(alloc, &called.params, None)?;
+    Ok(operates(demands, None, reply_of(called.result)))
 }
 
 // A call on a receiver of the type.
@@ -77,21 +82,23 @@ fn call_on<'a>(
     constant: &MethodConstant<'a>,
 ) -> Result<Operation<'a>, AllocError>
     ensures { let t = method_of constant.now.method_type in
-        IfOk result (λ o. (needs_view o.needs.items ≡ arguments_on t.params (of_type (run_type_view receiver.entry) ∷ [])) × (o.live ≡ Some (length t.params)) × (reply_view o.reply ≡ reply_of t.result)) }
+        IfOk result (λ o. (demands_view o.demands.items
+        ≡ arguments_on t.params (of_type (run_type_view receiver.entry) ∷ [])) × (o.live ≡ Some (length t.params))
+        × (reply_view o.reply ≡ reply_of t.result)) }
 {
     let called = &constant.method_type;
     Ok(Operation {
-        needs: arguments_on(alloc, &called.params, Some(Need::Type(receiver)))?,
+        demands: arguments_on(alloc, &called.params, Some(Demand::Type(receiver)))?,
         live: Some(called.params.len()),
         reply: reply_of(called.result),
     })
 }
 
 // A call on a receiver of the type, which goes on.
-fn object_call<'a>(alloc: Global, constant: &MethodConstant<'a>) -> Result<Deed<'a>, AllocError>
-    ensures { let c = constant_view constant.now in IfOk result (λ d. task_view d ≡ call_on c.class c) }
+fn object_call<'a>(alloc: Global, constant: &MethodConstant<'a>) -> Result<Effect<'a>, AllocError>
+    ensures { let c = constant_view constant.now in IfOk result (λ d. effect_view d ≡ call_on c.class c) }
 {
-    Ok(Deed::Operates {
+    Ok(Effect::Operates {
         operation: call_on(alloc, constant.class, constant)?,
         branches: Branches::Nowhere,
         falls: true,
@@ -122,11 +129,12 @@ pub fn invoke_static<'a>(
     alloc: Global,
     method: &Method<'_, 'a>,
     index: u16,
-) -> Result<Deed<'a>, AllocError>
-    ensures { let m = method_view method.now in IfOk result (λ d. task_view d ≡ invoke_static m.major_version (method_at m.constant_pool index)) }
+) -> Result<Effect<'a>, AllocError>
+    ensures { let m = method_view method.now in
+        IfOk result (λ d. effect_view d ≡ invoke_static m.major_version (method_at m.constant_pool index)) }
 {
     let Some(constant) = method_at(alloc, method.pool(), index)? else {
-        return Ok(Deed::Stuck);
+        return Ok(Effect::Stuck);
     };
     if is_class(constant.class)
         && !is_init_name(&constant)
@@ -134,7 +142,7 @@ pub fn invoke_static<'a>(
     {
         call_of(alloc, &constant.method_type)
     } else {
-        Ok(Deed::Stuck)
+        Ok(Effect::Stuck)
     }
 }
 
@@ -143,16 +151,16 @@ pub fn invoke_virtual<'a>(
     alloc: Global,
     pool: &Pool<'a>,
     index: u16,
-) -> Result<Deed<'a>, AllocError>
-    ensures { IfOk result (λ d. task_view d ≡ invoke_virtual (method_at pool.now index)) }
+) -> Result<Effect<'a>, AllocError>
+    ensures { IfOk result (λ d. effect_view d ≡ invoke_virtual (method_at pool.now index)) }
 {
     let Some(constant) = method_at(alloc, pool, index)? else {
-        return Ok(Deed::Stuck);
+        return Ok(Effect::Stuck);
     };
     if !constant.interface && !is_init_name(&constant) && constant.units < 255 {
         object_call(alloc, &constant)
     } else {
-        Ok(Deed::Stuck)
+        Ok(Effect::Stuck)
     }
 }
 
@@ -174,16 +182,16 @@ pub fn invoke_interface<'a>(
     pool: &Pool<'a>,
     index: u16,
     count: u8,
-) -> Result<Deed<'a>, AllocError>
-    ensures { IfOk result (λ d. task_view d ≡ invoke_interface count (method_at pool.now index)) }
+) -> Result<Effect<'a>, AllocError>
+    ensures { IfOk result (λ d. effect_view d ≡ invoke_interface count (method_at pool.now index)) }
 {
     let Some(constant) = method_at(alloc, pool, index)? else {
-        return Ok(Deed::Stuck);
+        return Ok(Effect::Stuck);
     };
     if may_invoke_interface(count, &constant) {
         object_call(alloc, &constant)
     } else {
-        Ok(Deed::Stuck)
+        Ok(Effect::Stuck)
     }
 }
 
@@ -191,18 +199,18 @@ pub fn invoke_interface<'a>(
 fn constructor_call<'a>(
     alloc: Global,
     constant: &MethodConstant<'a>,
-) -> Result<Deed<'a>, AllocError>
+) -> Result<Effect<'a>, AllocError>
     requires { let c = constant.now in c.units ≡ method_width (method_of c.method_type) false }
-    ensures { let c = constant_view constant.now in IfOk result (λ d. task_view d ≡ constructor_call c c.class) }
+    ensures { let c = constant_view constant.now in IfOk result (λ d. effect_view d ≡ constructor_call c c.class) }
 {
     let RunType::Class(class) = constant.class else {
-        return Ok(Deed::Stuck);
+        return Ok(Effect::Stuck);
     };
     if constant.interface || constant.units >= 255 {
-        return Ok(Deed::Stuck);
+        return Ok(Effect::Stuck);
     }
-    let needs = arguments_on(alloc, &constant.method_type.params, None)?;
-    Ok(Deed::Initializes { class, needs })
+    let demands = arguments_on(alloc, &constant.method_type.params, None)?;
+    Ok(Effect::Initializes { class, demands })
 }
 
 // A call of another method of the class or of one above it.
@@ -210,18 +218,19 @@ fn special_call<'a>(
     alloc: Global,
     method: &Method<'_, 'a>,
     constant: &MethodConstant<'a>,
-) -> Result<Deed<'a>, AllocError>
+) -> Result<Effect<'a>, AllocError>
     requires { let c = constant.now in c.units ≡ method_width (method_of c.method_type) false }
-    ensures { let m = method_view method.now in IfOk result (λ d. task_view d ≡ special_call m.major_version m.class (constant_view constant.now)) }
+    ensures { let m = method_view method.now in
+        IfOk result (λ d. effect_view d ≡ special_call m.major_version m.class (constant_view constant.now)) }
 {
     if !is_class(constant.class)
         || constant.units >= 255
         || !may_name(method.declared.class.major_version, constant.interface)
     {
-        return Ok(Deed::Stuck);
+        return Ok(Effect::Stuck);
     }
     let me = RunType::Class(method.class_name());
-    Ok(Deed::CallsSpecial {
+    Ok(Effect::CallsSpecial {
         class: constant.class,
         operation: call_on(alloc, me, constant)?,
     })
@@ -232,11 +241,12 @@ pub fn invoke_special<'a>(
     alloc: Global,
     method: &Method<'_, 'a>,
     index: u16,
-) -> Result<Deed<'a>, AllocError>
-    ensures { let m = method_view method.now in IfOk result (λ d. task_view d ≡ invoke_special m.major_version m.class (method_at m.constant_pool index)) }
+) -> Result<Effect<'a>, AllocError>
+    ensures { let m = method_view method.now in
+        IfOk result (λ d. effect_view d ≡ invoke_special m.major_version m.class (method_at m.constant_pool index)) }
 {
     let Some(constant) = method_at(alloc, method.pool(), index)? else {
-        return Ok(Deed::Stuck);
+        return Ok(Effect::Stuck);
     };
     if is_init_name(&constant) {
         constructor_call(alloc, &constant)
@@ -260,15 +270,16 @@ pub fn invoke_dynamic<'a>(
     alloc: Global,
     method: &Method<'_, 'a>,
     index: u16,
-) -> Result<Deed<'a>, AllocError>
-    ensures { let m = method_view method.now in IfOk result (λ d. task_view d ≡ invoke_dynamic m (call_site_at m.constant_pool index)) }
+) -> Result<Effect<'a>, AllocError>
+    ensures { let m = method_view method.now in
+        IfOk result (λ d. effect_view d ≡ invoke_dynamic m (call_site_at m.constant_pool index)) }
 {
     let Some(site) = call_site_at(alloc, method.pool(), index)? else {
-        return Ok(Deed::Stuck);
+        return Ok(Effect::Stuck);
     };
     if method.declared.dynamic && !is_special_name(&site) {
         call_of(alloc, &site.method_type)
     } else {
-        Ok(Deed::Stuck)
+        Ok(Effect::Stuck)
     }
 }

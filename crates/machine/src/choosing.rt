@@ -8,8 +8,8 @@ use crate::snapshot::State;
 use std::alloc::{AllocError, AllocFailed};
 use thiserror::Error;
 
-/// A choice for whatever an instruction leaves open (JVMS 6.5). In each choice `fresh` has the objects that come into being first:
-/// ready, each at an address that is unused.
+/// A choice for whatever an instruction leaves open (JVMS 6.5). In each choice `fresh` has the objects that come into
+/// being first: ready, each at an address that is unused.
 #[derive(Drop)]
 pub enum Choice<'a> {
     /// The instruction is done.

@@ -2,12 +2,12 @@
 ghost use Rattle.std.specs.Prelude.{◌≡◌, ◌<◌, IfOk};
 ghost use Rattle.names.specs.ReferenceTypes.{array_type, descriptor_of, dimensions_of};
 ghost use Rattle.pool.specs.Members.{class_at};
-ghost use Rattle.machine.specs.Tasks.{new_object, new_array, new_reference_array, new_multi_array, check_cast, instance_of, sizes};
-ghost use Rattle.machine.specs.private.Deeds.{needs_view, task_view};
+ghost use Rattle.machine.specs.Effects.{new_object, new_array, new_reference_array, new_multi_array, check_cast, instance_of, sizes};
+ghost use Rattle.machine.specs.private.EffectViews.{demands_view, effect_view};
 ghost use Rattle.machine.specs.Views.{run_type_view};
 
 use crate::constants::class_at;
-use crate::deed::{Deed, Need, Reply, operates};
+use crate::effect::{Demand, Effect, Reply, operates};
 use crate::objects::RunType;
 use insn::Kind;
 use names::{Base, OBJECT, Primitive};
@@ -15,34 +15,34 @@ use pool::Pool;
 use std::alloc::{AllocError, Global};
 
 /// `new`
-pub fn new_object<'a>(pool: &Pool<'a>, index: u16) -> Deed<'a>
-    ensures { task_view result ≡ new_object (class_at pool.now index) }
+pub fn new_object<'a>(pool: &Pool<'a>, index: u16) -> Effect<'a>
+    ensures { effect_view result ≡ new_object (class_at pool.now index) }
 {
     match class_at(pool, index) {
-        Some(RunType::Class(name)) => Deed::Creates(name),
-        Some(RunType::Array { .. }) | None => Deed::Stuck,
+        Some(RunType::Class(name)) => Effect::Creates(name),
+        Some(RunType::Array { .. }) | None => Effect::Stuck,
     }
 }
 
 // The sizes of so many dimensions.
-fn sizes<'a>(alloc: Global, count: u8) -> Result<Vec<Need<'a>>, AllocError>
-    ensures { IfOk result (λ v. needs_view v.items ≡ sizes count) }
+fn sizes<'a>(alloc: Global, count: u8) -> Result<Vec<Demand<'a>>, AllocError>
+    ensures { IfOk result (λ v. demands_view v.items ≡ sizes count) }
 {
-    let mut needs = Vec::new(alloc);
+    let mut demands = Vec::new(alloc);
     for _ in 0..count {
-        needs.push(Need::Number(Kind::Int))?;
+        demands.push(Demand::Number(Kind::Int))?;
     }
-    Ok(needs)
+    Ok(demands)
 }
 
 /// `newarray`
-pub fn new_array<'a>(alloc: Global, element: Option<Primitive>) -> Result<Deed<'a>, AllocError>
-    ensures { IfOk result (λ d. task_view d ≡ new_array element) }
+pub fn new_array<'a>(alloc: Global, element: Option<Primitive>) -> Result<Effect<'a>, AllocError>
+    ensures { IfOk result (λ d. effect_view d ≡ new_array element) }
 {
     match element {
-        None => Ok(Deed::Stuck),
-        Some(primitive) => Ok(Deed::MakesArray {
-            needs: vec![in alloc; Need::Number(Kind::Int)]?,
+        None => Ok(Effect::Stuck),
+        Some(primitive) => Ok(Effect::MakesArray {
+            demands: vec![in alloc; Demand::Number(Kind::Int)]?,
             made: RunType::Array {
                 dims: 1,
                 base: Base::Primitive(primitive),
@@ -83,19 +83,19 @@ pub fn new_reference_array<'a>(
     alloc: Global,
     pool: &Pool<'a>,
     index: u16,
-) -> Result<Deed<'a>, AllocError>
-    ensures { IfOk result (λ d. task_view d ≡ new_reference_array (class_at pool.now index)) }
+) -> Result<Effect<'a>, AllocError>
+    ensures { IfOk result (λ d. effect_view d ≡ new_reference_array (class_at pool.now index)) }
 {
     let Some(element) = class_at(pool, index) else {
-        return Ok(Deed::Stuck);
+        return Ok(Effect::Stuck);
     };
     if dimensions_of(element) < 255 {
-        Ok(Deed::MakesArray {
-            needs: vec![in alloc; Need::Number(Kind::Int)]?,
+        Ok(Effect::MakesArray {
+            demands: vec![in alloc; Demand::Number(Kind::Int)]?,
             made: array_of(element),
         })
     } else {
-        Ok(Deed::Stuck)
+        Ok(Effect::Stuck)
     }
 }
 
@@ -105,39 +105,39 @@ pub fn new_multi_array<'a>(
     pool: &Pool<'a>,
     index: u16,
     dimensions: u8,
-) -> Result<Deed<'a>, AllocError>
-    ensures { IfOk result (λ d. task_view d ≡ new_multi_array dimensions (class_at pool.now index)) }
+) -> Result<Effect<'a>, AllocError>
+    ensures { IfOk result (λ d. effect_view d ≡ new_multi_array dimensions (class_at pool.now index)) }
 {
     let Some(made) = class_at(pool, index) else {
-        return Ok(Deed::Stuck);
+        return Ok(Effect::Stuck);
     };
     if 0 < dimensions && !(dimensions_of(made) < dimensions) {
-        Ok(Deed::MakesArray {
-            needs: sizes(alloc, dimensions)?,
+        Ok(Effect::MakesArray {
+            demands: sizes(alloc, dimensions)?,
             made,
         })
     } else {
-        Ok(Deed::Stuck)
+        Ok(Effect::Stuck)
     }
 }
 
 /// `checkcast`
-pub fn check_cast<'a>(pool: &Pool<'a>, index: u16) -> Deed<'a>
-    ensures { task_view result ≡ check_cast (class_at pool.now index) }
+pub fn check_cast<'a>(pool: &Pool<'a>, index: u16) -> Effect<'a>
+    ensures { effect_view result ≡ check_cast (class_at pool.now index) }
 {
     match class_at(pool, index) {
-        None => Deed::Stuck,
-        Some(run_type) => Deed::Passes(run_type),
+        None => Effect::Stuck,
+        Some(run_type) => Effect::Passes(run_type),
     }
 }
 
 /// `instanceof`
-pub fn instance_of<'a>(alloc: Global, pool: &Pool<'a>, index: u16) -> Result<Deed<'a>, AllocError>
-    ensures { IfOk result (λ d. task_view d ≡ instance_of (class_at pool.now index)) }
+pub fn instance_of<'a>(alloc: Global, pool: &Pool<'a>, index: u16) -> Result<Effect<'a>, AllocError>
+    ensures { IfOk result (λ d. effect_view d ≡ instance_of (class_at pool.now index)) }
 {
     if class_at(pool, index).is_none() {
-        return Ok(Deed::Stuck);
+        return Ok(Effect::Stuck);
     }
-    let needs = vec![in alloc; Need::Type(RunType::Class(OBJECT))]?;
-    Ok(operates(needs, None, Reply::Number(Kind::Int)))
+    let demands = vec![in alloc; Demand::Type(RunType::Class(OBJECT))]?;
+    Ok(operates(demands, None, Reply::Number(Kind::Int)))
 }

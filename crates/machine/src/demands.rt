@@ -5,21 +5,21 @@ ghost use Rattle.insn.specs.Acts.{stack_forms};
 ghost use Rattle.insn.specs.Branching.{targets_of};
 ghost use Rattle.insn.specs.Stacks.{beneath};
 ghost use Rattle.machine.specs.Values.{depth_of};
-ghost use Rattle.machine.specs.private.Deeds.{needs_view, need_units, reply_view, task_view};
+ghost use Rattle.machine.specs.private.EffectViews.{demands_view, demand_units, reply_view, effect_view};
 ghost use Rattle.machine.specs.Demands.{AllMeet, IsMade, IsOwn, HasReceiver, MeetsRest, HasRoom, EndsReady};
 ghost use Rattle.machine.specs.private.Demanded.{are_whole, stays, IsUninitialized, Meets};
 ghost use Rattle.machine.specs.Bodies.{method_view};
-ghost use Rattle.machine.specs.Tasks.{moves, needs_of, reply_units, falls, targets};
+ghost use Rattle.machine.specs.Effects.{moves, demands_of, reply_units, falls, targets};
 ghost use Rattle.machine.specs.Views.{value_view, stack_of, locals_of, heap_view, state_view};
 
 use crate::below::is_below;
 use crate::body::Method;
-use crate::deed::{Deed, Need, Operation, Reply};
+use crate::effect::{Demand, Effect, Operation, Reply};
 use crate::heaps::has_no_this;
 use crate::items::{Slot, Value};
 use crate::objects::{OBJECTS, Object, RunType, Status};
 use crate::operands::{
-    all_meet, are_paired, form_for, has_form, has_local, has_room, held, need_of, value_units,
+    all_meet, are_paired, demand_of, form_for, has_form, has_local, has_room, held, value_units,
 };
 use crate::snapshot::State;
 use crate::stacking::{beneath, item, rearranged};
@@ -31,37 +31,51 @@ use std::alloc::{AllocError, Global};
 use std::collections::BTreeMap;
 
 // Whether the operands are there and meet what is needed of them.
-fn operands_meet<C: Classes>(deed: &Deed<'_>, state: &State<'_>, classes: &C) -> bool
-    ensures { let s = state_view state.now in IsTrue result ↔ AllMeet (world_of (C.content classes.now)) s.heap (needs_of (task_view deed.now)) s.stack }
+fn operands_meet<C: Classes>(effect: &Effect<'_>, state: &State<'_>, classes: &C) -> bool
+    ensures { let s = state_view state.now in
+        IsTrue result ↔ AllMeet (world_of (C.content classes.now)) s.heap
+        (demands_of (effect_view effect.now)) s.stack }
 {
     let (stack, heap) = (&state.stack, &state.heap);
-    match deed {
-        Deed::Operates { operation, .. } | Deed::CallsSpecial { operation, .. } => {
-            all_meet(&operation.needs, stack, heap, classes)
+    match effect {
+        Effect::Operates { operation, .. } | Effect::CallsSpecial { operation, .. } => {
+            all_meet(&operation.demands, stack, heap, classes)
         }
-        Deed::MakesArray { needs, .. } | Deed::Initializes { needs, .. } => {
-            all_meet(needs, stack, heap, classes)
+        Effect::MakesArray { demands, .. } | Effect::Initializes { demands, .. } => {
+            all_meet(demands, stack, heap, classes)
         }
-        Deed::Writes { need, .. } | Deed::Leaves(need) => all_meet(&[*need], stack, heap, classes),
-        Deed::TakesElement => {
-            let needs = [Need::Number(Kind::Int), Need::Type(OBJECTS)];
-            all_meet(&needs, stack, heap, classes)
+        Effect::Writes { demand, .. } | Effect::Leaves(demand) => all_meet(
+            &[*demand],
+            stack,
+            heap,
+            classes,
+        ),
+        Effect::TakesElement => {
+            let demands = [Demand::Number(Kind::Int), Demand::Type(OBJECTS)];
+            all_meet(&demands, stack, heap, classes)
         }
-        Deed::Passes(_) => { all_meet(&[Need::Type(RunType::Class(OBJECT))], stack, heap, classes) }
-        Deed::Throws => {
+        Effect::Passes(_) => {
             all_meet(
-                &[Need::Type(RunType::Class(THROWABLE))],
+                &[Demand::Type(RunType::Class(OBJECT))],
                 stack,
                 heap,
                 classes,
             )
         }
-        Deed::Reads { .. }
-        | Deed::Increments { .. }
-        | Deed::Moves(_)
-        | Deed::Creates(_)
-        | Deed::Ends
-        | Deed::Stuck => true,
+        Effect::Throws => {
+            all_meet(
+                &[Demand::Type(RunType::Class(THROWABLE))],
+                stack,
+                heap,
+                classes,
+            )
+        }
+        Effect::Reads { .. }
+        | Effect::Increments { .. }
+        | Effect::Moves(_)
+        | Effect::Creates(_)
+        | Effect::Ends
+        | Effect::Stuck => true,
     }
 }
 
@@ -72,7 +86,8 @@ fn is_uninitialized_at(
     heap: &BTreeMap<u32, Object<'_>>,
     address: u32,
 ) -> bool
-    ensures { let h = heap_view heap.now in IsTrue result ↔ (IsMade h class.now address ⊎ IsOwn (method_view method.now) h class.now address) }
+    ensures { let h = heap_view heap.now in
+        IsTrue result ↔ (IsMade h class.now address ⊎ IsOwn (method_view method.now) h class.now address) }
 {
     let Some(object) = heap.get(&address) else {
         return false;
@@ -94,7 +109,8 @@ fn is_uninitialized(
     heap: &BTreeMap<u32, Object<'_>>,
     value: Value,
 ) -> bool
-    ensures { IsTrue result ↔ IsUninitialized (method_view method.now) (heap_view heap.now) class.now (value_view value) }
+    ensures { IsTrue result ↔ IsUninitialized (method_view method.now) (heap_view heap.now) class.now
+        (value_view value) }
 {
     match value {
         Value::Ref(address) => is_uninitialized_at(method, class, heap, address),
@@ -106,24 +122,25 @@ fn is_uninitialized(
 fn has_receiver(
     method: &Method<'_, '_>,
     class: &[u8],
-    needs: &[Need<'_>],
+    demands: &[Demand<'_>],
     state: &State<'_>,
 ) -> bool
-    ensures { IsTrue result ↔ HasReceiver (method_view method.now) class.now (needs_view needs.now) (state_view state.now) }
+    ensures { IsTrue result ↔ HasReceiver (method_view method.now) class.now (demands_view demands.now)
+        (state_view state.now) }
 {
-    match item(needs.len(), &state.stack) {
+    match item(demands.len(), &state.stack) {
         None => false,
         Some(value) => is_uninitialized(method, class, &state.heap, value),
     }
 }
 
 // Whether there are local variables for what is written.
-fn has_place(need: Need<'_>, local: u16, limit: u16) -> bool
-    ensures { IsTrue result ↔ (local + need_units need.entry ≤ limit) }
+fn has_place(demand: Demand<'_>, local: u16, limit: u16) -> bool
+    ensures { IsTrue result ↔ (local + demand_units demand.entry ≤ limit) }
 {
     let (local, limit) = (usize::from(local), usize::from(limit));
-    match need {
-        Need::Number(kind) => local + kind.units() <= limit,
+    match demand {
+        Demand::Number(kind) => local + kind.units() <= limit,
         _ => local < limit,
     }
 }
@@ -131,30 +148,40 @@ fn has_place(need: Need<'_>, local: u16, limit: u16) -> bool
 // Whether what is needed besides the operands is there.
 fn rest_meets<C: Classes>(
     method: &Method<'_, '_>,
-    deed: &Deed<'_>,
+    effect: &Effect<'_>,
     state: &State<'_>,
     classes: &C,
 ) -> bool
-    ensures { IsTrue result ↔ MeetsRest (world_of (C.content classes.now)) (method_view method.now) (task_view deed.now) (state_view state.now) }
+    ensures { IsTrue result ↔ MeetsRest (world_of (C.content classes.now)) (method_view method.now)
+        (effect_view effect.now) (state_view state.now) }
 {
-    match deed {
-        Deed::Reads { need, local } => has_local(*need, *local, state, classes),
-        Deed::Writes { need, local } => has_place(*need, *local, method.declared.code.max_locals),
-        Deed::Increments { local } => has_local(Need::Number(Kind::Int), *local, state, classes),
-        Deed::Moves(operator) => has_form(*operator, state),
-        Deed::Initializes { class, needs } => has_receiver(method, class, needs, state),
-        Deed::CallsSpecial { class, .. } => {
+    match effect {
+        Effect::Reads { demand, local } => has_local(*demand, *local, state, classes),
+        Effect::Writes { demand, local } => has_place(
+            *demand,
+            *local,
+            method.declared.code.max_locals,
+        ),
+        Effect::Increments { local } => has_local(
+            Demand::Number(Kind::Int),
+            *local,
+            state,
+            classes,
+        ),
+        Effect::Moves(operator) => has_form(*operator, state),
+        Effect::Initializes { class, demands } => has_receiver(method, class, demands, state),
+        Effect::CallsSpecial { class, .. } => {
             is_below(RunType::Class(method.class_name()), *class, classes)
         }
-        Deed::Stuck => false,
-        Deed::Operates { .. }
-        | Deed::TakesElement
-        | Deed::Passes(_)
-        | Deed::Creates(_)
-        | Deed::MakesArray { .. }
-        | Deed::Leaves(_)
-        | Deed::Throws
-        | Deed::Ends => true,
+        Effect::Stuck => false,
+        Effect::Operates { .. }
+        | Effect::TakesElement
+        | Effect::Passes(_)
+        | Effect::Creates(_)
+        | Effect::MakesArray { .. }
+        | Effect::Leaves(_)
+        | Effect::Throws
+        | Effect::Ends => true,
     }
 }
 
@@ -166,8 +193,8 @@ fn reply_units(reply: Reply<'_>) -> usize
         Reply::Nothing => 0,
         Reply::Number(kind) => kind.units(),
         Reply::Null => 1,
-        Reply::Answer(t) => match need_of(t) {
-            Need::Number(kind) => kind.units(),
+        Reply::Answer(t) => match demand_of(t) {
+            Demand::Number(kind) => kind.units(),
             _ => 1,
         },
     }
@@ -175,11 +202,13 @@ fn reply_units(reply: Reply<'_>) -> usize
 
 // Whether the reply has room on what is left of the stack.
 fn reply_has_room(operation: &Operation<'_>, stack: &[Value], limit: u16) -> bool
-    ensures { let o = operation.now in IsTrue result ↔ (reply_units (reply_view o.reply) + depth_of (beneath (needs_view o.needs.items) (stack_of stack.now)) ≤ limit) }
+    ensures { let o = operation.now in
+        IsTrue result ↔ (reply_units (reply_view o.reply) + depth_of
+        (beneath (demands_view o.demands.items) (stack_of stack.now)) ≤ limit) }
 {
     has_room(
         reply_units(operation.reply),
-        beneath(&operation.needs, stack),
+        beneath(&operation.demands, stack),
         limit,
     )
 }
@@ -191,7 +220,8 @@ fn moves_have_room(
     method: &Method<'_, '_>,
     state: &State<'_>,
 ) -> Result<bool, AllocError>
-    ensures { IfOk result (λ b. IsTrue b ↔ HasRoom (method_view method.now) (moves (stack_forms operator)) (state_view state.now)) }
+    ensures { IfOk result (λ b. IsTrue b
+        ↔ HasRoom (method_view method.now) (moves (stack_forms operator)) (state_view state.now)) }
 {
     match form_for(operator.forms(), &state.stack) {
         None => Ok(true),
@@ -206,33 +236,34 @@ fn moves_have_room(
 fn leaves_room(
     alloc: Global,
     method: &Method<'_, '_>,
-    deed: &Deed<'_>,
+    effect: &Effect<'_>,
     state: &State<'_>,
 ) -> Result<bool, AllocError>
-    ensures { IfOk result (λ b. IsTrue b ↔ HasRoom (method_view method.now) (task_view deed.now) (state_view state.now)) }
+    ensures { IfOk result (λ b. IsTrue b
+        ↔ HasRoom (method_view method.now) (effect_view effect.now) (state_view state.now)) }
 {
     let limit = method.declared.code.max_stack;
     let stack = &state.stack;
-    match deed {
-        Deed::Operates { operation, .. } | Deed::CallsSpecial { operation, .. } => {
+    match effect {
+        Effect::Operates { operation, .. } | Effect::CallsSpecial { operation, .. } => {
             Ok(reply_has_room(operation, stack, limit))
         }
-        Deed::Reads { local, .. } => match held(&state.locals, *local) {
+        Effect::Reads { local, .. } => match held(&state.locals, *local) {
             None => Ok(true),
             Some(value) => Ok(has_room(value_units(value), stack, limit)),
         },
-        Deed::Moves(operator) => moves_have_room(alloc, *operator, method, state),
-        Deed::Creates(_) => Ok(has_room(1, stack, limit)),
-        Deed::MakesArray { needs, .. } => Ok(has_room(1, beneath(needs, stack), limit)),
-        Deed::Writes { .. }
-        | Deed::Increments { .. }
-        | Deed::TakesElement
-        | Deed::Passes(_)
-        | Deed::Initializes { .. }
-        | Deed::Leaves(_)
-        | Deed::Throws
-        | Deed::Ends
-        | Deed::Stuck => Ok(true),
+        Effect::Moves(operator) => moves_have_room(alloc, *operator, method, state),
+        Effect::Creates(_) => Ok(has_room(1, stack, limit)),
+        Effect::MakesArray { demands, .. } => Ok(has_room(1, beneath(demands, stack), limit)),
+        Effect::Writes { .. }
+        | Effect::Increments { .. }
+        | Effect::TakesElement
+        | Effect::Passes(_)
+        | Effect::Initializes { .. }
+        | Effect::Leaves(_)
+        | Effect::Throws
+        | Effect::Ends
+        | Effect::Stuck => Ok(true),
     }
 }
 
@@ -244,78 +275,78 @@ fn are_whole(limit: u16, locals: &[Slot]) -> bool
 }
 
 /// Whether the instruction goes on to the next one.
-pub fn falls(deed: &Deed<'_>) -> bool
-    ensures { result ≡ falls (task_view deed.now) }
+pub fn falls(effect: &Effect<'_>) -> bool
+    ensures { result ≡ falls (effect_view effect.now) }
 {
-    match deed {
-        Deed::Operates { falls, .. } => *falls,
-        Deed::Leaves(_) | Deed::Throws | Deed::Ends | Deed::Stuck => false,
-        Deed::Reads { .. }
-        | Deed::Writes { .. }
-        | Deed::Increments { .. }
-        | Deed::Moves(_)
-        | Deed::TakesElement
-        | Deed::Passes(_)
-        | Deed::Creates(_)
-        | Deed::MakesArray { .. }
-        | Deed::Initializes { .. }
-        | Deed::CallsSpecial { .. } => true,
+    match effect {
+        Effect::Operates { falls, .. } => *falls,
+        Effect::Leaves(_) | Effect::Throws | Effect::Ends | Effect::Stuck => false,
+        Effect::Reads { .. }
+        | Effect::Writes { .. }
+        | Effect::Increments { .. }
+        | Effect::Moves(_)
+        | Effect::TakesElement
+        | Effect::Passes(_)
+        | Effect::Creates(_)
+        | Effect::MakesArray { .. }
+        | Effect::Initializes { .. }
+        | Effect::CallsSpecial { .. } => true,
     }
 }
 
 /// Where an instruction at an offset branches to.
-pub fn targets<'a>(at: u16, deed: &Deed<'a>) -> BranchTargets<'a>
-    ensures { targets_of result ≡ targets at (task_view deed.now) }
+pub fn targets<'a>(at: u16, effect: &Effect<'a>) -> BranchTargets<'a>
+    ensures { targets_of result ≡ targets at (effect_view effect.now) }
 {
-    let branches = match deed {
-        Deed::Operates { branches, .. } => *branches,
-        Deed::Reads { .. }
-        | Deed::Writes { .. }
-        | Deed::Increments { .. }
-        | Deed::Moves(_)
-        | Deed::TakesElement
-        | Deed::Passes(_)
-        | Deed::Creates(_)
-        | Deed::MakesArray { .. }
-        | Deed::Initializes { .. }
-        | Deed::CallsSpecial { .. }
-        | Deed::Leaves(_)
-        | Deed::Throws
-        | Deed::Ends
-        | Deed::Stuck => Branches::Nowhere,
+    let branches = match effect {
+        Effect::Operates { branches, .. } => *branches,
+        Effect::Reads { .. }
+        | Effect::Writes { .. }
+        | Effect::Increments { .. }
+        | Effect::Moves(_)
+        | Effect::TakesElement
+        | Effect::Passes(_)
+        | Effect::Creates(_)
+        | Effect::MakesArray { .. }
+        | Effect::Initializes { .. }
+        | Effect::CallsSpecial { .. }
+        | Effect::Leaves(_)
+        | Effect::Throws
+        | Effect::Ends
+        | Effect::Stuck => Branches::Nowhere,
     };
     BranchTargets::new(at, branches)
 }
 
 // Whether control stays on the starts of instructions.
-fn stays(method: &Method<'_, '_>, at: u16, deed: &Deed<'_>, next: Option<u16>) -> bool
-    ensures { let m = method_view method.now in result ≡ stays m.code at (task_view deed.now) next m.exceptions }
+fn stays(method: &Method<'_, '_>, at: u16, effect: &Effect<'_>, next: Option<u16>) -> bool
+    ensures { let m = method_view method.now in result ≡ stays m.code at (effect_view effect.now) next m.exceptions }
 {
-    (!falls(deed) || next.is_some())
-        && all_begin(targets(at, deed), &method.list)
+    (!falls(effect) || next.is_some())
+        && all_begin(targets(at, effect), &method.list)
         && all_lead(&method.exceptions, at, &method.list)
 }
 
 // Whether an instance initialization method that returns leaves no own object that is not initialized.
-fn ends_ready(method: &Method<'_, '_>, deed: &Deed<'_>, state: &State<'_>) -> bool
-    ensures { IsTrue result ↔ EndsReady (method_view method.now) (task_view deed.now) (state_view state.now) }
+fn ends_ready(method: &Method<'_, '_>, effect: &Effect<'_>, state: &State<'_>) -> bool
+    ensures { IsTrue result ↔ EndsReady (method_view method.now) (effect_view effect.now) (state_view state.now) }
 {
-    match deed {
-        Deed::Ends => !method.declared.is_init || has_no_this(&state.heap),
-        Deed::Operates { .. }
-        | Deed::Reads { .. }
-        | Deed::Writes { .. }
-        | Deed::Increments { .. }
-        | Deed::Moves(_)
-        | Deed::TakesElement
-        | Deed::Passes(_)
-        | Deed::Creates(_)
-        | Deed::MakesArray { .. }
-        | Deed::Initializes { .. }
-        | Deed::CallsSpecial { .. }
-        | Deed::Leaves(_)
-        | Deed::Throws
-        | Deed::Stuck => true,
+    match effect {
+        Effect::Ends => !method.declared.is_init || has_no_this(&state.heap),
+        Effect::Operates { .. }
+        | Effect::Reads { .. }
+        | Effect::Writes { .. }
+        | Effect::Increments { .. }
+        | Effect::Moves(_)
+        | Effect::TakesElement
+        | Effect::Passes(_)
+        | Effect::Creates(_)
+        | Effect::MakesArray { .. }
+        | Effect::Initializes { .. }
+        | Effect::CallsSpecial { .. }
+        | Effect::Leaves(_)
+        | Effect::Throws
+        | Effect::Stuck => true,
     }
 }
 
@@ -323,21 +354,23 @@ fn ends_ready(method: &Method<'_, '_>, deed: &Deed<'_>, state: &State<'_>) -> bo
 pub fn meets<C: Classes>(
     alloc: Global,
     method: &Method<'_, '_>,
-    deed: &Deed<'_>,
+    effect: &Effect<'_>,
     next: Option<u16>,
     state: &State<'_>,
     classes: &C,
 ) -> Result<bool, AllocError>
-    ensures { IfOk result (λ b. IsTrue b ↔ Meets (world_of (C.content classes.now)) (method_view method.now) (task_view deed.now) next (state_view state.now)) }
+    ensures { IfOk result (λ b. IsTrue b
+        ↔ Meets (world_of (C.content classes.now)) (method_view method.now) (effect_view effect.now) next
+        (state_view state.now)) }
 {
-    let has_room_after = leaves_room(alloc, method, deed, state)?;
+    let has_room_after = leaves_room(alloc, method, effect, state)?;
     Ok(
         are_whole(method.declared.code.max_locals, &state.locals)
-            && operands_meet(deed, state, classes)
-            && rest_meets(method, deed, state, classes)
+            && operands_meet(effect, state, classes)
+            && rest_meets(method, effect, state, classes)
             && has_room(0, &state.stack, method.declared.code.max_stack)
             && has_room_after
-            && stays(method, state.at, deed, next)
-            && ends_ready(method, deed, state),
+            && stays(method, state.at, effect, next)
+            && ends_ready(method, effect, state),
     )
 }

@@ -5,18 +5,18 @@ ghost use Rattle.names.specs.ReferenceTypes.{class_type};
 ghost use Rattle.insn.specs.Acts.{stack_forms};
 ghost use Rattle.insn.specs.Stacks.{beneath};
 ghost use Rattle.machine.specs.Heap.{made, ready, object};
-ghost use Rattle.machine.specs.Tasks.{takes_element, passes};
+ghost use Rattle.machine.specs.Effects.{takes_element, passes};
 ghost use Rattle.machine.specs.Steps.{IsLive, moved};
-ghost use Rattle.machine.specs.private.Deeds.{needs_view, reply_view, task_view};
+ghost use Rattle.machine.specs.private.EffectViews.{demands_view, reply_view, effect_view};
 ghost use Rattle.machine.specs.private.Happening.{Done, DoesHere, OperatesHere, IsGiven, ReadsLocal, WritesLocal, Rearranges, MakesReady, Initializes, PutsAt, Puts};
 ghost use Rattle.machine.specs.Views.{value_view, stack_of, run_type_view, object_view, heap_view, state_view};
 
 use crate::choosing::StepFault;
-use crate::deed::{Deed, Need, Operation, Reply};
+use crate::effect::{Demand, Effect, Operation, Reply};
 use crate::fitting::{component_at, fits_reference};
 use crate::items::{Value, number};
 use crate::objects::{Object, RunType, Status};
-use crate::operands::{form_for, held, meets, need_of};
+use crate::operands::{demand_of, form_for, held, meets};
 use crate::snapshot::State;
 use crate::stacking::{drop_items, item, rearranged, take_operands};
 use crate::storing::store;
@@ -42,12 +42,13 @@ fn replied<C: Classes>(
     heap: &BTreeMap<u32, Object<'_>>,
     classes: &C,
 ) -> Option<Option<Value>>
-    ensures { IsGiven (world_of (C.content classes.now)) (heap_view heap.now) (reply_view reply.entry) (option_map value_view answer) (option_map (option_map value_view) result) }
+    ensures { IsGiven (world_of (C.content classes.now)) (heap_view heap.now) (reply_view reply.entry)
+        (option_map value_view answer) (option_map (option_map value_view) result) }
 {
     match reply {
         Reply::Answer(t) => {
             let value = answer?;
-            if meets(need_of(t), value, heap, classes) {
+            if meets(demand_of(t), value, heap, classes) {
                 Some(Some(value))
             } else {
                 None
@@ -75,7 +76,8 @@ fn operate<'a, C: Classes>(
     classes: &C,
 ) -> Result<State<'a>, StepFault>
     ensures { let o = operation.now in
-        Done (OperatesHere (world_of (C.content classes.now)) (needs_view o.needs.items) o.live (reply_view o.reply) (state_view state.entry) (option_map value_view answer)) result }
+        Done (OperatesHere (world_of (C.content classes.now)) (demands_view o.demands.items) o.live (reply_view o.reply)
+        (state_view state.entry) (option_map value_view answer)) result }
 {
     if !is_live(operation.live, &state.stack) {
         return Err(StepFault::NotAChoice);
@@ -83,7 +85,7 @@ fn operate<'a, C: Classes>(
     let Some(given) = replied(operation.reply, answer, &state.heap, classes) else {
         return Err(StepFault::NotAChoice);
     };
-    take_operands(&operation.needs, &mut state.stack);
+    take_operands(&operation.demands, &mut state.stack);
     if let Some(value) = given {
         state.stack.push(value)?;
     }
@@ -124,7 +126,8 @@ fn write<'a>(
 
 // Of a number the state has the kind alone, which stays.
 fn increment<'a>(state: State<'a>, answer: Option<Value>) -> Result<State<'a>, StepFault>
-    ensures { let s = state_view state.entry in Done (λ t. (option_map value_view answer ≡ None) × (t ≡ moved s s.at s.stack)) result }
+    ensures { let s = state_view state.entry in
+        Done (λ t. (option_map value_view answer ≡ None) × (t ≡ moved s s.at s.stack)) result }
 {
     match answer {
         None => Ok(state),
@@ -157,7 +160,8 @@ fn take_element<'a, C: Classes>(
     answer: Option<Value>,
     classes: &C,
 ) -> Result<State<'a>, StepFault>
-    ensures { Done (DoesHere (world_of (C.content classes.now)) takes_element (state_view state.entry) (option_map value_view answer)) result }
+    ensures { Done (DoesHere (world_of (C.content classes.now)) takes_element (state_view state.entry)
+        (option_map value_view answer)) result }
 {
     let Some(value) = answer else {
         return Err(StepFault::NotAChoice);
@@ -168,7 +172,7 @@ fn take_element<'a, C: Classes>(
     let Some(component) = component_at(&state.heap, address) else {
         return Err(StepFault::NotAChoice);
     };
-    if !meets(need_of(component), value, &state.heap, classes) {
+    if !meets(demand_of(component), value, &state.heap, classes) {
         return Err(StepFault::NotAChoice);
     }
     drop_items(2, &mut state.stack);
@@ -183,7 +187,8 @@ fn pass<'a, C: Classes>(
     answer: Option<Value>,
     classes: &C,
 ) -> Result<State<'a>, StepFault>
-    ensures { Done (DoesHere (world_of (C.content classes.now)) (passes (run_type_view run_type.entry)) (state_view state.entry) (option_map value_view answer)) result }
+    ensures { Done (DoesHere (world_of (C.content classes.now)) (passes (run_type_view run_type.entry))
+        (state_view state.entry) (option_map value_view answer)) result }
 {
     if answer.is_some() {
         return Err(StepFault::NotAChoice);
@@ -238,7 +243,8 @@ fn create<'a>(
     class: &'a [u8],
     answer: Option<Value>,
 ) -> Result<State<'a>, StepFault>
-    ensures { Done (Puts (object (class_type class.now) made) (state_view state.entry) (option_map value_view answer)) result }
+    ensures { Done (Puts (object (class_type class.now) made) (state_view state.entry)
+        (option_map value_view answer)) result }
 {
     let made = Object {
         run_type: RunType::Class(class),
@@ -249,13 +255,15 @@ fn create<'a>(
 
 fn make_array<'a>(
     mut state: State<'a>,
-    needs: &[Need<'_>],
+    demands: &[Demand<'_>],
     made: RunType<'a>,
     answer: Option<Value>,
 ) -> Result<State<'a>, StepFault>
-    ensures { let s = state_view state.entry in Done (Puts (object (run_type_view made.entry) ready) (moved s s.at (beneath (needs_view needs.now) s.stack)) (option_map value_view answer)) result }
+    ensures { let s = state_view state.entry in
+        Done (Puts (object (run_type_view made.entry) ready) (moved s s.at (beneath (demands_view demands.now) s.stack))
+        (option_map value_view answer)) result }
 {
-    take_operands(needs, &mut state.stack);
+    take_operands(demands, &mut state.stack);
     let array = Object {
         run_type: made,
         status: Status::Ready,
@@ -288,45 +296,49 @@ fn make_ready<'a>(mut state: State<'a>, address: u32) -> Result<State<'a>, StepF
 // The object beneath the arguments is ready, and all of them are taken.
 fn initialize<'a>(
     mut state: State<'a>,
-    needs: &[Need<'_>],
+    demands: &[Demand<'_>],
     answer: Option<Value>,
 ) -> Result<State<'a>, StepFault>
-    ensures { Done (Initializes (needs_view needs.now) (state_view state.entry) (option_map value_view answer)) result }
+    ensures { Done (Initializes (demands_view demands.now) (state_view state.entry)
+        (option_map value_view answer)) result }
 {
     if answer.is_some() {
         return Err(StepFault::NotAChoice);
     }
-    take_operands(needs, &mut state.stack);
+    take_operands(demands, &mut state.stack);
     match state.stack.pop() {
         Some(Value::Ref(address)) => make_ready(state, address),
         _ => Err(StepFault::NotAChoice),
     }
 }
 
-/// The effect of the instruction on a state that is already where it goes, by the value that is answered; 54 where it does
-/// nothing by it.
+/// The effect of the instruction on a state that is already where it goes, by the value that is answered; 54 where it
+/// does nothing by it.
 pub fn done<'a, C: Classes>(
     alloc: Global,
-    deed: &Deed<'a>,
+    effect: &Effect<'a>,
     state: State<'a>,
     answer: Option<Value>,
     classes: &C,
 ) -> Result<State<'a>, StepFault>
-    ensures { Done (DoesHere (world_of (C.content classes.now)) (task_view deed.now) (state_view state.entry) (option_map value_view answer)) result }
+    ensures { Done (DoesHere (world_of (C.content classes.now)) (effect_view effect.now) (state_view state.entry)
+        (option_map value_view answer)) result }
 {
-    match deed {
-        Deed::Operates { operation, .. } | Deed::CallsSpecial { operation, .. } => {
+    match effect {
+        Effect::Operates { operation, .. } | Effect::CallsSpecial { operation, .. } => {
             operate(state, operation, answer, classes)
         }
-        Deed::Reads { local, .. } => read(state, *local, answer),
-        Deed::Writes { local, .. } => write(state, *local, answer),
-        Deed::Increments { .. } => increment(state, answer),
-        Deed::Moves(operator) => rearrange(alloc, state, *operator, answer),
-        Deed::TakesElement => take_element(state, answer, classes),
-        Deed::Passes(run_type) => pass(state, *run_type, answer, classes),
-        Deed::Creates(class) => create(state, class, answer),
-        Deed::MakesArray { needs, made } => make_array(state, needs, *made, answer),
-        Deed::Initializes { needs, .. } => initialize(state, needs, answer),
-        Deed::Leaves(_) | Deed::Throws | Deed::Ends | Deed::Stuck => Err(StepFault::NotAChoice),
+        Effect::Reads { local, .. } => read(state, *local, answer),
+        Effect::Writes { local, .. } => write(state, *local, answer),
+        Effect::Increments { .. } => increment(state, answer),
+        Effect::Moves(operator) => rearrange(alloc, state, *operator, answer),
+        Effect::TakesElement => take_element(state, answer, classes),
+        Effect::Passes(run_type) => pass(state, *run_type, answer, classes),
+        Effect::Creates(class) => create(state, class, answer),
+        Effect::MakesArray { demands, made } => make_array(state, demands, *made, answer),
+        Effect::Initializes { demands, .. } => initialize(state, demands, answer),
+        Effect::Leaves(_) | Effect::Throws | Effect::Ends | Effect::Stuck => Err(
+            StepFault::NotAChoice,
+        ),
     }
 }

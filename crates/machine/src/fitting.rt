@@ -34,7 +34,8 @@ fn is_ready_below<C: Classes>(
     run_type: RunType<'_>,
     classes: &C,
 ) -> bool
-    ensures { IsTrue result ↔ FitsReference (world_of (C.content classes.now)) (heap_view heap.now) (run_type_view run_type.entry) (reference address) }
+    ensures { IsTrue result ↔ FitsReference (world_of (C.content classes.now)) (heap_view heap.now)
+        (run_type_view run_type.entry) (reference address) }
 {
     match ready_type(heap, address) {
         None => false,
@@ -49,7 +50,8 @@ pub fn fits_reference<C: Classes>(
     value: Value,
     classes: &C,
 ) -> bool
-    ensures { IsTrue result ↔ FitsReference (world_of (C.content classes.now)) (heap_view heap.now) (run_type_view run_type.entry) (value_view value) }
+    ensures { IsTrue result ↔ FitsReference (world_of (C.content classes.now)) (heap_view heap.now)
+        (run_type_view run_type.entry) (value_view value) }
 {
     match value {
         Value::Null => true,

@@ -4,14 +4,14 @@ ghost use Rattle.hierarchy.specs.Class.{world_of};
 ghost use Rattle.insn.specs.Branching.{targets_of};
 ghost use Rattle.insn.specs.Offsets.{IsAmong};
 ghost use Rattle.machine.specs.Steps.{IsLast};
-ghost use Rattle.machine.specs.private.Deeds.{task_view};
+ghost use Rattle.machine.specs.private.EffectViews.{effect_view};
 ghost use Rattle.machine.specs.private.Happening.{Done, MayGo, GoesOn, Goes, moved_to};
 ghost use Rattle.machine.specs.Views.{value_view, fresh_view, state_view};
 
 use crate::choosing::{Outcome, StepFault};
-use crate::deed::Deed;
 use crate::demands::{falls, targets};
 use crate::doing::done;
+use crate::effect::Effect;
 use crate::items::Value;
 use crate::objects::RunType;
 use crate::snapshot::{State, with_fresh};
@@ -20,24 +20,24 @@ use insn::BranchTargets;
 use std::alloc::Global;
 
 // Whether the method then ends.
-fn is_last(deed: &Deed<'_>) -> bool
-    ensures { IsTrue result ↔ IsLast (task_view deed.now) }
+fn is_last(effect: &Effect<'_>) -> bool
+    ensures { IsTrue result ↔ IsLast (effect_view effect.now) }
 {
-    match deed {
-        Deed::Leaves(_) | Deed::Ends => true,
-        Deed::Operates { .. }
-        | Deed::Reads { .. }
-        | Deed::Writes { .. }
-        | Deed::Increments { .. }
-        | Deed::Moves(_)
-        | Deed::TakesElement
-        | Deed::Passes(_)
-        | Deed::Creates(_)
-        | Deed::MakesArray { .. }
-        | Deed::Initializes { .. }
-        | Deed::CallsSpecial { .. }
-        | Deed::Throws
-        | Deed::Stuck => false,
+    match effect {
+        Effect::Leaves(_) | Effect::Ends => true,
+        Effect::Operates { .. }
+        | Effect::Reads { .. }
+        | Effect::Writes { .. }
+        | Effect::Increments { .. }
+        | Effect::Moves(_)
+        | Effect::TakesElement
+        | Effect::Passes(_)
+        | Effect::Creates(_)
+        | Effect::MakesArray { .. }
+        | Effect::Initializes { .. }
+        | Effect::CallsSpecial { .. }
+        | Effect::Throws
+        | Effect::Stuck => false,
     }
 }
 
@@ -60,7 +60,8 @@ fn way(
     next: Option<u16>,
     branch: Option<u16>,
 ) -> Option<u16>
-    ensures { MatchOption result ((to : ℕ) → MayGo (targets_of targets.entry) falls next branch to → ⊥) (λ to. MayGo (targets_of targets.entry) falls next branch to) }
+    ensures { MatchOption result ((to : ℕ) → MayGo (targets_of targets.entry) falls next branch to → ⊥)
+        (λ to. MayGo (targets_of targets.entry) falls next branch to) }
 {
     let mut others = targets;
     if others.next().is_none() {
@@ -89,26 +90,28 @@ fn moved_to<'a>(state: State<'a>, at: u16) -> State<'a>
 // It goes on.
 fn go_on<'a, C: Classes>(
     alloc: Global,
-    deed: &Deed<'a>,
+    effect: &Effect<'a>,
     next: Option<u16>,
     state: State<'a>,
     branch: Option<u16>,
     answer: Option<Value>,
     classes: &C,
 ) -> Result<State<'a>, StepFault>
-    ensures { let s = state_view state.entry in Done (GoesOn (world_of (C.content classes.now)) (task_view deed.now) next s s.heap branch (option_map value_view answer)) result }
+    ensures { let s = state_view state.entry in
+        Done (GoesOn (world_of (C.content classes.now)) (effect_view effect.now) next s s.heap branch
+        (option_map value_view answer)) result }
 {
-    let Some(at) = way(targets(state.offset(), deed), falls(deed), next, branch) else {
+    let Some(at) = way(targets(state.offset(), effect), falls(effect), next, branch) else {
         return Err(StepFault::NotAChoice);
     };
     let moved = moved_to(state, at);
-    done(alloc, deed, moved, answer, classes)
+    done(alloc, effect, moved, answer, classes)
 }
 
 /// The outcome of an instruction that does this, where that is the next start.
 pub fn go<'a, C: Classes>(
     alloc: Global,
-    deed: &Deed<'a>,
+    effect: &Effect<'a>,
     next: Option<u16>,
     state: State<'a>,
     branch: Option<u16>,
@@ -116,17 +119,18 @@ pub fn go<'a, C: Classes>(
     fresh: &[(u32, RunType<'a>)],
     classes: &C,
 ) -> Result<Outcome<'a>, StepFault>
-    ensures { Goes (world_of (C.content classes.now)) (task_view deed.now) next (state_view state.entry) branch (option_map value_view answer) (fresh_view fresh.now) result }
+    ensures { Goes (world_of (C.content classes.now)) (effect_view effect.now) next (state_view state.entry) branch
+        (option_map value_view answer) (fresh_view fresh.now) result }
 {
     let state = with_fresh(state, fresh)?;
-    if is_last(deed) {
+    if is_last(effect) {
         return if branch.is_none() && answer.is_none() {
             Ok(Outcome::Ended)
         } else {
             Err(StepFault::NotAChoice)
         };
     }
-    match go_on(alloc, deed, next, state, branch, answer, classes) {
+    match go_on(alloc, effect, next, state, branch, answer, classes) {
         Ok(after) => Ok(Outcome::Next(after)),
         Err(fault) => Err(fault),
     }

@@ -92,7 +92,8 @@ fn new_object<'a>(address: u32, run_type: RunType<'a>) -> Object<'a>
     }
 }
 
-// Whether the object may be at the address when a method begins whose own object is at another one, or at this one, if it has one.
+// Whether the object may be at the address when a method begins whose own object is at another one, or at this one, if
+// it has one.
 fn may_be(own: Option<u32>, address: u32, object: Object<'_>) -> bool
     ensures { IsTrue result ↔ MayBe own address (object_view object.entry) }
 {

@@ -22,14 +22,15 @@ fn are_empty(slots: &[Slot]) -> bool
     slots.iter().all(|slot| is_empty(*slot))
 }
 
-/// Takes so many values out of local variables, and puts them behind the others; says whether they are there, each long or double with its second
-/// half, and all local variables behind them are empty.
+/// Takes so many values out of local variables, and puts them behind the others; says whether they are there, each long
+/// or double with its second half, and all local variables behind them are empty.
 pub fn take_values(
     count: usize,
     slots: &[Slot],
     values: &mut Vec<Value>,
 ) -> Result<bool, AllocError>
-    ensures { IfOk result (TakesValues count (locals_of slots.now) (map value_view values.old.items) (map value_view values.new.items)) }
+    ensures { IfOk result (TakesValues count (locals_of slots.now) (map value_view values.old.items)
+        (map value_view values.new.items)) }
 {
     if count == 0 {
         return Ok(are_empty(slots));

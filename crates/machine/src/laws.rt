@@ -10,29 +10,29 @@ pub fn step_breadth()
     ensures { StepBreadth }
 {}
 
-/// Nothing else happens: a step leads to a target or on, by an answer that fits, which stands on what is beneath the operands; objects that
-/// are ready stay so; what is null where an array, an object or a receiver is asked only raises; and what is raised is a Throwable that is
-/// ready, caught by an entry that covers the instruction and catches it.
+/// Nothing else happens: a step leads to a target or on, by an answer that fits, which stands on what is beneath the
+/// operands; objects that are ready stay so; what is null where an array, an object or a receiver is asked only raises;
+/// and what is raised is a Throwable that is ready, caught by an entry that covers the instruction and catches it.
 pub fn step_bounds()
     ensures { StepBounds }
 {}
 
-/// The stack behind a step is the one that the instruction leaves: what is beneath its operands, and on that a number of its kind, null, the answer,
-/// the value of its local variable, the value that was cast, or the items that it moves.
+/// The stack behind a step is the one that the instruction leaves: what is beneath its operands, and on that a number
+/// of its kind, null, the answer, the value of its local variable, the value that was cast, or the items that it moves.
 pub fn stack_bounds()
     ensures { StackBounds }
 {}
 
-/// Each reference that an instruction uses is null, or its object's constructor has returned; but in an instance initialization method fields
-/// that the class declares may be set in the own object. Of the parts of a state that is no fault that on operands says so alone, and so does
-/// that on objects.
+/// Each reference that an instruction uses is null, or its object's constructor has returned; but in an instance
+/// initialization method fields that the class declares may be set in the own object. Of the parts of a state that is
+/// no fault that on operands says so alone, and so does that on objects.
 pub fn used_is_initialized()
     ensures operands { OperandsAreInitialized }
     ensures objects { ObjectsAreInitialized }
 {}
 
-/// A method begins with every heap, every receiver that it may have, and all arguments of its types; each stands in the local variable
-/// behind those before it, and all others are empty.
+/// A method begins with every heap, every receiver that it may have, and all arguments of its types; each stands in the
+/// local variable behind those before it, and all others are empty.
 pub fn start_breadth()
     ensures { StartBreadth }
 {}

@@ -7,7 +7,7 @@
 //! - `body`, `making`: the method that runs, and how it is made of a class.
 //! - `starts`: the instruction at an offset.
 //! - `constants`, `own_class`: what constants name, and what the class file says of the method's class.
-//! - `deed`, `deeds`, `fields`, `calls`, `creations`: what an instruction does.
+//! - `effect`, `effects`, `fields`, `calls`, `creations`: what an instruction does.
 //! - `fitting`, `operands`, `demands`: which values fit which types, and when a state is no fault.
 //! - `stacking`, `storing`, `doing`, `going`: what comes of an instruction.
 //! - `below`, `heaps`, `raising`: run-time types, objects by their addresses, and what is raised.
@@ -20,7 +20,7 @@
 //!
 //! - `specs/Values.antt`: values, local variables and stacks.
 //! - `specs/Heap.antt`: objects, and which values fit which types.
-//! - `specs/Tasks.antt`: what each instruction takes, gives and does.
+//! - `specs/Effects.antt`: what each instruction takes, gives and does.
 //! - `specs/Demands.antt`: when a state is no fault.
 //! - `specs/Steps.antt`: what comes of an instruction and a choice.
 //! - `specs/Runs.antt`: initial states and runs.
@@ -41,10 +41,10 @@ mod calls;
 mod choosing;
 mod constants;
 mod creations;
-mod deed;
-mod deeds;
 mod demands;
 mod doing;
+mod effect;
+mod effects;
 mod fields;
 mod fitting;
 mod going;

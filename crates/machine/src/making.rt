@@ -29,7 +29,8 @@ pub(crate) fn assembled<'c, 'a>(
     exceptions: Vec<ExceptionEntry<'a>>,
 ) -> Method<'c, 'a>
     requires { StartsRise 0 (views list.items) }
-    ensures { let m = result in (m.declared ≡ declared.entry) × (m.list ≡ list.entry) × (m.exceptions ≡ exceptions.entry) }
+    ensures { let m = result in (m.declared ≡ declared.entry) × (m.list ≡ list.entry)
+        × (m.exceptions ≡ exceptions.entry) }
 {
     Method {
         declared,
@@ -50,7 +51,8 @@ fn caught_type<'a>(pool: &Pool<'a>, index: u16) -> Option<RunType<'a>>
 
 // An entry of the exception table, with the type that it catches.
 fn entry<'a>(pool: &Pool<'a>, handler: &ExceptionHandler) -> Option<ExceptionEntry<'a>>
-    ensures { MatchOption result (caught_type pool.now handler.now.catch_type ≡ None) (λ e. IsEntry pool.now (handler_view handler.now) (entry_view e)) }
+    ensures { MatchOption result (caught_type pool.now handler.now.catch_type ≡ None)
+        (λ e. IsEntry pool.now (handler_view handler.now) (entry_view e)) }
 {
     let caught = caught_type(pool, handler.catch_type)?;
     Some(ExceptionEntry {
@@ -67,7 +69,8 @@ fn entries<'a>(
     pool: &Pool<'a>,
     table: &[ExceptionHandler],
 ) -> Result<Option<Vec<ExceptionEntry<'a>>>, AllocError>
-    ensures { IfOk result (λ o. option_map (λ v. map entry_view v.items) o ≡ exception_entries pool.now (map handler_view table.now)) }
+    ensures { IfOk result (λ o. option_map (λ v. map entry_view v.items) o
+        ≡ exception_entries pool.now (map handler_view table.now)) }
 {
     let mut entries = Vec::new(alloc);
     for handler in table {
@@ -91,13 +94,18 @@ impl<'c, 'a> Method<'c, 'a> {
     ) -> Result<Method<'c, 'a>, CodeFault>
         requires { IsSome (code_at (class_view formed.now.class.now) number) }
         // It is what the class file says of that method, with the instructions of its code.
-        ensures told { IfOk result (λ m. method_of (judged_class formed.now) number (code_of m.list.items) ≡ Some (method_view m)) }
+        ensures told { IfOk result (λ m. method_of (judged_class formed.now) number (code_of m.list.items)
+            ≡ Some (method_view m)) }
         // Its instructions are those of the Code attribute that the class has at this number, and of no other.
-        ensures code { IfOk result (λ m. code_at (class_view formed.now.class.now) number ≡ Some (code_view m.declared.code.now)) }
+        ensures code { IfOk result (λ m. code_at (class_view formed.now.class.now) number
+            ≡ Some (code_view m.declared.code.now)) }
         ensures list { IfOk result (λ m. SpellsCode 0 m.declared.code.now.code.now (views m.list.items)) }
         // Where its code is some instructions, it is answered, unless memory runs out.
-        ensures only { (body : CodeBody) (xs : List (ℕ × Instruction)) → code_at (class_view formed.now.class.now) number ≡ Some body → SpellsCode 0 body.code xs → IfErr result (λ e. e ≡ OutOfMemory) }
-        ensures fault { IfErr result (λ e. IfSome (code_at (class_view formed.now.class.now) number) (λ body. UnlessMemory e (FaultyCode body.code e))) }
+        ensures only { (body : CodeBody) (xs : List (ℕ × Instruction))
+            → code_at (class_view formed.now.class.now) number ≡ Some body → SpellsCode 0 body.code xs
+            → IfErr result (λ e. e ≡ OutOfMemory) }
+        ensures fault { IfErr result (λ e. IfSome (code_at (class_view formed.now.class.now) number)
+            (λ body. UnlessMemory e (FaultyCode body.code e))) }
     {
         let class = formed.class();
         let method = formed.method(number).unwrap();

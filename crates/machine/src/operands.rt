@@ -4,15 +4,15 @@ ghost use Rattle.names.specs.Types.{type_of};
 ghost use Rattle.hierarchy.specs.Class.{world_of};
 ghost use Rattle.insn.specs.Acts.{stack_forms};
 ghost use Rattle.insn.specs.Views.{stack_form_view};
-ghost use Rattle.machine.specs.Tasks.{need_of};
+ghost use Rattle.machine.specs.Effects.{demand_of};
 ghost use Rattle.machine.specs.Demands.{Meets, AllMeet, HasLocal, HasForm};
 ghost use Rattle.machine.specs.Values.{depth_of, units, is_wide_value};
 ghost use Rattle.machine.specs.private.Decided.{same_place, are_form, form_for, is_behind, paired_behind};
-ghost use Rattle.machine.specs.private.Deeds.{need_view, needs_view};
+ghost use Rattle.machine.specs.private.EffectViews.{demand_view, demands_view};
 ghost use Rattle.machine.specs.private.Happening.{IsHeld};
 ghost use Rattle.machine.specs.Views.{value_view, slot_view, stack_of, locals_of, heap_view, state_view};
 
-use crate::deed::Need;
+use crate::effect::Demand;
 use crate::fitting::{fits_array, fits_array_for, fits_reference, is_reference, is_this};
 use crate::items::{Slot, Value, is_number, is_second, is_wide_slot, is_wide_value, place_of};
 use crate::objects::{Object, RunType};
@@ -22,55 +22,57 @@ use insn::{StackForm, StackOperator, StackPlace, computed_as};
 use names::{Base, FieldType};
 use std::collections::BTreeMap;
 
-/// The need of an operand of the type.
-pub fn need_of(t: FieldType<'_>) -> Need<'_>
-    ensures { need_view result ≡ need_of (type_of t.entry) }
+/// The demand of an operand of the type.
+pub fn demand_of(t: FieldType<'_>) -> Demand<'_>
+    ensures { demand_view result ≡ demand_of (type_of t.entry) }
 {
     match t.dims {
         0 => match t.base {
-            Base::Primitive(primitive) => Need::Number(computed_as(primitive)),
-            Base::Class(name) => Need::Type(RunType::Class(name)),
+            Base::Primitive(primitive) => Demand::Number(computed_as(primitive)),
+            Base::Class(name) => Demand::Type(RunType::Class(name)),
         },
-        dims => Need::Type(RunType::Array { dims, base: t.base }),
+        dims => Demand::Type(RunType::Array { dims, base: t.base }),
     }
 }
 
-/// Whether the value meets the need.
+/// Whether the value meets the demand.
 pub fn meets<C: Classes>(
-    need: Need<'_>,
+    demand: Demand<'_>,
     value: Value,
     heap: &BTreeMap<u32, Object<'_>>,
     classes: &C,
 ) -> bool
-    ensures { IsTrue result ↔ Meets (world_of (C.content classes.now)) (heap_view heap.now) (need_view need.entry) (value_view value) }
+    ensures { IsTrue result ↔ Meets (world_of (C.content classes.now)) (heap_view heap.now) (demand_view demand.entry)
+        (value_view value) }
 {
-    match need {
-        Need::Number(kind) => is_number(value, kind),
-        Need::Type(run_type) => fits_reference(heap, run_type, value, classes),
-        Need::Reference => is_reference(value),
-        Need::Array => fits_array(heap, value),
-        Need::ArrayFor(element) => fits_array_for(heap, element, value),
-        Need::OwnOr(class) => {
+    match demand {
+        Demand::Number(kind) => is_number(value, kind),
+        Demand::Type(run_type) => fits_reference(heap, run_type, value, classes),
+        Demand::Reference => is_reference(value),
+        Demand::Array => fits_array(heap, value),
+        Demand::ArrayFor(element) => fits_array_for(heap, element, value),
+        Demand::OwnOr(class) => {
             fits_reference(heap, RunType::Class(class), value, classes) || is_this(heap, value)
         }
     }
 }
 
-/// Whether operands that meet these needs are on top of the stack, the first of them on top.
+/// Whether operands that meet these demands are on top of the stack, the first of them on top.
 pub fn all_meet<C: Classes>(
-    needs: &[Need<'_>],
+    demands: &[Demand<'_>],
     stack: &[Value],
     heap: &BTreeMap<u32, Object<'_>>,
     classes: &C,
 ) -> bool
-    ensures { IsTrue result ↔ AllMeet (world_of (C.content classes.now)) (heap_view heap.now) (needs_view needs.now) (stack_of stack.now) }
+    ensures { IsTrue result ↔ AllMeet (world_of (C.content classes.now)) (heap_view heap.now) (demands_view demands.now)
+        (stack_of stack.now) }
 {
-    match needs {
+    match demands {
         [] => true,
-        [need, needs @ ..] => match stack {
+        [demand, demands @ ..] => match stack {
             [] => false,
             [stack @ .., top] => {
-                meets(*need, *top, heap, classes) && all_meet(needs, stack, heap, classes)
+                meets(*demand, *top, heap, classes) && all_meet(demands, stack, heap, classes)
             }
         },
     }
@@ -89,13 +91,14 @@ pub fn held(locals: &[Slot], local: u16) -> Option<Value>
     }
 }
 
-/// Whether the local variable holds a value that meets the need.
-pub fn has_local<C: Classes>(need: Need<'_>, local: u16, state: &State<'_>, classes: &C) -> bool
-    ensures { IsTrue result ↔ HasLocal (world_of (C.content classes.now)) (need_view need.entry) local (state_view state.now) }
+/// Whether the local variable holds a value that meets the demand.
+pub fn has_local<C: Classes>(demand: Demand<'_>, local: u16, state: &State<'_>, classes: &C) -> bool
+    ensures { IsTrue result ↔ HasLocal (world_of (C.content classes.now)) (demand_view demand.entry) local
+        (state_view state.now) }
 {
     match held(&state.locals, local) {
         None => false,
-        Some(value) => meets(need, value, &state.heap, classes),
+        Some(value) => meets(demand, value, &state.heap, classes),
     }
 }
 

@@ -41,7 +41,9 @@ fn caught<'a, C: Classes>(
     run_type: RunType<'a>,
     entry: u16,
 ) -> Result<Outcome<'a>, StepFault>
-    ensures { let s = state_view state.entry in CatchesBy (world_of (C.content classes.now)) (method_view method.now) s address (run_type_view run_type.entry) s.heap entry result }
+    ensures { let s = state_view state.entry in
+        CatchesBy (world_of (C.content classes.now)) (method_view method.now) s address
+        (run_type_view run_type.entry) s.heap entry result }
 {
     let Some(found) = method.exceptions.get(usize::from(entry)) else {
         return Err(StepFault::NotAChoice);
@@ -65,8 +67,10 @@ fn raised_type<'a, C: Classes>(
     classes: &C,
 ) -> Option<RunType<'a>>
     ensures { MatchOption result
-        ((x : ReferenceType) → heap_view heap.now address ≡ Some (object x ready) → IsBelow (world_of (C.content classes.now)) x (class_type throwable_name) → ⊥)
-        (λ t. (heap_view heap.now address ≡ Some (object (run_type_view t) ready)) × IsBelow (world_of (C.content classes.now)) (run_type_view t) (class_type throwable_name)) }
+        ((x : ReferenceType) → heap_view heap.now address ≡ Some (object x ready)
+        → IsBelow (world_of (C.content classes.now)) x (class_type throwable_name) → ⊥)
+        (λ t. (heap_view heap.now address ≡ Some (object (run_type_view t) ready))
+        × IsBelow (world_of (C.content classes.now)) (run_type_view t) (class_type throwable_name)) }
 {
     let run_type = ready_type(heap, address)?;
     if is_below(run_type, RunType::Class(THROWABLE), classes) {
@@ -87,7 +91,8 @@ pub fn raise<'a, C: Classes>(
     fresh: &[(u32, RunType<'a>)],
     entry: Option<u16>,
 ) -> Result<Outcome<'a>, StepFault>
-    ensures { Raises (world_of (C.content classes.now)) (method_view method.now) (state_view state.entry) address (fresh_view fresh.now) entry result }
+    ensures { Raises (world_of (C.content classes.now)) (method_view method.now) (state_view state.entry) address
+        (fresh_view fresh.now) entry result }
 {
     let state = with_fresh(state, fresh)?;
     let Some(run_type) = raised_type(&state.heap, address, classes) else {

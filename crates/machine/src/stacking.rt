@@ -2,10 +2,10 @@
 ghost use Rattle.std.specs.Prelude.{◌≡◌, ◌++◌, IfOk, OnOk, drop, slice_get, option_map};
 ghost use Rattle.insn.specs.Stacks.{beneath, chosen, rearranged};
 ghost use Rattle.insn.specs.Views.{stack_form_view};
-ghost use Rattle.machine.specs.private.Deeds.{needs_view};
+ghost use Rattle.machine.specs.private.EffectViews.{demands_view};
 ghost use Rattle.machine.specs.Views.{value_view, stack_of};
 
-use crate::deed::Need;
+use crate::effect::Demand;
 use crate::items::Value;
 use insn::StackForm;
 use std::alloc::{AllocError, Global};
@@ -18,10 +18,10 @@ fn beneath_so_many(count: usize, stack: &[Value]) -> &[Value]
 }
 
 /// The stack beneath as many operands.
-pub fn beneath<'s>(needs: &[Need<'_>], stack: &'s [Value]) -> &'s [Value]
-    ensures { stack_of result.now ≡ beneath (needs_view needs.now) (stack_of stack.now) }
+pub fn beneath<'s>(demands: &[Demand<'_>], stack: &'s [Value]) -> &'s [Value]
+    ensures { stack_of result.now ≡ beneath (demands_view demands.now) (stack_of stack.now) }
 {
-    beneath_so_many(needs.len(), stack)
+    beneath_so_many(demands.len(), stack)
 }
 
 /// Takes so many items from the stack.
@@ -32,10 +32,10 @@ pub fn drop_items(count: usize, stack: &mut Vec<Value>)
 }
 
 /// Takes as many operands from the stack.
-pub fn take_operands(needs: &[Need<'_>], stack: &mut Vec<Value>)
-    ensures { stack_of stack.new.items ≡ beneath (needs_view needs.now) (stack_of stack.old.items) }
+pub fn take_operands(demands: &[Demand<'_>], stack: &mut Vec<Value>)
+    ensures { stack_of stack.new.items ≡ beneath (demands_view demands.now) (stack_of stack.old.items) }
 {
-    drop_items(needs.len(), stack);
+    drop_items(demands.len(), stack);
 }
 
 /// The item of a number. The top has number 0.
@@ -51,7 +51,8 @@ pub fn item(number: usize, stack: &[Value]) -> Option<Value>
 
 // Pushes the items of these numbers, the first one last. A number that no item has is passed over.
 fn push_chosen(numbers: &[usize], stack: &[Value], after: &mut Vec<Value>) -> Result<(), AllocError>
-    ensures { OnOk result (stack_of after.new.items ≡ chosen (stack_of stack.now) numbers.now ++ stack_of after.old.items) }
+    ensures { OnOk result (stack_of after.new.items ≡ chosen (stack_of stack.now) numbers.now
+        ++ stack_of after.old.items) }
 {
     match numbers {
         [] => Ok(()),

@@ -1,14 +1,14 @@
 //! A step of the machine.
 ghost use Rattle.hierarchy.specs.Class.{world_of};
 ghost use Rattle.machine.specs.Bodies.{method_view};
-ghost use Rattle.machine.specs.Tasks.{task};
+ghost use Rattle.machine.specs.Effects.{effect};
 ghost use Rattle.machine.specs.Stepped.{Stepped};
 ghost use Rattle.machine.specs.Views.{state_view, choice_view};
 
 use crate::body::Method;
 use crate::choosing::{Choice, Outcome, StepFault};
-use crate::deeds::deed_of;
 use crate::demands::meets;
+use crate::effects::effect_of;
 use crate::going::go;
 use crate::raising::raise;
 use crate::snapshot::{State, copy_of_state};
@@ -16,8 +16,8 @@ use hierarchy::Classes;
 use insn::found_at;
 use std::alloc::Global;
 
-/// A step as [`step`] takes it, from a state that is handed over and becomes the next one. It takes no time for the objects that
-/// the instruction does not name.
+/// A step as [`step`] takes it, from a state that is handed over and becomes the next one. It takes no time for the
+/// objects that the instruction does not name.
 pub(crate) fn advance<'a, C: Classes>(
     alloc: Global,
     method: &Method<'_, 'a>,
@@ -25,13 +25,14 @@ pub(crate) fn advance<'a, C: Classes>(
     state: State<'a>,
     choice: &Choice<'a>,
 ) -> Result<Outcome<'a>, StepFault>
-    ensures { Stepped task (world_of (C.content classes.now)) (method_view method.now) (state_view state.entry) (choice_view choice.now) result }
+    ensures { Stepped effect (world_of (C.content classes.now)) (method_view method.now) (state_view state.entry)
+        (choice_view choice.now) result }
 {
     let Some((act, next)) = found_at(&method.list, state.offset()) else {
         return Ok(Outcome::Fault);
     };
-    let deed = deed_of(alloc, act, method)?;
-    let is_met = meets(alloc, method, &deed, next, &state, classes)?;
+    let effect = effect_of(alloc, act, method)?;
+    let is_met = meets(alloc, method, &effect, next, &state, classes)?;
     if !is_met {
         return Ok(Outcome::Fault);
     }
@@ -40,7 +41,9 @@ pub(crate) fn advance<'a, C: Classes>(
             branch,
             answer,
             fresh,
-        } => go(alloc, &deed, next, state, *branch, *answer, fresh, classes),
+        } => go(
+            alloc, &effect, next, state, *branch, *answer, fresh, classes,
+        ),
         Choice::Raise {
             address,
             fresh,
@@ -62,7 +65,8 @@ pub fn step<'a, C: Classes>(
     state: &State<'a>,
     choice: &Choice<'a>,
 ) -> Result<Outcome<'a>, StepFault>
-    ensures { Stepped task (world_of (C.content classes.now)) (method_view method.now) (state_view state.now) (choice_view choice.now) result }
+    ensures { Stepped effect (world_of (C.content classes.now)) (method_view method.now) (state_view state.now)
+        (choice_view choice.now) result }
 {
     let copy = copy_of_state(alloc, state)?;
     advance(alloc, method, classes, copy, choice)

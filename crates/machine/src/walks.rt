@@ -35,9 +35,9 @@ pub struct Walked<'a> {
     pub last: Last<'a>,
 }
 
-/// Steps from a state by one choice after the other (see [`step`](crate::step)), in the world that has these classes and no other, until
-/// the method ends, the state is a fault, or nothing comes of a choice. The state is copied once; then a step takes no time for objects that its
-/// instruction does not name.
+/// Steps from a state by one choice after the other (see [`step`](crate::step)), in the world that has these classes
+/// and no other, until the method ends, the state is a fault, or nothing comes of a choice. The state is copied once;
+/// then a step takes no time for objects that its instruction does not name.
 ///
 /// The only refusal is 1.
 pub fn walk<'a, C: Classes>(
@@ -47,7 +47,8 @@ pub fn walk<'a, C: Classes>(
     state: &State<'a>,
     choices: &[Choice<'a>],
 ) -> Result<Walked<'a>, StepFault>
-    ensures walks { IfOk result (λ w. Walks (world_of (C.content classes.now)) (method_view method.now) (state_view state.now) (map choice_view choices.now) w.taken (stop_view w.last)) }
+    ensures walks { IfOk result (λ w. Walks (world_of (C.content classes.now)) (method_view method.now)
+        (state_view state.now) (map choice_view choices.now) w.taken (stop_view w.last)) }
     ensures memory { IfErr result (λ e. e ≡ OutOfMemory) }
 {
     let mut at = copy_of_state(alloc, state)?;

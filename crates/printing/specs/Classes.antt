@@ -22,7 +22,8 @@ use Rattle.printing.specs.declared.within.Within.TheVariants.{Words, Json}
 -- ---- code
 
 abbrev pub sizes_line : CodeBody → List ℕ
-sizes_line body = codes "  stack " ++ (decimal body.max_stack ++ (codes " locals " ++ (decimal body.max_locals ++ codes "\n")))
+sizes_line body = codes "  stack "
+    ++ (decimal body.max_stack ++ (codes " locals " ++ (decimal body.max_locals ++ codes "\n")))
 
 -- all instructions; or why the code is none, and then no instruction
 abbrev pub reading_lines : Reading → List ℕ
@@ -31,7 +32,8 @@ reading_lines (Err fault) = codes "  code refused " ++ (code_fault_text fault ++
 
 -- the line of the instruction that begins at this offset, if one does and the code is not refused
 abbrev pub line_at : Reading → ℕ → List ℕ
-line_at (Ok instructions) at = option_map_or (λ instruction. instruction_line (at, instruction)) (at_offset instructions at) []
+line_at (Ok instructions) at =
+    option_map_or (λ instruction. instruction_line (at, instruction)) (at_offset instructions at) []
 line_at (Err fault) at = []
 
 -- the line of the constant that it names, if it names one
@@ -48,14 +50,16 @@ abbrev pub range_text : Handler → List ℕ
 range_text h = decimal h.start_pc ++ (codes " " ++ (decimal h.end_pc ++ (codes " " ++ decimal h.handler_pc)))
 
 abbrev pub catch_line : List Entry → Handler → List ℕ
-catch_line pool h = codes "  catch " ++ (range_text h ++ (codes " " ++ (caught_text Words pool h.catch_type ++ codes "\n")))
+catch_line pool h = codes "  catch "
+    ++ (range_text h ++ (codes " " ++ (caught_text Words pool h.catch_type ++ codes "\n")))
 
 -- an entry of the exception table as a string of JSON
 abbrev pub catch_string : List Entry → Handler → List ℕ
 catch_string pool h = range_text h ++ (codes " " ++ caught_text Json pool h.catch_type)
 
 abbrev pub code_lines : List Entry → CodeBody → List ℕ
-code_lines pool body = sizes_line body ++ (reading_lines (reading_of body.code) ++ flat_map (catch_line pool) body.exception_table)
+code_lines pool body = sizes_line body
+    ++ (reading_lines (reading_of body.code) ++ flat_map (catch_line pool) body.exception_table)
 
 -- why the code is refused, if it is
 abbrev pub fault_of : Reading → Option CodeFault
@@ -72,7 +76,8 @@ instruction_field x = (codes "instruction", written (instruction_text x)) ∷ []
 
 -- the instruction that begins at this offset, if one does and the code is not refused
 abbrev pub instruction_fields : Reading → ℕ → List Field
-instruction_fields (Ok instructions) at = option_map_or (λ instruction. instruction_field (at, instruction)) (at_offset instructions at) []
+instruction_fields (Ok instructions) at =
+    option_map_or (λ instruction. instruction_field (at, instruction)) (at_offset instructions at) []
 instruction_fields (Err fault) at = []
 
 -- the constant that it names, if it names one
@@ -87,7 +92,8 @@ table_fields pool handlers = (codes "exception_table", strings (map (catch_strin
 
 abbrev pub member_line : List ℕ → List Entry → Member → List ℕ
 member_line kind pool m =
-    kind ++ (hexadecimal m.access_flags ++ (codes " " ++ (constant_text pool m.name ++ (codes " " ++ (constant_text pool m.descriptor ++ codes "\n")))))
+    kind ++ (hexadecimal m.access_flags
+    ++ (codes " " ++ (constant_text pool m.name ++ (codes " " ++ (constant_text pool m.descriptor ++ codes "\n")))))
 
 abbrev pub field_line : List Entry → Member → List ℕ
 field_line pool m = member_line (codes "field ") pool m
@@ -111,7 +117,8 @@ is_refused_method m = is_refused_code (code_of m.attributes)
 
 abbrev pub class_line : Class → List ℕ
 class_line c =
-    codes "class " ++ (class_text c.constant_pool c.this_class ++ (codes " major " ++ (decimal c.major_version ++ (codes " minor "
+    codes "class " ++ (class_text c.constant_pool c.this_class
+    ++ (codes " major " ++ (decimal c.major_version ++ (codes " minor "
     ++ (decimal c.minor_version ++ (codes " flags " ++ (hexadecimal c.access_flags ++ codes "\n")))))))
 
 abbrev pub super_text : List Entry → ℕ → List ℕ
@@ -125,7 +132,8 @@ interface_line pool index = codes "interface " ++ (class_text pool index ++ code
 
 -- a component of a record (4.7.30)
 abbrev pub component_line : List Entry → Component → List ℕ
-component_line pool c = codes "component " ++ (constant_text pool c.name ++ (codes " " ++ (constant_text pool c.descriptor ++ codes "\n")))
+component_line pool c = codes "component "
+    ++ (constant_text pool c.name ++ (codes " " ++ (constant_text pool c.descriptor ++ codes "\n")))
 
 abbrev pub component_lines : List Entry → ClassAttribute → List ℕ
 component_lines pool attribute = flat_map (component_line pool) (components_of attribute)

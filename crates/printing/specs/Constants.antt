@@ -1,4 +1,5 @@
--- The line of a constant of the constant pool: its index, its kind by the name of the standard, the numbers that it holds, and the texts that these lead to (JVMS 4.4).
+-- The line of a constant of the constant pool: its index, its kind by the name of the standard, the numbers that it
+-- holds, and the texts that these lead to (JVMS 4.4).
 use Rattle.std.specs.Prelude.{ℕ, ◌-◌, nat_eq, if◌then◌else◌, List, [], ◌∷◌, ◌++◌, codes, decimal, Option, Some, None, Result, Ok, Err, slice_get}
 use Rattle.std.specs.Option.{option_map_or}
 use Rattle.pool.specs.declared.fault.PoolFault.{PoolFault}
@@ -28,11 +29,13 @@ text_behind within pool i = index_text i ++ behind within (text_at pool i)
 -- a member of a class, behind two indices
 abbrev pub member_behind : Within → List Entry → ℕ → ℕ → List ℕ
 member_behind within pool class name_and_type =
-    index_text class ++ (index_text name_and_type ++ (behind within (class_name_at pool class) ++ both_behind within (name_and_type_at pool name_and_type)))
+    index_text class ++ (index_text name_and_type
+    ++ (behind within (class_name_at pool class) ++ both_behind within (name_and_type_at pool name_and_type)))
 
 -- by the number of a bootstrap method
 abbrev pub bootstrap_behind : Within → List Entry → ℕ → ℕ → List ℕ
-bootstrap_behind within pool bootstrap name_and_type = number_text bootstrap ++ (index_text name_and_type ++ both_behind within (name_and_type_at pool name_and_type))
+bootstrap_behind within pool bootstrap name_and_type =
+    number_text bootstrap ++ (index_text name_and_type ++ both_behind within (name_and_type_at pool name_and_type))
 
 abbrev pub entry_text : Within → List Entry → Entry → List ℕ
 entry_text within pool (Utf8 bytes) = codes "Utf8 " ++ name_in within bytes
@@ -42,19 +45,27 @@ entry_text within pool (Long high low) = codes "Long"
 entry_text within pool (Double high low) = codes "Double"
 entry_text within pool (Class name) = codes "Class" ++ text_behind within pool name
 entry_text within pool (String text) = codes "String" ++ text_behind within pool text
-entry_text within pool (Fieldref class name_and_type) = codes "Fieldref" ++ member_behind within pool class name_and_type
-entry_text within pool (Methodref class name_and_type) = codes "Methodref" ++ member_behind within pool class name_and_type
-entry_text within pool (InterfaceMethodref class name_and_type) = codes "InterfaceMethodref" ++ member_behind within pool class name_and_type
+entry_text within pool (Fieldref class name_and_type) =
+    codes "Fieldref" ++ member_behind within pool class name_and_type
+entry_text within pool (Methodref class name_and_type) =
+    codes "Methodref" ++ member_behind within pool class name_and_type
+entry_text within pool (InterfaceMethodref class name_and_type) =
+    codes "InterfaceMethodref" ++ member_behind within pool class name_and_type
 entry_text within pool (NameAndType name descriptor) =
-    codes "NameAndType" ++ (index_text name ++ (index_text descriptor ++ (behind within (text_at pool name) ++ behind within (text_at pool descriptor))))
-entry_text within pool (MethodHandle kind reference) = codes "MethodHandle" ++ (number_text (kind_number kind) ++ index_text reference)
+    codes "NameAndType" ++ (index_text name
+    ++ (index_text descriptor ++ (behind within (text_at pool name) ++ behind within (text_at pool descriptor))))
+entry_text within pool (MethodHandle kind reference) =
+    codes "MethodHandle" ++ (number_text (kind_number kind) ++ index_text reference)
 entry_text within pool (MethodType descriptor) = codes "MethodType" ++ text_behind within pool descriptor
-entry_text within pool (Dynamic bootstrap name_and_type) = codes "Dynamic" ++ bootstrap_behind within pool bootstrap name_and_type
-entry_text within pool (InvokeDynamic bootstrap name_and_type) = codes "InvokeDynamic" ++ bootstrap_behind within pool bootstrap name_and_type
+entry_text within pool (Dynamic bootstrap name_and_type) =
+    codes "Dynamic" ++ bootstrap_behind within pool bootstrap name_and_type
+entry_text within pool (InvokeDynamic bootstrap name_and_type) =
+    codes "InvokeDynamic" ++ bootstrap_behind within pool bootstrap name_and_type
 entry_text within pool Unusable = codes "second index of the constant before"
 
 abbrev pub entry_line : List Entry → ℕ → Entry → List ℕ
-entry_line pool i entry = codes "  constant " ++ (decimal i ++ (codes " " ++ (entry_text Words pool entry ++ codes "\n")))
+entry_line pool i entry = codes "  constant "
+    ++ (decimal i ++ (codes " " ++ (entry_text Words pool entry ++ codes "\n")))
 
 -- indices begin with 1 (4.1)
 abbrev pub standing : List Entry → ℕ → Option Entry

@@ -15,7 +15,8 @@ mismatch_line part m = codes "  " ++ (part ++ (codes " " ++ (decimal m.place ++ 
 abbrev pub difference_line : DifferenceFact → List ℕ
 difference_line flag = codes "  flags: flagThisUninit comes and is not declared\n"
 difference_line (local m) = mismatch_line (codes "local") m
-difference_line (sizes from to) = codes "  stack: items that come " ++ (decimal from ++ (codes ", declared " ++ (decimal to ++ codes "\n")))
+difference_line (sizes from to) =
+    codes "  stack: items that come " ++ (decimal from ++ (codes ", declared " ++ (decimal to ++ codes "\n")))
 difference_line (item m) = mismatch_line (codes "stack") m
 
 -- ---- as fields of an object of JSON
@@ -28,5 +29,6 @@ mismatch_fields part m =
 abbrev pub difference_fields : DifferenceFact → List Field
 difference_fields flag = (codes "differs", word (codes "flags")) ∷ []
 difference_fields (local m) = mismatch_fields (codes "local") m
-difference_fields (sizes from to) = (codes "differs", word (codes "stack_size")) ∷ (codes "size", number from) ∷ (codes "declared_size", number to) ∷ []
+difference_fields (sizes from to) =
+    (codes "differs", word (codes "stack_size")) ∷ (codes "size", number from) ∷ (codes "declared_size", number to) ∷ []
 difference_fields (item m) = mismatch_fields (codes "stack") m

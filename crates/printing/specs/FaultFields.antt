@@ -19,7 +19,8 @@ fault_fields (EndsEarly at) = at_fields 2 at
 fault_fields (BadText at) = at_fields 3 at
 fault_fields (BadTag at tag) = (codes "number", number 7) ∷ (codes "at", number at) ∷ (codes "tag", number tag) ∷ []
 fault_fields BadMagic = number_fields 10
-fault_fields (BadVersion major minor) = (codes "number", number 11) ∷ (codes "major", number major) ∷ (codes "minor", number minor) ∷ []
+fault_fields (BadVersion major minor) =
+    (codes "number", number 11) ∷ (codes "major", number major) ∷ (codes "minor", number minor) ∷ []
 fault_fields (AttributeLength at) = at_fields 12 at
 fault_fields (BytesAfter at) = at_fields 13 at
 fault_fields (TooLong at) = at_fields 14 at

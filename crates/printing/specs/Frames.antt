@@ -61,7 +61,8 @@ flags_line label flag = if flag then codes "  " ++ (label ++ codes "flags flagTh
 -- under a label: the locals, the stack from the bottom up, and the flag where it stands
 abbrev pub frame_lines : List ℕ → FrameFact → List ℕ
 frame_lines label f =
-    types_line label (codes "locals") (in_use f.locals) ++ (types_line label (codes "stack") (reverse f.stack) ++ flags_line label f.flag)
+    types_line label (codes "locals") (in_use f.locals)
+    ++ (types_line label (codes "stack") (reverse f.stack) ++ flags_line label f.flag)
 
 -- ---- a frame as fields of an object of JSON, each type a string
 
@@ -75,4 +76,5 @@ flag_fields name flag = if flag then (name, strings (codes "flagThisUninit" ∷ 
 -- under these names: the locals, the stack from the bottom up, and the flag where it stands
 abbrev pub frame_fields : List ℕ → List ℕ → List ℕ → FrameFact → List Field
 frame_fields locals stack flags f =
-    (locals, strings (type_strings (in_use f.locals))) ∷ (stack, strings (type_strings (reverse f.stack))) ∷ flag_fields flags f.flag
+    (locals, strings (type_strings (in_use f.locals))) ∷ (stack, strings (type_strings (reverse f.stack)))
+    ∷ flag_fields flags f.flag

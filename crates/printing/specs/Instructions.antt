@@ -1,4 +1,5 @@
--- The lines of a method's code: an instruction with its offset, its name and its operands in the order of the file (JVMS 6.5).
+-- The lines of a method's code: an instruction with its offset, its name and its operands in the order of the file
+-- (JVMS 6.5).
 use Rattle.std.specs.Prelude.{ℕ, ℤ, pos, ◌+ℤ◌, List, [], ◌++◌, codes, decimal}
 use Rattle.std.specs.Fmt.{signed_decimal}
 use Rattle.std.specs.List.{flat_map}
@@ -47,7 +48,8 @@ operands_text at (new_array element) = number_text element
 operands_text at (multi_new_array i dimensions) = index_text i ++ number_text dimensions
 operands_text at (table_switch padding default low high table) =
     value_text low ++ (value_text high ++ (target_text at default ++ flat_map (target_text at) (offsets table)))
-operands_text at (lookup_switch padding default count table) = target_text at default ++ flat_map (pair_text at) (pairs table)
+operands_text at (lookup_switch padding default count table) =
+    target_text at default ++ flat_map (pair_text at) (pairs table)
 operands_text at (wide_local opcode n) = number_text n
 operands_text at (wide_increment opcode n by) = number_text n ++ value_text by
 
@@ -59,7 +61,8 @@ wide_text _ = []
 
 abbrev pub instruction_text : ℕ × Instruction → List ℕ
 instruction_text x =
-    decimal x.0 ++ (codes " " ++ (wide_text x.1.operands ++ (mnemonic (modified x.1.opcode x.1.operands) ++ operands_text x.0 x.1.operands)))
+    decimal x.0 ++ (codes " " ++ (wide_text x.1.operands
+    ++ (mnemonic (modified x.1.opcode x.1.operands) ++ operands_text x.0 x.1.operands)))
 
 abbrev pub instruction_line : ℕ × Instruction → List ℕ
 instruction_line x = codes "  " ++ (instruction_text x ++ codes "\n")

@@ -1,4 +1,5 @@
--- The part of a class file at a place: a constant by its line, and the class, a field or a method by the lines of `show`, each behind two blanks.
+-- The part of a class file at a place: a constant by its line, and the class, a field or a method by the lines of
+-- `show`, each behind two blanks.
 use Rattle.std.specs.Prelude.{ℕ, List, [], ◌++◌, codes, slice_get}
 use Rattle.std.specs.Option.{option_map_or}
 use Rattle.classfile.specs.Values.{Class as ClassValue}

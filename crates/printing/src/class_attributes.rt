@@ -1,4 +1,5 @@
-//! The lines of a class's attributes: the components of a record (JVMS 4.7.30) and what a sealed class permits (4.7.31).
+//! The lines of a class's attributes: the components of a record (JVMS 4.7.30) and what a sealed class permits
+//! (4.7.31).
 ghost use Rattle.std.specs.Prelude.{[], map};
 ghost use Rattle.std.specs.List.{flat_map};
 ghost use Rattle.std.specs.Option.{option_map_or};
@@ -95,7 +96,8 @@ fn put_permitted<W: Write>(
     permitted: &Numbers<'_>,
     out: &mut W,
 ) -> Result<(), WriteFailed>
-    ensures { Writes (W.contents out.old) (W.contents out.new) (flat_map (permits_line pool.now) (first_column (numbers_view permitted.now))) result }
+    ensures { Writes (W.contents out.old) (W.contents out.new)
+        (flat_map (permits_line pool.now) (first_column (numbers_view permitted.now))) result }
 {
     for row in 0..permitted.rows() {
         match put_index(pool, permitted.get(row, 0), out) {

@@ -40,7 +40,8 @@ pub fn code_fault(code: &[u8]) -> Option<CodeFault>
 
 /// The instructions of code that is not refused, each on its line.
 fn put_instructions<W: Write>(out: &mut W, code: &[u8]) -> Result<(), WriteFailed>
-    ensures { (xs : List (ℕ × Instruction)) → reading_of code.now ≡ Ok xs → Writes (W.contents out.old) (W.contents out.new) (flat_map instruction_line xs) result }
+    ensures { (xs : List (ℕ × Instruction)) → reading_of code.now ≡ Ok xs
+        → Writes (W.contents out.old) (W.contents out.new) (flat_map instruction_line xs) result }
 {
     for step in Instructions::new(code) {
         match step {
@@ -88,7 +89,8 @@ fn found_at(code: &[u8], at: usize) -> Option<Insn<'_>>
 
 /// Writes the line of an instruction that was found at an offset, if one was.
 fn put_found<W: Write>(out: &mut W, at: usize, found: Option<Insn<'_>>) -> Result<(), WriteFailed>
-    ensures { Writes (W.contents out.old) (W.contents out.new) (option_map_or (λ i. instruction_line (at, view i)) found.entry []) result }
+    ensures { Writes (W.contents out.old) (W.contents out.new)
+        (option_map_or (λ i. instruction_line (at, view i)) found.entry []) result }
 {
     match found {
         Some(insn) => Located { at, insn }.put(out),
@@ -121,7 +123,8 @@ fn put_found_field<W: Write, B: Print + Copy>(
     found: Option<Insn<'_>>,
     behind: B,
 ) -> Result<(), WriteFailed>
-    ensures { Writes (W.contents out.old) (W.contents out.new) (fields_then (option_map_or (λ i. instruction_field (at, view i)) found.entry []) (B.text behind)) result }
+    ensures { Writes (W.contents out.old) (W.contents out.new)
+        (fields_then (option_map_or (λ i. instruction_field (at, view i)) found.entry []) (B.text behind)) result }
 {
     match found {
         Some(insn) => {
@@ -132,8 +135,8 @@ fn put_found_field<W: Write, B: Print + Copy>(
     }
 }
 
-/// The instruction that begins at an offset of code as a field, and then what stands behind it; no field where none does, or where the
-/// code is refused.
+/// The instruction that begins at an offset of code as a field, and then what stands behind it; no field where none
+/// does, or where the code is refused.
 #[derive(Clone, Copy)]
 pub struct InstructionFields<'a, B> {
     pub code: &'a [u8],
@@ -174,7 +177,8 @@ fn put_named<W: Write>(
     pool: &Pool<'_>,
     found: Option<Insn<'_>>,
 ) -> Result<(), WriteFailed>
-    ensures { Writes (W.contents out.old) (W.contents out.new) (option_map_or (λ i. named_line pool.now (view i)) found.entry []) result }
+    ensures { Writes (W.contents out.old) (W.contents out.new)
+        (option_map_or (λ i. named_line pool.now (view i)) found.entry []) result }
 {
     match found {
         Some(insn) => put_constant(out, pool, &insn),
@@ -182,8 +186,8 @@ fn put_named<W: Write>(
     }
 }
 
-/// The line of the constant that the instruction names which begins at an offset of code; nothing where it names none, where none begins
-/// there, or where the code is refused.
+/// The line of the constant that the instruction names which begins at an offset of code; nothing where it names none,
+/// where none begins there, or where the code is refused.
 #[derive(Clone, Copy)]
 pub struct NamedAt<'p, 'a> {
     pub pool: &'p Pool<'a>,
@@ -209,7 +213,8 @@ fn put_constant_field<W: Write, B: Print + Copy>(
     insn: &Insn<'_>,
     behind: B,
 ) -> Result<(), WriteFailed>
-    ensures { Writes (W.contents out.old) (W.contents out.new) (fields_then (named_fields pool.now (view insn.now)) (B.text behind)) result }
+    ensures { Writes (W.contents out.old) (W.contents out.new)
+        (fields_then (named_fields pool.now (view insn.now)) (B.text behind)) result }
 {
     match index_in(&insn.operands) {
         Some(index) => {
@@ -225,14 +230,16 @@ fn put_constant_field<W: Write, B: Print + Copy>(
     }
 }
 
-/// Writes the constant that an instruction names which was found as a field, if one was, and then what stands behind it.
+/// Writes the constant that an instruction names which was found as a field, if one was, and then what stands behind
+/// it.
 fn put_named_field<W: Write, B: Print + Copy>(
     out: &mut W,
     pool: &Pool<'_>,
     found: Option<Insn<'_>>,
     behind: B,
 ) -> Result<(), WriteFailed>
-    ensures { Writes (W.contents out.old) (W.contents out.new) (fields_then (option_map_or (λ i. named_fields pool.now (view i)) found.entry []) (B.text behind)) result }
+    ensures { Writes (W.contents out.old) (W.contents out.new)
+        (fields_then (option_map_or (λ i. named_fields pool.now (view i)) found.entry []) (B.text behind)) result }
 {
     match found {
         Some(insn) => put_constant_field(out, pool, &insn, behind),
@@ -240,8 +247,8 @@ fn put_named_field<W: Write, B: Print + Copy>(
     }
 }
 
-/// The constant that the instruction names which begins at an offset of code, as a field, and then what stands behind it; no field where
-/// it names none, where none begins there, or where the code is refused.
+/// The constant that the instruction names which begins at an offset of code, as a field, and then what stands behind
+/// it; no field where it names none, where none begins there, or where the code is refused.
 #[derive(Clone, Copy)]
 pub struct NamedFields<'p, 'a, B> {
     pub pool: &'p Pool<'a>,

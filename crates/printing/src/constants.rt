@@ -103,7 +103,8 @@ fn put_reference<W: Write>(
     class: u16,
     name_and_type: u16,
 ) -> Result<(), WriteFailed>
-    ensures { Writes (W.contents out.old) (W.contents out.new) (kind.now ++ member_behind within pool.now class name_and_type) result }
+    ensures { Writes (W.contents out.old) (W.contents out.new)
+        (kind.now ++ member_behind within pool.now class name_and_type) result }
 {
     let both = BothBehind {
         within,
@@ -129,7 +130,8 @@ fn put_dynamic<W: Write>(
     bootstrap: u16,
     name_and_type: u16,
 ) -> Result<(), WriteFailed>
-    ensures { Writes (W.contents out.old) (W.contents out.new) (kind.now ++ bootstrap_behind within pool.now bootstrap name_and_type) result }
+    ensures { Writes (W.contents out.old) (W.contents out.new)
+        (kind.now ++ bootstrap_behind within pool.now bootstrap name_and_type) result }
 {
     let both = BothBehind {
         within,
@@ -173,7 +175,14 @@ impl<'p, 'a> Print for Entry<'p, 'a> {
             Constant::InterfaceMethodref {
                 class,
                 name_and_type,
-            } => put_reference(out, within, "InterfaceMethodref", pool, class, name_and_type),
+            } => put_reference(
+                out,
+                within,
+                "InterfaceMethodref",
+                pool,
+                class,
+                name_and_type,
+            ),
             Constant::NameAndType { name, descriptor } => {
                 let first = TextBehind {
                     within,
@@ -194,7 +203,13 @@ impl<'p, 'a> Print for Entry<'p, 'a> {
                 Then(Value(kind.number()), Index(reference)),
             )
             .put(out),
-            Constant::MethodType { descriptor } => put_text(out, within, "MethodType", pool, descriptor),
+            Constant::MethodType { descriptor } => put_text(
+                out,
+                within,
+                "MethodType",
+                pool,
+                descriptor,
+            ),
             Constant::Dynamic {
                 bootstrap,
                 name_and_type,

@@ -16,9 +16,15 @@ fn put_at<W: Write, B: Print + Copy>(
     at: usize,
     behind: B,
 ) -> Result<(), WriteFailed>
-    ensures { Writes (W.contents out.old) (W.contents out.new) (fields_then (at_fields number at) (B.text behind)) result }
+    ensures { Writes (W.contents out.old) (W.contents out.new)
+        (fields_then (at_fields number at) (B.text behind)) result }
 {
-    More("number", Number(number), More("at", Number(at as u64), behind)).put(out)
+    More(
+        "number",
+        Number(number),
+        More("at", Number(at as u64), behind),
+    )
+    .put(out)
 }
 
 /// Why bytes are no class file.
@@ -67,7 +73,8 @@ fn put_place<W: Write, B: Print + Copy>(
     index: usize,
     behind: B,
 ) -> Result<(), WriteFailed>
-    ensures { Writes (W.contents out.old) (W.contents out.new) (fields_then (indexed_fields kind.now index) (B.text behind)) result }
+    ensures { Writes (W.contents out.old) (W.contents out.new)
+        (fields_then (indexed_fields kind.now index) (B.text behind)) result }
 {
     let index = More("index", Number(index as u64), behind);
     More("place", Quoted(kind), index).put(out)

@@ -60,8 +60,8 @@ impl<'a> Print for Elements<'a> {
     }
 }
 
-/// A verification type by the name that the standard gives it (JVMS 4.10.1.2): a class by its name, an array by its descriptor,
-/// where names are written so.
+/// A verification type by the name that the standard gives it (JVMS 4.10.1.2): a class by its name, an array by its
+/// descriptor, where names are written so.
 #[derive(Clone, Copy)]
 pub struct TypeText<'a>(pub Within, pub VType<'a>);
 
@@ -111,7 +111,9 @@ impl<'t, 'a> Print for Types<'t, 'a> {
     fn put<W: Write>(&self, out: &mut W) -> Result<(), WriteFailed> {
         match self.0.split_first() {
             None => Word("").put(out),
-            Some((first, others)) => match Then(Word(" "), TypeText(Within::Words, *first)).put(out) {
+            Some((first, others)) => match Then(Word(" "), TypeText(Within::Words, *first)).put(
+                out,
+            ) {
                 Ok(()) => put_lines(&More, others, out),
                 Err(failed) => Err(failed),
             },
@@ -182,8 +184,8 @@ fn count_in_use(locals: &[VType<'_>]) -> usize
     count
 }
 
-/// The lines of a frame under a label: its locals without the tops behind the last that is none, its stack from the bottom up, and
-/// flagThisUninit where it has the flag.
+/// The lines of a frame under a label: its locals without the tops behind the last that is none, its stack from the
+/// bottom up, and flagThisUninit where it has the flag.
 #[derive(Clone, Copy)]
 pub struct FrameLines<'f, 'a> {
     /// It stands in front of each line's word.
@@ -245,8 +247,8 @@ impl<B: Print + Copy> Print for FlagFields<B> {
     }
 }
 
-/// A frame as fields of these names, and then what stands behind them: its locals without the tops behind the last that is none, its
-/// stack from the bottom up, and flagThisUninit where it has the flag.
+/// A frame as fields of these names, and then what stands behind them: its locals without the tops behind the last that
+/// is none, its stack from the bottom up, and flagThisUninit where it has the flag.
 #[derive(Clone, Copy)]
 pub struct FrameFields<'f, 'a, B> {
     pub locals: &'static str,
@@ -257,7 +259,8 @@ pub struct FrameFields<'f, 'a, B> {
 }
 
 impl<'f, 'a, B: Print + Copy> Print for FrameFields<'f, 'a, B> {
-    ghost text = { λ t. fields_then (frame_fields t.locals.now t.stack.now t.flags.now (frame_of t.frame.now)) (B.text t.behind) };
+    ghost text = { λ t. fields_then (frame_fields t.locals.now t.stack.now t.flags.now (frame_of t.frame.now))
+        (B.text t.behind) };
 
     fn put<W: Write>(&self, out: &mut W) -> Result<(), WriteFailed> {
         let (types, _) = self.frame.locals.split_at(count_in_use(&self.frame.locals));

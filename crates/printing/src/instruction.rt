@@ -169,7 +169,8 @@ impl<'a> Located<'a> {
 
     /// Writes its operands.
     fn put_operands<W: Write>(&self, out: &mut W) -> Result<(), WriteFailed>
-        ensures { Writes (W.contents out.old) (W.contents out.new) (operands_text self.now.at (operands_view self.now.insn.operands)) result }
+        ensures { Writes (W.contents out.old) (W.contents out.new)
+            (operands_text self.now.at (operands_view self.now.insn.operands)) result }
     {
         match self.insn.operands {
             Operands::Nothing => Word("").put(out),

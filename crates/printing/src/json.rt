@@ -18,8 +18,8 @@ fn is_unescaped(unit: u16) -> bool
     is_plain(unit) && unit != 34
 }
 
-/// Writes a unit of a string: printable ASCII as it is, and any other unit, the quotation mark and the backslash as `\u` and
-/// four small hexadecimal digits.
+/// Writes a unit of a string: printable ASCII as it is, and any other unit, the quotation mark and the backslash as
+/// `\u` and four small hexadecimal digits.
 fn put_character<W: Write>(out: &mut W, unit: u16) -> Result<(), WriteFailed>
     ensures { Writes (W.contents out.old) (W.contents out.new) (character_text unit) result }
 {
@@ -138,8 +138,8 @@ impl<'a> Print for Quoted<'a> {
     }
 }
 
-/// A name (JVMS 4.4.7) as a string (RFC 8259, 7), unit by unit of UTF-16: printable ASCII as it is, and any other unit, the quotation
-/// mark and the backslash as `\u` and four small hexadecimal digits.
+/// A name (JVMS 4.4.7) as a string (RFC 8259, 7), unit by unit of UTF-16: printable ASCII as it is, and any other unit,
+/// the quotation mark and the backslash as `\u` and four small hexadecimal digits.
 #[derive(Clone, Copy)]
 pub struct QuotedName<'a>(pub Text<'a>);
 
@@ -249,7 +249,8 @@ impl<'a, V: Print + Copy> Print for Field<'a, V> {
     }
 }
 
-/// An object on a line: the name and the value of its first field, and then its fields behind this one, up to the line's end.
+/// An object on a line: the name and the value of its first field, and then its fields behind this one, up to the
+/// line's end.
 #[derive(Clone, Copy)]
 pub struct Object<'a, V, B>(pub &'a str, pub V, pub B);
 

@@ -36,7 +36,8 @@ mod runs;
 mod within;
 
 pub use code::{
-    Handlers, HandlersField, InstructionAt, InstructionFields, NamedAt, NamedFields, SizeFields, Sizes,
+    Handlers, HandlersField, InstructionAt, InstructionFields, NamedAt, NamedFields, SizeFields,
+    Sizes,
 };
 pub use differences::{DifferenceFields, DifferenceLine};
 pub use fault_fields::{FaultFields, PlaceFields};

@@ -158,8 +158,9 @@ impl<'p, 'a> Print for Interfaces<'p, 'a> {
     }
 }
 
-/// The lines of a class file: the class with its version and flags, its superclass, interfaces, the components of a record
-/// and the classes that a sealed class permits, fields and methods, and behind each method that has code the lines of this code.
+/// The lines of a class file: the class with its version and flags, its superclass, interfaces, the components of a
+/// record and the classes that a sealed class permits, fields and methods, and behind each method that has code the
+/// lines of this code.
 #[derive(Clone, Copy)]
 pub struct Listing<'c, 'a>(pub &'c ClassFile<'a>);
 

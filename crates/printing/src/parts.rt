@@ -21,7 +21,8 @@ fn put_member<'p, 'a, W: Write>(
     members: &'p [Member<'a>],
     number: usize,
 ) -> Result<(), WriteFailed>
-    ensures { Writes (W.contents out.old) (W.contents out.new) (option_map_or (member_line kind.now pool.now) (slice_get (map member_view members.now) number) []) result }
+    ensures { Writes (W.contents out.old) (W.contents out.new)
+        (option_map_or (member_line kind.now pool.now) (slice_get (map member_view members.now) number) []) result }
 {
     match members.get(number) {
         Some(member) => MemberLine { kind, pool, member }.put(out),

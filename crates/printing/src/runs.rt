@@ -17,7 +17,8 @@ pub(crate) trait Escapes {
     fn stands(byte: u8) -> bool
         ensures { result ≡ true → StandsAlone text byte };
 
-    /// How many of the sixteen bytes from a place on are seen to spell units that stand as they are, up to the first that is not.
+    /// How many of the sixteen bytes from a place on are seen to spell units that stand as they are, up to the first
+    /// that is not.
     fn in_sixteen(bytes: &[u8], at: usize) -> usize
         requires { at + 16 ≤ length bytes.now }
         ensures { StandIn text bytes.now at 16 result };

@@ -16,9 +16,9 @@ use verify::{
     verify_together_under, walk_verified,
 };
 
-/// The class file of a class K whose static method `f` loads the Dynamic constant of int at 11 and drops it, and then calls the site `g` of the
-/// InvokeDynamic at 15: `ldc`, `pop`, `invokedynamic`, `return`. Both are of its one bootstrap method, whose handle and whose argument are the
-/// MethodHandle of `f`.
+/// The class file of a class K whose static method `f` loads the Dynamic constant of int at 11 and drops it, and then
+/// calls the site `g` of the InvokeDynamic at 15: `ldc`, `pop`, `invokedynamic`, `return`. Both are of its one
+/// bootstrap method, whose handle and whose argument are the MethodHandle of `f`.
 const CALLS: [u8; 190] = [
     0xCA, 0xFE, 0xBA, 0xBE, 0, 0, 0, 0x37, 0, 0x14, 7, 0, 2, 1, 0, 1, 0x4B, 7, 0, 4, 1, 0, 0x10,
     0x6A, 0x61, 0x76, 0x61, 0x2F, 0x6C, 0x61, 0x6E, 0x67, 0x2F, 0x4F, 0x62, 0x6A, 0x65, 0x63, 0x74,

@@ -1,4 +1,6 @@
-//! The tests of the public calls of `machine`, `verify`, `answers` and `command_line`, and of the faults of all libraries. They stand in a crate of their own, above them all, so that each library is proved once and not a second time with its tests; `lower_calls` has those of the other libraries.
+//! The tests of the public calls of `machine`, `verify`, `answers` and `command_line`, and of the faults of all
+//! libraries. They stand in a crate of their own, above them all, so that each library is proved once and not a second
+//! time with its tests; `lower_calls` has those of the other libraries.
 //!
 //! | File | What it tests |
 //! |---|---|

@@ -7,9 +7,10 @@ use std::alloc::{AllocFailed, Global};
 use std::collections::BTreeMap;
 use std::test::*;
 
-/// The class file of a class K whose static method `f`, of no parameters and no result, has two local variables, room for
-/// four units on the stack and six bytes of code. Its constants 11, 15, 18 and 19 are the field `g` of type K, the methods
-/// `h` and `<init>`, and `h` as an interface's method; `h` has one `int` and answers a K. 20 is a string, 21 the arrays of K.
+/// The class file of a class K whose static method `f`, of no parameters and no result, has two local variables, room
+/// for four units on the stack and six bytes of code. Its constants 11, 15, 18 and 19 are the field `g` of type K, the
+/// methods `h` and `<init>`, and `h` as an interface's method; `h` has one `int` and answers a K. 20 is a string, 21
+/// the arrays of K.
 const NAMING: [u8; 190] = [
     0xCA, 0xFE, 0xBA, 0xBE, 0, 0, 0, 0x34, 0, 0x17, 7, 0, 2, 1, 0, 1, 0x4B, 7, 0, 4, 1, 0, 0x10,
     0x6A, 0x61, 0x76, 0x61, 0x2F, 0x6C, 0x61, 0x6E, 0x67, 0x2F, 0x4F, 0x62, 0x6A, 0x65, 0x63, 0x74,

@@ -26,7 +26,8 @@ fn theorem_and_laws_are_called() {
     frames_are_judged();
 }
 
-/// The verdict on the class's first method, where there are `java/lang/Object` and the class, as it is or as a final one.
+/// The verdict on the class's first method, where there are `java/lang/Object` and the class, as it is or as a final
+/// one.
 fn verdict<'a>(
     alloc: Global,
     formed: &Formed<'_, 'a>,

@@ -18,7 +18,8 @@ const NATIVE: [u8; 78] = [
     0, 0, 0, 1, 1, 9, 0, 5, 0, 6, 0, 0, 0, 0,
 ];
 
-/// The class file of a class K whose static method `f` makes a K and returns it before a constructor did: `new`, `areturn`.
+/// The class file of a class K whose static method `f` makes a K and returns it before a constructor did: `new`,
+/// `areturn`.
 const RETURNS_MADE: [u8; 127] = [
     0xCA, 0xFE, 0xBA, 0xBE, 0, 0, 0, 0x34, 0, 0x0C, 7, 0, 2, 1, 0, 1, 0x4B, 7, 0, 4, 1, 0, 0x10,
     0x6A, 0x61, 0x76, 0x61, 0x2F, 0x6C, 0x61, 0x6E, 0x67, 0x2F, 0x4F, 0x62, 0x6A, 0x65, 0x63, 0x74,
@@ -46,7 +47,8 @@ fn law_is_called() {
 /// How a walk is asked for: by `walk_verified`, or by `walk` alone, which asks for no verdict.
 #[derive(Clone, Copy)]
 struct Asked {
-    /// The offset of the state that it starts in, which is otherwise the one in which a method without arguments begins.
+    /// The offset of the state that it starts in, which is otherwise the one in which a method without arguments
+    /// begins.
     from: u16,
     /// Whether the hierarchy has the class as it is, and not as a final one.
     listed: bool,
@@ -129,8 +131,8 @@ fn walk_of_a_verified_method(rt: HostRuntime) {
     assert!(rt; goes(rt.alloc(), &K, RIGHT) == Ok((1, Stop::Ended)));
 }
 
-/// The least number that holds is told: 55 of a state in which the method does not begin, also where it is refused or its class is not
-/// listed; 56 of a method that is refused; 80 of a class that is not listed.
+/// The least number that holds is told: 55 of a state in which the method does not begin, also where it is refused or
+/// its class is not listed; 56 of a method that is refused; 80 of a class that is not listed.
 #[test]
 fn walks_that_are_refused(rt: HostRuntime) {
     let alloc = rt.alloc();
@@ -182,8 +184,8 @@ fn makes(alloc: Global, bytes: &[u8], asked: Asked) -> Walk {
     }
 }
 
-/// The walk by the same choices of a method that is refused, which meets a fault, and of the same method mended, which meets none: the object is
-/// returned before and after its constructor has returned.
+/// The walk by the same choices of a method that is refused, which meets a fault, and of the same method mended, which
+/// meets none: the object is returned before and after its constructor has returned.
 #[test]
 fn fault_in_a_walk_and_none_in_the_method_mended(rt: HostRuntime) {
     let alloc = rt.alloc();

@@ -1,4 +1,5 @@
-//! Walks by what a call answers, a branch takes and a handler catches, and among many objects; and the arguments with which a method begins.
+//! Walks by what a call answers, a branch takes and a handler catches, and among many objects; and the arguments with
+//! which a method begins.
 use crate::machine_steps::machine_method;
 use crate::walks::on;
 use classfile::{Formed, decode, form_check};
@@ -28,7 +29,8 @@ const BRANCHING: [u8; 102] = [
     0xB1, 0xB1, 0, 0, 0, 0, 0, 0,
 ];
 
-/// That of a K with a method `nop`, `return`, `pop`, `return`, of which all that the first raises is handled at the third.
+/// That of a K with a method `nop`, `return`, `pop`, `return`, of which all that the first raises is handled at the
+/// third.
 const HANDLING: [u8; 108] = [
     0xCA, 0xFE, 0xBA, 0xBE, 0, 0, 0, 0x34, 0, 8, 7, 0, 2, 1, 0, 1, 0x4B, 7, 0, 4, 1, 0, 0x10, 0x6A,
     0x61, 0x76, 0x61, 0x2F, 0x6C, 0x61, 0x6E, 0x67, 0x2F, 0x4F, 0x62, 0x6A, 0x65, 0x63, 0x74, 1, 0,
@@ -231,8 +233,8 @@ fn walks_by_both_ways(rt: HostRuntime) {
     assert!(rt; branches(alloc, 1) == Ok((1, Stop::NotAChoice)));
 }
 
-/// The walk by no choice of the method that takes the class, from the state in which it begins with this argument and this object at 0, of the
-/// name and status.
+/// The walk by no choice of the method that takes the class, from the state in which it begins with this argument and
+/// this object at 0, of the name and status.
 fn begins(alloc: Global, class: u8, arg: Value, there: (&'static [u8], Status)) -> Walk {
     let mut heap = BTreeMap::new(alloc);
     let object = Object {
@@ -245,8 +247,8 @@ fn begins(alloc: Global, class: u8, arg: Value, there: (&'static [u8], Status)) 
     walk_of(alloc, &taking(class), &[arg], &heap, &[])
 }
 
-/// A method begins with null and with each object of its parameter's type that is ready; of an interface each object is one. It begins with
-/// no object that is yet to be initialized.
+/// A method begins with null and with each object of its parameter's type that is ready; of an interface each object is
+/// one. It begins with no object that is yet to be initialized.
 #[test]
 fn beginnings_with_an_argument(rt: HostRuntime) {
     let alloc = rt.alloc();
@@ -306,7 +308,8 @@ fn goes_round(alloc: Global, objects: u32, count: usize) -> Walk {
     }
 }
 
-/// A heap is made, and a step taken, by looking up addresses: a test has 60 s, and a look at each object in each step would take longer.
+/// A heap is made, and a step taken, by looking up addresses: a test has 60 s, and a look at each object in each step
+/// would take longer.
 #[test]
 fn walk_among_many_objects(rt: HostRuntime) {
     let walked = goes_round(rt.alloc(), 100_000, 50_000);

@@ -100,7 +100,8 @@ pub fn on<'a>(alloc: Global) -> Choice<'a> {
     }
 }
 
-/// The choice to raise what is at 7, after a `java/lang/Throwable` came to be there if there is one, caught by the entry of this place.
+/// The choice to raise what is at 7, after a `java/lang/Throwable` came to be there if there is one, caught by the
+/// entry of this place.
 fn raise<'a>(alloc: Global, is_there: bool, entry: Option<u16>) -> Result<Choice<'a>, AllocError> {
     let mut fresh = Vec::new(alloc);
     if is_there {

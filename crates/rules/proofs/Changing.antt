@@ -11,10 +11,10 @@ use Rattle.insn.specs.Stacks.{beneath}
 use Rattle.frames.specs.VerificationType.{VerificationType, top, int, float, long, double, null, class, array, uninit_this, uninit}
 use Rattle.frames.specs.FrameFact.{FrameFact}
 use Rattle.frames.specs.Objects.{is_initialized}
-use Rattle.rules.specs.Plans.{Plan, Want, where_allowed, class_want, result_types, arguments_on, constructs, calls_special}
+use Rattle.rules.specs.TypingRules.{TypingRule, ExpectedType, where_allowed, expected_class, result_types, arguments_on, constructs, calls_special}
 use Rattle.rules.specs.Constants.{constructor_call, special_call, invoke_special, new_object, is_init_name, has_room_for_receiver, may_name}
 use Rattle.rules.specs.After.{after, top_of, class_after, forgotten, initialized}
-use Rattle.rules.specs.Table.{plan}
+use Rattle.rules.specs.Table.{typing_rule}
 use Rattle.rules.specs.Ways.{keeps_locals, stored_to, special_index, is_plain}
 use Rattle.rules.specs.Naming.{method_index}
 use Rattle.rules.specs.Replacing.{ChangesOnly}
@@ -60,7 +60,7 @@ module _ (m : Method Act) (at : ℕ) (f : FrameFact) where
     abbrev pub receiver : VerificationType
     receiver = top_of (beneath (arguments_on c.type.params []) f.stack)
 
-    abbrev pub Changes : Plan → Type 0
+    abbrev pub Changes : TypingRule → Type 0
     Changes p = ChangesOnly (Some receiver) f (after m at p f)
 
     by_constructor : (b : Bool) (name : List ℕ) → Changes (where_allowed b (constructs name (arguments_on c.type.params [])))
@@ -73,24 +73,24 @@ module _ (m : Method Act) (at : ℕ) (f : FrameFact) where
     by_class (class_type name) = by_constructor (not c.interface && has_room_for_receiver c) name
     by_class (array_type component) = none_changed (Some receiver) f refl
 
-    by_call : (b : Bool) (type : ReferenceType) (ws : List Want) (gs : List VerificationType) → Changes (where_allowed b (calls_special type ws gs))
+    by_call : (b : Bool) (type : ReferenceType) (ws : List ExpectedType) (gs : List VerificationType) → Changes (where_allowed b (calls_special type ws gs))
     by_call true type ws gs = none_changed (Some receiver) (after m at (calls_special type ws gs) f) refl
     by_call false type ws gs = none_changed (Some receiver) f refl
 
-    by_name : (b : Bool) (p q : Plan) → Changes p → Changes q → Changes (if b then p else q)
+    by_name : (b : Bool) (p q : TypingRule) → Changes p → Changes q → Changes (if b then p else q)
     by_name true p q x y = x
     by_name false p q x y = y
 
     pub by_special : Changes (invoke_special m.major_version m.class (Some c))
     by_special =
         by_name (is_init_name c) (constructor_call c c.class) (special_call m.major_version m.class c) (by_class c.class)
-        (by_call (is_class_type c.class && (has_room_for_receiver c && may_name m.major_version c.interface)) c.class (arguments_on c.type.params (class_want m.class ∷ [])) (result_types c.type.result))
+        (by_call (is_class_type c.class && (has_room_for_receiver c && may_name m.major_version c.interface)) c.class (arguments_on c.type.params (expected_class m.class ∷ [])) (result_types c.type.result))
 
   pub by_none : ChangesOnly None f (after m at (invoke_special m.major_version m.class None) f)
   by_none = refl
 
   -- a `new` is what is left
-  pub made : (a : Act) → keeps_locals a ≡ false → stored_to a ≡ None → special_index a ≡ None → ChangesOnly (Some (uninit at)) f (after m at (plan m a) f)
+  pub made : (a : Act) → keeps_locals a ≡ false → stored_to a ≡ None → special_index a ≡ None → ChangesOnly (Some (uninit at)) f (after m at (typing_rule m a) f)
   made acts.Nothing e g h = absurd (kept e)
   made (acts.Constant kind) e g h = absurd (kept e)
   made acts.ConstantNull e g h = absurd (kept e)
@@ -138,7 +138,7 @@ module _ (m : Method Act) (at : ℕ) (f : FrameFact) where
 
   -- an `invokespecial` that names a method
   pub called : (a : Act) (c : MethodConstant) (object : VerificationType) → (j : ℕ) → special_index a ≡ Some j → Some c ≡ option_and_then (method_at m.constant_pool) (method_index a)
-      → object ≡ top_of (beneath (arguments_on c.type.params []) f.stack) → ChangesOnly (Some object) f (after m at (plan m a) f)
+      → object ≡ top_of (beneath (arguments_on c.type.params []) f.stack) → ChangesOnly (Some object) f (after m at (typing_rule m a) f)
   called acts.Nothing c object j h e o = absurd (never h)
   called (acts.Constant kind) c object j h e o = absurd (never h)
   called acts.ConstantNull c object j h e o = absurd (never h)

@@ -10,7 +10,7 @@ use Rattle.frames.specs.VerificationType.{VerificationType, uninit}
 use Rattle.frames.specs.FrameFact.{FrameFact}
 use Rattle.frames.specs.Conditions.{reason, Conditions, least, is_no, missing_if}
 use Rattle.rules.specs.declared.reason.Reason.{Reason}
-use Rattle.rules.specs.Plans.{Want, any_reference, constructs, makes}
+use Rattle.rules.specs.TypingRules.{ExpectedType, any_reference, constructs, makes}
 use Rattle.rules.specs.After.{after, top_of, rest_of, forgotten, initialized, class_after, flag_after, constructed}
 use Rattle.rules.specs.Replacing.{initialized_frame}
 use Rattle.rules.specs.Rules.{is_short, operands, may_construct, is_too_wide, is_on_stack, conditions}
@@ -103,7 +103,7 @@ parts_settled false true false yes w e f g q = refl
 parts_settled false true false no w e f g q = absurd (q refl)
 parts_settled false true false (missing x) w e f g q = refl
 
-module _ (cs : List ClassFact) (m : Method Act) (at : ℕ) (name : List ℕ) (ws : List Want) (f : FrameFact) where
+module _ (cs : List ClassFact) (m : Method Act) (at : ℕ) (name : List ℕ) (ws : List ExpectedType) (f : FrameFact) where
   abbrev all : Conditions
   all = conditions cs m at (constructs name ws) f
 

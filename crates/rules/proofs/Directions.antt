@@ -1,4 +1,4 @@
--- Where the plan of an instruction goes: as its act says, whatever the method.
+-- Where the typing rule of an instruction goes: as its act says, whatever the method.
 use Rattle.std.proofs.Common.{◌≡◌, ◌∙◌, ℕ, Bool, true, false, List, [], ◌∷◌, Option, Some, None, refl, sym, if◌then◌else◌}
 use Rattle.names.specs.declared.base.Primitive.{Primitive}
 use Rattle.names.specs.Descriptors.{FieldDescriptor, MethodDescriptor, primitive, class as class_descriptor, array as array_descriptor, field_width}
@@ -16,41 +16,41 @@ use Rattle.frames.specs.Slots.{to_reference, descriptor_type}
 use Rattle.insn.specs.Meanings as acts
 use Rattle.insn.specs.Meanings.{Act}
 use Rattle.insn.specs.Stacks.{same_kind, computed_as}
-use Rattle.rules.specs.Plans.{Plan, pops, makes, constructs, calls_special, sizes, number, refuses, falls, offsets_of, where_judged, where_allowed, where_bootstrapped, call_of, gives, arguments_on, class_want, result_types}
+use Rattle.rules.specs.TypingRules.{TypingRule, pops, makes, constructs, calls_special, sizes, number, refuses, falls, offsets_of, where_judged, where_allowed, where_bootstrapped, call_of, gives, arguments_on, expected_class, result_types}
 use Rattle.rules.specs.Constants.{is_bootstrapped, load_dynamic, load_constant, load_wide_constant, get_static, put_static, get_field, put_field, invoke_static, invoke_virtual, invoke_interface, static_call, call_on, may_invoke_interface, new_array, new_reference_array, new_multi_array, check_cast, instance_of, is_init_name, constructor_call, special_call, invoke_special, is_special_name, dynamic_call, invoke_dynamic, new_object}
-use Rattle.rules.specs.Table.{plan, return_number, return_reference, return_nothing, leaves_with}
+use Rattle.rules.specs.Table.{typing_rule, return_number, return_reference, return_nothing, leaves_with}
 use Rattle.rules.specs.Ways.{goes_on, branch_offsets}
 
--- a plan that goes on and branches nowhere
-pub record GoesOn (p : Plan) : Type 0 where
+-- a typing rule that goes on and branches nowhere
+pub record GoesOn (p : TypingRule) : Type 0 where
   pub falls_on : falls p ≡ true
   pub nowhere : offsets_of p ≡ []
 
--- the plan of an act goes on and branches as the act does
-pub record WayOf (a : Act) (p : Plan) : Type 0 where
+-- the typing rule of an act goes on and branches as the act does
+pub record WayOf (a : Act) (p : TypingRule) : Type 0 where
   pub falls_on : goes_on a ≡ falls p
   pub branches : branch_offsets a ≡ offsets_of p
 
-on : (p : Plan) → falls p ≡ true → offsets_of p ≡ [] → GoesOn p
+on : (p : TypingRule) → falls p ≡ true → offsets_of p ≡ [] → GoesOn p
 on p e n = record { falls_on = e; nowhere = n }
 
-plain : (a : Act) (p : Plan) → goes_on a ≡ true → branch_offsets a ≡ [] → GoesOn p → WayOf a p
+plain : (a : Act) (p : TypingRule) → goes_on a ≡ true → branch_offsets a ≡ [] → GoesOn p → WayOf a p
 plain a p e b g = record { falls_on = e ∙ sym g.falls_on; branches = b ∙ sym g.nowhere }
 
-direct : (a : Act) (p : Plan) → goes_on a ≡ falls p → branch_offsets a ≡ offsets_of p → WayOf a p
+direct : (a : Act) (p : TypingRule) → goes_on a ≡ falls p → branch_offsets a ≡ offsets_of p → WayOf a p
 direct a p e b = record { falls_on = e; branches = b }
 
 -- ---- constants
 
-allowed : (b : Bool) (p : Plan) → GoesOn p → GoesOn (where_allowed b p)
+allowed : (b : Bool) (p : TypingRule) → GoesOn p → GoesOn (where_allowed b p)
 allowed true p g = g
 allowed false p g = on (refuses 66) refl refl
 
-judged : (b : Bool) (p : Plan) → GoesOn p → GoesOn (where_judged b p)
+judged : (b : Bool) (p : TypingRule) → GoesOn p → GoesOn (where_judged b p)
 judged true p g = g
 judged false p g = on (refuses 60) refl refl
 
-bootstrapped : (b : Bool) (p : Plan) → GoesOn p → GoesOn (where_bootstrapped b p)
+bootstrapped : (b : Bool) (p : TypingRule) → GoesOn p → GoesOn (where_bootstrapped b p)
 bootstrapped true p g = g
 bootstrapped false p g = on (refuses 90) refl refl
 
@@ -149,7 +149,7 @@ interface_on : (count : ℕ) (o : Option MethodConstant) → GoesOn (invoke_inte
 interface_on count None = on (invoke_interface count None) refl refl
 interface_on count (Some c) = allowed (may_invoke_interface count c) (call_on c.class c) (call_goes c.class c)
 
-either : (b : Bool) (p q : Plan) → GoesOn p → GoesOn q → GoesOn (if b then p else q)
+either : (b : Bool) (p q : TypingRule) → GoesOn p → GoesOn q → GoesOn (if b then p else q)
 either true p q x y = x
 either false p q x y = y
 
@@ -161,7 +161,7 @@ special_on : (major : ℕ) (me : List ℕ) (o : Option MethodConstant) → GoesO
 special_on major me None = on (refuses 66) refl refl
 special_on major me (Some c) =
     either (is_init_name c) (constructor_call c c.class) (special_call major me c) (constructor_on c c.class)
-    (allowed _ (calls_special c.class (arguments_on c.type.params (class_want me ∷ [])) (result_types c.type.result)) (record { falls_on = refl; nowhere = refl }))
+    (allowed _ (calls_special c.class (arguments_on c.type.params (expected_class me ∷ [])) (result_types c.type.result)) (record { falls_on = refl; nowhere = refl }))
 
 -- ---- objects, arrays and casts
 
@@ -216,11 +216,11 @@ nothing_way (Some t) = direct acts.ReturnVoid (refuses 76) refl refl
 
 -- ---- all acts
 
-at_once : (m : Method Act) (a : Act) → goes_on a ≡ falls (plan m a) → branch_offsets a ≡ offsets_of (plan m a)
-    → WayOf a (plan m a)
-at_once m a e b = direct a (plan m a) e b
+at_once : (m : Method Act) (a : Act) → goes_on a ≡ falls (typing_rule m a) → branch_offsets a ≡ offsets_of (typing_rule m a)
+    → WayOf a (typing_rule m a)
+at_once m a e b = direct a (typing_rule m a) e b
 
-pub way_of : (m : Method Act) (a : Act) → WayOf a (plan m a)
+pub way_of : (m : Method Act) (a : Act) → WayOf a (typing_rule m a)
 way_of m acts.Nothing = at_once m acts.Nothing refl refl
 way_of m (acts.Constant kind) = at_once m (acts.Constant kind) refl refl
 way_of m acts.ConstantNull = at_once m acts.ConstantNull refl refl

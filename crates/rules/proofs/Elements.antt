@@ -6,11 +6,11 @@ use Rattle.insn.specs.declared.operation.Kind.TheVariants.{Int}
 use Rattle.frames.specs.declared.vtype.VType.{VType}
 use Rattle.frames.specs.declared.vtype.VType.TheVariants.{Top}
 use Rattle.frames.specs.VerificationType.{VerificationType, type_of, top}
-use Rattle.rules.specs.declared.want.Want.{Want}
-use Rattle.rules.specs.declared.want.Want.TheVariants.{Number}
+use Rattle.rules.specs.declared.expected.ExpectedType.{ExpectedType}
+use Rattle.rules.specs.declared.expected.ExpectedType.TheVariants.{Number}
 use Rattle.rules.specs.After.{top_of, rest_of}
-use Rattle.rules.specs.Plans.{number, sizes}
-use Rattle.rules.specs.Views.{stack_of, want_view}
+use Rattle.rules.specs.TypingRules.{number, sizes}
+use Rattle.rules.specs.Views.{stack_of, expected_view}
 
 second : (ts : List VerificationType) → top_of (rest_of ts) ≡ get_or ts 1 top
 second [] = refl
@@ -25,7 +25,7 @@ beneath_last xs two =
     ∙ ap (λ n. get_or (map type_of xs) n top) (omega (arith, length-map xs type_of))
     ∙ get_or-map type_of xs (length xs - 2) Top top (omega (arith, two))
 
-sizes_are : (n : ℕ) → map want_view (replicate n (Number Int)) ≡ sizes n
+sizes_are : (n : ℕ) → map expected_view (replicate n (Number Int)) ≡ sizes n
 sizes_are zero = refl
 sizes_are (suc n) = ap (λ ws. number Int ∷ ws) (sizes_are n)
 
@@ -34,10 +34,10 @@ take_none zero = refl
 take_none (suc n) = refl
 
 -- an empty list that is filled up
-pub filled_up : (n m k : ℕ) (old new : List Want) → m ≡ n → k ≡ 0 → old ≡ [] → new ≡ take m old ++ replicate (m - k) (Number Int) → map want_view new ≡ sizes n
+pub filled_up : (n m k : ℕ) (old new : List ExpectedType) → m ≡ n → k ≡ 0 → old ≡ [] → new ≡ take m old ++ replicate (m - k) (Number Int) → map expected_view new ≡ sizes n
 filled_up n m k old new count none empty e =
-    ap (map want_view) e
-    ∙ ap (λ z. map want_view (take m z ++ replicate (m - k) (Number Int))) empty
-    ∙ ap (λ z. map want_view (z ++ replicate (m - k) (Number Int))) (take_none m)
-    ∙ ap (λ z. map want_view (replicate z (Number Int))) (omega (arith, count, none))
+    ap (map expected_view) e
+    ∙ ap (λ z. map expected_view (take m z ++ replicate (m - k) (Number Int))) empty
+    ∙ ap (λ z. map expected_view (z ++ replicate (m - k) (Number Int))) (take_none m)
+    ∙ ap (λ z. map expected_view (replicate z (Number Int))) (omega (arith, count, none))
     ∙ sizes_are n

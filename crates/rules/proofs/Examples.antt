@@ -16,7 +16,7 @@ use Rattle.insn.specs.Meanings.{Act}
 use Rattle.frames.specs.VerificationType.{VerificationType, top, int, long, null, class, uninit_this, uninit}
 use Rattle.frames.specs.FrameFact.{FrameFact}
 use Rattle.frames.specs.Conditions.{Reason, reason, class_missing, least}
-use Rattle.rules.specs.Table.{plan}
+use Rattle.rules.specs.Table.{typing_rule}
 use Rattle.rules.specs.After.{after}
 use Rattle.rules.specs.Rules.{conditions}
 
@@ -64,7 +64,7 @@ frame locals stack flag = record { locals = locals; stack = stack; flag = flag }
 
 -- the least reason against an act, in a method without a result
 abbrev judged : Act → FrameFact → Option Reason
-judged act f = least (conditions classes (method None false) 0 (plan (method None false) act) f)
+judged act f = least (conditions classes (method None false) 0 (typing_rule (method None false) act) f)
 
 -- of two bootstrap methods the second one's handle is a Class
 abbrev bootstraps : List BootstrapMethod
@@ -75,10 +75,10 @@ abbrev dynamic_method : Method Act
 dynamic_method = record (method None false) { bootstraps = bootstraps; dynamic = true }
 
 abbrev judged_too : Act → FrameFact → Option Reason
-judged_too act f = least (conditions classes dynamic_method 0 (plan dynamic_method act) f)
+judged_too act f = least (conditions classes dynamic_method 0 (typing_rule dynamic_method act) f)
 
 abbrev then_frame : Act → FrameFact → FrameFact
-then_frame act f = after (method None false) 0 (plan (method None false) act) f
+then_frame act f = after (method None false) 0 (typing_rule (method None false) act) f
 
 -- ---- refusals
 
@@ -130,7 +130,7 @@ constructor_of_another_class = refl
 not_supported : judged acts.Unsupported (frame (top ∷ []) [] false) ≡ Some (reason 60)
 not_supported = refl
 
-own_object_not_ready : least (conditions classes (method None true) 3 (plan (method None true) acts.ReturnVoid) (frame (uninit_this ∷ []) [] true)) ≡ Some (reason 74)
+own_object_not_ready : least (conditions classes (method None true) 3 (typing_rule (method None true) acts.ReturnVoid) (frame (uninit_this ∷ []) [] true)) ≡ Some (reason 74)
 own_object_not_ready = refl
 
 wrong_return : judged (acts.Return kinds.Int) (frame (top ∷ []) [] false) ≡ Some (reason 76)
@@ -189,7 +189,7 @@ called_dynamically : judged_too (acts.InvokeDynamic 14) (frame (top ∷ []) [] f
 unfolding has_bootstrap is_sound are_arguments entry_at text_at named name_and_type_at dynamic_at invoke_dynamic_at read_class read_base read_field read_params read_result read_method field_answer method_answer
 called_dynamically = refl
 
-constant_loaded : after dynamic_method 0 (plan dynamic_method (acts.LoadConstant 17)) (frame (top ∷ []) [] false) ≡ frame (top ∷ []) (int ∷ []) false
+constant_loaded : after dynamic_method 0 (typing_rule dynamic_method (acts.LoadConstant 17)) (frame (top ∷ []) [] false) ≡ frame (top ∷ []) (int ∷ []) false
 unfolding has_bootstrap is_sound are_arguments entry_at text_at named name_and_type_at dynamic_at invoke_dynamic_at read_class read_base read_field read_params read_result read_method field_answer method_answer
 constant_loaded = refl
 

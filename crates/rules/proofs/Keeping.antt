@@ -1,4 +1,4 @@
--- An instruction that leaves the locals as they are: by its plan, whatever the method.
+-- An instruction that leaves the locals as they are: by its typing rule, whatever the method.
 use Rattle.std.proofs.Common.{◌≡◌, ℕ, Bool, true, false, Option, Some, None, not, ◌&&◌, nat_lt, nat_eq, [], ◌∷◌, refl, ap, if◌then◌else◌}
 use Rattle.names.specs.Descriptors.{FieldDescriptor, primitive, class as class_descriptor, array as array_descriptor, field_width}
 use Rattle.names.specs.declared.base.Primitive.{Primitive}
@@ -16,42 +16,42 @@ use Rattle.insn.specs.Stacks.{same_kind, computed_as}
 use Rattle.frames.specs.VerificationType.{array}
 use Rattle.frames.specs.Slots.{to_reference, descriptor_type}
 use Rattle.frames.specs.FrameFact.{FrameFact}
-use Rattle.rules.specs.Plans.{Plan, number, pops, loads, stores, counts, rearranges, loads_element, makes, constructs, calls_special, returns, refuses, gives, sizes, call_of, where_judged, where_allowed, where_bootstrapped}
+use Rattle.rules.specs.TypingRules.{TypingRule, number, pops, loads, stores, counts, rearranges, loads_element, makes, constructs, calls_special, returns, refuses, gives, sizes, call_of, where_judged, where_allowed, where_bootstrapped}
 use Rattle.rules.specs.Constants.{is_bootstrapped, load_dynamic, load_constant, load_wide_constant, get_static, put_static, get_field, put_field, is_init_name, may_name, has_room_for_receiver, static_call, call_on, may_invoke_interface, invoke_static, invoke_virtual, invoke_interface, is_special_name, dynamic_call, invoke_dynamic, new_array, new_reference_array, new_multi_array, check_cast, instance_of}
-use Rattle.rules.specs.Table.{plan, leaves_with, return_number, return_reference, return_nothing}
+use Rattle.rules.specs.Table.{typing_rule, leaves_with, return_number, return_reference, return_nothing}
 use Rattle.rules.specs.After.{after, stored}
 use Rattle.rules.specs.Ways.{keeps_locals, stored_to}
 
-abbrev pub changes_none : Plan → Bool
-changes_none (stores want n width) = false
+abbrev pub changes_none : TypingRule → Bool
+changes_none (stores expected n width) = false
 changes_none (makes name) = false
-changes_none (constructs name wants) = false
+changes_none (constructs name expected_types) = false
 changes_none _ = true
 
-changed_none : (m : Method Act) (at : ℕ) (p : Plan) (f : FrameFact) → changes_none p ≡ true → (after m at p f).locals ≡ f.locals
-changed_none m at (pops wants gives offsets on) f e = refl
-changed_none m at (loads want n width) f e = refl
-changed_none m at (stores want n width) f e = cc
+changed_none : (m : Method Act) (at : ℕ) (p : TypingRule) (f : FrameFact) → changes_none p ≡ true → (after m at p f).locals ≡ f.locals
+changed_none m at (pops expected_types gives offsets on) f e = refl
+changed_none m at (loads expected n width) f e = refl
+changed_none m at (stores expected n width) f e = cc
 changed_none m at (counts n) f e = refl
 changed_none m at (rearranges forms) f e = refl
 changed_none m at loads_element f e = refl
 changed_none m at (makes name) f e = cc
-changed_none m at (constructs name wants) f e = cc
-changed_none m at (calls_special type wants gives) f e = refl
+changed_none m at (constructs name expected_types) f e = cc
+changed_none m at (calls_special type expected_types gives) f e = refl
 changed_none m at returns f e = refl
 changed_none m at (refuses n) f e = refl
 
--- ---- plans that a constant or a result decides
+-- ---- typing rules that a constant or a result decides
 
-allowed : (b : Bool) (p : Plan) → changes_none p ≡ true → changes_none (where_allowed b p) ≡ true
+allowed : (b : Bool) (p : TypingRule) → changes_none p ≡ true → changes_none (where_allowed b p) ≡ true
 allowed true p e = e
 allowed false p e = refl
 
-judged : (b : Bool) (p : Plan) → changes_none p ≡ true → changes_none (where_judged b p) ≡ true
+judged : (b : Bool) (p : TypingRule) → changes_none p ≡ true → changes_none (where_judged b p) ≡ true
 judged true p e = e
 judged false p e = refl
 
-bootstrapped : (b : Bool) (p : Plan) → changes_none p ≡ true → changes_none (where_bootstrapped b p) ≡ true
+bootstrapped : (b : Bool) (p : TypingRule) → changes_none p ≡ true → changes_none (where_bootstrapped b p) ≡ true
 bootstrapped true p e = e
 bootstrapped false p e = refl
 
@@ -181,59 +181,59 @@ instance_none (Some t) = refl
 
 -- ---- all instructions
 
-pub by_plan : (m : Method Act) (a : Act) → keeps_locals a ≡ true → changes_none (plan m a) ≡ true
-by_plan m acts.Nothing e = refl
-by_plan m (acts.Constant kind) e = refl
-by_plan m acts.ConstantNull e = refl
-by_plan m (acts.LoadConstant i) e = constant_none m (dynamic_type_at m.constant_pool i) (constant_at m.constant_pool i)
-by_plan m (acts.LoadWideConstant i) e = wide_none m (dynamic_type_at m.constant_pool i) (constant_at m.constant_pool i)
-by_plan m (acts.Load kind n) e = refl
-by_plan m (acts.LoadReference n) e = refl
-by_plan m (acts.Store kind n) e = cc
-by_plan m (acts.StoreReference n) e = cc
-by_plan m (acts.Increment n) e = refl
-by_plan m (acts.Numeric operator) e = refl
-by_plan m (acts.Stack operator) e = refl
-by_plan m (acts.IfInt offset) e = refl
-by_plan m (acts.IfInts offset) e = refl
-by_plan m (acts.IfReferences offset) e = refl
-by_plan m (acts.IfNull offset) e = refl
-by_plan m (acts.Goto offset) e = refl
-by_plan m (acts.Switch default offsets) e = refl
-by_plan m (acts.Return kind) e = back_none kind m.type.result
-by_plan m acts.ReturnReference e = reference_none m.type.result
-by_plan m acts.ReturnVoid e = nothing_none m.type.result
-by_plan m (acts.GetStatic i) e = get_static_none (field_at m.constant_pool i)
-by_plan m (acts.PutStatic i) e = put_static_none (field_at m.constant_pool i)
-by_plan m (acts.GetField i) e = get_none (field_at m.constant_pool i)
-by_plan m (acts.PutField i) e = put_none m (field_at m.constant_pool i)
-by_plan m (acts.InvokeVirtual i) e = virtual_none (method_at m.constant_pool i)
-by_plan m (acts.InvokeSpecial i) e = cc
-by_plan m (acts.InvokeStatic i) e = static_none m.major_version (method_at m.constant_pool i)
-by_plan m (acts.InvokeInterface i count) e = interface_none count (method_at m.constant_pool i)
-by_plan m (acts.InvokeDynamic i) e = site_none m (is_bootstrapped m (constant_at m.constant_pool i)) (call_site_at m.constant_pool i)
-by_plan m (acts.New i) e = cc
-by_plan m (acts.LoadElement p) e = refl
-by_plan m (acts.StoreElement p) e = refl
-by_plan m acts.LoadReferenceElement e = refl
-by_plan m acts.StoreReferenceElement e = refl
-by_plan m acts.ArrayLength e = refl
-by_plan m (acts.NewArray element) e = array_none element
-by_plan m (acts.NewReferenceArray i) e = references_none (class_at m.constant_pool i)
-by_plan m (acts.NewMultiArray i n) e = multi_none n (class_at m.constant_pool i)
-by_plan m (acts.CheckCast i) e = cast_none (class_at m.constant_pool i)
-by_plan m (acts.InstanceOf i) e = instance_none (class_at m.constant_pool i)
-by_plan m acts.Throw e = refl
-by_plan m acts.Monitor e = refl
-by_plan m acts.Unsupported e = refl
+pub by_typing_rule : (m : Method Act) (a : Act) → keeps_locals a ≡ true → changes_none (typing_rule m a) ≡ true
+by_typing_rule m acts.Nothing e = refl
+by_typing_rule m (acts.Constant kind) e = refl
+by_typing_rule m acts.ConstantNull e = refl
+by_typing_rule m (acts.LoadConstant i) e = constant_none m (dynamic_type_at m.constant_pool i) (constant_at m.constant_pool i)
+by_typing_rule m (acts.LoadWideConstant i) e = wide_none m (dynamic_type_at m.constant_pool i) (constant_at m.constant_pool i)
+by_typing_rule m (acts.Load kind n) e = refl
+by_typing_rule m (acts.LoadReference n) e = refl
+by_typing_rule m (acts.Store kind n) e = cc
+by_typing_rule m (acts.StoreReference n) e = cc
+by_typing_rule m (acts.Increment n) e = refl
+by_typing_rule m (acts.Numeric operator) e = refl
+by_typing_rule m (acts.Stack operator) e = refl
+by_typing_rule m (acts.IfInt offset) e = refl
+by_typing_rule m (acts.IfInts offset) e = refl
+by_typing_rule m (acts.IfReferences offset) e = refl
+by_typing_rule m (acts.IfNull offset) e = refl
+by_typing_rule m (acts.Goto offset) e = refl
+by_typing_rule m (acts.Switch default offsets) e = refl
+by_typing_rule m (acts.Return kind) e = back_none kind m.type.result
+by_typing_rule m acts.ReturnReference e = reference_none m.type.result
+by_typing_rule m acts.ReturnVoid e = nothing_none m.type.result
+by_typing_rule m (acts.GetStatic i) e = get_static_none (field_at m.constant_pool i)
+by_typing_rule m (acts.PutStatic i) e = put_static_none (field_at m.constant_pool i)
+by_typing_rule m (acts.GetField i) e = get_none (field_at m.constant_pool i)
+by_typing_rule m (acts.PutField i) e = put_none m (field_at m.constant_pool i)
+by_typing_rule m (acts.InvokeVirtual i) e = virtual_none (method_at m.constant_pool i)
+by_typing_rule m (acts.InvokeSpecial i) e = cc
+by_typing_rule m (acts.InvokeStatic i) e = static_none m.major_version (method_at m.constant_pool i)
+by_typing_rule m (acts.InvokeInterface i count) e = interface_none count (method_at m.constant_pool i)
+by_typing_rule m (acts.InvokeDynamic i) e = site_none m (is_bootstrapped m (constant_at m.constant_pool i)) (call_site_at m.constant_pool i)
+by_typing_rule m (acts.New i) e = cc
+by_typing_rule m (acts.LoadElement p) e = refl
+by_typing_rule m (acts.StoreElement p) e = refl
+by_typing_rule m acts.LoadReferenceElement e = refl
+by_typing_rule m acts.StoreReferenceElement e = refl
+by_typing_rule m acts.ArrayLength e = refl
+by_typing_rule m (acts.NewArray element) e = array_none element
+by_typing_rule m (acts.NewReferenceArray i) e = references_none (class_at m.constant_pool i)
+by_typing_rule m (acts.NewMultiArray i n) e = multi_none n (class_at m.constant_pool i)
+by_typing_rule m (acts.CheckCast i) e = cast_none (class_at m.constant_pool i)
+by_typing_rule m (acts.InstanceOf i) e = instance_none (class_at m.constant_pool i)
+by_typing_rule m acts.Throw e = refl
+by_typing_rule m acts.Monitor e = refl
+by_typing_rule m acts.Unsupported e = refl
 
-pub locals_kept : (m : Method Act) (at : ℕ) (a : Act) (f : FrameFact) → keeps_locals a ≡ true → (after m at (plan m a) f).locals ≡ f.locals
-locals_kept m at a f e = changed_none m at (plan m a) f (by_plan m a e)
+pub locals_kept : (m : Method Act) (at : ℕ) (a : Act) (f : FrameFact) → keeps_locals a ≡ true → (after m at (typing_rule m a) f).locals ≡ f.locals
+locals_kept m at a f e = changed_none m at (typing_rule m a) f (by_typing_rule m a e)
 
 -- ---- stores
 
 -- an instruction that stores to a local leaves the frame with the top of the stack stored there
-pub stored_by : (m : Method Act) (at : ℕ) (a : Act) (f : FrameFact) (n : ℕ) → stored_to a ≡ Some n → after m at (plan m a) f ≡ stored n f
+pub stored_by : (m : Method Act) (at : ℕ) (a : Act) (f : FrameFact) (n : ℕ) → stored_to a ≡ Some n → after m at (typing_rule m a) f ≡ stored n f
 stored_by m at acts.Nothing f n e = cc
 stored_by m at (acts.Constant kind) f n e = cc
 stored_by m at acts.ConstantNull f n e = cc

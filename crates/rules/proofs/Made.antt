@@ -18,21 +18,21 @@ use Rattle.rules.specs.Constants.{new_object, invoke_special, constructor_call, 
 use Rattle.rules.specs.After.{top_of}
 use Rattle.rules.specs.Rules.{constructs_own}
 use Rattle.rules.specs.Views.{stack_of}
-use Rattle.rules.specs.Plans.{Want, want_of, arguments_on, class_want, result_types, Plan, pops, loads, stores, counts, rearranges, loads_element, makes, constructs, calls_special, returns, refuses, where_allowed}
-use Rattle.rules.specs.Table.{plan, class_made, made_by}
+use Rattle.rules.specs.TypingRules.{ExpectedType, expected_of, arguments_on, expected_class, result_types, TypingRule, pops, loads, stores, counts, rearranges, loads_element, makes, constructs, calls_special, returns, refuses, where_allowed}
+use Rattle.rules.specs.Table.{typing_rule, class_made, made_by}
 use Rattle.rules.specs.Ways.{keeps_locals, special_index}
-use Rattle.rules.proofs.Keeping.{changes_none, by_plan}
+use Rattle.rules.proofs.Keeping.{changes_none, by_typing_rule}
 
-no_class : (p : Plan) → changes_none p ≡ true → None ≡ class_made p
-no_class (pops wants gives offsets on) e = refl
-no_class (loads want n width) e = refl
-no_class (stores want n width) e = refl
+no_class : (p : TypingRule) → changes_none p ≡ true → None ≡ class_made p
+no_class (pops expected_types gives offsets on) e = refl
+no_class (loads expected n width) e = refl
+no_class (stores expected n width) e = refl
 no_class (counts n) e = refl
 no_class (rearranges forms) e = refl
 no_class loads_element e = refl
 no_class (makes name) e = cc
-no_class (constructs name wants) e = refl
-no_class (calls_special type wants gives) e = refl
+no_class (constructs name expected_types) e = refl
+no_class (calls_special type expected_types gives) e = refl
 no_class returns e = refl
 no_class (refuses n) e = refl
 
@@ -41,7 +41,7 @@ object_class None = refl
 object_class (Some (class_type name)) = refl
 object_class (Some (array_type component)) = refl
 
-allowed : (b : Bool) (p : Plan) → None ≡ class_made p → None ≡ class_made (where_allowed b p)
+allowed : (b : Bool) (p : TypingRule) → None ≡ class_made p → None ≡ class_made (where_allowed b p)
 allowed true p e = e
 allowed false p e = refl
 
@@ -49,7 +49,7 @@ constructor_class : (c : MethodConstant) (t : ReferenceType) → None ≡ class_
 constructor_class c (class_type name) = allowed (not c.interface && has_room_for_receiver c) _ refl
 constructor_class c (array_type component) = refl
 
-either : (b : Bool) (p q : Plan) → None ≡ class_made p → None ≡ class_made q → None ≡ class_made (if b then p else q)
+either : (b : Bool) (p q : TypingRule) → None ≡ class_made p → None ≡ class_made q → None ≡ class_made (if b then p else q)
 either true p q e f = e
 either false p q e f = f
 
@@ -64,8 +64,8 @@ abbrev pub class_of_index : Method Act → Option ℕ → Option (List ℕ)
 class_of_index m None = None
 class_of_index m (Some i) = class_named (class_at m.constant_pool i)
 
-plain : (m : Method Act) (a : Act) → keeps_locals a ≡ true → None ≡ class_made (plan m a)
-plain m a e = no_class (plan m a) (by_plan m a e)
+plain : (m : Method Act) (a : Act) → keeps_locals a ≡ true → None ≡ class_made (typing_rule m a)
+plain m a e = no_class (typing_rule m a) (by_typing_rule m a e)
 
 pub index_made : (m : Method Act) (o : Option Act) → class_of_index m (new_index o) ≡ made_by m o
 index_made m None = refl
@@ -116,21 +116,21 @@ index_made m (Some acts.Unsupported) = plain m acts.Unsupported refl
 
 -- ---- constructors called on the own object
 
-no_call : (p : Plan) (f : FrameFact) → changes_none p ≡ true → constructs_own p f ≡ false
-no_call (pops wants gives offsets on) f e = refl
-no_call (loads want n width) f e = refl
-no_call (stores want n width) f e = cc
+no_call : (p : TypingRule) (f : FrameFact) → changes_none p ≡ true → constructs_own p f ≡ false
+no_call (pops expected_types gives offsets on) f e = refl
+no_call (loads expected n width) f e = refl
+no_call (stores expected n width) f e = cc
 no_call (counts n) f e = refl
 no_call (rearranges forms) f e = refl
 no_call loads_element f e = refl
 no_call (makes name) f e = cc
-no_call (constructs name wants) f e = cc
-no_call (calls_special type wants gives) f e = refl
+no_call (constructs name expected_types) f e = cc
+no_call (calls_special type expected_types gives) f e = refl
 no_call returns f e = refl
 no_call (refuses n) f e = refl
 
-pub never : (m : Method Act) (a : Act) (f : FrameFact) → keeps_locals a ≡ true → constructs_own (plan m a) f ≡ false
-never m a f e = no_call (plan m a) f (by_plan m a e)
+pub never : (m : Method Act) (a : Act) (f : FrameFact) → keeps_locals a ≡ true → constructs_own (typing_rule m a) f ≡ false
+never m a f e = no_call (typing_rule m a) f (by_typing_rule m a e)
 
 never_new : (f : FrameFact) (t : Option ReferenceType) → constructs_own (new_object t) f ≡ false
 never_new f None = refl
@@ -142,7 +142,7 @@ abbrev pub own_of_index : Method Act → FrameFact → Option ℕ → Bool
 own_of_index m f None = false
 own_of_index m f (Some i) = constructs_own (invoke_special m.major_version m.class (method_at m.constant_pool i)) f
 
-pub own_by_index : (m : Method Act) (a : Act) (f : FrameFact) → constructs_own (plan m a) f ≡ own_of_index m f (special_index a)
+pub own_by_index : (m : Method Act) (a : Act) (f : FrameFact) → constructs_own (typing_rule m a) f ≡ own_of_index m f (special_index a)
 own_by_index m acts.Nothing f = never m acts.Nothing f refl
 own_by_index m (acts.Constant kind) f = never m (acts.Constant kind) f refl
 own_by_index m acts.ConstantNull f = never m acts.ConstantNull f refl
@@ -190,11 +190,11 @@ own_by_index m acts.Unsupported f = never m acts.Unsupported f refl
 
 -- a method that is named, if it is there
 module _ (m : Method Act) (f : FrameFact) where
-  allowed_own : (b : Bool) (name : List ℕ) (ws : List Want) → constructs_own (where_allowed b (constructs name ws)) f ≡ (b && constructs_own (constructs name ws) f)
+  allowed_own : (b : Bool) (name : List ℕ) (ws : List ExpectedType) → constructs_own (where_allowed b (constructs name ws)) f ≡ (b && constructs_own (constructs name ws) f)
   allowed_own true name ws = refl
   allowed_own false name ws = refl
 
-  allowed_never : (b : Bool) (type : ReferenceType) (ws : List Want) (gs : List VerificationType) → constructs_own (where_allowed b (calls_special type ws gs)) f ≡ false
+  allowed_never : (b : Bool) (type : ReferenceType) (ws : List ExpectedType) (gs : List VerificationType) → constructs_own (where_allowed b (calls_special type ws gs)) f ≡ false
   allowed_never true type ws gs = refl
   allowed_never false type ws gs = refl
 
@@ -202,7 +202,7 @@ module _ (m : Method Act) (f : FrameFact) where
   by_class c (class_type name) = allowed_own (not c.interface && has_room_for_receiver c) name (arguments_on c.type.params [])
   by_class c (array_type component) = refl
 
-  by_name : (b : Bool) (p q : Plan) (x y : Bool) → constructs_own p f ≡ (x && y) → constructs_own q f ≡ false → constructs_own (if b then p else q) f ≡ ((b && x) && y)
+  by_name : (b : Bool) (p q : TypingRule) (x y : Bool) → constructs_own p f ≡ (x && y) → constructs_own q f ≡ false → constructs_own (if b then p else q) f ≡ ((b && x) && y)
   by_name true p q x y e g = e
   by_name false p q x y e g = g
 
@@ -212,7 +212,7 @@ module _ (m : Method Act) (f : FrameFact) where
   own_of c =
       by_name (is_init_name c) (constructor_call c c.class) (special_call m.major_version m.class c) (is_class_type c.class && (not c.interface && has_room_for_receiver c)) _
       (by_class c c.class)
-      (allowed_never (is_class_type c.class && (has_room_for_receiver c && may_name m.major_version c.interface)) c.class (arguments_on c.type.params (class_want m.class ∷ [])) (result_types c.type.result))
+      (allowed_never (is_class_type c.class && (has_room_for_receiver c && may_name m.major_version c.interface)) c.class (arguments_on c.type.params (expected_class m.class ∷ [])) (result_types c.type.result))
 
 -- ---- an item beneath arguments
 
@@ -225,9 +225,9 @@ beneath_drops [] ts = drop_none ts
 beneath_drops (w ∷ ws) [] = refl
 beneath_drops (w ∷ ws) (t ∷ ts) = beneath_drops ws ts
 
-pub count_on : (ts : List FieldDescriptor) (ws : List Want) → length (arguments_on ts ws) ≡ length ts + length ws
+pub count_on : (ts : List FieldDescriptor) (ws : List ExpectedType) → length (arguments_on ts ws) ≡ length ts + length ws
 count_on [] ws = omega arith
-count_on (t ∷ ts) ws = omega (arith, count_on ts (want_of t ∷ ws))
+count_on (t ∷ ts) ws = omega (arith, count_on ts (expected_of t ∷ ws))
 
 pub beneath_arguments : (ts : List FieldDescriptor) (n : ℕ) (stack : List VerificationType) → n ≡ length ts → drop n stack ≡ beneath (arguments_on ts []) stack
 beneath_arguments ts n stack e =

@@ -19,7 +19,7 @@ use Rattle.frames.specs.Slots.{units_of}
 use Rattle.frames.specs.Conditions.{Reason as Refusing, reason, Conditions, least, is_no, missing_if}
 use Rattle.rules.specs.declared.reason.Reason.{Reason}
 use Rattle.rules.specs.declared.reason.Reason.TheVariants.{OutOfMemory}
-use Rattle.rules.specs.Plans.{Want, pops, loads, stores, rearranges, refuses, Plan, where_judged, where_allowed, where_bootstrapped}
+use Rattle.rules.specs.TypingRules.{ExpectedType, pops, loads, stores, rearranges, refuses, TypingRule, where_judged, where_allowed, where_bootstrapped}
 use Rattle.rules.specs.Table.{return_nothing}
 use Rattle.rules.specs.After.{or_top, local_of, after, with_stack, top_of, rest_of, stored, stored_type, form_for, rearranged_by}
 use Rattle.rules.specs.Rules.{is_short, operands, accepts, is_outside, gives_frame, is_too_wide, conditions}
@@ -69,7 +69,7 @@ parts_settled false yes w e n = refl
 parts_settled false no w e n = absurd (n refl)
 parts_settled false (missing m) w e n = refl
 
-module _ (cs : List ClassFact) (m : Method Act) (ws : List Want) (gs : List VerificationType) (f : FrameFact) where
+module _ (cs : List ClassFact) (m : Method Act) (ws : List ExpectedType) (gs : List VerificationType) (f : FrameFact) where
   abbrev wide : Bool
   wide = is_too_wide m (after m 0 (pops ws gs [] true) f)
 
@@ -123,7 +123,7 @@ pub is_less : (a b : ℕ) → a < b → nat_lt a b ≡ true
 is_less a b lt = grind (arith, nat_tests)
 
 -- a load
-module _ (cs : List ClassFact) (m : Method Act) (w : Want) (n k : ℕ) (f : FrameFact) where
+module _ (cs : List ClassFact) (m : Method Act) (w : ExpectedType) (n k : ℕ) (f : FrameFact) where
   pub load_out : is_outside m n k ≡ true → least (conditions cs m 0 (loads w n k) f) ≡ Some (reason 64)
   load_out o = local_out (is_outside m n k) (accepts cs w (local_of n f)) (is_too_wide m (after m 0 (loads w n k) f)) o
 
@@ -140,7 +140,7 @@ module _ (cs : List ClassFact) (m : Method Act) (w : Want) (n k : ℕ) (f : Fram
 
 -- ---- the same on a frame that operands were taken off
 
-module _ (cs : List ClassFact) (m : Method Act) (ws : List Want) (gs : List VerificationType) (f : FrameFact) where
+module _ (cs : List ClassFact) (m : Method Act) (ws : List ExpectedType) (gs : List VerificationType) (f : FrameFact) where
   took : (a : Outcome) (g : FrameFact) → TookOff cs ws f a g → Took cs ws f.stack a (beneath ws f.stack)
   took a g t = record { enough = t.enough; answer_is = t.answer_is; left_is = refl }
 
@@ -185,7 +185,7 @@ store_settled false false yes w e q n = refl
 store_settled false false no w e q n = absurd (n refl)
 store_settled false false (missing m) w e q n = refl
 
-module _ (cs : List ClassFact) (m : Method Act) (w : Want) (n k : ℕ) (f : FrameFact) where
+module _ (cs : List ClassFact) (m : Method Act) (w : ExpectedType) (n k : ℕ) (f : FrameFact) where
   abbrev wide_then : Bool
   wide_then = is_too_wide m (stored n f)
 
@@ -218,7 +218,7 @@ module _ (cs : List ClassFact) (m : Method Act) (w : Want) (n k : ℕ) (f : Fram
         ∙ ap (λ z. least (settled m z g)) (answer ∙ sym ac))
         (ap (λ z. record { locals = z; stack = rest_of f.stack; flag = f.flag }) locals_is ∙ ap (λ z. record { locals = locals; stack = z; flag = f.flag }) stack_is) d
 
-module _ (cs : List ClassFact) (m : Method Act) (w : Want) (n k : ℕ) (f g : FrameFact) (t : VerificationType) (e : f ≡ pushed (t ∷ []) g) where
+module _ (cs : List ClassFact) (m : Method Act) (w : ExpectedType) (n k : ℕ) (f g : FrameFact) (t : VerificationType) (e : f ≡ pushed (t ∷ []) g) where
   pub store_off_no : accepts cs w t ≡ no → least (conditions cs m 0 (stores w n k) f) ≡ Some (reason 62)
   store_off_no a = stores_no cs m w n k f t g.stack (ap (λ (z : FrameFact). z.stack) e) a
 
@@ -270,26 +270,26 @@ module _ (cs : List ClassFact) (m : Method Act) (forms : List StackForm) (f : Fr
 
 -- ---- a return without a value, at any offset
 
-pub returned : (m : Method Act) (at : ℕ) (p : Plan) (cs : List ClassFact) (f now : FrameFact) (r : Result Unit Reason) → p ≡ return_nothing m.type.result → Done (conditions cs m 0 (return_nothing m.type.result) f) (after m 0 (return_nothing m.type.result) f) now r → Done (conditions cs m at p f) (after m at p f) now r
+pub returned : (m : Method Act) (at : ℕ) (p : TypingRule) (cs : List ClassFact) (f now : FrameFact) (r : Result Unit Reason) → p ≡ return_nothing m.type.result → Done (conditions cs m 0 (return_nothing m.type.result) f) (after m 0 (return_nothing m.type.result) f) now r → Done (conditions cs m at p f) (after m at p f) now r
 returned m at p cs f now r e d = subst (λ q. Done (conditions cs m at q f) (after m at q f) now r) (sym e) (at_offset m.type.result d)
   where
     at_offset : (t : Option FieldDescriptor) → Done (conditions cs m 0 (return_nothing t) f) (after m 0 (return_nothing t) f) now r → Done (conditions cs m at (return_nothing t) f) (after m at (return_nothing t) f) now r
     at_offset None d = d
     at_offset (Some t) d = d
 
--- ---- by a plan that is found
+-- ---- by a typing rule that is found
 
-pub by_plan : (m : Method Act) (at : ℕ) (p q : Plan) (cs : List ClassFact) (f now : FrameFact) (r : Result Unit Reason) → p ≡ q → Done (conditions cs m at q f) (after m at q f) now r → Done (conditions cs m at p f) (after m at p f) now r
-by_plan m at p q cs f now r e d = subst (λ z. Done (conditions cs m at z f) (after m at z f) now r) (sym e) d
+pub by_typing_rule : (m : Method Act) (at : ℕ) (p q : TypingRule) (cs : List ClassFact) (f now : FrameFact) (r : Result Unit Reason) → p ≡ q → Done (conditions cs m at q f) (after m at q f) now r → Done (conditions cs m at p f) (after m at p f) now r
+by_typing_rule m at p q cs f now r e d = subst (λ z. Done (conditions cs m at z f) (after m at z f) now r) (sym e) d
 
--- where the plan is allowed
-pub by_allowed : (m : Method Act) (at : ℕ) (p : Plan) (b : Bool) (q : Plan) (cs : List ClassFact) (f now : FrameFact) (r : Result Unit Reason) → p ≡ where_allowed b q → b ≡ true → Done (conditions cs m at q f) (after m at q f) now r → Done (conditions cs m at p f) (after m at p f) now r
-by_allowed m at p b q cs f now r e t d = by_plan m at p q cs f now r (e ∙ cond-true b q (refuses 66) t) d
+-- where the typing rule is allowed
+pub by_allowed : (m : Method Act) (at : ℕ) (p : TypingRule) (b : Bool) (q : TypingRule) (cs : List ClassFact) (f now : FrameFact) (r : Result Unit Reason) → p ≡ where_allowed b q → b ≡ true → Done (conditions cs m at q f) (after m at q f) now r → Done (conditions cs m at p f) (after m at p f) now r
+by_allowed m at p b q cs f now r e t d = by_typing_rule m at p q cs f now r (e ∙ cond-true b q (refuses 66) t) d
 
 -- where the instruction is judged
-pub by_judged : (m : Method Act) (at : ℕ) (p : Plan) (b : Bool) (q : Plan) (cs : List ClassFact) (f now : FrameFact) (r : Result Unit Reason) → p ≡ where_judged b q → b ≡ true → Done (conditions cs m at q f) (after m at q f) now r → Done (conditions cs m at p f) (after m at p f) now r
-by_judged m at p b q cs f now r e t d = by_plan m at p q cs f now r (e ∙ cond-true b q (refuses 60) t) d
+pub by_judged : (m : Method Act) (at : ℕ) (p : TypingRule) (b : Bool) (q : TypingRule) (cs : List ClassFact) (f now : FrameFact) (r : Result Unit Reason) → p ≡ where_judged b q → b ≡ true → Done (conditions cs m at q f) (after m at q f) now r → Done (conditions cs m at p f) (after m at p f) now r
+by_judged m at p b q cs f now r e t d = by_typing_rule m at p q cs f now r (e ∙ cond-true b q (refuses 60) t) d
 
 -- where the constant has a bootstrap method that may be used
-pub by_bootstrapped : (m : Method Act) (at : ℕ) (p : Plan) (b : Bool) (q : Plan) (cs : List ClassFact) (f now : FrameFact) (r : Result Unit Reason) → p ≡ where_bootstrapped b q → b ≡ true → Done (conditions cs m at q f) (after m at q f) now r → Done (conditions cs m at p f) (after m at p f) now r
-by_bootstrapped m at p b q cs f now r e t d = by_plan m at p q cs f now r (e ∙ cond-true b q (refuses 90) t) d
+pub by_bootstrapped : (m : Method Act) (at : ℕ) (p : TypingRule) (b : Bool) (q : TypingRule) (cs : List ClassFact) (f now : FrameFact) (r : Result Unit Reason) → p ≡ where_bootstrapped b q → b ≡ true → Done (conditions cs m at q f) (after m at q f) now r → Done (conditions cs m at p f) (after m at p f) now r
+by_bootstrapped m at p b q cs f now r e t d = by_typing_rule m at p q cs f now r (e ∙ cond-true b q (refuses 90) t) d

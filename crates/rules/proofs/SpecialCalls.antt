@@ -12,7 +12,7 @@ use Rattle.frames.specs.FrameAssignable.{both}
 use Rattle.frames.specs.Slots.{to_reference}
 use Rattle.frames.specs.Conditions.{reason, Conditions, least, is_no, missing_if}
 use Rattle.rules.specs.declared.reason.Reason.{Reason}
-use Rattle.rules.specs.Plans.{Want, calls_special}
+use Rattle.rules.specs.TypingRules.{ExpectedType, calls_special}
 use Rattle.rules.specs.After.{after}
 use Rattle.rules.specs.Rules.{is_short, operands, is_too_wide, conditions}
 use Rattle.rules.specs.Outcomes.{Done, TookOff, pushed, settled}
@@ -58,7 +58,7 @@ parts_settled yes false (missing y) w n e f = refl
 parts_settled (missing x) false yes w n e f = refl
 parts_settled (missing x) false (missing y) w n e f = refl
 
-module _ (cs : List ClassFact) (m : Method Act) (at : ℕ) (type : ReferenceType) (ws : List Want) (gs : List VerificationType) (f : FrameFact) where
+module _ (cs : List ClassFact) (m : Method Act) (at : ℕ) (type : ReferenceType) (ws : List ExpectedType) (gs : List VerificationType) (f : FrameFact) where
   abbrev all : Conditions
   all = conditions cs m at (calls_special type ws gs) f
 

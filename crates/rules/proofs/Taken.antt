@@ -24,9 +24,9 @@ use Rattle.frames.specs.VerificationType.{VerificationType, top, class, array, u
 use Rattle.frames.specs.Slots.{descriptor_type, to_reference}
 use Rattle.frames.specs.FrameFact.{FrameFact}
 use Rattle.frames.specs.Objects.{is_initialized}
-use Rattle.rules.specs.Plans.{Want, Plan, pops, loads, stores, counts, rearranges, loads_element, makes, constructs, calls_special, returns, refuses, where_judged, where_allowed, where_bootstrapped, call_of, gives, class_want, assignable_to, result_types, arguments_on, sizes, number, numbers}
+use Rattle.rules.specs.TypingRules.{ExpectedType, TypingRule, pops, loads, stores, counts, rearranges, loads_element, makes, constructs, calls_special, returns, refuses, where_judged, where_allowed, where_bootstrapped, call_of, gives, expected_class, assignable_to, result_types, arguments_on, sizes, number, numbers}
 use Rattle.rules.specs.Constants.{is_bootstrapped, load_constant, load_wide_constant, load_dynamic, get_static, put_static, get_field, put_field, invoke_static, invoke_virtual, invoke_interface, invoke_special, invoke_dynamic, dynamic_call, is_special_name, may_invoke_interface, may_name, is_init_name, has_room_for_receiver, constructor_call, special_call, static_call, call_on, new_object, new_array, new_reference_array, new_multi_array, check_cast, instance_of}
-use Rattle.rules.specs.Table.{plan, return_number, return_reference, return_nothing, leaves_with}
+use Rattle.rules.specs.Table.{typing_rule, return_number, return_reference, return_nothing, leaves_with}
 use Rattle.rules.specs.After.{after, top_of, rest_of, form_for, fits_places, initialized, class_after, rearranged_by, element_of, local_of}
 use Rattle.rules.specs.Naming.{method_index, site_index}
 use Rattle.rules.specs.Ways.{is_plain, special_index}
@@ -96,60 +96,60 @@ by_forms (form ∷ forms) s r i lt same =
     chosen_by true x y = x
     chosen_by false x y = y
 
--- ---- a plan
+-- ---- a typing rule
 
 initialized_not : (object : VerificationType) (name : List ℕ) (t : VerificationType) → is_initialized object t ≡ false → initialized object name t ≡ t
 initialized_not object name t e = ap (λ b. if b then class name else t) e
 
 module _ (m : Method Act) (at : ℕ) (f : FrameFact) where
-  pub keeps_item : (p : Plan) (i : ℕ) → i + taken p < length f.stack → IsOther p f i → item (after m at p f).stack i ≡ item f.stack i
-  keeps_item (pops wants gives offsets on) i lt o = replaced_under gives wants f.stack i lt
-  keeps_item (loads want n width) i lt o = pushed_on (local_of n f ∷ []) f.stack i (omega (arith, lt))
-  keeps_item (stores want n width) i lt o = rest_under f.stack i lt
+  pub keeps_item : (p : TypingRule) (i : ℕ) → i + taken p < length f.stack → IsOther p f i → item (after m at p f).stack i ≡ item f.stack i
+  keeps_item (pops expected_types gives offsets on) i lt o = replaced_under gives expected_types f.stack i lt
+  keeps_item (loads expected n width) i lt o = pushed_on (local_of n f ∷ []) f.stack i (omega (arith, lt))
+  keeps_item (stores expected n width) i lt o = rest_under f.stack i lt
   keeps_item (counts n) i lt o = refl
   keeps_item (rearranges forms) i lt o = by_forms forms f.stack f.stack i lt refl
   keeps_item loads_element i lt o =
       pushed_on (element_of (top_of (rest_of f.stack)) ∷ []) (rest_of (rest_of f.stack)) i (omega (arith, lt, rest_length f.stack, rest_length (rest_of f.stack)))
       ∙ rest_under (rest_of f.stack) i (omega (arith, lt, rest_length f.stack)) ∙ rest_under f.stack i (omega (arith, lt))
   keeps_item (makes name) i lt o = pushed_on (uninit at ∷ []) f.stack i (omega (arith, lt))
-  keeps_item (constructs name wants) i lt other =
-      let receiver = top_of (beneath wants f.stack) in
-      let left = rest_of (beneath wants f.stack) in
+  keeps_item (constructs name expected_types) i lt other =
+      let receiver = top_of (beneath expected_types f.stack) in
+      let left = rest_of (beneath expected_types f.stack) in
       let change = initialized receiver (class_after m name receiver) in
-      let lies : item left i ≡ item f.stack i = rest_under (beneath wants f.stack) i (omega (arith, lt, length_under wants f.stack)) ∙ under wants f.stack i (omega (arith, lt)) in
-      mapped change left i (omega (arith, lt, rest_length (beneath wants f.stack), length_under wants f.stack))
+      let lies : item left i ≡ item f.stack i = rest_under (beneath expected_types f.stack) i (omega (arith, lt, length_under expected_types f.stack)) ∙ under expected_types f.stack i (omega (arith, lt)) in
+      mapped change left i (omega (arith, lt, rest_length (beneath expected_types f.stack), length_under expected_types f.stack))
       ∙ ap change lies ∙ initialized_not receiver (class_after m name receiver) (item f.stack i) other
-  keeps_item (calls_special type wants gives) i lt o = replaced_under gives wants f.stack i lt
+  keeps_item (calls_special type expected_types gives) i lt o = replaced_under gives expected_types f.stack i lt
   keeps_item returns i lt o = refl
   keeps_item (refuses n) i lt o = refl
 
 -- ---- an instruction
 
-abbrev constructs_nothing : Plan → Bool
-constructs_nothing (constructs name wants) = false
+abbrev constructs_nothing : TypingRule → Bool
+constructs_nothing (constructs name expected_types) = false
 constructs_nothing _ = true
 
-is_other : (p : Plan) (f : FrameFact) (i : ℕ) → constructs_nothing p ≡ true → IsOther p f i
-is_other (constructs name wants) f i e = absurd cc
+is_other : (p : TypingRule) (f : FrameFact) (i : ℕ) → constructs_nothing p ≡ true → IsOther p f i
+is_other (constructs name expected_types) f i e = absurd cc
 is_other p f i e = tt
 
--- a plan takes at most so many, and calls no constructor
-abbrev Takes : ℕ → Plan → Type 0
+-- a typing rule takes at most so many, and calls no constructor
+abbrev Takes : ℕ → TypingRule → Type 0
 Takes n p = (taken p ≤ n) × (constructs_nothing p ≡ true)
 
-allowed : (n : ℕ) (b : Bool) (p : Plan) → Takes n p → Takes n (where_allowed b p)
+allowed : (n : ℕ) (b : Bool) (p : TypingRule) → Takes n p → Takes n (where_allowed b p)
 allowed n true p t = t
 allowed n false p t = (omega arith, refl)
 
-judged : (n : ℕ) (b : Bool) (p : Plan) → Takes n p → Takes n (where_judged b p)
+judged : (n : ℕ) (b : Bool) (p : TypingRule) → Takes n p → Takes n (where_judged b p)
 judged n true p t = t
 judged n false p t = (omega arith, refl)
 
-either : (n : ℕ) (b : Bool) (p q : Plan) → Takes n p → Takes n q → Takes n (if b then p else q)
+either : (n : ℕ) (b : Bool) (p q : TypingRule) → Takes n p → Takes n q → Takes n (if b then p else q)
 either n true p q x y = x
 either n false p q x y = y
 
-bootstrapped : (n : ℕ) (b : Bool) (p : Plan) → Takes n p → Takes n (where_bootstrapped b p)
+bootstrapped : (n : ℕ) (b : Bool) (p : TypingRule) → Takes n p → Takes n (where_bootstrapped b p)
 bootstrapped n true p t = t
 bootstrapped n false p t = (omega arith, refl)
 
@@ -242,7 +242,7 @@ made_many : (n : ℕ) (o : Option ReferenceType) → Takes n (new_multi_array n 
 made_many n None = (omega arith, refl)
 made_many n (Some t) = allowed n (nat_lt 0 n && not (nat_lt (dimensions_of t) n)) (pops (sizes n) (to_reference t ∷ []) [] true) (omega (arith, as_many_sizes n), refl)
 
-on_receiver : (c : MethodConstant) (w : Want) → length (arguments_on c.type.params (w ∷ [])) ≤ length c.type.params + 1
+on_receiver : (c : MethodConstant) (w : ExpectedType) → length (arguments_on c.type.params (w ∷ [])) ≤ length c.type.params + 1
 on_receiver c w = omega (arith, count_on c.type.params (w ∷ []))
 
 on_nothing : (c : MethodConstant) → length (arguments_on c.type.params []) ≤ length c.type.params
@@ -260,7 +260,7 @@ called_by_interface : (count : ℕ) (o : Option MethodConstant) → Takes (with_
 called_by_interface count None = (omega arith, refl)
 called_by_interface count (Some c) = allowed (length c.type.params + 1) (may_invoke_interface count c) (call_on c.class c) (on_receiver c (assignable_to c.class), refl)
 
-called_allowed : (n : ℕ) (b : Bool) (p : Plan) → taken p ≤ n → taken (where_allowed b p) ≤ n
+called_allowed : (n : ℕ) (b : Bool) (p : TypingRule) → taken p ≤ n → taken (where_allowed b p) ≤ n
 called_allowed n true p le = le
 called_allowed n false p le = omega arith
 
@@ -268,7 +268,7 @@ constructed_by : (c : MethodConstant) (t : ReferenceType) → taken (constructor
 constructed_by c (class_type name) = called_allowed (length c.type.params + 1) (not c.interface && has_room_for_receiver c) (constructs name (arguments_on c.type.params [])) (omega (arith, on_nothing c))
 constructed_by c (array_type component) = omega arith
 
-by_name : (n : ℕ) (b : Bool) (p q : Plan) → taken p ≤ n → taken q ≤ n → taken (if b then p else q) ≤ n
+by_name : (n : ℕ) (b : Bool) (p q : TypingRule) → taken p ≤ n → taken q ≤ n → taken (if b then p else q) ≤ n
 by_name n true p q x y = x
 by_name n false p q x y = y
 
@@ -276,7 +276,7 @@ called_specially : (major : ℕ) (me : List ℕ) (o : Option MethodConstant) →
 called_specially major me None = omega arith
 called_specially major me (Some c) =
     by_name (length c.type.params + 1) (is_init_name c) (constructor_call c c.class) (special_call major me c) (constructed_by c c.class)
-    (called_allowed (length c.type.params + 1) (is_class_type c.class && (has_room_for_receiver c && may_name major c.interface)) (calls_special c.class (arguments_on c.type.params (class_want me ∷ [])) (result_types c.type.result)) (on_receiver c (class_want me)))
+    (called_allowed (length c.type.params + 1) (is_class_type c.class && (has_room_for_receiver c && may_name major c.interface)) (calls_special c.class (arguments_on c.type.params (expected_class me ∷ [])) (result_types c.type.result)) (on_receiver c (expected_class me)))
 
 called_dynamically : (m : Method Act) (b : Bool) (o : Option CallSite) → Takes (without_receiver o) (invoke_dynamic m b o)
 called_dynamically m b None = judged 0 m.dynamic (dynamic_call b None) (omega arith, refl)
@@ -288,7 +288,7 @@ called_dynamically m b (Some c) =
 abbrev pub most : Method Act → Act → ℕ
 most m a = at_most a (with_receiver (option_and_then (method_at m.constant_pool) (method_index a))) (without_receiver (option_and_then (call_site_at m.constant_pool) (site_index a)))
 
-takes : (m : Method Act) (a : Act) → special_index a ≡ None → Takes (most m a) (plan m a)
+takes : (m : Method Act) (a : Act) → special_index a ≡ None → Takes (most m a) (typing_rule m a)
 takes m (acts.LoadConstant i) e = loaded m (dynamic_type_at m.constant_pool i) (constant_at m.constant_pool i)
 takes m (acts.LoadWideConstant i) e = loaded_wide m (dynamic_type_at m.constant_pool i) (constant_at m.constant_pool i)
 takes m (acts.Numeric operator) e = (numeric_few operator, refl)
@@ -313,16 +313,16 @@ takes m (acts.CheckCast i) e = cast (class_at m.constant_pool i)
 takes m (acts.InstanceOf i) e = tested (class_at m.constant_pool i)
 takes m a e = (omega arith, refl)
 
-pub takes_at_most : (m : Method Act) (a : Act) → taken (plan m a) ≤ most m a
+pub takes_at_most : (m : Method Act) (a : Act) → taken (typing_rule m a) ≤ most m a
 takes_at_most m (acts.InvokeSpecial i) = called_specially m.major_version m.class (method_at m.constant_pool i)
 takes_at_most m a = (takes m a refl).0
 
 -- what calls no constructor leaves all items beneath
-pub others : (m : Method Act) (a : Act) (f : FrameFact) (i : ℕ) → special_index a ≡ None → IsOther (plan m a) f i
-others m a f i e = is_other (plan m a) f i (takes m a e).1
+pub others : (m : Method Act) (a : Act) (f : FrameFact) (i : ℕ) → special_index a ≡ None → IsOther (typing_rule m a) f i
+others m a f i e = is_other (typing_rule m a) f i (takes m a e).1
 
 -- a plain instruction names no method and no call site
-pub takes_plainly : (m : Method Act) (a : Act) → is_plain a ≡ true → taken (plan m a) ≤ 4
+pub takes_plainly : (m : Method Act) (a : Act) → is_plain a ≡ true → taken (typing_rule m a) ≤ 4
 takes_plainly m (acts.InvokeVirtual i) e = absurd cc
 takes_plainly m (acts.InvokeSpecial i) e = absurd cc
 takes_plainly m (acts.InvokeStatic i) e = absurd cc
@@ -338,19 +338,19 @@ plain_is_not_special a e = refl
 -- ---- the object of a constructor's call
 
 module _ (m : Method Act) (f : FrameFact) (i : ℕ) (object : VerificationType) (other : is_initialized object (item f.stack i) ≡ false) where
-  on_allowed : (b : Bool) (name : List ℕ) (wants : List Want) → object ≡ top_of (beneath wants f.stack) → IsOther (where_allowed b (constructs name wants)) f i
-  on_allowed true name wants e = subst (λ o. is_initialized o (item f.stack i) ≡ false) e other
-  on_allowed false name wants e = tt
+  on_allowed : (b : Bool) (name : List ℕ) (expected_types : List ExpectedType) → object ≡ top_of (beneath expected_types f.stack) → IsOther (where_allowed b (constructs name expected_types)) f i
+  on_allowed true name expected_types e = subst (λ o. is_initialized o (item f.stack i) ≡ false) e other
+  on_allowed false name expected_types e = tt
 
   by_class : (c : MethodConstant) (t : ReferenceType) → object ≡ top_of (beneath (arguments_on c.type.params []) f.stack) → IsOther (constructor_call c t) f i
   by_class c (class_type name) e = on_allowed (not c.interface && has_room_for_receiver c) name (arguments_on c.type.params []) e
   by_class c (array_type component) e = tt
 
-  not_constructed : (b : Bool) (t : ReferenceType) (wants : List Want) (gives : List VerificationType) → IsOther (where_allowed b (calls_special t wants gives)) f i
-  not_constructed true t wants gives = tt
-  not_constructed false t wants gives = tt
+  not_constructed : (b : Bool) (t : ReferenceType) (expected_types : List ExpectedType) (gives : List VerificationType) → IsOther (where_allowed b (calls_special t expected_types gives)) f i
+  not_constructed true t expected_types gives = tt
+  not_constructed false t expected_types gives = tt
 
-  either_other : (b : Bool) (p q : Plan) → IsOther p f i → IsOther q f i → IsOther (if b then p else q) f i
+  either_other : (b : Bool) (p q : TypingRule) → IsOther p f i → IsOther q f i → IsOther (if b then p else q) f i
   either_other true p q x y = x
   either_other false p q x y = y
 
@@ -358,8 +358,8 @@ module _ (m : Method Act) (f : FrameFact) (i : ℕ) (object : VerificationType) 
   other_special None e = tt
   other_special (Some c) e =
       either_other (is_init_name c) (constructor_call c c.class) (special_call m.major_version m.class c) (by_class c c.class e)
-      (not_constructed (is_class_type c.class && (has_room_for_receiver c && may_name m.major_version c.interface)) c.class (arguments_on c.type.params (class_want m.class ∷ [])) (result_types c.type.result))
+      (not_constructed (is_class_type c.class && (has_room_for_receiver c && may_name m.major_version c.interface)) c.class (arguments_on c.type.params (expected_class m.class ∷ [])) (result_types c.type.result))
 
-  pub other_by : (a : Act) (o : Option MethodConstant) → option_and_then (method_at m.constant_pool) (method_index a) ≡ o → IfSome o (λ c. object ≡ top_of (beneath (arguments_on c.type.params []) f.stack)) → IsOther (plan m a) f i
+  pub other_by : (a : Act) (o : Option MethodConstant) → option_and_then (method_at m.constant_pool) (method_index a) ≡ o → IfSome o (λ c. object ≡ top_of (beneath (arguments_on c.type.params []) f.stack)) → IsOther (typing_rule m a) f i
   other_by (acts.InvokeSpecial k) o same e = other_special (method_at m.constant_pool k) (subst (λ x. IfSome x (λ c. object ≡ top_of (beneath (arguments_on c.type.params []) f.stack))) (sym same) e)
   other_by a o same e = others m a f i refl

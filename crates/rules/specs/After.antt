@@ -11,15 +11,15 @@ use Rattle.frames.specs.VerificationType.{VerificationType, top, int, float, lon
 use Rattle.frames.specs.FrameFact.{FrameFact}
 use Rattle.frames.specs.Slots.{is_wide}
 use Rattle.frames.specs.Objects.{is_made_at, is_initialized}
-use Rattle.rules.specs.Plans.{Want, Plan, pops, loads, stores, counts, rearranges, loads_element, makes, constructs, calls_special, returns, refuses}
+use Rattle.rules.specs.TypingRules.{ExpectedType, TypingRule, pops, loads, stores, counts, rearranges, loads_element, makes, constructs, calls_special, returns, refuses}
 
 -- ---- the stack
 
 abbrev pub with_stack : FrameFact → List VerificationType → FrameFact
 with_stack f stack = record { locals = f.locals; stack = stack; flag = f.flag }
 
-abbrev pub popped : List Want → List VerificationType → FrameFact → FrameFact
-popped wants gives f = with_stack f (gives ++ beneath wants f.stack)
+abbrev pub popped : List ExpectedType → List VerificationType → FrameFact → FrameFact
+popped expected_types gives f = with_stack f (gives ++ beneath expected_types f.stack)
 
 -- an item that is not there counts as top, of which nothing is known
 abbrev pub top_of : List VerificationType → VerificationType
@@ -119,23 +119,28 @@ abbrev pub flag_after : VerificationType → Bool → Bool
 flag_after uninit_this flag = false
 flag_after _ flag = flag
 
-abbrev pub constructed : Method Act → List ℕ → List Want → FrameFact → FrameFact
-constructed m name wants f =
-    let receiver = top_of (beneath wants f.stack) in
+abbrev pub constructed : Method Act → List ℕ → List ExpectedType → FrameFact → FrameFact
+constructed m name expected_types f =
+    let receiver = top_of (beneath expected_types f.stack) in
     let change = initialized receiver (class_after m name receiver) in
-    record { locals = map change f.locals; stack = map change (rest_of (beneath wants f.stack)); flag = flag_after receiver f.flag }
+    record {
+      locals = map change f.locals;
+      stack = map change (rest_of (beneath expected_types f.stack));
+      flag =
+          flag_after receiver f.flag;
+    }
 
 -- ---- the frame after
 
-abbrev pub after : Method Act → ℕ → Plan → FrameFact → FrameFact
-after m at (pops wants gives offsets on) f = popped wants gives f
-after m at (loads want n width) f = loaded n f
-after m at (stores want n width) f = stored n f
+abbrev pub after : Method Act → ℕ → TypingRule → FrameFact → FrameFact
+after m at (pops expected_types gives offsets on) f = popped expected_types gives f
+after m at (loads expected n width) f = loaded n f
+after m at (stores expected n width) f = stored n f
 after m at (counts n) f = f
 after m at (rearranges forms) f = with_stack f (rearranged_by (form_for forms f.stack) f.stack)
 after m at loads_element f = with_stack f (element_of (top_of (rest_of f.stack)) ∷ rest_of (rest_of f.stack))
 after m at (makes name) f = record { locals = map (forgotten at) f.locals; stack = uninit at ∷ f.stack; flag = f.flag }
-after m at (constructs name wants) f = constructed m name wants f
-after m at (calls_special type wants gives) f = popped wants gives f
+after m at (constructs name expected_types) f = constructed m name expected_types f
+after m at (calls_special type expected_types gives) f = popped expected_types gives f
 after m at returns f = f
 after m at (refuses n) f = f

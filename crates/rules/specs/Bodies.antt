@@ -1,4 +1,5 @@
--- The method whose instructions are judged, as the program keeps it: what the class file says of it, with the instructions of its code.
+-- The method whose instructions are judged, as the program keeps it: what the class file says of it, with the
+-- instructions of its code.
 use Rattle.classfile.specs.Methods.{Method}
 use Rattle.classfile.specs.declared.code_method.CodeMethod.{CodeMethod}
 use Rattle.classfile.specs.CodeMethods.{code_method_view}

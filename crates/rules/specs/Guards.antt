@@ -30,7 +30,8 @@ own_name c = or_empty (class_named (class_at c.constant_pool c.this_class))
 -- the constant of this index is a field of a class, or a method of a class
 pub data IsReference (pool : List Entry) (index : ℕ) : MemberReference → Type 0 where
   field : (f : FieldConstant) → field_at pool index ≡ Some f → IsReference pool index (field_reference f)
-  method : (c : MethodConstant) (name : List ℕ) → method_at pool index ≡ Some c → c.interface ≡ false → c.class ≡ class_type name
+  method : (c : MethodConstant) (name : List ℕ) → method_at pool index ≡ Some c → c.interface ≡ false
+      → c.class ≡ class_type name
       → IsReference pool index (method_reference name c)
 
 -- ---- references by the entries of a pool
@@ -46,21 +47,25 @@ names_own c index = on_found (is_of c.this_class) (entry_at c.constant_pool inde
 
 -- the indices of the texts of a reference, by its Class and its NameAndType
 abbrev pub key_by : Kind → Option Entry → Option Entry → Option Key
-key_by kind (Some (Class class)) (Some (NameAndType name descriptor)) = Some (record { kind = kind; class = class; name = name; descriptor = descriptor })
+key_by kind (Some (Class class)) (Some (NameAndType name descriptor)) =
+    Some (record { kind = kind; class = class; name = name; descriptor = descriptor })
 key_by kind _ _ = None
 
 -- of another class than the class itself
 abbrev pub other_key : ClassFile → Kind → ℕ → ℕ → Option Key
 other_key c kind class name_and_type =
-    if nat_eq class c.this_class then None else key_by kind (constant_at c.constant_pool class) (constant_at c.constant_pool name_and_type)
+    if nat_eq class c.this_class then None
+    else key_by kind (constant_at c.constant_pool class) (constant_at c.constant_pool name_and_type)
 
 abbrev pub key_of : ClassFile → Entry → Option Key
 key_of c (Fieldref class name_and_type) = other_key c kinds.Field class name_and_type
 key_of c (Methodref class name_and_type) = other_key c kinds.Method class name_and_type
 key_of c _ = None
 
-abbrev pub with_texts : Kind → Result (List ℕ) PoolFault → Result (List ℕ) PoolFault → Result (List ℕ) PoolFault → Option MemberReference
-with_texts kind (Ok class) (Ok name) (Ok descriptor) = Some (record { class = class; kind = kind; name = name; descriptor = descriptor })
+abbrev pub with_texts : Kind → Result (List ℕ) PoolFault → Result (List ℕ) PoolFault → Result (List ℕ) PoolFault
+    → Option MemberReference
+with_texts kind (Ok class) (Ok name) (Ok descriptor) =
+    Some (record { class = class; kind = kind; name = name; descriptor = descriptor })
 with_texts kind _ _ _ = None
 
 abbrev pub read_key : List Entry → Key → Option MemberReference
@@ -86,18 +91,22 @@ pub record IsPlaced {A : Type 0} (places : List ℕ) (kept : List A) (place : �
 pub record AreKeyed (pool : List Entry) (rs : References) : Type 0 where
   pub together : length rs.keys.items ≡ length rs.references.items
   pub each : (number : ℕ) (k : Key) → slice_get rs.keys.items number ≡ Some k
-      → (r : MemberReference) × (read_key pool k ≡ Some r) × (slice_get (map reference_of rs.references.items) number ≡ Some r)
+      → (r : MemberReference) × (read_key pool k ≡ Some r)
+      × (slice_get (map reference_of rs.references.items) number ≡ Some r)
 
 -- a reference is among them at this number, and those that were there are so at theirs
 pub record Numbers (pool : List Entry) (old now : References) (r : MemberReference) (number : ℕ) : Type 0 where
   pub here : slice_get (map reference_of now.references.items) number ≡ Some r
-  pub kept : (n : ℕ) (x : MemberReference) → slice_get (map reference_of old.references.items) n ≡ Some x → slice_get (map reference_of now.references.items) n ≡ Some x
+  pub kept : (n : ℕ) (x : MemberReference) → slice_get (map reference_of old.references.items) n ≡ Some x
+      → slice_get (map reference_of now.references.items) n ≡ Some x
   pub keyed : AreKeyed pool now
 
 -- the same of the reference to which an entry leads, if it leads to one
 pub record Reads (c : ClassFile) (e : Entry) (old now : References) (number : ℕ) : Type 0 where
-  pub here : (r : MemberReference) → read_entry c e ≡ Some r → slice_get (map reference_of now.references.items) number ≡ Some r
-  pub kept : (n : ℕ) (x : MemberReference) → slice_get (map reference_of old.references.items) n ≡ Some x → slice_get (map reference_of now.references.items) n ≡ Some x
+  pub here : (r : MemberReference) → read_entry c e ≡ Some r
+      → slice_get (map reference_of now.references.items) number ≡ Some r
+  pub kept : (n : ℕ) (x : MemberReference) → slice_get (map reference_of old.references.items) n ≡ Some x
+      → slice_get (map reference_of now.references.items) n ≡ Some x
   pub keyed : AreKeyed c.constant_pool now
 
 -- the references to which these entries, the first ones of the pool, lead
@@ -107,7 +116,8 @@ pub record AreRead (c : ClassFile) (entries : List Entry) (places : List ℕ) (r
       → IsPlaced places (map reference_of references) place r
 
 pub record AreGuards (classes : List ClassFact) (c : ClassFile) (g : Guards) : Type 0 where
-  pub each : (place : ℕ) (e : Entry) (r : MemberReference) → slice_get c.constant_pool place ≡ Some e → read_entry c e ≡ Some r
+  pub each : (place : ℕ) (e : Entry) (r : MemberReference) → slice_get c.constant_pool place ≡ Some e
+      → read_entry c e ≡ Some r
       → IsPlaced g.places.items g.answers.items place (is_guarded classes (own_name c) r)
 
 -- ---- the class whose instructions are judged, and the classes that it is judged among

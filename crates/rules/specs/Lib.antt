@@ -1,5 +1,5 @@
 pub mod ReasonNumbers
-pub mod Plans
+pub mod TypingRules
 pub mod Constants
 pub mod Table
 pub mod Taken

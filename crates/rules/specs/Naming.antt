@@ -108,9 +108,11 @@ kept_bootstrapped _ = true
 -- this is what the instruction names
 pub record IsNamed (m : methods.Method Act) (act : Act) (n : Named) : Type 0 where
   pub class : option_map reference_view (kept_class n) ≡ option_and_then (class_at m.constant_pool) (class_index act)
-  pub field : option_map field_constant_view (kept_field n) ≡ option_and_then (field_at m.constant_pool) (field_index act)
+  pub field : option_map field_constant_view (kept_field n)
+      ≡ option_and_then (field_at m.constant_pool) (field_index act)
   pub own : kept_own n ≡ sets_own m act
-  pub method : option_map method_constant_view (kept_method n) ≡ option_and_then (method_at m.constant_pool) (method_index act)
+  pub method : option_map method_constant_view (kept_method n)
+      ≡ option_and_then (method_at m.constant_pool) (method_index act)
   pub computed : option_map type_of (kept_type n) ≡ option_and_then (dynamic_type_at m.constant_pool) (loaded_index act)
   pub site : option_map call_site_view (kept_site n) ≡ option_and_then (call_site_at m.constant_pool) (site_index act)
   pub bootstrapped : kept_bootstrapped n ≡ names_bootstrapped m act

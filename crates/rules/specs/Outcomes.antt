@@ -13,30 +13,34 @@ use Rattle.frames.specs.Conditions.{Conditions, reason, least, missing_if}
 use Rattle.rules.specs.ReasonNumbers.{stack_over}
 use Rattle.rules.specs.declared.reason.Reason.{Reason}
 use Rattle.rules.specs.declared.reason.Reason.TheVariants.{OutOfMemory}
-use Rattle.rules.specs.Plans.{Want}
+use Rattle.rules.specs.TypingRules.{ExpectedType}
 use Rattle.rules.specs.After.{with_stack}
 use Rattle.rules.specs.Rules.{is_short, operands, is_too_wide}
 use Rattle.rules.specs.Reasons.{reason_view}
 
--- Done exactly where no condition holds, and then the frame is the one that is wanted; otherwise the least reason, or want of memory.
+-- Done exactly where no condition holds, and then the frame is the one that is wanted; otherwise the least reason, or
+-- want of memory.
 pub record Done (cs : Conditions) (wanted now : FrameFact) (r : Result Unit Reason) : Type 0 where
-  pub outcome : MatchResult r (λ _. (least cs ≡ None) × (now ≡ wanted)) (λ e. (e ≡ OutOfMemory) ⊎ (least cs ≡ Some (reason_view e)))
+  pub outcome : MatchResult r (λ _. (least cs ≡ None) × (now ≡ wanted))
+      (λ e. (e ≡ OutOfMemory) ⊎ (least cs ≡ Some (reason_view e)))
 
 -- none of the conditions holds; or this is the least reason, or want of memory
 pub record Judges (cs : Conditions) (r : Result Unit Reason) : Type 0 where
   pub outcome : MatchResult r (λ _. least cs ≡ None) (λ e. (e ≡ OutOfMemory) ⊎ (least cs ≡ Some (reason_view e)))
 
 -- operands were there, with this answer, and this is left
-pub record Took (classes : List ClassFact) (wants : List Want) (stack : List VerificationType) (answer : Outcome) (left : List VerificationType) : Type 0 where
-  pub enough : is_short wants stack ≡ false
-  pub answer_is : operands classes wants stack ≡ answer
-  pub left_is : left ≡ beneath wants stack
+pub record Took (classes : List ClassFact) (expected_types : List ExpectedType) (stack : List VerificationType)
+    (answer : Outcome) (left : List VerificationType) : Type 0 where
+  pub enough : is_short expected_types stack ≡ false
+  pub answer_is : operands classes expected_types stack ≡ answer
+  pub left_is : left ≡ beneath expected_types stack
 
 -- the same of a frame, which keeps all else
-pub record TookOff (classes : List ClassFact) (wants : List Want) (f : FrameFact) (answer : Outcome) (left : FrameFact) : Type 0 where
-  pub enough : is_short wants f.stack ≡ false
-  pub answer_is : operands classes wants f.stack ≡ answer
-  pub left_is : left ≡ with_stack f (beneath wants f.stack)
+pub record TookOff (classes : List ClassFact) (expected_types : List ExpectedType) (f : FrameFact) (answer : Outcome)
+    (left : FrameFact) : Type 0 where
+  pub enough : is_short expected_types f.stack ≡ false
+  pub answer_is : operands classes expected_types f.stack ≡ answer
+  pub left_is : left ≡ with_stack f (beneath expected_types f.stack)
 
 abbrev pub pushed : List VerificationType → FrameFact → FrameFact
 pushed types f = with_stack f (types ++ f.stack)

@@ -1,4 +1,5 @@
--- Members that are protected (JVMS 4.10.1.8): one that a class above the current one declares in another package is used on objects of the current class alone.
+-- Members that are protected (JVMS 4.10.1.8): one that a class above the current one declares in another package is
+-- used on objects of the current class alone.
 use Rattle.std.specs.Prelude.{ℕ, Bool, false, if◌then◌else◌, List, [], ◌∷◌, Option, Some, None, option_map}
 use Rattle.std.specs.Option.{option_and_then, option_map_or}
 use Rattle.names.specs.Descriptors.{FieldDescriptor}
@@ -62,8 +63,9 @@ object_beneath u f = top_of (beneath u.above f.stack)
 
 abbrev pub use_conditions : List ClassFact → Method Act → FrameFact → Use → Conditions
 use_conditions classes m f u =
-    if is_guarded classes m.class u.reference then object_conditions (object_answer classes m.class (object_beneath u f)) else []
+    if is_guarded classes m.class u.reference
+    then object_conditions (object_answer classes m.class (object_beneath u f)) else []
 
--- The reasons against an instruction for the member that it names, in no order, besides those of its plan.
+-- The reasons against an instruction for the member that it names, in no order, besides those of its typing rule.
 abbrev pub member_conditions : List ClassFact → Method Act → Act → FrameFact → Conditions
 member_conditions classes m act f = option_map_or (use_conditions classes m f) (used_by m act) []

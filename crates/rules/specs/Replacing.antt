@@ -17,4 +17,6 @@ initialized_frame object name f = record {
 abbrev pub ChangesOnly : Option VerificationType → FrameFact → FrameFact → Type 0
 ChangesOnly None f g = g.locals ≡ f.locals
 ChangesOnly (Some object) f g =
-    (length g.locals ≡ length f.locals) × ((i : ℕ) → is_initialized object (get_or f.locals i top) ≡ false → get_or g.locals i top ≡ get_or f.locals i top)
+    (length g.locals ≡ length f.locals)
+    × ((i : ℕ) → is_initialized object (get_or f.locals i top) ≡ false
+    → get_or g.locals i top ≡ get_or f.locals i top)

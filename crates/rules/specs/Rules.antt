@@ -17,7 +17,7 @@ use Rattle.frames.specs.DeclaredFrames.{is_uninit_this}
 use Rattle.frames.specs.Slots.{number_type, to_reference, units_of}
 use Rattle.frames.specs.Conditions.{Reason, reason, class_missing, with_fault, Conditions, is_no, missing_if}
 use Rattle.rules.specs.ReasonNumbers.{missing_operand, wrong_operand, wrong_local, local_out_of_range, stack_over, wrong_constant, own_object_not_ready}
-use Rattle.rules.specs.Plans.{Want, number, assignable_to, any_reference, any_array, any_array_for, own_or_assignable_to, Plan, pops, loads, stores, counts, rearranges, loads_element, makes, constructs, calls_special, returns, refuses}
+use Rattle.rules.specs.TypingRules.{ExpectedType, number, assignable_to, any_reference, any_array, any_array_for, own_or_assignable_to, TypingRule, pops, loads, stores, counts, rearranges, loads_element, makes, constructs, calls_special, returns, refuses}
 use Rattle.rules.specs.Table.{class_made_at, object_array}
 use Rattle.frames.specs.Objects.{is_made_at}
 use Rattle.rules.specs.After.{top_of, local_of, form_for, after}
@@ -52,7 +52,7 @@ own_or_answer classes name uninit_this = yes
 own_or_answer classes name t = type_answer classes t (class name)
 
 -- whether a type meets what is asked
-abbrev pub accepts : List ClassFact → Want → VerificationType → Outcome
+abbrev pub accepts : List ClassFact → ExpectedType → VerificationType → Outcome
 accepts classes (number kind) t = type_answer classes t (number_type kind)
 accepts classes (assignable_to type) t = type_answer classes t (to_reference type)
 accepts classes any_reference t = yes_if (is_reference t)
@@ -67,14 +67,16 @@ is_short (w ∷ ws) [] = true
 is_short (w ∷ ws) (t ∷ ts) = is_short ws ts
 
 -- the answers for all operands, the top one first
-abbrev pub operands : List ClassFact → List Want → List VerificationType → Outcome
+abbrev pub operands : List ClassFact → List ExpectedType → List VerificationType → Outcome
 operands classes [] ts = yes
 operands classes (w ∷ ws) [] = yes
 operands classes (w ∷ ws) (t ∷ ts) = both (accepts classes w t) (operands classes ws ts)
 
-abbrev pub operand_conditions : List ClassFact → List Want → List VerificationType → Conditions
-operand_conditions classes wants ts =
-    (reason missing_operand, is_short wants ts) ∷ (reason wrong_operand, is_no (operands classes wants ts)) ∷ missing_if (operands classes wants ts) ∷ []
+abbrev pub operand_conditions : List ClassFact → List ExpectedType → List VerificationType → Conditions
+operand_conditions classes expected_types ts =
+    (reason missing_operand, is_short expected_types ts)
+    ∷ (reason wrong_operand, is_no (operands classes expected_types ts))
+    ∷ missing_if (operands classes expected_types ts) ∷ []
 
 -- ---- local variables
 
@@ -83,14 +85,15 @@ abbrev pub is_outside : Method Act → ℕ → ℕ → Bool
 is_outside m n width = nat_lt m.max_locals (n + width)
 
 -- of a local that is outside nothing is asked
-abbrev pub local_answer : List ClassFact → Method Act → Want → ℕ → ℕ → FrameFact → Outcome
-local_answer classes m want n width f = if is_outside m n width then yes else accepts classes want (local_of n f)
+abbrev pub local_answer : List ClassFact → Method Act → ExpectedType → ℕ → ℕ → FrameFact → Outcome
+local_answer classes m expected n width f = if is_outside m n width then yes
+    else accepts classes expected (local_of n f)
 
-abbrev pub local_conditions : List ClassFact → Method Act → Want → ℕ → ℕ → FrameFact → Conditions
-local_conditions classes m want n width f =
-    (reason wrong_local, is_no (local_answer classes m want n width f))
+abbrev pub local_conditions : List ClassFact → Method Act → ExpectedType → ℕ → ℕ → FrameFact → Conditions
+local_conditions classes m expected n width f =
+    (reason wrong_local, is_no (local_answer classes m expected n width f))
     ∷ (reason local_out_of_range, is_outside m n width)
-    ∷ missing_if (local_answer classes m want n width f)
+    ∷ missing_if (local_answer classes m expected n width f)
     ∷ []
 
 -- ---- objects that are not initialized
@@ -99,41 +102,46 @@ abbrev pub is_on_stack : ℕ → List VerificationType → Bool
 is_on_stack at [] = false
 is_on_stack at (t ∷ ts) = is_made_at at t || is_on_stack at ts
 
--- a constructor of this class may be called on it: of the class that was made, or of the current class or its direct superclass
+-- a constructor of this class may be called on it: of the class that was made, or of the current class or its direct
+-- superclass
 abbrev pub may_construct : Method Act → List ℕ → VerificationType → Bool
 may_construct m name uninit_this = bytes_eq m.class name || is_name m.superclass name
 may_construct m name (uninit at) = is_name (class_made_at m at) name
 may_construct m name _ = false
 
 -- an `<init>` on the own object that is not initialized
-abbrev pub constructs_own : Plan → FrameFact → Bool
-constructs_own (constructs name wants) f = is_uninit_this (top_of (beneath wants f.stack))
+abbrev pub constructs_own : TypingRule → FrameFact → Bool
+constructs_own (constructs name expected_types) f = is_uninit_this (top_of (beneath expected_types f.stack))
 constructs_own _ f = false
 
 -- ---- invokespecial of another method: the current class is assignable to the method's, or the constant is refused
 
-abbrev pub special_conditions : List ClassFact → Outcome → List Want → List VerificationType → Conditions
-special_conditions classes own wants ts =
+abbrev pub special_conditions : List ClassFact → Outcome → List ExpectedType → List VerificationType → Conditions
+special_conditions classes own expected_types ts =
     if is_no own then (reason wrong_constant, true) ∷ []
-    else (reason missing_operand, is_short wants ts) ∷ (reason wrong_operand, is_no (operands classes wants ts)) ∷ missing_if (both (operands classes wants ts) own) ∷ []
+    else (reason missing_operand, is_short expected_types ts)
+    ∷ (reason wrong_operand, is_no (operands classes expected_types ts))
+    ∷ missing_if (both (operands classes expected_types ts) own) ∷ []
 
 -- ---- the conditions of each family, the depth of the stack aside
 
-abbrev pub family : List ClassFact → Method Act → ℕ → Plan → FrameFact → Conditions
-family classes m at (pops wants gives offsets on) f = operand_conditions classes wants f.stack
-family classes m at (loads want n width) f = local_conditions classes m want n width f
-family classes m at (stores want n width) f = (reason local_out_of_range, is_outside m n width) ∷ operand_conditions classes (want ∷ []) f.stack
+abbrev pub family : List ClassFact → Method Act → ℕ → TypingRule → FrameFact → Conditions
+family classes m at (pops expected_types gives offsets on) f = operand_conditions classes expected_types f.stack
+family classes m at (loads expected n width) f = local_conditions classes m expected n width f
+family classes m at (stores expected n width) f =
+    (reason local_out_of_range, is_outside m n width) ∷ operand_conditions classes (expected ∷ []) f.stack
 family classes m at (counts n) f = local_conditions classes m (number kinds.Int) n 1 f
 family classes m at (rearranges forms) f =
-    (reason missing_operand, nat_lt (units_of f.stack) (units_taken forms)) ∷ (reason wrong_operand, is_none (form_for forms f.stack)) ∷ []
+    (reason missing_operand, nat_lt (units_of f.stack) (units_taken forms))
+    ∷ (reason wrong_operand, is_none (form_for forms f.stack)) ∷ []
 family classes m at loads_element f = operand_conditions classes (number kinds.Int ∷ object_array ∷ []) f.stack
 family classes m at (makes name) f = (reason wrong_operand, is_on_stack at f.stack) ∷ []
-family classes m at (constructs name wants) f =
-    (reason missing_operand, is_short (any_reference ∷ wants) f.stack)
-    ∷ (reason wrong_operand, not (may_construct m name (top_of (beneath wants f.stack))))
-    ∷ operand_conditions classes wants f.stack
-family classes m at (calls_special type wants gives) f =
-    special_conditions classes (type_answer classes (class m.class) (to_reference type)) wants f.stack
+family classes m at (constructs name expected_types) f =
+    (reason missing_operand, is_short (any_reference ∷ expected_types) f.stack)
+    ∷ (reason wrong_operand, not (may_construct m name (top_of (beneath expected_types f.stack))))
+    ∷ operand_conditions classes expected_types f.stack
+family classes m at (calls_special type expected_types gives) f =
+    special_conditions classes (type_answer classes (class m.class) (to_reference type)) expected_types f.stack
 family classes m at returns f = (reason own_object_not_ready, m.is_init && f.flag) ∷ []
 family classes m at (refuses n) f = (reason n, true) ∷ []
 
@@ -153,6 +161,7 @@ abbrev pub is_too_wide : Method Act → FrameFact → Bool
 is_too_wide m f = nat_lt m.max_stack (units_of f.stack)
 
 -- The reasons against an instruction, in no order. stack_over is that the stack afterwards is wider than max_stack.
-abbrev pub conditions : List ClassFact → Method Act → ℕ → Plan → FrameFact → Conditions
+abbrev pub conditions : List ClassFact → Method Act → ℕ → TypingRule → FrameFact → Conditions
 conditions classes m at p f =
-    (reason stack_over, gives_frame (family classes m at p f) && is_too_wide m (after m at p f)) ∷ family classes m at p f
+    (reason stack_over, gives_frame (family classes m at p f) && is_too_wide m (after m at p f))
+    ∷ family classes m at p f

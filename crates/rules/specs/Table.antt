@@ -1,4 +1,4 @@
--- The plan of each instruction (JVMS 4.10.1.9).
+-- The typing rule of each instruction (JVMS 4.10.1.9).
 use Rattle.std.specs.Prelude.{ℕ, true, false, if◌then◌else◌, List, [], ◌∷◌, Option, Some, None}
 use Rattle.names.specs.Descriptors.{FieldDescriptor, primitive, class as class_descriptor, array as array_descriptor}
 use Rattle.names.specs.ReferenceTypes.{class_type, array_type}
@@ -15,138 +15,144 @@ use Rattle.insn.specs.Meanings.{Act}
 use Rattle.frames.specs.VerificationType.{int, null}
 use Rattle.frames.specs.Slots.{number_type}
 use Rattle.rules.specs.ReasonNumbers.{not_supported, wrong_return}
-use Rattle.rules.specs.Plans.{Want, number, assignable_to, any_reference, any_array, any_array_for, Plan, pops, loads, stores, counts, rearranges, loads_element, makes, returns, refuses, takes, gives, class_want, numbers}
+use Rattle.rules.specs.TypingRules.{ExpectedType, number, assignable_to, any_reference, any_array, any_array_for, TypingRule, pops, loads, stores, counts, rearranges, loads_element, makes, returns, refuses, takes, gives, expected_class, numbers}
 use Rattle.rules.specs.Constants.{is_bootstrapped, load_constant, load_wide_constant, get_static, put_static, get_field, put_field, invoke_static, invoke_virtual, invoke_interface, invoke_special, invoke_dynamic, new_object, new_array, new_reference_array, new_multi_array, check_cast, instance_of}
 
 -- ---- returns: an instruction of another kind than the method's result is refused by wrong_return (76)
 
 -- it takes an operand, and nothing comes behind it
-abbrev pub leaves_with : Want → Plan
-leaves_with want = pops (want ∷ []) [] [] false
+abbrev pub leaves_with : ExpectedType → TypingRule
+leaves_with expected = pops (expected ∷ []) [] [] false
 
-abbrev pub return_number : Option FieldDescriptor → Kind → Plan
-return_number (Some (primitive p)) kind = if same_kind (computed_as p) kind then leaves_with (number kind) else refuses wrong_return
+abbrev pub return_number : Option FieldDescriptor → Kind → TypingRule
+return_number (Some (primitive p)) kind = if same_kind (computed_as p) kind then leaves_with (number kind)
+    else refuses wrong_return
 return_number _ kind = refuses wrong_return
 
-abbrev pub return_reference : Option FieldDescriptor → Plan
+abbrev pub return_reference : Option FieldDescriptor → TypingRule
 return_reference (Some (class_descriptor name)) = leaves_with (assignable_to (class_type name))
 return_reference (Some (array_descriptor component)) = leaves_with (assignable_to (array_type component))
 return_reference _ = refuses wrong_return
 
-abbrev pub return_nothing : Option FieldDescriptor → Plan
+abbrev pub return_nothing : Option FieldDescriptor → TypingRule
 return_nothing None = returns
 return_nothing (Some t) = refuses wrong_return
 
 -- ---- all instructions: each case stands below the mnemonics of its instructions (JVMS 4.10.1.9, 6.5)
 
 -- any array of references
-abbrev pub object_array : Want
+abbrev pub object_array : ExpectedType
 object_array = assignable_to (array_type (class_descriptor object_name))
 
-abbrev pub plan : Method Act → Act → Plan
+abbrev pub typing_rule : Method Act → Act → TypingRule
 -- nop
-plan m acts.Nothing = takes []
+typing_rule m acts.Nothing = takes []
 -- iconst_<i>, lconst_<l>, fconst_<f>, dconst_<d>, bipush, sipush
-plan m (acts.Constant kind) = gives (number_type kind)
+typing_rule m (acts.Constant kind) = gives (number_type kind)
 -- aconst_null
-plan m acts.ConstantNull = gives null
+typing_rule m acts.ConstantNull = gives null
 -- ldc, ldc_w
-plan m (acts.LoadConstant i) = load_constant m (dynamic_type_at m.constant_pool i) (constant_at m.constant_pool i)
+typing_rule m (acts.LoadConstant i) =
+    load_constant m (dynamic_type_at m.constant_pool i) (constant_at m.constant_pool i)
 -- ldc2_w
-plan m (acts.LoadWideConstant i) = load_wide_constant m (dynamic_type_at m.constant_pool i) (constant_at m.constant_pool i)
+typing_rule m (acts.LoadWideConstant i) =
+    load_wide_constant m (dynamic_type_at m.constant_pool i) (constant_at m.constant_pool i)
 -- iload, iload_<n>, lload, lload_<n>, fload, fload_<n>, dload, dload_<n>
-plan m (acts.Load kind n) = loads (number kind) n (kind_units kind)
+typing_rule m (acts.Load kind n) = loads (number kind) n (kind_units kind)
 -- aload, aload_<n>
-plan m (acts.LoadReference n) = loads any_reference n 1
+typing_rule m (acts.LoadReference n) = loads any_reference n 1
 -- istore, istore_<n>, lstore, lstore_<n>, fstore, fstore_<n>, dstore, dstore_<n>
-plan m (acts.Store kind n) = stores (number kind) n (kind_units kind)
+typing_rule m (acts.Store kind n) = stores (number kind) n (kind_units kind)
 -- astore, astore_<n>
-plan m (acts.StoreReference n) = stores any_reference n 1
+typing_rule m (acts.StoreReference n) = stores any_reference n 1
 -- iinc
-plan m (acts.Increment n) = counts n
--- iadd, ladd, fadd, dadd, and so sub, mul, div, rem, neg; ishl, lshl, ishr, lshr, iushr, lushr; iand, land, ior, lor, ixor, lxor;
--- i2l, i2f, i2d, l2i, l2f, l2d, f2i, f2l, f2d, d2i, d2l, d2f, i2b, i2c, i2s; lcmp, fcmp<op>, dcmp<op>
-plan m (acts.Numeric operator) = pops (numbers (numeric_row operator).taken) (number_type (numeric_row operator).given ∷ []) [] true
+typing_rule m (acts.Increment n) = counts n
+-- iadd, ladd, fadd, dadd, and so sub, mul, div, rem, neg; ishl, lshl, ishr, lshr, iushr, lushr; iand, land, ior, lor,
+-- ixor, lxor; i2l, i2f, i2d, l2i, l2f, l2d, f2i, f2l, f2d, d2i, d2l, d2f, i2b, i2c, i2s; lcmp, fcmp<op>, dcmp<op>
+typing_rule m (acts.Numeric operator) =
+    pops (numbers (numeric_row operator).taken) (number_type (numeric_row operator).given ∷ []) [] true
 -- pop, pop2, dup, dup_x1, dup_x2, dup2, dup2_x1, dup2_x2, swap
-plan m (acts.Stack operator) = rearranges (stack_forms operator)
+typing_rule m (acts.Stack operator) = rearranges (stack_forms operator)
 -- if<cond>: ifeq, ifne, iflt, ifge, ifgt, ifle
-plan m (acts.IfInt offset) = pops (number kinds.Int ∷ []) [] (offset ∷ []) true
+typing_rule m (acts.IfInt offset) = pops (number kinds.Int ∷ []) [] (offset ∷ []) true
 -- if_icmp<cond>: if_icmpeq, if_icmpne, if_icmplt, if_icmpge, if_icmpgt, if_icmple
-plan m (acts.IfInts offset) = pops (number kinds.Int ∷ number kinds.Int ∷ []) [] (offset ∷ []) true
+typing_rule m (acts.IfInts offset) = pops (number kinds.Int ∷ number kinds.Int ∷ []) [] (offset ∷ []) true
 -- if_acmp<cond>: if_acmpeq, if_acmpne
-plan m (acts.IfReferences offset) = pops (any_reference ∷ any_reference ∷ []) [] (offset ∷ []) true
+typing_rule m (acts.IfReferences offset) = pops (any_reference ∷ any_reference ∷ []) [] (offset ∷ []) true
 -- ifnull, ifnonnull
-plan m (acts.IfNull offset) = pops (any_reference ∷ []) [] (offset ∷ []) true
+typing_rule m (acts.IfNull offset) = pops (any_reference ∷ []) [] (offset ∷ []) true
 -- goto, goto_w
-plan m (acts.Goto offset) = pops [] [] (offset ∷ []) false
+typing_rule m (acts.Goto offset) = pops [] [] (offset ∷ []) false
 -- tableswitch, lookupswitch
-plan m (acts.Switch default offsets) = pops (number kinds.Int ∷ []) [] (default ∷ offsets) false
+typing_rule m (acts.Switch default offsets) = pops (number kinds.Int ∷ []) [] (default ∷ offsets) false
 -- ireturn, lreturn, freturn, dreturn
-plan m (acts.Return kind) = return_number m.type.result kind
+typing_rule m (acts.Return kind) = return_number m.type.result kind
 -- areturn
-plan m acts.ReturnReference = return_reference m.type.result
+typing_rule m acts.ReturnReference = return_reference m.type.result
 -- return
-plan m acts.ReturnVoid = return_nothing m.type.result
+typing_rule m acts.ReturnVoid = return_nothing m.type.result
 -- getstatic
-plan m (acts.GetStatic i) = get_static (field_at m.constant_pool i)
+typing_rule m (acts.GetStatic i) = get_static (field_at m.constant_pool i)
 -- putstatic
-plan m (acts.PutStatic i) = put_static (field_at m.constant_pool i)
+typing_rule m (acts.PutStatic i) = put_static (field_at m.constant_pool i)
 -- getfield
-plan m (acts.GetField i) = get_field (field_at m.constant_pool i)
+typing_rule m (acts.GetField i) = get_field (field_at m.constant_pool i)
 -- putfield
-plan m (acts.PutField i) = put_field m (field_at m.constant_pool i)
+typing_rule m (acts.PutField i) = put_field m (field_at m.constant_pool i)
 -- invokevirtual
-plan m (acts.InvokeVirtual i) = invoke_virtual (method_at m.constant_pool i)
+typing_rule m (acts.InvokeVirtual i) = invoke_virtual (method_at m.constant_pool i)
 -- invokespecial
-plan m (acts.InvokeSpecial i) = invoke_special m.major_version m.class (method_at m.constant_pool i)
+typing_rule m (acts.InvokeSpecial i) = invoke_special m.major_version m.class (method_at m.constant_pool i)
 -- invokestatic
-plan m (acts.InvokeStatic i) = invoke_static m.major_version (method_at m.constant_pool i)
+typing_rule m (acts.InvokeStatic i) = invoke_static m.major_version (method_at m.constant_pool i)
 -- invokeinterface
-plan m (acts.InvokeInterface i count) = invoke_interface count (method_at m.constant_pool i)
+typing_rule m (acts.InvokeInterface i count) = invoke_interface count (method_at m.constant_pool i)
 -- invokedynamic
-plan m (acts.InvokeDynamic i) = invoke_dynamic m (is_bootstrapped m (constant_at m.constant_pool i)) (call_site_at m.constant_pool i)
+typing_rule m (acts.InvokeDynamic i) =
+    invoke_dynamic m (is_bootstrapped m (constant_at m.constant_pool i)) (call_site_at m.constant_pool i)
 -- new
-plan m (acts.New i) = new_object (class_at m.constant_pool i)
+typing_rule m (acts.New i) = new_object (class_at m.constant_pool i)
 -- iaload, laload, faload, daload, baload, caload, saload
-plan m (acts.LoadElement p) = pops (number kinds.Int ∷ any_array_for p ∷ []) (number_type (computed_as p) ∷ []) [] true
+typing_rule m (acts.LoadElement p) =
+    pops (number kinds.Int ∷ any_array_for p ∷ []) (number_type (computed_as p) ∷ []) [] true
 -- iastore, lastore, fastore, dastore, bastore, castore, sastore
-plan m (acts.StoreElement p) = takes (number (computed_as p) ∷ number kinds.Int ∷ any_array_for p ∷ [])
+typing_rule m (acts.StoreElement p) = takes (number (computed_as p) ∷ number kinds.Int ∷ any_array_for p ∷ [])
 -- aaload
-plan m acts.LoadReferenceElement = loads_element
+typing_rule m acts.LoadReferenceElement = loads_element
 -- aastore
-plan m acts.StoreReferenceElement = takes (class_want object_name ∷ number kinds.Int ∷ object_array ∷ [])
+typing_rule m acts.StoreReferenceElement = takes (expected_class object_name ∷ number kinds.Int ∷ object_array ∷ [])
 -- arraylength
-plan m acts.ArrayLength = pops (any_array ∷ []) (int ∷ []) [] true
+typing_rule m acts.ArrayLength = pops (any_array ∷ []) (int ∷ []) [] true
 -- newarray
-plan m (acts.NewArray element) = new_array element
+typing_rule m (acts.NewArray element) = new_array element
 -- anewarray
-plan m (acts.NewReferenceArray i) = new_reference_array (class_at m.constant_pool i)
+typing_rule m (acts.NewReferenceArray i) = new_reference_array (class_at m.constant_pool i)
 -- multianewarray
-plan m (acts.NewMultiArray i n) = new_multi_array n (class_at m.constant_pool i)
+typing_rule m (acts.NewMultiArray i n) = new_multi_array n (class_at m.constant_pool i)
 -- checkcast
-plan m (acts.CheckCast i) = check_cast (class_at m.constant_pool i)
+typing_rule m (acts.CheckCast i) = check_cast (class_at m.constant_pool i)
 -- instanceof
-plan m (acts.InstanceOf i) = instance_of (class_at m.constant_pool i)
+typing_rule m (acts.InstanceOf i) = instance_of (class_at m.constant_pool i)
 -- athrow
-plan m acts.Throw = leaves_with (class_want throwable_name)
+typing_rule m acts.Throw = leaves_with (expected_class throwable_name)
 -- monitorenter, monitorexit
-plan m acts.Monitor = takes (any_reference ∷ [])
+typing_rule m acts.Monitor = takes (any_reference ∷ [])
 -- jsr, jsr_w, ret
-plan m acts.Unsupported = refuses not_supported
+typing_rule m acts.Unsupported = refuses not_supported
 
--- what gives an instruction's plan, in a method
-abbrev pub Plans : Type 0
-Plans = Method Act → Act → Plan
+-- what gives an instruction's typing rule, in a method
+abbrev pub TypingRules : Type 0
+TypingRules = Method Act → Act → TypingRule
 
 -- ---- the class of the object that a `new` makes
 
-abbrev pub class_made : Plan → Option (List ℕ)
+abbrev pub class_made : TypingRule → Option (List ℕ)
 class_made (makes name) = Some name
 class_made _ = None
 
 abbrev pub made_by : Method Act → Option Act → Option (List ℕ)
 made_by m None = None
-made_by m (Some act) = class_made (plan m act)
+made_by m (Some act) = class_made (typing_rule m act)
 
 abbrev pub class_made_at : Method Act → ℕ → Option (List ℕ)
 class_made_at m at = made_by m (at_offset m.code at)

@@ -8,7 +8,7 @@ use Rattle.insn.specs.Stacks.{beneath}
 use Rattle.frames.specs.FrameFact.{FrameFact}
 use Rattle.frames.specs.Objects.{is_initialized}
 use Rattle.frames.specs.OperandStacks.{item}
-use Rattle.rules.specs.Plans.{Plan, pops, loads, stores, counts, rearranges, loads_element, makes, constructs, calls_special, returns, refuses}
+use Rattle.rules.specs.TypingRules.{TypingRule, pops, loads, stores, counts, rearranges, loads_element, makes, constructs, calls_special, returns, refuses}
 use Rattle.rules.specs.After.{top_of}
 
 -- the most items that one of the forms takes
@@ -16,17 +16,17 @@ abbrev pub most_taken : List StackForm → ℕ
 most_taken [] = 0
 most_taken (form ∷ forms) = max (length form.takes) (most_taken forms)
 
--- how many items a plan takes at most
-abbrev pub taken : Plan → ℕ
-taken (pops wants gives offsets on) = length wants
-taken (loads want n width) = 0
-taken (stores want n width) = 1
+-- how many items a typing rule takes at most
+abbrev pub taken : TypingRule → ℕ
+taken (pops expected_types gives offsets on) = length expected_types
+taken (loads expected n width) = 0
+taken (stores expected n width) = 1
 taken (counts n) = 0
 taken (rearranges forms) = most_taken forms
 taken loads_element = 2
 taken (makes name) = 0
-taken (constructs name wants) = length wants + 1
-taken (calls_special type wants gives) = length wants
+taken (constructs name expected_types) = length expected_types + 1
+taken (calls_special type expected_types gives) = length expected_types
 taken returns = 0
 taken (refuses n) = 0
 
@@ -53,9 +53,10 @@ at_most _ called site = 4
 
 -- ---- the items beneath
 
--- where a plan calls a constructor on an object, an item is of another one
-abbrev pub IsOther : Plan → FrameFact → ℕ → Type 0
-IsOther (constructs name wants) f i = is_initialized (top_of (beneath wants f.stack)) (item f.stack i) ≡ false
+-- where a typing rule calls a constructor on an object, an item is of another one
+abbrev pub IsOther : TypingRule → FrameFact → ℕ → Type 0
+IsOther (constructs name expected_types) f i =
+    is_initialized (top_of (beneath expected_types f.stack)) (item f.stack i) ≡ false
 IsOther _ f i = Unit {0}
 
 -- so many items, from the bottom up, are those of another frame

@@ -3,10 +3,10 @@ use Rattle.std.specs.Prelude.{ℕ, zero, suc, if◌then◌else◌, List, [], ◌
 use Rattle.frames.specs.declared.vtype.VType.{VType}
 use Rattle.frames.specs.VerificationType.{VerificationType, type_of, top}
 use Rattle.frames.specs.Slots.{is_wide}
-use Rattle.rules.specs.declared.want.Want.{Want as RawWant}
-use Rattle.rules.specs.declared.want.Want.TheVariants.{Number, Assignable, Reference, Array, ArrayFor, OwnOr}
+use Rattle.rules.specs.declared.expected.ExpectedType.{ExpectedType as RawExpectedType}
+use Rattle.rules.specs.declared.expected.ExpectedType.TheVariants.{Number, Assignable, Reference, Array, ArrayFor, OwnOr}
 use Rattle.names.specs.References.{reference_view}
-use Rattle.rules.specs.Plans.{Want, number, assignable_to, any_reference, any_array, any_array_for, own_or_assignable_to}
+use Rattle.rules.specs.TypingRules.{ExpectedType, number, assignable_to, any_reference, any_array, any_array_for, own_or_assignable_to}
 
 -- a stack with its top last, as the program keeps it, with its top first
 abbrev pub stack_of : List VType → List VerificationType
@@ -20,13 +20,13 @@ abbrev pub pushed_types : Option VType → List VerificationType
 pushed_types None = []
 pushed_types (Some t) = type_of t ∷ []
 
-abbrev pub want_view : RawWant → Want
-want_view (Number kind) = number kind
-want_view (Assignable type) = assignable_to (reference_view type)
-want_view Reference = any_reference
-want_view Array = any_array
-want_view (ArrayFor p) = any_array_for p
-want_view (OwnOr name) = own_or_assignable_to name.now
+abbrev pub expected_view : RawExpectedType → ExpectedType
+expected_view (Number kind) = number kind
+expected_view (Assignable type) = assignable_to (reference_view type)
+expected_view Reference = any_reference
+expected_view Array = any_array
+expected_view (ArrayFor p) = any_array_for p
+expected_view (OwnOr name) = own_or_assignable_to name.now
 
 -- locals in which a long or double just before a place is top, since its second half is gone
 abbrev pub with_half_free : ℕ → List VerificationType → List VerificationType

@@ -38,7 +38,8 @@ stored_to (acts.Store kind n) = Some n
 stored_to (acts.StoreReference n) = Some n
 stored_to _ = None
 
--- it goes on to the next one and nowhere else, makes no object of a class, and names no class, field, method, dynamic constant or call site that is looked up
+-- it goes on to the next one and nowhere else, makes no object of a class, and names no class, field, method, dynamic
+-- constant or call site that is looked up
 abbrev pub is_plain : Act → Bool
 is_plain a = goes_on a && nat_eq (length (branch_offsets a)) 0 && is_none (made_index a) && names_nothing a
 

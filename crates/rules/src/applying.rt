@@ -5,8 +5,8 @@ ghost use Rattle.hierarchy.specs.Class.{ClassFact};
 ghost use Rattle.insn.specs.Meanings.{Act, act};
 ghost use Rattle.insn.specs.Views.{view};
 ghost use Rattle.frames.specs.FrameFact.{FrameFact, frame_of};
-ghost use Rattle.rules.specs.Plans.{Plan};
-ghost use Rattle.rules.specs.Table.{plan};
+ghost use Rattle.rules.specs.TypingRules.{TypingRule};
+ghost use Rattle.rules.specs.Table.{typing_rule};
 ghost use Rattle.rules.specs.Bodies.{method_view};
 ghost use Rattle.rules.specs.Applied.{Applied};
 
@@ -42,13 +42,15 @@ pub struct After<'a> {
 pub struct Refusal<'a> {
     /// The least reason.
     pub reason: Reason<'a>,
-    /// Of a reason 77: whether it is an instance initialization method's call on the own object. It says nothing of others.
+    /// Of a reason 77: whether it is an instance initialization method's call on the own object. It says nothing of
+    /// others.
     pub own: bool,
 }
 
 /// Memory ran out.
 fn out_of_memory<'a>() -> Result<After<'a>, Refusal<'a>>
-    ensures { (cs : List ClassFact) (m : Method Act) (at : ℕ) (a : Act) (p : Plan) (f : FrameFact) → Applied cs m at a p f result }
+    ensures { (cs : List ClassFact) (m : Method Act) (at : ℕ) (a : Act) (p : TypingRule) (f : FrameFact)
+        → Applied cs m at a p f result }
 {
     Err(Refusal {
         reason: Reason::OutOfMemory,
@@ -58,8 +60,8 @@ fn out_of_memory<'a>() -> Result<After<'a>, Refusal<'a>>
 
 /// Judges the instruction at an offset by its rule (JVMS 4.10.1.9). The frame before it has max_locals locals.
 ///
-/// Refused is, by the least number that holds, what the rule refuses (60 to 66, 74, 76, 77), or 77 or 82 for the protected member that it uses; or 1
-/// where memory ran out.
+/// Refused is, by the least number that holds, what the rule refuses (60 to 66, 74, 76, 77), or 77 or 82 for the
+/// protected member that it uses; or 1 where memory ran out.
 pub fn apply<'a, C: Classes>(
     alloc: Global,
     env: &Env<'_, '_, 'a, C>,
@@ -70,7 +72,7 @@ pub fn apply<'a, C: Classes>(
     requires { length frame.now.locals.items ≡ env.now.method.code.now.max_locals }
     ensures { let m = method_view env.now.method in
         let a = act (view insn.now) in
-        Applied (C.content env.now.classes.now) m at a (plan m a) (frame_of frame.now) result }
+        Applied (C.content env.now.classes.now) m at a (typing_rule m a) (frame_of frame.now) result }
 {
     let Ok(mut working) = Working::from_frame(alloc, frame, env.method.code.max_locals) else {
         return out_of_memory();

@@ -3,19 +3,19 @@ ghost use Rattle.std.specs.Prelude.{◌≡◌, ℕ, map, option_map, IfOk};
 ghost use Rattle.names.specs.References.{reference_view};
 ghost use Rattle.insn.specs.Meanings.{LoadElement, StoreElement, StoreReferenceElement};
 ghost use Rattle.frames.specs.VerificationType.{type_of};
-ghost use Rattle.rules.specs.Plans.{loads_element, sizes};
+ghost use Rattle.rules.specs.TypingRules.{loads_element, sizes};
 ghost use Rattle.rules.specs.Constants.{new_array, new_reference_array, new_multi_array, check_cast, instance_of};
 ghost use Rattle.rules.specs.After.{after, element_of, top_of, rest_of};
 ghost use Rattle.rules.specs.Rules.{conditions};
-ghost use Rattle.rules.specs.Table.{object_array, plan};
+ghost use Rattle.rules.specs.Table.{object_array, typing_rule};
 ghost use Rattle.rules.specs.Bodies.{method_view};
 ghost use Rattle.rules.specs.Held.{held};
 ghost use Rattle.rules.specs.Outcomes.{Done};
-ghost use Rattle.rules.specs.Views.{stack_of, want_view};
+ghost use Rattle.rules.specs.Views.{stack_of, expected_view};
 
+use crate::expected::ExpectedType;
 use crate::families::pops;
 use crate::reason::Reason;
-use crate::want::Want;
 use crate::working::Working;
 use classfile::CodeMethod;
 use frames::{VType, array_of, number_type, reference_to};
@@ -25,10 +25,10 @@ use names::{Base, OBJECT, Primitive, RefType};
 use std::alloc::{AllocError, Global};
 
 /// Any array of references.
-fn object_array<'a>() -> Want<'a>
-    ensures { want_view result ≡ object_array }
+fn object_array<'a>() -> ExpectedType<'a>
+    ensures { expected_view result ≡ object_array }
 {
-    Want::Assignable(RefType::Array {
+    ExpectedType::Assignable(RefType::Array {
         dims: 1,
         base: Base::Class(OBJECT),
     })
@@ -77,12 +77,16 @@ pub fn load_element<'a, C: Classes>(
     frame: &mut Working<'a>,
     classes: &C,
 ) -> Result<(), Reason<'a>>
-    ensures { (at : ℕ) → let m = method_view method.now in let f = held frame.old in let p = plan m (LoadElement element) in
+    ensures { (at : ℕ) → let m = method_view method.now in let f = held frame.old in
+        let p = typing_rule m (LoadElement element) in
         Done (conditions (C.content classes.now) m at p f) (after m at p f) (held frame.new) result }
 {
-    let wants = [Want::Number(Kind::Int), Want::ArrayFor(element)];
+    let expected_types = [
+        ExpectedType::Number(Kind::Int),
+        ExpectedType::ArrayFor(element),
+    ];
     let loaded = number_type(computed_as(element));
-    pops(method, &wants, Some(loaded), frame, classes)
+    pops(method, &expected_types, Some(loaded), frame, classes)
 }
 
 /// `iastore`, `lastore`, `fastore`, `dastore`, `bastore`, `castore` and `sastore`
@@ -93,15 +97,16 @@ pub fn store_element<'a, C: Classes>(
     frame: &mut Working<'a>,
     classes: &C,
 ) -> Result<(), Reason<'a>>
-    ensures { (at : ℕ) → let m = method_view method.now in let f = held frame.old in let p = plan m (StoreElement element) in
+    ensures { (at : ℕ) → let m = method_view method.now in let f = held frame.old in
+        let p = typing_rule m (StoreElement element) in
         Done (conditions (C.content classes.now) m at p f) (after m at p f) (held frame.new) result }
 {
-    let wants = [
-        Want::Number(computed_as(element)),
-        Want::Number(Kind::Int),
-        Want::ArrayFor(element),
+    let expected_types = [
+        ExpectedType::Number(computed_as(element)),
+        ExpectedType::Number(Kind::Int),
+        ExpectedType::ArrayFor(element),
     ];
-    pops(method, &wants, None, frame, classes)
+    pops(method, &expected_types, None, frame, classes)
 }
 
 /// `aastore`
@@ -111,13 +116,14 @@ pub fn store_reference_element<'a, C: Classes>(
     frame: &mut Working<'a>,
     classes: &C,
 ) -> Result<(), Reason<'a>>
-    ensures { (at : ℕ) → let m = method_view method.now in let f = held frame.old in let p = plan m StoreReferenceElement in
+    ensures { (at : ℕ) → let m = method_view method.now in let f = held frame.old in
+        let p = typing_rule m StoreReferenceElement in
         Done (conditions (C.content classes.now) m at p f) (after m at p f) (held frame.new) result }
 {
-    let object = Want::Assignable(RefType::Class(OBJECT));
+    let object = ExpectedType::Assignable(RefType::Class(OBJECT));
     pops(
         method,
-        &[object, Want::Number(Kind::Int), object_array()],
+        &[object, ExpectedType::Number(Kind::Int), object_array()],
         None,
         frame,
         classes,
@@ -132,12 +138,13 @@ pub fn load_reference_element<'a, C: Classes>(
     classes: &C,
 ) -> Result<(), Reason<'a>>
     ensures { (at : ℕ) → let m = method_view method.now in let f = held frame.old in
-        Done (conditions (C.content classes.now) m at loads_element f) (after m at loads_element f) (held frame.new) result }
+        Done (conditions (C.content classes.now) m at loads_element f) (after m at loads_element f)
+        (held frame.new) result }
 {
     let element = element_beneath(frame.stack());
     pops(
         method,
-        &[Want::Number(Kind::Int), object_array()],
+        &[ExpectedType::Number(Kind::Int), object_array()],
         Some(element),
         frame,
         classes,
@@ -196,12 +203,12 @@ pub fn new_reference_array<'a, C: Classes>(
 }
 
 /// So many sizes of dimensions.
-fn sizes<'a>(alloc: Global, count: u8) -> Result<Vec<Want<'a>>, AllocError>
-    ensures { IfOk result (λ v. map want_view v.items ≡ sizes count) }
+fn sizes<'a>(alloc: Global, count: u8) -> Result<Vec<ExpectedType<'a>>, AllocError>
+    ensures { IfOk result (λ v. map expected_view v.items ≡ sizes count) }
 {
-    let mut wants = Vec::new(alloc);
-    wants.resize(usize::from(count), Want::Number(Kind::Int))?;
-    Ok(wants)
+    let mut expected_types = Vec::new(alloc);
+    expected_types.resize(usize::from(count), ExpectedType::Number(Kind::Int))?;
+    Ok(expected_types)
 }
 
 /// `multianewarray` of the array that it names
@@ -221,8 +228,14 @@ pub fn new_multi_array<'a, C: Classes>(
         return Err(Reason::WrongConstant);
     };
     if dimensions > 0 && made.dimensions() >= dimensions {
-        let wants = sizes(frame.alloc, dimensions)?;
-        pops(method, &wants, Some(reference_to(made)), frame, classes)
+        let expected_types = sizes(frame.alloc, dimensions)?;
+        pops(
+            method,
+            &expected_types,
+            Some(reference_to(made)),
+            frame,
+            classes,
+        )
     } else {
         Err(Reason::WrongConstant)
     }
@@ -240,7 +253,7 @@ pub fn check_cast<'a, C: Classes>(
         let p = check_cast (option_map reference_view named.entry) in
         Done (conditions (C.content classes.now) m at p f) (after m at p f) (held frame.new) result }
 {
-    let object = Want::Assignable(RefType::Class(OBJECT));
+    let object = ExpectedType::Assignable(RefType::Class(OBJECT));
     match named {
         None => Err(Reason::WrongConstant),
         Some(to) => pops(method, &[object], Some(reference_to(to)), frame, classes),
@@ -259,7 +272,7 @@ pub fn instance_of<'a, C: Classes>(
         let p = instance_of (option_map reference_view named.entry) in
         Done (conditions (C.content classes.now) m at p f) (after m at p f) (held frame.new) result }
 {
-    let object = Want::Assignable(RefType::Class(OBJECT));
+    let object = ExpectedType::Assignable(RefType::Class(OBJECT));
     match named {
         None => Err(Reason::WrongConstant),
         Some(_) => pops(method, &[object], Some(VType::Int), frame, classes),

@@ -3,18 +3,18 @@ ghost use Rattle.std.specs.Prelude.{◌≡◌, ◌&&◌, ℕ, not, true, [], map
 ghost use Rattle.names.specs.Types.{type_of, method_of};
 ghost use Rattle.names.specs.ReferenceTypes.{is_class_type};
 ghost use Rattle.pool.specs.MemberViews.{method_constant_view, call_site_view};
-ghost use Rattle.rules.specs.Plans.{arguments_on, pops, result_types, want_of};
+ghost use Rattle.rules.specs.TypingRules.{arguments_on, pops, result_types, expected_of};
 ghost use Rattle.rules.specs.Constants.{is_init_name, may_name, has_room_for_receiver, may_invoke_interface, invoke_static, invoke_virtual, invoke_interface, is_special_name, dynamic_call, invoke_dynamic};
 ghost use Rattle.rules.specs.After.{after};
 ghost use Rattle.rules.specs.Rules.{conditions};
 ghost use Rattle.rules.specs.Bodies.{method_view};
 ghost use Rattle.rules.specs.Held.{held};
 ghost use Rattle.rules.specs.Outcomes.{Done};
-ghost use Rattle.rules.specs.Views.{want_view, pushed_types};
+ghost use Rattle.rules.specs.Views.{expected_view, pushed_types};
 
+use crate::expected::{ExpectedType, expected_of};
 use crate::families::pops;
 use crate::reason::Reason;
-use crate::want::{Want, want_of};
 use crate::working::Working;
 use classfile::CodeMethod;
 use frames::{VType, held_by};
@@ -23,33 +23,37 @@ use names::{FieldType, INIT, MethodType, RefType};
 use pool::{CallSite, MethodConstant};
 use std::alloc::{AllocError, Global};
 
-/// The wants of parameters.
-fn wants_of<'a>(alloc: Global, parameters: &[FieldType<'a>]) -> Result<Vec<Want<'a>>, AllocError>
-    ensures { IfOk result (λ v. map want_view v.items ≡ map want_of (map type_of parameters.now)) }
+/// The expected types of parameters.
+fn expected_types_of<'a>(
+    alloc: Global,
+    parameters: &[FieldType<'a>],
+) -> Result<Vec<ExpectedType<'a>>, AllocError>
+    ensures { IfOk result (λ v. map expected_view v.items ≡ map expected_of (map type_of parameters.now)) }
 {
-    let mut wants = Vec::with_capacity(alloc, parameters.len())?;
+    let mut expected_types = Vec::with_capacity(alloc, parameters.len())?;
     for parameter in parameters {
-        wants.push(want_of(parameter))?;
+        expected_types.push(expected_of(parameter))?;
     }
-    Ok(wants)
+    Ok(expected_types)
 }
 
-/// The wants of a call from the top of the stack down: its arguments, the last one first, and a receiver beneath them, if it
-/// has one.
+/// The expected types of a call from the top of the stack down: its arguments, the last one first, and a receiver
+/// beneath them, if it has one.
 pub fn arguments_on<'a>(
     alloc: Global,
     parameters: &[FieldType<'a>],
-    receiver: Option<Want<'a>>,
-) -> Result<Vec<Want<'a>>, AllocError>
-    ensures { IfOk result (λ v. map want_view v.items ≡ arguments_on (map type_of parameters.now) (option_to_list (option_map want_view receiver.entry))) }
+    receiver: Option<ExpectedType<'a>>,
+) -> Result<Vec<ExpectedType<'a>>, AllocError>
+    ensures { IfOk result (λ v. map expected_view v.items
+        ≡ arguments_on (map type_of parameters.now) (option_to_list (option_map expected_view receiver.entry))) }
 {
-    let mut wants = wants_of(alloc, parameters)?;
-    wants.reverse();
+    let mut expected_types = expected_types_of(alloc, parameters)?;
+    expected_types.reverse();
     match receiver {
-        None => Ok(wants),
-        Some(want) => {
-            wants.push(want)?;
-            Ok(wants)
+        None => Ok(expected_types),
+        Some(expected) => {
+            expected_types.push(expected)?;
+            Ok(expected_types)
         }
     }
 }
@@ -68,16 +72,23 @@ pub fn result_of<'a>(result_type: Option<FieldType<'a>>) -> Option<VType<'a>>
 fn calls<'a, C: Classes>(
     method: &CodeMethod<'_, 'a>,
     called: &MethodType<'a>,
-    receiver: Option<Want<'a>>,
+    receiver: Option<ExpectedType<'a>>,
     frame: &mut Working<'a>,
     classes: &C,
 ) -> Result<(), Reason<'a>>
     ensures { (at : ℕ) → let m = method_view method.now in let f = held frame.old in let t = method_of called.now in
-        let p = pops (arguments_on t.params (option_to_list (option_map want_view receiver.entry))) (result_types t.result) [] true in
+        let p = pops (arguments_on t.params (option_to_list (option_map expected_view receiver.entry)))
+        (result_types t.result) [] true in
         Done (conditions (C.content classes.now) m at p f) (after m at p f) (held frame.new) result }
 {
-    let wants = arguments_on(frame.alloc, &called.params, receiver)?;
-    pops(method, &wants, result_of(called.result), frame, classes)
+    let expected_types = arguments_on(frame.alloc, &called.params, receiver)?;
+    pops(
+        method,
+        &expected_types,
+        result_of(called.result),
+        frame,
+        classes,
+    )
 }
 
 /// Whether the method is an instance initialization method by its name (JVMS 2.9.1).
@@ -113,7 +124,8 @@ pub fn has_room_for_receiver(called: &MethodConstant<'_>) -> bool
 
 /// Whether `invokestatic` may name the method.
 fn may_invoke_static(major: u16, called: &MethodConstant<'_>) -> bool
-    ensures { let c = method_constant_view called.now in result ≡ (is_class_type c.class && (not (is_init_name c) && may_name major c.interface)) }
+    ensures { let c = method_constant_view called.now in
+        result ≡ (is_class_type c.class && (not (is_init_name c) && may_name major c.interface)) }
 {
     is_of_class(called) && !is_init(called) && may_name(major, called)
 }
@@ -142,7 +154,8 @@ pub fn invoke_static<'a, C: Classes>(
 
 /// Whether `invokevirtual` may name the method.
 fn may_invoke_virtual(called: &MethodConstant<'_>) -> bool
-    ensures { let c = method_constant_view called.now in result ≡ (not c.interface && (not (is_init_name c) && has_room_for_receiver c)) }
+    ensures { let c = method_constant_view called.now in
+        result ≡ (not c.interface && (not (is_init_name c) && has_room_for_receiver c)) }
 {
     !called.interface && !is_init(called) && has_room_for_receiver(called)
 }
@@ -163,14 +176,15 @@ pub fn invoke_virtual<'a, C: Classes>(
         return Err(Reason::WrongConstant);
     };
     if may_invoke_virtual(called) {
-        let receiver = Some(Want::Assignable(called.class));
+        let receiver = Some(ExpectedType::Assignable(called.class));
         calls(method, &called.method_type, receiver, frame, classes)
     } else {
         Err(Reason::WrongConstant)
     }
 }
 
-/// Whether `invokeinterface` may name the method, with a count that is to be the width of the arguments and the receiver.
+/// Whether `invokeinterface` may name the method, with a count that is to be the width of the arguments and the
+/// receiver.
 fn may_invoke_interface(count: u8, called: &MethodConstant<'_>) -> bool
     ensures { result ≡ may_invoke_interface count (method_constant_view called.now) }
 {
@@ -198,14 +212,15 @@ pub fn invoke_interface<'a, C: Classes>(
         return Err(Reason::WrongConstant);
     };
     if may_invoke_interface(count, called) {
-        let receiver = Some(Want::Assignable(called.class));
+        let receiver = Some(ExpectedType::Assignable(called.class));
         calls(method, &called.method_type, receiver, frame, classes)
     } else {
         Err(Reason::WrongConstant)
     }
 }
 
-/// Whether a call site has a name that does not begin with '<', as `<init>` and `<clinit>` do (JVMS 4.10.1.9, invokedynamic).
+/// Whether a call site has a name that does not begin with '<', as `<init>` and `<clinit>` do (JVMS 4.10.1.9,
+/// invokedynamic).
 fn may_be_called(site: &CallSite<'_>) -> bool
     ensures { result ≡ not (is_special_name (call_site_view site.now)) }
 {

@@ -1,12 +1,12 @@
-//! Instructions that take operands off the stack and push a result: the rule of each in a function of its own, so that what one
-//! is given is not made for the others.
+//! Instructions that take operands off the stack and push a result: the rule of each in a function of its own, so that
+//! what one is given is not made for the others.
 ghost use Rattle.std.specs.Prelude.{◌≡◌, [], ◌∷◌, true, false};
 ghost use Rattle.insn.specs.Acts.{numeric_row};
 ghost use Rattle.insn.specs.declared.operation.Kind.TheVariants.{Int};
 ghost use Rattle.frames.specs.Slots.{number_type};
 ghost use Rattle.frames.specs.VerificationType.{int, null};
 ghost use Rattle.names.specs.StandardNames.{throwable_name};
-ghost use Rattle.rules.specs.Plans.{number, numbers, any_reference, any_array, class_want, pops, gives, takes};
+ghost use Rattle.rules.specs.TypingRules.{number, numbers, any_reference, any_array, expected_class, pops, gives, takes};
 ghost use Rattle.rules.specs.Table.{leaves_with};
 ghost use Rattle.rules.specs.After.{after};
 ghost use Rattle.rules.specs.Rules.{conditions};
@@ -14,9 +14,9 @@ ghost use Rattle.rules.specs.Bodies.{method_view};
 ghost use Rattle.rules.specs.Held.{held};
 ghost use Rattle.rules.specs.Outcomes.{Done};
 
+use crate::expected::{ExpectedType, throwable};
 use crate::families::{gives, judge_left, pops};
 use crate::reason::Reason;
-use crate::want::{Want, throwable};
 use crate::working::Working;
 use classfile::CodeMethod;
 use frames::{VType, number_type};
@@ -121,7 +121,7 @@ pub fn takes_reference<'a, C: Classes>(
         let p = takes (any_reference ∷ []) in
         Done (conditions (C.content classes.now) m 0 p f) (after m 0 p f) (held frame.new) result }
 {
-    pops(method, &[Want::Reference], None, frame, classes)
+    pops(method, &[ExpectedType::Reference], None, frame, classes)
 }
 
 /// Two references are compared.
@@ -135,7 +135,7 @@ pub fn takes_references<'a, C: Classes>(
         let p = takes (any_reference ∷ any_reference ∷ []) in
         Done (conditions (C.content classes.now) m 0 p f) (after m 0 p f) (held frame.new) result }
 {
-    pops(method, &[Want::Reference; 2], None, frame, classes)
+    pops(method, &[ExpectedType::Reference; 2], None, frame, classes)
 }
 
 /// `athrow`
@@ -146,7 +146,7 @@ pub fn throws<'a, C: Classes>(
     classes: &C,
 ) -> Result<(), Reason<'a>>
     ensures { let m = method_view method.now in let f = held frame.old in
-        let p = leaves_with (class_want throwable_name) in
+        let p = leaves_with (expected_class throwable_name) in
         Done (conditions (C.content classes.now) m 0 p f) (after m 0 p f) (held frame.new) result }
 {
     pops(method, &[throwable()], None, frame, classes)
@@ -163,5 +163,11 @@ pub fn array_length<'a, C: Classes>(
         let p = pops (any_array ∷ []) (int ∷ []) [] true in
         Done (conditions (C.content classes.now) m 0 p f) (after m 0 p f) (held frame.new) result }
 {
-    pops(method, &[Want::Array], Some(VType::Int), frame, classes)
+    pops(
+        method,
+        &[ExpectedType::Array],
+        Some(VType::Int),
+        frame,
+        classes,
+    )
 }

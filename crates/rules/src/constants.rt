@@ -3,7 +3,7 @@ ghost use Rattle.std.specs.Prelude.{◌≡◌, ℕ, option_map};
 ghost use Rattle.names.specs.Types.{type_of};
 ghost use Rattle.pool.specs.Members.{constant_at};
 ghost use Rattle.rules.specs.Constants.{is_bootstrapped, load_dynamic, load_constant, load_wide_constant};
-ghost use Rattle.rules.specs.Plans.{where_judged};
+ghost use Rattle.rules.specs.TypingRules.{where_judged};
 ghost use Rattle.rules.specs.After.{after};
 ghost use Rattle.rules.specs.Rules.{conditions};
 ghost use Rattle.rules.specs.Bodies.{method_view};
@@ -19,7 +19,8 @@ use hierarchy::Classes;
 use names::{CLASS, FieldType, METHOD_HANDLE, METHOD_TYPE, STRING};
 use pool::Constant;
 
-/// A value of this type, which is to take so many units, where the class has a bootstrap method for the constant, which may be used.
+/// A value of this type, which is to take so many units, where the class has a bootstrap method for the constant, which
+/// may be used.
 fn gives_computed<'a, C: Classes>(
     method: &CodeMethod<'_, 'a>,
     units: u8,

@@ -3,7 +3,7 @@ ghost use Rattle.std.specs.Prelude.{◌≡◌, ℕ, [], option_map};
 ghost use Rattle.classfile.specs.Methods.{is_name};
 ghost use Rattle.pool.specs.MemberViews.{method_constant_view};
 ghost use Rattle.frames.specs.VerificationType.{type_of};
-ghost use Rattle.rules.specs.Plans.{arguments_on, constructs};
+ghost use Rattle.rules.specs.TypingRules.{arguments_on, constructs};
 ghost use Rattle.rules.specs.Table.{class_made_at};
 ghost use Rattle.rules.specs.After.{after, class_after};
 ghost use Rattle.rules.specs.Rules.{conditions, may_construct};
@@ -47,8 +47,8 @@ fn is_name(known: Option<&[u8]>, name: &[u8]) -> bool
     }
 }
 
-/// Whether a constructor of the class may be called on the object: the own one takes those of its class and of the direct
-/// superclass, another one those of the class that was made.
+/// Whether a constructor of the class may be called on the object: the own one takes those of its class and of the
+/// direct superclass, another one those of the class that was made.
 fn may_construct<S: Starts>(
     method: &CodeMethod<'_, '_>,
     starts: &S,
@@ -96,8 +96,8 @@ pub fn constructs<'a, S: Starts, C: Classes>(
         let p = constructs name.now (arguments_on (method_constant_view called.now).type.params []) in
         Done (conditions (C.content classes.now) m at p f) (after m at p f) (held frame.new) result }
 {
-    let wants = arguments_on(frame.alloc, &called.method_type.params, None)?;
-    let Some(answer) = take(&wants, frame, classes) else {
+    let expected_types = arguments_on(frame.alloc, &called.method_type.params, None)?;
+    let Some(answer) = take(&expected_types, frame, classes) else {
         return Err(Reason::MissingOperand);
     };
     let Some(object) = frame.pop() else {

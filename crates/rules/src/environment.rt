@@ -30,8 +30,8 @@ pub struct Env<'e, 'c, 'a, C: Classes> {
 }
 
 impl<'e, 'c, 'a, C: Classes> Env<'e, 'c, 'a, C> {
-    /// The environment of the method of this number, whose code this list is, as [`decode_code`](insn::decode_code) answers it. The
-    /// number, which counts from 0, is that of a method with a Code attribute. Takes no memory.
+    /// The environment of the method of this number, whose code this list is, as [`decode_code`](insn::decode_code)
+    /// answers it. The number, which counts from 0, is that of a method with a Code attribute. Takes no memory.
     pub fn new(
         formed: &Formed<'c, 'a>,
         number: usize,
@@ -39,9 +39,11 @@ impl<'e, 'c, 'a, C: Classes> Env<'e, 'c, 'a, C> {
         classes: &'e C,
     ) -> Env<'e, 'c, 'a, C>
         requires coded { IsSome (code_at (class_view formed.now.class.now) number) }
-        requires listed { (body : CodeBody) → code_at (class_view formed.now.class.now) number ≡ Some body → SpellsCode 0 body.code (views list.now) }
+        requires listed { (body : CodeBody) → code_at (class_view formed.now.class.now) number ≡ Some body
+            → SpellsCode 0 body.code (views list.now) }
         // It judges by what the class file says of that method, with the instructions of the list.
-        ensures method { method_of (judged_class formed.now) number (acts (views list.now)) ≡ Some (method_view result.method) }
+        ensures method { method_of (judged_class formed.now) number (acts (views list.now))
+            ≡ Some (method_view result.method) }
         // It holds what it was made of.
         ensures here { IsAt formed.now number result.method }
         ensures list { result.list.now ≡ list.now }

@@ -7,7 +7,7 @@ ghost use Rattle.frames.specs.VerificationType as frames;
 ghost use Rattle.hierarchy.specs.Class.{ClassFact};
 ghost use Rattle.hierarchy.specs.Answer.{outcome_of};
 ghost use Rattle.insn.specs.Acts.{kind_units};
-ghost use Rattle.rules.specs.Plans.{number, any_reference, pops, loads, counts, returns};
+ghost use Rattle.rules.specs.TypingRules.{number, any_reference, pops, loads, counts, returns};
 ghost use Rattle.rules.specs.Table.{return_number, return_nothing, return_reference};
 ghost use Rattle.rules.specs.After.{after};
 ghost use Rattle.rules.specs.Rules.{conditions};
@@ -16,9 +16,9 @@ ghost use Rattle.rules.specs.Held.{held};
 ghost use Rattle.rules.specs.Views.{pushed_types};
 ghost use Rattle.rules.specs.Outcomes.{Done, pushed, settled, result_kind};
 
+use crate::expected::{Expected, ExpectedType};
 use crate::operands::take;
 use crate::reason::Reason;
-use crate::want::{Ask, Want};
 use crate::working::Working;
 use classfile::CodeMethod;
 use frames::VType;
@@ -89,7 +89,7 @@ pub fn gives<'a, C: Classes>(
 }
 
 /// Pops the operands that are asked, the top first, and pushes a result.
-pub fn pops<'a, A: Ask<'a>, C: Classes>(
+pub fn pops<'a, A: Expected<'a>, C: Classes>(
     method: &CodeMethod<'_, 'a>,
     asked: &[A],
     gives: Option<VType<'a>>,
@@ -110,7 +110,7 @@ pub fn pops<'a, A: Ask<'a>, C: Classes>(
 }
 
 /// A local variable onto the stack.
-pub fn loads<'a, A: Ask<'a>, C: Classes>(
+pub fn loads<'a, A: Expected<'a>, C: Classes>(
     method: &CodeMethod<'_, 'a>,
     ask: A,
     local: u16,
@@ -167,7 +167,7 @@ pub fn loads_reference<'a, C: Classes>(
         let p = loads any_reference local 1 in
         Done (conditions (C.content classes.now) m 0 p f) (after m 0 p f) (held frame.new) result }
 {
-    loads(method, Want::Reference, local, 1, frame, classes)
+    loads(method, ExpectedType::Reference, local, 1, frame, classes)
 }
 
 /// An int in a local variable that is changed.
@@ -256,7 +256,7 @@ pub fn return_reference<'a, C: Classes>(
 {
     match reference_of_result(method.result_type) {
         None => Err(Reason::WrongReturn),
-        Some(t) => pops(method, &[Want::Assignable(t)], None, frame, classes),
+        Some(t) => pops(method, &[ExpectedType::Assignable(t)], None, frame, classes),
     }
 }
 

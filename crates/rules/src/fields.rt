@@ -8,11 +8,11 @@ ghost use Rattle.rules.specs.Bodies.{method_view};
 ghost use Rattle.rules.specs.Held.{held};
 ghost use Rattle.rules.specs.Naming.{is_own};
 ghost use Rattle.rules.specs.Outcomes.{Done};
-ghost use Rattle.rules.specs.Views.{want_view};
+ghost use Rattle.rules.specs.Views.{expected_view};
 
+use crate::expected::{ExpectedType, expected_of};
 use crate::families::{gives, pops};
 use crate::reason::Reason;
-use crate::want::{Want, want_of};
 use crate::working::Working;
 use classfile::CodeMethod;
 use frames::held_by;
@@ -52,7 +52,13 @@ pub fn put_static<'a, C: Classes>(
 {
     match named {
         None => Err(Reason::WrongConstant),
-        Some(field) => pops(method, &[want_of(&field.field_type)], None, frame, classes),
+        Some(field) => pops(
+            method,
+            &[expected_of(&field.field_type)],
+            None,
+            frame,
+            classes,
+        ),
     }
 }
 
@@ -72,7 +78,7 @@ pub fn get_field<'a, C: Classes>(
         None => Err(Reason::WrongConstant),
         Some(field) => pops(
             method,
-            &[Want::Assignable(RefType::Class(field.class))],
+            &[ExpectedType::Assignable(RefType::Class(field.class))],
             Some(held_by(&field.field_type)),
             frame,
             classes,
@@ -80,20 +86,25 @@ pub fn get_field<'a, C: Classes>(
     }
 }
 
-/// The want of `putfield` for the object: in an instance initialization method it may be the own one, where its class declares
-/// the field.
-fn target_of<'a>(_method: &CodeMethod<'_, 'a>, field: &FieldConstant<'a>, own: bool) -> Want<'a>
+/// The expected type of `putfield` for the object: in an instance initialization method it may be the own one, where
+/// its class declares the field.
+fn target_of<'a>(
+    _method: &CodeMethod<'_, 'a>,
+    field: &FieldConstant<'a>,
+    own: bool,
+) -> ExpectedType<'a>
     requires { own ≡ is_own (method_view _method.now) (Some (field_constant_view field.now)) }
-    ensures { want_view result ≡ target_of (method_view _method.now) (field_constant_view field.now) }
+    ensures { expected_view result ≡ target_of (method_view _method.now) (field_constant_view field.now) }
 {
     if own {
-        Want::OwnOr(field.class)
+        ExpectedType::OwnOr(field.class)
     } else {
-        Want::Assignable(RefType::Class(field.class))
+        ExpectedType::Assignable(RefType::Class(field.class))
     }
 }
 
-/// `putfield` of the field that it names; `own` tells whether an instance initialization method sets a field of its own class.
+/// `putfield` of the field that it names; `own` tells whether an instance initialization method sets a field of its own
+/// class.
 #[inline(never)]
 pub fn put_field<'a, C: Classes>(
     method: &CodeMethod<'_, 'a>,
@@ -113,7 +124,7 @@ pub fn put_field<'a, C: Classes>(
             let target = target_of(method, &field, own);
             pops(
                 method,
-                &[want_of(&field.field_type), target],
+                &[expected_of(&field.field_type), target],
                 None,
                 frame,
                 classes,

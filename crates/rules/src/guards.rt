@@ -1,4 +1,5 @@
-//! Which constants of a class name members that are guarded: protected ones, which it may use on objects of its own alone (JVMS 4.10.1.8).
+//! Which constants of a class name members that are guarded: protected ones, which it may use on objects of its own
+//! alone (JVMS 4.10.1.8).
 ghost use Rattle.std.specs.Prelude.{◌≡◌, true, false, [], List, option_map, slice_get, Some, IfOk, IfSome};
 ghost use Rattle.names.specs.References.{reference_view};
 ghost use Rattle.pool.specs.Entries.{Entry};
@@ -38,8 +39,8 @@ pub struct References<'a> {
     long: BTreeMap<(u16, u16, u16), usize>,
 }
 
-/// Of each constant of a pool in turn a number, and answers by these numbers: of a Fieldref and a Methodref of another class than the class
-/// itself, whether the member that it names is guarded.
+/// Of each constant of a pool in turn a number, and answers by these numbers: of a Fieldref and a Methodref of another
+/// class than the class itself, whether the member that it names is guarded.
 #[derive(Drop)]
 pub struct Guards {
     places: Vec<usize>,
@@ -56,7 +57,8 @@ fn own_name<'a>(class: &ClassFile<'a>) -> &'a [u8]
     }
 }
 
-/// Whether the constant at an index is a Fieldref or a Methodref of the Class constant by which the class file names its own class.
+/// Whether the constant at an index is a Fieldref or a Methodref of the Class constant by which the class file names
+/// its own class.
 pub fn names_own(class: &ClassFile<'_>, index: u16) -> bool
     ensures { result ≡ names_own class.now index }
 {
@@ -265,9 +267,11 @@ impl Guards {
         Ok(Guards { places, answers })
     }
 
-    /// Whether the member is guarded that the constant at an index names, which is a field or a method of another class than the class itself.
+    /// Whether the member is guarded that the constant at an index names, which is a field or a method of another class
+    /// than the class itself.
     pub fn get(&self, index: u16) -> bool
-        ensures { (classes : List ClassFact) (class : ClassFile) (r : MemberReference) → AreGuards classes class self.now → names_own class index ≡ false
+        ensures { (classes : List ClassFact) (class : ClassFile) (r : MemberReference)
+            → AreGuards classes class self.now → names_own class index ≡ false
             → IsReference class.constant_pool index r → result ≡ is_guarded classes (own_name class) r }
     {
         if index == 0 {

@@ -9,8 +9,8 @@ ghost use Rattle.rules.specs.After.{after, top_of};
 ghost use Rattle.rules.specs.Bodies.{method_view};
 ghost use Rattle.rules.specs.Held.{held};
 ghost use Rattle.rules.specs.Naming.{IsNamed};
-ghost use Rattle.rules.specs.Plans.{arguments_on};
-ghost use Rattle.rules.specs.Table.{plan};
+ghost use Rattle.rules.specs.TypingRules.{arguments_on};
+ghost use Rattle.rules.specs.Table.{typing_rule};
 ghost use Rattle.rules.specs.Taken.{taken, at_most, with_receiver, without_receiver, KeepsItems};
 ghost use Rattle.rules.specs.Ways.{is_plain};
 
@@ -62,7 +62,7 @@ fn at_most(act: &Act<'_>, called: usize, site: usize) -> usize
 /// How many items of the stack an instruction takes at most.
 fn taken_by(method: &CodeMethod<'_, '_>, act: &Act<'_>, named: &Named<'_>) -> usize
     requires { IsNamed (method_view method.now) (act_view act.now) named.now }
-    ensures { taken (plan (method_view method.now) (act_view act.now)) ≤ result }
+    ensures { taken (typing_rule (method_view method.now) (act_view act.now)) ≤ result }
 {
     let called = with_receiver(named.method());
     let site = without_receiver(named.site());
@@ -90,7 +90,8 @@ pub fn items_kept<'a>(
     frame: &Working<'a>,
 ) -> usize
     requires { IsNamed (method_view method.now) (act_view act.now) named.now }
-    ensures { (at : ℕ) → let m = method_view method.now in let f = held frame.now in KeepsItems result f (after m at (plan m (act_view act.now)) f) }
+    ensures { (at : ℕ) → let m = method_view method.now in let f = held frame.now in
+        KeepsItems result f (after m at (typing_rule m (act_view act.now)) f) }
 {
     let beneath = frame
         .stack()
@@ -112,7 +113,8 @@ pub fn items_kept_plainly<'a>(
     frame: &Working<'a>,
 ) -> usize
     requires { is_plain (act_view act.now) ≡ true }
-    ensures { (at : ℕ) → let m = method_view method.now in let f = held frame.now in KeepsItems result f (after m at (plan m (act_view act.now)) f) }
+    ensures { (at : ℕ) → let m = method_view method.now in let f = held frame.now in
+        KeepsItems result f (after m at (typing_rule m (act_view act.now)) f) }
 {
     frame.stack().len().saturating_sub(FEW)
 }

@@ -25,14 +25,14 @@
 //! - `members`: the members that the instructions of a class name; `class_constants`: its constants, as they name them.
 //! - `protected`: on which objects protected members may be used.
 //! - `merging`: the reasons of two judgements taken together.
-//! - `want`: what is asked of an operand.
+//! - `expected`: what is asked of an operand.
 //! - `running`: the rule of an instruction, on a frame in place.
 //! - `ways`: where an instruction goes, and whether it leaves the locals as they are.
 //! - `applying`: the rule of an instruction, on a copy of the frame.
 //!
 //! Definitions:
 //!
-//! - `specs/Plans.antt`: what rules ask and do, family by family.
+//! - `specs/TypingRules.antt`: what rules ask and do, family by family.
 //! - `specs/Constants.antt`: rules of instructions that name constants.
 //! - `specs/Table.antt`: the rule of each instruction.
 //! - `specs/Naming.antt`: which constant an instruction names.
@@ -52,6 +52,7 @@ mod constants;
 mod constructing;
 mod declaring_class;
 mod environment;
+mod expected;
 mod families;
 mod fields;
 mod guards;
@@ -70,7 +71,6 @@ mod slots;
 mod special;
 mod stacks;
 mod stores;
-mod want;
 mod ways;
 mod working;
 
@@ -88,6 +88,7 @@ pub use reason::Reason;
 pub use replacing::replaced_object;
 pub use running::{run, run_plain};
 pub use ways::{
-    branches, branches_by, falls, goes_on, is_plain, keeps_locals, plans_go_as_acts, stored_to,
+    branches, branches_by, falls, goes_on, is_plain, keeps_locals, stored_to,
+    typing_rules_go_as_acts,
 };
 pub use working::Working;

@@ -2,7 +2,7 @@
 ghost use Rattle.std.specs.Prelude.{◌≡◌, ℕ, List};
 ghost use Rattle.pool.specs.Members.{class_at};
 ghost use Rattle.hierarchy.specs.Class.{ClassFact};
-ghost use Rattle.rules.specs.Plans.{makes};
+ghost use Rattle.rules.specs.TypingRules.{makes};
 ghost use Rattle.rules.specs.Constants.{new_object};
 ghost use Rattle.rules.specs.After.{after};
 ghost use Rattle.rules.specs.Rules.{conditions};

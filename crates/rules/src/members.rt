@@ -1,4 +1,5 @@
-//! The members that the instructions of a class name: its own fields, its bootstrap methods, and which members of other classes are guarded.
+//! The members that the instructions of a class name: its own fields, its bootstrap methods, and which members of other
+//! classes are guarded.
 ghost use Rattle.std.specs.Prelude.{◌≡◌};
 
 use crate::guards::{Guards, names_own};
@@ -10,8 +11,8 @@ use pool::Descriptors;
 use std::alloc::{AllocError, Global};
 use std::marker::Model;
 
-/// The members that the instructions of a class name, among classes. Which of them are guarded is found for all at once, when it is first asked of a
-/// constant that does not name the class itself.
+/// The members that the instructions of a class name, among classes. Which of them are guarded is found for all at
+/// once, when it is first asked of a constant that does not name the class itself.
 #[derive(Drop)]
 pub struct Members<'k, 'c, 'a, C: Classes> {
     alloc: Global,
@@ -30,7 +31,8 @@ impl<'k, 'c, 'a, C: Classes> Model for Members<'k, 'c, 'a, C> {
 
     ghost view = { λ m. record { class = m.class.now; classes = C.content m.classes.now } };
 
-    ghost invariant = { λ m. (m.fields ≡ m.class.now) × (m.bootstraps ≡ m.class.now) × IfSome m.guards (AreGuards (C.content m.classes.now) m.class.now) };
+    ghost invariant = { λ m. (m.fields ≡ m.class.now) × (m.bootstraps ≡ m.class.now)
+        × IfSome m.guards (AreGuards (C.content m.classes.now) m.class.now) };
 }
 
 impl<'k, 'c, 'a, C: Classes> Members<'k, 'c, 'a, C> {
@@ -55,7 +57,8 @@ impl<'k, 'c, 'a, C: Classes> Members<'k, 'c, 'a, C> {
         }
     }
 
-    /// Looks up what an instruction that means this names, by the constants, the fields and the bootstrap methods of the class. The only refusal is want of memory.
+    /// Looks up what an instruction that means this names, by the constants, the fields and the bootstrap methods of
+    /// the class. The only refusal is want of memory.
     pub fn named(
         &mut self,
         constants: &mut Descriptors<'_, 'a>,
@@ -88,8 +91,8 @@ impl<'k, 'c, 'a, C: Classes> Members<'k, 'c, 'a, C> {
         }
     }
 
-    /// Whether the constant at an index names a member that is guarded, where it is a field or a method of a class: one that the class may use on
-    /// objects of its own alone (JVMS 4.10.1.8). The only refusal is want of memory.
+    /// Whether the constant at an index names a member that is guarded, where it is a field or a method of a class: one
+    /// that the class may use on objects of its own alone (JVMS 4.10.1.8). The only refusal is want of memory.
     pub fn is_guarded(&mut self, index: u16) -> Result<bool, AllocError>
         ensures same { self.new ≡ self.old }
         ensures found { IfOk result (λ b. (r : MemberReference) → IsReference self.old.class.constant_pool index r

@@ -7,7 +7,8 @@ use crate::reason::Reason;
 
 /// The lesser of two reasons, if there is another.
 pub fn first_reason<'a>(one: Reason<'a>, other: Result<(), Reason<'a>>) -> Reason<'a>
-    ensures { (cs ds : Conditions) → Judges cs (Err one.entry) → Judges ds other.entry → Judges (cs ++ ds) (Err result) }
+    ensures { (cs ds : Conditions) → Judges cs (Err one.entry) → Judges ds other.entry
+        → Judges (cs ++ ds) (Err result) }
 {
     match other {
         Ok(()) => one,

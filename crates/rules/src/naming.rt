@@ -80,7 +80,8 @@ impl<'a> Named<'a> {
 
     /// The method that the instruction names.
     pub fn method(&self) -> Option<&MethodConstant<'a>>
-        ensures { option_map (λ c. method_constant_view c.now) result ≡ option_map method_constant_view (kept_method self.now) }
+        ensures { option_map (λ c. method_constant_view c.now) result
+            ≡ option_map method_constant_view (kept_method self.now) }
     {
         match self {
             Named::Method(Some(method)) => Some(method),
@@ -111,8 +112,8 @@ impl<'a> Named<'a> {
         }
     }
 
-    /// Whether the class has a bootstrap method for the constant that the instruction names, which may be used. Of a constant that is no Dynamic
-    /// and no InvokeDynamic nothing is asked.
+    /// Whether the class has a bootstrap method for the constant that the instruction names, which may be used. Of a
+    /// constant that is no Dynamic and no InvokeDynamic nothing is asked.
     pub fn is_bootstrapped(&self) -> bool
         ensures { result ≡ kept_bootstrapped self.now }
     {
@@ -125,8 +126,8 @@ impl<'a> Named<'a> {
     }
 }
 
-/// Whether the field that the Fieldref at an index names is one of the method's class, and the method an instance initialization
-/// method.
+/// Whether the field that the Fieldref at an index names is one of the method's class, and the method an instance
+/// initialization method.
 fn is_own<'a>(
     fields: &mut OwnFields<'_, 'a>,
     method: &CodeMethod<'_, 'a>,
@@ -158,7 +159,8 @@ fn bootstrap_of(pool: &Pool<'_>, index: u16) -> Option<u16>
     }
 }
 
-/// Whether the class has a bootstrap method for the constant at an index, which may be used. Where such constants are refused, none is looked at.
+/// Whether the class has a bootstrap method for the constant at an index, which may be used. Where such constants are
+/// refused, none is looked at.
 fn is_bootstrapped(
     bootstraps: &mut Bootstraps<'_, '_>,
     method: &CodeMethod<'_, '_>,
@@ -166,7 +168,8 @@ fn is_bootstrapped(
 ) -> Result<bool, AllocError>
     requires class { bootstraps.old ≡ method.now.class.now }
     ensures same { bootstraps.new ≡ bootstraps.old }
-    ensures found { let m = method_view method.now in IfOk result (λ b. b ≡ is_bootstrapped m (constant_at m.constant_pool index)) }
+    ensures found { let m = method_view method.now in
+        IfOk result (λ b. b ≡ is_bootstrapped m (constant_at m.constant_pool index)) }
 {
     let Some(number) = bootstrap_of(&method.class.constant_pool, index) else {
         return Ok(true);
@@ -177,7 +180,8 @@ fn is_bootstrapped(
     bootstraps.has(number)
 }
 
-/// Looks up what an instruction that means this names, by the constants, the fields and the bootstrap methods of its class. The only refusal is want of memory.
+/// Looks up what an instruction that means this names, by the constants, the fields and the bootstrap methods of its
+/// class. The only refusal is want of memory.
 pub fn named_by<'a>(
     constants: &mut Descriptors<'_, 'a>,
     fields: &mut OwnFields<'_, 'a>,

@@ -1,15 +1,15 @@
-//! The wants of operands.
+//! The expected types of operands.
 ghost use Rattle.std.specs.Prelude.{◌≡◌, List, true, map, MatchOption};
 ghost use Rattle.hierarchy.specs.Class.{ClassFact};
 ghost use Rattle.hierarchy.specs.Answer.{outcome_of, yes_if};
-ghost use Rattle.rules.specs.Plans.{number};
+ghost use Rattle.rules.specs.TypingRules.{number};
 ghost use Rattle.frames.specs.VerificationType.{type_of};
 ghost use Rattle.rules.specs.Rules.{accepts, is_array, is_array_for, is_reference, is_short, own_or_answer};
 ghost use Rattle.rules.specs.Outcomes.{TookOff};
 ghost use Rattle.rules.specs.Held.{held};
-ghost use Rattle.rules.specs.Views.{want_view};
+ghost use Rattle.rules.specs.Views.{expected_view};
 
-use crate::want::{Ask, Want};
+use crate::expected::{Expected, ExpectedType};
 use crate::working::Working;
 use frames::{VType, assignable, both, number_type, reference_to};
 use hierarchy::{Answer, Classes};
@@ -105,27 +105,29 @@ fn own_or_answer<'a, C: Classes>(name: &'a [u8], t: &VType<'a>, classes: &C) -> 
 }
 
 /// Whether a type meets what is asked.
-pub fn accepts<'a, C: Classes>(want: Want<'a>, t: &VType<'a>, classes: &C) -> Answer<'a>
-    ensures { outcome_of result ≡ accepts (C.content classes.now) (want_view want.entry) (type_of t.now) }
+pub fn accepts<'a, C: Classes>(expected: ExpectedType<'a>, t: &VType<'a>, classes: &C) -> Answer<'a>
+    ensures { outcome_of result ≡ accepts (C.content classes.now) (expected_view expected.entry) (type_of t.now) }
 {
-    match want {
-        Want::Number(kind) => assignable(t, &number_type(kind), classes),
-        Want::Assignable(to) => assignable(t, &reference_to(to), classes),
-        Want::Reference => yes_if(is_reference(t)),
-        Want::Array => yes_if(is_array(t)),
-        Want::ArrayFor(primitive) => yes_if(is_array_for(primitive, t)),
-        Want::OwnOr(name) => own_or_answer(name, t, classes),
+    match expected {
+        ExpectedType::Number(kind) => assignable(t, &number_type(kind), classes),
+        ExpectedType::Assignable(to) => assignable(t, &reference_to(to), classes),
+        ExpectedType::Reference => yes_if(is_reference(t)),
+        ExpectedType::Array => yes_if(is_array(t)),
+        ExpectedType::ArrayFor(primitive) => yes_if(is_array_for(primitive, t)),
+        ExpectedType::OwnOr(name) => own_or_answer(name, t, classes),
     }
 }
 
 /// Takes what is asked off the stack, the top first. None where there are too few items, and then nothing is said of
 /// those that are left.
-pub fn take<'a, A: Ask<'a>, C: Classes>(
+pub fn take<'a, A: Expected<'a>, C: Classes>(
     asked: &[A],
     frame: &mut Working<'a>,
     classes: &C,
 ) -> Option<Answer<'a>>
-    ensures { let wants = map A.asked asked.now in MatchOption result (is_short wants (held frame.old).stack ≡ true) (λ a. TookOff (C.content classes.now) wants (held frame.old) (outcome_of a) (held frame.new)) }
+    ensures { let expected_types = map A.asked asked.now in
+        MatchOption result (is_short expected_types (held frame.old).stack ≡ true)
+        (λ a. TookOff (C.content classes.now) expected_types (held frame.old) (outcome_of a) (held frame.new)) }
 {
     let mut so_far = Answer::Yes;
     for ask in asked {

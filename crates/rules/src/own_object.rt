@@ -6,9 +6,9 @@ ghost use Rattle.insn.specs.Stacks.{beneath};
 ghost use Rattle.insn.specs.Views.{act_view};
 ghost use Rattle.frames.specs.DeclaredFrames.{is_uninit_this};
 ghost use Rattle.frames.specs.VerificationType.{type_of};
-ghost use Rattle.rules.specs.Plans.{arguments_on};
+ghost use Rattle.rules.specs.TypingRules.{arguments_on};
 ghost use Rattle.rules.specs.Constants.{has_room_for_receiver, invoke_special, is_init_name};
-ghost use Rattle.rules.specs.Table.{plan};
+ghost use Rattle.rules.specs.Table.{typing_rule};
 ghost use Rattle.rules.specs.After.{top_of};
 ghost use Rattle.rules.specs.Rules.{constructs_own};
 ghost use Rattle.rules.specs.Bodies.{method_view};
@@ -47,14 +47,17 @@ fn is_constructor(called: &MethodConstant<'_>) -> bool
 
 /// Whether the own object, not initialized, stands beneath the arguments.
 fn is_on_own<'a>(called: &MethodConstant<'a>, frame: &Working<'a>) -> bool
-    ensures { result ≡ is_uninit_this (top_of (beneath (arguments_on (method_constant_view called.now).type.params []) (held frame.now).stack)) }
+    ensures { result ≡ is_uninit_this
+        (top_of (beneath (arguments_on (method_constant_view called.now).type.params []) (held frame.now).stack)) }
 {
     is_own(&item_beneath(called.method_type.params.len(), frame.stack()))
 }
 
 /// Whether `invokespecial` of the method calls a constructor on the own object.
 fn calls_on_own<'a>(named: Option<&MethodConstant<'a>>, frame: &Working<'a>) -> bool
-    ensures { (major : ℕ) (me : List ℕ) → result ≡ constructs_own (invoke_special major me (option_map (λ c. method_constant_view c.now) named.entry)) (held frame.now) }
+    ensures { (major : ℕ) (me : List ℕ)
+        → result ≡ constructs_own (invoke_special major me (option_map (λ c. method_constant_view c.now) named.entry))
+        (held frame.now) }
 {
     match named {
         None => false,
@@ -72,8 +75,8 @@ pub fn special_index(act: &Act<'_>) -> Option<u16>
     }
 }
 
-/// Whether the instruction that means this calls a constructor on the own object, which is not initialized (JVMS 4.10.1.9,
-/// invokespecial).
+/// Whether the instruction that means this calls a constructor on the own object, which is not initialized (JVMS
+/// 4.10.1.9, invokespecial).
 pub fn constructs_own<'a>(
     method: &CodeMethod<'_, 'a>,
     act: &Act<'a>,
@@ -81,7 +84,7 @@ pub fn constructs_own<'a>(
     frame: &Working<'a>,
 ) -> bool
     requires { IsNamed (method_view method.now) (act_view act.now) named.now }
-    ensures { result ≡ constructs_own (plan (method_view method.now) (act_view act.now)) (held frame.now) }
+    ensures { result ≡ constructs_own (typing_rule (method_view method.now) (act_view act.now)) (held frame.now) }
 {
     match special_index(act) {
         None => false,

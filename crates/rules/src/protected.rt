@@ -78,8 +78,8 @@ fn check_object<'a>(answer: Answer<'a>) -> Result<(), Reason<'a>>
     }
 }
 
-/// Judges an instruction, in the frame before it, by the member that it uses: where that is guarded, 82 unless the object is one of the current
-/// class (JVMS 4.10.1.8), and 77 where a class is missing; or 1 where memory ran out.
+/// Judges an instruction, in the frame before it, by the member that it uses: where that is guarded, 82 unless the
+/// object is one of the current class (JVMS 4.10.1.8), and 77 where a class is missing; or 1 where memory ran out.
 pub fn check_member<'a, C: Classes>(
     method: &CodeMethod<'_, 'a>,
     act: &Act<'a>,
@@ -91,7 +91,8 @@ pub fn check_member<'a, C: Classes>(
     requires named { IsNamed (method_view method.now) (act_view act.now) named.now }
     requires members { members.old ≡ record { class = method.now.class.now; classes = C.content classes.now } }
     ensures same { members.new ≡ members.old }
-    ensures judged { Judges (member_conditions (C.content classes.now) (method_view method.now) (act_view act.now) (held frame.now)) result }
+    ensures judged { Judges (member_conditions (C.content classes.now) (method_view method.now) (act_view act.now)
+        (held frame.now)) result }
 {
     let Some(member) = used_by(method, act, named) else {
         return Ok(());

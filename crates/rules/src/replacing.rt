@@ -6,7 +6,7 @@ ghost use Rattle.rules.specs.Bodies.{method_view};
 ghost use Rattle.rules.specs.Held.{held};
 ghost use Rattle.rules.specs.Naming.{IsNamed};
 ghost use Rattle.rules.specs.Replacing.{ChangesOnly};
-ghost use Rattle.rules.specs.Table.{plan};
+ghost use Rattle.rules.specs.Table.{typing_rule};
 ghost use Rattle.rules.specs.Ways.{stored_to};
 ghost use Rattle.frames.specs.VerificationType.{type_of};
 
@@ -18,8 +18,8 @@ use classfile::CodeMethod;
 use frames::VType;
 use insn::Act;
 
-/// The object that is not initialized whose type another one replaces in the locals, if an instruction that is no store has one (JVMS
-/// 4.10.1.9): a `new` forgets what it made before, and a constructor initializes what it is called on.
+/// The object that is not initialized whose type another one replaces in the locals, if an instruction that is no store
+/// has one (JVMS 4.10.1.9): a `new` forgets what it made before, and a constructor initializes what it is called on.
 pub fn replaced_object<'a>(
     method: &CodeMethod<'_, 'a>,
     at: u16,
@@ -29,7 +29,7 @@ pub fn replaced_object<'a>(
 ) -> Option<VType<'a>>
     requires { IsNamed (method_view method.now) (act_view act.now) named.now }
     ensures { let m = method_view method.now in let a = act_view act.now in let f = held frame.now in
-        stored_to a ≡ None → ChangesOnly (option_map type_of result) f (after m at (plan m a) f) }
+        stored_to a ≡ None → ChangesOnly (option_map type_of result) f (after m at (typing_rule m a) f) }
 {
     if keeps_locals(act) {
         return None;

@@ -1,7 +1,7 @@
 //! The rule of an instruction, on a frame in place.
 ghost use Rattle.std.specs.Prelude.{◌≡◌, ℕ, true, length};
 ghost use Rattle.insn.specs.Views.{act_view};
-ghost use Rattle.rules.specs.Table.{plan};
+ghost use Rattle.rules.specs.Table.{typing_rule};
 ghost use Rattle.rules.specs.After.{after};
 ghost use Rattle.rules.specs.Rules.{conditions};
 ghost use Rattle.rules.specs.Bodies.{method_view};
@@ -39,8 +39,9 @@ use insn::Act;
 /// Runs the instruction at an offset on a frame, in place, by its rule (JVMS 4.10.1.9). The frame has max_locals
 /// locals, the starts are those of the method's code, and what the instruction names was looked up.
 ///
-/// Refused is, by the least number that holds, what the rule refuses (60 to 66, 74, 76, 77, 90); or 1 where memory ran out.
-/// Nothing is said of the frame then. Of the protected member that it uses [`check_member`](crate::check_member) judges, in the frame before it.
+/// Refused is, by the least number that holds, what the rule refuses (60 to 66, 74, 76, 77, 90); or 1 where memory ran
+/// out. Nothing is said of the frame then. Of the protected member that it uses [`check_member`](crate::check_member)
+/// judges, in the frame before it.
 pub fn run<'a, S: Starts, C: Classes>(
     method: &CodeMethod<'_, 'a>,
     starts: &S,
@@ -54,7 +55,7 @@ pub fn run<'a, S: Starts, C: Classes>(
     requires named { IsNamed (method_view method.now) (act_view act) named.now }
     requires code { S.code starts.now ≡ (method_view method.now).code }
     ensures { let m = method_view method.now in let f = held frame.old in
-        let p = plan m (act_view act.entry) in
+        let p = typing_rule m (act_view act.entry) in
         Done (conditions (C.content classes.now) m at p f) (after m at p f) (held frame.new) result }
 {
     match act {
@@ -127,7 +128,7 @@ pub fn run_plain<'a, C: Classes>(
     requires locals { length (held frame.old).locals ≡ method.now.code.now.max_locals }
     requires plain { is_plain (act_view act.now) ≡ true }
     ensures { (at : ℕ) → let m = method_view method.now in let f = held frame.old in
-        let p = plan m (act_view act.now) in
+        let p = typing_rule m (act_view act.now) in
         Done (conditions (C.content classes.now) m at p f) (after m at p f) (held frame.new) result }
 {
     match *act {

@@ -18,7 +18,8 @@ pub fn is_wide(t: &VType<'_>) -> bool
 
 /// Where the local before this place holds a long or double, it becomes top.
 fn free_half(place: usize, locals: &mut Locals<'_>) -> Result<(), AllocError>
-    ensures { (n : ℕ) → place < n → OnOk result (locals_in locals.new n ≡ with_half_free place (locals_in locals.old n)) }
+    ensures { (n : ℕ) → place < n
+        → OnOk result (locals_in locals.new n ≡ with_half_free place (locals_in locals.old n)) }
 {
     if place == 0 {
         return Ok(());
@@ -29,8 +30,8 @@ fn free_half(place: usize, locals: &mut Locals<'_>) -> Result<(), AllocError>
     Ok(())
 }
 
-/// Stores a type to a local variable, of which there are fewer than a limit. A long or double makes the next one top; where the one before
-/// held a long or double, that becomes top.
+/// Stores a type to a local variable, of which there are fewer than a limit. A long or double makes the next one top;
+/// where the one before held a long or double, that becomes top.
 pub fn store<'a>(
     t: VType<'a>,
     place: usize,
@@ -38,7 +39,8 @@ pub fn store<'a>(
     locals: &mut Locals<'a>,
 ) -> Result<(), AllocError>
     requires { place < limit }
-    ensures { OnOk result (locals_in locals.new limit ≡ stored_type (type_of t.entry) place (locals_in locals.old limit)) }
+    ensures { OnOk result (locals_in locals.new limit
+        ≡ stored_type (type_of t.entry) place (locals_in locals.old limit)) }
 {
     free_half(place, locals)?;
     locals.set(place, t)?;

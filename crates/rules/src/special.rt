@@ -2,7 +2,7 @@
 ghost use Rattle.std.specs.Prelude.{◌≡◌, ◌&&◌, ℕ, not, [], ◌∷◌, option_map};
 ghost use Rattle.names.specs.ReferenceTypes.{is_class_type};
 ghost use Rattle.pool.specs.MemberViews.{method_constant_view};
-ghost use Rattle.rules.specs.Plans.{arguments_on, calls_special, class_want, result_types};
+ghost use Rattle.rules.specs.TypingRules.{arguments_on, calls_special, expected_class, result_types};
 ghost use Rattle.rules.specs.Constants.{constructor_call, has_room_for_receiver, invoke_special, may_name, special_call};
 ghost use Rattle.rules.specs.After.{after};
 ghost use Rattle.rules.specs.Rules.{conditions};
@@ -15,10 +15,10 @@ use crate::calls::{
 };
 use crate::constructing::constructs;
 use crate::declaring_class::own_class;
+use crate::expected::ExpectedType;
 use crate::families::settle;
 use crate::operands::take;
 use crate::reason::Reason;
-use crate::want::Want;
 use crate::working::Working;
 use classfile::CodeMethod;
 use frames::{Starts, VType, assignable, both, reference_to};
@@ -34,8 +34,10 @@ fn calls_special<'a, C: Classes>(
     frame: &mut Working<'a>,
     classes: &C,
 ) -> Result<(), Reason<'a>>
-    ensures { (at : ℕ) → let m = method_view method.now in let f = held frame.old in let c = method_constant_view called.now in
-        let p = calls_special c.class (arguments_on c.type.params (class_want m.class ∷ [])) (result_types c.type.result) in
+    ensures { (at : ℕ) → let m = method_view method.now in let f = held frame.old in
+        let c = method_constant_view called.now in
+        let p = calls_special c.class (arguments_on c.type.params (expected_class m.class ∷ []))
+        (result_types c.type.result) in
         Done (conditions (C.content classes.now) m at p f) (after m at p f) (held frame.new) result }
 {
     let me = own_class(method);
@@ -44,9 +46,9 @@ fn calls_special<'a, C: Classes>(
         Answer::No => return Err(Reason::WrongConstant),
         _ => {}
     }
-    let receiver = Want::Assignable(RefType::Class(me));
-    let wants = arguments_on(frame.alloc, &called.method_type.params, Some(receiver))?;
-    let Some(answer) = take(&wants, frame, classes) else {
+    let receiver = ExpectedType::Assignable(RefType::Class(me));
+    let expected_types = arguments_on(frame.alloc, &called.method_type.params, Some(receiver))?;
+    let Some(answer) = take(&expected_types, frame, classes) else {
         return Err(Reason::MissingOperand);
     };
     match answer {
@@ -84,7 +86,8 @@ fn call_constructor<'a, S: Starts, C: Classes>(
     classes: &C,
 ) -> Result<(), Reason<'a>>
     requires code { S.code starts.now ≡ (method_view method.now).code }
-    ensures { (at : ℕ) → let m = method_view method.now in let f = held frame.old in let c = method_constant_view called.now in
+    ensures { (at : ℕ) → let m = method_view method.now in let f = held frame.old in
+        let c = method_constant_view called.now in
         let p = constructor_call c c.class in
         Done (conditions (C.content classes.now) m at p f) (after m at p f) (held frame.new) result }
 {

@@ -5,7 +5,7 @@ ghost use Rattle.insn.specs.Acts.{stack_forms};
 ghost use Rattle.insn.specs.Stacks.{rearranged, units_of_places, units_taken};
 ghost use Rattle.insn.specs.Views.{stack_form_view};
 ghost use Rattle.frames.specs.VerificationType.{type_of};
-ghost use Rattle.rules.specs.Plans.{rearranges};
+ghost use Rattle.rules.specs.TypingRules.{rearranges};
 ghost use Rattle.rules.specs.After.{after, fits_place, fits_places, form_for, is_narrow};
 ghost use Rattle.rules.specs.Rules.{conditions};
 ghost use Rattle.rules.specs.Bodies.{method_view};

@@ -3,7 +3,7 @@ ghost use Rattle.std.specs.Prelude.{◌≡◌, ◌<◌, ◌≤◌, length};
 ghost use Rattle.frames.specs.Slots.{is_wide};
 ghost use Rattle.frames.specs.VerificationType.{type_of};
 ghost use Rattle.insn.specs.Acts.{kind_units};
-ghost use Rattle.rules.specs.Plans.{number, any_reference, stores};
+ghost use Rattle.rules.specs.TypingRules.{number, any_reference, stores};
 ghost use Rattle.rules.specs.After.{after, stored_type};
 ghost use Rattle.rules.specs.Rules.{conditions};
 ghost use Rattle.rules.specs.Bodies.{method_view};
@@ -11,16 +11,16 @@ ghost use Rattle.rules.specs.Held.{held};
 ghost use Rattle.rules.specs.Views.{locals_of, with_half_free};
 ghost use Rattle.rules.specs.Outcomes.{Done};
 
+use crate::expected::{Expected, ExpectedType};
 use crate::families::judge_left;
 use crate::reason::Reason;
-use crate::want::{Ask, Want};
 use crate::working::Working;
 use classfile::CodeMethod;
 use hierarchy::{Answer, Classes};
 use insn::Kind;
 
 /// The top of the stack to a local variable.
-pub fn stores<'a, A: Ask<'a>, C: Classes>(
+pub fn stores<'a, A: Expected<'a>, C: Classes>(
     method: &CodeMethod<'_, 'a>,
     ask: A,
     local: u16,
@@ -82,5 +82,5 @@ pub fn stores_reference<'a, C: Classes>(
         let p = stores any_reference local 1 in
         Done (conditions (C.content classes.now) m 0 p f) (after m 0 p f) (held frame.new) result }
 {
-    stores(method, Want::Reference, local, 1, frame, classes)
+    stores(method, ExpectedType::Reference, local, 1, frame, classes)
 }

@@ -2,14 +2,14 @@
 ghost use Rattle.std.specs.Prelude.{◌≡◌};
 ghost use Rattle.insn.specs.Meanings.{act};
 ghost use Rattle.insn.specs.Views.{view, act_view};
-ghost use Rattle.rules.specs.WayLaws.{PlansGoAsActs};
+ghost use Rattle.rules.specs.WayLaws.{TypingRulesGoAsActs};
 ghost use Rattle.rules.specs.Ways.{goes_on, branch_offsets, keeps_locals, stored_to, is_plain};
 ghost use Rattle.insn.specs.Branching.{branches_view};
 
 use insn::{Act, Branches, Insn, act};
 
-/// Whether an instruction goes on to the next one, where it is not refused (JVMS 4.10.1.6): all but those that always jump, return or
-/// throw. Takes no memory.
+/// Whether an instruction goes on to the next one, where it is not refused (JVMS 4.10.1.6): all but those that always
+/// jump, return or throw. Takes no memory.
 pub fn falls(insn: &Insn<'_>) -> bool
     ensures { result ≡ goes_on (act (view insn.now)) }
 {
@@ -31,8 +31,8 @@ pub fn goes_on(act: &Act<'_>) -> bool
     )
 }
 
-/// Whether an instruction that means this leaves all locals as they are: those that store do not, nor those by which objects that are not
-/// initialized are made or become initialized.
+/// Whether an instruction that means this leaves all locals as they are: those that store do not, nor those by which
+/// objects that are not initialized are made or become initialized.
 pub fn keeps_locals(act: &Act<'_>) -> bool
     ensures { result ≡ keeps_locals (act_view act.now) }
 {
@@ -52,8 +52,8 @@ pub fn stored_to(act: &Act<'_>) -> Option<u16>
     }
 }
 
-/// Whether an instruction that means this goes on to the next one and nowhere else, is no `new`, and names no class, field, method, dynamic
-/// constant or call site that is looked up.
+/// Whether an instruction that means this goes on to the next one and nowhere else, is no `new`, and names no class,
+/// field, method, dynamic constant or call site that is looked up.
 pub fn is_plain(act: &Act<'_>) -> bool
     ensures { result ≡ is_plain (act_view act.now) }
 {
@@ -102,7 +102,8 @@ pub fn branches_by<'a>(act: &Act<'a>) -> Branches<'a>
     }
 }
 
-/// A law: where an instruction goes hangs on its act alone. Its plan goes on and branches so in each method, whatever constant it names.
-pub fn plans_go_as_acts()
-    ensures { PlansGoAsActs }
+/// A law: where an instruction goes hangs on its act alone. Its typing rule goes on and branches so in each method,
+/// whatever constant it names.
+pub fn typing_rules_go_as_acts()
+    ensures { TypingRulesGoAsActs }
 {}

@@ -68,7 +68,8 @@ impl<'a> Working<'a> {
 
     /// Takes the top of the stack off.
     pub fn pop(&mut self) -> Option<VType<'a>>
-        ensures { MatchOption result (((held self.old).stack ≡ []) × (held self.new ≡ held self.old)) (λ t. held self.old ≡ pushed (type_of t ∷ []) (held self.new)) }
+        ensures { MatchOption result (((held self.old).stack ≡ []) × (held self.new ≡ held self.old))
+            (λ t. held self.old ≡ pushed (type_of t ∷ []) (held self.new)) }
     {
         self.stack.pop()
     }
@@ -139,7 +140,8 @@ impl<'a> Working<'a> {
 
     /// Where the locals begin that came to hold an object which is not initialized.
     pub fn first_holder(&self, object: &VType<'_>) -> usize
-        ensures { (i : ℕ) → get_or (held self.now).locals i top ≡ type_of object.now → IsSome (number_of (type_of object.now)) → IsHolder self.now result i }
+        ensures { (i : ℕ) → get_or (held self.now).locals i top ≡ type_of object.now
+            → IsSome (number_of (type_of object.now)) → IsHolder self.now result i }
     {
         self.locals.first_holder(object)
     }
@@ -147,7 +149,8 @@ impl<'a> Working<'a> {
     /// One of these, and where the others begin.
     pub fn holder(&self, at: usize) -> Option<Holder>
         ensures down { IfSome result (λ h. h.next < at) }
-        ensures some { IfSome result (λ h. (i : ℕ) → i ≢ h.place → IsHolder self.now at i → IsHolder self.now h.next i) }
+        ensures some { IfSome result (λ h. (i : ℕ) → i ≢ h.place → IsHolder self.now at i
+            → IsHolder self.now h.next i) }
         ensures none { result ≡ None → (i : ℕ) → IsHolder self.now at i → ⊥ }
     {
         self.locals.holder(at)
@@ -164,8 +167,10 @@ impl<'a> Working<'a> {
     /// not initialized: all in front of the first one that is of it.
     pub fn items_before(&self, object: &VType<'_>, limit: usize) -> usize
         ensures few { result ≤ limit }
-        ensures other { (i : ℕ) → i < result → is_initialized (type_of object.now) (item (held self.now).stack i) ≡ false }
-        ensures first { result < limit → is_initialized (type_of object.now) (item (held self.now).stack result) ≡ true }
+        ensures other { (i : ℕ) → i < result
+            → is_initialized (type_of object.now) (item (held self.now).stack i) ≡ false }
+        ensures first { result < limit
+            → is_initialized (type_of object.now) (item (held self.now).stack result) ≡ true }
     {
         self.stack.items_before(object, limit)
     }
@@ -199,9 +204,12 @@ impl<'a> Working<'a> {
     ) -> Answer<'a>
         requires size { length (declared_view declared.now).locals ≡ length (held self.now).locals }
         requires fits { IfSome fits (AreFit (C.content classes.now) declared.now (held self.now).locals) }
-        requires items { AreStackFittingFor (C.content classes.now) declared.now (reverse (held self.now).stack) items.old }
-        ensures told { outcome_of result ≡ frame_answer (C.content classes.now) (held self.now) (declared_view declared.now) }
-        ensures items { (t : DeclaredFrames) → IsOf t declared.now → AreStackFitting (C.content classes.now) t (reverse (held self.now).stack) items.new }
+        requires items { AreStackFittingFor (C.content classes.now) declared.now
+            (reverse (held self.now).stack) items.old }
+        ensures told { outcome_of result
+            ≡ frame_answer (C.content classes.now) (held self.now) (declared_view declared.now) }
+        ensures items { (t : DeclaredFrames) → IsOf t declared.now
+            → AreStackFitting (C.content classes.now) t (reverse (held self.now).stack) items.new }
     {
         items.answer(
             declared,
@@ -235,14 +243,16 @@ impl<'a> Working<'a> {
     /// double, that becomes top.
     pub fn store(&mut self, t: VType<'a>, place: usize) -> Result<(), AllocError>
         requires { place < length (held self.old).locals }
-        ensures { OnOk result (held self.new ≡ with_locals (held self.old) (stored_type (type_of t.entry) place (held self.old).locals)) }
+        ensures { OnOk result (held self.new
+            ≡ with_locals (held self.old) (stored_type (type_of t.entry) place (held self.old).locals)) }
     {
         store(t, place, usize::from(self.max_locals), &mut self.locals)
     }
 
     /// Gives a local variable the type that it had before it was changed, where there is such a local.
     pub fn put_back(&mut self, t: VType<'a>, place: usize) -> Result<(), AllocError>
-        ensures { OnOk result (held self.new ≡ with_locals (held self.old) (set (held self.old).locals place (type_of t.entry))) }
+        ensures { OnOk result (held self.new
+            ≡ with_locals (held self.old) (set (held self.old).locals place (type_of t.entry))) }
     {
         if usize::from(self.max_locals) <= place {
             return Ok(());
@@ -276,7 +286,8 @@ impl<'a> Working<'a> {
     /// Takes the items of a form off, and pushes what it leaves. Nothing is said of the stack where memory ran out.
     pub fn rearrange(&mut self, form: StackForm) -> Result<(), AllocError>
         requires { length form.takes.now ≤ length (held self.old).stack }
-        ensures { OnOk result (held self.new ≡ with_stack (held self.old) (rearranged (stack_form_view form) (held self.old).stack)) }
+        ensures { OnOk result (held self.new
+            ≡ with_stack (held self.old) (rearranged (stack_form_view form) (held self.old).stack)) }
     {
         self.stack.rearrange(form)
     }

@@ -14,7 +14,7 @@ use Rattle.insn.specs.declared.fault.CodeFault.TheVariants as codes
 use Rattle.insn.specs.Code.{SpellsCode, FaultyCode, UnlessMemory}
 use Rattle.insn.specs.Meanings.{Act}
 use Rattle.insn.specs.Offsets.{IsStart, acts, StartsRise}
-use Rattle.rules.specs.Table.{plan}
+use Rattle.rules.specs.Table.{typing_rule}
 use Rattle.insn.proofs.CodeLaws.{starts_rise, one_code, code_or_fault}
 use Rattle.frames.specs.Conditions.{Reason}
 use Rattle.verify.specs.declared.verdict.Verdict.{Verdict}
@@ -66,14 +66,14 @@ module _ (classes : List ClassFact) (c : JudgedClass) (number : ℕ) where
 
   pub given : (body : CodeBody) (xs : List (ℕ × Instruction)) (method : Method Act) (r : Result Verdict VerifyFault)
       → code_at c.file number ≡ Some body → SpellsCode 0 body.code xs
-      → method_of c number (acts xs) ≡ Some method → Gives (verdict plan classes method) r
+      → method_of c number (acts xs) ≡ Some method → Gives (verdict typing_rule classes method) r
       → AnswersCode classes c number r
   given body xs method (Ok Verified) has spelled says g =
       record { body = body; has_code = has; instructions = xs; spelled = spelled; method = method; says = says; told = g }
   given body xs method (Ok NoCode) has spelled says g = g
   given body xs method (Ok (Refused at why)) has spelled says g =
       inr (record {
-        refusal = verdict plan classes method;
+        refusal = verdict typing_rule classes method;
         judged = record { body = body; has_code = has; instructions = xs; spelled = spelled; method = method; says = says; told = refl };
         told = g;
       })
@@ -90,7 +90,7 @@ module _ (classes : List ClassFact) (c : JudgedClass) (number : ℕ) where
       let begins : IsStart (acts v.instructions) 0 =
       decoded_begins v.body.code v.instructions v.spelled (some_code c.file formed number v.body v.has_code) in
       let safe : IsTypeSafe classes v.method =
-      verified_is_type_safe plan classes v.method (subst (StartsRise 0) (sym code) rise) (subst (λ z. IsStart z 0) (sym code) begins) v.told in
+      verified_is_type_safe typing_rule classes v.method (subst (StartsRise 0) (sym code) rise) (subst (λ z. IsStart z 0) (sym code) begins) v.told in
       let x = has_code c.file number v.body v.has_code in (
         v.method,
         record {
@@ -154,17 +154,17 @@ module _ (classes : List ClassFact) (c : JudgedClass) (number : ℕ) where
         in
         some_same n m (sym says ∙ ap (λ z. method_of c number (acts z)) (sym same) ∙ i.method)
 
-    is_verified : verdict plan classes m ≡ verified
+    is_verified : verdict typing_rule classes m ≡ verified
     is_verified =
         let rise : StartsRise 0 (acts i.instructions) =
         decoded_rise 0 i.instructions (starts_rise 0 i.body.code i.instructions i.spelled) in
-        type_safe_is_verified plan classes m (subst (StartsRise 0) (sym code_there) rise) safe
+        type_safe_is_verified typing_rule classes m (subst (StartsRise 0) (sym code_there) rise) safe
 
     not_refused : (at : ℕ) (why : RuleReason) → HasRefusal classes c number at why → ⊥
     not_refused at why x =
         let v = x.judged in
         let e : x.refusal ≡ verified =
-        sym v.told ∙ ap (verdict plan classes) (same_method v.body v.instructions v.method v.has_code v.spelled v.says) ∙ is_verified in
+        sym v.told ∙ ap (verdict typing_rule classes) (same_method v.body v.instructions v.method v.has_code v.spelled v.says) ∙ is_verified in
         none_told_of (at, reason_view why) (sym (ap told_of e) ∙ x.told)
       where
         none_told_of : (x : ℕ × Reason) → None ≡ Some x → ⊥

@@ -14,8 +14,8 @@ use Rattle.frames.specs.Slots.{to_reference}
 use Rattle.frames.specs.Assignable.{type_answer}
 use Rattle.frames.specs.FrameAssignable.{frame_answer}
 use Rattle.frames.specs.Conditions.{Reason, reason, class_missing, number_of, Conditions, NoneHolds, lesser, least, is_no}
-use Rattle.rules.specs.Plans.{Plan, falls, targets}
-use Rattle.rules.specs.Table.{Plans}
+use Rattle.rules.specs.TypingRules.{TypingRule, falls, targets}
+use Rattle.rules.specs.Table.{TypingRules}
 use Rattle.rules.specs.After.{after}
 use Rattle.rules.specs.Rules.{constructs_own, conditions}
 use Rattle.rules.specs.Protected.{Use, used_by, object_beneath, object_answer, object_conditions, use_conditions, member_conditions}
@@ -247,7 +247,7 @@ module _ (classes : List ClassFact) (m : Method Act) (frames : Frames) where
 
   -- ---- an instruction
 
-  module _ (at : ℕ) (act : Act) (p : Plan) (next : Option ℕ) (f : FrameFact) (why : Reason) where
+  module _ (at : ℕ) (act : Act) (p : TypingRule) (next : Option ℕ) (f : FrameFact) (why : Reason) where
     abbrev Broken : Type 0
     Broken = Breaks classes m frames at act p next f why
 
@@ -510,8 +510,8 @@ conditions_are_fields classes m frames = fields classes m frames
 
 -- ---- refusals
 
-module _ (plan : Plans) (classes : List ClassFact) (m : Method Act) (at : ℕ) (why : Reason) where
-  with_declared : (frames : Frames) → BreaksTable classes m frames at why ⊎ BreaksCode plan classes m frames at why → BreaksDeclared plan classes m frames at why
+module _ (typing_rule : TypingRules) (classes : List ClassFact) (m : Method Act) (at : ℕ) (why : Reason) where
+  with_declared : (frames : Frames) → BreaksTable classes m frames at why ⊎ BreaksCode typing_rule classes m frames at why → BreaksDeclared typing_rule classes m frames at why
   with_declared frames (inl x) = at_entry (record {
     at_zero = x.at_zero;
     front = x.front;
@@ -523,10 +523,10 @@ module _ (plan : Plans) (classes : List ClassFact) (m : Method Act) (at : ℕ) (
   })
   with_declared frames (inr y) = by y.broken
     where
-      by : BreaksFirst classes m frames at why ⊎ (BreaksFrame plan classes m frames at why ⊎ BreaksRule plan classes m frames at why) → BreaksDeclared plan classes m frames at why
+      by : BreaksFirst classes m frames at why ⊎ (BreaksFrame typing_rule classes m frames at why ⊎ BreaksRule typing_rule classes m frames at why) → BreaksDeclared typing_rule classes m frames at why
       by (inl x) = at_beginning x.at_zero (((fields classes m frames).arrivals true (initial_frame m) 0 why).0 x.told)
       by (inr (inl x)) =
-          let p : Plan = plan m x.reached.act in
+          let p : TypingRule = typing_rule m x.reached.act in
           let f : FrameFact = x.reached.table x.before in
           at_frame (record {
             before = x.before;
@@ -536,7 +536,7 @@ module _ (plan : Plans) (classes : List ClassFact) (m : Method Act) (at : ℕ) (
             broken = ((fields classes m frames).arrivals (falls p) (after m x.before p f) at why).0 x.told;
           })
       by (inr (inr x)) =
-          let p : Plan = plan m x.reached.act in
+          let p : TypingRule = typing_rule m x.reached.act in
           let f : FrameFact = x.reached.table at in
           at_instruction (record {
             reached = x.reached;
@@ -544,11 +544,11 @@ module _ (plan : Plans) (classes : List ClassFact) (m : Method Act) (at : ℕ) (
           })
 
 pub refused_breaks : RefusedBreaks
-refused_breaks plan classes m rise begins at why v = by (refused_why plan classes m rise begins at why v)
+refused_breaks typing_rule classes m rise begins at why v = by (refused_why typing_rule classes m rise begins at why v)
   where
-    by : HasNoRoom m at why ⊎ BreaksWithFrames plan classes m at why → BreaksMethod plan classes m at why
+    by : HasNoRoom m at why ⊎ BreaksWithFrames typing_rule classes m at why → BreaksMethod typing_rule classes m at why
     by (inl x) = no_room x.at_zero x.told x.narrow
-    by (inr x) = with_frames x.1 x.2 (with_declared plan classes m at why x.1 x.3)
+    by (inr x) = with_frames x.1 x.2 (with_declared typing_rule classes m at why x.1 x.3)
 
 pub map_refused_breaks : MapRefusedBreaks
-map_refused_breaks plan classes m why v = (ap told_of v, ((map_refused_where plan classes m why).0 v).1)
+map_refused_breaks typing_rule classes m why v = (ap told_of v, ((map_refused_where typing_rule classes m why).0 v).1)

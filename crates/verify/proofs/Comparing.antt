@@ -13,7 +13,7 @@ use Rattle.frames.specs.FrameFact.{FrameFact}
 use Rattle.frames.specs.Assignable.{type_answer}
 use Rattle.frames.specs.FrameAssignable.{both, item_answer, list_answer, stack_answer, flag_answer, frame_answer}
 use Rattle.frames.proofs.Slots.{both_no, both_yes, both_assoc}
-use Rattle.rules.specs.Plans.{Plan, pops, loads, stores, counts, rearranges, loads_element, makes, constructs, calls_special, returns, refuses}
+use Rattle.rules.specs.TypingRules.{TypingRule, pops, loads, stores, counts, rearranges, loads_element, makes, constructs, calls_special, returns, refuses}
 use Rattle.rules.specs.After.{or_top, local_of, top_of, flag_after, after}
 use Rattle.rules.specs.Rules.{constructs_own}
 
@@ -89,16 +89,16 @@ made_own uninit_this flag e = cc
 made_own (uninit offset) flag e = refl
 
 -- an instruction that is no call on the own object leaves the flag as it is
-pub flag_kept : (m : Method Act) (at : ℕ) (p : Plan) (f : FrameFact) → constructs_own p f ≡ false → (after m at p f).flag ≡ f.flag
-flag_kept m at (pops wants gives offsets on) f e = refl
-flag_kept m at (loads want n width) f e = refl
-flag_kept m at (stores want n width) f e = refl
+pub flag_kept : (m : Method Act) (at : ℕ) (p : TypingRule) (f : FrameFact) → constructs_own p f ≡ false → (after m at p f).flag ≡ f.flag
+flag_kept m at (pops expected_types gives offsets on) f e = refl
+flag_kept m at (loads expected n width) f e = refl
+flag_kept m at (stores expected n width) f e = refl
 flag_kept m at (counts n) f e = refl
 flag_kept m at (rearranges forms) f e = refl
 flag_kept m at loads_element f e = refl
 flag_kept m at (makes name) f e = refl
-flag_kept m at (constructs name wants) f e = made_own (top_of (beneath wants f.stack)) f.flag e
-flag_kept m at (calls_special type wants gives) f e = refl
+flag_kept m at (constructs name expected_types) f e = made_own (top_of (beneath expected_types f.stack)) f.flag e
+flag_kept m at (calls_special type expected_types gives) f e = refl
 flag_kept m at returns f e = refl
 flag_kept m at (refuses n) f e = refl
 

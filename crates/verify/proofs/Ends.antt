@@ -11,7 +11,7 @@ use Rattle.insn.specs.Offsets.{at_offset, led_to}
 use Rattle.frames.specs.FrameFact.{FrameFact}
 use Rattle.frames.specs.FrameAssignable.{frame_answer}
 use Rattle.frames.specs.Conditions.{Reason, reason, number_of, Conditions, lesser, least}
-use Rattle.rules.specs.Plans.{Plan, falls, offsets_of, targets}
+use Rattle.rules.specs.TypingRules.{TypingRule, falls, offsets_of, targets}
 use Rattle.rules.specs.After.{after}
 use Rattle.rules.specs.Rules.{conditions, constructs_own}
 use Rattle.rules.specs.Protected.{Use, used_by, object_beneath, object_answer, object_conditions, use_conditions, member_conditions}
@@ -118,37 +118,37 @@ no_zero e q = let same : reason 0 ≡ reason_view e = cc in
 module _ (classes : List ClassFact) (m : Method Act) (frames : Frames) (at : ℕ) (f : FrameFact) (a : Act) where
   -- ---- the parts of all that is asked
 
-  abbrev ways_of : Plan → List ℤ → Conditions
+  abbrev ways_of : TypingRule → List ℤ → Conditions
   ways_of p ts = target_conditions classes frames (after m at p f) ts
 
   abbrev before : Conditions
   before = before_conditions classes m frames at a f
 
   -- what is asked besides the rule and the targets
-  abbrev end : Plan → Bool → Conditions
+  abbrev end : TypingRule → Bool → Conditions
   end p b = before ++ ((reason 71, b) ∷ (reason 75, constructs_own p f && is_covered m.exceptions at) ∷ [])
 
-  end_late : (p : Plan) (b : Bool) → AreLate (end p b)
+  end_late : (p : TypingRule) (b : Bool) → AreLate (end p b)
   end_late p b =
       late_append before ((reason 71, b) ∷ (reason 75, constructs_own p f && is_covered m.exceptions at) ∷ [])
       (late_append (member_conditions classes m a f) (handler_conditions classes frames at f m.exceptions) (member_late classes m a f) (handlers_late classes frames at f m.exceptions))
       (omega arith, (omega arith, tt))
 
   -- an early reason of the rule is that of all
-  early_all : (p : Plan) (next : Option ℕ) (n : ℕ) → least (conditions classes m at p f) ≡ Some (reason n) → n < 67
+  early_all : (p : TypingRule) (next : Option ℕ) (n : ℕ) → least (conditions classes m at p f) ≡ Some (reason n) → n < 67
       → least (at_conditions classes m frames at a p next f) ≡ Some (reason n)
   early_all p next n e lt =
       let ts = ways_of p (targets at p) in
       early_first (conditions classes m at p f) (ts ++ end p (falls p && is_none next)) n e lt
       (late_append ts (end p (falls p && is_none next)) (targets_late classes frames (after m at p f) (targets at p)) (end_late p (falls p && is_none next)))
 
-  early_end : (p : Plan) (b : Bool) (n : ℕ) → least (conditions classes m at p f) ≡ Some (reason n) → n < 67
+  early_end : (p : TypingRule) (b : Bool) (n : ℕ) → least (conditions classes m at p f) ≡ Some (reason n) → n < 67
       → least (conditions classes m at p f ++ end p b) ≡ Some (reason n)
   early_end p b n e lt = early_first (conditions classes m at p f) (end p b) n e lt (end_late p b)
 
   -- ---- where the rule refuses
 
-  module _ (p : Plan) (x : IsWay a p) (last : Bool) (next : Option ℕ) (is : is_none next ≡ last) where
+  module _ (p : TypingRule) (x : IsWay a p) (last : Bool) (next : Option ℕ) (is : is_none next ≡ last) where
     -- with no targets, the end is all that is asked besides
     straight : offsets_of p ≡ [] → goes_on a ≡ falls p
         → least (conditions classes m at p f ++ end p (goes_on a && last)) ≡ least (at_conditions classes m frames at a p next f)

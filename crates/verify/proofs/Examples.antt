@@ -4,8 +4,8 @@ use Rattle.classfile.specs.Methods.{Method}
 use Rattle.insn.specs.Meanings.{Act, ReturnVoid}
 use Rattle.insn.specs.Offsets.{at_offset, next_offset}
 use Rattle.frames.specs.FrameFact.{FrameFact}
-use Rattle.rules.specs.Table.{plan}
-use Rattle.rules.specs.Plans.{returns}
+use Rattle.rules.specs.Table.{typing_rule}
+use Rattle.rules.specs.TypingRules.{returns}
 use Rattle.verify.specs.TypeSafety.{IsTypeSafeAt, IsTypeSafe}
 
 abbrev method : Method Act
@@ -69,7 +69,7 @@ is_type_safe = record {
   table = λ n. empty_frame;
   first = inl refl;
   at_declared = λ at f e. absurd (none_some f e);
-  each = λ at act e. subst (λ a. IsTypeSafeAt [] method [] (λ n. empty_frame) at a (plan method a)) (only_return at act e) (return_is_safe at);
+  each = λ at act e. subst (λ a. IsTypeSafeAt [] method [] (λ n. empty_frame) at a (typing_rule method a)) (only_return at act e) (return_is_safe at);
 }
   where
     none_some : (f : FrameFact) → None ≡ Some f → ⊥

@@ -9,15 +9,15 @@ use Rattle.frames.specs.FrameFact.{FrameFact}
 use Rattle.frames.specs.FrameAssignable.{frame_answer}
 use Rattle.frames.specs.Conditions.{least}
 use Rattle.frames.proofs.Frames.{frame_itself}
-use Rattle.rules.specs.Plans.{falls}
-use Rattle.rules.specs.Table.{Plans}
+use Rattle.rules.specs.TypingRules.{falls}
+use Rattle.rules.specs.Table.{TypingRules}
 use Rattle.rules.specs.After.{after}
 use Rattle.verify.specs.TypeSafety.{Frames, Comes}
 use Rattle.verify.specs.Verdict.{verified, refused_or, answer_conditions, at_conditions, entry, entered, arrives, passes}
 use Rattle.verify.proofs.Reasons.{none_told, yes_none, IsFine, of_fine}
 use Rattle.verify.proofs.Passing.{AreApart, at_first, IsFineIn}
 
-module _ (plan : Plans) (classes : List ClassFact) (m : Method Act) (frames : Frames) (table : ℕ → FrameFact) where
+module _ (typing_rule : TypingRules) (classes : List ClassFact) (m : Method Act) (frames : Frames) (table : ℕ → FrameFact) where
   same_frame : (a b : FrameFact) → Some a ≡ Some b → a ≡ b
   same_frame a b e = cc
 
@@ -48,11 +48,11 @@ module _ (plan : Plans) (classes : List ClassFact) (m : Method Act) (frames : Fr
 
   -- each of these instructions is fine
   abbrev pub AreFine : List (ℕ × Act) → Type 0
-  AreFine cs = (at : ℕ) (act : Act) → at_offset cs at ≡ Some act → IsFineIn plan classes m frames table cs at act
+  AreFine cs = (at : ℕ) (act : Act) → at_offset cs at ≡ Some act → IsFineIn typing_rule classes m frames table cs at act
 
   -- what is fine behind an instruction is so in the rest of the code
   pub fine_behind : (c : ℕ × Act) (cs : List (ℕ × Act)) (p : ℕ) (act : Act) → at_offset cs c.0 ≡ None → at_offset cs p ≡ Some act
-      → (at_offset (c ∷ cs) p ≡ Some act) × (next_offset (c ∷ cs) p ≡ next_offset cs p) × (IsFineIn plan classes m frames table (c ∷ cs) p act → IsFineIn plan classes m frames table cs p act)
+      → (at_offset (c ∷ cs) p ≡ Some act) × (next_offset (c ∷ cs) p ≡ next_offset cs p) × (IsFineIn typing_rule classes m frames table (c ∷ cs) p act → IsFineIn typing_rule classes m frames table cs p act)
   fine_behind c cs p act apart e =
       let n : nat_eq c.0 p ≡ false = ne_eqb c.0 p (λ q. clash act (sym apart ∙ ap (at_offset cs) q ∙ e)) in
       let next : next_offset (c ∷ cs) p ≡ next_offset cs p = rw n refl in (
@@ -73,39 +73,39 @@ module _ (plan : Plans) (classes : List ClassFact) (m : Method Act) (frames : Fr
   rest_fine c cs apart x p act e = let y = fine_behind c cs p act apart e in y.2 (x p act y.0)
 
   -- an instruction that is fine, in front of others
-  module _ (c : ℕ × Act) (cs : List (ℕ × Act)) (f : FrameFact) (there : table c.0 ≡ f) (now : IsFineIn plan classes m frames table (c ∷ cs) c.0 c.1) where
+  module _ (c : ℕ × Act) (cs : List (ℕ × Act)) (f : FrameFact) (there : table c.0 ≡ f) (now : IsFineIn typing_rule classes m frames table (c ∷ cs) c.0 c.1) where
     pub behind : next_offset (c ∷ cs) c.0 ≡ first_offset cs
     behind = rw (eq-eqb c.0 c.0 refl) refl
 
-    pub none_here : least (at_conditions classes m frames c.0 c.1 (plan m c.1) (first_offset cs) f) ≡ None
+    pub none_here : least (at_conditions classes m frames c.0 c.1 (typing_rule m c.1) (first_offset cs) f) ≡ None
     none_here =
-        none_told (at_conditions classes m frames c.0 c.1 (plan m c.1) (first_offset cs) f) (of_fine classes m frames c.0 c.1 (plan m c.1) (first_offset cs) f
-        (subst (λ z. IsFine classes m frames c.0 c.1 (plan m c.1) z) there now.fine) (λ t. let z = now.next t in (z.0, sym behind ∙ z.1)))
+        none_told (at_conditions classes m frames c.0 c.1 (typing_rule m c.1) (first_offset cs) f) (of_fine classes m frames c.0 c.1 (typing_rule m c.1) (first_offset cs) f
+        (subst (λ z. IsFine classes m frames c.0 c.1 (typing_rule m c.1) z) there now.fine) (λ t. let z = now.next t in (z.0, sym behind ∙ z.1)))
 
-    pub at_next : (p : ℕ) → first_offset cs ≡ Some p → ((k : FrameFact) → at_offset frames p ≡ Some k → table p ≡ k) → (b : Bool) → falls (plan m c.1) ≡ b
-        → (entry classes b (after m c.0 (plan m c.1) f) (at_offset frames p) ≡ None) × (table p ≡ entered (after m c.0 (plan m c.1) f) (at_offset frames p))
+    pub at_next : (p : ℕ) → first_offset cs ≡ Some p → ((k : FrameFact) → at_offset frames p ≡ Some k → table p ≡ k) → (b : Bool) → falls (typing_rule m c.1) ≡ b
+        → (entry classes b (after m c.0 (typing_rule m c.1) f) (at_offset frames p) ≡ None) × (table p ≡ entered (after m c.0 (typing_rule m c.1) f) (at_offset frames p))
     at_next p i own true e =
         let z = now.next e in
         let w : Some z.0 ≡ Some p = sym z.1 ∙ (behind ∙ i) in
         let q : z.0 ≡ p = cc in
-        comes_none p (after m c.0 (plan m c.1) f) (at_offset frames p) refl own
-        (subst (λ v. Comes classes frames table (after m c.0 (plan m c.1) f) v) q (subst (λ v. Comes classes frames table (after m c.0 (plan m c.1) v) z.0) there z.2))
-    at_next p i own false e = alone_none p (after m c.0 (plan m c.1) f) (at_offset frames p) refl own (now.alone e p (behind ∙ i))
+        comes_none p (after m c.0 (typing_rule m c.1) f) (at_offset frames p) refl own
+        (subst (λ v. Comes classes frames table (after m c.0 (typing_rule m c.1) f) v) q (subst (λ v. Comes classes frames table (after m c.0 (typing_rule m c.1) v) z.0) there z.2))
+    at_next p i own false e = alone_none p (after m c.0 (typing_rule m c.1) f) (at_offset frames p) refl own (now.alone e p (behind ∙ i))
 
   pub onward : (cs : List (ℕ × Act)) (b : Bool) (g : FrameFact) → ((p : ℕ) → first_offset cs ≡ Some p → (entry classes b g (at_offset frames p) ≡ None) × (table p ≡ entered g (at_offset frames p)))
-      → ((k : FrameFact) → ((p : ℕ) → first_offset cs ≡ Some p → table p ≡ k) → passes plan classes m frames cs k ≡ verified)
-      → arrives classes frames cs b g (passes plan classes m frames cs) ≡ verified
+      → ((k : FrameFact) → ((p : ℕ) → first_offset cs ≡ Some p → table p ≡ k) → passes typing_rule classes m frames cs k ≡ verified)
+      → arrives classes frames cs b g (passes typing_rule classes m frames cs) ≡ verified
   onward [] b g e rec = refl
   onward (c ∷ cs) b g e rec =
       let x = e c.0 refl in
-      ap (λ z. refused_or z c.0 (passes plan classes m frames (c ∷ cs) (entered g (at_offset frames c.0)))) x.0
+      ap (λ z. refused_or z c.0 (passes typing_rule classes m frames (c ∷ cs) (entered g (at_offset frames c.0)))) x.0
       ∙ rec (entered g (at_offset frames c.0)) (λ p i. let j : c.0 ≡ p = cc in subst (λ z. table z ≡ entered g (at_offset frames c.0)) j x.1)
 
-  pub passes_all : (cs : List (ℕ × Act)) (f : FrameFact) → AreApart cs → AreFine cs → ((p : ℕ) → first_offset cs ≡ Some p → table p ≡ f) → passes plan classes m frames cs f ≡ verified
+  pub passes_all : (cs : List (ℕ × Act)) (f : FrameFact) → AreApart cs → AreFine cs → ((p : ℕ) → first_offset cs ≡ Some p → table p ≡ f) → passes typing_rule classes m frames cs f ≡ verified
   passes_all [] f apart x head = refl
   passes_all (c ∷ cs) f apart x head =
-      ap (λ z. refused_or z c.0 (arrives classes frames cs (falls (plan m c.1)) (after m c.0 (plan m c.1) f) (passes plan classes m frames cs))) (none_here c cs f there now)
-      ∙ onward cs (falls (plan m c.1)) (after m c.0 (plan m c.1) f) (λ p i. at_next c cs f there now p i (own p i) (falls (plan m c.1)) refl)
+      ap (λ z. refused_or z c.0 (arrives classes frames cs (falls (typing_rule m c.1)) (after m c.0 (typing_rule m c.1) f) (passes typing_rule classes m frames cs))) (none_here c cs f there now)
+      ∙ onward cs (falls (typing_rule m c.1)) (after m c.0 (typing_rule m c.1) f) (λ p i. at_next c cs f there now p i (own p i) (falls (typing_rule m c.1)) refl)
       (λ k n. passes_all cs k apart.1 (rest_fine c cs apart.0 x) n)
     where
       there : table c.0 ≡ f
@@ -114,7 +114,7 @@ module _ (plan : Plans) (classes : List ClassFact) (m : Method Act) (frames : Fr
       here : at_offset (c ∷ cs) c.0 ≡ Some c.1
       here = rw (eq-eqb c.0 c.0 refl) refl
 
-      now : IsFineIn plan classes m frames table (c ∷ cs) c.0 c.1
+      now : IsFineIn typing_rule classes m frames table (c ∷ cs) c.0 c.1
       now = x c.0 c.1 here
 
       own : (p : ℕ) → first_offset cs ≡ Some p → (k : FrameFact) → at_offset frames p ≡ Some k → table p ≡ k

@@ -12,7 +12,7 @@ use Rattle.insn.specs.Code.{SpellsCode, FaultyCode, UnlessMemory}
 use Rattle.insn.specs.Meanings.{Act}
 use Rattle.insn.specs.Offsets.{acts}
 use Rattle.insn.proofs.CodeLaws.{code_or_fault}
-use Rattle.rules.specs.Table.{plan}
+use Rattle.rules.specs.Table.{typing_rule}
 use Rattle.verify.specs.declared.coming.FramesAt.{FramesAt}
 use Rattle.verify.specs.declared.verdict.VerifyFault.{VerifyFault}
 use Rattle.verify.specs.Coming.{no_frames, frames_at, frames_view, HasNoInstructions, AreFramesOf}
@@ -45,7 +45,7 @@ module _ (classes : List ClassFact) (c : JudgedClass) (number at : ℕ) where
 
   pub found_in : (body : CodeBody) (xs : List (ℕ × Instruction)) (method : Method Act) (r : Result FramesAt VerifyFault)
       → code_at c.file number ≡ Some body → SpellsCode 0 body.code xs → method_of c number (acts xs) ≡ Some method
-      → IfOk r (λ x. frames_view x ≡ frames_at plan classes method at) → IfOk r (λ x. AreFramesOf classes c number at (frames_view x))
+      → IfOk r (λ x. frames_view x ≡ frames_at typing_rule classes method at) → IfOk r (λ x. AreFramesOf classes c number at (frames_view x))
   found_in body xs method (Ok x) has spelled says same =
       inl (record { body = body; has_code = has; instructions = xs; spelled = spelled; method = method; says = says; same = same })
   found_in body xs method (Err e) has spelled says same = tt

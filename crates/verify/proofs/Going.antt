@@ -1,4 +1,4 @@
--- Where each instruction goes, by its plan: as its act says; and where it branches, its rule needs no class.
+-- Where each instruction goes, by its typing rule: as its act says; and where it branches, its rule needs no class.
 use Rattle.std.proofs.Common.{◌≡◌, ◌⊎◌, ℕ, ◌<◌, Bool, true, false, ◌&&◌, ℤ, List, [], ◌∷◌, Option, Some, None, refl, sym, ◌∙◌, arith, inl, inr}
 use Rattle.classfile.specs.Methods.{Method}
 use Rattle.hierarchy.specs.Class.{ClassFact}
@@ -10,8 +10,8 @@ use Rattle.frames.specs.VerificationType.{VerificationType, top, int, float, lon
 use Rattle.frames.specs.FrameAssignable.{both}
 use Rattle.frames.specs.FrameFact.{FrameFact}
 use Rattle.frames.specs.Conditions.{Reason, reason, Conditions, least, is_no, missing_if}
-use Rattle.rules.specs.Plans.{Want, number, any_reference, Plan, pops, offsets_of}
-use Rattle.rules.specs.Table.{plan}
+use Rattle.rules.specs.TypingRules.{ExpectedType, number, any_reference, TypingRule, pops, offsets_of}
+use Rattle.rules.specs.Table.{typing_rule}
 use Rattle.rules.proofs.Directions.{WayOf, way_of}
 use Rattle.rules.specs.After.{after}
 use Rattle.rules.specs.Rules.{accepts, is_short, operands, gives_frame, is_too_wide, conditions}
@@ -21,16 +21,16 @@ use Rattle.rules.specs.Ways.{goes_on, branch_offsets}
 abbrev pub IsEarly : Option Reason → Type 0
 IsEarly o = (o ≡ None) ⊎ ((n : ℕ) × (o ≡ Some (reason n)) × (n < 67))
 
--- what a plan asks needs no class
-abbrev pub IsCalm : Plan → Type 0
+-- what a typing rule asks needs no class
+abbrev pub IsCalm : TypingRule → Type 0
 IsCalm p = (classes : List ClassFact) (m : Method Act) (at : ℕ) (f : FrameFact) → IsEarly (least (conditions classes m at p f))
 
--- the plan goes where the act says; where it branches, it needs no class
-pub record IsWay (a : Act) (p : Plan) : Type 0 where
+-- the typing rule goes where the act says; where it branches, it needs no class
+pub record IsWay (a : Act) (p : TypingRule) : Type 0 where
   pub way : WayOf a p
   pub calm : (offsets_of p ≡ []) ⊎ IsCalm p
 
--- ---- plans that branch
+-- ---- typing rules that branch
 
 abbrev IsDecided : Outcome → Type 0
 IsDecided yes = Unit {0}
@@ -66,11 +66,11 @@ reference_decided classes (array component) = tt
 reference_decided classes uninit_this = tt
 reference_decided classes (uninit offset) = tt
 
-abbrev AreDecided : List Want → Type 0
+abbrev AreDecided : List ExpectedType → Type 0
 AreDecided [] = Unit {0}
 AreDecided (w ∷ ws) = ((classes : List ClassFact) (t : VerificationType) → IsDecided (accepts classes w t)) × AreDecided ws
 
-operands_decided : (classes : List ClassFact) (ws : List Want) (ts : List VerificationType) → AreDecided ws → IsDecided (operands classes ws ts)
+operands_decided : (classes : List ClassFact) (ws : List ExpectedType) (ts : List VerificationType) → AreDecided ws → IsDecided (operands classes ws ts)
 operands_decided classes [] ts d = tt
 operands_decided classes (w ∷ ws) [] d = tt
 operands_decided classes (w ∷ ws) (t ∷ ts) d = both_decided (accepts classes w t) (operands classes ws ts) (d.0 classes t) (operands_decided classes ws ts d.1)
@@ -84,16 +84,16 @@ parts_early false false yes d = inl refl
 parts_early false wide no d = inr (62, refl, omega arith)
 parts_early short wide (missing n) d = absurd d
 
-branch_calm : (ws : List Want) (offsets : List ℤ) (on : Bool) → AreDecided ws → IsCalm (pops ws [] offsets on)
+branch_calm : (ws : List ExpectedType) (offsets : List ℤ) (on : Bool) → AreDecided ws → IsCalm (pops ws [] offsets on)
 branch_calm ws offsets on d = λ classes m at f.
     parts_early (is_short ws f.stack) (is_too_wide m (after m at (pops ws [] offsets on) f)) (operands classes ws f.stack) (operands_decided classes ws f.stack d)
 
-branches : (a : Act) (ws : List Want) (offsets : List ℤ) (on : Bool) → goes_on a ≡ on → branch_offsets a ≡ offsets → AreDecided ws → IsWay a (pops ws [] offsets on)
+branches : (a : Act) (ws : List ExpectedType) (offsets : List ℤ) (on : Bool) → goes_on a ≡ on → branch_offsets a ≡ offsets → AreDecided ws → IsWay a (pops ws [] offsets on)
 branches a ws offsets on e o d = record { way = record { falls_on = e; branches = o }; calm = inr (branch_calm ws offsets on d) }
 
--- ---- plans that do not
+-- ---- typing rules that do not
 
-nowhere : (m : Method Act) (a : Act) → branch_offsets a ≡ [] → IsWay a (plan m a)
+nowhere : (m : Method Act) (a : Act) → branch_offsets a ≡ [] → IsWay a (typing_rule m a)
 nowhere m a none = record {
   way = way_of m a;
   calm = inl (sym (way_of m a).branches ∙ none);
@@ -101,7 +101,7 @@ nowhere m a none = record {
 
 -- ---- all acts
 
-pub ways : (m : Method Act) (a : Act) → IsWay a (plan m a)
+pub ways : (m : Method Act) (a : Act) → IsWay a (typing_rule m a)
 ways m (acts.IfInt offset) = branches (acts.IfInt offset) (number kinds.Int ∷ []) (offset ∷ []) true refl refl (int_decided, tt)
 ways m (acts.IfInts offset) =
     branches (acts.IfInts offset) (number kinds.Int ∷ number kinds.Int ∷ []) (offset ∷ []) true refl refl (int_decided, (int_decided, tt))

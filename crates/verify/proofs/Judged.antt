@@ -8,7 +8,7 @@ use Rattle.frames.specs.VerificationType.{VerificationType}
 use Rattle.frames.specs.Slots.{in_locals}
 use Rattle.frames.specs.Conditions.{reason, with_fault}
 use Rattle.rules.specs.ReasonNumbers.{bad_stack_map}
-use Rattle.rules.specs.Table.{plan}
+use Rattle.rules.specs.Table.{typing_rule}
 use Rattle.verify.specs.InitialFrames.{initial_types}
 use Rattle.verify.specs.TypeSafety.{Frames}
 use Rattle.verify.specs.Verdict.{refused, map_refused, MapRefusal, map_fault_number, told_of, frames_of, entries_read, frames_declared, with_frames, verdict}
@@ -19,16 +19,16 @@ module _ (m : Method Act) where
   declares_none n = ap (λ (o : Option (List ℕ)). frames_of m (entries_read o)) n
 
   module _ (classes : List ClassFact) where
-    pub too_narrow : nat_lt m.max_locals (length (in_locals (initial_types m))) ≡ true → verdict plan classes m ≡ refused 0 (reason 64)
+    pub too_narrow : nat_lt m.max_locals (length (in_locals (initial_types m))) ≡ true → verdict typing_rule classes m ≡ refused 0 (reason 64)
     too_narrow e = rw e refl
 
     module _ (wide : nat_lt m.max_locals (length (in_locals (initial_types m))) ≡ false) where
-      pub with_declared : (frames : Frames) → frames_declared m ≡ Ok frames → verdict plan classes m ≡ with_frames plan classes m (Ok frames)
-      with_declared frames d = rw wide (ap (with_frames plan classes m) d)
+      pub with_declared : (frames : Frames) → frames_declared m ≡ Ok frames → verdict typing_rule classes m ≡ with_frames typing_rule classes m (Ok frames)
+      with_declared frames d = rw wide (ap (with_frames typing_rule classes m) d)
 
       pub map_told : (why : MapRefusal) → frames_declared m ≡ Err why
-          → told_of (verdict plan classes m) ≡ Some (0, with_fault bad_stack_map (map_fault_number why))
-      map_told why d = let e : verdict plan classes m ≡ map_refused why = rw wide (ap (with_frames plan classes m) d) in ap told_of e
+          → told_of (verdict typing_rule classes m) ≡ Some (0, with_fault bad_stack_map (map_fault_number why))
+      map_told why d = let e : verdict typing_rule classes m ≡ map_refused why = rw wide (ap (with_frames typing_rule classes m) d) in ap told_of e
 
   -- what is answered of the locals, by the types with which the method begins
   pub room_as : (types : List VerificationType) → types ≡ initial_types m → (b : Bool) → nat_lt m.max_locals (length (in_locals types)) ≡ b

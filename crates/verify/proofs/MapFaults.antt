@@ -16,8 +16,8 @@ use Rattle.frames.specs.Conditions.{Reason, reason, least}
 use Rattle.frames.specs.StackMaps.{MapEntry, stack_map, MapFault}
 use Rattle.frames.specs.DeclaredFrames.{declared_frames}
 use Rattle.classfile.specs.Methods.{Method, ExceptionEntry}
-use Rattle.rules.specs.Plans.{falls}
-use Rattle.rules.specs.Table.{Plans}
+use Rattle.rules.specs.TypingRules.{falls}
+use Rattle.rules.specs.Table.{TypingRules}
 use Rattle.rules.specs.After.{after}
 use Rattle.verify.specs.InitialFrames.{initial_types, initial_frame}
 use Rattle.verify.specs.TypeSafety.{Frames}
@@ -73,35 +73,35 @@ map_fault m why e = by (entries_read m.stack_map) refl e
 
 -- ---- no other step answers so
 
-module _ (plan : Plans) (classes : List ClassFact) (m : Method Act) (frames : Frames) (why : MapRefusal) where
+module _ (typing_rule : TypingRules) (classes : List ClassFact) (m : Method Act) (frames : Frames) (why : MapRefusal) where
   reason_clash : (o : Option Reason) (at : ℕ) (rest : Verdict) → (rest ≡ map_refused why → ⊥) → refused_or o at rest ≡ map_refused why → ⊥
   reason_clash None at rest f e = f e
   reason_clash (Some w) at rest f e = cc
 
-  arrival_clash : (cs : List (ℕ × Act)) (b : Bool) (f : FrameFact) → ((g : FrameFact) → passes plan classes m frames cs g ≡ map_refused why → ⊥) → arrives classes frames cs b f (passes plan classes m frames cs) ≡ map_refused why → ⊥
+  arrival_clash : (cs : List (ℕ × Act)) (b : Bool) (f : FrameFact) → ((g : FrameFact) → passes typing_rule classes m frames cs g ≡ map_refused why → ⊥) → arrives classes frames cs b f (passes typing_rule classes m frames cs) ≡ map_refused why → ⊥
   arrival_clash [] b f rec e = cc
   arrival_clash (c ∷ cs) b f rec e =
-      reason_clash (entry classes b f (at_offset frames c.0)) c.0 (passes plan classes m frames (c ∷ cs) (entered f (at_offset frames c.0))) (rec (entered f (at_offset frames c.0))) e
+      reason_clash (entry classes b f (at_offset frames c.0)) c.0 (passes typing_rule classes m frames (c ∷ cs) (entered f (at_offset frames c.0))) (rec (entered f (at_offset frames c.0))) e
 
-  pass_clash : (cs : List (ℕ × Act)) (f : FrameFact) → passes plan classes m frames cs f ≡ map_refused why → ⊥
+  pass_clash : (cs : List (ℕ × Act)) (f : FrameFact) → passes typing_rule classes m frames cs f ≡ map_refused why → ⊥
   pass_clash [] f e = cc
   pass_clash (c ∷ cs) f e =
-      reason_clash (least (at_conditions classes m frames c.0 c.1 (plan m c.1) (first_offset cs) f)) c.0 (arrives classes frames cs (falls (plan m c.1)) (after m c.0 (plan m c.1) f) (passes plan classes m frames cs))
-      (arrival_clash cs (falls (plan m c.1)) (after m c.0 (plan m c.1) f) (λ g. pass_clash cs g)) e
+      reason_clash (least (at_conditions classes m frames c.0 c.1 (typing_rule m c.1) (first_offset cs) f)) c.0 (arrives classes frames cs (falls (typing_rule m c.1)) (after m c.0 (typing_rule m c.1) f) (passes typing_rule classes m frames cs))
+      (arrival_clash cs (falls (typing_rule m c.1)) (after m c.0 (typing_rule m c.1) f) (λ g. pass_clash cs g)) e
 
   table_clash : (es : List ExceptionEntry) (rest : Verdict) → (rest ≡ map_refused why → ⊥) → table_judged classes m frames es rest ≡ map_refused why → ⊥
   table_clash [] rest f e = f e
   table_clash (x ∷ es) rest f e = reason_clash (least (table_conditions classes m frames x)) 0 (table_judged classes m frames es rest) (table_clash es rest f) e
 
-map_refused_why : (plan : Plans) (classes : List ClassFact) (m : Method Act) (why : MapRefusal) → verdict plan classes m ≡ map_refused why → (length (in_locals (initial_types m)) ≤ m.max_locals) × IsMapFault m why
-map_refused_why plan classes m why v = by (nat_lt m.max_locals (length (in_locals (initial_types m)))) refl v
+map_refused_why : (typing_rule : TypingRules) (classes : List ClassFact) (m : Method Act) (why : MapRefusal) → verdict typing_rule classes m ≡ map_refused why → (length (in_locals (initial_types m)) ≤ m.max_locals) × IsMapFault m why
+map_refused_why typing_rule classes m why v = by (nat_lt m.max_locals (length (in_locals (initial_types m)))) refl v
   where
-    on : (r : Result Frames MapRefusal) → frames_declared m ≡ r → with_frames plan classes m r ≡ map_refused why → IsMapFault m why
+    on : (r : Result Frames MapRefusal) → frames_declared m ≡ r → with_frames typing_rule classes m r ≡ map_refused why → IsMapFault m why
     on (Ok frames) r w =
-        absurd (table_clash plan classes m frames why m.exceptions (code_judged plan classes m frames) (arrival_clash plan classes m frames why m.code true (initial_frame m) (λ g. pass_clash plan classes m frames why m.code g)) w)
+        absurd (table_clash typing_rule classes m frames why m.exceptions (code_judged typing_rule classes m frames) (arrival_clash typing_rule classes m frames why m.code true (initial_frame m) (λ g. pass_clash typing_rule classes m frames why m.code g)) w)
     on (Err other) r w = let same : other ≡ why = cc in map_fault m why (r ∙ ap (λ (z : MapRefusal). Err z) same)
 
-    by : (b : Bool) → nat_lt m.max_locals (length (in_locals (initial_types m))) ≡ b → (if b then refused 0 (reason 64) else with_frames plan classes m (frames_declared m)) ≡ map_refused why
+    by : (b : Bool) → nat_lt m.max_locals (length (in_locals (initial_types m))) ≡ b → (if b then refused 0 (reason 64) else with_frames typing_rule classes m (frames_declared m)) ≡ map_refused why
         → (length (in_locals (initial_types m)) ≤ m.max_locals) × IsMapFault m why
     by true b w = cc
     by false b w = (ltb-false m.max_locals (length (in_locals (initial_types m))) b, on (frames_declared m) refl w)
@@ -122,7 +122,7 @@ fault_refused m (unreadable fault) (body, map, f) = ap (λ z. frames_of m (entri
 fault_refused m (undeclared why) (entries, spelled, d) = ap (frames_of m) (entries_there m.stack_map entries spelled) ∙ ap or_undeclared d
 
 pub map_refused_where : MapRefusedWhere
-map_refused_where plan classes m why = (
-  map_refused_why plan classes m why,
-  λ x. rw (le-ltb m.max_locals (length (in_locals (initial_types m))) x.0) (ap (with_frames plan classes m) (fault_refused m why x.1)),
+map_refused_where typing_rule classes m why = (
+  map_refused_why typing_rule classes m why,
+  λ x. rw (le-ltb m.max_locals (length (in_locals (initial_types m))) x.0) (ap (with_frames typing_rule classes m) (fault_refused m why x.1)),
 )

@@ -16,8 +16,8 @@ use Rattle.frames.specs.FrameFact.{FrameFact}
 use Rattle.frames.specs.HeldFrames.{held_locals, held_frame}
 use Rattle.frames.specs.Slots.{in_locals}
 use Rattle.frames.specs.Conditions.{Conditions, least}
-use Rattle.rules.specs.Plans.{falls}
-use Rattle.rules.specs.Table.{plan}
+use Rattle.rules.specs.TypingRules.{falls}
+use Rattle.rules.specs.Table.{typing_rule}
 use Rattle.rules.specs.After.{after}
 use Rattle.rules.specs.Rules.{conditions}
 use Rattle.rules.specs.Ways.{goes_on as act_goes_on}
@@ -68,10 +68,10 @@ not_before low cs at rise s = grind (arith, nat_tests, not_at low cs at rise, s.
 
 module _ (classes : List ClassFact) (m : Method Act) (frames : Frames) (at : ℕ) where
   abbrev pub met_at : List (ℕ × Act) → Option FrameFact → FramesFact
-  met_at cs coming = met plan classes m frames cs coming at
+  met_at cs coming = met typing_rule classes m frames cs coming at
 
   abbrev goes_from : ℕ × Act → Option FrameFact → Option FrameFact → Option FrameFact
-  goes_from c coming declared = going classes m c.0 (plan m c.1) (before coming declared)
+  goes_from c coming declared = going classes m c.0 (typing_rule m c.1) (before coming declared)
 
   module _ (c : ℕ × Act) (cs : List (ℕ × Act)) (coming : Option FrameFact) where
     passed : nat_eq c.0 at ≡ false → met_at (c ∷ cs) coming ≡ met_at cs (goes_from c coming (at_offset frames c.0))
@@ -131,19 +131,19 @@ and_false false b e = refl
 
 module _ (classes : List ClassFact) (m : Method Act) (at : ℕ) (a : Act) (f now : FrameFact) where
   abbrev rule : Conditions
-  rule = conditions classes m at (plan m a) f
+  rule = conditions classes m at (typing_rule m a) f
 
-  pub goes_is : (goes : Bool) → goes ≡ act_goes_on a → least rule ≡ None → now ≡ after m at (plan m a) f → frame_if goes now ≡ going classes m at (plan m a) (Some f)
+  pub goes_is : (goes : Bool) → goes ≡ act_goes_on a → least rule ≡ None → now ≡ after m at (typing_rule m a) f → frame_if goes now ≡ going classes m at (typing_rule m a) (Some f)
   goes_is goes k none q =
-      ap (λ b. frame_if b now) (k ∙ (ways m a).way.falls_on) ∙ ap (frame_if (falls (plan m a))) q
-      ∙ ap (λ b. frame_if b (after m at (plan m a) f)) (sym (and_true (falls (plan m a)) (is_none (least rule)) (ap is_none none)))
+      ap (λ b. frame_if b now) (k ∙ (ways m a).way.falls_on) ∙ ap (frame_if (falls (typing_rule m a))) q
+      ∙ ap (λ b. frame_if b (after m at (typing_rule m a) f)) (sym (and_true (falls (typing_rule m a)) (is_none (least rule)) (ap is_none none)))
 
   pub stopped_is : (e : RuleReason) (r : Result Bool VerifyFault) → (e ≡ reasons.OutOfMemory) ⊎ (least rule ≡ Some (reason_view e))
-      → IfOk r (λ goes. (goes ≡ false) × (e ≢ reasons.OutOfMemory)) → IfOk r (λ goes. frame_if goes now ≡ going classes m at (plan m a) (Some f))
+      → IfOk r (λ goes. (goes ≡ false) × (e ≢ reasons.OutOfMemory)) → IfOk r (λ goes. frame_if goes now ≡ going classes m at (typing_rule m a) (Some f))
   stopped_is e (Ok goes) (inl z) p = absurd (p.1 z)
   stopped_is e (Ok goes) (inr w) p =
       ap (λ b. frame_if b now) p.0
-      ∙ ap (λ b. frame_if b (after m at (plan m a) f)) (sym (and_false (falls (plan m a)) (is_none (least rule)) (ap is_none w)))
+      ∙ ap (λ b. frame_if b (after m at (typing_rule m a) f)) (sym (and_false (falls (typing_rule m a)) (is_none (least rule)) (ap is_none w)))
   stopped_is e (Err x) o p = tt
 
 pub stopped_length : (e : RuleReason) (r : Result Bool VerifyFault) (n k : ℕ) → IfOk r (λ goes. (goes ≡ false) × (e ≢ reasons.OutOfMemory)) → IfOk r (λ goes. goes ≡ true → n ≡ k)
@@ -169,10 +169,10 @@ started_length m e =
     omega (arith, length-append ts (replicate (m.max_locals - length ts) top), length-replicate (m.max_locals - length ts) top, le)
 
 pub frames_are : (classes : List ClassFact) (m : Method Act) (frames : Frames) (at : ℕ) → nat_lt m.max_locals (length (in_locals (initial_types m))) ≡ false → frames_declared m ≡ Ok frames
-    → (f : FrameFact) → f ≡ initial_frame m → met plan classes m frames m.code (Some f) at ≡ frames_at plan classes m at
+    → (f : FrameFact) → f ≡ initial_frame m → met typing_rule classes m frames m.code (Some f) at ≡ frames_at typing_rule classes m at
 frames_are classes m frames at wide d f same =
-    let there : frames_at plan classes m at ≡ met_under plan classes m (Ok frames) at = rw wide (ap (λ r. met_under plan classes m r at) d) in
-    ap (λ g. met plan classes m frames m.code (Some g) at) same ∙ sym there
+    let there : frames_at typing_rule classes m at ≡ met_under typing_rule classes m (Ok frames) at = rw wide (ap (λ r. met_under typing_rule classes m r at) d) in
+    ap (λ g. met typing_rule classes m frames m.code (Some g) at) same ∙ sym there
 
 -- ---- the bytes that are left
 

@@ -15,7 +15,7 @@ use Rattle.insn.specs.Meanings.{Act, New, InvokeSpecial, LoadReference, StoreRef
 use Rattle.layout.specs.Format as formats
 use Rattle.frames.specs.Conditions.{reason, class_missing}
 use Rattle.frames.specs.StackMaps as maps
-use Rattle.rules.specs.Table.{plan}
+use Rattle.rules.specs.Table.{typing_rule}
 use Rattle.verify.specs.Verdict.{Verdict, verified, refused, verdict}
 
 -- ---- a setting: Object, Throwable, K, A and the interface I, each below Object; B is absent
@@ -60,11 +60,11 @@ abbrev method : List FieldDescriptor → Option FieldDescriptor → Option (List
 method = method_that false
 
 abbrev of_code : Option FieldDescriptor → List (ℕ × Act) → Verdict
-of_code result code = verdict plan classes (method [] result None [] code)
+of_code result code = verdict typing_rule classes (method [] result None [] code)
 
 -- a constructor of K
 abbrev of_constructor : Option (List ℕ) → List ExceptionEntry → List (ℕ × Act) → Verdict
-of_constructor map exceptions code = verdict plan classes (method_that true [] None map exceptions code)
+of_constructor map exceptions code = verdict typing_rule classes (method_that true [] None map exceptions code)
 
 abbrev any_entry : ℕ → ℕ → ℕ → ExceptionEntry
 any_entry from to handler = record { from = from; to = to; handler = handler; caught = class_type (codes "java/lang/Throwable") }
@@ -99,11 +99,11 @@ covered_constructor = refl
 
 -- ---- a `new` behind code that ends, and its object declared on the stack
 
-behind_a_return : verdict plan classes (method [] None (Some (0 ∷ 1 ∷ 1 ∷ [])) [] ((0, ReturnVoid) ∷ (1, New 1) ∷ (4, Stack Pop) ∷ (5, ReturnVoid) ∷ [])) ≡ verified
+behind_a_return : verdict typing_rule classes (method [] None (Some (0 ∷ 1 ∷ 1 ∷ [])) [] ((0, ReturnVoid) ∷ (1, New 1) ∷ (4, Stack Pop) ∷ (5, ReturnVoid) ∷ [])) ≡ verified
 unfolding maps.stack_map formats.times maps.map_entry maps.type_table maps.type_info entry_at text_at class_name_at named name_and_type_at member field_ref_at method_constant method_ref_at read_class read_base read_field read_params read_result read_method field_answer method_answer
 behind_a_return = refl
 
-declared_on_the_stack : verdict plan classes (method [] None (Some (0 ∷ 1 ∷ 65 ∷ 8 ∷ 0 ∷ 1 ∷ [])) [] ((0, ReturnVoid) ∷ (1, New 1) ∷ (4, Stack Pop) ∷ (5, ReturnVoid) ∷ [])) ≡ refused 1 (reason 62)
+declared_on_the_stack : verdict typing_rule classes (method [] None (Some (0 ∷ 1 ∷ 65 ∷ 8 ∷ 0 ∷ 1 ∷ [])) [] ((0, ReturnVoid) ∷ (1, New 1) ∷ (4, Stack Pop) ∷ (5, ReturnVoid) ∷ [])) ≡ refused 1 (reason 62)
 unfolding maps.stack_map formats.times maps.map_entry maps.type_table maps.type_info entry_at text_at class_name_at named name_and_type_at member field_ref_at method_constant method_ref_at read_class read_base read_field read_params read_result read_method field_answer method_answer
 declared_on_the_stack = refl
 
@@ -112,7 +112,7 @@ declared_on_the_stack = refl
 -- iconst_0; istore_0; iload_0; ireturn; pop; iload_0; ireturn
 abbrev with_handler : ExceptionEntry → Verdict
 with_handler e =
-    verdict plan classes (method [] (Some (primitive primitives.Int)) (Some (0 ∷ 1 ∷ 255 ∷ 0 ∷ 4 ∷ 0 ∷ 1 ∷ 1 ∷ 0 ∷ 1 ∷ 7 ∷ 0 ∷ 8 ∷ [])) (e ∷ [])
+    verdict typing_rule classes (method [] (Some (primitive primitives.Int)) (Some (0 ∷ 1 ∷ 255 ∷ 0 ∷ 4 ∷ 0 ∷ 1 ∷ 1 ∷ 0 ∷ 1 ∷ 7 ∷ 0 ∷ 8 ∷ [])) (e ∷ [])
     ((0, Constant Int) ∷ (1, Store Int 0) ∷ (2, Load Int 0) ∷ (3, Return Int) ∷ (4, Stack Pop) ∷ (5, Load Int 0) ∷ (6, Return Int) ∷ []))
 
 handler_behind_the_store : with_handler (any_entry 2 3 4) ≡ verified
@@ -125,13 +125,13 @@ handler_from_the_store = refl
 
 -- ---- references
 
-class_is_missing : verdict plan classes (method (class_descriptor (codes "A") ∷ []) (Some (class_descriptor (codes "B"))) None [] ((0, LoadReference 0) ∷ (1, ReturnReference) ∷ [])) ≡ refused 1 (class_missing (codes "B"))
+class_is_missing : verdict typing_rule classes (method (class_descriptor (codes "A") ∷ []) (Some (class_descriptor (codes "B"))) None [] ((0, LoadReference 0) ∷ (1, ReturnReference) ∷ [])) ≡ refused 1 (class_missing (codes "B"))
 class_is_missing = refl
 
-interface_takes_all : verdict plan classes (method (class_descriptor (codes "A") ∷ []) (Some (class_descriptor (codes "I"))) None [] ((0, LoadReference 0) ∷ (1, ReturnReference) ∷ [])) ≡ verified
+interface_takes_all : verdict typing_rule classes (method (class_descriptor (codes "A") ∷ []) (Some (class_descriptor (codes "I"))) None [] ((0, LoadReference 0) ∷ (1, ReturnReference) ∷ [])) ≡ verified
 interface_takes_all = refl
 
-cast_to_a_class : verdict plan classes (method (class_descriptor (codes "I") ∷ []) (Some (class_descriptor (codes "A"))) None [] ((0, LoadReference 0) ∷ (1, CheckCast 1) ∷ (4, ReturnReference) ∷ [])) ≡ verified
+cast_to_a_class : verdict typing_rule classes (method (class_descriptor (codes "I") ∷ []) (Some (class_descriptor (codes "A"))) None [] ((0, LoadReference 0) ∷ (1, CheckCast 1) ∷ (4, ReturnReference) ∷ [])) ≡ verified
 unfolding entry_at text_at class_name_at named name_and_type_at member field_ref_at method_constant method_ref_at read_class read_base read_field read_params read_result read_method field_answer method_answer
 cast_to_a_class = refl
 
@@ -142,6 +142,6 @@ constructor_called_as_a_method : of_code None ((0, acts.ConstantNull) ∷ (1, In
 unfolding entry_at text_at class_name_at named name_and_type_at member field_ref_at method_constant method_ref_at read_class read_base read_field read_params read_result read_method field_answer method_answer
 constructor_called_as_a_method = refl
 
-field_of_an_object : verdict plan classes (method (class_descriptor (codes "A") ∷ []) None None [] ((0, LoadReference 0) ∷ (1, GetField 4) ∷ (4, Stack Pop) ∷ (5, ReturnVoid) ∷ [])) ≡ verified
+field_of_an_object : verdict typing_rule classes (method (class_descriptor (codes "A") ∷ []) None None [] ((0, LoadReference 0) ∷ (1, GetField 4) ∷ (4, Stack Pop) ∷ (5, ReturnVoid) ∷ [])) ≡ verified
 unfolding entry_at text_at class_name_at named name_and_type_at member field_ref_at method_constant method_ref_at read_class read_base read_field read_params read_result read_method field_answer method_answer
 field_of_an_object = refl

@@ -9,7 +9,7 @@ use Rattle.hierarchy.specs.Class.{ClassFact}
 use Rattle.insn.specs.Faults.{code_fault_number}
 use Rattle.insn.specs.Code.{SpellsCode, FaultyCode}
 use Rattle.insn.specs.Offsets.{acts}
-use Rattle.rules.specs.Table.{plan}
+use Rattle.rules.specs.Table.{typing_rule}
 use Rattle.insn.proofs.CodeLaws.{one_code, code_or_fault, one_fault}
 use Rattle.frames.specs.Conditions as conditions
 use Rattle.rules.specs.declared.reason.Reason.{Reason}
@@ -55,7 +55,7 @@ module _ (classes : List ClassFact) (c : JudgedClass) (number : ℕ) where
       one_code 0 y.body.code x.instructions y.instructions (subst (λ b. SpellsCode 0 b.code x.instructions) body x.spelled) y.spelled in
       let method : x.method ≡ y.method =
       some_same x.method y.method (sym x.says ∙ ap (λ z. method_of c number (acts z)) same ∙ y.says) in
-      sym x.told ∙ ap (verdict plan classes) method ∙ y.told
+      sym x.told ∙ ap (verdict typing_rule classes) method ∙ y.told
 
   both_told : (at there : ℕ) (why other : Reason) → HasRefusal classes c number at why → HasRefusal classes c number there other
       → Same at why there other
@@ -144,7 +144,7 @@ module _ (classes : List ClassFact) (c : JudgedClass) (number : ℕ) where
       one_code 0 q.body.code p.instructions q.instructions (subst (λ b. SpellsCode 0 b.code p.instructions) body p.spelled) q.spelled in
       let method : p.method ≡ q.method =
       some_same p.method q.method (sym p.says ∙ ap (λ z. method_of c number (acts z)) same ∙ q.says) in
-      p.same ∙ ap (λ m. frames_at plan classes m at) method ∙ ap (frames_at plan classes q.method) e ∙ sym q.same
+      p.same ∙ ap (λ m. frames_at typing_rule classes m at) method ∙ ap (frames_at typing_rule classes q.method) e ∙ sym q.same
 
   has_none : (at : ℕ) (x : FramesFact) → HasFrames classes c number at x → HasNoInstructions c number → ⊥
   has_none at x p none = none p.body p.instructions p.has_code p.spelled

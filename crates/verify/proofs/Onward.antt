@@ -18,8 +18,8 @@ use Rattle.frames.specs.VerificationType.{VerificationType}
 use Rattle.frames.specs.FrameFact.{FrameFact}
 use Rattle.frames.specs.Slots.{is_wide}
 use Rattle.frames.specs.Conditions.{Reason, Conditions, least}
-use Rattle.rules.specs.Plans.{Plan, pops, loads, stores, counts, rearranges, loads_element, makes, constructs, calls_special, returns, refuses, falls}
-use Rattle.rules.specs.Table.{plan}
+use Rattle.rules.specs.TypingRules.{TypingRule, pops, loads, stores, counts, rearranges, loads_element, makes, constructs, calls_special, returns, refuses, falls}
+use Rattle.rules.specs.Table.{typing_rule}
 use Rattle.rules.specs.After.{top_first, stored_type, after}
 use Rattle.rules.specs.Outcomes.{Done}
 use Rattle.rules.specs.Ways.{goes_on as act_goes_on}
@@ -47,34 +47,34 @@ stored_length t zero (x ∷ xs) = ap suc (if_length (is_wide t) xs)
 stored_length t (suc zero) (x ∷ xs) = ap suc (stored_length t zero xs)
 stored_length t (suc (suc n)) (x ∷ xs) = ap suc (stored_length t (suc n) xs)
 
-after_length : (m : Method Act) (at : ℕ) (p : Plan) (f : FrameFact) → length (after m at p f).locals ≡ length f.locals
-after_length m at (pops wants gives offsets on) f = refl
-after_length m at (loads want n width) f = refl
-after_length m at (stores want n width) f = stored_length _ n f.locals
+after_length : (m : Method Act) (at : ℕ) (p : TypingRule) (f : FrameFact) → length (after m at p f).locals ≡ length f.locals
+after_length m at (pops expected_types gives offsets on) f = refl
+after_length m at (loads expected n width) f = refl
+after_length m at (stores expected n width) f = stored_length _ n f.locals
 after_length m at (counts n) f = refl
 after_length m at (rearranges forms) f = refl
 after_length m at loads_element f = refl
 after_length m at (makes name) f = length-map f.locals _
-after_length m at (constructs name wants) f = length-map f.locals _
-after_length m at (calls_special type wants gives) f = refl
+after_length m at (constructs name expected_types) f = length-map f.locals _
+after_length m at (calls_special type expected_types gives) f = refl
 after_length m at returns f = refl
 after_length m at (refuses n) f = refl
 
-pub keeps_length : (m : Method Act) (at : ℕ) (p : Plan) (old now : FrameFact) (n : ℕ) → length old.locals ≡ n → now ≡ after m at p old → length now.locals ≡ n
+pub keeps_length : (m : Method Act) (at : ℕ) (p : TypingRule) (old now : FrameFact) (n : ℕ) → length old.locals ≡ n → now ≡ after m at p old → length now.locals ≡ n
 keeps_length m at p old now n e q = ap (λ (z : FrameFact). length z.locals) q ∙ after_length m at p old ∙ e
 
 -- ---- the code that is left
 
 module _ (classes : List ClassFact) (m : Method Act) (frames : Frames) where
   abbrev pub left : List (ℕ × Act) → Bool → FrameFact → Verdict
-  left cs b f = arrives classes frames cs b f (passes plan classes m frames cs)
+  left cs b f = arrives classes frames cs b f (passes typing_rule classes m frames cs)
 
   module _ (c : ℕ × Act) (cs : List (ℕ × Act)) (b : Bool) (f : FrameFact) (v : Verdict) (same : v ≡ left (c ∷ cs) b f) where
     abbrev declared : Option FrameFact
     declared = at_offset frames c.0
 
     refused_in : (why : Reason) → entry classes b f declared ≡ Some why → v ≡ refused c.0 why
-    refused_in why e = same ∙ ap (λ z. refused_or z c.0 (passes plan classes m frames (c ∷ cs) (entered f declared))) e
+    refused_in why e = same ∙ ap (λ z. refused_or z c.0 (passes typing_rule classes m frames (c ∷ cs) (entered f declared))) e
 
     -- against the frame that comes in
     pub stops_in : (g : FrameFact) (r : Result Unit RuleReason) (e : RuleReason) → r ≡ Err e → Enters classes b f declared g r
@@ -88,19 +88,19 @@ module _ (classes : List ClassFact) (m : Method Act) (frames : Frames) where
     -- a frame comes in, and this one goes on
     module _ (g : FrameFact) (r : Result Unit RuleReason) (u : Unit {0}) (ok : r ≡ Ok u) (enters : Enters classes b f declared g r) where
       abbrev pub at_here : Conditions
-      at_here = at_conditions classes m frames c.0 c.1 (plan m c.1) (first_offset cs) g
+      at_here = at_conditions classes m frames c.0 c.1 (typing_rule m c.1) (first_offset cs) g
 
       abbrev pub after_here : FrameFact
-      after_here = after m c.0 (plan m c.1) g
+      after_here = after m c.0 (typing_rule m c.1) g
 
       abbrev on : Verdict
-      on = left cs (falls (plan m c.1)) after_here
+      on = left cs (falls (typing_rule m c.1)) after_here
 
       opened : v ≡ refused_or (least at_here) c.0 on
       opened =
           let came = (subst (Enters classes b f declared g) ok enters).outcome in
-          same ∙ ap (λ z. refused_or z c.0 (passes plan classes m frames (c ∷ cs) (entered f declared))) came.0
-          ∙ ap (passes plan classes m frames (c ∷ cs)) (sym came.1)
+          same ∙ ap (λ z. refused_or z c.0 (passes typing_rule classes m frames (c ∷ cs) (entered f declared))) came.0
+          ∙ ap (passes typing_rule classes m frames (c ∷ cs)) (sym came.1)
 
       pub stops_at : (now : FrameFact) (r : Result Unit RuleReason) (e : RuleReason) → r ≡ Err e → Done at_here after_here now r
           → (e ≡ OutOfMemory) ⊎ (told_of v ≡ Some (c.0, reason_view e))
@@ -115,7 +115,7 @@ module _ (classes : List ClassFact) (m : Method Act) (frames : Frames) where
           → Done at_here after_here now r → goes ≡ act_goes_on c.1 → v ≡ left cs goes now
       goes_done now r u goes q x k =
           let done = (subst (Done at_here after_here now) q x).outcome in
-          let falls_as : goes ≡ falls (plan m c.1) =
+          let falls_as : goes ≡ falls (typing_rule m c.1) =
           k ∙ (ways m c.1).way.falls_on in
           opened ∙ ap (λ z. refused_or z c.0 on) done.0 ∙ ap (λ z. left cs z after_here) (sym falls_as) ∙ ap (left cs goes) (sym done.1)
 

@@ -7,8 +7,8 @@ use Rattle.insn.specs.Offsets.{at_offset, first_offset, next_offset}
 use Rattle.frames.specs.FrameFact.{FrameFact}
 use Rattle.frames.specs.FrameAssignable.{frame_answer}
 use Rattle.frames.specs.Conditions.{least}
-use Rattle.rules.specs.Plans.{falls}
-use Rattle.rules.specs.Table.{Plans}
+use Rattle.rules.specs.TypingRules.{falls}
+use Rattle.rules.specs.Table.{TypingRules}
 use Rattle.rules.specs.After.{after}
 use Rattle.verify.specs.TypeSafety.{Frames, Comes}
 use Rattle.verify.specs.Verdict.{verified, answer_conditions, at_conditions, entry, entered, arrives, passes}
@@ -39,7 +39,7 @@ at_next (c ∷ cs) p q e = by (λ k. at_next cs p q k) (nat_eq c.0 p) e
     by rec true k = later c cs q (at_first cs q k)
     by rec false k = later c cs q (rec k)
 
-module _ (plan : Plans) (classes : List ClassFact) (m : Method Act) (frames : Frames) where
+module _ (typing_rule : TypingRules) (classes : List ClassFact) (m : Method Act) (frames : Frames) where
   -- what comes to a start, where the table has what goes on there
   pub comes_in : (table : ℕ → FrameFact) (q : ℕ) (f : FrameFact) (o : Option FrameFact) → at_offset frames q ≡ o → entry classes true f o ≡ None → table q ≡ entered f o → Comes classes frames table f q
   comes_in table q f None i e t = inl t
@@ -51,9 +51,9 @@ module _ (plan : Plans) (classes : List ClassFact) (m : Method Act) (frames : Fr
 
   -- an instruction among these is fine in the table's frame, and what comes behind it is right
   pub record IsFineIn (table : ℕ → FrameFact) (cs : List (ℕ × Act)) (at : ℕ) (act : Act) : Type 0 where
-    pub fine : IsFine classes m frames at act (plan m act) (table at)
-    pub next : falls (plan m act) ≡ true → (to : ℕ) × (next_offset cs at ≡ Some to) × Comes classes frames table (after m at (plan m act) (table at)) to
-    pub alone : falls (plan m act) ≡ false → (to : ℕ) → next_offset cs at ≡ Some to → (f : FrameFact) × (at_offset frames to ≡ Some f)
+    pub fine : IsFine classes m frames at act (typing_rule m act) (table at)
+    pub next : falls (typing_rule m act) ≡ true → (to : ℕ) × (next_offset cs at ≡ Some to) × Comes classes frames table (after m at (typing_rule m act) (table at)) to
+    pub alone : falls (typing_rule m act) ≡ false → (to : ℕ) → next_offset cs at ≡ Some to → (f : FrameFact) × (at_offset frames to ≡ Some f)
     pub own : (g : FrameFact) → at_offset frames at ≡ Some g → table at ≡ g
 
   pub record HasTable (cs : List (ℕ × Act)) (f : FrameFact) : Type 0 where
@@ -65,16 +65,16 @@ module _ (plan : Plans) (classes : List ClassFact) (m : Method Act) (frames : Fr
   came [] g = g
   came (c ∷ cs) g = entered g (at_offset frames c.0)
 
-  pub tail_of : (cs : List (ℕ × Act)) (b : Bool) (g : FrameFact) → arrives classes frames cs b g (passes plan classes m frames cs) ≡ verified → passes plan classes m frames cs (came cs g) ≡ verified
+  pub tail_of : (cs : List (ℕ × Act)) (b : Bool) (g : FrameFact) → arrives classes frames cs b g (passes typing_rule classes m frames cs) ≡ verified → passes typing_rule classes m frames cs (came cs g) ≡ verified
   tail_of [] b g e = refl
-  tail_of (c ∷ cs) b g e = (not_refused (entry classes b g (at_offset frames c.0)) c.0 (passes plan classes m frames (c ∷ cs) (entered g (at_offset frames c.0))) e).1
+  tail_of (c ∷ cs) b g e = (not_refused (entry classes b g (at_offset frames c.0)) c.0 (passes typing_rule classes m frames (c ∷ cs) (entered g (at_offset frames c.0))) e).1
 
-  pub enters_of : (cs : List (ℕ × Act)) (b : Bool) (g : FrameFact) (q : ℕ) → arrives classes frames cs b g (passes plan classes m frames cs) ≡ verified → first_offset cs ≡ Some q
+  pub enters_of : (cs : List (ℕ × Act)) (b : Bool) (g : FrameFact) (q : ℕ) → arrives classes frames cs b g (passes typing_rule classes m frames cs) ≡ verified → first_offset cs ≡ Some q
       → (entry classes b g (at_offset frames q) ≡ None) × (came cs g ≡ entered g (at_offset frames q))
   enters_of [] b g q e i = cc
   enters_of (c ∷ cs) b g q e i =
       let k : c.0 ≡ q = cc in (
-        subst (λ z. entry classes b g (at_offset frames z) ≡ None) k (not_refused (entry classes b g (at_offset frames c.0)) c.0 (passes plan classes m frames (c ∷ cs) (entered g (at_offset frames c.0))) e).0,
+        subst (λ z. entry classes b g (at_offset frames z) ≡ None) k (not_refused (entry classes b g (at_offset frames c.0)) c.0 (passes typing_rule classes m frames (c ∷ cs) (entered g (at_offset frames c.0))) e).0,
         ap (λ z. entered g (at_offset frames z)) k,
       )
 
@@ -92,9 +92,9 @@ module _ (plan : Plans) (classes : List ClassFact) (m : Method Act) (frames : Fr
 
   -- a table for the instructions behind one is widened to that one
   module _ (c : ℕ × Act) (cs : List (ℕ × Act)) (f : FrameFact) (apart : at_offset cs c.0 ≡ None) (own : (k : FrameFact) → at_offset frames c.0 ≡ Some k → f ≡ k)
-      (fine : least (at_conditions classes m frames c.0 c.1 (plan m c.1) (first_offset cs) f) ≡ None)
-      (on : IsEntered cs (falls (plan m c.1)) (after m c.0 (plan m c.1) f))
-      (rest : ℕ → FrameFact) (rest_head : (q : ℕ) → first_offset cs ≡ Some q → rest q ≡ came cs (after m c.0 (plan m c.1) f)) where
+      (fine : least (at_conditions classes m frames c.0 c.1 (typing_rule m c.1) (first_offset cs) f) ≡ None)
+      (on : IsEntered cs (falls (typing_rule m c.1)) (after m c.0 (typing_rule m c.1) f))
+      (rest : ℕ → FrameFact) (rest_head : (q : ℕ) → first_offset cs ≡ Some q → rest q ≡ came cs (after m c.0 (typing_rule m c.1) f)) where
     abbrev pub wider : ℕ → FrameFact
     wider p = if nat_eq c.0 p then f else rest p
 
@@ -107,39 +107,39 @@ module _ (plan : Plans) (classes : List ClassFact) (m : Method Act) (frames : Fr
         clash : (act : Act) → None ≡ Some act → ⊥
         clash act e = cc
 
-    parts : IsFine classes m frames c.0 c.1 (plan m c.1) f × (falls (plan m c.1) ≡ true → (q : ℕ) × (first_offset cs ≡ Some q))
-    parts = fine_of classes m frames c.0 c.1 (plan m c.1) (first_offset cs) f (none_least (at_conditions classes m frames c.0 c.1 (plan m c.1) (first_offset cs) f) fine)
+    parts : IsFine classes m frames c.0 c.1 (typing_rule m c.1) f × (falls (typing_rule m c.1) ≡ true → (q : ℕ) × (first_offset cs ≡ Some q))
+    parts = fine_of classes m frames c.0 c.1 (typing_rule m c.1) (first_offset cs) f (none_least (at_conditions classes m frames c.0 c.1 (typing_rule m c.1) (first_offset cs) f) fine)
 
     pub fine_head : IsFineIn wider (c ∷ cs) c.0 c.1
     fine_head = record {
-      fine = subst (λ z. IsFine classes m frames c.0 c.1 (plan m c.1) z) (sym here) parts.0;
+      fine = subst (λ z. IsFine classes m frames c.0 c.1 (typing_rule m c.1) z) (sym here) parts.0;
       next = λ t.
           let x = parts.1 t in
           let y = on x.0 x.1 in (
             x.0,
             rw (eq-eqb c.0 c.0 refl) x.1,
-            subst (λ z. Comes classes frames wider (after m c.0 (plan m c.1) z) x.0) (sym here)
-                (comes_in wider x.0 (after m c.0 (plan m c.1) f) (at_offset frames x.0) refl (subst (λ b. entry classes b (after m c.0 (plan m c.1) f) (at_offset frames x.0) ≡ None) t y.0) (same x.0 (at_first cs x.0 x.1) ∙ rest_head x.0 x.1 ∙ y.1)),
+            subst (λ z. Comes classes frames wider (after m c.0 (typing_rule m c.1) z) x.0) (sym here)
+                (comes_in wider x.0 (after m c.0 (typing_rule m c.1) f) (at_offset frames x.0) refl (subst (λ b. entry classes b (after m c.0 (typing_rule m c.1) f) (at_offset frames x.0) ≡ None) t y.0) (same x.0 (at_first cs x.0 x.1) ∙ rest_head x.0 x.1 ∙ y.1)),
           );
       alone = λ t to e. behind t to (subst (λ b. (if b then first_offset cs else next_offset cs c.0) ≡ Some to) (eq-eqb c.0 c.0 refl) e);
       own = λ k e. here ∙ own k e;
     }
       where
-        behind : falls (plan m c.1) ≡ false → (to : ℕ) → first_offset cs ≡ Some to → (g : FrameFact) × (at_offset frames to ≡ Some g)
+        behind : falls (typing_rule m c.1) ≡ false → (to : ℕ) → first_offset cs ≡ Some to → (g : FrameFact) × (at_offset frames to ≡ Some g)
         behind t to e =
             let y = on to e in
-            declared_alone (after m c.0 (plan m c.1) f) (at_offset frames to) (subst (λ b. entry classes b (after m c.0 (plan m c.1) f) (at_offset frames to) ≡ None) t y.0)
+            declared_alone (after m c.0 (typing_rule m c.1) f) (at_offset frames to) (subst (λ b. entry classes b (after m c.0 (typing_rule m c.1) f) (at_offset frames to) ≡ None) t y.0)
 
     pub fine_tail : (p : ℕ) (act : Act) → nat_eq c.0 p ≡ false → at_offset cs p ≡ Some act → IsFineIn rest cs p act → IsFineIn wider (c ∷ cs) p act
     fine_tail p act i k rec =
         let s : wider p ≡ rest p = same p (act, k) in
         record {
-          fine = subst (λ z. IsFine classes m frames p act (plan m act) z) (sym s) rec.fine;
+          fine = subst (λ z. IsFine classes m frames p act (typing_rule m act) z) (sym s) rec.fine;
           next = λ t.
               let x = rec.next t in (
                 x.0,
                 rw i x.1,
-                subst (λ z. Comes classes frames wider (after m p (plan m act) z) x.0) (sym s) (comes_same wider rest x.0 (after m p (plan m act) (rest p)) (same x.0 (at_next cs p x.0 x.1)) x.2),
+                subst (λ z. Comes classes frames wider (after m p (typing_rule m act) z) x.0) (sym s) (comes_same wider rest x.0 (after m p (typing_rule m act) (rest p)) (same x.0 (at_next cs p x.0 x.1)) x.2),
               );
           alone = λ t to e. rec.alone t to (subst (λ b. (if b then first_offset cs else next_offset cs p) ≡ Some to) i e);
           own = λ g e. s ∙ rec.own g e;
@@ -155,13 +155,13 @@ module _ (plan : Plans) (classes : List ClassFact) (m : Method Act) (frames : Fr
     pub wider_head : (p : ℕ) → first_offset (c ∷ cs) ≡ Some p → wider p ≡ f
     wider_head p e = let q : c.0 ≡ p = cc in rw (eq-eqb c.0 p q) refl
 
-  pub has_table : (cs : List (ℕ × Act)) (f : FrameFact) → AreApart cs → ((p : ℕ) (k : FrameFact) → first_offset cs ≡ Some p → at_offset frames p ≡ Some k → f ≡ k) → passes plan classes m frames cs f ≡ verified → HasTable cs f
+  pub has_table : (cs : List (ℕ × Act)) (f : FrameFact) → AreApart cs → ((p : ℕ) (k : FrameFact) → first_offset cs ≡ Some p → at_offset frames p ≡ Some k → f ≡ k) → passes typing_rule classes m frames cs f ≡ verified → HasTable cs f
   has_table [] f apart own e = record { table = λ p. f; head = λ p i. refl; each = λ p act i. cc }
   has_table (c ∷ cs) f apart own e =
-      let x = not_refused (least (at_conditions classes m frames c.0 c.1 (plan m c.1) (first_offset cs) f)) c.0 (arrives classes frames cs (falls (plan m c.1)) (after m c.0 (plan m c.1) f) (passes plan classes m frames cs)) e in
-      let g = after m c.0 (plan m c.1) f in
-      let on : IsEntered cs (falls (plan m c.1)) g = λ q i. enters_of cs (falls (plan m c.1)) g q x.1 i in
-      let r = has_table cs (came cs g) apart.1 (λ p k i j. own_of cs g p k i j) (tail_of cs (falls (plan m c.1)) g x.1) in
+      let x = not_refused (least (at_conditions classes m frames c.0 c.1 (typing_rule m c.1) (first_offset cs) f)) c.0 (arrives classes frames cs (falls (typing_rule m c.1)) (after m c.0 (typing_rule m c.1) f) (passes typing_rule classes m frames cs)) e in
+      let g = after m c.0 (typing_rule m c.1) f in
+      let on : IsEntered cs (falls (typing_rule m c.1)) g = λ q i. enters_of cs (falls (typing_rule m c.1)) g q x.1 i in
+      let r = has_table cs (came cs g) apart.1 (λ p k i j. own_of cs g p k i j) (tail_of cs (falls (typing_rule m c.1)) g x.1) in
       record {
         table = wider c cs f apart.0 (λ k i. own c.0 k refl i) x.0 on r.table r.head;
         head = wider_head c cs f apart.0 (λ k i. own c.0 k refl i) x.0 on r.table r.head;

@@ -12,10 +12,10 @@ use Rattle.frames.specs.Conditions.{Conditions, reason, least}
 use Rattle.rules.specs.After.{after}
 use Rattle.rules.specs.Naming.{names_nothing}
 use Rattle.rules.specs.Outcomes.{Done}
-use Rattle.rules.specs.Plans.{Plan}
+use Rattle.rules.specs.TypingRules.{TypingRule}
 use Rattle.rules.specs.Protected.{Use, used_by, use_conditions, member_conditions}
 use Rattle.rules.specs.Rules.{conditions, constructs_own}
-use Rattle.rules.specs.Table.{plan}
+use Rattle.rules.specs.Table.{typing_rule}
 use Rattle.rules.specs.Ways.{goes_on, branch_offsets, is_plain}
 use Rattle.rules.specs.declared.reason.Reason.{Reason}
 use Rattle.rules.proofs.Made.{never}
@@ -47,7 +47,7 @@ first_three a e = left_holds (first_two a && is_none (made_index a)) (names_noth
 pub nowhere : (a : Act) → is_plain a ≡ true → branch_offsets a ≡ []
 nowhere a e = is_nil (branch_offsets a) (right_holds (goes_on a) (nat_eq (length (branch_offsets a)) 0) (left_holds (first_two a) (is_none (made_index a)) (first_three a e)))
 
-pub constructs_none : (m : Method Act) (a : Act) (f : FrameFact) → is_plain a ≡ true → constructs_own (plan m a) f ≡ false
+pub constructs_none : (m : Method Act) (a : Act) (f : FrameFact) → is_plain a ≡ true → constructs_own (typing_rule m a) f ≡ false
 constructs_none m (acts.Store kind n) f e = refl
 constructs_none m (acts.StoreReference n) f e = refl
 constructs_none m (acts.InvokeSpecial i) f e = cc
@@ -71,8 +71,8 @@ no_end false false e h = refl
 
 module _ (classes : List ClassFact) (m : Method Act) (frames : Frames) (at : ℕ) (f : FrameFact) (a : Act) (plain : is_plain a ≡ true)
     (idle : least (handler_conditions classes frames at f m.exceptions) ≡ None) (last : Bool) (goes : last ≡ false) where
-  abbrev p : Plan
-  p = plan m a
+  abbrev p : TypingRule
+  p = typing_rule m a
 
   abbrev rest : Conditions
   rest = (reason 71, goes_on a && last) ∷ (reason 75, constructs_own p f && is_covered m.exceptions at) ∷ []

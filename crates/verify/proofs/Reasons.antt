@@ -8,7 +8,7 @@ use Rattle.insn.specs.Offsets.{at_offset, IsAmong}
 use Rattle.frames.specs.FrameFact.{FrameFact}
 use Rattle.frames.specs.FrameAssignable.{frame_answer}
 use Rattle.frames.specs.Conditions.{Reason, Conditions, NoneHolds, least}
-use Rattle.rules.specs.Plans.{Plan, falls, targets}
+use Rattle.rules.specs.TypingRules.{TypingRule, falls, targets}
 use Rattle.rules.specs.After.{after}
 use Rattle.rules.specs.Rules.{conditions, constructs_own}
 use Rattle.rules.specs.Protected.{member_conditions}
@@ -51,7 +51,7 @@ both_not false b f = refl
 
 module _ (classes : List ClassFact) (m : Method Act) (frames : Frames) where
   -- what is asked of an instruction in a frame, the next start aside
-  pub record IsFine (at : ℕ) (act : Act) (p : Plan) (f : FrameFact) : Type 0 where
+  pub record IsFine (at : ℕ) (act : Act) (p : TypingRule) (f : FrameFact) : Type 0 where
     pub rule : NoneHolds (conditions classes m at p f)
     pub protected : NoneHolds (member_conditions classes m act f)
     pub leads : (target : ℤ) → IsAmong target (targets at p) → LeadsToTarget classes frames (after m at p f) target
@@ -136,7 +136,7 @@ module _ (classes : List ClassFact) (m : Method Act) (frames : Frames) where
   is_there false next f = refl
   is_there true next f = ap is_none (f refl).1
 
-  module _ (at : ℕ) (act : Act) (p : Plan) (next : Option ℕ) (f : FrameFact) where
+  module _ (at : ℕ) (act : Act) (p : TypingRule) (next : Option ℕ) (f : FrameFact) where
     pub fine_of : NoneHolds (at_conditions classes m frames at act p next f) → IsFine at act p f × (falls p ≡ true → (q : ℕ) × (next ≡ Some q))
     fine_of n =
         let a = none_apart (conditions classes m at p f) _ n in

@@ -7,8 +7,8 @@ use Rattle.insn.specs.Meanings.{Act}
 use Rattle.insn.specs.Offsets.{at_offset, next_offset, first_offset, IsStart, StartsRise}
 use Rattle.frames.specs.FrameFact.{FrameFact}
 use Rattle.frames.specs.Conditions.{Reason, least}
-use Rattle.rules.specs.Plans.{falls}
-use Rattle.rules.specs.Table.{Plans}
+use Rattle.rules.specs.TypingRules.{falls}
+use Rattle.rules.specs.Table.{TypingRules}
 use Rattle.rules.specs.After.{after}
 use Rattle.rules.specs.Rules.{conditions}
 use Rattle.verify.specs.InitialFrames.{initial_frame}
@@ -39,12 +39,12 @@ before_same classes true f (Some d) e = refl
 before_same classes false f None e = cc
 before_same classes false f (Some d) e = refl
 
-module _ (plan : Plans) (classes : List ClassFact) (m : Method Act) (frames : Frames) where
+module _ (typing_rule : TypingRules) (classes : List ClassFact) (m : Method Act) (frames : Frames) where
   abbrev met_at : List (ℕ × Act) → Option FrameFact → ℕ → FramesFact
-  met_at cs coming at = met plan classes m frames cs coming at
+  met_at cs coming at = met typing_rule classes m frames cs coming at
 
   abbrev Judged : List (ℕ × Act) → ℕ → Reason → FramesFact → Type 0
-  Judged cs at why x = IsJudgedBy plan classes m frames cs at why x
+  Judged cs at why x = IsJudgedBy typing_rule classes m frames cs at why x
 
   module _ (c : ℕ × Act) (cs : List (ℕ × Act)) where
     abbrev declared : Option FrameFact
@@ -65,23 +65,23 @@ module _ (plan : Plans) (classes : List ClassFact) (m : Method Act) (frames : Fr
         (record { act = c.1; here = first_here; told = inl (entry_same classes comes f declared ∙ e) })
 
     in_rule : (coming : Option FrameFact) (g : FrameFact) (why : Reason) → before coming declared ≡ Some g
-        → least (at_conditions classes m frames c.0 c.1 (plan m c.1) (first_offset cs) g) ≡ Some why → Judged (c ∷ cs) c.0 why (met_at (c ∷ cs) coming c.0)
+        → least (at_conditions classes m frames c.0 c.1 (typing_rule m c.1) (first_offset cs) g) ≡ Some why → Judged (c ∷ cs) c.0 why (met_at (c ∷ cs) coming c.0)
     in_rule coming g why b e = subst (Judged (c ∷ cs) c.0 why) (sym (first_met coming))
         (record {
           act = c.1;
           here = first_here;
-          told = inr (g, b, ap (λ n. least (at_conditions classes m frames c.0 c.1 (plan m c.1) n g)) first_next ∙ e);
+          told = inr (g, b, ap (λ n. least (at_conditions classes m frames c.0 c.1 (typing_rule m c.1) n g)) first_next ∙ e);
         })
 
     -- of one behind it
     behind : (coming : Option FrameFact) (g : FrameFact) (at : ℕ) (why : Reason) → before coming declared ≡ Some g
-        → least (at_conditions classes m frames c.0 c.1 (plan m c.1) (first_offset cs) g) ≡ None → StartsRise (c.0 + 1) cs
-        → Judged cs at why (met_at cs (frame_if (falls (plan m c.1)) (after m c.0 (plan m c.1) g)) at) → Judged (c ∷ cs) at why (met_at (c ∷ cs) coming at)
+        → least (at_conditions classes m frames c.0 c.1 (typing_rule m c.1) (first_offset cs) g) ≡ None → StartsRise (c.0 + 1) cs
+        → Judged cs at why (met_at cs (frame_if (falls (typing_rule m c.1)) (after m c.0 (typing_rule m c.1) g)) at) → Judged (c ∷ cs) at why (met_at (c ∷ cs) coming at)
     behind coming g at why b fine rise j =
         let start : IsStart cs at = record { what = j.act; here = j.here } in
         let le : c.0 + 1 ≤ at = not_before (c.0 + 1) cs at rise start in
         let apart : nat_eq c.0 at ≡ false = grind (arith, nat_tests, le) in
-        let p = plan m c.1 in
+        let p = typing_rule m c.1 in
         let others = at_conditions classes m frames c.0 c.1 p (first_offset cs) g in
         let rule : least (conditions classes m c.0 p g) ≡ None = none_told (conditions classes m c.0 p g) (none_apart (conditions classes m c.0 p g) _ (none_least others fine)).0 in
         let goes : falls p && is_none (least (conditions classes m c.0 p g)) ≡ falls p = and_true (falls p) _ (ap is_none rule) in
@@ -94,17 +94,17 @@ module _ (plan : Plans) (classes : List ClassFact) (m : Method Act) (frames : Fr
         (record {
           act = j.act;
           here = here ∙ j.here;
-          told = elim j.told [ inl e ↦ inl e | inr r ↦ inr (r.0, r.1, ap (λ n. least (at_conditions classes m frames at j.act (plan m j.act) n r.0)) after_at ∙ r.2) ];
+          told = elim j.told [ inl e ↦ inl e | inr r ↦ inr (r.0, r.1, ap (λ n. least (at_conditions classes m frames at j.act (typing_rule m j.act) n r.0)) after_at ∙ r.2) ];
         })
 
   judged : (low : ℕ) (cs : List (ℕ × Act)) (comes : Bool) (f : FrameFact) (at : ℕ) (why : Reason) → StartsRise low cs
-      → arrives classes frames cs comes f (passes plan classes m frames cs) ≡ refused at why → Judged cs at why (met_at cs (frame_if comes f) at)
+      → arrives classes frames cs comes f (passes typing_rule classes m frames cs) ≡ refused at why → Judged cs at why (met_at cs (frame_if comes f) at)
   judged low [] comes f at why rise e = cc
   judged low (c ∷ cs) comes f at why rise e =
       by_entry (λ b g x. judged (c.0 + 1) cs b g at why rise.1 x) (entry classes comes f (declared c cs)) refl e
     where
       Later : Type 0
-      Later = (b : Bool) (g : FrameFact) → arrives classes frames cs b g (passes plan classes m frames cs) ≡ refused at why → Judged cs at why (met_at cs (frame_if b g) at)
+      Later = (b : Bool) (g : FrameFact) → arrives classes frames cs b g (passes typing_rule classes m frames cs) ≡ refused at why → Judged cs at why (met_at cs (frame_if b g) at)
 
       at_once : (there : ℕ) (r : Reason) → refused there r ≡ refused at why → Judged (c ∷ cs) there r (met_at (c ∷ cs) (frame_if comes f) there)
           → Judged (c ∷ cs) at why (met_at (c ∷ cs) (frame_if comes f) at)
@@ -113,17 +113,17 @@ module _ (plan : Plans) (classes : List ClassFact) (m : Method Act) (frames : Fr
           subst (λ n. Judged (c ∷ cs) n why (met_at (c ∷ cs) (frame_if comes f) n)) same.0 (subst (λ k. Judged (c ∷ cs) there k (met_at (c ∷ cs) (frame_if comes f) there)) same.1 j)
 
       by_rule : Later → entry classes comes f (declared c cs) ≡ None → (o : Option Reason)
-          → least (at_conditions classes m frames c.0 c.1 (plan m c.1) (first_offset cs) (entered f (declared c cs))) ≡ o
-          → refused_or o c.0 (arrives classes frames cs (falls (plan m c.1)) (after m c.0 (plan m c.1) (entered f (declared c cs))) (passes plan classes m frames cs)) ≡ refused at why
+          → least (at_conditions classes m frames c.0 c.1 (typing_rule m c.1) (first_offset cs) (entered f (declared c cs))) ≡ o
+          → refused_or o c.0 (arrives classes frames cs (falls (typing_rule m c.1)) (after m c.0 (typing_rule m c.1) (entered f (declared c cs))) (passes typing_rule classes m frames cs)) ≡ refused at why
           → Judged (c ∷ cs) at why (met_at (c ∷ cs) (frame_if comes f) at)
       by_rule later fine (Some r) is e = at_once c.0 r e (in_rule c cs (frame_if comes f) (entered f (declared c cs)) r (before_same classes comes f (declared c cs) fine) is)
       by_rule later fine None is e =
           behind c cs (frame_if comes f) (entered f (declared c cs)) at why (before_same classes comes f (declared c cs) fine) is rise.1 (later _ _ e)
 
       by_entry : Later → (o : Option Reason) → entry classes comes f (declared c cs) ≡ o
-          → refused_or o c.0 (passes plan classes m frames (c ∷ cs) (entered f (declared c cs))) ≡ refused at why → Judged (c ∷ cs) at why (met_at (c ∷ cs) (frame_if comes f) at)
+          → refused_or o c.0 (passes typing_rule classes m frames (c ∷ cs) (entered f (declared c cs))) ≡ refused at why → Judged (c ∷ cs) at why (met_at (c ∷ cs) (frame_if comes f) at)
       by_entry later (Some r) is e = at_once c.0 r e (in_entry c cs comes f r is)
       by_entry later None is e = by_rule later is _ refl e
 
 pub frames_are_judged : FramesAreJudged
-frames_are_judged plan classes m frames rise at why e = judged plan classes m frames 0 m.code true (initial_frame m) at why rise e
+frames_are_judged typing_rule classes m frames rise at why e = judged typing_rule classes m frames 0 m.code true (initial_frame m) at why rise e

@@ -6,7 +6,7 @@ use Rattle.insn.specs.Meanings.{Act}
 use Rattle.insn.specs.Offsets.{at_offset, first_offset, IsStart, StartsRise}
 use Rattle.frames.specs.Slots.{in_locals}
 use Rattle.frames.specs.Conditions.{reason}
-use Rattle.rules.specs.Table.{Plans}
+use Rattle.rules.specs.Table.{TypingRules}
 use Rattle.verify.specs.InitialFrames.{initial_types, initial_frame}
 use Rattle.verify.specs.TypeSafety.{Frames, Declares, Comes, IsTypeSafeBy}
 use Rattle.verify.specs.Verdict.{MapRefusal, verified, refused, code_judged, table_judged, with_frames, frames_declared, verdict}
@@ -16,19 +16,19 @@ use Rattle.verify.proofs.Passing.{comes_in, came, tail_of, enters_of, own_of, Ha
 use Rattle.verify.proofs.Following.{comes_none, onward, passes_all}
 use Rattle.verify.proofs.Premises.{rising_apart, first_at_zero, frames_there, there_frames, table_sound, sound_table}
 
-module _ (plan : Plans) (classes : List ClassFact) (m : Method Act) (rise : StartsRise 0 m.code) where
-  first_fits : (frames : Frames) → first_offset m.code ≡ Some 0 → code_judged plan classes m frames ≡ verified → HasTable plan classes m frames m.code (came plan classes m frames m.code (initial_frame m))
+module _ (typing_rule : TypingRules) (classes : List ClassFact) (m : Method Act) (rise : StartsRise 0 m.code) where
+  first_fits : (frames : Frames) → first_offset m.code ≡ Some 0 → code_judged typing_rule classes m frames ≡ verified → HasTable typing_rule classes m frames m.code (came typing_rule classes m frames m.code (initial_frame m))
   first_fits frames first judged =
-      has_table plan classes m frames m.code (came plan classes m frames m.code (initial_frame m)) (rising_apart 0 m.code rise) (λ p k i j. own_of plan classes m frames m.code (initial_frame m) p k i j)
-      (tail_of plan classes m frames m.code true (initial_frame m) judged)
+      has_table typing_rule classes m frames m.code (came typing_rule classes m frames m.code (initial_frame m)) (rising_apart 0 m.code rise) (λ p k i j. own_of typing_rule classes m frames m.code (initial_frame m) p k i j)
+      (tail_of typing_rule classes m frames m.code true (initial_frame m) judged)
 
   type_safe_with : (frames : Frames) → IsStart m.code 0 → length (in_locals (initial_types m)) ≤ m.max_locals → Declares m frames
-      → table_judged classes m frames m.exceptions (code_judged plan classes m frames) ≡ verified → IsTypeSafeBy plan classes m
+      → table_judged classes m frames m.exceptions (code_judged typing_rule classes m frames) ≡ verified → IsTypeSafeBy typing_rule classes m
   type_safe_with frames begins enough d v =
       let first = first_at_zero m.code rise begins in
-      let s = table_sound classes m frames m.exceptions (code_judged plan classes m frames) v in
+      let s = table_sound classes m frames m.exceptions (code_judged typing_rule classes m frames) v in
       let r = first_fits frames first s.1 in
-      let y = enters_of plan classes m frames m.code true (initial_frame m) 0 s.1 first in
+      let y = enters_of typing_rule classes m frames m.code true (initial_frame m) 0 s.1 first in
       record {
         begins = begins;
         enough = enough;
@@ -36,7 +36,7 @@ module _ (plan : Plans) (classes : List ClassFact) (m : Method Act) (rise : Star
         declares = d;
         entries = s.0;
         table = r.table;
-        first = comes_in plan classes m frames r.table 0 (initial_frame m) (at_offset frames 0) refl y.0 (r.head 0 first ∙ y.1);
+        first = comes_in typing_rule classes m frames r.table 0 (initial_frame m) (at_offset frames 0) refl y.0 (r.head 0 first ∙ y.1);
         at_declared = λ at f e.
             let start = (good_frames m.constant_pool m.code m.max_locals m.max_stack None (initial_types m) d.entries frames d.declared at f e).start in
             (r.each at start.what start.here).own f e;
@@ -45,19 +45,19 @@ module _ (plan : Plans) (classes : List ClassFact) (m : Method Act) (rise : Star
             record { rule = x.fine.rule; protected = x.fine.protected; leads = x.fine.leads; next = x.next; alone = x.alone; handled = x.fine.handled; uncovered = x.fine.uncovered };
       }
 
-  judged_type_safe : IsStart m.code 0 → verdict plan classes m ≡ verified → IsTypeSafeBy plan classes m
+  judged_type_safe : IsStart m.code 0 → verdict typing_rule classes m ≡ verified → IsTypeSafeBy typing_rule classes m
   judged_type_safe begins v = by (nat_lt m.max_locals (length (in_locals (initial_types m)))) refl v
     where
-      on : length (in_locals (initial_types m)) ≤ m.max_locals → (r : Result Frames MapRefusal) → frames_declared m ≡ r → with_frames plan classes m r ≡ verified → IsTypeSafeBy plan classes m
+      on : length (in_locals (initial_types m)) ≤ m.max_locals → (r : Result Frames MapRefusal) → frames_declared m ≡ r → with_frames typing_rule classes m r ≡ verified → IsTypeSafeBy typing_rule classes m
       on enough (Ok frames) r w = type_safe_with frames begins enough (frames_there m frames r) w
       on enough (Err why) r w = cc
 
-      by : (b : Bool) → nat_lt m.max_locals (length (in_locals (initial_types m))) ≡ b → (if b then refused 0 (reason 64) else with_frames plan classes m (frames_declared m)) ≡ verified → IsTypeSafeBy plan classes m
+      by : (b : Bool) → nat_lt m.max_locals (length (in_locals (initial_types m))) ≡ b → (if b then refused 0 (reason 64) else with_frames typing_rule classes m (frames_declared m)) ≡ verified → IsTypeSafeBy typing_rule classes m
       by true b w = cc
       by false b w = on (ltb-false m.max_locals (length (in_locals (initial_types m))) b) (frames_declared m) refl w
 
-  module _ (safe : IsTypeSafeBy plan classes m) where
-    fine : (at : ℕ) (act : Act) → at_offset m.code at ≡ Some act → IsFineIn plan classes m safe.frames safe.table m.code at act
+  module _ (safe : IsTypeSafeBy typing_rule classes m) where
+    fine : (at : ℕ) (act : Act) → at_offset m.code at ≡ Some act → IsFineIn typing_rule classes m safe.frames safe.table m.code at act
     fine at act e =
         let x = safe.each at act e in
         record {
@@ -67,20 +67,20 @@ module _ (plan : Plans) (classes : List ClassFact) (m : Method Act) (rise : Star
           own = safe.at_declared at;
         }
 
-    code_verified : code_judged plan classes m safe.frames ≡ verified
+    code_verified : code_judged typing_rule classes m safe.frames ≡ verified
     code_verified =
-        onward plan classes m safe.frames safe.table m.code true (initial_frame m)
+        onward typing_rule classes m safe.frames safe.table m.code true (initial_frame m)
         (λ p i. let w : Some 0 ≡ Some p = sym (first_at_zero m.code rise safe.begins) ∙ i in let q : 0 ≡ p = cc in
-        comes_none plan classes m safe.frames safe.table p (initial_frame m) (at_offset safe.frames p) refl (safe.at_declared p) (subst (λ z. Comes classes safe.frames safe.table (initial_frame m) z) q safe.first))
-        (λ k n. passes_all plan classes m safe.frames safe.table m.code k (rising_apart 0 m.code rise) fine n)
+        comes_none typing_rule classes m safe.frames safe.table p (initial_frame m) (at_offset safe.frames p) refl (safe.at_declared p) (subst (λ z. Comes classes safe.frames safe.table (initial_frame m) z) q safe.first))
+        (λ k n. passes_all typing_rule classes m safe.frames safe.table m.code k (rising_apart 0 m.code rise) fine n)
 
-    is_verified : verdict plan classes m ≡ verified
+    is_verified : verdict typing_rule classes m ≡ verified
     is_verified =
         rw (le-ltb m.max_locals (length (in_locals (initial_types m))) safe.enough)
-        (ap (with_frames plan classes m) (there_frames m safe.frames safe.declares) ∙ sound_table classes m safe.frames m.exceptions (code_judged plan classes m safe.frames) safe.entries ∙ code_verified)
+        (ap (with_frames typing_rule classes m) (there_frames m safe.frames safe.declares) ∙ sound_table classes m safe.frames m.exceptions (code_judged typing_rule classes m safe.frames) safe.entries ∙ code_verified)
 
 pub verified_is_type_safe : VerifiedIsTypeSafe
-verified_is_type_safe plan classes m rise begins v = judged_type_safe plan classes m rise begins v
+verified_is_type_safe typing_rule classes m rise begins v = judged_type_safe typing_rule classes m rise begins v
 
 pub type_safe_is_verified : TypeSafeIsVerified
-type_safe_is_verified plan classes m rise safe = is_verified plan classes m rise safe
+type_safe_is_verified typing_rule classes m rise safe = is_verified typing_rule classes m rise safe

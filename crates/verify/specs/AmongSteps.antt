@@ -14,7 +14,8 @@ use Rattle.verify.specs.Files.{Read, AreFormed, IsFirstRefused}
 use Rattle.verify.specs.Explaining.{IsExplained}
 use Rattle.verify.specs.FinalSuper.{has_final_super}
 
--- The summaries of these files stand behind those that were there; or the file of this number, from 1 on, is the first that is refused.
+-- The summaries of these files stand behind those that were there; or the file of this number, from 1 on, is the first
+-- that is refused.
 abbrev pub Adds : List Read → List ClassFact → List ClassFact → Result Unit AmongFault → Type 0
 Adds known old new (Ok done) = (cs : List Class) × AreFormed known cs × (new ≡ old ++ map summary_of cs)
 Adds known old new (Err OutOfMemory) = Unit {0}
@@ -27,21 +28,26 @@ BeginWith classes c = (others : List ClassFact) × (classes ≡ summary_of c.fil
 
 -- the verdicts on the methods of a class, and where they are asked for the frames, under these summaries
 abbrev pub ExplainsSummaries : Bool → List ClassFact → JudgedClass → Result Explained AmongFault → Type 0
-ExplainsSummaries framed classes c (Ok x) = IsHierarchy classes × (has_final_super classes (summary_of c.file) ≡ false) × IsExplained framed classes c x
+ExplainsSummaries framed classes c (Ok x) = IsHierarchy classes × (has_final_super classes (summary_of c.file) ≡ false)
+    × IsExplained framed classes c x
 ExplainsSummaries framed classes c (Err OutOfMemory) = Unit {0}
 ExplainsSummaries framed classes c (Err (NoHierarchy fault)) = (fault ≢ hierarchies.OutOfMemory) × FaultOf classes fault
-ExplainsSummaries framed classes c (Err FinalSuper) = IsHierarchy classes × (has_final_super classes (summary_of c.file) ≡ true)
+ExplainsSummaries framed classes c (Err FinalSuper) = IsHierarchy classes
+    × (has_final_super classes (summary_of c.file) ≡ true)
 ExplainsSummaries framed classes c (Err fault) = ⊥
 
 -- the same of a class that is well formed, and of the files of the known ones
 abbrev pub ExplainsFormed : Bool → JudgedClass → List Read → Result Explained AmongFault → Type 0
 ExplainsFormed framed c known (Ok x) =
     (cs : List Class) × AreFormed known cs × IsHierarchy (map summary_of (c.file ∷ cs))
-    × (has_final_super (map summary_of (c.file ∷ cs)) (summary_of c.file) ≡ false) × IsExplained framed (map summary_of (c.file ∷ cs)) c x
+    × (has_final_super (map summary_of (c.file ∷ cs)) (summary_of c.file) ≡ false)
+    × IsExplained framed (map summary_of (c.file ∷ cs)) c x
 ExplainsFormed framed c known (Err OutOfMemory) = Unit {0}
-ExplainsFormed framed c known (Err (KnownRefused number fault)) = (i : ℕ) × (number ≡ i + 1) × IsFirstRefused known i fault
+ExplainsFormed framed c known (Err (KnownRefused number fault)) = (i : ℕ) × (number ≡ i + 1)
+    × IsFirstRefused known i fault
 ExplainsFormed framed c known (Err (NoHierarchy fault)) =
-    (cs : List Class) × AreFormed known cs × (fault ≢ hierarchies.OutOfMemory) × FaultOf (map summary_of (c.file ∷ cs)) fault
+    (cs : List Class) × AreFormed known cs × (fault ≢ hierarchies.OutOfMemory)
+    × FaultOf (map summary_of (c.file ∷ cs)) fault
 ExplainsFormed framed c known (Err FinalSuper) =
     (cs : List Class) × AreFormed known cs × IsHierarchy (map summary_of (c.file ∷ cs))
     × (has_final_super (map summary_of (c.file ∷ cs)) (summary_of c.file) ≡ true)

@@ -13,7 +13,7 @@ use Rattle.insn.specs.Offsets.{acts}
 use Rattle.rules.specs.declared.reason.Reason.{Reason}
 use Rattle.rules.specs.declared.reason.Reason.TheVariants.{BadCode}
 use Rattle.rules.specs.Reasons.{reason_view}
-use Rattle.rules.specs.Table.{plan}
+use Rattle.rules.specs.Table.{typing_rule}
 use Rattle.verify.specs.declared.verdict.Verdict.{Verdict}
 use Rattle.verify.specs.declared.verdict.Verdict.TheVariants.{Verified, NoCode, Refused}
 use Rattle.verify.specs.declared.verdict.VerifyFault.{VerifyFault}
@@ -42,7 +42,7 @@ pub record HasVerdict (classes : List ClassFact) (c : JudgedClass) (number : ℕ
   pub spelled : SpellsCode 0 body.code instructions
   pub method : Method Act
   pub says : method_of c number (acts instructions) ≡ Some method
-  pub told : verdict plan classes method ≡ v
+  pub told : verdict typing_rule classes method ≡ v
 
 -- The verdict refuses it, there and for this reason.
 pub record HasRefusal (classes : List ClassFact) (c : JudgedClass) (number : ℕ) (at : ℕ) (why : Reason) : Type 0 where
@@ -63,7 +63,8 @@ AnswersCode classes c number (Err NotInHierarchy) = ⊥
 
 -- Any method. 80 where the hierarchy has not this class as it is; that goes first.
 abbrev pub Answers : List ClassFact → JudgedClass → ℕ → Result Verdict VerifyFault → Type 0
-Answers classes c number (Ok Verified) = IsListed classes c.file × IsTypeSafeIn classes c number × HasVerdict classes c number verified
+Answers classes c number (Ok Verified) = IsListed classes c.file × IsTypeSafeIn classes c number
+    × HasVerdict classes c number verified
 Answers classes c number (Ok NoCode) = IsListed classes c.file × (code_at c.file number ≡ None)
 Answers classes c number (Ok (Refused at why)) = IsListed classes c.file × IsRefused classes c number at why
 Answers classes c number (Err OutOfMemory) = Unit {0}

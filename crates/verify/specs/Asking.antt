@@ -12,4 +12,5 @@ use Rattle.verify.specs.declared.handlers.Change.{Change}
 -- a frame of a table that was asked, and where it says so it takes the change
 pub record IsAsked (classes : List ClassFact) (t : DeclaredFrames) (c : Change) (one : Asked) : Type 0 where
   pub own : IsOf t one.declared
-  pub so : one.takes ≡ true → type_answer classes (type_of c.vtype) (get_or (declared_view one.declared).locals c.local top) ≡ yes
+  pub so : one.takes ≡ true → type_answer classes (type_of c.vtype)
+      (get_or (declared_view one.declared).locals c.local top) ≡ yes

@@ -1,4 +1,5 @@
--- The answer about the frame in which an instruction raises, where an entry of the exception table leads (JVMS 4.10.1.6).
+-- The answer about the frame in which an instruction raises, where an entry of the exception table leads (JVMS
+-- 4.10.1.6).
 use Rattle.std.specs.Prelude.{List, Option, Some, None}
 use Rattle.classfile.specs.Methods.{ExceptionEntry}
 use Rattle.hierarchy.specs.Class.{ClassFact}

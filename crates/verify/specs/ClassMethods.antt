@@ -30,4 +30,5 @@ IsSafeIn classes c number = (m : Method Act) → IsMethod c number m → IsSafeI
 
 abbrev pub TypeSafeMethodsAreSafe : Type 0
 TypeSafeMethodsAreSafe =
-    (classes : List ClassFact) → IsHierarchy classes → (c : JudgedClass) (number : ℕ) → IsTypeSafeIn classes c number → IsSafeIn classes c number
+    (classes : List ClassFact) → IsHierarchy classes → (c : JudgedClass) (number : ℕ) → IsTypeSafeIn classes c number
+    → IsSafeIn classes c number

@@ -1,7 +1,8 @@
--- Class runs leave nothing out (JVMS 2.6, 2.9.1, 2.10, 6.5): each method in play that a call selects is entered with the call's values, each return
--- resumes its caller with any answer that is ready for it, and each object that is raised comes to the caller that catches it, past those that do
--- not. Values are told one by one and objects address by address, in words of their own: a call that enters nothing, an activation with
--- another's objects, or a caller that is passed over then breaks a law.
+-- Class runs leave nothing out (JVMS 2.6, 2.9.1, 2.10, 6.5): each method in play that a call selects is entered with
+-- the call's values, each return resumes its caller with any answer that is ready for it, and each object that is
+-- raised comes to the caller that catches it, past those that do not. Values are told one by one and objects address by
+-- address, in words of their own: a call that enters nothing, an activation with another's objects, or a caller that is
+-- passed over then breaks a law.
 use Rattle.std.specs.Prelude.{◌≡◌, ℕ, suc, ◌+◌, ◌-◌, Bool, true, false, nat_eq, bytes_eq, if◌then◌else◌, List, [], ◌∷◌, ◌++◌, length, drop, slice_get, Option, Some, None}
 use Rattle.names.specs.Descriptors.{class}
 use Rattle.names.specs.ReferenceTypes.{ReferenceType, class_type}
@@ -27,14 +28,16 @@ use Rattle.verify.specs.ClassRunSafety.{IsInPlay}
 
 -- a run that has come to one moment goes on to another
 abbrev pub Follows : World → (Callee → Type 0) → Moment → Moment → Type 0
-Follows world InPlay p q = (ps : List Moment) → IsClassRun world InPlay (p ∷ ps) → IsClassRun world InPlay (q ∷ (p ∷ ps))
+Follows world InPlay p q = (ps : List Moment) → IsClassRun world InPlay (p ∷ ps)
+    → IsClassRun world InPlay (q ∷ (p ∷ ps))
 
 -- an activation sees all objects, each with its own readiness
 pub record Sees (types : Types) (a : Activation) (s : State) : Type 0 where
   pub at : s.at ≡ a.at
   pub stack : s.stack ≡ a.stack
   pub locals : s.locals ≡ a.locals
-  pub objects : (address : ℕ) (x : ReferenceType) → types address ≡ Some x → s.heap address ≡ Some (object x (a.status address))
+  pub objects : (address : ℕ) (x : ReferenceType) → types address ≡ Some x
+      → s.heap address ≡ Some (object x (a.status address))
   pub others : (address : ℕ) → types address ≡ None → s.heap address ≡ None
 
 -- the last activation is of this method and in this state
@@ -45,7 +48,8 @@ pub record Shows (m : Method Act) (s : State) (callers : List Activation) (q : M
   pub at : last.at ≡ s.at
   pub stack : last.stack ≡ s.stack
   pub locals : last.locals ≡ s.locals
-  pub objects : (address : ℕ) (o : Object) → s.heap address ≡ Some o → (q.types address ≡ Some o.type) × (last.status address ≡ o.status)
+  pub objects : (address : ℕ) (o : Object) → s.heap address ≡ Some o → (q.types address ≡ Some o.type)
+      × (last.status address ≡ o.status)
   pub others : (address : ℕ) → s.heap address ≡ None → q.types address ≡ None
 
 -- the types with those of new objects
@@ -94,16 +98,18 @@ pub record Calls (a : Activation) (act : Act) (c : MethodConstant) (values below
 abbrev pub IsOfClass : World → Heap → List ℕ → List Value → Type 0
 IsOfClass world heap name values = (address : ℕ) × IsOn address values × IsReadyOf world heap (class name) address
 
--- A method that a call may select: by a static or special call one of the class that is named, static or not; by a virtual or interface call
--- one of any class that is the receiver's or above it.
+-- A method that a call may select: by a static or special call one of the class that is named, static or not; by a
+-- virtual or interface call one of any class that is the receiver's or above it.
 abbrev pub MaySelect : World → Heap → Act → MethodConstant → List Value → Method Act → Type 0
 MaySelect world heap (acts.InvokeStatic i) c values m = (m.is_static ≡ true) × (class_type m.class ≡ c.class)
 MaySelect world heap (acts.InvokeSpecial i) c values m = (m.is_static ≡ false) × (class_type m.class ≡ c.class)
 MaySelect world heap (acts.InvokeVirtual i) c values m = (m.is_static ≡ false) × IsOfClass world heap m.class values
-MaySelect world heap (acts.InvokeInterface i count) c values m = (m.is_static ≡ false) × IsOfClass world heap m.class values
+MaySelect world heap (acts.InvokeInterface i count) c values m = (m.is_static ≡ false)
+    × IsOfClass world heap m.class values
 MaySelect world heap _ c values m = ⊥
 
-pub record Selects (world : World) (types : Types) (a : Activation) (act : Act) (c : MethodConstant) (values : List Value) (k : Callee) : Type 0 where
+pub record Selects (world : World) (types : Types) (a : Activation) (act : Act) (c : MethodConstant)
+    (values : List Value) (k : Callee) : Type 0 where
   pub name : k.name ≡ c.name
   pub descriptor : k.descriptor ≡ c.descriptor
   pub method : MaySelect world (heap_in types a.status) act c values k.method
@@ -113,7 +119,8 @@ abbrev pub IsOwnObject : Method Act → List Value → ℕ → Type 0
 IsOwnObject m values address = (receiver_of m ≡ own_receiver) × IsOn address values
 
 -- the method is entered: at its beginning, with the values in its locals, and all objects are ready but its own one
-pub record IsEntered (types : Types) (m : Method Act) (values : List Value) (callers : List Activation) (q : Moment) : Type 0 where
+pub record IsEntered (types : Types) (m : Method Act) (values : List Value) (callers : List Activation)
+    (q : Moment) : Type 0 where
   pub last : Activation
   pub activations : q.activations ≡ last ∷ callers
   pub types_stay : q.types ≡ types
@@ -137,7 +144,8 @@ abbrev pub IsReadyFor : Types → Activation → Option Value → Type 0
 IsReadyFor types a None = Unit {0}
 IsReadyFor types a (Some (number kind)) = Unit {0}
 IsReadyFor types a (Some null) = Unit {0}
-IsReadyFor types a (Some (reference address)) = (x : ReferenceType) × (types address ≡ Some x) × (a.status address ≡ ready)
+IsReadyFor types a (Some (reference address)) = (x : ReferenceType) × (types address ≡ Some x)
+    × (a.status address ≡ ready)
 
 abbrev pub is_constructor_call : Act → MethodConstant → Bool
 is_constructor_call (acts.InvokeSpecial i) c = bytes_eq c.name init_name
@@ -159,7 +167,8 @@ pub record IsConstructed (a : Activation) (values below : List Value) (b : Activ
   pub others : (address : ℕ) → (IsOn address values → ⊥) → b.status address ≡ a.status address
 
 -- the caller goes on
-pub record IsResumed (a : Activation) (act : Act) (c : MethodConstant) (values below : List Value) (answer : Option Value) (to : ℕ)
+pub record IsResumed (a : Activation) (act : Act) (c : MethodConstant) (values below : List Value)
+    (answer : Option Value) (to : ℕ)
     (types : Types) (callers : List Activation) (q : Moment) : Type 0 where
   pub last : Activation
   pub activations : q.activations ≡ last ∷ callers
@@ -171,7 +180,8 @@ pub record IsResumed (a : Activation) (act : Act) (c : MethodConstant) (values b
   pub constructed : is_constructor_call act c ≡ true → IsConstructed a values below last
 
 -- the activation returns, and meanwhile these objects come into being
-pub record IsReturn (world : World) (types : Types) (a : Activation) (act : Act) (fresh : List (ℕ × ReferenceType)) : Type 0 where
+pub record IsReturn (world : World) (types : Types) (a : Activation) (act : Act)
+    (fresh : List (ℕ × ReferenceType)) : Type 0 where
   pub no_fault : IsNoFault world a.method (state_in types a)
   pub here : at_offset a.method.code a.at ≡ Some act
   pub returns : is_return act ≡ true
@@ -191,13 +201,15 @@ DoNotCatch world types address passed = (a : Activation) → IsAmong a passed �
 pub record HasClassRuns (world : World) (InPlay : Callee → Type 0) : Type 0 where
   pub views : (types : Types) (a : Activation) → Sees types a (state_in types a)
   -- a method in play begins in each state in which it may
-  pub begins : (k : Callee) → InPlay k → (s : State) → IsInitial world k.method s → (q : Moment) × IsClassRun world InPlay (q ∷ []) × Shows k.method s [] q
+  pub begins : (k : Callee) → InPlay k → (s : State) → IsInitial world k.method s → (q : Moment)
+      × IsClassRun world InPlay (q ∷ []) × Shows k.method s [] q
   -- the last activation makes each step of its method, also to a handler of its own
   pub steps : (p : Moment) (a : Activation) (callers : List Activation) → p.activations ≡ a ∷ callers
       → (choice : Choice) (s : State) → Happens world a.method (state_in p.types a) choice (goes_on s)
       → (q : Moment) × Follows world InPlay p q × Shows a.method s callers q
   -- each method in play that a call selects is entered, whatever its values are
-  pub calls : (p : Moment) (a : Activation) (callers : List Activation) → p.activations ≡ a ∷ callers → IsNoFault world a.method (state_in p.types a)
+  pub calls : (p : Moment) (a : Activation) (callers : List Activation) → p.activations ≡ a ∷ callers
+      → IsNoFault world a.method (state_in p.types a)
       → (act : Act) (c : MethodConstant) (values below : List Value) → Calls a act c values below
       → (k : Callee) → InPlay k → Selects world p.types a act c values k
       → (q : Moment) × Follows world InPlay p q × IsEntered p.types k.method values (a ∷ callers) q
@@ -205,20 +217,26 @@ pub record HasClassRuns (world : World) (InPlay : Callee → Type 0) : Type 0 wh
   pub returns : (p : Moment) (a b : Activation) (callers : List Activation) → p.activations ≡ a ∷ (b ∷ callers)
       → (left : Act) (fresh : List (ℕ × ReferenceType)) → IsReturn world p.types a left fresh
       → (act : Act) (c : MethodConstant) (values below : List Value) → Calls b act c values below
-      → (to : ℕ) → next_offset b.method.code b.at ≡ Some to → IsReadyFor (with_types p.types fresh) b (handed left a.stack)
-      → (q : Moment) × Follows world InPlay p q × IsResumed b act c values below (handed left a.stack) to (with_types p.types fresh) callers q
+      → (to : ℕ) → next_offset b.method.code b.at ≡ Some to
+      → IsReadyFor (with_types p.types fresh) b (handed left a.stack)
+      → (q : Moment) × Follows world InPlay p q
+      × IsResumed b act c values below (handed left a.stack) to (with_types p.types fresh) callers q
   -- the first activation ends the run
   pub ends : (p : Moment) (a : Activation) → p.activations ≡ a ∷ []
       → (left : Act) (fresh : List (ℕ × ReferenceType)) → IsReturn world p.types a left fresh
       → (q : Moment) × Follows world InPlay p q × (q.activations ≡ [])
   -- an object that is raised passes each caller that does not catch it and comes to the one that does
-  pub catches : (p : Moment) (a b : Activation) (passed callers : List Activation) → p.activations ≡ a ∷ (passed ++ (b ∷ callers))
-      → (address : ℕ) (fresh : List (ℕ × ReferenceType)) → Throws world p.types address fresh a → DoNotCatch world (with_types p.types fresh) address passed
-      → (entry : ℕ) (s : State) → Happens world b.method (state_in (with_types p.types fresh) b) (raise address [] (Some entry)) (goes_on s)
+  pub catches : (p : Moment) (a b : Activation) (passed callers : List Activation)
+      → p.activations ≡ a ∷ (passed ++ (b ∷ callers))
+      → (address : ℕ) (fresh : List (ℕ × ReferenceType)) → Throws world p.types address fresh a
+      → DoNotCatch world (with_types p.types fresh) address passed
+      → (entry : ℕ) (s : State) → Happens world b.method (state_in (with_types p.types fresh) b)
+      (raise address [] (Some entry)) (goes_on s)
       → (q : Moment) × Follows world InPlay p q × Shows b.method s callers q
   -- where none catches it, the run ends
   pub uncaught : (p : Moment) (a : Activation) (passed : List Activation) → p.activations ≡ a ∷ passed
-      → (address : ℕ) (fresh : List (ℕ × ReferenceType)) → Throws world p.types address fresh a → DoNotCatch world (with_types p.types fresh) address passed
+      → (address : ℕ) (fresh : List (ℕ × ReferenceType)) → Throws world p.types address fresh a
+      → DoNotCatch world (with_types p.types fresh) address passed
       → (q : Moment) × Follows world InPlay p q × (q.activations ≡ [])
 
 -- whatever the classes in play are

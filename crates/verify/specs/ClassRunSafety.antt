@@ -1,4 +1,5 @@
--- Safety of classes in play: no activation meets a fault in any run through their methods. The theorem: classes whose methods are type-safe are safe.
+-- Safety of classes in play: no activation meets a fault in any run through their methods. The theorem: classes whose
+-- methods are type-safe are safe.
 use Rattle.std.specs.Prelude.{◌≡◌, ℕ, List, Some}
 use Rattle.pool.specs.Lookups.{text_at}
 use Rattle.pool.specs.Members.{found}
@@ -27,13 +28,16 @@ pub record IsInPlay (cs : List JudgedClass) (k : Callee) : Type 0 where
 -- the hierarchy has each of the classes as it is, and each method with code of theirs is type-safe
 pub record AreVerified (classes : List ClassFact) (cs : List JudgedClass) : Type 0 where
   pub listed : (c : JudgedClass) → IsAmong c cs → IsListed classes c.file
-  pub safe : (c : JudgedClass) → IsAmong c cs → (number : ℕ) (m : Method Act) → IsMethod c number m → IsTypeSafe classes m
+  pub safe : (c : JudgedClass) → IsAmong c cs → (number : ℕ) (m : Method Act) → IsMethod c number m
+      → IsTypeSafe classes m
 
 -- in every world that extends the hierarchy, no activation of a run through the methods of the classes is at a fault
 abbrev pub ArePlayable : List ClassFact → List JudgedClass → Type 0
 ArePlayable classes cs =
-    (world : World) → Extends world classes → (run : List Moment) → IsClassRun world (IsInPlay cs) run → (q : Moment) → IsAmong q run
+    (world : World) → Extends world classes → (run : List Moment) → IsClassRun world (IsInPlay cs) run → (q : Moment)
+    → IsAmong q run
     → (a : Activation) → IsAmong a q.activations → IsNoFault world a.method (state_in q.types a)
 
 abbrev pub VerifiedIsPlayable : Type 0
-VerifiedIsPlayable = (classes : List ClassFact) → IsHierarchy classes → (cs : List JudgedClass) → AreVerified classes cs → ArePlayable classes cs
+VerifiedIsPlayable = (classes : List ClassFact) → IsHierarchy classes → (cs : List JudgedClass) → AreVerified classes cs
+    → ArePlayable classes cs

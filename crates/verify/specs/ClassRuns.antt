@@ -1,5 +1,5 @@
--- Runs through the methods of classes in play (JVMS 2.6, 2.10, 2.11.8): a call may enter a method. What that method returns answers the call, and
--- what it raises is raised at the call.
+-- Runs through the methods of classes in play (JVMS 2.6, 2.10, 2.11.8): a call may enter a method. What that method
+-- returns answers the call, and what it raises is raised at the call.
 use Rattle.std.specs.Prelude.{◌≡◌, ◌⊎◌, ℕ, Bool, true, false, nat_eq, bytes_eq, if◌then◌else◌, List, [], ◌∷◌, ◌++◌, length, slice_get, Option, Some, None, option_map}
 use Rattle.names.specs.ReferenceTypes.{ReferenceType, class_type}
 use Rattle.names.specs.StandardNames.{init_name}
@@ -11,7 +11,7 @@ use Rattle.insn.specs.Meanings.{Act}
 use Rattle.insn.specs.Offsets.{at_offset, next_offset}
 use Rattle.machine.specs.Values.{Value, reference, Slot, all_slots}
 use Rattle.machine.specs.Heap.{Status, ready, this, Object, object, Heap, FitsReference, IsReady, with_fresh}
-use Rattle.machine.specs.Tasks.{Task, leaves, task}
+use Rattle.machine.specs.Effects.{Effect, leaves, effect}
 use Rattle.machine.specs.Demands.{State, IsNoFault}
 use Rattle.machine.specs.Steps.{Choice, raise, goes_on, ended, Happens, EndsBy}
 use Rattle.machine.specs.Runs.{IsInitial}
@@ -27,8 +27,8 @@ pub record Callee : Type 0 where
 abbrev pub Types : Type 0
 Types = ℕ → Option ReferenceType
 
--- A method that runs. The status of an object that it made is `made`, and that of its own object `this`, until a constructor of that object has
--- returned to it. All other objects are ready for it.
+-- A method that runs. The status of an object that it made is `made`, and that of its own object `this`, until a
+-- constructor of that object has returned to it. All other objects are ready for it.
 pub record Activation : Type 0 where
   pub method : Method Act
   pub at : ℕ
@@ -51,7 +51,14 @@ status_of None = ready
 status_of (Some o) = o.status
 
 abbrev pub activation : Method Act → State → Activation
-activation m s = record { method = m; at = s.at; stack = s.stack; locals = s.locals; status = λ a. status_of (s.heap a) }
+activation m s = record {
+  method = m;
+  at = s.at;
+  stack = s.stack;
+  locals = s.locals;
+  status =
+      λ a. status_of (s.heap a);
+}
 
 -- a moment of a run: the run-time type of each object, and the activations, the last one first
 pub record Moment : Type 0 where
@@ -102,13 +109,14 @@ pub record IsCall (a : Activation) : Type 0 where
   pub one : IsReceiver way receiver
   pub all : length arguments ≡ length constant.type.params
 
--- The methods that may be entered, of the name and descriptor that the call names: one of the class that it names; by a virtual or interface call
--- one of any class that the receiver fits.
+-- The methods that may be entered, of the name and descriptor that the call names: one of the class that it names; by a
+-- virtual or interface call one of any class that the receiver fits.
 abbrev pub MayEnter : World → Heap → Way → MethodConstant → List Value → Method Act → Type 0
 MayEnter world heap static c receiver m = (m.is_static ≡ true) × (class_type m.class ≡ c.class)
 MayEnter world heap special c receiver m = (m.is_static ≡ false) × (class_type m.class ≡ c.class)
 MayEnter world heap virtual c receiver m =
-    (m.is_static ≡ false) × ((a : ℕ) × (receiver ≡ reference a ∷ []) × FitsReference world heap (class_type m.class) (reference a))
+    (m.is_static ≡ false) × ((a : ℕ) × (receiver ≡ reference a ∷ [])
+    × FitsReference world heap (class_type m.class) (reference a))
 
 -- a constructor's receiver is its own object, not initialized; all other objects are ready
 abbrev pub first_status : Receiver → List Value → ℕ → Status
@@ -169,20 +177,22 @@ pub record GoesOn (types : Types) (a : Activation) (answer : Option Value) (b : 
   pub result : b ≡ resumed a (constructs call.way call.constant) call.receiver call.below answer to
 
 -- the value that a return hands over, where it is one with a value
-abbrev pub handed_over : Task → List Value → Option Value
+abbrev pub handed_over : Effect → List Value → Option Value
 handed_over (leaves needs) stack = slice_get stack 0
 handed_over _ stack = None
 
 -- ---- steps
 
 -- the last activation makes a step of its own, or catches what is raised
-pub record StepsAlone (world : World) (types : Types) (a : Activation) (callers : List Activation) (c : Choice) (q : Moment) : Type 0 where
+pub record StepsAlone (world : World) (types : Types) (a : Activation) (callers : List Activation) (c : Choice)
+    (q : Moment) : Type 0 where
   pub state : State
   pub happens : Happens world a.method (state_in types a) c (goes_on state)
   pub result : q ≡ moment (types_of state.heap) (activation a.method state ∷ callers)
 
 -- it is at a call, and a method in play is entered
-pub record Enters (world : World) (InPlay : Callee → Type 0) (types : Types) (a : Activation) (callers : List Activation) (q : Moment) : Type 0 where
+pub record Enters (world : World) (InPlay : Callee → Type 0) (types : Types) (a : Activation)
+    (callers : List Activation) (q : Moment) : Type 0 where
   pub no_fault : IsNoFault world a.method (state_in types a)
   pub call : IsCall a
   pub callee : Callee
@@ -198,11 +208,13 @@ Answered types answer [] q = q ≡ moment types []
 Answered types answer (a ∷ callers) q = (b : Activation) × GoesOn types a answer b × (q ≡ moment types (b ∷ callers))
 
 -- it returns
-pub record Returns (world : World) (types : Types) (a : Activation) (callers : List Activation) (q : Moment) : Type 0 where
+pub record Returns (world : World) (types : Types) (a : Activation) (callers : List Activation)
+    (q : Moment) : Type 0 where
   pub fresh : List (ℕ × ReferenceType)
   pub no_fault : IsNoFault world a.method (state_in types a)
-  pub ends : EndsBy task a.method (state_in types a) None None fresh
-  pub answered : Answered (types_of (with_fresh (heap_in types a.status) fresh)) (handed_over (task a.method ends.act) a.stack) callers q
+  pub ends : EndsBy effect a.method (state_in types a) None None fresh
+  pub answered : Answered (types_of (with_fresh (heap_in types a.status) fresh))
+      (handed_over (effect a.method ends.act) a.stack) callers q
 
 -- the object that was raised comes to the first caller that catches it; the activations of those that do not end
 abbrev pub Unwinds : World → Types → ℕ → List Activation → Moment → Type 0
@@ -212,7 +224,8 @@ Unwinds world types address (a ∷ callers) q =
     ⊎ (Happens world a.method (state_in types a) (raise address [] None) ended × Unwinds world types address callers q)
 
 -- it raises an object that it does not catch
-pub record Raises (world : World) (types : Types) (a : Activation) (callers : List Activation) (q : Moment) : Type 0 where
+pub record Raises (world : World) (types : Types) (a : Activation) (callers : List Activation)
+    (q : Moment) : Type 0 where
   pub address : ℕ
   pub fresh : List (ℕ × ReferenceType)
   pub happens : Happens world a.method (state_in types a) (raise address fresh None) ended

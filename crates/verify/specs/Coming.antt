@@ -1,4 +1,5 @@
--- The frames at an instruction (JVMS 4.10.1.6): the one that comes to it, by the rules of those in front of it, and the one that is declared there.
+-- The frames at an instruction (JVMS 4.10.1.6): the one that comes to it, by the rules of those in front of it, and the
+-- one that is declared there.
 use Rattle.std.specs.Prelude.{◌≡◌, ◌⊎◌, ◌+◌, ℕ, zero, suc, Bool, true, false, ◌&&◌, is_none, nat_lt, nat_eq, List, [], ◌∷◌, length, slice_get, Option, Some, None, option_map, Result, Ok, Err, if◌then◌else◌}
 use Rattle.classfile.specs.Values.{CodeBody}
 use Rattle.classfile.specs.Methods.{JudgedClass, Method, method_of}
@@ -12,9 +13,9 @@ use Rattle.frames.specs.FrameFact.{FrameFact, frame_of}
 use Rattle.frames.specs.Differences.{DifferenceFact, first_difference, difference_of}
 use Rattle.frames.specs.Slots.{in_locals}
 use Rattle.frames.specs.Conditions.{least}
-use Rattle.rules.specs.Plans.{Plan, falls}
+use Rattle.rules.specs.TypingRules.{TypingRule, falls}
 use Rattle.rules.specs.Table as tables
-use Rattle.rules.specs.Table.{Plans}
+use Rattle.rules.specs.Table.{TypingRules}
 use Rattle.rules.specs.After.{after}
 use Rattle.rules.specs.Rules.{conditions}
 use Rattle.verify.specs.InitialFrames.{initial_types, initial_frame}
@@ -41,7 +42,8 @@ difference_if classes (Some coming) (Some declared) = first_difference classes c
 difference_if classes _ _ = None
 
 abbrev pub frames_with : List ClassFact → Option FrameFact → Option FrameFact → FramesFact
-frames_with classes coming declared = record { coming = coming; declared = declared; difference = difference_if classes coming declared }
+frames_with classes coming declared =
+    record { coming = coming; declared = declared; difference = difference_if classes coming declared }
 
 -- the frame before an instruction: the one that is declared there, and otherwise the one that comes
 abbrev pub before : Option FrameFact → Option FrameFact → Option FrameFact
@@ -51,33 +53,41 @@ before coming (Some declared) = Some declared
 abbrev pub frame_if : Bool → FrameFact → Option FrameFact
 frame_if comes f = if comes then Some f else None
 
--- From an instruction with this frame before it there goes on the frame after, where its rule does not refuse it and it falls through.
-abbrev pub going : List ClassFact → Method Act → ℕ → Plan → Option FrameFact → Option FrameFact
+-- From an instruction with this frame before it there goes on the frame after, where its rule does not refuse it and it
+-- falls through.
+abbrev pub going : List ClassFact → Method Act → ℕ → TypingRule → Option FrameFact → Option FrameFact
 going classes m at p None = None
 going classes m at p (Some f) = frame_if (falls p && is_none (least (conditions classes m at p f))) (after m at p f)
 
--- the frames at an offset, where this one comes to the first of these instructions; none where no instruction begins there
-abbrev pub met : Plans → List ClassFact → Method Act → Frames → List (ℕ × Act) → Option FrameFact → ℕ → FramesFact
-met plan classes m frames [] coming at = no_frames
-met plan classes m frames (c ∷ cs) coming at =
+-- the frames at an offset, where this one comes to the first of these instructions; none where no instruction begins
+-- there
+abbrev pub met : TypingRules → List ClassFact → Method Act → Frames → List (ℕ × Act) → Option FrameFact → ℕ → FramesFact
+met typing_rule classes m frames [] coming at = no_frames
+met typing_rule classes m frames (c ∷ cs) coming at =
     if nat_eq c.0 at then frames_with classes coming (at_offset frames c.0)
-    else met plan classes m frames cs (going classes m c.0 (plan m c.1) (before coming (at_offset frames c.0))) at
+    else met typing_rule classes m frames cs
+    (going classes m c.0 (typing_rule m c.1) (before coming (at_offset frames c.0))) at
 
-abbrev pub met_under : Plans → List ClassFact → Method Act → Result Frames MapRefusal → ℕ → FramesFact
-met_under plan classes m (Ok frames) at = met plan classes m frames m.code (Some (initial_frame m)) at
-met_under plan classes m (Err why) at = no_frames
+abbrev pub met_under : TypingRules → List ClassFact → Method Act → Result Frames MapRefusal → ℕ → FramesFact
+met_under typing_rule classes m (Ok frames) at = met typing_rule classes m frames m.code (Some (initial_frame m)) at
+met_under typing_rule classes m (Err why) at = no_frames
 
 -- of a method; none where the receiver and the parameters do not fit, or the stack map is refused
-abbrev pub frames_at : Plans → List ClassFact → Method Act → ℕ → FramesFact
-frames_at plan classes m at =
+abbrev pub frames_at : TypingRules → List ClassFact → Method Act → ℕ → FramesFact
+frames_at typing_rule classes m at =
     if nat_lt m.max_locals (length (in_locals (initial_types m))) then no_frames
-    else met_under plan classes m (frames_declared m) at
+    else met_under typing_rule classes m (frames_declared m) at
 
 -- ---- what is answered
 
 abbrev pub frames_view : FramesAt → FramesFact
 frames_view x =
-    record { coming = option_map frame_of x.coming; declared = option_map frame_of x.declared; difference = option_map difference_of x.difference }
+    record {
+      coming = option_map frame_of x.coming;
+      declared = option_map frame_of x.declared;
+      difference =
+          option_map difference_of x.difference;
+    }
 
 -- the method of this number has code, its bytes are instructions, and these are its frames at an offset
 pub record HasFrames (classes : List ClassFact) (c : JudgedClass) (number at : ℕ) (x : FramesFact) : Type 0 where
@@ -87,12 +97,13 @@ pub record HasFrames (classes : List ClassFact) (c : JudgedClass) (number at : �
   pub spelled : SpellsCode 0 body.code instructions
   pub method : Method Act
   pub says : method_of c number (acts instructions) ≡ Some method
-  pub same : x ≡ frames_at tables.plan classes method at
+  pub same : x ≡ frames_at tables.typing_rule classes method at
 
 -- it has no code, or the bytes of its code are no instructions
 abbrev pub HasNoInstructions : JudgedClass → ℕ → Type 0
 HasNoInstructions c number =
-    (body : CodeBody) (instructions : List (ℕ × Instruction)) → code_at c.file number ≡ Some body → SpellsCode 0 body.code instructions → ⊥
+    (body : CodeBody) (instructions : List (ℕ × Instruction)) → code_at c.file number ≡ Some body
+    → SpellsCode 0 body.code instructions → ⊥
 
 abbrev pub AreFramesOf : List ClassFact → JudgedClass → ℕ → ℕ → FramesFact → Type 0
 AreFramesOf classes c number at x = HasFrames classes c number at x ⊎ (HasNoInstructions c number × (x ≡ no_frames))
@@ -124,8 +135,11 @@ abbrev pub IsFramedIf : Bool → List ClassFact → JudgedClass → ℕ → Verd
 IsFramedIf true classes c number v x = IsFramed classes c number v x
 IsFramedIf false classes c number v x = x ≡ no_frames
 
--- Frames are told of each method of a class, with these verdicts, where those of the methods in front have fewer types than MOST_KEPT.
-pub record AreFramed (classes : List ClassFact) (c : JudgedClass) (rs : List MethodVerdict) (xs : List FramesAt) : Type 0 where
+-- Frames are told of each method of a class, with these verdicts, where those of the methods in front have fewer types
+-- than MOST_KEPT.
+pub record AreFramed (classes : List ClassFact) (c : JudgedClass) (rs : List MethodVerdict)
+    (xs : List FramesAt) : Type 0 where
   pub all : length xs ≡ length rs
-  pub each : (number : ℕ) (r : MethodVerdict) (x : FramesAt) → slice_get rs number ≡ Some r → slice_get xs number ≡ Some x
+  pub each : (number : ℕ) (r : MethodVerdict) (x : FramesAt) → slice_get rs number ≡ Some r
+      → slice_get xs number ≡ Some x
       → IsFramedIf (nat_lt (size_before xs number) MOST_KEPT) classes c number r.verdict (frames_view x)

@@ -1,4 +1,5 @@
--- The answers about many files, under the one hierarchy of the classes that these files and the known ones are (JVMS 4.10.1).
+-- The answers about many files, under the one hierarchy of the classes that these files and the known ones are (JVMS
+-- 4.10.1).
 use Rattle.std.specs.Prelude.{◌≡◌, ◌≢◌, ◌⊎◌, ℕ, List, [], ◌∷◌, ◌++◌, is_some, if◌then◌else◌, Result, Ok, Err}
 use Rattle.classfile.specs.Values.{Class}
 use Rattle.classfile.specs.CodeMethods.{judged}
@@ -45,28 +46,34 @@ AreClasses reads known all = (own : List ClassFact) × AddsFiles reads [] own ×
 
 -- by a profile of the class of this name that a file is, in a hierarchy
 abbrev pub IsAnswered : Profile → List ClassFact → Read → List ℕ → Result Report ClassFault → Type 0
-IsAnswered profile hierarchy read name answer = (c : Class) × IsFormed read c × ((summary_of c).name ≡ name) × Reports hierarchy (judged profile c) answer
+IsAnswered profile hierarchy read name answer = (c : Class) × IsFormed read c × ((summary_of c).name ≡ name)
+    × Reports hierarchy (judged profile c) answer
 
--- of one file: it is refused; or its class is not one of the hierarchy (80), or has a final superclass there (81); or the verdicts on its methods
+-- of one file: it is refused; or its class is not one of the hierarchy (80), or has a final superclass there (81); or
+-- the verdicts on its methods
 abbrev pub IsJudged : Profile → List ClassFact → Read → Judgement → Type 0
 IsJudged profile hierarchy read (Refused fault) = IsRefused read fault
-IsJudged profile hierarchy read (NotInHierarchy name) = IsAnswered profile hierarchy read name.now (Err classes.NotInHierarchy)
+IsJudged profile hierarchy read (NotInHierarchy name) =
+    IsAnswered profile hierarchy read name.now (Err classes.NotInHierarchy)
 IsJudged profile hierarchy read (FinalSuper name) = IsAnswered profile hierarchy read name.now (Err classes.FinalSuper)
 IsJudged profile hierarchy read (Reported name report) = IsAnswered profile hierarchy read name.now (Ok report)
 
 -- of each of these files
 abbrev pub AreJudged : Profile → List ClassFact → List Read → List Judgement → Type 0
 AreJudged profile hierarchy [] [] = Unit {0}
-AreJudged profile hierarchy (read ∷ reads) (j ∷ js) = IsJudged profile hierarchy read j × AreJudged profile hierarchy reads js
+AreJudged profile hierarchy (read ∷ reads) (j ∷ js) = IsJudged profile hierarchy read j
+    × AreJudged profile hierarchy reads js
 AreJudged _ _ _ _ = ⊥
 
 -- the classes that stand are a hierarchy, and these are the answers in it
 abbrev pub JudgesEach : Profile → List Read → List Read → List Judgement → Type 0
 JudgesEach profile reads known judgements =
-    (all : List ClassFact) × AreClasses reads known all × IsHierarchy (standing all) × AreJudged profile (standing all) reads judgements
+    (all : List ClassFact) × AreClasses reads known all × IsHierarchy (standing all)
+    × AreJudged profile (standing all) reads judgements
 
 -- why the classes that stand are none
 abbrev pub JudgesNone : List Read → List Read → EachFault → Type 0
 JudgesNone reads known OutOfMemory = Unit {0}
 JudgesNone reads known (NoHierarchy fault) =
-    (all : List ClassFact) × AreClasses reads known all × (fault ≢ hierarchies.OutOfMemory) × FaultOf (standing all) fault
+    (all : List ClassFact) × AreClasses reads known all × (fault ≢ hierarchies.OutOfMemory)
+    × FaultOf (standing all) fault

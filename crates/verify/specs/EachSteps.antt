@@ -19,7 +19,8 @@ place_kept places name = get_by (λ k. slice_cmp nat_cmp name k.now) places
 
 -- the place of each class is kept for its name, and no other place
 pub record ArePlaced (classes : List ClassFact) (places : BTreeMap (Bor (List ℕ)) ℕ) : Type 0 where
-  pub leads : (name : List ℕ) (i : ℕ) → place_kept places name ≡ Some i → (c : ClassFact) × (slice_get classes i ≡ Some c) × (c.name ≡ name)
+  pub leads : (name : List ℕ) (i : ℕ) → place_kept places name ≡ Some i → (c : ClassFact)
+      × (slice_get classes i ≡ Some c) × (c.name ≡ name)
   pub each : (i : ℕ) (c : ClassFact) → slice_get classes i ≡ Some c → place_kept places c.name ≡ Some i
 
 -- the place with which a chain goes on
@@ -33,7 +34,8 @@ class_at classes place = option_and_then (slice_get classes) place
 -- a table leads from the place of each class to that of the class so many steps on
 pub record LeadsAhead (classes : List ClassFact) (steps : ℕ) (places : List (Option ℕ)) : Type 0 where
   pub each : length places ≡ length classes
-  pub leads : (i : ℕ) (c : ClassFact) → slice_get classes i ≡ Some c → class_at classes (place_after places (Some i)) ≡ ahead classes steps c
+  pub leads : (i : ℕ) (c : ClassFact) → slice_get classes i ≡ Some c
+      → class_at classes (place_after places (Some i)) ≡ ahead classes steps c
 
 -- why these classes are no hierarchy
 abbrev pub IsNone : List ClassFact → EachFault → Type 0

@@ -14,4 +14,5 @@ AreFramedIf true classes c rs xs = AreFramed classes c rs xs
 AreFramedIf false classes c rs xs = Unit {0}
 
 abbrev pub IsExplained : Bool → List ClassFact → JudgedClass → Explained → Type 0
-IsExplained framed classes c x = IsReport classes c x.report.methods.items × AreFramedIf framed classes c x.report.methods.items x.frames.items
+IsExplained framed classes c x = IsReport classes c x.report.methods.items
+    × AreFramedIf framed classes c x.report.methods.items x.frames.items

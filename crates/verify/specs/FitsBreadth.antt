@@ -1,5 +1,6 @@
--- In the machine a type takes all that the verifier lets it take (JVMS 2.4, 4.10.1.2). The verifier's assignability is written apart, by cases of its
--- own: a machine in which fewer values fit then breaks this law, and does not make the theorem one about less.
+-- In the machine a type takes all that the verifier lets it take (JVMS 2.4, 4.10.1.2). The verifier's assignability is
+-- written apart, by cases of its own: a machine in which fewer values fit then breaks this law, and does not make the
+-- theorem one about less.
 use Rattle.std.specs.Prelude.{◌≡◌, ℕ, List, Some}
 use Rattle.names.specs.declared.base.Primitive.{Primitive}
 use Rattle.names.specs.Descriptors.{primitive}
@@ -22,16 +23,20 @@ pub record HasFits (classes : List ClassFact) (world : World) (heap : Heap) : Ty
   pub numbers : (p : Primitive) → FitsField world heap (primitive p) (number (computed_as p))
   pub nulls : (type : ReferenceType) → FitsReference world heap type null
   -- an object that is ready, of a type that is assignable to this one
-  pub objects : (a : ℕ) (type above : ReferenceType) → heap a ≡ Some (object type ready) → IsAssignableTo classes type above
+  pub objects : (a : ℕ) (type above : ReferenceType) → heap a ≡ Some (object type ready)
+      → IsAssignableTo classes type above
       → FitsReference world heap above (reference a)
   -- what fits a type fits each that it is assignable to
-  pub values : (v : Value) (type above : ReferenceType) → FitsReference world heap type v → IsAssignableTo classes type above
+  pub values : (v : Value) (type above : ReferenceType) → FitsReference world heap type v
+      → IsAssignableTo classes type above
       → FitsReference world heap above v
   -- fields, parameters and results take what fits their types
-  pub fields : (v : Value) (type : ReferenceType) → FitsReference world heap type v → FitsField world heap (descriptor_of type) v
+  pub fields : (v : Value) (type : ReferenceType) → FitsReference world heap type v
+      → FitsField world heap (descriptor_of type) v
   -- an exception of such a type is caught
   pub types : (type above : ReferenceType) → IsAssignableTo classes type above → IsBelow world type above
 
 abbrev pub FitsBreadth : Type 0
 FitsBreadth =
-    (classes : List ClassFact) → IsHierarchy classes → (world : World) → Extends world classes → (heap : Heap) → HasFits classes world heap
+    (classes : List ClassFact) → IsHierarchy classes → (world : World) → Extends world classes → (heap : Heap)
+    → HasFits classes world heap

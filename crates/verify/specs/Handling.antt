@@ -1,4 +1,5 @@
--- The entries of an exception table while a pass goes over the code: which are to come, and which are compared with the frame as it is.
+-- The entries of an exception table while a pass goes over the code: which are to come, and which are compared with the
+-- frame as it is.
 use Rattle.std.specs.Prelude.{◌≡◌, ◌⊎◌, ℕ, ◌≤◌, ◌<◌, true, List, length, get_or, slice_get, slice_index_or, Option, Some, None, option_map, Result, IfSome, OnOk, MatchResult, MatchOption, All, Contains}
 use Rattle.std.specs.List.Sorted.{IsNonDecreasingBy}
 use Rattle.classfile.specs.Methods.{ExceptionEntry, covers}
@@ -43,8 +44,10 @@ pub record IsToCome (xs : List Entry) (begun place : ℕ) : Type 0 where
   pub within : number < length xs
   pub placed : (d : Entry) → (slice_index_or xs number d).place ≡ place
 
--- Of a table, at an offset: every entry is still to come, or to be compared, or was compared, and then this is so, or its range has ended.
-pub record Tracks (es : List ExceptionEntry) (at : ℕ) (is_so : Entry → Type 0) (by_start : List Entry) (begun : ℕ) (fresh settled : List Entry) : Type 0 where
+-- Of a table, at an offset: every entry is still to come, or to be compared, or was compared, and then this is so, or
+-- its range has ended.
+pub record Tracks (es : List ExceptionEntry) (at : ℕ) (is_so : Entry → Type 0) (by_start : List Entry) (begun : ℕ)
+    (fresh settled : List Entry) : Type 0 where
   pub own : All (IsOwn es) by_start
   pub rises : IsNonDecreasingBy (λ (e : Entry). e.from) by_start
   pub begun_fresh : All (HasBegun es at) fresh
@@ -55,7 +58,8 @@ pub record Tracks (es : List ExceptionEntry) (at : ℕ) (is_so : Entry → Type 
 
 -- the frame of a handler takes this type as the local of a number
 abbrev pub TakesAt : List ClassFact → Frames → (handler : ℕ) → ℕ → VerificationType → Type 0
-TakesAt classes frames handler n t = IfSome (at_offset frames handler) (λ d. type_answer classes t (get_or d.locals n top) ≡ yes)
+TakesAt classes frames handler n t =
+    IfSome (at_offset frames handler) (λ d. type_answer classes t (get_or d.locals n top) ≡ yes)
 
 -- the frame of an entry's handler does
 abbrev pub Takes : List ClassFact → Frames → Entry → ℕ → VerificationType → Type 0
@@ -70,17 +74,20 @@ abbrev pub MayCome : List ClassFact → Frames → ℕ → FrameFact → Entry �
 MayCome classes frames at f e = at < e.to → caught_answer classes frames f (entry_view e) ≡ yes
 
 -- and the handler's frame takes each of these changes
-pub record IsSettled (classes : List ClassFact) (frames : Frames) (taken : List Change) (at : ℕ) (f : FrameFact) (e : Entry) : Type 0 where
+pub record IsSettled (classes : List ClassFact) (frames : Frames) (taken : List Change) (at : ℕ) (f : FrameFact)
+    (e : Entry) : Type 0 where
   pub comes : MayCome classes frames at f e
   pub takes : All (λ (c : Change). Takes classes frames e c.local (type_of c.vtype)) taken
 
 -- the frames of two handlers have the same locals, or neither handler has a frame
 abbrev pub HaveSameLocals : Frames → ℕ → ℕ → Type 0
-HaveSameLocals frames one other = option_map (λ d. d.locals) (at_offset frames one) ≡ option_map (λ d. d.locals) (at_offset frames other)
+HaveSameLocals frames one other =
+    option_map (λ d. d.locals) (at_offset frames one) ≡ option_map (λ d. d.locals) (at_offset frames other)
 
 -- one of these handlers stands for a handler, since their frames have the same locals
 abbrev pub IsRepresented : Frames → List ℕ → ℕ → Type 0
-IsRepresented frames representatives handler = (one : ℕ) × Contains representatives one × HaveSameLocals frames handler one
+IsRepresented frames representatives handler = (one : ℕ) × Contains representatives one
+    × HaveSameLocals frames handler one
 
 -- for the handler of each entry one of them stands
 abbrev pub AreRepresented : Frames → List ℕ → List Entry → Type 0
@@ -93,11 +100,13 @@ AreCompared classes frames es at f h =
 
 -- and one handler stands for that of each
 abbrev pub Follows : List ClassFact → Frames → List ExceptionEntry → ℕ → FrameFact → Handlers → Type 0
-Follows classes frames es at f h = AreCompared classes frames es at f h × AreRepresented frames h.representatives.items h.settled.items
+Follows classes frames es at f h = AreCompared classes frames es at f h
+    × AreRepresented frames h.representatives.items h.settled.items
 
 -- those that are to come begin behind the offset
 abbrev pub AreAhead : ℕ → Handlers → Type 0
-AreAhead at h = (i : ℕ) (d : Entry) → h.begun ≤ i → i < length h.by_start.items → at < (slice_index_or h.by_start.items i d).from
+AreAhead at h = (i : ℕ) (d : Entry) → h.begun ≤ i → i < length h.by_start.items
+    → at < (slice_index_or h.by_start.items i d).from
 
 -- ---- those for which a class is missing
 
@@ -115,10 +124,12 @@ IsLater (Some m) e answer = (name : List ℕ) × (answer ≡ missing name) × (m
 -- of those that are compared in turn
 abbrev pub IsJudged : List ClassFact → Frames → ℕ → FrameFact → Option Missing → Entry → Type 0
 IsJudged classes frames at f so_far e =
-    at < e.to → (caught_answer classes frames f (entry_view e) ≡ yes) ⊎ IsLater so_far e (caught_answer classes frames f (entry_view e))
+    at < e.to → (caught_answer classes frames f (entry_view e) ≡ yes)
+    ⊎ IsLater so_far e (caught_answer classes frames f (entry_view e))
 
 -- the class is missing for the entry of this place, which covers the offset
-pub record IsMissing (classes : List ClassFact) (frames : Frames) (es : List ExceptionEntry) (at : ℕ) (f : FrameFact) (m : Missing) : Type 0 where
+pub record IsMissing (classes : List ClassFact) (frames : Frames) (es : List ExceptionEntry) (at : ℕ) (f : FrameFact)
+    (m : Missing) : Type 0 where
   pub entry : ExceptionEntry
   pub here : slice_get es m.place ≡ Some entry
   pub covered : covers entry at ≡ true
@@ -126,8 +137,10 @@ pub record IsMissing (classes : List ClassFact) (frames : Frames) (es : List Exc
 
 -- ---- what is answered of all entries that cover an offset
 
--- none is against the instruction, and the table is followed on; or the first class that is missing; or this reason, or want of memory
-pub record Settles (classes : List ClassFact) (frames : Frames) (es : List ExceptionEntry) (at : ℕ) (f : FrameFact) (h : Handlers) (r : Result (Option Missing) Reason) : Type 0 where
+-- none is against the instruction, and the table is followed on; or the first class that is missing; or this reason, or
+-- want of memory
+pub record Settles (classes : List ClassFact) (frames : Frames) (es : List ExceptionEntry) (at : ℕ) (f : FrameFact)
+    (h : Handlers) (r : Result (Option Missing) Reason) : Type 0 where
   pub outcome : MatchResult r
       (λ o. MatchOption o
       ((least (handler_conditions classes frames at f es) ≡ None) × Follows classes frames es at f h)
@@ -135,6 +148,7 @@ pub record Settles (classes : List ClassFact) (frames : Frames) (es : List Excep
       (λ e. (e ≡ OutOfMemory) ⊎ (least (handler_conditions classes frames at f es) ≡ Some (reason_view e)))
 
 -- a reason against the instruction, if there is one; where none is, the table is followed on
-pub record Catches (classes : List ClassFact) (frames : Frames) (es : List ExceptionEntry) (at : ℕ) (f : FrameFact) (h : Handlers) (r : Result Unit Reason) : Type 0 where
+pub record Catches (classes : List ClassFact) (frames : Frames) (es : List ExceptionEntry) (at : ℕ) (f : FrameFact)
+    (h : Handlers) (r : Result Unit Reason) : Type 0 where
   pub judged : Judges (handler_conditions classes frames at f es) r
   pub followed : OnOk r (Follows classes frames es at f h)

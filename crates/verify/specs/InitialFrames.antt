@@ -21,4 +21,9 @@ is_uninitialized ready_receiver = false
 is_uninitialized own_receiver = true
 
 abbrev pub initial_frame : Method Act → FrameFact
-initial_frame m = record { locals = all_locals m.max_locals (initial_types m); stack = []; flag = is_uninitialized (receiver_of m) }
+initial_frame m = record {
+  locals = all_locals m.max_locals (initial_types m);
+  stack = [];
+  flag =
+      is_uninitialized (receiver_of m);
+}

@@ -7,7 +7,7 @@ use Rattle.insn.specs.Offsets.{at_offset, next_offset, StartsRise}
 use Rattle.frames.specs.FrameFact.{FrameFact}
 use Rattle.frames.specs.Conditions.{Reason, reason, least}
 use Rattle.rules.specs.ReasonNumbers.{no_frame}
-use Rattle.rules.specs.Table.{Plans}
+use Rattle.rules.specs.Table.{TypingRules}
 use Rattle.verify.specs.InitialFrames.{initial_frame}
 use Rattle.verify.specs.TypeSafety.{Frames}
 use Rattle.verify.specs.Verdict.{refused, at_conditions, entry, code_judged}
@@ -19,18 +19,21 @@ entry_by classes (Some f) declared = entry classes true f declared
 entry_by classes None None = Some (reason no_frame)
 entry_by classes None (Some declared) = None
 
--- An instruction begins there, and this is the reason against the frame that comes to it; or there is a frame before it, and of what is asked of
--- the instruction in that frame this is the least reason.
-pub record IsJudgedBy (plan : Plans) (classes : List ClassFact) (m : Method Act) (frames : Frames) (code : List (ℕ × Act)) (at : ℕ) (why : Reason) (x : FramesFact) : Type 0 where
+-- An instruction begins there, and this is the reason against the frame that comes to it; or there is a frame before
+-- it, and of what is asked of the instruction in that frame this is the least reason.
+pub record IsJudgedBy (typing_rule : TypingRules) (classes : List ClassFact) (m : Method Act) (frames : Frames)
+    (code : List (ℕ × Act)) (at : ℕ) (why : Reason) (x : FramesFact) : Type 0 where
   pub act : Act
   pub here : at_offset code at ≡ Some act
   pub told :
       (entry_by classes x.coming x.declared ≡ Some why)
       ⊎ ((f : FrameFact) × (before x.coming x.declared ≡ Some f)
-      × (least (at_conditions classes m frames at act (plan m act) (next_offset code at) f) ≡ Some why))
+      × (least (at_conditions classes m frames at act (typing_rule m act) (next_offset code at) f) ≡ Some why))
 
 abbrev pub FramesAreJudged : Type 0
 FramesAreJudged =
-    (plan : Plans) (classes : List ClassFact) (m : Method Act) (frames : Frames) → StartsRise 0 m.code → (at : ℕ) (why : Reason)
-    → code_judged plan classes m frames ≡ refused at why
-    → IsJudgedBy plan classes m frames m.code at why (met plan classes m frames m.code (Some (initial_frame m)) at)
+    (typing_rule : TypingRules) (classes : List ClassFact) (m : Method Act) (frames : Frames) → StartsRise 0 m.code
+    → (at : ℕ) (why : Reason)
+    → code_judged typing_rule classes m frames ≡ refused at why
+    → IsJudgedBy typing_rule classes m frames m.code at why
+    (met typing_rule classes m frames m.code (Some (initial_frame m)) at)

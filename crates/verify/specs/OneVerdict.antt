@@ -11,7 +11,8 @@ use Rattle.verify.specs.Reports.{IsReport}
 use Rattle.verify.specs.declared.coming.FramesAt.{FramesAt}
 use Rattle.verify.specs.Coming.{frames_view, AreFramed}
 
--- two verdicts say the same: of refusals the offset, the number, the missing class by its name, and the fault behind 78 and 79
+-- two verdicts say the same: of refusals the offset, the number, the missing class by its name, and the fault behind 78
+-- and 79
 abbrev pub AreSameVerdict : Verdict → Verdict → Type 0
 AreSameVerdict Verified Verified = Unit {0}
 AreSameVerdict NoCode NoCode = Unit {0}
@@ -33,19 +34,23 @@ pub record IsSameLine (r other : MethodVerdict) : Type 0 where
 
 pub record IsSameReport (rs others : List MethodVerdict) : Type 0 where
   pub all : length rs ≡ length others
-  pub each : (number : ℕ) (r other : MethodVerdict) → slice_get rs number ≡ Some r → slice_get others number ≡ Some other → IsSameLine r other
+  pub each : (number : ℕ) (r other : MethodVerdict) → slice_get rs number ≡ Some r
+      → slice_get others number ≡ Some other → IsSameLine r other
 
 abbrev pub OneReport : Type 0
 OneReport =
-    (classes : List ClassFact) (c : JudgedClass) (rs others : List MethodVerdict) → IsReport classes c rs → IsReport classes c others
+    (classes : List ClassFact) (c : JudgedClass) (rs others : List MethodVerdict) → IsReport classes c rs
+    → IsReport classes c others
     → IsSameReport rs others
 
 -- of the methods in turn the frames are the same
 pub record AreSameFrames (xs others : List FramesAt) : Type 0 where
   pub all : length xs ≡ length others
-  pub each : (number : ℕ) (x other : FramesAt) → slice_get xs number ≡ Some x → slice_get others number ≡ Some other → frames_view x ≡ frames_view other
+  pub each : (number : ℕ) (x other : FramesAt) → slice_get xs number ≡ Some x → slice_get others number ≡ Some other
+      → frames_view x ≡ frames_view other
 
 abbrev pub OneFrames : Type 0
 OneFrames =
-    (classes : List ClassFact) (c : JudgedClass) (rs others : List MethodVerdict) (xs ys : List FramesAt) → IsSameReport rs others
+    (classes : List ClassFact) (c : JudgedClass) (rs others : List MethodVerdict) (xs ys : List FramesAt)
+    → IsSameReport rs others
     → AreFramed classes c rs xs → AreFramed classes c others ys → AreSameFrames xs ys

@@ -17,7 +17,9 @@ pub record AreMet (play : List JudgedClass) (place : ℕ) (names : MetNames) : T
 
 -- of the class at a place, whose name is met then
 abbrev pub Judges : List ClassFact → List JudgedClass → ℕ → JudgedClass → MetNames → Result Report PlayStop → Type 0
-Judges classes play place c names (Ok report) = IsHierarchy classes × IsFine classes play place c report.methods.items × AreMet play (place + 1) names
+Judges classes play place c names (Ok report) = IsHierarchy classes × IsFine classes play place c report.methods.items
+    × AreMet play (place + 1) names
 Judges classes play place c names (Err OutOfMemory) = Unit {0}
 Judges classes play place c names (Err (Broken class rule)) = (class ≡ place) × Breaks classes play place c rule
-Judges classes play place c names (Err (Refused class number method)) = (class ≡ place) × HasRefused classes play place c number method
+Judges classes play place c names (Err (Refused class number method)) = (class ≡ place)
+    × HasRefused classes play place c number method

@@ -1,4 +1,5 @@
--- Classes in play: the reports on them, or the first class of the list that breaks a rule, and the least number that it breaks.
+-- Classes in play: the reports on them, or the first class of the list that breaks a rule, and the least number that it
+-- breaks.
 use Rattle.std.specs.Prelude.{◌≡◌, ℕ, ◌<◌, true, false, List, length, slice_get, Some}
 use Rattle.classfile.specs.Methods.{JudgedClass}
 use Rattle.hierarchy.specs.Class.{ClassFact}
@@ -34,13 +35,15 @@ pub record IsFirstRefused (rs : List MethodVerdict) (n : ℕ) (r : MethodVerdict
 
 -- a class before this place has the name
 abbrev pub HasEarlier : List JudgedClass → ℕ → List ℕ → Type 0
-HasEarlier play place name = (j : ℕ) × (d : JudgedClass) × (j < place) × (slice_get play j ≡ Some d) × ((summary_of d.file).name ≡ name)
+HasEarlier play place name = (j : ℕ) × (d : JudgedClass) × (j < place) × (slice_get play j ≡ Some d)
+    × ((summary_of d.file).name ≡ name)
 
 abbrev pub IsFirstOfName : List JudgedClass → ℕ → JudgedClass → Type 0
 IsFirstOfName play place c = HasEarlier play place (summary_of c.file).name → ⊥
 
 -- the class breaks no rule, and this is the report on it
-pub record IsFine (classes : List ClassFact) (play : List JudgedClass) (place : ℕ) (c : JudgedClass) (rs : List MethodVerdict) : Type 0 where
+pub record IsFine (classes : List ClassFact) (play : List JudgedClass) (place : ℕ) (c : JudgedClass)
+    (rs : List MethodVerdict) : Type 0 where
   pub report : IsReport classes c rs
   pub not_final : has_final_super classes (summary_of c.file) ≡ false
   pub first : IsFirstOfName play place c
@@ -51,7 +54,8 @@ abbrev pub Breaks : List ClassFact → List JudgedClass → ℕ → JudgedClass 
 Breaks classes play place c NotInHierarchy = IsListed classes c.file → ⊥
 Breaks classes play place c FinalSuper = IsListed classes c.file × (has_final_super classes (summary_of c.file) ≡ true)
 Breaks classes play place c ClassInPlayTwice =
-    IsListed classes c.file × (has_final_super classes (summary_of c.file) ≡ false) × HasEarlier play place (summary_of c.file).name
+    IsListed classes c.file × (has_final_super classes (summary_of c.file) ≡ false)
+    × HasEarlier play place (summary_of c.file).name
 
 -- the class breaks none of these rules, and this is its first method that is refused
 abbrev pub HasRefused : List ClassFact → List JudgedClass → ℕ → JudgedClass → ℕ → MethodVerdict → Type 0
@@ -62,7 +66,8 @@ HasRefused classes play place c n r =
 -- the first classes break no rule, and have these reports
 abbrev pub AreFine : List ClassFact → List JudgedClass → List Report → Type 0
 AreFine classes play rs =
-    (place : ℕ) (r : Report) → slice_get rs place ≡ Some r → (c : JudgedClass) × (slice_get play place ≡ Some c) × IsFine classes play place c r.methods.items
+    (place : ℕ) (r : Report) → slice_get rs place ≡ Some r → (c : JudgedClass) × (slice_get play place ≡ Some c)
+    × IsFine classes play place c r.methods.items
 
 -- no class breaks a rule, and they have these reports
 abbrev pub ArePlayed : List ClassFact → List JudgedClass → List Report → Type 0
@@ -71,18 +76,22 @@ ArePlayed classes play rs = (length rs ≡ length play) × AreFine classes play 
 -- the class at a place is the first that breaks a rule, in this way
 abbrev pub BreaksFirst : List ClassFact → List JudgedClass → ℕ → (JudgedClass → Type 0) → Type 0
 BreaksFirst classes play place Way =
-    ((c : JudgedClass) × (slice_get play place ≡ Some c) × Way c) × ((rs : List Report) × (length rs ≡ place) × AreFine classes play rs)
+    ((c : JudgedClass) × (slice_get play place ≡ Some c) × Way c)
+    × ((rs : List Report) × (length rs ≡ place) × AreFine classes play rs)
 
 abbrev pub IsNotPlayed : List ClassFact → List JudgedClass → PlayFault → Type 0
 IsNotPlayed classes play OutOfMemory = Unit {0}
 IsNotPlayed classes play (Broken place rule) = BreaksFirst classes play place (λ c. Breaks classes play place c rule)
-IsNotPlayed classes play (NotAllVerified place n) = BreaksFirst classes play place (λ c. (r : MethodVerdict) × HasRefused classes play place c n r)
+IsNotPlayed classes play (NotAllVerified place n) =
+    BreaksFirst classes play place (λ c. (r : MethodVerdict) × HasRefused classes play place c n r)
 
 -- where a method is refused, this is the verdict on it
 abbrev pub IsStopped : List ClassFact → List JudgedClass → PlayStop → Type 0
 IsStopped classes play stops.OutOfMemory = Unit {0}
-IsStopped classes play (stops.Broken place rule) = BreaksFirst classes play place (λ c. Breaks classes play place c rule)
-IsStopped classes play (stops.Refused place number method) = BreaksFirst classes play place (λ c. HasRefused classes play place c number method)
+IsStopped classes play (stops.Broken place rule) =
+    BreaksFirst classes play place (λ c. Breaks classes play place c rule)
+IsStopped classes play (stops.Refused place number method) =
+    BreaksFirst classes play place (λ c. HasRefused classes play place c number method)
 
 -- ---- numbers
 

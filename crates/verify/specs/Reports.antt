@@ -1,4 +1,5 @@
--- The report on a class: of each method its name, its descriptor and its verdict, in the order of the file (JVMS 4.10.1).
+-- The report on a class: of each method its name, its descriptor and its verdict, in the order of the file (JVMS
+-- 4.10.1).
 use Rattle.std.specs.Prelude.{◌≡◌, ℕ, true, false, List, length, slice_get, Some, Result, Ok, Err}
 use Rattle.pool.specs.Lookups.{named}
 use Rattle.classfile.specs.Values.{Member, Class}
@@ -24,7 +25,8 @@ use Rattle.verify.specs.Answers.{Answers, VerifiesTypeSafe}
 pub record IsReported (classes : List ClassFact) (c : JudgedClass) (number : ℕ) (r : MethodVerdict) : Type 0 where
   pub member : Member
   pub numbered : slice_get c.file.methods number ≡ Some member
-  pub called : named c.file.constant_pool member.name member.descriptor ≡ Ok (record { name = r.name.bytes.now; descriptor = r.descriptor.bytes.now })
+  pub called : named c.file.constant_pool member.name member.descriptor
+      ≡ Ok (record { name = r.name.bytes.now; descriptor = r.descriptor.bytes.now })
   pub exactly : Answers classes c number (Ok r.verdict)
   pub only : VerifiesTypeSafe classes c number (Ok r.verdict)
   -- a method that is verified is safe, in all five parts of that and in every world that extends the hierarchy
@@ -36,19 +38,23 @@ pub record IsReport (classes : List ClassFact) (c : JudgedClass) (rs : List Meth
   pub all : length rs ≡ length c.file.methods
   pub each : (number : ℕ) (r : MethodVerdict) → slice_get rs number ≡ Some r → IsReported classes c number r
 
--- Of a class that is well formed: the first of these that holds. The hierarchy has it not as it is (80); its superclass is final
--- there (81); and otherwise the verdicts on its methods.
+-- Of a class that is well formed: the first of these that holds. The hierarchy has it not as it is (80); its superclass
+-- is final there (81); and otherwise the verdicts on its methods.
 abbrev pub Reports : List ClassFact → JudgedClass → Result Report ClassFault → Type 0
-Reports classes c (Ok report) = (has_final_super classes (summary_of c.file) ≡ false) × IsReport classes c report.methods.items
+Reports classes c (Ok report) = (has_final_super classes (summary_of c.file) ≡ false)
+    × IsReport classes c report.methods.items
 Reports classes c (Err OutOfMemory) = Unit {0}
 Reports classes c (Err NotInHierarchy) = IsListed classes c.file → ⊥
 Reports classes c (Err FinalSuper) = IsListed classes c.file × (has_final_super classes (summary_of c.file) ≡ true)
 Reports classes c (Err (NoClass fault)) = ⊥
 Reports classes c (Err (Malformed rule place)) = ⊥
 
--- by a profile, of bytes: their fault as a class file, or the rule that the class breaks first, or what is answered of a class that is well formed
+-- by a profile, of bytes: their fault as a class file, or the rule that the class breaks first, or what is answered of
+-- a class that is well formed
 abbrev pub ReportsBytes : Profile → List ClassFact → List ℕ → Result Report ClassFault → Type 0
 ReportsBytes profile classes bytes (Err OutOfMemory) = Unit {0}
 ReportsBytes profile classes bytes (Err (NoClass fault)) = class_files.ClassFault bytes fault
-ReportsBytes profile classes bytes (Err (Malformed rule place)) = (c : Class) × IsClass bytes c × IsFirstFault c rule place
-ReportsBytes profile classes bytes answer = (c : Class) × IsClass bytes c × WellFormed c × Reports classes (judged profile c) answer
+ReportsBytes profile classes bytes (Err (Malformed rule place)) = (c : Class) × IsClass bytes c
+    × IsFirstFault c rule place
+ReportsBytes profile classes bytes answer = (c : Class) × IsClass bytes c × WellFormed c
+    × Reports classes (judged profile c) answer

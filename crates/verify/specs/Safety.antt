@@ -15,14 +15,16 @@ use Rattle.verify.specs.TypeSafety.{IsTypeSafe}
 -- it holds in every world that extends the classes, at every state of every run of the method
 abbrev pub HoldsThroughout : List ClassFact → Method Act → (World → State → Type 0) → Type 0
 HoldsThroughout classes m Holds =
-    (world : World) → Extends world classes → (run : List State) → IsRun world m run → (s : State) → IsAmong s run → Holds world s
+    (world : World) → Extends world classes → (run : List State) → IsRun world m run → (s : State) → IsAmong s run
+    → Holds world s
 
 abbrev pub IsSafe : List ClassFact → Method Act → Type 0
 IsSafe classes m = HoldsThroughout classes m (λ world s. IsNoFault world m s)
 
 -- it holds of every method that is type-safe
 abbrev pub IfTypeSafe : (List ClassFact → Method Act → Type 0) → Type 0
-IfTypeSafe Holds = (classes : List ClassFact) → IsHierarchy classes → (m : Method Act) → IsTypeSafe classes m → Holds classes m
+IfTypeSafe Holds = (classes : List ClassFact) → IsHierarchy classes → (m : Method Act) → IsTypeSafe classes m
+    → Holds classes m
 
 abbrev pub TypeSafeIsSafe : Type 0
 TypeSafeIsSafe = IfTypeSafe IsSafe

@@ -1,4 +1,5 @@
--- The classes of a list that stand: from each a chain of superclasses leads to Object, on which no class breaks a rule of hierarchies (JVMS 4.1, 5.3.5).
+-- The classes of a list that stand: from each a chain of superclasses leads to Object, on which no class breaks a rule
+-- of hierarchies (JVMS 4.1, 5.3.5).
 use Rattle.std.specs.Prelude.{ℕ, zero, suc, ◌^◌, Bool, false, ◌&&◌, ◌||◌, not, List, filter, Option, Some, None, is_some, bytes_eq, if◌then◌else◌}
 use Rattle.std.specs.Option.{option_and_then, option_map_or}
 use Rattle.names.specs.StandardNames.{object_name, cloneable_name, serializable_name}
@@ -20,7 +21,8 @@ has_other_super c superclass = c.interface && not (bytes_eq superclass object_na
 abbrev pub super_of : ClassFact → List ℕ → Option (List ℕ)
 super_of c superclass = if is_array_class c || has_other_super c superclass then None else Some superclass
 
--- The name of the class with which the chain goes on from a class: from the root its own, so that a chain which has come there stays.
+-- The name of the class with which the chain goes on from a class: from the root its own, so that a chain which has
+-- come there stays.
 abbrev pub onward : ClassFact → Option (List ℕ)
 onward c = if is_root c then Some c.name else option_and_then (super_of c) c.superclass
 

@@ -15,7 +15,7 @@ use Rattle.rules.specs.declared.reason.Reason.TheVariants.{OutOfMemory, BadCode}
 use Rattle.rules.specs.Reasons.{reason_view}
 use Rattle.rules.specs.ReasonNumbers.{falls_off, constructor_covered}
 use Rattle.rules.specs.Rules.{constructs_own}
-use Rattle.rules.specs.Table.{plan}
+use Rattle.rules.specs.Table.{typing_rule}
 use Rattle.rules.specs.Ways.{goes_on}
 use Rattle.verify.specs.declared.verdict.Verdict.{Verdict}
 use Rattle.verify.specs.declared.verdict.Verdict.TheVariants.{Verified, NoCode, Refused}
@@ -29,8 +29,10 @@ abbrev pub verify_fault_number : VerifyFault → ℕ
 verify_fault_number faults.OutOfMemory = 1
 verify_fault_number faults.NotInHierarchy = 80
 
--- a frame comes to a start, where this one is declared, and this one goes on; or this is the reason against it, or want of memory
-pub record Enters (classes : List ClassFact) (falls : Bool) (f : FrameFact) (declared : Option FrameFact) (now : FrameFact)
+-- a frame comes to a start, where this one is declared, and this one goes on; or this is the reason against it, or want
+-- of memory
+pub record Enters (classes : List ClassFact) (falls : Bool) (f : FrameFact) (declared : Option FrameFact)
+    (now : FrameFact)
     (r : Result Unit Reason) : Type 0 where
   pub outcome : MatchResult r
       (λ _. (entry classes falls f declared ≡ None) × (now ≡ entered f declared))
@@ -64,9 +66,11 @@ Gives v (Ok (Refused at why)) = told_of v ≡ Some (at, reason_view why)
 Gives v (Err faults.OutOfMemory) = Unit {0}
 Gives v (Err faults.NotInHierarchy) = ⊥
 
--- what is asked of an instruction besides its rule and its targets: of the frame before it, that it does not go on where it is the last one, and
--- that no entry of the exception table covers it where it calls a constructor on the own object
+-- what is asked of an instruction besides its rule and its targets: of the frame before it, that it does not go on
+-- where it is the last one, and that no entry of the exception table covers it where it calls a constructor on the own
+-- object
 abbrev pub aside_conditions : List ClassFact → Method Act → Frames → ℕ → Act → Bool → FrameFact → Conditions
 aside_conditions classes m frames at a last f =
     before_conditions classes m frames at a f
-    ++ ((reason falls_off, goes_on a && last) ∷ (reason constructor_covered, constructs_own (plan m a) f && is_covered m.exceptions at) ∷ [])
+    ++ ((reason falls_off, goes_on a && last)
+    ∷ (reason constructor_covered, constructs_own (typing_rule m a) f && is_covered m.exceptions at) ∷ [])

@@ -26,7 +26,10 @@ abbrev pub Told : List ClassFact → Frames → FrameFact → ℤ → PlaceSet �
 Told classes frames f target old None = WasSeen frames target old
 Told classes frames f target old (Some answer) = Judges (one_target classes (declared_at frames target) f) answer
 
--- An answer for the target, unless its frame was seen before. What is seen then was seen before, or is the target's frame.
-pub record Compares (classes : List ClassFact) (frames : Frames) (f : FrameFact) (target : ℤ) (old now : PlaceSet) (r : Option (Result Unit Reason)) : Type 0 where
+-- An answer for the target, unless its frame was seen before. What is seen then was seen before, or is the target's
+-- frame.
+pub record Compares (classes : List ClassFact) (frames : Frames) (f : FrameFact) (target : ℤ) (old now : PlaceSet)
+    (r : Option (Result Unit Reason)) : Type 0 where
   pub told : Told classes frames f target old r
-  pub seen : (place : ℕ) → has now place ≡ true → (has old place ≡ true) ⊎ ((g : FrameFact) × IsPlace frames target place g)
+  pub seen : (place : ℕ) → has now place ≡ true → (has old place ≡ true)
+      ⊎ ((g : FrameFact) × IsPlace frames target place g)

@@ -26,7 +26,8 @@ HaveReports cs reports = IsHierarchy (facts_in cs) × ArePlayed (facts_in cs) cs
 
 -- by a profile
 abbrev pub ReportsTogether : Profile → List Read → List Report → Type 0
-ReportsTogether profile reads reports = (cs : List Class) × AreFormed reads cs × HaveReports (map (judged profile) cs) reports
+ReportsTogether profile reads reports = (cs : List Class) × AreFormed reads cs
+    × HaveReports (map (judged profile) cs) reports
 
 -- no run through the methods of the classes meets a fault
 abbrev pub ArePlayableFiles : Profile → List Read → Type 0
@@ -44,9 +45,11 @@ HaveNone cs OutOfMemory = Unit {0}
 HaveNone cs (Refused number fault) = ⊥
 HaveNone cs (NoHierarchy fault) = (fault ≢ hierarchies.OutOfMemory) × FaultOf (facts_in cs) fault
 HaveNone cs (Broken number rule) = BreaksAt cs number (λ place c. Breaks (facts_in cs) cs place c rule)
-HaveNone cs (NotVerified number method) = BreaksAt cs number (λ place c. (n : ℕ) × HasRefused (facts_in cs) cs place c n method)
+HaveNone cs (NotVerified number method) =
+    BreaksAt cs number (λ place c. (n : ℕ) × HasRefused (facts_in cs) cs place c n method)
 
--- The first of these that applies: a file is refused, by its number from 1 on; the classes are no hierarchy; or one breaks a rule.
+-- The first of these that applies: a file is refused, by its number from 1 on; the classes are no hierarchy; or one
+-- breaks a rule.
 abbrev pub NotTogether : Profile → List Read → TogetherFault → Type 0
 NotTogether profile reads OutOfMemory = Unit {0}
 NotTogether profile reads (Refused number fault) = (i : ℕ) × (number ≡ i + 1) × IsFirstRefused reads i fault

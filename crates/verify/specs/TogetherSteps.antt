@@ -21,10 +21,12 @@ abbrev pub AreWellFormed : List Class → Type 0
 AreWellFormed [] = Unit {0}
 AreWellFormed (c ∷ cs) = WellFormed c × AreWellFormed cs
 
--- All files are classes. Or those in front of one are, and this is the fault of that one, unless one of those is not well formed.
+-- All files are classes. Or those in front of one are, and this is the fault of that one, unless one of those is not
+-- well formed.
 abbrev pub DecodesAll : List Read → List Class → Option TogetherFault → Type 0
 DecodesAll reads cs None = AreDecoded reads cs
-DecodesAll reads cs (Some fault) = AreDecoded (take (length cs) reads) cs × (AreWellFormed cs → (profile : Profile) → NotTogether profile reads fault)
+DecodesAll reads cs (Some fault) = AreDecoded (take (length cs) reads) cs
+    × (AreWellFormed cs → (profile : Profile) → NotTogether profile reads fault)
 
 abbrev pub views : List ClassFile → List Class
 views classes = map (λ c. class_view c) classes

@@ -1,4 +1,5 @@
--- When a method is type-safe (JVMS 4.10.1.6): there is a frame for each instruction, and each instruction is type-safe in its frame.
+-- When a method is type-safe (JVMS 4.10.1.6): there is a frame for each instruction, and each instruction is type-safe
+-- in its frame.
 use Rattle.std.specs.Prelude.{◌≡◌, ℕ, ℤ, pos, ◌≤◌, ◌<◌, true, false, List, [], ◌∷◌, length, Option, Some, None, Ok, ◌⊎◌}
 use Rattle.names.specs.StandardNames.{throwable_name}
 use Rattle.classfile.specs.Methods.{Method, ExceptionEntry, covers}
@@ -14,9 +15,9 @@ use Rattle.frames.specs.FrameAssignable.{frame_answer}
 use Rattle.frames.specs.Conditions.{NoneHolds}
 use Rattle.frames.specs.StackMaps.{MapEntry, IsMap}
 use Rattle.frames.specs.DeclaredFrames.{declared_frames}
-use Rattle.rules.specs.Plans.{Plan, falls, targets}
+use Rattle.rules.specs.TypingRules.{TypingRule, falls, targets}
 use Rattle.rules.specs.Table as tables
-use Rattle.rules.specs.Table.{Plans}
+use Rattle.rules.specs.Table.{TypingRules}
 use Rattle.rules.specs.After.{with_stack, after}
 use Rattle.rules.specs.Rules.{constructs_own, conditions}
 use Rattle.rules.specs.Protected.{member_conditions}
@@ -61,7 +62,8 @@ caught_frame e f = with_stack f (to_reference e.caught ∷ [])
 
 -- ---- the exception table (4.7.3, 4.10.1.6)
 
-pub record IsSoundEntry (classes : List ClassFact) (m : Method Act) (frames : Frames) (e : ExceptionEntry) : Type 0 where
+pub record IsSoundEntry (classes : List ClassFact) (m : Method Act) (frames : Frames)
+    (e : ExceptionEntry) : Type 0 where
   pub some : e.from < e.to
   pub from_start : IsStart m.code e.from
   pub to_start : IsStart m.code e.to ⊎ (e.to ≡ m.code_length)
@@ -71,22 +73,29 @@ pub record IsSoundEntry (classes : List ClassFact) (m : Method Act) (frames : Fr
 
 -- ---- an instruction in the frame before it
 
-pub record IsTypeSafeAt (classes : List ClassFact) (m : Method Act) (frames : Frames) (table : ℕ → FrameFact) (at : ℕ) (act : Act) (p : Plan) : Type 0 where
+pub record IsTypeSafeAt (classes : List ClassFact) (m : Method Act) (frames : Frames) (table : ℕ → FrameFact) (at : ℕ)
+    (act : Act) (p : TypingRule) : Type 0 where
   pub rule : NoneHolds (conditions classes m at p (table at))
-  -- a member that is protected, of another package and of a class above the current one, is used on objects of the current class (4.10.1.8)
+  -- a member that is protected, of another package and of a class above the current one, is used on objects of the
+  -- current class (4.10.1.8)
   pub protected : NoneHolds (member_conditions classes m act (table at))
-  pub leads : (target : ℤ) → IsAmong target (targets at p) → LeadsToTarget classes frames (after m at p (table at)) target
-  pub next : falls p ≡ true → (to : ℕ) × (next_offset m.code at ≡ Some to) × Comes classes frames table (after m at p (table at)) to
+  pub leads : (target : ℤ) → IsAmong target (targets at p)
+      → LeadsToTarget classes frames (after m at p (table at)) target
+  pub next : falls p ≡ true → (to : ℕ) × (next_offset m.code at ≡ Some to)
+      × Comes classes frames table (after m at p (table at)) to
   -- behind an instruction that does not fall through a frame is declared
-  pub alone : falls p ≡ false → (to : ℕ) → next_offset m.code at ≡ Some to → (f : FrameFact) × (at_offset frames to ≡ Some f)
-  pub handled : (e : ExceptionEntry) → IsAmong e m.exceptions → covers e at ≡ true → LeadsTo classes frames (caught_frame e (table at)) e.handler
+  pub alone : falls p ≡ false → (to : ℕ) → next_offset m.code at ≡ Some to → (f : FrameFact)
+      × (at_offset frames to ≡ Some f)
+  pub handled : (e : ExceptionEntry) → IsAmong e m.exceptions → covers e at ≡ true
+      → LeadsTo classes frames (caught_frame e (table at)) e.handler
   -- no entry covers an `<init>` on the own object that is not initialized (this product's own rule)
-  pub uncovered : constructs_own p (table at) ≡ true → (e : ExceptionEntry) → IsAmong e m.exceptions → covers e at ≡ false
+  pub uncovered : constructs_own p (table at) ≡ true → (e : ExceptionEntry) → IsAmong e m.exceptions
+      → covers e at ≡ false
 
 -- ---- a method
 
--- by these plans
-pub record IsTypeSafeBy (plan : Plans) (classes : List ClassFact) (m : Method Act) : Type 0 where
+-- by these typing rules
+pub record IsTypeSafeBy (typing_rule : TypingRules) (classes : List ClassFact) (m : Method Act) : Type 0 where
   -- code is not empty, and begins at 0 (4.7.3)
   pub begins : IsStart m.code 0
   pub enough : length (in_locals (initial_types m)) ≤ m.max_locals
@@ -97,7 +106,8 @@ pub record IsTypeSafeBy (plan : Plans) (classes : List ClassFact) (m : Method Ac
   pub table : ℕ → FrameFact
   pub first : Comes classes frames table (initial_frame m) 0
   pub at_declared : (at : ℕ) (f : FrameFact) → at_offset frames at ≡ Some f → table at ≡ f
-  pub each : (at : ℕ) (act : Act) → at_offset m.code at ≡ Some act → IsTypeSafeAt classes m frames table at act (plan m act)
+  pub each : (at : ℕ) (act : Act) → at_offset m.code at ≡ Some act
+      → IsTypeSafeAt classes m frames table at act (typing_rule m act)
 
 abbrev pub IsTypeSafe : List ClassFact → Method Act → Type 0
-IsTypeSafe = IsTypeSafeBy tables.plan
+IsTypeSafe = IsTypeSafeBy tables.typing_rule

@@ -21,8 +21,8 @@ use Rattle.frames.specs.Conditions.{Reason, reason, with_fault, number_of, Condi
 use Rattle.frames.specs.StackMaps.{MapEntry, stack_map}
 use Rattle.frames.specs.DeclaredFrames.{declared_frames}
 use Rattle.rules.specs.ReasonNumbers.{local_out_of_range, no_frame_at_target, not_assignable_at_target, not_assignable, no_frame, falls_off, bad_exception, handler_not_assignable, constructor_covered, bad_stack_map}
-use Rattle.rules.specs.Plans.{Plan, falls, targets}
-use Rattle.rules.specs.Table.{Plans}
+use Rattle.rules.specs.TypingRules.{TypingRule, falls, targets}
+use Rattle.rules.specs.Table.{TypingRules}
 use Rattle.rules.specs.After.{after}
 use Rattle.rules.specs.Rules.{constructs_own, conditions}
 use Rattle.rules.specs.Protected.{member_conditions}
@@ -77,7 +77,8 @@ or_undeclared (Ok frames) = Ok frames
 or_undeclared (Err why) = Err (undeclared why)
 
 abbrev pub frames_of : Method Act → Result (List MapEntry) ReadFault → Result Frames MapRefusal
-frames_of m (Ok entries) = or_undeclared (declared_frames m.constant_pool m.code m.max_locals m.max_stack (initial_types m) entries)
+frames_of m (Ok entries) = or_undeclared
+    (declared_frames m.constant_pool m.code m.max_locals m.max_stack (initial_types m) entries)
 frames_of m (Err fault) = Err (unreadable fault)
 
 abbrev pub frames_declared : Method Act → Result Frames MapRefusal
@@ -101,7 +102,8 @@ table_conditions classes m frames e =
 -- the first entry that is refused says why
 abbrev pub table_judged : List ClassFact → Method Act → Frames → List ExceptionEntry → Verdict → Verdict
 table_judged classes m frames [] rest = rest
-table_judged classes m frames (e ∷ es) rest = refused_or (least (table_conditions classes m frames e)) 0 (table_judged classes m frames es rest)
+table_judged classes m frames (e ∷ es) rest =
+    refused_or (least (table_conditions classes m frames e)) 0 (table_judged classes m frames es rest)
 
 -- ---- what is asked of an instruction in the frame before it, the frame at the next start aside (4.10.1.6)
 
@@ -135,17 +137,22 @@ abbrev pub is_covered : List ExceptionEntry → ℕ → Bool
 is_covered [] at = false
 is_covered (e ∷ es) at = covers e at || is_covered es at
 
--- what is asked of the frame before besides the rule's plan: of the object on which a protected member is used, and of the handlers
+-- what is asked of the frame before besides the typing rule: of the object on which a protected member is used, and of
+-- the handlers
 abbrev pub before_conditions : List ClassFact → Method Act → Frames → ℕ → Act → FrameFact → Conditions
-before_conditions classes m frames at act f = member_conditions classes m act f ++ handler_conditions classes frames at f m.exceptions
+before_conditions classes m frames at act f =
+    member_conditions classes m act f ++ handler_conditions classes frames at f m.exceptions
 
--- by its act and its plan, with the next start if there is one. No act both branches and uses a member of an object.
-abbrev pub at_conditions : List ClassFact → Method Act → Frames → ℕ → Act → Plan → Option ℕ → FrameFact → Conditions
+-- by its act and its typing rule, with the next start if there is one. No act both branches and uses a member of an
+-- object.
+abbrev pub at_conditions : List ClassFact → Method Act → Frames → ℕ → Act → TypingRule → Option ℕ → FrameFact
+    → Conditions
 at_conditions classes m frames at act p next f =
     conditions classes m at p f
     ++ (target_conditions classes frames (after m at p f) (targets at p)
     ++ (before_conditions classes m frames at act f
-    ++ ((reason falls_off, falls p && is_none next) ∷ (reason constructor_covered, constructs_own p f && is_covered m.exceptions at) ∷ [])))
+    ++ ((reason falls_off, falls p && is_none next)
+    ∷ (reason constructor_covered, constructs_own p f && is_covered m.exceptions at) ∷ [])))
 
 -- ---- the frame that comes to a start, where the instruction in front falls through, and the one that goes on
 
@@ -168,22 +175,25 @@ arrives classes frames (c ∷ cs) falls f goes_on =
     refused_or (entry classes falls f (at_offset frames c.0)) c.0 (goes_on (entered f (at_offset frames c.0)))
 
 -- from this instruction on, the frame before it being this one
-abbrev pub passes : Plans → List ClassFact → Method Act → Frames → List (ℕ × Act) → FrameFact → Verdict
-passes plan classes m frames [] f = verified
-passes plan classes m frames (c ∷ cs) f =
-    refused_or (least (at_conditions classes m frames c.0 c.1 (plan m c.1) (first_offset cs) f)) c.0
-    (arrives classes frames cs (falls (plan m c.1)) (after m c.0 (plan m c.1) f) (passes plan classes m frames cs))
+abbrev pub passes : TypingRules → List ClassFact → Method Act → Frames → List (ℕ × Act) → FrameFact → Verdict
+passes typing_rule classes m frames [] f = verified
+passes typing_rule classes m frames (c ∷ cs) f =
+    refused_or (least (at_conditions classes m frames c.0 c.1 (typing_rule m c.1) (first_offset cs) f)) c.0
+    (arrives classes frames cs (falls (typing_rule m c.1)) (after m c.0 (typing_rule m c.1) f)
+    (passes typing_rule classes m frames cs))
 
-abbrev pub code_judged : Plans → List ClassFact → Method Act → Frames → Verdict
-code_judged plan classes m frames = arrives classes frames m.code true (initial_frame m) (passes plan classes m frames m.code)
+abbrev pub code_judged : TypingRules → List ClassFact → Method Act → Frames → Verdict
+code_judged typing_rule classes m frames =
+    arrives classes frames m.code true (initial_frame m) (passes typing_rule classes m frames m.code)
 
 -- ---- the method
 
-abbrev pub with_frames : Plans → List ClassFact → Method Act → Result Frames MapRefusal → Verdict
-with_frames plan classes m (Ok frames) = table_judged classes m frames m.exceptions (code_judged plan classes m frames)
-with_frames plan classes m (Err why) = map_refused why
+abbrev pub with_frames : TypingRules → List ClassFact → Method Act → Result Frames MapRefusal → Verdict
+with_frames typing_rule classes m (Ok frames) =
+    table_judged classes m frames m.exceptions (code_judged typing_rule classes m frames)
+with_frames typing_rule classes m (Err why) = map_refused why
 
-abbrev pub verdict : Plans → List ClassFact → Method Act → Verdict
-verdict plan classes m =
+abbrev pub verdict : TypingRules → List ClassFact → Method Act → Verdict
+verdict typing_rule classes m =
     if nat_lt m.max_locals (length (in_locals (initial_types m))) then refused 0 (reason local_out_of_range)
-    else with_frames plan classes m (frames_declared m)
+    else with_frames typing_rule classes m (frames_declared m)

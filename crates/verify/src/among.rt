@@ -44,7 +44,8 @@ pub enum AmongFault<'a> {
 /// The fault of a known class of this number that is refused.
 fn known_refused<'a>(number: usize, fault: FileFault) -> AmongFault<'a>
     ensures { (known : List Read) (read : Read) (i : ℕ) (old new : List ClassFact)
-        → number ≡ i + 1 → OrMemory read fault → (IsRefused read fault → IsFirstRefused known i fault) → Adds known old new (Err result) }
+        → number ≡ i + 1 → OrMemory read fault → (IsRefused read fault → IsFirstRefused known i fault)
+        → Adds known old new (Err result) }
 {
     match fault {
         FileFault::OutOfMemory => AmongFault::OutOfMemory,
@@ -54,7 +55,8 @@ fn known_refused<'a>(number: usize, fault: FileFault) -> AmongFault<'a>
     }
 }
 
-/// Puts the summaries of the classes that these files are behind those that are there; or tells the first file that is refused.
+/// Puts the summaries of the classes that these files are behind those that are there; or tells the first file that is
+/// refused.
 fn add_known<'a>(
     alloc: Global,
     known: &[FileRead<'a>],
@@ -71,8 +73,8 @@ fn add_known<'a>(
     Ok(())
 }
 
-/// The verdicts on the methods of the class whose summary is the first of these, and where they are asked for the frames; or why they are no
-/// hierarchy; or 81.
+/// The verdicts on the methods of the class whose summary is the first of these, and where they are asked for the
+/// frames; or why they are no hierarchy; or 81.
 fn explain_in<'a, S: BuildHasher + Drop>(
     alloc: Global,
     formed: &Formed<'_, 'a>,
@@ -97,8 +99,8 @@ fn explain_in<'a, S: BuildHasher + Drop>(
     }
 }
 
-/// The verdicts on the methods of a class that is well formed, and where they are asked for the frames, among the classes that the known files
-/// are.
+/// The verdicts on the methods of a class that is well formed, and where they are asked for the frames, among the
+/// classes that the known files are.
 fn explain_formed<'a, S: BuildHasher + Drop>(
     alloc: Global,
     formed: &Formed<'_, 'a>,
@@ -114,13 +116,13 @@ fn explain_formed<'a, S: BuildHasher + Drop>(
     explain_in(alloc, formed, &summaries, framed, hasher)
 }
 
-/// The verdicts on the methods of a class, in the order of the file (JVMS 4.10.1), under the hierarchy of this class and the known ones.
-/// Each file was read so; a class that was not read is refused as one that is no class.
+/// The verdicts on the methods of a class, in the order of the file (JVMS 4.10.1), under the hierarchy of this class
+/// and the known ones. Each file was read so; a class that was not read is refused as one that is no class.
 ///
 /// Refused is, by the first of these that holds: the class, for what its reading, [`decode`](classfile::decode) or
 /// [`form_check`](classfile::form_check) refuses; the first of the known ones that is refused for the same; what
-/// [`Rows::new`] refuses of their summaries, the class's own first (40 to 46); 81, where the superclass of the class is final. 1 where
-/// memory ran out.
+/// [`Rows::new`] refuses of their summaries, the class's own first (40 to 46); 81, where the superclass of the class is
+/// final. 1 where memory ran out.
 pub fn verify_among<'a, S: BuildHasher + Drop>(
     alloc: Global,
     class: FileRead<'a>,
@@ -169,10 +171,11 @@ pub fn verify_among_under<'a, S: BuildHasher + Drop>(
     }
 }
 
-/// The verdicts on the methods of a class, by a profile, as [`verify_among_under`] gives them, and of each method that is refused the frames at the
-/// instruction at which it is (JVMS 4.10.1.6): the one that comes to it, and the one that is declared there. No frame where the refusal is at no
-/// instruction: where the receiver and the parameters do not fit, where the stack map is refused, or where the bytes are no code. The code of
-/// each such method is walked over once more.
+/// The verdicts on the methods of a class, by a profile, as [`verify_among_under`] gives them, and of each method that
+/// is refused the frames at the instruction at which it is (JVMS 4.10.1.6): the one that comes to it, and the one that
+/// is declared there. No frame where the refusal is at no instruction: where the receiver and the parameters do not
+/// fit, where the stack map is refused, or where the bytes are no code. The code of each such method is walked over
+/// once more.
 pub fn explain_among_under<'a, S: BuildHasher + Drop>(
     alloc: Global,
     profile: Profile,
@@ -187,7 +190,8 @@ pub fn explain_among_under<'a, S: BuildHasher + Drop>(
 
 /// The fault of the class itself where it is refused.
 fn refused<'a>(fault: FileFault) -> AmongFault<'a>
-    ensures { (framed : Bool) (profile : ProfileFact) (read : Read) (known : List Read) → OrMemory read fault → AnswersAmong (IsExplained framed) profile read known (Err result) }
+    ensures { (framed : Bool) (profile : ProfileFact) (read : Read) (known : List Read) → OrMemory read fault
+        → AnswersAmong (IsExplained framed) profile read known (Err result) }
 {
     match fault {
         FileFault::OutOfMemory => AmongFault::OutOfMemory,

@@ -41,7 +41,8 @@ fn declared_at<'n, 'a>(
     frames: &'n DeclaredFrames<'a>,
     target: i64,
 ) -> Option<(usize, Declared<'n, 'a>)>
-    ensures frame { MatchOption result (declared_at (frames_in frames.now) target ≡ None) (λ x. IsPlace (frames_in frames.now) target x.0 (declared_view x.1)) }
+    ensures frame { MatchOption result (declared_at (frames_in frames.now) target ≡ None)
+        (λ x. IsPlace (frames_in frames.now) target x.0 (declared_view x.1)) }
     ensures locals { IfSome result (λ x. length (declared_view x.1).locals ≡ locals_in frames.now) }
     ensures own { IfSome result (λ x. IsOf frames.now x.1) }
 {
@@ -53,8 +54,8 @@ fn declared_at<'n, 'a>(
     Some((place, declared))
 }
 
-/// The frame after an instruction comes to a target: 67 where none is declared there, 68 and 77 by their comparison. A frame that was
-/// compared before is not compared again.
+/// The frame after an instruction comes to a target: 67 where none is declared there, 68 and 77 by their comparison. A
+/// frame that was compared before is not compared again.
 fn check_target<'n, 'a, C: Classes>(
     target: i64,
     frame: &Working<'a>,
@@ -66,7 +67,8 @@ fn check_target<'n, 'a, C: Classes>(
     requires size { length (held frame.now).locals ≡ locals_in frames.now }
     requires known { IsKnown (C.content classes.now) frames.now (held frame.now) known.old }
     ensures known { IsKnown (C.content classes.now) frames.now (held frame.now) known.new }
-    ensures compared { Compares (C.content classes.now) (frames_in frames.now) (held frame.now) target seen.old seen.new result }
+    ensures compared { Compares (C.content classes.now) (frames_in frames.now)
+        (held frame.now) target seen.old seen.new result }
 {
     let Some((place, declared)) = declared_at(frames, target) else {
         return Some(Err(Reason::NoFrameAtTarget));
@@ -90,7 +92,8 @@ fn check_all<'n, 'a, C: Classes>(
     requires size { length (held frame.now).locals ≡ locals_in frames.now }
     requires known { IsKnown (C.content classes.now) frames.now (held frame.now) known.old }
     ensures known { IsKnown (C.content classes.now) frames.now (held frame.now) known.new }
-    ensures judged { Judges (target_conditions (C.content classes.now) (frames_in frames.now) (held frame.now) (targets_of targets.entry)) result }
+    ensures judged { Judges (target_conditions (C.content classes.now) (frames_in frames.now) (held frame.now)
+        (targets_of targets.entry)) result }
 {
     seen.clear();
     let mut so_far = Ok(());
@@ -102,8 +105,8 @@ fn check_all<'n, 'a, C: Classes>(
     so_far
 }
 
-/// The frame after an instruction at this offset comes to all its targets, the default of a switch first. Equal targets are compared
-/// once.
+/// The frame after an instruction at this offset comes to all its targets, the default of a switch first. Equal targets
+/// are compared once.
 pub fn check_targets<'n, 'a, C: Classes>(
     at: u16,
     branches: Branches<'a>,
@@ -116,7 +119,8 @@ pub fn check_targets<'n, 'a, C: Classes>(
     requires size { length (held frame.now).locals ≡ locals_in frames.now }
     requires known { IsKnown (C.content classes.now) frames.now (held frame.now) known.old }
     ensures known { IsKnown (C.content classes.now) frames.now (held frame.now) known.new }
-    ensures judged { Judges (target_conditions (C.content classes.now) (frames_in frames.now) (held frame.now) (led_to at (branches_view branches.entry))) result }
+    ensures judged { Judges (target_conditions (C.content classes.now) (frames_in frames.now) (held frame.now)
+        (led_to at (branches_view branches.entry))) result }
 {
     if let Branches::Nowhere = branches {
         return Ok(());

@@ -24,7 +24,8 @@ use std::alloc::AllocError;
 
 /// A stack with what is caught alone on it, to a stack from the bottom up.
 fn stack_answer<'a, C: Classes>(caught: RefType<'a>, stack: &[VType<'a>], classes: &C) -> Answer<'a>
-    ensures { outcome_of result ≡ stack_answer (item_answer (C.content classes.now)) (to_reference (reference_view caught.entry) ∷ []) (reverse (map type_of stack.now)) }
+    ensures { outcome_of result ≡ stack_answer (item_answer (C.content classes.now))
+        (to_reference (reference_view caught.entry) ∷ []) (reverse (map type_of stack.now)) }
 {
     match stack {
         [item] => {
@@ -48,7 +49,9 @@ fn declared_answer<'n, 'a, C: Classes>(
     requires size { length (declared_view declared.now).locals ≡ length (held frame.now).locals }
     requires own { IsOf frames.now declared.now }
     requires known { AreKnown (C.content classes.now) frames.now (held frame.now) known.old }
-    ensures told { outcome_of result ≡ list_answer (type_answer (C.content classes.now)) (held frame.now).locals (declared_view declared.now).locals }
+    ensures told { outcome_of result
+        ≡ list_answer (type_answer (C.content classes.now)) (held frame.now).locals
+        (declared_view declared.now).locals }
     ensures known { AreKnown (C.content classes.now) frames.now (held frame.now) known.new }
 {
     if known.fits(declared, frames, frame, classes) {
@@ -70,7 +73,9 @@ fn frame_answer<'n, 'a, C: Classes>(
     requires size { length (declared_view declared.now).locals ≡ length (held frame.now).locals }
     requires own { IsOf frames.now declared.now }
     requires known { AreKnown (C.content classes.now) frames.now (held frame.now) known.old }
-    ensures told { IfOk result (λ a. outcome_of a ≡ frame_answer (C.content classes.now) (with_stack (held frame.now) (to_reference (reference_view caught.entry) ∷ [])) (declared_view declared.now)) }
+    ensures told { IfOk result (λ a. outcome_of a
+        ≡ frame_answer (C.content classes.now)
+        (with_stack (held frame.now) (to_reference (reference_view caught.entry) ∷ [])) (declared_view declared.now)) }
     ensures known { AreKnown (C.content classes.now) frames.now (held frame.now) known.new }
 {
     if frame.flag() && !declared.flag() {
@@ -85,7 +90,8 @@ fn frame_answer<'n, 'a, C: Classes>(
     Ok(both(locals, stack))
 }
 
-/// The frame with what an entry catches alone on its stack, to that of the handler. In `room` the stack of the handler's frame is written.
+/// The frame with what an entry catches alone on its stack, to that of the handler. In `room` the stack of the
+/// handler's frame is written.
 pub fn caught_answer<'n, 'a, C: Classes>(
     entry: &Entry<'a>,
     frame: &Working<'a>,
@@ -96,7 +102,8 @@ pub fn caught_answer<'n, 'a, C: Classes>(
 ) -> Result<Answer<'a>, AllocError>
     requires size { length (held frame.now).locals ≡ locals_in frames.now }
     requires known { AreKnown (C.content classes.now) frames.now (held frame.now) known.old }
-    ensures told { IfOk result (λ a. outcome_of a ≡ caught_answer (C.content classes.now) (frames_in frames.now) (held frame.now) (entry_view entry.now)) }
+    ensures told { IfOk result (λ a. outcome_of a
+        ≡ caught_answer (C.content classes.now) (frames_in frames.now) (held frame.now) (entry_view entry.now)) }
     ensures known { AreKnown (C.content classes.now) frames.now (held frame.now) known.new }
 {
     match frames.find(u32::from(entry.handler)) {
@@ -114,7 +121,8 @@ pub fn takes<'a, C: Classes>(
     vtype: &VType<'a>,
     classes: &C,
 ) -> bool
-    ensures { result ≡ true → type_answer (C.content classes.now) (type_of vtype.now) (get_or (declared_view declared.now).locals local top) ≡ yes }
+    ensures { result ≡ true → type_answer (C.content classes.now) (type_of vtype.now)
+        (get_or (declared_view declared.now).locals local top) ≡ yes }
 {
     let wanted = declared.local(usize::from(local));
     matches!(assignable(vtype, &wanted, classes), Answer::Yes)

@@ -18,7 +18,7 @@ ghost use Rattle.frames.specs.MarkedCode.{code_in};
 ghost use Rattle.rules.specs.Bodies.{method_view};
 ghost use Rattle.rules.specs.Held.{held};
 ghost use Rattle.rules.specs.declared.reason.Reason.TheVariants as reasons;
-ghost use Rattle.rules.specs.Table.{plan};
+ghost use Rattle.rules.specs.Table.{typing_rule};
 ghost use Rattle.verify.specs.declared.verdict.VerifyFault.TheVariants.{OutOfMemory};
 ghost use Rattle.verify.specs.Verdict.{frames_declared};
 ghost use Rattle.verify.specs.Coming.{no_frames, difference_if, frames_with, before, frame_if, going, met, frames_at, frames_view, frame_size, frames_size, AreFramesOf};
@@ -36,15 +36,15 @@ use names::FieldType;
 use rules::{ClassConstants, Reason, Working, goes_on, run};
 use std::alloc::{AllocError, Global};
 
-/// Frames are told of a method where those of the methods in front of it have fewer types than this, so that all of them take memory that is
-/// linear in the class.
+/// Frames are told of a method where those of the methods in front of it have fewer types than this, so that all of
+/// them take memory that is linear in the class.
 pub const MOST_KEPT: usize = 65_536;
 
 /// The frames at an instruction of a method (JVMS 4.10.1.6).
 #[derive(Debug, Drop)]
 pub struct FramesAt<'a> {
-    /// The frame that comes to it: the one after the instruction in front, or the one with which the method begins. None where the
-    /// instruction in front never goes on, or is refused by its rule.
+    /// The frame that comes to it: the one after the instruction in front, or the one with which the method begins.
+    /// None where the instruction in front never goes on, or is refused by its rule.
     pub coming: Option<Frame<'a>>,
     /// The frame that the stack map declares there, if it declares one.
     pub declared: Option<Frame<'a>>,
@@ -120,8 +120,8 @@ fn stopped(reason: Reason<'_>) -> Result<bool, VerifyFault>
     }
 }
 
-/// Runs an instruction that means this by its rule, on the frame before it, which becomes the frame after; whether that goes on. Nothing is
-/// said of the frame where it does not.
+/// Runs an instruction that means this by its rule, on the frame before it, which becomes the frame after; whether that
+/// goes on. Nothing is said of the frame where it does not.
 fn go_on<'a, C: Classes>(
     body: &Body<'_, 'a, C>,
     at: u16,
@@ -129,12 +129,16 @@ fn go_on<'a, C: Classes>(
     constants: &mut ClassConstants<'_, '_, 'a, C>,
     frame: &mut Working<'a>,
 ) -> Result<bool, VerifyFault>
-    requires constants { constants.old.members ≡ record { class = body.now.method.now.class.now; classes = C.content body.now.classes.now } }
+    requires constants { constants.old.members
+        ≡ record { class = body.now.method.now.class.now; classes = C.content body.now.classes.now } }
     requires locals { length (held frame.old).locals ≡ body.now.method.now.code.now.max_locals }
     ensures same { constants.new.members ≡ constants.old.members }
     ensures goes { let m = method_view body.now.method.now in
-        IfOk result (λ goes. frame_if goes (held frame.new) ≡ going (C.content body.now.classes.now) m at (plan m (act_view act.entry)) (Some (held frame.old))) }
-    ensures locals { IfOk result (λ goes. goes ≡ true → length (held frame.new).locals ≡ body.now.method.now.code.now.max_locals) }
+        IfOk result (λ goes. frame_if goes (held frame.new)
+        ≡ going (C.content body.now.classes.now) m at (typing_rule m (act_view act.entry))
+        (Some (held frame.old))) }
+    ensures locals { IfOk result (λ goes. goes ≡ true
+        → length (held frame.new).locals ≡ body.now.method.now.code.now.max_locals) }
     ensures memory { IfErr result (λ e. e ≡ OutOfMemory) }
 {
     let goes = goes_on(&act);
@@ -153,8 +157,8 @@ fn go_on<'a, C: Classes>(
     }
 }
 
-/// Goes from an instruction to the next: the frame that is declared there, or otherwise the one that comes, becomes the one after; whether
-/// that goes on.
+/// Goes from an instruction to the next: the frame that is declared there, or otherwise the one that comes, becomes the
+/// one after; whether that goes on.
 fn step<'a, C: Classes>(
     body: &Body<'_, 'a, C>,
     at: u16,
@@ -164,13 +168,18 @@ fn step<'a, C: Classes>(
     constants: &mut ClassConstants<'_, '_, 'a, C>,
     frame: &mut Working<'a>,
 ) -> Result<bool, VerifyFault>
-    requires constants { constants.old.members ≡ record { class = body.now.method.now.class.now; classes = C.content body.now.classes.now } }
-    requires declared { IfSome declared (λ d. length (declared_view d).locals ≡ body.now.method.now.code.now.max_locals) }
+    requires constants { constants.old.members
+        ≡ record { class = body.now.method.now.class.now; classes = C.content body.now.classes.now } }
+    requires declared { IfSome declared
+        (λ d. length (declared_view d).locals ≡ body.now.method.now.code.now.max_locals) }
     requires locals { comes ≡ true → length (held frame.old).locals ≡ body.now.method.now.code.now.max_locals }
     ensures same { constants.new.members ≡ constants.old.members }
     ensures goes { let m = method_view body.now.method.now in let coming = frame_if comes (held frame.old) in
-        IfOk result (λ goes. frame_if goes (held frame.new) ≡ going (C.content body.now.classes.now) m at (plan m (act_view act.entry)) (before coming (option_map declared_view declared.entry))) }
-    ensures locals { IfOk result (λ goes. goes ≡ true → length (held frame.new).locals ≡ body.now.method.now.code.now.max_locals) }
+        IfOk result (λ goes. frame_if goes (held frame.new)
+        ≡ going (C.content body.now.classes.now) m at (typing_rule m (act_view act.entry))
+        (before coming (option_map declared_view declared.entry))) }
+    ensures locals { IfOk result (λ goes. goes ≡ true
+        → length (held frame.new).locals ≡ body.now.method.now.code.now.max_locals) }
     ensures memory { IfErr result (λ e. e ≡ OutOfMemory) }
 {
     match declared {
@@ -226,7 +235,9 @@ fn meet<'a, C: Classes>(
     classes: &C,
 ) -> Result<FramesAt<'a>, AllocError>
     requires { IfSome declared (λ d. length (declared_view d).locals ≡ max_locals) }
-    ensures { IfOk result (λ x. frames_view x ≡ frames_with (C.content classes.now) (frame_if comes (held frame.entry)) (option_map declared_view declared.entry)) }
+    ensures { IfOk result (λ x. frames_view x
+        ≡ frames_with (C.content classes.now) (frame_if comes (held frame.entry))
+        (option_map declared_view declared.entry)) }
 {
     let coming = if comes {
         Some(frame.into_frame()?)
@@ -245,22 +256,26 @@ fn meet<'a, C: Classes>(
     })
 }
 
-/// The frames at an offset of code, by one walk over it with the frame with which the method begins. No instruction is run in front of the
-/// last frame that is declared in front of the offset, since what comes to that one does not matter.
+/// The frames at an offset of code, by one walk over it with the frame with which the method begins. No instruction is
+/// run in front of the last frame that is declared in front of the offset, since what comes to that one does not
+/// matter.
 fn walk<'a, C: Classes>(
     body: &Body<'_, 'a, C>,
     constants: &mut ClassConstants<'_, '_, 'a, C>,
     first: Working<'a>,
     at: usize,
 ) -> Result<FramesAt<'a>, VerifyFault>
-    requires constants { constants.old.members ≡ record { class = body.now.method.now.class.now; classes = C.content body.now.classes.now } }
+    requires constants { constants.old.members
+        ≡ record { class = body.now.method.now.class.now; classes = C.content body.now.classes.now } }
     requires locals { length (held first).locals ≡ body.now.method.now.code.now.max_locals }
     requires frames { frames_declared (method_view body.now.method.now) ≡ Ok (frames_in body.now.frames.now) }
     requires spelled { (xs : List (ℕ × Instruction)) × SpellsCode 0 body.now.method.now.code.now.code.now xs }
     requires few { length body.now.method.now.code.now.code.now ≤ MAX_CODE_BYTES }
     ensures same { constants.new.members ≡ constants.old.members }
     ensures found { let m = method_view body.now.method.now in
-        IfOk result (λ x. frames_view x ≡ met plan (C.content body.now.classes.now) m (frames_in body.now.frames.now) m.code (Some (held first.entry)) at) }
+        IfOk result (λ x. frames_view x
+        ≡ met typing_rule (C.content body.now.classes.now) m (frames_in body.now.frames.now) m.code
+        (Some (held first.entry)) at) }
     ensures memory { IfErr result (λ e. e ≡ OutOfMemory) }
 {
     let max_locals = body.method.code.max_locals;
@@ -293,13 +308,15 @@ fn frames_in_body<'a, C: Classes>(
     at: usize,
     classes: &C,
 ) -> Result<FramesAt<'a>, VerifyFault>
-    requires constants { constants.old.members ≡ record { class = method.now.class.now; classes = C.content classes.now } }
+    requires constants { constants.old.members
+        ≡ record { class = method.now.class.now; classes = C.content classes.now } }
     requires starts { code_in starts.now ≡ method.now.code.now.code.now }
     requires parameters { (method_view method.now).type.params ≡ map type_of parameters.now }
     requires spelled { (xs : List (ℕ × Instruction)) × SpellsCode 0 method.now.code.now.code.now xs }
     requires few { length method.now.code.now.code.now ≤ MAX_CODE_BYTES }
     ensures same { constants.new.members ≡ constants.old.members }
-    ensures found { IfOk result (λ x. frames_view x ≡ frames_at plan (C.content classes.now) (method_view method.now) at) }
+    ensures found { IfOk result (λ x. frames_view x
+        ≡ frames_at typing_rule (C.content classes.now) (method_view method.now) at) }
     ensures memory { IfErr result (λ e. e ≡ OutOfMemory) }
 {
     let max_locals = method.code.max_locals;
@@ -334,8 +351,9 @@ fn without_code<'a>(fault: CodeFault) -> Result<FramesAt<'a>, VerifyFault>
     }
 }
 
-/// The frames at an offset of a method with code (JVMS 4.10.1.6); none where its bytes are no instructions, where its receiver and its
-/// parameters do not fit into max_locals, where its stack map is refused, or where no instruction begins at the offset.
+/// The frames at an offset of a method with code (JVMS 4.10.1.6); none where its bytes are no instructions, where its
+/// receiver and its parameters do not fit into max_locals, where its stack map is refused, or where no instruction
+/// begins at the offset.
 pub fn frames_of<'a, C: Classes>(
     alloc: Global,
     method: CodeMethod<'_, 'a>,
@@ -347,7 +365,8 @@ pub fn frames_of<'a, C: Classes>(
     requires formed { WellFormed (class_view method.class.now) }
     requires coded { code_at (class_view method.class.now) method.number ≡ Some (code_view method.code.now) }
     ensures same { constants.new.members ≡ constants.old.members }
-    ensures found { IfOk result (λ x. AreFramesOf (C.content classes.now) (class_of method.entry) method.entry.number at (frames_view x)) }
+    ensures found { IfOk result (λ x. AreFramesOf (C.content classes.now) (class_of method.entry) method.entry.number at
+        (frames_view x)) }
     ensures memory { IfErr result (λ e. e ≡ OutOfMemory) }
 {
     let starts = match CodeStarts::new(alloc, method.code.code) {

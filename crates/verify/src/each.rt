@@ -66,7 +66,8 @@ impl<'a, T: Drop> From<AllocFailed<T>> for EachFault<'a> {
 
 /// The answer about a file that is refused.
 fn refused<'a>(fault: FileFault) -> Result<Judgement<'a>, EachFault<'a>>
-    ensures judged { (profile : ProfileFact) (classes : List ClassFact) (read : Read) → OrMemory read fault → IfOk result (IsJudged profile classes read) }
+    ensures judged { (profile : ProfileFact) (classes : List ClassFact) (read : Read) → OrMemory read fault
+        → IfOk result (IsJudged profile classes read) }
     ensures memory { IfErr result (λ e. e ≡ OutOfMemory) }
 {
     match fault {
@@ -122,8 +123,8 @@ fn judge_all<'a, C: Classes>(
     Ok(judgements)
 }
 
-/// The answers about these files by a profile, in the hierarchy that classes are. What the classes of these names inherit is found
-/// before.
+/// The answers about these files by a profile, in the hierarchy that classes are. What the classes of these names
+/// inherit is found before.
 fn judge_among<'a, S: BuildHasher + Drop>(
     alloc: Global,
     profile: Profile,
@@ -132,7 +133,8 @@ fn judge_among<'a, S: BuildHasher + Drop>(
     classes: &[Summary<'a>],
     hasher: S,
 ) -> Result<Vec<Judgement<'a>>, EachFault<'a>>
-    ensures { MatchResult result (λ js. IsHierarchy (facts_of classes.now) × AreJudged profile (facts_of classes.now) (map read_of files.now) js.items) (IsNone (facts_of classes.now)) }
+    ensures { MatchResult result (λ js. IsHierarchy (facts_of classes.now)
+        × AreJudged profile (facts_of classes.now) (map read_of files.now) js.items) (IsNone (facts_of classes.now)) }
 {
     let rows = match Rows::new(alloc, classes, hasher) {
         Ok(rows) => rows,
@@ -148,10 +150,11 @@ fn names_of<'a>(alloc: Global, classes: &[Summary<'a>]) -> Result<Vec<&'a [u8]>,
     classes.iter().map(|class| class.name).collect(alloc)
 }
 
-/// The answers about these files by a profile, in their order: of each the verdicts on the methods of its class (JVMS 4.10.1), or why there
-/// are none. The hierarchy is made once. It has the classes that all files are, these and the known ones; of those with one name the first. A file that is
-/// refused is left out, and so is each class that does not stand: it, or a class above it, breaks a rule of hierarchies (40 to 46), or has a
-/// superclass that is not there. Each file was read so.
+/// The answers about these files by a profile, in their order: of each the verdicts on the methods of its class (JVMS
+/// 4.10.1), or why there are none. The hierarchy is made once. It has the classes that all files are, these and the
+/// known ones; of those with one name the first. A file that is refused is left out, and so is each class that does not
+/// stand: it, or a class above it, breaks a rule of hierarchies (40 to 46), or has a superclass that is not there. Each
+/// file was read so.
 ///
 /// Refused is what [`Rows::new`] refuses of the classes that stand (43, 45). 1 where memory ran out.
 pub fn verify_each<'a, S: BuildHasher + Drop>(
@@ -161,7 +164,8 @@ pub fn verify_each<'a, S: BuildHasher + Drop>(
     known: &[FileRead<'a>],
     hasher: S,
 ) -> Result<Vec<Judgement<'a>>, EachFault<'a>>
-    ensures { MatchResult result (λ js. JudgesEach profile (map read_of files.now) (map read_of known.now) js.items) (JudgesNone (map read_of files.now) (map read_of known.now)) }
+    ensures { MatchResult result (λ js. JudgesEach profile (map read_of files.now) (map read_of known.now) js.items)
+        (JudgesNone (map read_of files.now) (map read_of known.now)) }
 {
     let mut gathered = Gathered::new(alloc);
     gathered.add_files(alloc, files)?;

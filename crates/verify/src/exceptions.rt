@@ -47,7 +47,8 @@ fn caught_type<'a>(pool: &Pool<'a>, index: u16) -> Option<RefType<'a>>
 
 /// The entry of an item of the table, with the type that it catches.
 fn entry_of<'a>(pool: &Pool<'a>, handler: &ExceptionHandler, place: usize) -> Option<Entry<'a>>
-    ensures { MatchOption result (caught_type pool.now handler.now.catch_type ≡ None) (IsEntry pool.now (handler_view handler.now) place) }
+    ensures { MatchOption result (caught_type pool.now handler.now.catch_type ≡ None)
+        (IsEntry pool.now (handler_view handler.now) place) }
 {
     let caught = caught_type(pool, handler.catch_type)?;
     Some(Entry {
@@ -65,7 +66,8 @@ fn table_entries<'a>(
     pool: &Pool<'a>,
     table: &[ExceptionHandler],
 ) -> Result<Option<Vec<Entry<'a>>>, AllocError>
-    ensures all { IfOk result (λ o. option_map (λ v. map entry_view v.items) o ≡ exception_entries pool.now (map handler_view table.now)) }
+    ensures all { IfOk result (λ o. option_map (λ v. map entry_view v.items) o
+        ≡ exception_entries pool.now (map handler_view table.now)) }
     ensures numbered { IfOk result (λ o. IfSome o (λ v. AreNumbered v.items)) }
 {
     let mut entries = Vec::with_capacity(alloc, table.len())?;
@@ -102,8 +104,8 @@ fn is_end(to: u16, method: &CodeMethod<'_, '_>, starts: &CodeStarts<'_>) -> bool
     starts.is_start(u32::from(to)) || usize::from(to) == method.code.code.len()
 }
 
-/// Whether the range and the handler of an entry stand where they may: the range is not empty and lies between starts of instructions, and a
-/// frame is declared at the handler, which is such a start.
+/// Whether the range and the handler of an entry stand where they may: the range is not empty and lies between starts
+/// of instructions, and a frame is declared at the handler, which is such a start.
 fn has_places(
     entry: &Entry<'_>,
     method: &CodeMethod<'_, '_>,
@@ -120,7 +122,8 @@ fn has_places(
         && frames.find(u32::from(entry.handler)).is_some()
 }
 
-/// 72 where an entry is wrong: by its places, or since what it catches is not assignable to Throwable; 77 by that comparison.
+/// 72 where an entry is wrong: by its places, or since what it catches is not assignable to Throwable; 77 by that
+/// comparison.
 fn check_entry<'a, C: Classes>(
     entry: &Entry<'a>,
     method: &CodeMethod<'_, 'a>,
@@ -129,7 +132,8 @@ fn check_entry<'a, C: Classes>(
     classes: &C,
 ) -> Result<(), Reason<'a>>
     requires { code_in starts.now ≡ method.now.code.now.code.now }
-    ensures { Judges (table_conditions (C.content classes.now) (method_view method.now) (frames_in frames.now) (entry_view entry.now)) result }
+    ensures { Judges (table_conditions (C.content classes.now) (method_view method.now) (frames_in frames.now)
+        (entry_view entry.now)) result }
 {
     if !has_places(entry, method, starts, frames) {
         return Err(Reason::BadException);
@@ -141,8 +145,8 @@ fn check_entry<'a, C: Classes>(
     )
 }
 
-/// Judges an exception table by the frames that are declared: the first entry that is wrong is refused 72, or 77 where the class that it
-/// catches has to be looked up and is absent.
+/// Judges an exception table by the frames that are declared: the first entry that is wrong is refused 72, or 77 where
+/// the class that it catches has to be looked up and is absent.
 pub fn check_table<'a, C: Classes>(
     entries: &[Entry<'a>],
     method: &CodeMethod<'_, 'a>,
@@ -151,7 +155,8 @@ pub fn check_table<'a, C: Classes>(
     classes: &C,
 ) -> Result<(), Reason<'a>>
     requires { code_in starts.now ≡ method.now.code.now.code.now }
-    ensures { JudgesTable (C.content classes.now) (method_view method.now) (frames_in frames.now) (map entry_view entries.now) result }
+    ensures { JudgesTable (C.content classes.now) (method_view method.now) (frames_in frames.now)
+        (map entry_view entries.now) result }
 {
     for entry in entries {
         if let Err(reason) = check_entry(entry, method, starts, frames, classes) {

@@ -22,8 +22,8 @@ use std::alloc::Global;
 pub struct Explained<'a> {
     /// The verdicts.
     pub report: Report<'a>,
-    /// The frames of each method, in the order of the file; no frame of a method that is not refused, and none of one behind frames of 65,536
-    /// types.
+    /// The frames of each method, in the order of the file; no frame of a method that is not refused, and none of one
+    /// behind frames of 65,536 types.
     pub frames: Vec<FramesAt<'a>>,
 }
 
@@ -36,10 +36,12 @@ fn frames_at<'a, C: Classes>(
     at: usize,
     classes: &C,
 ) -> Result<FramesAt<'a>, VerifyFault>
-    requires constants { constants.old.members ≡ record { class = formed.now.class.now; classes = C.content classes.now } }
+    requires constants { constants.old.members
+        ≡ record { class = formed.now.class.now; classes = C.content classes.now } }
     requires within { number < length formed.now.class.now.methods.items }
     ensures same { constants.new.members ≡ constants.old.members }
-    ensures found { IfOk result (λ x. AreFramesOf (C.content classes.now) (judged_class formed.now) number at (frames_view x)) }
+    ensures found { IfOk result (λ x. AreFramesOf (C.content classes.now) (judged_class formed.now) number at
+        (frames_view x)) }
     ensures memory { IfErr result (λ e. e ≡ OutOfMemory) }
 {
     formed.class();
@@ -59,10 +61,12 @@ fn frames_on<'a, C: Classes>(
     constants: &mut ClassConstants<'_, '_, 'a, C>,
     classes: &C,
 ) -> Result<FramesAt<'a>, VerifyFault>
-    requires constants { constants.old.members ≡ record { class = formed.now.class.now; classes = C.content classes.now } }
+    requires constants { constants.old.members
+        ≡ record { class = formed.now.class.now; classes = C.content classes.now } }
     requires within { number < length formed.now.class.now.methods.items }
     ensures same { constants.new.members ≡ constants.old.members }
-    ensures found { IfOk result (λ x. IsFramedIf told (C.content classes.now) (judged_class formed.now) number verdict.now (frames_view x)) }
+    ensures found { IfOk result (λ x. IsFramedIf told (C.content classes.now)
+        (judged_class formed.now) number verdict.now (frames_view x)) }
     ensures memory { IfErr result (λ e. e ≡ OutOfMemory) }
 {
     if !told {
@@ -74,8 +78,8 @@ fn frames_on<'a, C: Classes>(
     }
 }
 
-/// The frames of each method of a class, on which these are the verdicts, as long as those in front have fewer types than [`MOST_KEPT`]. One
-/// table of constants serves all of them.
+/// The frames of each method of a class, on which these are the verdicts, as long as those in front have fewer types
+/// than [`MOST_KEPT`]. One table of constants serves all of them.
 fn frames_of_all<'a, C: Classes>(
     alloc: Global,
     formed: &Formed<'_, 'a>,
@@ -83,7 +87,8 @@ fn frames_of_all<'a, C: Classes>(
     classes: &C,
 ) -> Result<Vec<FramesAt<'a>>, VerifyFault>
     requires { length verdicts.now ≤ length formed.now.class.now.methods.items }
-    ensures found { IfOk result (λ xs. AreFramed (C.content classes.now) (judged_class formed.now) verdicts.now xs.items) }
+    ensures found { IfOk result (λ xs. AreFramed (C.content classes.now)
+        (judged_class formed.now) verdicts.now xs.items) }
     ensures memory { IfErr result (λ e. e ≡ OutOfMemory) }
 {
     let mut frames = Vec::new(alloc);
@@ -115,7 +120,8 @@ fn frames_if<'a, C: Classes>(
     classes: &C,
 ) -> Result<Vec<FramesAt<'a>>, VerifyFault>
     requires { length verdicts.now ≤ length formed.now.class.now.methods.items }
-    ensures found { IfOk result (λ xs. AreFramedIf framed (C.content classes.now) (judged_class formed.now) verdicts.now xs.items) }
+    ensures found { IfOk result (λ xs. AreFramedIf framed (C.content classes.now)
+        (judged_class formed.now) verdicts.now xs.items) }
     ensures memory { IfErr result (λ e. e ≡ OutOfMemory) }
 {
     if !framed {

@@ -68,8 +68,9 @@ pub fn formed<'c, 'a>(alloc: Global, class: &'c ClassFile<'a>) -> Result<Formed<
     }
 }
 
-/// The class file that a file is, which was read so and is well formed; or why it is none, by the first of these: it could not be read;
-/// what [`decode`] refuses (2, 3, 7, 10 to 14, 16); what [`form_check`] refuses (20 to 30). 1 where memory ran out.
+/// The class file that a file is, which was read so and is well formed; or why it is none, by the first of these: it
+/// could not be read; what [`decode`] refuses (2, 3, 7, 10 to 14, 16); what [`form_check`] refuses (20 to 30). 1 where
+/// memory ran out.
 pub fn class_file<'a>(alloc: Global, read: FileRead<'a>) -> Result<ClassFile<'a>, FileFault>
     ensures { MatchResult result (λ c. IsFormed (read_of read.entry) (class_view c)) (OrMemory (read_of read.entry)) }
 {

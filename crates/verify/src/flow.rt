@@ -28,7 +28,8 @@ pub fn check_answer<'a>(answer: Answer<'a>, against: Reason<'a>) -> Result<(), R
 }
 
 /// The frame that comes to a start, where this one may be declared, becomes the one that goes on: 69 and 77 by their
-/// comparison, and 70 where none comes and none is declared. What is known of locals is known of the frame that it becomes.
+/// comparison, and 70 where none comes and none is declared. What is known of locals is known of the frame that it
+/// becomes.
 pub fn enter<'n, 'a, C: Classes>(
     comes: bool,
     declared: Option<Declared<'n, 'a>>,
@@ -40,7 +41,8 @@ pub fn enter<'n, 'a, C: Classes>(
     requires size { IfSome declared (λ d. length (declared_view d).locals ≡ length (held frame.old).locals) }
     requires own { IfSome declared (IsOf frames.now) }
     requires known { IsKnown (C.content classes.now) frames.now (held frame.old) known.old }
-    ensures entered { Enters (C.content classes.now) comes (held frame.old) (option_map declared_view declared.entry) (held frame.new) result }
+    ensures entered { Enters (C.content classes.now) comes (held frame.old) (option_map declared_view declared.entry)
+        (held frame.new) result }
     ensures locals { OnOk result (length (held frame.new).locals ≡ length (held frame.old).locals) }
     ensures known { OnOk result (IsKnown (C.content classes.now) frames.now (held frame.new) known.new) }
 {

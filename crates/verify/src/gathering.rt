@@ -32,7 +32,8 @@ impl<'a> Gathered<'a> {
     /// Puts a class behind the others, unless one has its name.
     fn add(&mut self, class: Summary<'a>) -> Result<(), AllocError>
         requires placed { ArePlaced (facts_of self.old.classes.items) self.old.places }
-        ensures added { OnOk result (facts_of self.new.classes.items ≡ with_class (facts_of self.old.classes.items) (fact_of class.entry)) }
+        ensures added { OnOk result (facts_of self.new.classes.items
+            ≡ with_class (facts_of self.old.classes.items) (fact_of class.entry)) }
         ensures placed { OnOk result (ArePlaced (facts_of self.new.classes.items) self.new.places) }
     {
         if self.places.get(class.name).is_some() {
@@ -46,7 +47,8 @@ impl<'a> Gathered<'a> {
     /// Adds the class that a file is, which is passed over where it is refused.
     fn add_file(&mut self, alloc: Global, file: FileRead<'a>) -> Result<(), AllocError>
         requires placed { ArePlaced (facts_of self.old.classes.items) self.old.places }
-        ensures added { OnOk result (AddsFile (read_of file.entry) (facts_of self.old.classes.items) (facts_of self.new.classes.items)) }
+        ensures added { OnOk result (AddsFile (read_of file.entry) (facts_of self.old.classes.items)
+            (facts_of self.new.classes.items)) }
         ensures placed { OnOk result (ArePlaced (facts_of self.new.classes.items) self.new.places) }
     {
         match summary_in(alloc, file) {
@@ -58,7 +60,8 @@ impl<'a> Gathered<'a> {
     /// Adds the classes that these files are, in their order. The only refusal is want of memory.
     pub fn add_files(&mut self, alloc: Global, files: &[FileRead<'a>]) -> Result<(), AllocError>
         requires placed { ArePlaced (facts_of self.old.classes.items) self.old.places }
-        ensures added { OnOk result (AddsFiles (map read_of files.now) (facts_of self.old.classes.items) (facts_of self.new.classes.items)) }
+        ensures added { OnOk result (AddsFiles (map read_of files.now) (facts_of self.old.classes.items)
+            (facts_of self.new.classes.items)) }
         ensures placed { OnOk result (ArePlaced (facts_of self.new.classes.items) self.new.places) }
     {
         for file in files {

@@ -42,8 +42,8 @@ pub struct Change<'a> {
     pub vtype: VType<'a>,
 }
 
-/// The entries of an exception table. Each is compared with the frame when its range begins, and again when a local was given a type that its
-/// handler's frame does not take, as long as its range has not ended.
+/// The entries of an exception table. Each is compared with the frame when its range begins, and again when a local was
+/// given a type that its handler's frame does not take, as long as its range has not ended.
 #[derive(Drop)]
 pub struct Handlers<'a> {
     // By where their ranges begin.
@@ -103,7 +103,8 @@ fn top_of<'a>(frame: &Working<'a>) -> VType<'a>
 
 /// Whether a local holds the object, if there is one.
 fn is_in_a_local<'a>(object: Option<VType<'a>>, frame: &Working<'a>) -> bool
-    ensures { (g : FrameFact) → result ≡ false → ChangesOnly (option_map type_of object.entry) (held frame.now) g → g.locals ≡ (held frame.now).locals }
+    ensures { (g : FrameFact) → result ≡ false → ChangesOnly (option_map type_of object.entry) (held frame.now) g
+        → g.locals ≡ (held frame.now).locals }
 {
     let Some(object) = object else {
         return false;
@@ -135,7 +136,8 @@ fn takes_it(last: &Option<Asked<'_, '_>>) -> bool
     }
 }
 
-/// The frame of an entry's handler, if it has one, and whether it takes a change: as the one that was asked before, where that has the same locals.
+/// The frame of an entry's handler, if it has one, and whether it takes a change: as the one that was asked before,
+/// where that has the same locals.
 fn ask<'n, 'a, C: Classes>(
     entry: &Entry<'a>,
     change: &Change<'a>,
@@ -145,7 +147,9 @@ fn ask<'n, 'a, C: Classes>(
 ) -> Option<Asked<'n, 'a>>
     requires { IfSome last (IsAsked (C.content classes.now) frames.now change.now) }
     ensures asked { IfSome result (IsAsked (C.content classes.now) frames.now change.now) }
-    ensures takes { IfSome result (λ one. one.takes ≡ true → Takes (C.content classes.now) (frames_in frames.now) entry.now change.now.local (type_of change.now.vtype)) }
+    ensures takes { IfSome result
+        (λ one. one.takes ≡ true → Takes (C.content classes.now) (frames_in frames.now) entry.now change.now.local
+        (type_of change.now.vtype)) }
 {
     let declared = frames.find(u32::from(entry.handler))?;
     if let Some(one) = last {
@@ -167,7 +171,8 @@ fn takes_at<'a, C: Classes>(
     frames: &DeclaredFrames<'a>,
     classes: &C,
 ) -> bool
-    ensures { result ≡ true → TakesAt (C.content classes.now) (frames_in frames.now) handler change.now.local (type_of change.now.vtype) }
+    ensures { result ≡ true → TakesAt (C.content classes.now) (frames_in frames.now) handler change.now.local
+        (type_of change.now.vtype) }
 {
     match frames.find(u32::from(handler)) {
         None => false,
@@ -182,7 +187,9 @@ fn all_take<'a, C: Classes>(
     frames: &DeclaredFrames<'a>,
     classes: &C,
 ) -> bool
-    ensures { result ≡ true → All (λ h. TakesAt (C.content classes.now) (frames_in frames.now) h change.now.local (type_of change.now.vtype)) handlers.now }
+    ensures { result ≡ true → All
+        (λ h. TakesAt (C.content classes.now) (frames_in frames.now) h change.now.local
+        (type_of change.now.vtype)) handlers.now }
 {
     for handler in handlers {
         if !takes_at(*handler, change, frames, classes) {
@@ -261,7 +268,7 @@ impl<'a> Handlers<'a> {
     ghost use Rattle.insn.specs.Views.{act_view};
     ghost use Rattle.frames.specs.DeclaredTables.{locals_in, declared_view, IsOf, AreOfOne};
     ghost use Rattle.rules.specs.After.{after, stored};
-    ghost use Rattle.rules.specs.Table.{plan};
+    ghost use Rattle.rules.specs.Table.{typing_rule};
     ghost use Rattle.rules.specs.Views.{with_half_free};
     ghost use Rattle.rules.specs.Ways.{stored_to};
     ghost use Rattle.rules.specs.Working.{with_locals};
@@ -276,7 +283,8 @@ impl<'a> Handlers<'a> {
     /// The handlers of this table, before the first instruction.
     pub fn new(alloc: Global, table: Vec<Entry<'a>>) -> Result<Handlers<'a>, AllocError>
         requires { AreNumbered table.items }
-        ensures { (cs : List ClassFact) (frames : Frames) (f : FrameFact) → IfOk result (Follows cs frames (map entry_view table.entry.items) 0 f) }
+        ensures { (cs : List ClassFact) (frames : Frames) (f : FrameFact)
+            → IfOk result (Follows cs frames (map entry_view table.entry.items) 0 f) }
     {
         let mut by_start = table;
         by_start.sort_by_key(|entry| entry.from)?;
@@ -294,8 +302,10 @@ impl<'a> Handlers<'a> {
 
     // The next one whose range has begun at an offset.
     fn next(&self, at: u16) -> Option<Entry<'a>>
-        ensures some { IfSome result (λ e. (self.now.begun < length self.now.by_start.items) × (e.from ≤ at) × ((d : entries.Entry) → slice_index_or self.now.by_start.items self.now.begun d ≡ e)) }
-        ensures none { result ≡ None → IsNonDecreasingBy (λ (e : entries.Entry). e.from) self.now.by_start.items → AreAhead at self.now }
+        ensures some { IfSome result (λ e. (self.now.begun < length self.now.by_start.items) × (e.from ≤ at)
+            × ((d : entries.Entry) → slice_index_or self.now.by_start.items self.now.begun d ≡ e)) }
+        ensures none { result ≡ None → IsNonDecreasingBy (λ (e : entries.Entry). e.from) self.now.by_start.items
+            → AreAhead at self.now }
     {
         if self.begun >= self.by_start.len() {
             return None;
@@ -310,7 +320,8 @@ impl<'a> Handlers<'a> {
     /// Comes to an offset: those whose ranges have begun there are to be compared.
     pub fn come_to(&mut self, at: u16) -> Result<(), AllocError>
         ensures { (cs : List ClassFact) (frames : Frames) (es : List ExceptionEntry) (f : FrameFact)
-            → Follows cs frames es at f self.old → OnOk result (Follows cs frames es at f self.new × AreAhead at self.new) }
+            → Follows cs frames es at f self.old
+            → OnOk result (Follows cs frames es at f self.new × AreAhead at self.new) }
     {
         while let Some(entry) = self.next(at) {
             self.fresh.push(entry)?;
@@ -319,10 +330,12 @@ impl<'a> Handlers<'a> {
         Ok(())
     }
 
-    /// Whether nothing is to be done at an offset: no range begins there, and all entries that cover it were compared with the frame.
+    /// Whether nothing is to be done at an offset: no range begins there, and all entries that cover it were compared
+    /// with the frame.
     pub fn are_idle(&self, at: u16) -> bool
         ensures { result ≡ true → (cs : List ClassFact) (frames : Frames) (es : List ExceptionEntry) (f : FrameFact)
-            → Follows cs frames es at f self.now → AreAhead at self.now × (least (handler_conditions cs frames at f es) ≡ None) }
+            → Follows cs frames es at f self.now → AreAhead at self.now
+            × (least (handler_conditions cs frames at f es) ≡ None) }
     {
         self.fresh.is_empty() && self.next(at).is_none()
     }
@@ -343,9 +356,12 @@ impl<'a> Handlers<'a> {
         frames: &DeclaredFrames<'a>,
         classes: &C,
     ) -> Result<(), AllocError>
-        ensures { let cs = C.content classes.now in let t = frames_in frames.now in (es : List ExceptionEntry) (at : ℕ) (f g : FrameFact)
+        ensures { let cs = C.content classes.now in let t = frames_in frames.now in
+            (es : List ExceptionEntry) (at : ℕ) (f g : FrameFact)
             → g.flag ≡ f.flag → g.locals ≡ set f.locals change.now.local (type_of change.now.vtype)
-            → AreCompared cs t es at f self.old → OnOk result (AreCompared cs t es at g self.new × All (λ e. Takes cs t e change.now.local (type_of change.now.vtype)) self.new.settled.items) }
+            → AreCompared cs t es at f self.old
+            → OnOk result (AreCompared cs t es at g self.new
+            × All (λ e. Takes cs t e change.now.local (type_of change.now.vtype)) self.new.settled.items) }
     {
         self.moved.clear();
         self.moved.append(&mut self.settled)?;
@@ -368,9 +384,12 @@ impl<'a> Handlers<'a> {
         frames: &DeclaredFrames<'a>,
         classes: &C,
     ) -> Result<(), AllocError>
-        ensures { let cs = C.content classes.now in let t = frames_in frames.now in (es : List ExceptionEntry) (at : ℕ) (f g : FrameFact)
+        ensures { let cs = C.content classes.now in let t = frames_in frames.now in
+            (es : List ExceptionEntry) (at : ℕ) (f g : FrameFact)
             → g.flag ≡ f.flag → g.locals ≡ set f.locals change.now.local (type_of change.now.vtype)
-            → Follows cs t es at f self.old → OnOk result (Follows cs t es at g self.new × All (λ e. Takes cs t e change.now.local (type_of change.now.vtype)) self.new.settled.items) }
+            → Follows cs t es at f self.old
+            → OnOk result (Follows cs t es at g self.new
+            × All (λ e. Takes cs t e change.now.local (type_of change.now.vtype)) self.new.settled.items) }
     {
         if all_take(&self.representatives, change, frames, classes) {
             return Ok(());
@@ -387,7 +406,8 @@ impl<'a> Handlers<'a> {
         frames: &DeclaredFrames<'a>,
         classes: &C,
     ) -> Result<(), AllocError>
-        ensures { let cs = C.content classes.now in let t = frames_in frames.now in (es : List ExceptionEntry) (at : ℕ) (f g : FrameFact)
+        ensures { let cs = C.content classes.now in let t = frames_in frames.now in
+            (es : List ExceptionEntry) (at : ℕ) (f g : FrameFact)
             → g.flag ≡ f.flag → g.locals ≡ set f.locals local (type_of vtype.entry)
             → Follows cs t es at f self.old → OnOk result (Follows cs t es at g self.new) }
     {
@@ -411,7 +431,8 @@ impl<'a> Handlers<'a> {
         frames: &DeclaredFrames<'a>,
         classes: &C,
     ) -> Result<(), AllocError>
-        ensures { let cs = C.content classes.now in let t = frames_in frames.now in (es : List ExceptionEntry) (at : ℕ) (g : FrameFact)
+        ensures { let cs = C.content classes.now in let t = frames_in frames.now in
+            (es : List ExceptionEntry) (at : ℕ) (g : FrameFact)
             → g.flag ≡ (held frame.now).flag → g.locals ≡ with_half_free local (held frame.now).locals
             → Follows cs t es at (held frame.now) self.old → OnOk result (Follows cs t es at g self.new) }
     {
@@ -433,7 +454,8 @@ impl<'a> Handlers<'a> {
         frames: &DeclaredFrames<'a>,
         classes: &C,
     ) -> Result<(), AllocError>
-        ensures { let cs = C.content classes.now in let t = frames_in frames.now in let f = held frame.now in (es : List ExceptionEntry) (at : ℕ) (g : FrameFact)
+        ensures { let cs = C.content classes.now in let t = frames_in frames.now in let f = held frame.now in
+            (es : List ExceptionEntry) (at : ℕ) (g : FrameFact)
             → g.flag ≡ f.flag → g.locals ≡ set (with_half_free local f.locals) local (top_of f.stack)
             → Follows cs t es at g self.old → OnOk result (Follows cs t es at (stored local f) self.new) }
     {
@@ -457,16 +479,17 @@ impl<'a> Handlers<'a> {
         classes: &C,
     ) -> Result<(), AllocError>
         ensures { let cs = C.content classes.now in let t = frames_in frames.now in (es : List ExceptionEntry) (at : ℕ)
-            → Follows cs t es at (held frame.now) self.old → OnOk result (Follows cs t es at (stored local (held frame.now)) self.new) }
+            → Follows cs t es at (held frame.now) self.old
+            → OnOk result (Follows cs t es at (stored local (held frame.now)) self.new) }
     {
         self.free_half(local, frame, frames, classes)?;
         self.change(local, top_of(frame), frames, classes)?;
         self.fill_half(local, frame, frames, classes)
     }
 
-    /// The frame becomes the one after an instruction that means this. Behind a store, entries whose handlers' frames take the type are not
-    /// compared again. Another instruction changes no other locals than those that hold an object, and the flag where it is a constructor's
-    /// call on the own one.
+    /// The frame becomes the one after an instruction that means this. Behind a store, entries whose handlers' frames
+    /// take the type are not compared again. Another instruction changes no other locals than those that hold an
+    /// object, and the flag where it is a constructor's call on the own one.
     pub fn behind<C: Classes>(
         &mut self,
         act: &Act<'_>,
@@ -476,9 +499,11 @@ impl<'a> Handlers<'a> {
         frames: &DeclaredFrames<'a>,
         classes: &C,
     ) -> Result<(), AllocError>
-        ensures { let cs = C.content classes.now in let t = frames_in frames.now in (es : List ExceptionEntry) (m : Method acts.Act) (at : ℕ)
-            → let f = held frame.now in let g = after m at (plan m (act_view act.now)) f in
-            (stored_to (act_view act.now) ≡ None → ChangesOnly (option_map type_of object.entry) f g) → (own ≡ false → g.flag ≡ f.flag)
+        ensures { let cs = C.content classes.now in let t = frames_in frames.now in
+            (es : List ExceptionEntry) (m : Method acts.Act) (at : ℕ)
+            → let f = held frame.now in let g = after m at (typing_rule m (act_view act.now)) f in
+            (stored_to (act_view act.now) ≡ None → ChangesOnly (option_map type_of object.entry) f g)
+            → (own ≡ false → g.flag ≡ f.flag)
             → Follows cs t es at f self.old → OnOk result (Follows cs t es at g self.new) }
     {
         if self.settled.is_empty() {
@@ -500,8 +525,10 @@ impl<'a> Handlers<'a> {
         frames: &DeclaredFrames<'a>,
         classes: &C,
     ) -> Result<(), AllocError>
-        ensures { let cs = C.content classes.now in let t = frames_in frames.now in (es : List ExceptionEntry) (at : ℕ) (f : FrameFact)
-            → Follows cs t es at f self.old → OnOk result (Follows cs t es at (with_locals f (restored replaced.now f.locals)) self.new) }
+        ensures { let cs = C.content classes.now in let t = frames_in frames.now in
+            (es : List ExceptionEntry) (at : ℕ) (f : FrameFact)
+            → Follows cs t es at f self.old
+            → OnOk result (Follows cs t es at (with_locals f (restored replaced.now f.locals)) self.new) }
     {
         let mut left = replaced.len();
         while left > 0 {
@@ -521,8 +548,10 @@ impl<'a> Handlers<'a> {
         classes: &C,
     ) -> Result<(), AllocError>
         requires { AreOfOne from.now to.now }
-        ensures { let cs = C.content classes.now in let t = frames_in frames.now in (es : List ExceptionEntry) (at : ℕ) (f : FrameFact)
-            → f.locals ≡ (declared_view from.now).locals → Follows cs t es at f self.old → OnOk result (Follows cs t es at (with_locals f (declared_view to.now).locals) self.new) }
+        ensures { let cs = C.content classes.now in let t = frames_in frames.now in
+            (es : List ExceptionEntry) (at : ℕ) (f : FrameFact)
+            → f.locals ≡ (declared_view from.now).locals → Follows cs t es at f self.old
+            → OnOk result (Follows cs t es at (with_locals f (declared_view to.now).locals) self.new) }
     {
         let end = from.units().max(to.units());
         for place in to.shared_units(from)..end {
@@ -532,8 +561,8 @@ impl<'a> Handlers<'a> {
         Ok(())
     }
 
-    /// The frame, of which this is known, becomes a declared one, if one is. Where few locals become others, entries whose handlers' frames take
-    /// them are not compared again.
+    /// The frame, of which this is known, becomes a declared one, if one is. Where few locals become others, entries
+    /// whose handlers' frames take them are not compared again.
     pub fn enter<'n, C: Classes>(
         &mut self,
         known: &KnownLocals<'n, 'a>,
@@ -544,8 +573,10 @@ impl<'a> Handlers<'a> {
     ) -> Result<(), AllocError>
         requires own { IfSome declared (IsOf frames.now) }
         requires kept { IsKept frames.now (held frame.now) known.now }
-        ensures { let cs = C.content classes.now in let t = frames_in frames.now in let f = held frame.now in (es : List ExceptionEntry) (at : ℕ)
-            → Follows cs t es at f self.old → OnOk result (Follows cs t es at (entered f (option_map declared_view declared.entry)) self.new) }
+        ensures { let cs = C.content classes.now in let t = frames_in frames.now in let f = held frame.now in
+            (es : List ExceptionEntry) (at : ℕ)
+            → Follows cs t es at f self.old
+            → OnOk result (Follows cs t es at (entered f (option_map declared_view declared.entry)) self.new) }
     {
         let Some(to) = declared else {
             return Ok(());
@@ -613,8 +644,8 @@ impl<'a> Handlers<'a> {
         Ok(false)
     }
 
-    /// The frame before an instruction comes to the handler of each entry that covers it, what is caught being alone on its stack: 73 and 77
-    /// by their comparison, 77 by the first of them.
+    /// The frame before an instruction comes to the handler of each entry that covers it, what is caught being alone on
+    /// its stack: 73 and 77 by their comparison, 77 by the first of them.
     pub fn catch<'n, C: Classes>(
         &mut self,
         at: u16,

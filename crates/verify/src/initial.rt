@@ -13,10 +13,11 @@ use names::{FieldType, OBJECT};
 use rules::own_class;
 use std::alloc::{AllocError, Global};
 
-/// The type of the receiver when the method begins (JVMS 4.10.1.6), which a static method has not. That of a constructor is not
-/// initialized, but for Object's.
+/// The type of the receiver when the method begins (JVMS 4.10.1.6), which a static method has not. That of a
+/// constructor is not initialized, but for Object's.
 fn receiver<'a>(method: &CodeMethod<'_, 'a>) -> Option<VType<'a>>
-    ensures { let m = method_view method.now in option_to_list (option_map type_of result) ≡ receiver_types m (receiver_of m) }
+    ensures { let m = method_view method.now in
+        option_to_list (option_map type_of result) ≡ receiver_types m (receiver_of m) }
 {
     if method.is_static {
         return None;
@@ -44,7 +45,8 @@ fn put_parameters<'a>(
     parameters: &[FieldType<'a>],
     types: &mut Vec<VType<'a>>,
 ) -> Result<(), AllocError>
-    ensures { OnOk result (map type_of types.new.items ≡ map type_of types.old.items ++ map descriptor_type (map descriptor_of parameters.now)) }
+    ensures { OnOk result (map type_of types.new.items ≡ map type_of types.old.items
+        ++ map descriptor_type (map descriptor_of parameters.now)) }
 {
     for parameter in parameters {
         types.push(held_by(parameter))?;
@@ -71,7 +73,8 @@ pub fn initial_types<'a>(
 
 /// A type as a local, a long or double being followed by top.
 fn put_local<'a>(t: VType<'a>, locals: &mut Vec<VType<'a>>) -> Result<(), AllocError>
-    ensures { OnOk result (map type_of locals.new.items ≡ map type_of locals.old.items ++ in_locals (type_of t.entry ∷ [])) }
+    ensures { OnOk result (map type_of locals.new.items ≡ map type_of locals.old.items
+        ++ in_locals (type_of t.entry ∷ [])) }
 {
     locals.push(t)?;
     if width(&t) == 2 {
@@ -82,7 +85,8 @@ fn put_local<'a>(t: VType<'a>, locals: &mut Vec<VType<'a>>) -> Result<(), AllocE
 
 /// Types as locals.
 fn put_locals<'a>(types: &[VType<'a>], locals: &mut Vec<VType<'a>>) -> Result<(), AllocError>
-    ensures { OnOk result (map type_of locals.new.items ≡ map type_of locals.old.items ++ in_locals (map type_of types.now)) }
+    ensures { OnOk result (map type_of locals.new.items ≡ map type_of locals.old.items
+        ++ in_locals (map type_of types.now)) }
 {
     for t in types {
         put_local(*t, locals)?;

@@ -7,7 +7,7 @@ ghost use Rattle.insn.specs.Offsets.{at_offset};
 ghost use Rattle.insn.specs.Views.{act_view};
 ghost use Rattle.frames.specs.FrameFact.{FrameFact};
 ghost use Rattle.frames.specs.DeclaredTables.{frames_in};
-ghost use Rattle.rules.specs.Table.{plan};
+ghost use Rattle.rules.specs.Table.{typing_rule};
 ghost use Rattle.rules.specs.After.{after};
 ghost use Rattle.classfile.specs.Methods.{ExceptionEntry};
 ghost use Rattle.hierarchy.specs.Class.{ClassFact};
@@ -38,8 +38,9 @@ use rules::{
 };
 use std::alloc::AllocError;
 
-/// Judges an instruction that names this, in the frame before it, which becomes the frame after: by its rule, by its targets, and by what was
-/// judged aside. Does not check the next instruction's frame. What is known is known of the frame after.
+/// Judges an instruction that names this, in the frame before it, which becomes the frame after: by its rule, by its
+/// targets, and by what was judged aside. Does not check the next instruction's frame. What is known is known of the
+/// frame after.
 fn judge_named<'n, 'a, C: Classes>(
     body: &Body<'n, 'a, C>,
     at: u16,
@@ -52,14 +53,17 @@ fn judge_named<'n, 'a, C: Classes>(
     requires locals { length (held frame.old).locals ≡ body.now.method.now.code.now.max_locals }
     requires named { IsNamed (method_view body.now.method.now) (act_view act) named.now }
     requires known { let m = method_view body.now.method.now in
-        IsKnown (C.content body.now.classes.now) body.now.frames.now (after m at (plan m (act_view act)) (held frame.old)) comparisons.old.known }
-    ensures known { OnOk result (IsKnown (C.content body.now.classes.now) body.now.frames.now (held frame.new) comparisons.new.known) }
+        IsKnown (C.content body.now.classes.now) body.now.frames.now
+        (after m at (typing_rule m (act_view act)) (held frame.old)) comparisons.old.known }
+    ensures known { OnOk result (IsKnown (C.content body.now.classes.now) body.now.frames.now
+        (held frame.new) comparisons.new.known) }
     ensures same { comparisons.new.handlers ≡ comparisons.old.handlers }
     ensures judged { (last : Bool) (next : Option ℕ) → is_none next ≡ last →
         let classes = C.content body.now.classes.now in let frames = frames_in body.now.frames.now in
         let m = method_view body.now.method.now in let f = held frame.old in
-        let a = act_view act.entry in let p = plan m a in
-        Judges (aside_conditions classes m frames at a last f) aside.entry → Done (at_conditions classes m frames at a p next f) (after m at p f) (held frame.new) result }
+        let a = act_view act.entry in let p = typing_rule m a in
+        Judges (aside_conditions classes m frames at a last f) aside.entry
+        → Done (at_conditions classes m frames at a p next f) (after m at p f) (held frame.new) result }
     ensures aside { OnOk result (IsOk aside.entry) }
 {
     let branches = branches_by(&act);
@@ -88,8 +92,9 @@ fn judge_named<'n, 'a, C: Classes>(
     }
 }
 
-/// The frame that goes on, if one does, comes to a start, and becomes the one that is declared there, if one is: 69, 70 and 77 as [`enter`]
-/// refuses. What is known, and the handlers that were compared, stay so of the frame that it becomes.
+/// The frame that goes on, if one does, comes to a start, and becomes the one that is declared there, if one is: 69, 70
+/// and 77 as [`enter`] refuses. What is known, and the handlers that were compared, stay so of the frame that it
+/// becomes.
 #[inline(never)]
 fn take_up<'n, 'a, C: Classes>(
     body: &Body<'n, 'a, C>,
@@ -99,12 +104,17 @@ fn take_up<'n, 'a, C: Classes>(
     frame: &mut Working<'a>,
 ) -> Result<(), Reason<'a>>
     requires locals { length (held frame.old).locals ≡ body.now.method.now.code.now.max_locals }
-    requires known { IsKnown (C.content body.now.classes.now) body.now.frames.now (held frame.old) comparisons.old.known }
-    ensures entered { Enters (C.content body.now.classes.now) comes (held frame.old) (at_offset (frames_in body.now.frames.now) at) (held frame.new) result }
+    requires known { IsKnown (C.content body.now.classes.now) body.now.frames.now
+        (held frame.old) comparisons.old.known }
+    ensures entered { Enters (C.content body.now.classes.now) comes (held frame.old)
+        (at_offset (frames_in body.now.frames.now) at) (held frame.new) result }
     ensures locals { OnOk result (length (held frame.new).locals ≡ length (held frame.old).locals) }
-    ensures known { OnOk result (IsKnown (C.content body.now.classes.now) body.now.frames.now (held frame.new) comparisons.new.known) }
-    ensures handlers { (es : List ExceptionEntry) (place : ℕ) → let cs = C.content body.now.classes.now in let t = frames_in body.now.frames.now in
-        Follows cs t es place (held frame.old) comparisons.old.handlers → OnOk result (Follows cs t es place (held frame.new) comparisons.new.handlers) }
+    ensures known { OnOk result (IsKnown (C.content body.now.classes.now) body.now.frames.now
+        (held frame.new) comparisons.new.known) }
+    ensures handlers { (es : List ExceptionEntry) (place : ℕ) → let cs = C.content body.now.classes.now in
+        let t = frames_in body.now.frames.now in
+        Follows cs t es place (held frame.old) comparisons.old.handlers
+        → OnOk result (Follows cs t es place (held frame.new) comparisons.new.handlers) }
 {
     let declared = body.frames.find(u32::from(at));
     comparisons.handlers.enter(
@@ -134,12 +144,17 @@ fn arrive<'n, 'a, C: Classes>(
     frame: &mut Working<'a>,
 ) -> Result<(), Reason<'a>>
     requires locals { length (held frame.old).locals ≡ body.now.method.now.code.now.max_locals }
-    requires known { IsKnown (C.content body.now.classes.now) body.now.frames.now (held frame.old) comparisons.old.known }
-    ensures entered { Enters (C.content body.now.classes.now) comes (held frame.old) (at_offset (frames_in body.now.frames.now) at) (held frame.new) result }
+    requires known { IsKnown (C.content body.now.classes.now) body.now.frames.now
+        (held frame.old) comparisons.old.known }
+    ensures entered { Enters (C.content body.now.classes.now) comes (held frame.old)
+        (at_offset (frames_in body.now.frames.now) at) (held frame.new) result }
     ensures locals { OnOk result (length (held frame.new).locals ≡ length (held frame.old).locals) }
-    ensures known { OnOk result (IsKnown (C.content body.now.classes.now) body.now.frames.now (held frame.new) comparisons.new.known) }
-    ensures handlers { (es : List ExceptionEntry) (place : ℕ) → let cs = C.content body.now.classes.now in let t = frames_in body.now.frames.now in
-        Follows cs t es place (held frame.old) comparisons.old.handlers → OnOk result (Follows cs t es place (held frame.new) comparisons.new.handlers) }
+    ensures known { OnOk result (IsKnown (C.content body.now.classes.now) body.now.frames.now
+        (held frame.new) comparisons.new.known) }
+    ensures handlers { (es : List ExceptionEntry) (place : ℕ) → let cs = C.content body.now.classes.now in
+        let t = frames_in body.now.frames.now in
+        Follows cs t es place (held frame.old) comparisons.old.handlers
+        → OnOk result (Follows cs t es place (held frame.new) comparisons.new.handlers) }
 {
     if comes && body.frames.find(u32::from(at)).is_none() {
         return Ok(());
@@ -147,11 +162,13 @@ fn arrive<'n, 'a, C: Classes>(
     take_up(body, at, comes, comparisons, frame)
 }
 
-/// Whether an entry of the exception table covers an instruction that calls a constructor on the own object, if it is one. The entries have
-/// come to its offset.
+/// Whether an entry of the exception table covers an instruction that calls a constructor on the own object, if it is
+/// one. The entries have come to its offset.
 fn covers_constructor(own: bool, at: u16, handlers: &mut Handlers<'_>) -> Result<bool, AllocError>
-    ensures { (cs : List ClassFact) (frames : Frames) (es : List ExceptionEntry) (f : FrameFact) → Follows cs frames es at f handlers.old → AreAhead at handlers.old
-        → IfOk result (λ covered. (covered ≡ (own && is_covered es at)) × Follows cs frames es at f handlers.new × AreAhead at handlers.new) }
+    ensures { (cs : List ClassFact) (frames : Frames) (es : List ExceptionEntry) (f : FrameFact)
+        → Follows cs frames es at f handlers.old → AreAhead at handlers.old
+        → IfOk result (λ covered. (covered ≡ (own && is_covered es at)) × Follows cs frames es at f handlers.new
+        × AreAhead at handlers.new) }
 {
     if !own {
         return Ok(false);
@@ -159,8 +176,9 @@ fn covers_constructor(own: bool, at: u16, handlers: &mut Handlers<'_>) -> Result
     handlers.covers(at)
 }
 
-/// Judges an instruction in the frame before it, which becomes the frame after: by its rule, the protected member that it uses, its targets, and
-/// the handlers of the entries that cover it. What is known, and the handlers that were compared, are so of the frame after.
+/// Judges an instruction in the frame before it, which becomes the frame after: by its rule, the protected member that
+/// it uses, its targets, and the handlers of the entries that cover it. What is known, and the handlers that were
+/// compared, are so of the frame after.
 #[inline(never)]
 fn judge_wholly<'n, 'a, C: Classes>(
     body: &Body<'n, 'a, C>,
@@ -171,19 +189,25 @@ fn judge_wholly<'n, 'a, C: Classes>(
     comparisons: &mut Comparisons<'n, 'a>,
     frame: &mut Working<'a>,
 ) -> Result<(), Reason<'a>>
-    requires constants { constants.old.members ≡ record { class = body.now.method.now.class.now; classes = C.content body.now.classes.now } }
+    requires constants { constants.old.members
+        ≡ record { class = body.now.method.now.class.now; classes = C.content body.now.classes.now } }
     requires locals { length (held frame.old).locals ≡ body.now.method.now.code.now.max_locals }
-    requires known { IsKnown (C.content body.now.classes.now) body.now.frames.now (held frame.old) comparisons.old.known }
+    requires known { IsKnown (C.content body.now.classes.now) body.now.frames.now
+        (held frame.old) comparisons.old.known }
     requires handlers { let m = method_view body.now.method.now in
-        Follows (C.content body.now.classes.now) (frames_in body.now.frames.now) m.exceptions at (held frame.old) comparisons.old.handlers }
+        Follows (C.content body.now.classes.now) (frames_in body.now.frames.now) m.exceptions at
+        (held frame.old) comparisons.old.handlers }
     ensures same { constants.new.members ≡ constants.old.members }
     ensures judged { (next : Option ℕ) → is_none next ≡ last →
         let m = method_view body.now.method.now in let f = held frame.old in
-        let a = act_view act.entry in let p = plan m a in
-        Done (at_conditions (C.content body.now.classes.now) m (frames_in body.now.frames.now) at a p next f) (after m at p f) (held frame.new) result }
-    ensures known { OnOk result (IsKnown (C.content body.now.classes.now) body.now.frames.now (held frame.new) comparisons.new.known) }
+        let a = act_view act.entry in let p = typing_rule m a in
+        Done (at_conditions (C.content body.now.classes.now) m (frames_in body.now.frames.now) at a p next f)
+        (after m at p f) (held frame.new) result }
+    ensures known { OnOk result (IsKnown (C.content body.now.classes.now) body.now.frames.now
+        (held frame.new) comparisons.new.known) }
     ensures handlers { let m = method_view body.now.method.now in
-        OnOk result (Follows (C.content body.now.classes.now) (frames_in body.now.frames.now) m.exceptions at (held frame.new) comparisons.new.handlers) }
+        OnOk result (Follows (C.content body.now.classes.now) (frames_in body.now.frames.now) m.exceptions at
+        (held frame.new) comparisons.new.handlers) }
 {
     let method = body.method;
     comparisons.handlers.come_to(at)?;
@@ -216,8 +240,8 @@ fn judge_wholly<'n, 'a, C: Classes>(
     judge_named(body, at, act, &named, aside, comparisons, frame)
 }
 
-/// Like [`judge_wholly`], but by the rule alone where nothing else is asked: no handler is to be compared, and the instruction is plain and not the
-/// last one.
+/// Like [`judge_wholly`], but by the rule alone where nothing else is asked: no handler is to be compared, and the
+/// instruction is plain and not the last one.
 fn judge<'n, 'a, C: Classes>(
     body: &Body<'n, 'a, C>,
     at: u16,
@@ -227,19 +251,25 @@ fn judge<'n, 'a, C: Classes>(
     comparisons: &mut Comparisons<'n, 'a>,
     frame: &mut Working<'a>,
 ) -> Result<(), Reason<'a>>
-    requires constants { constants.old.members ≡ record { class = body.now.method.now.class.now; classes = C.content body.now.classes.now } }
+    requires constants { constants.old.members
+        ≡ record { class = body.now.method.now.class.now; classes = C.content body.now.classes.now } }
     requires locals { length (held frame.old).locals ≡ body.now.method.now.code.now.max_locals }
-    requires known { IsKnown (C.content body.now.classes.now) body.now.frames.now (held frame.old) comparisons.old.known }
+    requires known { IsKnown (C.content body.now.classes.now) body.now.frames.now
+        (held frame.old) comparisons.old.known }
     requires handlers { let m = method_view body.now.method.now in
-        Follows (C.content body.now.classes.now) (frames_in body.now.frames.now) m.exceptions at (held frame.old) comparisons.old.handlers }
+        Follows (C.content body.now.classes.now) (frames_in body.now.frames.now) m.exceptions at
+        (held frame.old) comparisons.old.handlers }
     ensures same { constants.new.members ≡ constants.old.members }
     ensures judged { (next : Option ℕ) → is_none next ≡ last →
         let m = method_view body.now.method.now in let f = held frame.old in
-        let a = act_view act.now in let p = plan m a in
-        Done (at_conditions (C.content body.now.classes.now) m (frames_in body.now.frames.now) at a p next f) (after m at p f) (held frame.new) result }
-    ensures known { OnOk result (IsKnown (C.content body.now.classes.now) body.now.frames.now (held frame.new) comparisons.new.known) }
+        let a = act_view act.now in let p = typing_rule m a in
+        Done (at_conditions (C.content body.now.classes.now) m (frames_in body.now.frames.now) at a p next f)
+        (after m at p f) (held frame.new) result }
+    ensures known { OnOk result (IsKnown (C.content body.now.classes.now) body.now.frames.now
+        (held frame.new) comparisons.new.known) }
     ensures handlers { let m = method_view body.now.method.now in
-        OnOk result (Follows (C.content body.now.classes.now) (frames_in body.now.frames.now) m.exceptions at (held frame.new) comparisons.new.handlers) }
+        OnOk result (Follows (C.content body.now.classes.now) (frames_in body.now.frames.now) m.exceptions at
+        (held frame.new) comparisons.new.handlers) }
 {
     if !last && is_plain(act) && comparisons.handlers.are_idle(at) {
         let kept = items_kept_plainly(body.method, act, frame);
@@ -260,16 +290,20 @@ pub fn pass<'n, 'a, C: Classes>(
     comparisons: &mut Comparisons<'n, 'a>,
     frame: &mut Working<'a>,
 ) -> Result<Verdict<'a>, VerifyFault>
-    requires constants { constants.old.members ≡ record { class = body.now.method.now.class.now; classes = C.content body.now.classes.now } }
+    requires constants { constants.old.members
+        ≡ record { class = body.now.method.now.class.now; classes = C.content body.now.classes.now } }
     requires initial { held frame.old ≡ initial_frame (method_view body.now.method.now) }
     requires locals { length (held frame.old).locals ≡ body.now.method.now.code.now.max_locals }
-    requires known { IsKnown (C.content body.now.classes.now) body.now.frames.now (held frame.old) comparisons.old.known }
+    requires known { IsKnown (C.content body.now.classes.now) body.now.frames.now
+        (held frame.old) comparisons.old.known }
     requires handlers { let m = method_view body.now.method.now in
-        Follows (C.content body.now.classes.now) (frames_in body.now.frames.now) m.exceptions 0 (held frame.old) comparisons.old.handlers }
+        Follows (C.content body.now.classes.now) (frames_in body.now.frames.now) m.exceptions 0
+        (held frame.old) comparisons.old.handlers }
     requires spelled { (xs : List (ℕ × Instruction)) × SpellsCode 0 body.now.method.now.code.now.code.now xs }
     requires few { length body.now.method.now.code.now.code.now ≤ MAX_CODE_BYTES }
     ensures same { constants.new.members ≡ constants.old.members }
-    ensures judged { Gives (code_judged plan (C.content body.now.classes.now) (method_view body.now.method.now) (frames_in body.now.frames.now)) result }
+    ensures judged { Gives (code_judged typing_rule (C.content body.now.classes.now) (method_view body.now.method.now)
+        (frames_in body.now.frames.now)) result }
 {
     let mut code = Instructions::new(body.method.code.code);
     let mut comes = true;

@@ -1,4 +1,5 @@
-//! Facts about the locals of the running frame, so that it is not compared with each declared frame local by local, nor written so.
+//! Facts about the locals of the running frame, so that it is not compared with each declared frame local by local, nor
+//! written so.
 ghost use Rattle.std.specs.Prelude.{◌≡◌, ℕ, List, get_or, set, OnOk};
 ghost use Rattle.hierarchy.specs.Class.{ClassFact};
 ghost use Rattle.frames.specs.FrameFact.{FrameFact};
@@ -49,7 +50,7 @@ impl<'n, 'a> KnownLocals<'n, 'a> {
     ghost use Rattle.rules.specs.After.{after, stored, top_of};
     ghost use Rattle.rules.specs.Held.{held};
     ghost use Rattle.rules.specs.Replacing.{ChangesOnly};
-    ghost use Rattle.rules.specs.Table.{plan};
+    ghost use Rattle.rules.specs.Table.{typing_rule};
     ghost use Rattle.rules.specs.Ways.{stored_to};
     ghost use Rattle.rules.specs.Views.{with_half_free};
     ghost use Rattle.verify.specs.Keeping.{AreKnown, IsKept, restored};
@@ -68,8 +69,8 @@ impl<'n, 'a> KnownLocals<'n, 'a> {
         })
     }
 
-    /// The declared frame that the locals of a frame are those of, but for what was replaced, if it is known, few of them are others in another
-    /// declared frame, and that one has this flag.
+    /// The declared frame that the locals of a frame are those of, but for what was replaced, if it is known, few of
+    /// them are others in another declared frame, and that one has this flag.
     pub fn near(&self, to: &Declared<'n, 'a>, flag: bool) -> Option<Declared<'n, 'a>>
         requires { IfSome self.now.kept (λ from. AreOfOne from to.now) }
         ensures { IfSome result (λ from. (self.now.kept ≡ Some from) × ((declared_view to.now).flag ≡ flag)) }
@@ -101,7 +102,8 @@ impl<'n, 'a> KnownLocals<'n, 'a> {
         requires own { IsOf frames.now declared.now }
         requires known { AreKnown (C.content classes.now) frames.now (held frame.now) self.old }
         ensures known { AreKnown (C.content classes.now) frames.now (held frame.now) self.new }
-        ensures fit { result ≡ true → list_answer (type_answer (C.content classes.now)) (held frame.now).locals (declared_view declared.now).locals ≡ yes }
+        ensures fit { result ≡ true → list_answer (type_answer (C.content classes.now)) (held frame.now).locals
+            (declared_view declared.now).locals ≡ yes }
     {
         let _frames = frames;
         self.fitting.fits(declared, frame.locals(), classes)
@@ -110,9 +112,12 @@ impl<'n, 'a> KnownLocals<'n, 'a> {
     // Puts what was replaced back, the latest first.
     fn put_back(&mut self, frame: &mut Working<'a>) -> Result<(), AllocError>
         ensures kept { self.new.kept ≡ self.old.kept }
-        ensures locals { OnOk result ((held frame.new).locals ≡ restored self.old.replaced.items (held frame.old).locals) }
+        ensures locals { OnOk result ((held frame.new).locals
+            ≡ restored self.old.replaced.items (held frame.old).locals) }
         ensures none { OnOk result (self.new.replaced.items ≡ []) }
-        ensures fitting { (cs : List ClassFact) (t : DeclaredFrames) → AreFitting cs t (held frame.old).locals self.old.fitting → OnOk result (AreFitting cs t (held frame.new).locals self.new.fitting) }
+        ensures fitting { (cs : List ClassFact) (t : DeclaredFrames)
+            → AreFitting cs t (held frame.old).locals self.old.fitting
+            → OnOk result (AreFitting cs t (held frame.new).locals self.new.fitting) }
     {
         while let Some(replaced) = self.replaced.pop() {
             frame.put_back(replaced.was, usize::from(replaced.place))?;
@@ -121,8 +126,8 @@ impl<'n, 'a> KnownLocals<'n, 'a> {
         Ok(())
     }
 
-    /// A frame becomes a declared one of a table: where it had the locals of another one, only those are written that were replaced since, or
-    /// that the two declared frames do not share.
+    /// A frame becomes a declared one of a table: where it had the locals of another one, only those are written that
+    /// were replaced since, or that the two declared frames do not share.
     pub fn take_on(
         &mut self,
         declared: &Declared<'n, 'a>,
@@ -133,7 +138,8 @@ impl<'n, 'a> KnownLocals<'n, 'a> {
         requires own { IsOf frames.now declared.now }
         requires kept { IsKept frames.now (held frame.old) self.old }
         ensures taken { OnOk result (held frame.new ≡ declared_view declared.now) }
-        ensures known { (cs : List ClassFact) → AreKnown cs frames.now (held frame.old) self.old → OnOk result (AreKnown cs frames.now (held frame.new) self.new) }
+        ensures known { (cs : List ClassFact) → AreKnown cs frames.now (held frame.old) self.old
+            → OnOk result (AreKnown cs frames.now (held frame.new) self.new) }
     {
         self.put_back(frame)?;
         let kept = self.kept;
@@ -172,7 +178,8 @@ impl<'n, 'a> KnownLocals<'n, 'a> {
 
     // The local in front of one that is to be stored to becomes top, where it is a long or double.
     fn free_half(&mut self, local: u16, frame: &Working<'a>) -> Result<(), AllocError>
-        ensures { (cs : List ClassFact) (t : DeclaredFrames) (g : FrameFact) → g.locals ≡ with_half_free local (held frame.now).locals
+        ensures { (cs : List ClassFact) (t : DeclaredFrames) (g : FrameFact)
+            → g.locals ≡ with_half_free local (held frame.now).locals
             → AreKnown cs t (held frame.now) self.old → OnOk result (AreKnown cs t g self.new) }
     {
         if local == 0 {
@@ -188,7 +195,8 @@ impl<'n, 'a> KnownLocals<'n, 'a> {
     // The local behind one that is to be stored to becomes top, where a long or double is stored.
     fn fill_half(&mut self, local: u16, frame: &Working<'a>) -> Result<(), AllocError>
         ensures { (cs : List ClassFact) (t : DeclaredFrames) (g : FrameFact) → let f = held frame.now in
-            g.locals ≡ set (with_half_free local f.locals) local (top_of f.stack) → AreKnown cs t g self.old → OnOk result (AreKnown cs t (stored local f) self.new) }
+            g.locals ≡ set (with_half_free local f.locals) local (top_of f.stack) → AreKnown cs t g self.old
+            → OnOk result (AreKnown cs t (stored local f) self.new) }
     {
         if !frame.has_wide_top() {
             return Ok(());
@@ -203,7 +211,8 @@ impl<'n, 'a> KnownLocals<'n, 'a> {
     // The top of a frame's stack is to be stored to a local.
     #[inline(never)]
     fn store(&mut self, local: u16, frame: &Working<'a>) -> Result<(), AllocError>
-        ensures { (cs : List ClassFact) (t : DeclaredFrames) → AreKnown cs t (held frame.now) self.old → OnOk result (AreKnown cs t (stored local (held frame.now)) self.new) }
+        ensures { (cs : List ClassFact) (t : DeclaredFrames) → AreKnown cs t (held frame.now) self.old
+            → OnOk result (AreKnown cs t (stored local (held frame.now)) self.new) }
     {
         self.free_half(local, frame)?;
         self.replace(local, frame)?;
@@ -218,7 +227,8 @@ impl<'n, 'a> KnownLocals<'n, 'a> {
         frame: &Working<'a>,
     ) -> Result<(), AllocError>
         ensures { (cs : List ClassFact) (t : DeclaredFrames) (f g : FrameFact) (x : VerificationType)
-            → length f.locals ≡ length (held frame.now).locals → get_or f.locals place top ≡ get_or (held frame.now).locals place top → g.locals ≡ set f.locals place x
+            → length f.locals ≡ length (held frame.now).locals
+            → get_or f.locals place top ≡ get_or (held frame.now).locals place top → g.locals ≡ set f.locals place x
             → (is_initialized (type_of object.now) (get_or f.locals place top) ≡ false → x ≡ get_or f.locals place top)
             → AreKnown cs t f self.old → OnOk result (AreKnown cs t g self.new) }
     {
@@ -234,7 +244,8 @@ impl<'n, 'a> KnownLocals<'n, 'a> {
     // The locals that hold an object which is not initialized are to be written.
     #[inline(never)]
     fn replace_all(&mut self, object: &VType<'a>, frame: &Working<'a>) -> Result<(), AllocError>
-        ensures { (cs : List ClassFact) (t : DeclaredFrames) (g : FrameFact) → ChangesOnly (Some (type_of object.now)) (held frame.now) g
+        ensures { (cs : List ClassFact) (t : DeclaredFrames) (g : FrameFact)
+            → ChangesOnly (Some (type_of object.now)) (held frame.now) g
             → AreKnown cs t (held frame.now) self.old → OnOk result (AreKnown cs t g self.new) }
     {
         let mut at = frame.first_holder(object);
@@ -245,16 +256,18 @@ impl<'n, 'a> KnownLocals<'n, 'a> {
         Ok(())
     }
 
-    /// The facts about a frame become those about the one after an instruction that means this. Unless it is a store, it changes no other locals
-    /// than those that hold an object.
+    /// The facts about a frame become those about the one after an instruction that means this. Unless it is a store,
+    /// it changes no other locals than those that hold an object.
     pub fn behind(
         &mut self,
         act: &Act<'_>,
         object: Option<VType<'a>>,
         frame: &Working<'a>,
     ) -> Result<(), AllocError>
-        ensures { (cs : List ClassFact) (t : DeclaredFrames) (m : Method acts.Act) (at : ℕ) → let f = held frame.now in let g = after m at (plan m (act_view act.now)) f in
-            (stored_to (act_view act.now) ≡ None → ChangesOnly (option_map type_of object.entry) f g) → AreKnown cs t f self.old → OnOk result (AreKnown cs t g self.new) }
+        ensures { (cs : List ClassFact) (t : DeclaredFrames) (m : Method acts.Act) (at : ℕ) → let f = held frame.now in
+            let g = after m at (typing_rule m (act_view act.now)) f in
+            (stored_to (act_view act.now) ≡ None → ChangesOnly (option_map type_of object.entry) f g)
+            → AreKnown cs t f self.old → OnOk result (AreKnown cs t g self.new) }
     {
         if let Some(local) = stored_to(act) {
             return self.store(local, frame);

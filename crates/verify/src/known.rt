@@ -32,7 +32,7 @@ impl<'n, 'a> Known<'n, 'a> {
     ghost use Rattle.rules.specs.After.{after};
     ghost use Rattle.rules.specs.Held.{held};
     ghost use Rattle.rules.specs.Replacing.{ChangesOnly};
-    ghost use Rattle.rules.specs.Table.{plan};
+    ghost use Rattle.rules.specs.Table.{typing_rule};
     ghost use Rattle.rules.specs.Taken.{KeepsItems};
     ghost use Rattle.rules.specs.Ways.{stored_to};
     ghost use Rattle.verify.specs.Keeping.{IsKept};
@@ -64,7 +64,8 @@ impl<'n, 'a> Known<'n, 'a> {
         requires own { IsOf frames.now declared.now }
         requires known { IsKnown (C.content classes.now) frames.now (held frame.now) self.old }
         ensures known { IsKnown (C.content classes.now) frames.now (held frame.now) self.new }
-        ensures told { outcome_of result ≡ frame_answer (C.content classes.now) (held frame.now) (declared_view declared.now) }
+        ensures told { outcome_of result
+            ≡ frame_answer (C.content classes.now) (held frame.now) (declared_view declared.now) }
     {
         if self.locals.fits(declared, frames, frame, classes) {
             return frame.answer_for(declared, Some(*declared), &mut self.items, classes);
@@ -83,14 +84,15 @@ impl<'n, 'a> Known<'n, 'a> {
         requires own { IsOf frames.now declared.now }
         requires kept { IsKept frames.now (held frame.old) self.old.locals }
         ensures taken { OnOk result (held frame.new ≡ declared_view declared.now) }
-        ensures known { (cs : List ClassFact) → IsKnown cs frames.now (held frame.old) self.old → OnOk result (IsKnown cs frames.now (held frame.new) self.new) }
+        ensures known { (cs : List ClassFact) → IsKnown cs frames.now (held frame.old) self.old
+            → OnOk result (IsKnown cs frames.now (held frame.new) self.new) }
     {
         self.locals.take_on(declared, frames, frame)?;
         self.items.changed_from(0)
     }
 
-    /// The facts about a frame become those about the one after an instruction that means this. So many items of the stack stay, and unless it is a
-    /// store, it changes no other locals than those that hold an object.
+    /// The facts about a frame become those about the one after an instruction that means this. So many items of the
+    /// stack stay, and unless it is a store, it changes no other locals than those that hold an object.
     pub fn behind(
         &mut self,
         act: &Act<'_>,
@@ -98,8 +100,10 @@ impl<'n, 'a> Known<'n, 'a> {
         kept: usize,
         frame: &Working<'a>,
     ) -> Result<(), AllocError>
-        ensures { (cs : List ClassFact) (t : DeclaredFrames) (m : Method acts.Act) (at : ℕ) → let f = held frame.now in let g = after m at (plan m (act_view act.now)) f in
-            (stored_to (act_view act.now) ≡ None → ChangesOnly (option_map type_of object.entry) f g) → KeepsItems kept f g
+        ensures { (cs : List ClassFact) (t : DeclaredFrames) (m : Method acts.Act) (at : ℕ) → let f = held frame.now in
+            let g = after m at (typing_rule m (act_view act.now)) f in
+            (stored_to (act_view act.now) ≡ None → ChangesOnly (option_map type_of object.entry) f g)
+            → KeepsItems kept f g
             → IsKnown cs t f self.old → OnOk result (IsKnown cs t g self.new) }
     {
         self.locals.behind(act, object, frame)?;

@@ -20,9 +20,10 @@ pub fn type_safe_is_verified()
     ensures { TypeSafeIsVerified }
 {}
 
-/// A refusal says this, both ways. Receiver and parameters do not fit. Or they do, and an entry of the exception table is refused, and
-/// those in front of it are sound; or the initial frame does not fit the one declared at 0; or the method is type-safe up to an
-/// instruction, and either the reason is the least that holds there, or it is against the frame at the next start alone.
+/// A refusal says this, both ways. Receiver and parameters do not fit. Or they do, and an entry of the exception table
+/// is refused, and those in front of it are sound; or the initial frame does not fit the one declared at 0; or the
+/// method is type-safe up to an instruction, and either the reason is the least that holds there, or it is against the
+/// frame at the next start alone.
 pub fn refused_where()
     ensures { RefusedWhere }
 {}
@@ -32,9 +33,10 @@ pub fn map_refused_where()
     ensures { MapRefusedWhere }
 {}
 
-/// Each condition that the verdict asks is a field of the definition of type-safe that is broken, with its number, both ways: 67 and 68 at
-/// targets, 73 at handlers, 71, 75, 69 and 70 at the next start, 72 of an entry of the exception table, 77 of a class that is missing, and the
-/// reasons of the rule. So a refusal tells by its number which field is broken, 64 and 78 at 0 among them, and none with a lesser one is.
+/// Each condition that the verdict asks is a field of the definition of type-safe that is broken, with its number, both
+/// ways: 67 and 68 at targets, 73 at handlers, 71, 75, 69 and 70 at the next start, 72 of an entry of the exception
+/// table, 77 of a class that is missing, and the reasons of the rule. So a refusal tells by its number which field is
+/// broken, 64 and 78 at 0 among them, and none with a lesser one is.
 pub fn refused_breaks()
     ensures fields { ConditionsAreFields }
     ensures refusal { RefusedBreaks }
@@ -51,18 +53,20 @@ pub fn one_report()
     ensures { OneReport }
 {}
 
-/// The methods of a class, with the verdicts on them, have the same frames at the instructions at which they are refused.
+/// The methods of a class, with the verdicts on them, have the same frames at the instructions at which they are
+/// refused.
 pub fn one_frames()
     ensures { OneFrames }
 {}
 
-/// The frames at the instruction at which code is refused are those by which it is: the reason is the one against the frame that comes to it, or the
-/// least of what is asked of the instruction in the frame before it.
+/// The frames at the instruction at which code is refused are those by which it is: the reason is the one against the
+/// frame that comes to it, or the least of what is asked of the instruction in the frame before it.
 pub fn frames_are_judged()
     ensures { FramesAreJudged }
 {}
 
-/// In the machine a type takes all values that the verifier lets it take: null, and what is of a type that is assignable to it.
+/// In the machine a type takes all values that the verifier lets it take: null, and what is of a type that is
+/// assignable to it.
 pub fn fits_breadth()
     ensures { FitsBreadth }
 {}
@@ -72,9 +76,10 @@ pub fn walks_are_runs()
     ensures { WalksAreRuns }
 {}
 
-/// A run through the methods of classes in play begins in each of them. It goes on by each step of its last activation; by each call into each
-/// method in play that the call selects, whatever its values are; by each return to the caller, whatever the answer is, as long as that is ready
-/// for the caller; and by each object that is raised to each caller that catches it, past those that do not.
+/// A run through the methods of classes in play begins in each of them. It goes on by each step of its last activation;
+/// by each call into each method in play that the call selects, whatever its values are; by each return to the caller,
+/// whatever the answer is, as long as that is ready for the caller; and by each object that is raised to each caller
+/// that catches it, past those that do not.
 pub fn class_run_breadth()
     ensures { ClassRunBreadth }
 {

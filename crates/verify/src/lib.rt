@@ -1,5 +1,5 @@
-//! Whether methods are type-safe (JVMS 4.10.1), and what is proved of those that are. The call to know is [`verify_method`]: its
-//! answers, case by case, are in specs/Answers.antt.
+//! Whether methods are type-safe (JVMS 4.10.1), and what is proved of those that are. The call to know is
+//! [`verify_method`]: its answers, case by case, are in specs/Answers.antt.
 //!
 //! - `method`: the verdict on a method.
 //! - `verdict`: what is answered.

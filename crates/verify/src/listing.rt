@@ -65,7 +65,8 @@ fn same_summary(one: &Summary<'_>, other: &Summary<'_>) -> bool
 
 /// Whether the class of the summary's name has exactly this summary.
 pub fn has_summary<C: Classes>(summary: &Summary<'_>, classes: &C) -> bool
-    ensures found { IsTrue result ↔ (class_of (C.content classes.now) (fact_of summary.now).name ≡ Some (fact_of summary.now)) }
+    ensures found { IsTrue result
+        ↔ (class_of (C.content classes.now) (fact_of summary.now).name ≡ Some (fact_of summary.now)) }
     ensures formed { IsHierarchy (C.content classes.now) }
 {
     match classes.find(summary.name) {

@@ -10,7 +10,7 @@ ghost use Rattle.insn.specs.Instructions.{Instruction};
 ghost use Rattle.insn.specs.Code.{SpellsCode};
 ghost use Rattle.rules.specs.Bodies.{method_view};
 ghost use Rattle.rules.specs.Held.{held};
-ghost use Rattle.rules.specs.Table.{plan};
+ghost use Rattle.rules.specs.Table.{typing_rule};
 ghost use Rattle.frames.specs.DeclaredTables.{frames_in};
 ghost use Rattle.frames.specs.MarkedCode.{code_in};
 ghost use Rattle.verify.specs.declared.verdict.VerifyFault.TheVariants.{OutOfMemory};
@@ -54,19 +54,22 @@ pub fn types_of<'a>(
     }
 }
 
-/// Judges a method by its exception table, under the frames that its stack map declares, and then its instructions by one pass.
+/// Judges a method by its exception table, under the frames that its stack map declares, and then its instructions by
+/// one pass.
 fn judge_code<'a, C: Classes>(
     body: &Body<'_, 'a, C>,
     constants: &mut ClassConstants<'_, '_, 'a, C>,
     frame: &mut Working<'a>,
 ) -> Result<Verdict<'a>, VerifyFault>
-    requires constants { constants.old.members ≡ record { class = body.now.method.now.class.now; classes = C.content body.now.classes.now } }
+    requires constants { constants.old.members
+        ≡ record { class = body.now.method.now.class.now; classes = C.content body.now.classes.now } }
     requires initial { held frame.old ≡ initial_frame (method_view body.now.method.now) }
     requires locals { length (held frame.old).locals ≡ body.now.method.now.code.now.max_locals }
     requires spelled { (xs : List (ℕ × Instruction)) × SpellsCode 0 body.now.method.now.code.now.code.now xs }
     requires few { length body.now.method.now.code.now.code.now ≤ MAX_CODE_BYTES }
     ensures same { constants.new.members ≡ constants.old.members }
-    ensures judged { let m = method_view body.now.method.now in Gives (with_frames plan (C.content body.now.classes.now) m (Ok (frames_in body.now.frames.now))) result }
+    ensures judged { let m = method_view body.now.method.now in
+        Gives (with_frames typing_rule (C.content body.now.classes.now) m (Ok (frames_in body.now.frames.now))) result }
 {
     let alloc = body.alloc;
     let table = exceptions(alloc, body.method)?;
@@ -85,8 +88,8 @@ fn judge_code<'a, C: Classes>(
     pass(body, constants, &mut comparisons, frame)
 }
 
-/// Judges a method by its receiver and parameters, its stack map, its exception table and its instructions: 64 where they do not fit, 78
-/// where the map is refused, and then by the table and by one pass.
+/// Judges a method by its receiver and parameters, its stack map, its exception table and its instructions: 64 where
+/// they do not fit, 78 where the map is refused, and then by the table and by one pass.
 fn judge_body<'a, C: Classes>(
     alloc: Global,
     method: &CodeMethod<'_, 'a>,
@@ -96,13 +99,14 @@ fn judge_body<'a, C: Classes>(
     frame: &mut Working<'a>,
     classes: &C,
 ) -> Result<Verdict<'a>, VerifyFault>
-    requires constants { constants.old.members ≡ record { class = method.now.class.now; classes = C.content classes.now } }
+    requires constants { constants.old.members
+        ≡ record { class = method.now.class.now; classes = C.content classes.now } }
     requires starts { code_in starts.now ≡ method.now.code.now.code.now }
     requires parameters { (method_view method.now).type.params ≡ map type_of parameters.now }
     requires spelled { (xs : List (ℕ × Instruction)) × SpellsCode 0 method.now.code.now.code.now xs }
     requires few { length method.now.code.now.code.now ≤ MAX_CODE_BYTES }
     ensures same { constants.new.members ≡ constants.old.members }
-    ensures judged { Gives (verdict plan (C.content classes.now) (method_view method.now)) result }
+    ensures judged { Gives (verdict typing_rule (C.content classes.now) (method_view method.now)) result }
 {
     let max_locals = method.code.max_locals;
     let types = initial_types(alloc, method, parameters)?;
@@ -164,7 +168,8 @@ pub fn verify_listed<'a, C: Classes>(
     frame: &mut Working<'a>,
     classes: &C,
 ) -> Result<Verdict<'a>, VerifyFault>
-    requires constants { constants.old.members ≡ record { class = formed.now.class.now; classes = C.content classes.now } }
+    requires constants { constants.old.members
+        ≡ record { class = formed.now.class.now; classes = C.content classes.now } }
     requires within { number < length formed.now.class.now.methods.items }
     requires listed { IsListed (C.content classes.now) (class_view formed.now.class.now) }
     ensures same { constants.new.members ≡ constants.old.members }
@@ -179,7 +184,8 @@ pub fn verify_listed<'a, C: Classes>(
 
 /// The verdict on the method of this number, which counts from 0, of a class in a hierarchy (JVMS 4.10.1).
 ///
-/// It is judged by the profile of its class (see [`Formed::under`]). A method without a Code attribute has none. The first of these steps that refuses says why and where:
+/// It is judged by the profile of its class (see [`Formed::under`]). A method without a Code attribute has none. The
+/// first of these steps that refuses says why and where:
 ///
 /// - 79 where the first instruction at fault begins, with the number of its fault (31 to 35);
 /// - 64 at 0: the receiver and the parameters do not fit into max_locals;
@@ -202,7 +208,8 @@ pub fn verify_method<'a, C: Classes>(
     ensures exactly { Answers (C.content classes.now) (judged_class formed.now) number result }
     // Type-safe methods are verified.
     ensures only { VerifiesTypeSafe (C.content classes.now) (judged_class formed.now) number result }
-    // No run of a method that is verified meets a fault: operands, stack, control, objects and own object are right throughout.
+    // No run of a method that is verified meets a fault: operands, stack, control, objects and own object are right
+    // throughout.
     ensures safe { VerifiedIsSafe (C.content classes.now) (judged_class formed.now) number result }
 {
     if !is_listed(alloc, formed, classes)? {

@@ -35,11 +35,12 @@ pub enum PlayFault {
     /// 1: memory ran out.
     #[error("refused 1")]
     OutOfMemory,
-    /// 80, 81 or 83: the class of this number is the first with a fault, and this is the first rule that it breaks. Classes count from 0.
+    /// 80, 81 or 83: the class of this number is the first with a fault, and this is the first rule that it breaks.
+    /// Classes count from 0.
     #[error("refused {}", rule.number())]
     Broken { class: usize, rule: PlayRule },
-    /// 84: the class of this number is the first with a fault, and the method of this number the first of its methods that is refused.
-    /// Classes and methods count from 0.
+    /// 84: the class of this number is the first with a fault, and the method of this number the first of its methods
+    /// that is refused. Classes and methods count from 0.
     #[error("refused 84")]
     NotAllVerified { class: usize, method: usize },
 }
@@ -120,7 +121,8 @@ fn is_fine(verdict: &Verdict<'_>) -> bool
 
 /// The first method that is refused, if one is.
 fn first_refused<'a>(methods: &[MethodVerdict<'a>]) -> Option<(usize, MethodVerdict<'a>)>
-    ensures { MatchOption result (AreFineBelow methods.now (length methods.now)) (λ r. IsFirstRefused methods.now r.0 r.1) }
+    ensures { MatchOption result (AreFineBelow methods.now (length methods.now))
+        (λ r. IsFirstRefused methods.now r.0 r.1) }
 {
     for i in 0..methods.len() {
         let method = &methods[i];
@@ -139,7 +141,9 @@ fn judge<'a, C: Classes>(
     names: &mut MetNames<'a>,
     classes: &C,
 ) -> Result<Report<'a>, PlayStop<'a>>
-    ensures { (play : List JudgedClass) → slice_get play class ≡ Some (judged_class formed.now) → AreMet play class names.old → Judges (C.content classes.now) play class (judged_class formed.now) names.new result }
+    ensures { (play : List JudgedClass) → slice_get play class ≡ Some (judged_class formed.now)
+        → AreMet play class names.old
+        → Judges (C.content classes.now) play class (judged_class formed.now) names.new result }
 {
     let summary = summary_of(alloc, formed)?;
     if !has_summary(&summary, classes) {
@@ -173,7 +177,9 @@ fn reports_in_turn<'a, C: Classes>(
     play: &[Formed<'_, 'a>],
     classes: &C,
 ) -> Result<Vec<Report<'a>>, PlayStop<'a>>
-    ensures exactly { let cs = map judged_class play.now in MatchResult result (λ rs. ArePlayed (C.content classes.now) cs rs.items) (IsStopped (C.content classes.now) cs) }
+    ensures exactly { let cs = map judged_class play.now in
+        MatchResult result (λ rs. ArePlayed (C.content classes.now) cs rs.items)
+        (IsStopped (C.content classes.now) cs) }
     ensures hierarchy { IfOk result (λ rs. 0 < length rs.items → IsHierarchy (C.content classes.now)) }
 {
     let mut reports = Vec::with_capacity(alloc, play.len())?;
@@ -192,14 +198,16 @@ fn names_of<'a>(alloc: Global, play: &[Formed<'_, 'a>]) -> Result<Vec<&'a [u8]>,
     play.iter().map(|formed| name_of(formed)).collect(alloc)
 }
 
-/// The reports on classes in play; or why there are none, with the verdict on a method that is refused. What the classes inherit is found for
-/// all of them before any is judged, so that none walks along its superclasses.
+/// The reports on classes in play; or why there are none, with the verdict on a method that is refused. What the
+/// classes inherit is found for all of them before any is judged, so that none walks along its superclasses.
 pub fn reports_in_play<'a, C: Classes>(
     alloc: Global,
     play: &[Formed<'_, 'a>],
     classes: &C,
 ) -> Result<Vec<Report<'a>>, PlayStop<'a>>
-    ensures exactly { let cs = map judged_class play.now in MatchResult result (λ rs. ArePlayed (C.content classes.now) cs rs.items) (IsStopped (C.content classes.now) cs) }
+    ensures exactly { let cs = map judged_class play.now in
+        MatchResult result (λ rs. ArePlayed (C.content classes.now) cs rs.items)
+        (IsStopped (C.content classes.now) cs) }
     ensures hierarchy { IfOk result (λ rs. 0 < length rs.items → IsHierarchy (C.content classes.now)) }
 {
     let names = names_of(alloc, play)?;
@@ -209,7 +217,8 @@ pub fn reports_in_play<'a, C: Classes>(
 
 /// The fault of classes in play that have no reports.
 fn fault_of(stop: PlayStop<'_>) -> PlayFault
-    ensures { (classes : List ClassFact) (cs : List JudgedClass) → IsStopped classes cs stop.entry → IsNotPlayed classes cs result }
+    ensures { (classes : List ClassFact) (cs : List JudgedClass) → IsStopped classes cs stop.entry
+        → IsNotPlayed classes cs result }
 {
     match stop {
         PlayStop::OutOfMemory => PlayFault::OutOfMemory,
@@ -221,20 +230,24 @@ fn fault_of(stop: PlayStop<'_>) -> PlayFault
     }
 }
 
-/// The reports on classes that are in play together: any method of theirs may be entered where another calls it. They are in the order of the
-/// list, and each method that has code is verified, by the profile of its class (see [`Formed::under`]).
+/// The reports on classes that are in play together: any method of theirs may be entered where another calls it. They
+/// are in the order of the list, and each method that has code is verified, by the profile of its class (see
+/// [`Formed::under`]).
 ///
-/// Refused is the first class that breaks a rule, for the least number: 80 and 81 as by [`verify_methods`](crate::verify_methods), 83 where
-/// an earlier class has its name, 84 where one of its methods is refused. 1 where memory ran out.
+/// Refused is the first class that breaks a rule, for the least number: 80 and 81 as by
+/// [`verify_methods`](crate::verify_methods), 83 where an earlier class has its name, 84 where one of its methods is
+/// refused. 1 where memory ran out.
 ///
-/// Where there are reports, no run through the methods of these classes meets a fault (JVMS 2.6, 2.10, 2.11.8): in no activation, in no
-/// world that extends the hierarchy.
+/// Where there are reports, no run through the methods of these classes meets a fault (JVMS 2.6, 2.10, 2.11.8): in no
+/// activation, in no world that extends the hierarchy.
 pub fn verify_play<'a, C: Classes>(
     alloc: Global,
     play: &[Formed<'_, 'a>],
     classes: &C,
 ) -> Result<Vec<Report<'a>>, PlayFault>
-    ensures exactly { let cs = map judged_class play.now in MatchResult result (λ rs. ArePlayed (C.content classes.now) cs rs.items) (IsNotPlayed (C.content classes.now) cs) }
+    ensures exactly { let cs = map judged_class play.now in
+        MatchResult result (λ rs. ArePlayed (C.content classes.now) cs rs.items)
+        (IsNotPlayed (C.content classes.now) cs) }
     ensures safe { IfOk result (λ _. ArePlayable (C.content classes.now) (map judged_class play.now)) }
 {
     match reports_in_play(alloc, play, classes) {

@@ -15,7 +15,8 @@ use rules::Reason;
 
 /// The verdict that a reason gives.
 pub fn refuse<'a>(at: u16, reason: Reason<'a>) -> Result<Verdict<'a>, VerifyFault>
-    ensures { (v : verdicts.Verdict) → (reason.entry ≡ OutOfMemory) ⊎ (told_of v ≡ Some (at, reason_view reason.entry)) → Gives v result }
+    ensures { (v : verdicts.Verdict) → (reason.entry ≡ OutOfMemory) ⊎ (told_of v ≡ Some (at, reason_view reason.entry))
+        → Gives v result }
 {
     match reason {
         Reason::OutOfMemory => Err(VerifyFault::OutOfMemory),

@@ -78,7 +78,8 @@ fn report_on<'a, C: Classes>(
     frame: &mut Working<'a>,
     classes: &C,
 ) -> Result<MethodVerdict<'a>, VerifyFault>
-    requires constants { constants.old.members ≡ record { class = formed.now.class.now; classes = C.content classes.now } }
+    requires constants { constants.old.members
+        ≡ record { class = formed.now.class.now; classes = C.content classes.now } }
     requires number { number < length formed.now.class.now.methods.items }
     requires hierarchy { IsHierarchy (C.content classes.now) }
     requires listed { IsListed (C.content classes.now) (class_view formed.now.class.now) }
@@ -101,7 +102,8 @@ fn report_on<'a, C: Classes>(
     }
 }
 
-/// The verdicts on the methods of a class that the hierarchy has as it is. One frame and one table of constants serve all of them.
+/// The verdicts on the methods of a class that the hierarchy has as it is. One frame and one table of constants serve
+/// all of them.
 pub fn report_listed<'a, C: Classes>(
     alloc: Global,
     formed: &Formed<'_, 'a>,
@@ -123,9 +125,10 @@ pub fn report_listed<'a, C: Classes>(
     Ok(Report { methods })
 }
 
-/// The verdicts on the methods of a class that is well formed, by its profile (see [`Formed::under`]), in a hierarchy and in the order of the file (JVMS 4.10.1), each as
-/// [`verify_method`](crate::verify_method) answers it. 80 where the hierarchy has not this class as it is, which is looked up once;
-/// otherwise 81 where the superclass is final there; or 1, where memory ran out.
+/// The verdicts on the methods of a class that is well formed, by its profile (see [`Formed::under`]), in a hierarchy
+/// and in the order of the file (JVMS 4.10.1), each as [`verify_method`](crate::verify_method) answers it. 80 where the
+/// hierarchy has not this class as it is, which is looked up once; otherwise 81 where the superclass is final there; or
+/// 1, where memory ran out.
 pub fn verify_methods<'a, C: Classes>(
     alloc: Global,
     formed: &Formed<'_, 'a>,
@@ -146,8 +149,8 @@ pub fn verify_methods<'a, C: Classes>(
     }
 }
 
-/// The verdicts on the methods of the class that these bytes are, in a hierarchy (JVMS 4.10.1). Refused is, by the first that
-/// holds, what [`decode`] refuses, what [`form_check`] refuses, 80, or 81; or 1, where memory ran out.
+/// The verdicts on the methods of the class that these bytes are, in a hierarchy (JVMS 4.10.1). Refused is, by the
+/// first that holds, what [`decode`] refuses, what [`form_check`] refuses, 80, or 81; or 1, where memory ran out.
 pub fn verify_class<'a, C: Classes>(
     alloc: Global,
     bytes: &'a [u8],

@@ -30,8 +30,8 @@ fn fault_number(fault: ReadFault) -> Result<u8, VerifyFault>
     }
 }
 
-/// The frames that a method's stack map declares (JVMS 4.7.4), none where it has no map; or the number of the fault for which the map is
-/// refused.
+/// The frames that a method's stack map declares (JVMS 4.7.4), none where it has no map; or the number of the fault for
+/// which the map is refused.
 pub fn declared_frames<'a>(
     alloc: Global,
     method: &CodeMethod<'_, 'a>,

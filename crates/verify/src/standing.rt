@@ -100,7 +100,8 @@ fn doubled(alloc: Global, places: &[Option<usize>]) -> Result<Vec<Option<usize>>
         .collect(alloc)
 }
 
-/// From each class the place of the class 65,536 steps on, which is Object where it stands. The steps are doubled, so n classes take time n.
+/// From each class the place of the class 65,536 steps on, which is Object where it stands. The steps are doubled, so n
+/// classes take time n.
 fn far_places(alloc: Global, gathered: &Gathered<'_>) -> Result<Vec<Option<usize>>, AllocError>
     requires { ArePlaced (facts_of gathered.now.classes.items) gathered.now.places }
     ensures { IfOk result (λ far. LeadsAhead (facts_of gathered.now.classes.items) (2 ^ 16) far.items) }
@@ -131,7 +132,8 @@ fn are_roots(
     places: &[Option<usize>],
     classes: &[Summary<'_>],
 ) -> Result<Vec<bool>, AllocError>
-    ensures { IfOk result (λ roots. roots.items ≡ map (λ p. option_map_or is_root (class_at (facts_of classes.now) p) false) places.now) }
+    ensures { IfOk result (λ roots. roots.items
+        ≡ map (λ p. option_map_or is_root (class_at (facts_of classes.now) p) false) places.now) }
 {
     places
         .iter()
@@ -142,7 +144,8 @@ fn are_roots(
 /// Which of the classes stand.
 fn flags(alloc: Global, gathered: &Gathered<'_>) -> Result<Vec<bool>, AllocError>
     requires { ArePlaced (facts_of gathered.now.classes.items) gathered.now.places }
-    ensures { IfOk result (λ stand. stand.items ≡ map (stands (facts_of gathered.now.classes.items)) (facts_of gathered.now.classes.items)) }
+    ensures { IfOk result (λ stand. stand.items
+        ≡ map (stands (facts_of gathered.now.classes.items)) (facts_of gathered.now.classes.items)) }
 {
     let far = far_places(alloc, gathered)?;
     are_roots(alloc, &far, &gathered.classes)

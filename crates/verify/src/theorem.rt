@@ -3,10 +3,10 @@ ghost use Rattle.verify.specs.Safety.{TypeSafeIsSafe, OperandsAreRight, StackSta
 ghost use Rattle.verify.specs.ClassMethods.{TypeSafeMethodsAreSafe};
 ghost use Rattle.verify.specs.ClassRunSafety.{VerifiedIsPlayable};
 
-/// A method that is type-safe under a hierarchy meets no fault in any run, in any world that extends the hierarchy. By its
-/// parts: operands and local variables are there and of their types; the stack never passes max_stack; control never
-/// leaves the starts of instructions; no object is used before its constructor returned; and no constructor returns
-/// before its own object is ready.
+/// A method that is type-safe under a hierarchy meets no fault in any run, in any world that extends the hierarchy. By
+/// its parts: operands and local variables are there and of their types; the stack never passes max_stack; control
+/// never leaves the starts of instructions; no object is used before its constructor returned; and no constructor
+/// returns before its own object is ready.
 pub fn type_safe_is_safe()
     ensures safe { TypeSafeIsSafe }
     ensures of_classes { TypeSafeMethodsAreSafe }
@@ -17,9 +17,9 @@ pub fn type_safe_is_safe()
     ensures own_object { OwnObjectIsReady }
 {}
 
-/// Classes that a hierarchy has as they are, and of which each method with code is type-safe under it, meet no fault when they run
-/// together: in no activation of a run in which calls enter their methods, in any world that extends the hierarchy. What entered methods
-/// answer need not be assumed to fit.
+/// Classes that a hierarchy has as they are, and of which each method with code is type-safe under it, meet no fault
+/// when they run together: in no activation of a run in which calls enter their methods, in any world that extends the
+/// hierarchy. What entered methods answer need not be assumed to fit.
 pub fn verified_is_playable()
     ensures { VerifiedIsPlayable }
 {}

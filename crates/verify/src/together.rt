@@ -72,7 +72,9 @@ impl<'a, T: Drop> From<AllocFailed<T>> for TogetherFault<'a> {
 
 /// The fault of the file of this number, which is refused.
 fn refused<'a>(number: usize, fault: FileFault) -> TogetherFault<'a>
-    ensures { (reads : List Read) (read : Read) (i : ℕ) → number ≡ i + 1 → OrMemory read fault → (IsRefused read fault → IsFirstRefused reads i fault) → (profile : ProfileFact) → NotTogether profile reads result }
+    ensures { (reads : List Read) (read : Read) (i : ℕ) → number ≡ i + 1 → OrMemory read fault
+        → (IsRefused read fault → IsFirstRefused reads i fault) → (profile : ProfileFact)
+        → NotTogether profile reads result }
 {
     match fault {
         FileFault::OutOfMemory => TogetherFault::OutOfMemory,
@@ -115,8 +117,11 @@ fn form_all<'c, 'a>(
     profile: Profile,
     classes: &'c [ClassFile<'a>],
 ) -> Result<Vec<Formed<'c, 'a>>, TogetherFault<'a>>
-    ensures formed { IfOk result (λ v. (map judged_class v.items ≡ map (judged profile) (views classes.now)) × AreWellFormed (views classes.now)) }
-    ensures refused { IfErr result (λ e. (reads : List Read) → AreDecoded (take (length (views classes.now)) reads) (views classes.now) → (profile : ProfileFact) → NotTogether profile reads e) }
+    ensures formed { IfOk result (λ v. (map judged_class v.items ≡ map (judged profile) (views classes.now))
+        × AreWellFormed (views classes.now)) }
+    ensures refused { IfErr result
+        (λ e. (reads : List Read) → AreDecoded (take (length (views classes.now)) reads) (views classes.now)
+        → (profile : ProfileFact) → NotTogether profile reads e) }
 {
     let mut all = Vec::with_capacity(alloc, classes.len())?;
     for i in 0..classes.len() {
@@ -142,7 +147,8 @@ fn summaries_of<'a>(alloc: Global, play: &[Formed<'_, 'a>]) -> Result<Vec<Summar
 /// Why the classes in play, of which there are so many, have no reports.
 fn stopped<'a>(stop: PlayStop<'a>, many: usize) -> TogetherFault<'a>
     requires { IsWithin many stop }
-    ensures { (cs : List JudgedClass) → IsHierarchy (facts_in cs) → IsStopped (facts_in cs) cs stop.entry → HaveNone cs result }
+    ensures { (cs : List JudgedClass) → IsHierarchy (facts_in cs) → IsStopped (facts_in cs) cs stop.entry
+        → HaveNone cs result }
 {
     match stop {
         PlayStop::OutOfMemory => TogetherFault::OutOfMemory,
@@ -165,7 +171,8 @@ fn reports_under<'a, C: Classes>(
 ) -> Result<Vec<Report<'a>>, TogetherFault<'a>>
     requires content { C.content classes.now ≡ facts_in (map judged_class play.now) }
     requires hierarchy { IsHierarchy (C.content classes.now) }
-    ensures exactly { let cs = map judged_class play.now in MatchResult result (λ rs. HaveReports cs rs.items) (HaveNone cs) }
+    ensures exactly { let cs = map judged_class play.now in
+        MatchResult result (λ rs. HaveReports cs rs.items) (HaveNone cs) }
     ensures safe { let cs = map judged_class play.now in IfOk result (λ _. ArePlayable (facts_in cs) cs) }
 {
     match reports_in_play(alloc, play, classes) {
@@ -182,7 +189,8 @@ fn reports_among<'a, S: BuildHasher + Drop>(
     hasher: S,
 ) -> Result<Vec<Report<'a>>, TogetherFault<'a>>
     requires { facts_of summaries.now ≡ facts_in (map judged_class play.now) }
-    ensures exactly { let cs = map judged_class play.now in MatchResult result (λ rs. HaveReports cs rs.items) (HaveNone cs) }
+    ensures exactly { let cs = map judged_class play.now in
+        MatchResult result (λ rs. HaveReports cs rs.items) (HaveNone cs) }
     ensures safe { let cs = map judged_class play.now in IfOk result (λ _. ArePlayable (facts_in cs) cs) }
 {
     match Rows::new(alloc, summaries, hasher) {
@@ -198,7 +206,8 @@ fn reports_on<'a, S: BuildHasher + Drop>(
     play: &[Formed<'_, 'a>],
     hasher: S,
 ) -> Result<Vec<Report<'a>>, TogetherFault<'a>>
-    ensures exactly { let cs = map judged_class play.now in MatchResult result (λ rs. HaveReports cs rs.items) (HaveNone cs) }
+    ensures exactly { let cs = map judged_class play.now in
+        MatchResult result (λ rs. HaveReports cs rs.items) (HaveNone cs) }
     ensures safe { let cs = map judged_class play.now in IfOk result (λ _. ArePlayable (facts_in cs) cs) }
 {
     let summaries = summaries_of(alloc, play)?;
@@ -213,8 +222,10 @@ fn reports_decoded<'a, S: BuildHasher + Drop>(
     fault: Option<TogetherFault<'a>>,
     hasher: S,
 ) -> Result<Vec<Report<'a>>, TogetherFault<'a>>
-    ensures exactly { (reads : List Read) → DecodesAll reads (views classes.now) fault.entry → MatchResult result (λ rs. ReportsTogether profile reads rs.items) (NotTogether profile reads) }
-    ensures safe { (reads : List Read) → DecodesAll reads (views classes.now) fault.entry → IfOk result (λ _. ArePlayableFiles profile reads) }
+    ensures exactly { (reads : List Read) → DecodesAll reads (views classes.now) fault.entry
+        → MatchResult result (λ rs. ReportsTogether profile reads rs.items) (NotTogether profile reads) }
+    ensures safe { (reads : List Read) → DecodesAll reads (views classes.now) fault.entry
+        → IfOk result (λ _. ArePlayableFiles profile reads) }
 {
     let play = match form_all(alloc, profile, classes) {
         Ok(play) => play,
@@ -226,19 +237,21 @@ fn reports_decoded<'a, S: BuildHasher + Drop>(
     }
 }
 
-/// The reports on the classes that these files are, in the order of the files, where all of them are in play together: under the hierarchy
-/// of these classes, as [`verify_play`](crate::verify_play) answers. Each file was read so; one that was not read is refused as one that is
-/// no class.
+/// The reports on the classes that these files are, in the order of the files, where all of them are in play together:
+/// under the hierarchy of these classes, as [`verify_play`](crate::verify_play) answers. Each file was read so; one
+/// that was not read is refused as one that is no class.
 ///
-/// Refused is, by the first of these that holds: the first file that is refused for what its reading, [`decode`](classfile::decode) or
-/// [`form_check`](classfile::form_check) refuses; what [`Rows::new`] refuses of the summaries (40 to 46); the first class whose superclass
-/// is final (81) or of which a method is refused, with the verdict on the first such method. 1 where memory ran out.
+/// Refused is, by the first of these that holds: the first file that is refused for what its reading,
+/// [`decode`](classfile::decode) or [`form_check`](classfile::form_check) refuses; what [`Rows::new`] refuses of the
+/// summaries (40 to 46); the first class whose superclass is final (81) or of which a method is refused, with the
+/// verdict on the first such method. 1 where memory ran out.
 pub fn verify_together<'a, S: BuildHasher + Drop>(
     alloc: Global,
     files: &[FileRead<'a>],
     hasher: S,
 ) -> Result<Vec<Report<'a>>, TogetherFault<'a>>
-    ensures exactly { MatchResult result (λ rs. ReportsTogether Default (map read_of files.now) rs.items) (NotTogether Default (map read_of files.now)) }
+    ensures exactly { MatchResult result (λ rs. ReportsTogether Default (map read_of files.now) rs.items)
+        (NotTogether Default (map read_of files.now)) }
     ensures safe { IfOk result (λ _. ArePlayableFiles Default (map read_of files.now)) }
 {
     verify_together_under(alloc, Profile::Default, files, hasher)
@@ -251,7 +264,8 @@ pub fn verify_together_under<'a, S: BuildHasher + Drop>(
     files: &[FileRead<'a>],
     hasher: S,
 ) -> Result<Vec<Report<'a>>, TogetherFault<'a>>
-    ensures exactly { MatchResult result (λ rs. ReportsTogether profile (map read_of files.now) rs.items) (NotTogether profile (map read_of files.now)) }
+    ensures exactly { MatchResult result (λ rs. ReportsTogether profile (map read_of files.now) rs.items)
+        (NotTogether profile (map read_of files.now)) }
     ensures safe { IfOk result (λ _. ArePlayableFiles profile (map read_of files.now)) }
 {
     let decoded = decode_all(alloc, files)?;

@@ -87,9 +87,11 @@ fn begins_in<'a, C: Classes>(
     state: &State<'a>,
 ) -> Result<bool, AllocError>
     requires { number < length formed.now.class.now.methods.items }
-    ensures begins { IfOk result (λ b. IsTrue b ↔ BeginsIn (C.content classes.now) (judged_class formed.now) number (state_view state.now)) }
+    ensures begins { IfOk result (λ b. IsTrue b
+        ↔ BeginsIn (C.content classes.now) (judged_class formed.now) number (state_view state.now)) }
     // So the method with its instructions begins there, if its code is some.
-    ensures so { IfOk result (λ b. IsTrue b → (m : MethodFact Act) → IsMethod (judged_class formed.now) number m → IsInitial (world_of (C.content classes.now)) m (state_view state.now)) }
+    ensures so { IfOk result (λ b. IsTrue b → (m : MethodFact Act) → IsMethod (judged_class formed.now) number m
+        → IsInitial (world_of (C.content classes.now)) m (state_view state.now)) }
 {
     match formed.method(number) {
         None => Ok(false),
@@ -106,7 +108,8 @@ fn is_verified(verdict: &Verdict<'_>) -> bool
     }
 }
 
-/// Refuses a method that is not verified, by 80 where the hierarchy has not its class as it is, and otherwise by 56; or by 1.
+/// Refuses a method that is not verified, by 80 where the hierarchy has not its class as it is, and otherwise by 56; or
+/// by 1.
 fn check_verified<C: Classes>(
     alloc: Global,
     formed: &Formed<'_, '_>,
@@ -138,7 +141,8 @@ fn walk_method<'a, C: Classes>(
 ) -> Result<Walked<'a>, AllocError>
     requires within { number < length formed.now.class.now.methods.items }
     requires coded { (m : MethodFact Act) × IsMethod (judged_class formed.now) number m }
-    ensures walks { IfOk result (λ w. WalksIn (C.content classes.now) (judged_class formed.now) number (state_view state.now) (map choice_view choices.now) w.taken (stop_view w.last)) }
+    ensures walks { IfOk result (λ w. WalksIn (C.content classes.now) (judged_class formed.now) number
+        (state_view state.now) (map choice_view choices.now) w.taken (stop_view w.last)) }
     ensures hierarchy { IsHierarchy (C.content classes.now) }
 {
     let _object = classes.find(OBJECT);
@@ -154,13 +158,16 @@ fn walk_method<'a, C: Classes>(
     }
 }
 
-/// The walk by these choices of the method of this number, which counts from 0, from a state in which it begins (see [`walk`]), where the method
-/// is verified (see [`verify_method`]): in the world that has the hierarchy's classes and no other.
+/// The walk by these choices of the method of this number, which counts from 0, from a state in which it begins (see
+/// [`walk`]), where the method is verified (see [`verify_method`]): in the world that has the hierarchy's classes and
+/// no other.
 ///
-/// No such walk meets a fault, whatever the choices: neither where it stops nor in a state on the way (JVMS 2.6, 2.10, 4.10.1).
+/// No such walk meets a fault, whatever the choices: neither where it stops nor in a state on the way (JVMS 2.6, 2.10,
+/// 4.10.1).
 ///
-/// Refused is, by the least number that holds, a state in which the method does not begin (55), so each one where it has no code; a method
-/// that is not verified (56); a class that the hierarchy has not with exactly its summary (80). Or 1.
+/// Refused is, by the least number that holds, a state in which the method does not begin (55), so each one where it
+/// has no code; a method that is not verified (56); a class that the hierarchy has not with exactly its summary (80).
+/// Or 1.
 pub fn walk_verified<'a, C: Classes>(
     alloc: Global,
     formed: &Formed<'_, 'a>,
@@ -171,11 +178,13 @@ pub fn walk_verified<'a, C: Classes>(
 ) -> Result<Walked<'a>, WalkFault>
     requires { number < length formed.now.class.now.methods.items }
     // Each answer exactly where it holds, unless memory runs out.
-    ensures exactly { WalksVerified (C.content classes.now) (judged_class formed.now) number (state_view state.now) (map choice_view choices.now) result }
+    ensures exactly { WalksVerified (C.content classes.now) (judged_class formed.now) number (state_view state.now)
+        (map choice_view choices.now) result }
     // It never stops at a fault.
     ensures no_fault { IfOk result (λ w. w.last ≢ Fault) }
     // Nor is any state on the way one.
-    ensures safe { IfOk result (λ w. IsSafeWalk (C.content classes.now) (judged_class formed.now) number (state_view state.now) (map choice_view choices.now) (stop_view w.last)) }
+    ensures safe { IfOk result (λ w. IsSafeWalk (C.content classes.now) (judged_class formed.now) number
+        (state_view state.now) (map choice_view choices.now) (stop_view w.last)) }
 {
     if !begins_in(alloc, formed, number, classes, state)? {
         return Err(WalkFault::NotInitial);

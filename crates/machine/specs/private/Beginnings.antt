@@ -43,7 +43,8 @@ beginning_view b = record {
 
 -- the own object of the class of this name, or of one below it
 abbrev pub IsOwnObject : World → List ℕ → Heap → ℕ → Type 0
-IsOwnObject world class heap own = (x : List ℕ) × (heap own ≡ Some (object (class_type x) this)) × IsSubclassIn world x class
+IsOwnObject world class heap own = (x : List ℕ) × (heap own ≡ Some (object (class_type x) this))
+    × IsSubclassIn world x class
 
 -- a receiver that is initialized: an object of the class or of one below it, and not null
 abbrev pub IsReceiver : World → List ℕ → Heap → Value → Type 0
@@ -62,7 +63,8 @@ own_at own_receiver own = Some own
 -- the receiver that is handed over
 abbrev pub ReceivesAs : World → List ℕ → Heap → ℕ → Receiver → List Value → Type 0
 ReceivesAs world class heap own no_receiver vs = vs ≡ []
-ReceivesAs world class heap own ready_receiver vs = (a : ℕ) × (vs ≡ reference a ∷ []) × FitsReference world heap (class_type class) (reference a)
+ReceivesAs world class heap own ready_receiver vs = (a : ℕ) × (vs ≡ reference a ∷ [])
+    × FitsReference world heap (class_type class) (reference a)
 ReceivesAs world class heap own own_receiver vs = (vs ≡ reference own ∷ []) × IsOwnObject world class heap own
 
 -- an object of this status, when a method begins whose own object is at this address, if it has one
@@ -81,7 +83,8 @@ pub record AreObjects (own : Option ℕ) (heap : Heap) : Type 0 where
   pub only_own : (a : ℕ) (x : ReferenceType) → heap a ≡ Some (object x this) → own ≡ Some a
 
 -- arguments behind the receiver, all of these values together, and the objects
-pub record BehindReceiver (world : World) (b : Beginning) (own : Option ℕ) (values arguments : List Value) (heap : Heap) : Type 0 where
+pub record BehindReceiver (world : World) (b : Beginning) (own : Option ℕ) (values arguments : List Value)
+    (heap : Heap) : Type 0 where
   pub fit : AllFit world heap b.params arguments
   pub enough : length (in_slots values) ≤ b.max_locals
   pub are : AreObjects own heap

@@ -8,10 +8,23 @@ use Rattle.machine.specs.declared.constants.CallSite.{CallSite as RawSite}
 use Rattle.machine.specs.Views.{run_type_view}
 
 abbrev pub field_view : RawField → FieldConstant
-field_view f = record { class = f.class.now; name = f.name.now; descriptor = f.descriptor.now; type = type_of f.field_type }
+field_view f = record {
+  class = f.class.now;
+  name = f.name.now;
+  descriptor = f.descriptor.now;
+  type =
+      type_of f.field_type;
+}
 
 abbrev pub constant_view : RawMethod → MethodConstant
-constant_view c = record { interface = c.interface; class = run_type_view c.class; name = c.name.now; descriptor = c.descriptor.now; type = method_of c.method_type }
+constant_view c = record {
+  interface = c.interface;
+  class = run_type_view c.class;
+  name = c.name.now;
+  descriptor =
+      c.descriptor.now;
+  type = method_of c.method_type;
+}
 
 abbrev pub site_view : RawSite → CallSite
 site_view s = record { name = s.name.now; type = method_of s.method_type }

@@ -8,7 +8,7 @@ use Rattle.insn.specs.Meanings.{Act}
 use Rattle.insn.specs.Offsets.{has_offset}
 use Rattle.machine.specs.Values.{Value, reference, Slot, depth_of}
 use Rattle.machine.specs.Heap.{Heap}
-use Rattle.machine.specs.Tasks.{Task, needs_of, falls, targets}
+use Rattle.machine.specs.Effects.{Effect, demands_of, falls, targets}
 use Rattle.machine.specs.Demands.{State, IsMade, IsOwn, AllMeet, MeetsRest, HasRoom, EndsReady}
 use Rattle.machine.specs.private.Decided.{paired_behind}
 
@@ -36,16 +36,16 @@ abbrev pub all_begin : List (ℕ × Act) → List ℤ → Bool
 all_begin code [] = true
 all_begin code (t ∷ ts) = begins code t && all_begin code ts
 
-abbrev pub stays : List (ℕ × Act) → ℕ → Task → Option ℕ → List ExceptionEntry → Bool
-stays code at task next entries =
-    (not (falls task) || is_some next) && (all_begin code (targets at task) && all_lead code at entries)
+abbrev pub stays : List (ℕ × Act) → ℕ → Effect → Option ℕ → List ExceptionEntry → Bool
+stays code at effect next entries =
+    (not (falls effect) || is_some next) && (all_begin code (targets at effect) && all_lead code at entries)
 
 -- the demands on a state before an instruction that does this, where that is the next start
-pub record Meets (world : World) (m : Method Act) (task : Task) (next : Option ℕ) (s : State) : Type 0 where
+pub record Meets (world : World) (m : Method Act) (effect : Effect) (next : Option ℕ) (s : State) : Type 0 where
   pub locals : are_whole m.max_locals s.locals ≡ true
-  pub operands : AllMeet world s.heap (needs_of task) s.stack
-  pub others : MeetsRest world m task s
+  pub operands : AllMeet world s.heap (demands_of effect) s.stack
+  pub others : MeetsRest world m effect s
   pub before : depth_of s.stack ≤ m.max_stack
-  pub after : HasRoom m task s
-  pub control : stays m.code s.at task next m.exceptions ≡ true
-  pub own_object : EndsReady m task s
+  pub after : HasRoom m effect s
+  pub control : stays m.code s.at effect next m.exceptions ≡ true
+  pub own_object : EndsReady m effect s

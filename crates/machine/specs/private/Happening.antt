@@ -15,7 +15,7 @@ use Rattle.machine.specs.declared.choosing.StepFault.{StepFault}
 use Rattle.machine.specs.declared.choosing.StepFault.TheVariants.{OutOfMemory, NotAChoice, NotInitial}
 use Rattle.machine.specs.Values.{Value, reference, Slot, empty, holds, is_wide_slot, behind_lost, stored}
 use Rattle.machine.specs.Heap.{Status, ready, Object, object, Heap, with_object, IsAddress, IsBelow, IsFresh, with_fresh}
-use Rattle.machine.specs.Tasks.{Need, Reply, Task, falls, targets}
+use Rattle.machine.specs.Effects.{Demand, Reply, Effect, falls, targets}
 use Rattle.machine.specs.Demands.{State, AreForm}
 use Rattle.machine.specs.Steps.{Replies, Operates, moved, IsBranch, IsLast, Does, IsRaised, IsCaught, moved_with}
 use Rattle.machine.specs.Views.{state_view}
@@ -45,11 +45,11 @@ Done P (Err NotAChoice) = (t : State) → P t → ⊥
 Done P (Err NotInitial) = ⊥
 
 -- what it does to a state that is already where it goes
-abbrev pub DoesHere : World → Task → State → Option Value → State → Type 0
-DoesHere world task s answer t = Does world task s answer s.at t
+abbrev pub DoesHere : World → Effect → State → Option Value → State → Type 0
+DoesHere world effect s answer t = Does world effect s answer s.at t
 
-abbrev pub OperatesHere : World → List Need → Option ℕ → Reply → State → Option Value → State → Type 0
-OperatesHere world needs live reply s answer t = Operates world needs live reply s answer s.at t
+abbrev pub OperatesHere : World → List Demand → Option ℕ → Reply → State → Option Value → State → Type 0
+OperatesHere world demands live reply s answer t = Operates world demands live reply s answer s.at t
 
 -- a local variable holds the value, or none
 abbrev pub IsHeld : Option Slot → Option Value → Type 0
@@ -63,7 +63,8 @@ IsGiven world heap reply answer (Some given) = Replies world heap reply answer (
 
 -- what is done to local variables and to the stack
 abbrev pub ReadsLocal : ℕ → State → Option Value → State → Type 0
-ReadsLocal local s answer t = (v : Value) × (slice_get s.locals local ≡ Some (holds v)) × (answer ≡ None) × (t ≡ moved s s.at (v ∷ s.stack))
+ReadsLocal local s answer t = (v : Value) × (slice_get s.locals local ≡ Some (holds v)) × (answer ≡ None)
+    × (t ≡ moved s s.at (v ∷ s.stack))
 
 abbrev pub WritesLocal : ℕ → State → Option Value → State → Type 0
 WritesLocal local s answer t =
@@ -72,7 +73,8 @@ WritesLocal local s answer t =
 
 abbrev pub Rearranges : List StackForm → State → Option Value → State → Type 0
 Rearranges forms s answer t =
-    (f : StackForm) × IsAmong f forms × AreForm f.takes s.stack × (answer ≡ None) × (t ≡ moved s s.at (rearranged f s.stack))
+    (f : StackForm) × IsAmong f forms × AreForm f.takes s.stack × (answer ≡ None)
+    × (t ≡ moved s s.at (rearranged f s.stack))
 
 -- the object at an address is ready
 abbrev pub MakesReady : ℕ → State → State → Type 0
@@ -81,15 +83,16 @@ MakesReady a s t =
     × (t ≡ moved_with s s.at s.stack (with_object s.heap a (object x ready)))
 
 -- so is the one that stands beneath the arguments, and all of them are taken
-abbrev pub Initializes : List Need → State → Option Value → State → Type 0
-Initializes needs s answer t =
+abbrev pub Initializes : List Demand → State → Option Value → State → Type 0
+Initializes demands s answer t =
     (a : ℕ) × (rest : List Value) × (x : ReferenceType) × (status : Status)
-    × (beneath needs s.stack ≡ reference a ∷ rest) × (s.heap a ≡ Some (object x status)) × (answer ≡ None)
+    × (beneath demands s.stack ≡ reference a ∷ rest) × (s.heap a ≡ Some (object x status)) × (answer ≡ None)
     × (t ≡ moved_with s s.at rest (with_object s.heap a (object x ready)))
 
 -- the object comes to be at an address that is unused
 abbrev pub PutsAt : Object → State → ℕ → State → Type 0
-PutsAt o s a t = (s.heap a ≡ None) × IsAddress a × (t ≡ moved_with s s.at (reference a ∷ s.stack) (with_object s.heap a o))
+PutsAt o s a t = (s.heap a ≡ None) × IsAddress a
+    × (t ≡ moved_with s s.at (reference a ∷ s.stack) (with_object s.heap a o))
 
 abbrev pub Puts : Object → State → Option Value → State → Type 0
 Puts o s answer t =
@@ -107,29 +110,33 @@ pub record MayGo (targets : List ℤ) (falls : Bool) (next branch : Option ℕ) 
   pub by : IsBranch targets branch to
   pub where_to : IsAmong (pos to) targets ⊎ ((falls ≡ true) × (next ≡ Some to))
 
-abbrev pub GoesWay : Task → Option ℕ → ℕ → Option ℕ → ℕ → Type 0
-GoesWay task next from branch to = MayGo (targets from task) (falls task) next branch to
+abbrev pub GoesWay : Effect → Option ℕ → ℕ → Option ℕ → ℕ → Type 0
+GoesWay effect next from branch to = MayGo (targets from effect) (falls effect) next branch to
 
 -- it goes to an offset, and does there what it does
-pub record GoesOn (world : World) (task : Task) (next : Option ℕ) (s : State) (heap : Heap) (branch : Option ℕ) (answer : Option Value) (t : State) : Type 0 where
+pub record GoesOn (world : World) (effect : Effect) (next : Option ℕ) (s : State) (heap : Heap) (branch : Option ℕ)
+    (answer : Option Value) (t : State) : Type 0 where
   pub to : ℕ
-  pub way : GoesWay task next s.at branch to
-  pub does : Does world task (moved_to s s.at heap) answer to t
+  pub way : GoesWay effect next s.at branch to
+  pub does : Does world effect (moved_to s s.at heap) answer to t
 
 -- it ends, by no branch
-pub record EndsSo (task : Task) (branch : Option ℕ) (answer : Option Value) : Type 0 where
-  pub last : IsLast task
+pub record EndsSo (effect : Effect) (branch : Option ℕ) (answer : Option Value) : Type 0 where
+  pub last : IsLast effect
   pub no_branch : branch ≡ None
   pub no_answer : answer ≡ None
 
-abbrev pub Goes : World → Task → Option ℕ → State → Option ℕ → Option Value → List (ℕ × ReferenceType) → Result RawOutcome StepFault → Type 0
-Goes world task next s branch answer fresh (Ok (outcomes.Next t)) = IsFresh s.heap fresh × GoesOn world task next s (with_fresh s.heap fresh) branch answer (state_view t)
-Goes world task next s branch answer fresh (Ok outcomes.Ended) = IsFresh s.heap fresh × EndsSo task branch answer
-Goes world task next s branch answer fresh (Ok outcomes.Fault) = ⊥
-Goes world task next s branch answer fresh (Err OutOfMemory) = Unit {0}
-Goes world task next s branch answer fresh (Err NotAChoice) =
-    IsFresh s.heap fresh → ((t : State) → GoesOn world task next s (with_fresh s.heap fresh) branch answer t → ⊥) × (EndsSo task branch answer → ⊥)
-Goes world task next s branch answer fresh (Err NotInitial) = ⊥
+abbrev pub Goes : World → Effect → Option ℕ → State → Option ℕ → Option Value → List (ℕ × ReferenceType)
+    → Result RawOutcome StepFault → Type 0
+Goes world effect next s branch answer fresh (Ok (outcomes.Next t)) = IsFresh s.heap fresh
+    × GoesOn world effect next s (with_fresh s.heap fresh) branch answer (state_view t)
+Goes world effect next s branch answer fresh (Ok outcomes.Ended) = IsFresh s.heap fresh × EndsSo effect branch answer
+Goes world effect next s branch answer fresh (Ok outcomes.Fault) = ⊥
+Goes world effect next s branch answer fresh (Err OutOfMemory) = Unit {0}
+Goes world effect next s branch answer fresh (Err NotAChoice) =
+    IsFresh s.heap fresh → ((t : State) → GoesOn world effect next s (with_fresh s.heap fresh) branch answer t → ⊥)
+    × (EndsSo effect branch answer → ⊥)
+Goes world effect next s branch answer fresh (Err NotInitial) = ⊥
 
 -- ---- raising
 
@@ -143,11 +150,13 @@ pub record Catches (world : World) (m : Method Act) (s : State)
   pub result : t ≡ moved_with s by_entry.handler (reference address ∷ []) heap
 
 abbrev pub CatchesBy : World → Method Act → State → ℕ → ReferenceType → Heap → ℕ → Result RawOutcome StepFault → Type 0
-CatchesBy world m s address type heap entry (Ok (outcomes.Next t)) = Catches world m s address type heap entry (state_view t)
+CatchesBy world m s address type heap entry (Ok (outcomes.Next t)) =
+    Catches world m s address type heap entry (state_view t)
 CatchesBy world m s address type heap entry (Ok outcomes.Ended) = ⊥
 CatchesBy world m s address type heap entry (Ok outcomes.Fault) = ⊥
 CatchesBy world m s address type heap entry (Err OutOfMemory) = Unit {0}
-CatchesBy world m s address type heap entry (Err NotAChoice) = (t : State) → Catches world m s address type heap entry t → ⊥
+CatchesBy world m s address type heap entry (Err NotAChoice) = (t : State) → Catches world m s address type heap entry t
+    → ⊥
 CatchesBy world m s address type heap entry (Err NotInitial) = ⊥
 
 -- no entry is named by which it is caught
@@ -155,7 +164,8 @@ abbrev pub CaughtBy : World → Method Act → State → ℕ → List (ℕ × Re
 CaughtBy world m s address fresh None t = ⊥
 CaughtBy world m s address fresh (Some entry) t = IsCaught world m s address fresh entry t
 
-abbrev pub Raises : World → Method Act → State → ℕ → List (ℕ × ReferenceType) → Option ℕ → Result RawOutcome StepFault → Type 0
+abbrev pub Raises : World → Method Act → State → ℕ → List (ℕ × ReferenceType) → Option ℕ → Result RawOutcome StepFault
+    → Type 0
 Raises world m s address fresh entry (Ok (outcomes.Next t)) = CaughtBy world m s address fresh entry (state_view t)
 Raises world m s address fresh entry (Ok outcomes.Ended) = (entry ≡ None) × IsRaised world s address fresh
 Raises world m s address fresh entry (Ok outcomes.Fault) = ⊥

@@ -12,8 +12,8 @@ use Rattle.insn.specs.Meanings.{Act}
 use Rattle.insn.specs.Stacks.{beneath}
 use Rattle.machine.specs.Values.{Value}
 use Rattle.machine.specs.Heap.{Heap, FitsField, AllFit}
-use Rattle.machine.specs.Tasks as tasks
-use Rattle.machine.specs.Tasks.{Need, Task, of_type, need_of, arguments_on, reply_of, operates, initializes, calls_special, stuck, where_allowed, is_init_name, has_room_for_receiver, may_name, may_invoke_interface, call_on, static_call, needs_of, task}
+use Rattle.machine.specs.Effects as effects
+use Rattle.machine.specs.Effects.{Demand, Effect, of_type, demand_of, arguments_on, reply_of, operates, initializes, calls_special, stuck, where_allowed, is_init_name, has_room_for_receiver, may_name, may_invoke_interface, call_on, static_call, demands_of, effect}
 use Rattle.machine.specs.Demands.{State, Meets, AllMeet, MeetsRest}
 use Rattle.verify.specs.ClassRuns.{Way, static, special, virtual, by_way, called, pushed}
 
@@ -22,21 +22,21 @@ some_same a b e = cc
 
 -- ---- values pushed one after the other
 
-pub beneath_pushed : (w : World) (h : Heap) (ts : List FieldDescriptor) (ns : List Need) (vs us : List Value) → length vs ≡ length ts → beneath (arguments_on ts ns) (pushed vs us) ≡ beneath ns us
+pub beneath_pushed : (w : World) (h : Heap) (ts : List FieldDescriptor) (ns : List Demand) (vs us : List Value) → length vs ≡ length ts → beneath (arguments_on ts ns) (pushed vs us) ≡ beneath ns us
 beneath_pushed w h [] ns [] us e = refl
-beneath_pushed w h (t ∷ ts) ns (v ∷ vs) us e = beneath_pushed w h ts (need_of t ∷ ns) vs (v ∷ us) cc
+beneath_pushed w h (t ∷ ts) ns (v ∷ vs) us e = beneath_pushed w h ts (demand_of t ∷ ns) vs (v ∷ us) cc
 beneath_pushed w h [] ns (v ∷ vs) us e = cc
 beneath_pushed w h (t ∷ ts) ns [] us e = cc
 
-meets_field : (w : World) (h : Heap) (t : FieldDescriptor) (v : Value) → Meets w h (need_of t) v → FitsField w h t v
+meets_field : (w : World) (h : Heap) (t : FieldDescriptor) (v : Value) → Meets w h (demand_of t) v → FitsField w h t v
 meets_field w h (primitive p) v f = f
 meets_field w h (class n) v f = f
 meets_field w h (array c) v f = f
 
-pub arguments_meet : (w : World) (h : Heap) (ts : List FieldDescriptor) (ns : List Need) (vs us : List Value) → length vs ≡ length ts → AllMeet w h (arguments_on ts ns) (pushed vs us) → AllFit w h ts vs × AllMeet w h ns us
+pub arguments_meet : (w : World) (h : Heap) (ts : List FieldDescriptor) (ns : List Demand) (vs us : List Value) → length vs ≡ length ts → AllMeet w h (arguments_on ts ns) (pushed vs us) → AllFit w h ts vs × AllMeet w h ns us
 arguments_meet w h [] ns [] us e f = (tt, f)
 arguments_meet w h (t ∷ ts) ns (v ∷ vs) us e f =
-    let r = arguments_meet w h ts (need_of t ∷ ns) vs (v ∷ us) (cc) f in
+    let r = arguments_meet w h ts (demand_of t ∷ ns) vs (v ∷ us) (cc) f in
     ((meets_field w h t v r.1.0, r.0), r.1.1)
 arguments_meet w h [] ns (v ∷ vs) us e f = cc
 arguments_meet w h (t ∷ ts) ns [] us e f = cc
@@ -48,25 +48,25 @@ item_pushed (v ∷ vs) us n =
     let e : length vs + suc n ≡ length (v ∷ vs) + n = omega arith in
     subst (λ k. slice_get (pushed vs (v ∷ us)) k ≡ slice_get us n) e (item_pushed vs (v ∷ us) (suc n))
 
--- ---- the task of a call
+-- ---- the effect of a call
 
-abbrev pub special_task : Method Act → MethodConstant → Task
-special_task m c = calls_special c.class (arguments_on c.type.params (of_type (class_type m.class) ∷ [])) (Some (length c.type.params)) (reply_of c.type.result)
+abbrev pub special_effect : Method Act → MethodConstant → Effect
+special_effect m c = calls_special c.class (arguments_on c.type.params (of_type (class_type m.class) ∷ [])) (Some (length c.type.params)) (reply_of c.type.result)
 
 pub record Initializes (m : Method Act) (a : Act) (c : MethodConstant) : Type 0 where
   pub name : List ℕ
   pub class : c.class ≡ class_type name
-  pub does : task m a ≡ initializes name (arguments_on c.type.params [])
+  pub does : effect m a ≡ initializes name (arguments_on c.type.params [])
   pub init : bytes_eq c.name init_name ≡ true
 
-pub record Operates (m : Method Act) (a : Act) (c : MethodConstant) (t : Task) : Type 0 where
-  pub does : task m a ≡ t
+pub record Operates (m : Method Act) (a : Act) (c : MethodConstant) (t : Effect) : Type 0 where
+  pub does : effect m a ≡ t
   pub init : bytes_eq c.name init_name ≡ false
 
 abbrev pub CallsBy : Method Act → Act → Way → MethodConstant → Type 0
 CallsBy m a static c = Operates m a c (static_call c)
 CallsBy m a virtual c = Operates m a c (call_on c.class c)
-CallsBy m a special c = Operates m a c (special_task m c) ⊎ Initializes m a c
+CallsBy m a special c = Operates m a c (special_effect m c) ⊎ Initializes m a c
 
 and_parts : (a b : Bool) → (a && b) ≡ true → (a ≡ true) × (b ≡ true)
 and_parts true b e = (refl, e)
@@ -76,11 +76,11 @@ not_true : (b : Bool) → not b ≡ true → b ≡ false
 not_true false e = refl
 not_true true e = cc
 
-allowed : (w : World) (m : Method Act) (s : State) (b : Bool) (t : Task) → MeetsRest w m (where_allowed b t) s → b ≡ true
+allowed : (w : World) (m : Method Act) (s : State) (b : Bool) (t : Effect) → MeetsRest w m (where_allowed b t) s → b ≡ true
 allowed w m s true t f = refl
 allowed w m s false t f = elim f [ ]
 
-is_allowed : (b : Bool) (t : Task) → b ≡ true → where_allowed b t ≡ t
+is_allowed : (b : Bool) (t : Effect) → b ≡ true → where_allowed b t ≡ t
 is_allowed b t e = rw e refl
 
 abbrev way_in : Way → Option (Way × MethodConstant) → Way
@@ -92,54 +92,54 @@ constant_in other None = other
 constant_in other (Some x) = x.1
 
 module _ (w : World) (m : Method Act) (s : State) where
-  operates_by : (a : Act) (c : MethodConstant) (b : Bool) (t : Task) → task m a ≡ where_allowed b t → b ≡ true → bytes_eq c.name init_name ≡ false → Operates m a c t
+  operates_by : (a : Act) (c : MethodConstant) (b : Bool) (t : Effect) → effect m a ≡ where_allowed b t → b ≡ true → bytes_eq c.name init_name ≡ false → Operates m a c t
   operates_by a c b t e k i = record { does = e ∙ is_allowed b t k; init = i }
 
   some_call : (way way' : Way) (o : Option MethodConstant) (c : MethodConstant) → by_way way o ≡ Some (way', c) → (way ≡ way') × (o ≡ Some c)
   some_call way way' None c e = cc
   some_call way way' (Some d) c e = (ap (way_in way) e, ap (λ z. Some (constant_in d z)) e)
 
-  static_by : (i : ℕ) (c : MethodConstant) → method_at m.constant_pool i ≡ Some c → MeetsRest w m (task m (acts.InvokeStatic i)) s → Operates m (acts.InvokeStatic i) c (static_call c)
+  static_by : (i : ℕ) (c : MethodConstant) → method_at m.constant_pool i ≡ Some c → MeetsRest w m (effect m (acts.InvokeStatic i)) s → Operates m (acts.InvokeStatic i) c (static_call c)
   static_by i c e f =
-      let t : task m (acts.InvokeStatic i) ≡ tasks.invoke_static m.major_version (Some c) = ap (tasks.invoke_static m.major_version) e in
+      let t : effect m (acts.InvokeStatic i) ≡ effects.invoke_static m.major_version (Some c) = ap (effects.invoke_static m.major_version) e in
       let b = allowed w m s _ (static_call c) (subst (λ z. MeetsRest w m z s) t f) in
       let k = and_parts _ _ (and_parts (is_class_type c.class) _ b).1 in
       operates_by (acts.InvokeStatic i) c _ (static_call c) t b (not_true _ k.0)
 
-  virtual_by : (i : ℕ) (c : MethodConstant) → method_at m.constant_pool i ≡ Some c → MeetsRest w m (task m (acts.InvokeVirtual i)) s → Operates m (acts.InvokeVirtual i) c (call_on c.class c)
+  virtual_by : (i : ℕ) (c : MethodConstant) → method_at m.constant_pool i ≡ Some c → MeetsRest w m (effect m (acts.InvokeVirtual i)) s → Operates m (acts.InvokeVirtual i) c (call_on c.class c)
   virtual_by i c e f =
-      let t : task m (acts.InvokeVirtual i) ≡ tasks.invoke_virtual (Some c) = ap tasks.invoke_virtual e in
+      let t : effect m (acts.InvokeVirtual i) ≡ effects.invoke_virtual (Some c) = ap effects.invoke_virtual e in
       let b = allowed w m s _ (call_on c.class c) (subst (λ z. MeetsRest w m z s) t f) in
       let k = and_parts _ _ (and_parts (not c.interface) _ b).1 in
       operates_by (acts.InvokeVirtual i) c _ (call_on c.class c) t b (not_true _ k.0)
 
-  interface_by : (i n : ℕ) (c : MethodConstant) → method_at m.constant_pool i ≡ Some c → MeetsRest w m (task m (acts.InvokeInterface i n)) s → Operates m (acts.InvokeInterface i n) c (call_on c.class c)
+  interface_by : (i n : ℕ) (c : MethodConstant) → method_at m.constant_pool i ≡ Some c → MeetsRest w m (effect m (acts.InvokeInterface i n)) s → Operates m (acts.InvokeInterface i n) c (call_on c.class c)
   interface_by i n c e f =
-      let t : task m (acts.InvokeInterface i n) ≡ tasks.invoke_interface n (Some c) = ap (tasks.invoke_interface n) e in
+      let t : effect m (acts.InvokeInterface i n) ≡ effects.invoke_interface n (Some c) = ap (effects.invoke_interface n) e in
       let b = allowed w m s _ (call_on c.class c) (subst (λ z. MeetsRest w m z s) t f) in
       let k = and_parts _ _ (and_parts c.interface _ (and_parts (is_class_type c.class) _ b).1).1 in
       operates_by (acts.InvokeInterface i n) c _ (call_on c.class c) t b (not_true _ k.0)
 
-  constructor_by : (a : Act) (c : MethodConstant) (r : ReferenceType) → c.class ≡ r → task m a ≡ tasks.constructor_call c r → bytes_eq c.name init_name ≡ true → MeetsRest w m (task m a) s → Initializes m a c
+  constructor_by : (a : Act) (c : MethodConstant) (r : ReferenceType) → c.class ≡ r → effect m a ≡ effects.constructor_call c r → bytes_eq c.name init_name ≡ true → MeetsRest w m (effect m a) s → Initializes m a c
   constructor_by a c (class_type n) q e i f =
       let b = allowed w m s _ (initializes n (arguments_on c.type.params [])) (subst (λ z. MeetsRest w m z s) e f) in
       record { name = n; class = q; does = e ∙ is_allowed _ _ b; init = i }
   constructor_by a c (array_type n) q e i f = elim (subst (λ z. MeetsRest w m z s) e f) [ ]
 
-  special_by : (i : ℕ) (c : MethodConstant) → method_at m.constant_pool i ≡ Some c → MeetsRest w m (task m (acts.InvokeSpecial i)) s → Operates m (acts.InvokeSpecial i) c (special_task m c) ⊎ Initializes m (acts.InvokeSpecial i) c
+  special_by : (i : ℕ) (c : MethodConstant) → method_at m.constant_pool i ≡ Some c → MeetsRest w m (effect m (acts.InvokeSpecial i)) s → Operates m (acts.InvokeSpecial i) c (special_effect m c) ⊎ Initializes m (acts.InvokeSpecial i) c
   special_by i c e f = go (is_init_name c) refl
     where
-      whole : task m (acts.InvokeSpecial i) ≡ tasks.invoke_special m.major_version m.class (Some c)
-      whole = ap (tasks.invoke_special m.major_version m.class) e
+      whole : effect m (acts.InvokeSpecial i) ≡ effects.invoke_special m.major_version m.class (Some c)
+      whole = ap (effects.invoke_special m.major_version m.class) e
 
-      go : (b : Bool) → is_init_name c ≡ b → Operates m (acts.InvokeSpecial i) c (special_task m c) ⊎ Initializes m (acts.InvokeSpecial i) c
-      go true k = inr (constructor_by (acts.InvokeSpecial i) c c.class refl (whole ∙ ap (λ z. if z then tasks.constructor_call c c.class else tasks.special_call m.major_version m.class c) k) k f)
+      go : (b : Bool) → is_init_name c ≡ b → Operates m (acts.InvokeSpecial i) c (special_effect m c) ⊎ Initializes m (acts.InvokeSpecial i) c
+      go true k = inr (constructor_by (acts.InvokeSpecial i) c c.class refl (whole ∙ ap (λ z. if z then effects.constructor_call c c.class else effects.special_call m.major_version m.class c) k) k f)
       go false k =
-          let t : task m (acts.InvokeSpecial i) ≡ tasks.special_call m.major_version m.class c = whole ∙ ap (λ z. if z then tasks.constructor_call c c.class else tasks.special_call m.major_version m.class c) k in
-          let b = allowed w m s _ (special_task m c) (subst (λ z. MeetsRest w m z s) t f) in
-          inl (operates_by (acts.InvokeSpecial i) c _ (special_task m c) t b k)
+          let t : effect m (acts.InvokeSpecial i) ≡ effects.special_call m.major_version m.class c = whole ∙ ap (λ z. if z then effects.constructor_call c c.class else effects.special_call m.major_version m.class c) k in
+          let b = allowed w m s _ (special_effect m c) (subst (λ z. MeetsRest w m z s) t f) in
+          inl (operates_by (acts.InvokeSpecial i) c _ (special_effect m c) t b k)
 
-  pub calls_by : (a : Act) (way : Way) (c : MethodConstant) → called m a ≡ Some (way, c) → MeetsRest w m (task m a) s → CallsBy m a way c
+  pub calls_by : (a : Act) (way : Way) (c : MethodConstant) → called m a ≡ Some (way, c) → MeetsRest w m (effect m a) s → CallsBy m a way c
   calls_by (acts.InvokeStatic i) way c e f = let k = some_call static way _ c e in subst (λ z. CallsBy m (acts.InvokeStatic i) z c) k.0 (static_by i c k.1 f)
   calls_by (acts.InvokeSpecial i) way c e f = let k = some_call special way _ c e in subst (λ z. CallsBy m (acts.InvokeSpecial i) z c) k.0 (special_by i c k.1 f)
   calls_by (acts.InvokeVirtual i) way c e f = let k = some_call virtual way _ c e in subst (λ z. CallsBy m (acts.InvokeVirtual i) z c) k.0 (virtual_by i c k.1 f)

@@ -18,7 +18,7 @@ use Rattle.insn.specs.Meanings as acts
 use Rattle.insn.specs.Meanings.{Act}
 use Rattle.machine.specs.Values.{Value, reference}
 use Rattle.machine.specs.Heap.{Status, ready, made, this, object, Heap, IsBelow, FitsReference, AllFit}
-use Rattle.machine.specs.Tasks.{of_type, arguments_on, needs_of, task}
+use Rattle.machine.specs.Effects.{of_type, arguments_on, demands_of, effect}
 use Rattle.machine.specs.Demands.{AllMeet, IsMade, IsOwn, MeetsRest, IsNoFault}
 use Rattle.machine.specs.Runs.{Receives}
 use Rattle.verify.specs.TypeSafety.{IsTypeSafe}
@@ -210,40 +210,40 @@ module _ (h : List ClassFact) (w : World) (hh : IsHierarchy h) (x : Extends w h)
             enterable types k.method receiver arguments o own_receiver (constructor_receiver k.method st (is_init i) j) played.safe played.super (one, (y, here types su o (class_type y) this kept (own_is_this types a.status receiver o one), sub)) (all_in w caller_heap (heap_in types su) k.method.type.params arguments (own_ready types a.status receiver o one (class_type y) s at not_ready) (arguments_fit f)) (only_o types a.status receiver o one) (own_unused types a.status receiver o one (class_type y) kept)
 
     -- by each way
-    enter_by : (act : Act) (way : Way) → a.stack ≡ pushed (receiver ++ arguments) below → IsReceiver way receiver → CallsBy a.method act way c → AllMeet w caller_heap (needs_of (task a.method act)) a.stack → MeetsRest w a.method (task a.method act) (state_in types a) → MayEnter w caller_heap way c receiver k.method → Good h w types (entered k.method receiver arguments)
+    enter_by : (act : Act) (way : Way) → a.stack ≡ pushed (receiver ++ arguments) below → IsReceiver way receiver → CallsBy a.method act way c → AllMeet w caller_heap (demands_of (effect a.method act)) a.stack → MeetsRest w a.method (effect a.method act) (state_in types a) → MayEnter w caller_heap way c receiver k.method → Good h w types (entered k.method receiver arguments)
     enter_by act static e one by meet rest may =
         let q : a.stack ≡ pushed arguments below = e ∙ ap (λ z. pushed (z ++ arguments) below) one in
-        let n : AllMeet w caller_heap (arguments_on c.type.params []) (pushed arguments below) = subst (λ z. AllMeet w caller_heap (arguments_on c.type.params []) z) q (subst (λ z. AllMeet w caller_heap (needs_of z) a.stack) by.does meet) in
+        let n : AllMeet w caller_heap (arguments_on c.type.params []) (pushed arguments below) = subst (λ z. AllMeet w caller_heap (arguments_on c.type.params []) z) q (subst (λ z. AllMeet w caller_heap (demands_of z) a.stack) by.does meet) in
         enter_static may.0 one (arguments_meet w caller_heap c.type.params [] arguments below l n).0
     enter_by act virtual e one by meet rest may =
         let q = stack_of w types a receiver arguments below one.0 e one.1 in
-        let n : AllMeet w caller_heap (arguments_on c.type.params (of_type c.class ∷ [])) (pushed arguments (reference one.0 ∷ below)) = subst (λ z. AllMeet w caller_heap (arguments_on c.type.params (of_type c.class ∷ [])) z) q (subst (λ z. AllMeet w caller_heap (needs_of z) a.stack) by.does meet) in
+        let n : AllMeet w caller_heap (arguments_on c.type.params (of_type c.class ∷ [])) (pushed arguments (reference one.0 ∷ below)) = subst (λ z. AllMeet w caller_heap (arguments_on c.type.params (of_type c.class ∷ [])) z) q (subst (λ z. AllMeet w caller_heap (demands_of z) a.stack) by.does meet) in
         enter_on may.0 by.init may.1.0 may.1.1 may.1.2 (arguments_meet w caller_heap c.type.params (of_type c.class ∷ []) arguments (reference one.0 ∷ below) l n).0
     enter_by act special e one (inl by) meet rest may =
         let q = stack_of w types a receiver arguments below one.0 e one.1 in
         let ns = of_type (class_type a.method.class) ∷ [] in
-        let n : AllMeet w caller_heap (arguments_on c.type.params ns) (pushed arguments (reference one.0 ∷ below)) = subst (λ z. AllMeet w caller_heap (arguments_on c.type.params ns) z) q (subst (λ z. AllMeet w caller_heap (needs_of z) a.stack) by.does meet) in
+        let n : AllMeet w caller_heap (arguments_on c.type.params ns) (pushed arguments (reference one.0 ∷ below)) = subst (λ z. AllMeet w caller_heap (arguments_on c.type.params ns) z) q (subst (λ z. AllMeet w caller_heap (demands_of z) a.stack) by.does meet) in
         let d = arguments_meet w caller_heap c.type.params ns arguments (reference one.0 ∷ below) l n in
         let up : IsBelow w (class_type a.method.class) c.class = subst (λ z. MeetsRest w a.method z (state_in types a)) by.does rest in
         let fits = fits_up w caller_heap (class_type a.method.class) c.class (reference one.0) (world_of_hierarchy h w hh x) d.1.0 up in
         enter_on may.0 by.init one.0 one.1 (subst (λ z. FitsReference w caller_heap z (reference one.0)) (sym may.1) fits) d.0
     enter_by act special e one (inr by) meet rest may =
         let q = stack_of w types a receiver arguments below one.0 e one.1 in
-        let n : AllMeet w caller_heap (arguments_on c.type.params []) (pushed arguments (reference one.0 ∷ below)) = subst (λ z. AllMeet w caller_heap (arguments_on c.type.params []) z) q (subst (λ z. AllMeet w caller_heap (needs_of z) a.stack) by.does meet) in
+        let n : AllMeet w caller_heap (arguments_on c.type.params []) (pushed arguments (reference one.0 ∷ below)) = subst (λ z. AllMeet w caller_heap (arguments_on c.type.params []) z) q (subst (λ z. AllMeet w caller_heap (demands_of z) a.stack) by.does meet) in
         let r = subst (λ z. MeetsRest w a.method z (state_in types a)) by.does rest in
         enter_constructor may.0 by.init one.0 one.1 by.name (may.1 ∙ by.class) (receiver_is w types a c by.name arguments below one.0 q l r) (arguments_meet w caller_heap c.type.params [] arguments (reference one.0 ∷ below) l n).0
 
   -- at a call whose instruction meets no fault
   pub record AtCall (types : Types) (a : Activation) (c : IsCall a) : Type 0 where
-    pub operands : AllMeet w (heap_in types a.status) (needs_of (task a.method c.act)) a.stack
-    pub others : MeetsRest w a.method (task a.method c.act) (state_in types a)
+    pub operands : AllMeet w (heap_in types a.status) (demands_of (effect a.method c.act)) a.stack
+    pub others : MeetsRest w a.method (effect a.method c.act) (state_in types a)
 
   pub at_call : (types : Types) (a : Activation) (c : IsCall a) → IsNoFault w a.method (state_in types a) → AtCall types a c
   at_call types a c n =
       let e : n.act ≡ c.act = some_same n.act c.act (sym n.here ∙ c.here) in
       record {
-        operands = subst (λ z. AllMeet w (heap_in types a.status) (needs_of (task a.method z)) a.stack) e n.operands.operands;
-        others = subst (λ z. MeetsRest w a.method (task a.method z) (state_in types a)) e n.operands.others;
+        operands = subst (λ z. AllMeet w (heap_in types a.status) (demands_of (effect a.method z)) a.stack) e n.operands.operands;
+        others = subst (λ z. MeetsRest w a.method (effect a.method z) (state_in types a)) e n.operands.others;
       }
 
   pub callee_type : (a : Activation) (c : IsCall a) (k : Callee) → IsPlayed h w k → k.descriptor ≡ c.constant.descriptor → k.method.type ≡ c.constant.type

@@ -9,8 +9,8 @@ use Rattle.hierarchy.specs.Class.{ClassFact}
 use Rattle.insn.specs.Meanings.{Act}
 use Rattle.machine.specs.Values.{Value, number, null, reference}
 use Rattle.machine.specs.Heap.{Status, ready, made, Object, object, Heap, with_object, FitsReference, FitsField, AllFit, IsFresh, with_fresh}
-use Rattle.machine.specs.Tasks as tasks
-use Rattle.machine.specs.Tasks.{Task, task}
+use Rattle.machine.specs.Effects as effects
+use Rattle.machine.specs.Effects.{Effect, effect}
 use Rattle.machine.specs.Demands.{State}
 use Rattle.machine.specs.Steps.{Choice, go, raise, goes_on, Does, Happens}
 use Rattle.verify.specs.TypeSafety.{IsTypeSafe}
@@ -155,22 +155,22 @@ put h k a o q g = subst (HeapGrows h) (sym q) g
 same_put : (h : Heap) (a : ℕ) (x : ReferenceType) (s : Status) → h a ≡ Some (object x s) → HeapGrows h (with_object h a (object x ready))
 same_put h a x s p = put_grows h a (object x ready) (λ y e. let q : Some x ≡ Some y = sym (ap (option_map (λ z. z.type)) p) ∙ e in cc)
 
-does_grows : (w : World) (tk : Task) (s : State) (v : Option Value) (q : ℕ) (t : State) → Does w tk s v q t → HeapGrows s.heap t.heap
-does_grows w (tasks.operates ns l r os b) s v q t d = kept s.heap t.heap (ap (λ z. z.heap) d.1.2)
-does_grows w (tasks.calls_special o ns l r) s v q t d = kept s.heap t.heap (ap (λ z. z.heap) d.1.2)
-does_grows w (tasks.reads k n) s v q t d = kept s.heap t.heap (ap (λ z. z.heap) d.3)
-does_grows w (tasks.writes k n j) s v q t d = kept s.heap t.heap (ap (λ z. z.heap) d.4)
-does_grows w (tasks.increments n) s v q t d = kept s.heap t.heap (ap (λ z. z.heap) d.1)
-does_grows w (tasks.moves fs) s v q t d = kept s.heap t.heap (ap (λ z. z.heap) d.4)
-does_grows w tasks.takes_element s v q t d = kept s.heap t.heap (ap (λ z. z.heap) d.9)
-does_grows w (tasks.passes r) s v q t d = kept s.heap t.heap (ap (λ z. z.heap) d.5)
-does_grows w (tasks.creates c) s v q t d = put s.heap t.heap d.0 (object (class_type c) made) (ap (λ z. z.heap) d.4) (unused_put s.heap d.0 _ d.2)
-does_grows w (tasks.makes_array ns r) s v q t d = put s.heap t.heap d.0 (object r ready) (ap (λ z. z.heap) d.4) (unused_put s.heap d.0 _ d.2)
-does_grows w (tasks.initializes c ns) s v q t d = put s.heap t.heap d.0 (object d.2 ready) (ap (λ z. z.heap) d.7) (same_put s.heap d.0 d.2 d.3 d.5)
-does_grows w (tasks.leaves ns) s v q t d = elim d [ ]
-does_grows w (tasks.throws x) s v q t d = elim d [ ]
-does_grows w tasks.ends s v q t d = elim d [ ]
-does_grows w tasks.stuck s v q t d = elim d [ ]
+does_grows : (w : World) (tk : Effect) (s : State) (v : Option Value) (q : ℕ) (t : State) → Does w tk s v q t → HeapGrows s.heap t.heap
+does_grows w (effects.operates ns l r os b) s v q t d = kept s.heap t.heap (ap (λ z. z.heap) d.1.2)
+does_grows w (effects.calls_special o ns l r) s v q t d = kept s.heap t.heap (ap (λ z. z.heap) d.1.2)
+does_grows w (effects.reads k n) s v q t d = kept s.heap t.heap (ap (λ z. z.heap) d.3)
+does_grows w (effects.writes k n j) s v q t d = kept s.heap t.heap (ap (λ z. z.heap) d.4)
+does_grows w (effects.increments n) s v q t d = kept s.heap t.heap (ap (λ z. z.heap) d.1)
+does_grows w (effects.moves fs) s v q t d = kept s.heap t.heap (ap (λ z. z.heap) d.4)
+does_grows w effects.takes_element s v q t d = kept s.heap t.heap (ap (λ z. z.heap) d.9)
+does_grows w (effects.passes r) s v q t d = kept s.heap t.heap (ap (λ z. z.heap) d.5)
+does_grows w (effects.creates c) s v q t d = put s.heap t.heap d.0 (object (class_type c) made) (ap (λ z. z.heap) d.4) (unused_put s.heap d.0 _ d.2)
+does_grows w (effects.makes_array ns r) s v q t d = put s.heap t.heap d.0 (object r ready) (ap (λ z. z.heap) d.4) (unused_put s.heap d.0 _ d.2)
+does_grows w (effects.initializes c ns) s v q t d = put s.heap t.heap d.0 (object d.2 ready) (ap (λ z. z.heap) d.7) (same_put s.heap d.0 d.2 d.3 d.5)
+does_grows w (effects.leaves ns) s v q t d = elim d [ ]
+does_grows w (effects.throws x) s v q t d = elim d [ ]
+does_grows w effects.ends s v q t d = elim d [ ]
+does_grows w effects.stuck s v q t d = elim d [ ]
 
 pub fresh_grows : (types : Types) (status : ℕ → Status) (fresh : List (ℕ × ReferenceType)) → IsFresh (heap_in types status) fresh → Grows types (types_of (with_fresh (heap_in types status) fresh))
 fresh_grows types status fresh u a x e = gains_types (heap_in types status) _ (fresh_gains fresh (heap_in types status) u) a x (seen types status a ∙ e)
@@ -180,7 +180,7 @@ step_grows w m types a (go br v fresh) t k b x e =
     let s = state_in types a in
     let d = k.1 in
     let u : State = record { at = s.at; stack = s.stack; locals = s.locals; heap = with_fresh s.heap fresh } in
-    does_grows w (task m d.act) u v d.to t d.does b x (fresh_grows types a.status fresh d.unused b x e)
+    does_grows w (effect m d.act) u v d.to t d.does b x (fresh_grows types a.status fresh d.unused b x e)
 step_grows w m types a (raise o fresh None) t k b x e = elim k [ ]
 step_grows w m types a (raise o fresh (Some n)) t k b x e =
     let s = state_in types a in

@@ -16,13 +16,13 @@ use Rattle.insn.specs.Stacks.{computed_as, same_kind, beneath}
 use Rattle.insn.specs.Offsets.{at_offset, next_offset}
 use Rattle.machine.specs.Values.{Value, number, null, reference}
 use Rattle.machine.specs.Heap.{Status, ready, made, this, object, Heap, with_object, FitsReference, FitsField, IsReady}
-use Rattle.machine.specs.Tasks as tasks
-use Rattle.machine.specs.Tasks.{Need, Reply, Task, of_kind, of_type, arguments_on, reply_of, leaves, where_allowed, needs_of, task, falls, targets}
+use Rattle.machine.specs.Effects as effects
+use Rattle.machine.specs.Effects.{Demand, Reply, Effect, of_kind, of_type, arguments_on, reply_of, leaves, where_allowed, demands_of, effect, falls, targets}
 use Rattle.machine.specs.Demands.{State, AllMeet, IsMade, IsOwn, MeetsRest, HasReceiver}
 use Rattle.machine.specs.Steps as steps
 use Rattle.machine.specs.Steps.{IsNull, Replies, Does, moved, moved_with, IsBranch, GoesTo, IsLast, Steps}
 use Rattle.verify.specs.ClassRuns.{Types, Activation, heap_in, state_in, Way, static, special, virtual, IsReceiver, pushed, constructs, status_after, on_top, taken, resumed, handed_over}
-use Rattle.verify.proofs.safety.ClassCalls.{CallsBy, special_task, beneath_pushed, item_pushed}
+use Rattle.verify.proofs.safety.ClassCalls.{CallsBy, special_effect, beneath_pushed, item_pushed}
 use Rattle.verify.proofs.safety.ClassMoments.{Grows, same_heaps, there, here}
 
 abbrev pub FitsAnswer : World → Heap → Option FieldDescriptor → Option Value → Type 0
@@ -39,18 +39,18 @@ kinds_same kinds.Double kinds.Double e = refl
 kinds_same _ _ e = cc
 
 module _ (w : World) (h : Heap) where
-  kind_back : (p : Primitive) (k : Kind) (vs : List Value) (b : Bool) → same_kind (computed_as p) k ≡ b → IsLast (where_allowed b (leaves (of_kind k ∷ []))) → AllMeet w h (needs_of (where_allowed b (leaves (of_kind k ∷ [])))) vs → FitsAnswer w h (Some (primitive p)) (handed_over (where_allowed b (leaves (of_kind k ∷ []))) vs)
+  kind_back : (p : Primitive) (k : Kind) (vs : List Value) (b : Bool) → same_kind (computed_as p) k ≡ b → IsLast (where_allowed b (leaves (of_kind k ∷ []))) → AllMeet w h (demands_of (where_allowed b (leaves (of_kind k ∷ [])))) vs → FitsAnswer w h (Some (primitive p)) (handed_over (where_allowed b (leaves (of_kind k ∷ []))) vs)
   kind_back p k [] true e l f = elim f [ ]
   kind_back p k (v ∷ vs) true e l f = (v, refl, f.0 ∙ ap number (sym (kinds_same (computed_as p) k e)))
   kind_back p k vs false e l f = elim l [ ]
 
-  number_back : (r : Option FieldDescriptor) (k : Kind) (vs : List Value) → IsLast (tasks.return_number r k) → AllMeet w h (needs_of (tasks.return_number r k)) vs → FitsAnswer w h r (handed_over (tasks.return_number r k) vs)
+  number_back : (r : Option FieldDescriptor) (k : Kind) (vs : List Value) → IsLast (effects.return_number r k) → AllMeet w h (demands_of (effects.return_number r k)) vs → FitsAnswer w h r (handed_over (effects.return_number r k) vs)
   number_back None k vs l f = elim l [ ]
   number_back (Some (primitive p)) k vs l f = kind_back p k vs (same_kind (computed_as p) k) refl l f
   number_back (Some (class n)) k vs l f = elim l [ ]
   number_back (Some (array c)) k vs l f = elim l [ ]
 
-  reference_back : (r : Option FieldDescriptor) (vs : List Value) → IsLast (tasks.return_reference r) → AllMeet w h (needs_of (tasks.return_reference r)) vs → FitsAnswer w h r (handed_over (tasks.return_reference r) vs)
+  reference_back : (r : Option FieldDescriptor) (vs : List Value) → IsLast (effects.return_reference r) → AllMeet w h (demands_of (effects.return_reference r)) vs → FitsAnswer w h r (handed_over (effects.return_reference r) vs)
   reference_back None vs l f = elim l [ ]
   reference_back (Some (primitive p)) vs l f = elim l [ ]
   reference_back (Some (class n)) [] l f = elim f [ ]
@@ -58,20 +58,20 @@ module _ (w : World) (h : Heap) where
   reference_back (Some (array c)) [] l f = elim f [ ]
   reference_back (Some (array c)) (v ∷ vs) l f = (v, refl, f.0)
 
-  nothing_back : (r : Option FieldDescriptor) (vs : List Value) → IsLast (tasks.return_nothing r) → FitsAnswer w h r (handed_over (tasks.return_nothing r) vs)
+  nothing_back : (r : Option FieldDescriptor) (vs : List Value) → IsLast (effects.return_nothing r) → FitsAnswer w h r (handed_over (effects.return_nothing r) vs)
   nothing_back None vs l = refl
   nothing_back (Some t) vs l = elim l [ ]
 
 -- no other instruction returns
-no_allowed : (b : Bool) (t : Task) → (IsLast t → ⊥) → IsLast (where_allowed b t) → ⊥
+no_allowed : (b : Bool) (t : Effect) → (IsLast t → ⊥) → IsLast (where_allowed b t) → ⊥
 no_allowed true t n l = n l
 no_allowed false t n l = l
 
-no_computed : (judged : Bool) (units : ℕ) (t : Option FieldDescriptor) → IsLast (tasks.load_dynamic judged units t) → ⊥
+no_computed : (judged : Bool) (units : ℕ) (t : Option FieldDescriptor) → IsLast (effects.load_dynamic judged units t) → ⊥
 no_computed judged units None l = l
-no_computed judged units (Some t) l = no_allowed (judged && nat_eq (field_width t) units) (tasks.operates [] None (tasks.gives_answer t) [] true) (λ k. k) l
+no_computed judged units (Some t) l = no_allowed (judged && nat_eq (field_width t) units) (effects.operates [] None (effects.gives_answer t) [] true) (λ k. k) l
 
-no_constant : (m : Method Act) (t : Option FieldDescriptor) (o : Option Entry) → IsLast (tasks.load_constant m t o) → ⊥
+no_constant : (m : Method Act) (t : Option FieldDescriptor) (o : Option Entry) → IsLast (effects.load_constant m t o) → ⊥
 no_constant m t None l = l
 no_constant m t (Some (entries.Integer bits)) l = l
 no_constant m t (Some (entries.Float bits)) l = l
@@ -82,86 +82,86 @@ no_constant m t (Some (entries.MethodHandle kind target)) l = l
 no_constant m t (Some (entries.Dynamic bootstrap name)) l = no_computed m.dynamic 1 t l
 no_constant m t (Some _) l = l
 
-no_wide_constant : (m : Method Act) (t : Option FieldDescriptor) (o : Option Entry) → IsLast (tasks.load_wide_constant m t o) → ⊥
+no_wide_constant : (m : Method Act) (t : Option FieldDescriptor) (o : Option Entry) → IsLast (effects.load_wide_constant m t o) → ⊥
 no_wide_constant m t None l = l
 no_wide_constant m t (Some (entries.Long high low)) l = l
 no_wide_constant m t (Some (entries.Double high low)) l = l
 no_wide_constant m t (Some (entries.Dynamic bootstrap name)) l = no_computed m.dynamic 2 t l
 no_wide_constant m t (Some _) l = l
 
-no_get_static : (o : Option FieldConstant) → IsLast (tasks.get_static o) → ⊥
+no_get_static : (o : Option FieldConstant) → IsLast (effects.get_static o) → ⊥
 no_get_static None l = l
 no_get_static (Some f) l = l
 
-no_put_static : (o : Option FieldConstant) → IsLast (tasks.put_static o) → ⊥
+no_put_static : (o : Option FieldConstant) → IsLast (effects.put_static o) → ⊥
 no_put_static None l = l
 no_put_static (Some f) l = l
 
-no_get_field : (o : Option FieldConstant) → IsLast (tasks.get_field o) → ⊥
+no_get_field : (o : Option FieldConstant) → IsLast (effects.get_field o) → ⊥
 no_get_field None l = l
 no_get_field (Some f) l = l
 
-no_put_field : (m : Method Act) (o : Option FieldConstant) → IsLast (tasks.put_field m o) → ⊥
+no_put_field : (m : Method Act) (o : Option FieldConstant) → IsLast (effects.put_field m o) → ⊥
 no_put_field m None l = l
 no_put_field m (Some f) l = l
 
-no_static : (n : ℕ) (o : Option MethodConstant) → IsLast (tasks.invoke_static n o) → ⊥
+no_static : (n : ℕ) (o : Option MethodConstant) → IsLast (effects.invoke_static n o) → ⊥
 no_static n None l = l
-no_static n (Some c) l = no_allowed (is_class_type c.class && (not (tasks.is_init_name c) && tasks.may_name n c.interface)) (tasks.static_call c) (λ k. k) l
+no_static n (Some c) l = no_allowed (is_class_type c.class && (not (effects.is_init_name c) && effects.may_name n c.interface)) (effects.static_call c) (λ k. k) l
 
-no_site : (m : Method Act) (o : Option CallSite) → IsLast (tasks.invoke_dynamic m o) → ⊥
+no_site : (m : Method Act) (o : Option CallSite) → IsLast (effects.invoke_dynamic m o) → ⊥
 no_site m None l = l
-no_site m (Some c) l = no_allowed (m.dynamic && not (tasks.is_special_name c)) (tasks.call_of c.type) (λ k. k) l
+no_site m (Some c) l = no_allowed (m.dynamic && not (effects.is_special_name c)) (effects.call_of c.type) (λ k. k) l
 
-no_virtual : (o : Option MethodConstant) → IsLast (tasks.invoke_virtual o) → ⊥
+no_virtual : (o : Option MethodConstant) → IsLast (effects.invoke_virtual o) → ⊥
 no_virtual None l = l
-no_virtual (Some c) l = no_allowed (not c.interface && (not (tasks.is_init_name c) && tasks.has_room_for_receiver c)) (tasks.call_on c.class c) (λ k. k) l
+no_virtual (Some c) l = no_allowed (not c.interface && (not (effects.is_init_name c) && effects.has_room_for_receiver c)) (effects.call_on c.class c) (λ k. k) l
 
-no_interface : (n : ℕ) (o : Option MethodConstant) → IsLast (tasks.invoke_interface n o) → ⊥
+no_interface : (n : ℕ) (o : Option MethodConstant) → IsLast (effects.invoke_interface n o) → ⊥
 no_interface n None l = l
-no_interface n (Some c) l = no_allowed (tasks.may_invoke_interface n c) (tasks.call_on c.class c) (λ k. k) l
+no_interface n (Some c) l = no_allowed (effects.may_invoke_interface n c) (effects.call_on c.class c) (λ k. k) l
 
-no_constructor : (c : MethodConstant) (r : ReferenceType) → IsLast (tasks.constructor_call c r) → ⊥
-no_constructor c (class_type n) l = no_allowed (not c.interface && tasks.has_room_for_receiver c) (tasks.initializes n (arguments_on c.type.params [])) (λ k. k) l
+no_constructor : (c : MethodConstant) (r : ReferenceType) → IsLast (effects.constructor_call c r) → ⊥
+no_constructor c (class_type n) l = no_allowed (not c.interface && effects.has_room_for_receiver c) (effects.initializes n (arguments_on c.type.params [])) (λ k. k) l
 no_constructor c (array_type n) l = l
 
-abbrev special_task_of : List ℕ → MethodConstant → Task
-special_task_of me c = tasks.calls_special c.class (arguments_on c.type.params (of_type (class_type me) ∷ [])) (Some (length c.type.params)) (reply_of c.type.result)
+abbrev special_effect_of : List ℕ → MethodConstant → Effect
+special_effect_of me c = effects.calls_special c.class (arguments_on c.type.params (of_type (class_type me) ∷ [])) (Some (length c.type.params)) (reply_of c.type.result)
 
-no_special : (n : ℕ) (me : List ℕ) (o : Option MethodConstant) → IsLast (tasks.invoke_special n me o) → ⊥
+no_special : (n : ℕ) (me : List ℕ) (o : Option MethodConstant) → IsLast (effects.invoke_special n me o) → ⊥
 no_special n me None l = l
-no_special n me (Some c) l = go (tasks.is_init_name c) l
+no_special n me (Some c) l = go (effects.is_init_name c) l
   where
-    go : (b : Bool) → IsLast (if b then tasks.constructor_call c c.class else tasks.special_call n me c) → ⊥
+    go : (b : Bool) → IsLast (if b then effects.constructor_call c c.class else effects.special_call n me c) → ⊥
     go true k = no_constructor c c.class k
-    go false k = no_allowed (is_class_type c.class && (tasks.has_room_for_receiver c && tasks.may_name n c.interface)) (special_task_of me c) (λ i. i) k
+    go false k = no_allowed (is_class_type c.class && (effects.has_room_for_receiver c && effects.may_name n c.interface)) (special_effect_of me c) (λ i. i) k
 
-no_new : (o : Option ReferenceType) → IsLast (tasks.new_object o) → ⊥
+no_new : (o : Option ReferenceType) → IsLast (effects.new_object o) → ⊥
 no_new None l = l
 no_new (Some (class_type n)) l = l
 no_new (Some (array_type n)) l = l
 
-no_new_array : (o : Option Primitive) → IsLast (tasks.new_array o) → ⊥
+no_new_array : (o : Option Primitive) → IsLast (effects.new_array o) → ⊥
 no_new_array None l = l
 no_new_array (Some p) l = l
 
-no_reference_array : (o : Option ReferenceType) → IsLast (tasks.new_reference_array o) → ⊥
+no_reference_array : (o : Option ReferenceType) → IsLast (effects.new_reference_array o) → ⊥
 no_reference_array None l = l
-no_reference_array (Some t) l = no_allowed (nat_lt (dimensions_of t) 255) (tasks.makes_array (of_kind kinds.Int ∷ []) (array_type (descriptor_of t))) (λ k. k) l
+no_reference_array (Some t) l = no_allowed (nat_lt (dimensions_of t) 255) (effects.makes_array (of_kind kinds.Int ∷ []) (array_type (descriptor_of t))) (λ k. k) l
 
-no_multi_array : (n : ℕ) (o : Option ReferenceType) → IsLast (tasks.new_multi_array n o) → ⊥
+no_multi_array : (n : ℕ) (o : Option ReferenceType) → IsLast (effects.new_multi_array n o) → ⊥
 no_multi_array n None l = l
-no_multi_array n (Some t) l = no_allowed (nat_lt 0 n && not (nat_lt (dimensions_of t) n)) (tasks.makes_array (tasks.sizes n) t) (λ k. k) l
+no_multi_array n (Some t) l = no_allowed (nat_lt 0 n && not (nat_lt (dimensions_of t) n)) (effects.makes_array (effects.sizes n) t) (λ k. k) l
 
-no_cast : (o : Option ReferenceType) → IsLast (tasks.check_cast o) → ⊥
+no_cast : (o : Option ReferenceType) → IsLast (effects.check_cast o) → ⊥
 no_cast None l = l
 no_cast (Some t) l = l
 
-no_instance : (o : Option ReferenceType) → IsLast (tasks.instance_of o) → ⊥
+no_instance : (o : Option ReferenceType) → IsLast (effects.instance_of o) → ⊥
 no_instance None l = l
 no_instance (Some t) l = l
 
-pub returned_fits : (w : World) (h : Heap) (m : Method Act) (a : Act) (vs : List Value) → IsLast (task m a) → AllMeet w h (needs_of (task m a)) vs → FitsAnswer w h m.type.result (handed_over (task m a) vs)
+pub returned_fits : (w : World) (h : Heap) (m : Method Act) (a : Act) (vs : List Value) → IsLast (effect m a) → AllMeet w h (demands_of (effect m a)) vs → FitsAnswer w h m.type.result (handed_over (effect m a) vs)
 returned_fits w h m (acts.Return k) vs l f = number_back w h m.type.result k vs l f
 returned_fits w h m acts.ReturnReference vs l f = reference_back w h m.type.result vs l f
 returned_fits w h m acts.ReturnVoid vs l f = nothing_back w h m.type.result vs l
@@ -223,16 +223,16 @@ module _ (w : World) (types : Types) (a : Activation) where
   replies (Some t) answer below f = (f.0 ∷ [], (f.0, f.1, f.2, refl), ap (λ z. on_top z below) f.1)
 
   -- a call that is answered, of a method that is no constructor
-  abbrev Pushes : List Need → Reply → List Value → Option Value → ℕ → List Value → Type 0
-  Pushes needs reply receiver answer to below =
-      (vs : List Value) × Replies w heap_now reply answer vs × (state_in types (resumed a false receiver below answer to) ≡ moved now to (vs ++ beneath needs a.stack))
+  abbrev Pushes : List Demand → Reply → List Value → Option Value → ℕ → List Value → Type 0
+  Pushes demands reply receiver answer to below =
+      (vs : List Value) × Replies w heap_now reply answer vs × (state_in types (resumed a false receiver below answer to) ≡ moved now to (vs ++ beneath demands a.stack))
 
-  pushes : (needs : List Need) (r : Option FieldDescriptor) (receiver : List Value) (answer : Option Value) (to : ℕ) (below : List Value) → beneath needs a.stack ≡ below → FitsAnswer w heap_now r answer → Pushes needs (reply_of r) receiver answer to below
-  pushes needs r receiver answer to below e f =
+  pushes : (demands : List Demand) (r : Option FieldDescriptor) (receiver : List Value) (answer : Option Value) (to : ℕ) (below : List Value) → beneath demands a.stack ≡ below → FitsAnswer w heap_now r answer → Pushes demands (reply_of r) receiver answer to below
+  pushes demands r receiver answer to below e f =
       let k = replies r answer below f in
       (k.0, k.1, ap (λ z. moved now to z) (k.2 ∙ ap (λ z. k.0 ++ z) (sym e)))
 
-  left : (c : MethodConstant) (ns : List Need) (vs us : List Value) → a.stack ≡ pushed vs us → length vs ≡ length c.type.params → beneath (arguments_on c.type.params ns) a.stack ≡ beneath ns us
+  left : (c : MethodConstant) (ns : List Demand) (vs us : List Value) → a.stack ≡ pushed vs us → length vs ≡ length c.type.params → beneath (arguments_on c.type.params ns) a.stack ≡ beneath ns us
   left c ns vs us e l = ap (beneath (arguments_on c.type.params ns)) e ∙ beneath_pushed w heap_now c.type.params ns vs us l
 
   on_receiver : (c : MethodConstant) (r : ReferenceType) (receiver arguments below : List Value) (o : ℕ) (answer : Option Value) (to : ℕ) → a.stack ≡ pushed arguments (reference o ∷ below) → length arguments ≡ length c.type.params → FitsAnswer w heap_now c.type.result answer
@@ -255,13 +255,13 @@ module _ (w : World) (types : Types) (a : Activation) where
       go false i = rw i refl
 
   initialized : (c : MethodConstant) (name : List ℕ) (arguments below : List Value) (o : ℕ) (x : ReferenceType) (s : Status) (answer : Option Value) (to : ℕ) → a.stack ≡ pushed arguments (reference o ∷ below) → length arguments ≡ length c.type.params → heap_now o ≡ Some (object x s)
-      → Does w (tasks.initializes name (arguments_on c.type.params [])) now None to (state_in types (resumed a true (reference o ∷ []) below answer to))
+      → Does w (effects.initializes name (arguments_on c.type.params [])) now None to (state_in types (resumed a true (reference o ∷ []) below answer to))
   initialized c name arguments below o x s answer to e l at =
       (o, below, x, s, left c [] arguments (reference o ∷ below) e l, at, refl, ap (λ z. moved_with now to below z) (same_heaps (heap_in types (status_after true (reference o ∷ []) a.status)) (with_object heap_now o (object x ready)) (put_ready o x s at)))
 
   -- ---- the step of the caller
 
-  build : (act : Act) (t : Task) (answer : Option Value) (to : ℕ) (u : State) → at_offset a.method.code a.at ≡ Some act → next_offset a.method.code a.at ≡ Some to → task a.method act ≡ t → targets a.at t ≡ [] → falls t ≡ true → Does w t now answer to u → Steps w a.method now None answer [] u
+  build : (act : Act) (t : Effect) (answer : Option Value) (to : ℕ) (u : State) → at_offset a.method.code a.at ≡ Some act → next_offset a.method.code a.at ≡ Some to → effect a.method act ≡ t → targets a.at t ≡ [] → falls t ≡ true → Does w t now answer to u → Steps w a.method now None answer [] u
   build act t answer to u here next e q r d = record {
     act = act;
     here = here;
@@ -296,19 +296,19 @@ module _ (w : World) (types : Types) (a : Activation) where
   stack_of receiver arguments below o e q = e ∙ ap (λ z. pushed (z ++ arguments) below) q
 
   pub steps_answer : (act : Act) (way : Way) (c : MethodConstant) (receiver arguments below : List Value) (answer : Option Value) (to : ℕ) → at_offset a.method.code a.at ≡ Some act → next_offset a.method.code a.at ≡ Some to → a.stack ≡ pushed (receiver ++ arguments) below → IsReceiver way receiver → length arguments ≡ length c.type.params
-      → CallsBy a.method act way c → MeetsRest w a.method (task a.method act) now → FitsAnswer w heap_now c.type.result answer → Steps w a.method now None (taken (constructs way c) answer) [] (state_in types (resumed a (constructs way c) receiver below answer to))
+      → CallsBy a.method act way c → MeetsRest w a.method (effect a.method act) now → FitsAnswer w heap_now c.type.result answer → Steps w a.method now None (taken (constructs way c) answer) [] (state_in types (resumed a (constructs way c) receiver below answer to))
   steps_answer act static c receiver arguments below answer to here next e one l by rest f =
       let k : a.stack ≡ pushed arguments below = e ∙ ap (λ z. pushed (z ++ arguments) below) one in
-      build act (tasks.static_call c) answer to (state_in types (resumed a false receiver below answer to)) here next by.does refl refl (without_receiver c receiver arguments below answer to k l f)
+      build act (effects.static_call c) answer to (state_in types (resumed a false receiver below answer to)) here next by.does refl refl (without_receiver c receiver arguments below answer to k l f)
   steps_answer act virtual c receiver arguments below answer to here next e one l by rest f =
-      build act (tasks.call_on c.class c) answer to (state_in types (resumed a false receiver below answer to)) here next by.does refl refl (on_receiver c c.class receiver arguments below one.0 answer to (stack_of receiver arguments below one.0 e one.1) l f)
+      build act (effects.call_on c.class c) answer to (state_in types (resumed a false receiver below answer to)) here next by.does refl refl (on_receiver c c.class receiver arguments below one.0 answer to (stack_of receiver arguments below one.0 e one.1) l f)
   steps_answer act special c receiver arguments below answer to here next e one l (inl by) rest f =
       subst (λ z. Steps w a.method now None (taken z answer) [] (state_in types (resumed a z receiver below answer to))) (sym by.init)
-      (build act (special_task a.method c) answer to (state_in types (resumed a false receiver below answer to)) here next by.does refl refl (on_receiver c (class_type a.method.class) receiver arguments below one.0 answer to (stack_of receiver arguments below one.0 e one.1) l f))
+      (build act (special_effect a.method c) answer to (state_in types (resumed a false receiver below answer to)) here next by.does refl refl (on_receiver c (class_type a.method.class) receiver arguments below one.0 answer to (stack_of receiver arguments below one.0 e one.1) l f))
   steps_answer act special c receiver arguments below answer to here next e one l (inr by) rest f =
       let k = stack_of receiver arguments below one.0 e one.1 in
       let r = subst (λ z. MeetsRest w a.method z now) by.does rest in
       let u = made_or_own by.name one.0 (receiver_is c by.name arguments below one.0 k l r) in
       subst (λ z. Steps w a.method now None (taken z answer) [] (state_in types (resumed a z receiver below answer to))) (sym by.init)
       (subst (λ z. Steps w a.method now None None [] (state_in types (resumed a true z below answer to))) (sym one.1)
-      (build act (tasks.initializes by.name (arguments_on c.type.params [])) None to (state_in types (resumed a true (reference one.0 ∷ []) below answer to)) here next by.does refl refl (initialized c by.name arguments below one.0 u.type u.status answer to k l u.at)))
+      (build act (effects.initializes by.name (arguments_on c.type.params [])) None to (state_in types (resumed a true (reference one.0 ∷ []) below answer to)) here next by.does refl refl (initialized c by.name arguments below one.0 u.type u.status answer to k l u.at)))

@@ -12,7 +12,7 @@ use Rattle.insn.specs.declared.operation.Kind.{Kind}
 use Rattle.insn.specs.Stacks.{computed_as, same_kind}
 use Rattle.machine.specs.Values.{Value, number, null, reference, all_slots}
 use Rattle.machine.specs.Heap.{Status, ready, this, Object, object, Heap, with_object, with_fresh}
-use Rattle.machine.specs.Tasks.{Task, of_kind, where_allowed, leaves, return_number, return_reference, return_nothing, task}
+use Rattle.machine.specs.Effects.{Effect, of_kind, where_allowed, leaves, return_number, return_reference, return_nothing, effect}
 use Rattle.machine.specs.ByAct.{is_return}
 use Rattle.machine.specs.Breadth.{StepBreadth}
 use Rattle.machine.specs.Demands.{State, IsNoFault}
@@ -225,7 +225,7 @@ static_makes_none virtual c e k = cc
 
 -- ---- returns
 
-leaves_by : (b : Bool) (t : Task) (stack : List Value) → IsLast (where_allowed b t) → handed_over (where_allowed b t) stack ≡ handed_over t stack
+leaves_by : (b : Bool) (t : Effect) (stack : List Value) → IsLast (where_allowed b t) → handed_over (where_allowed b t) stack ≡ handed_over t stack
 leaves_by true t stack l = refl
 leaves_by false t stack l = elim l [ ]
 
@@ -245,7 +245,7 @@ nothing_handed : (r : Option FieldDescriptor) (stack : List Value) → IsLast (r
 nothing_handed None stack l = refl
 nothing_handed (Some t) stack l = elim l [ ]
 
-handed_is : (m : Method Act) (act : Act) (stack : List Value) → is_return act ≡ true → IsLast (task m act) → handed_over (task m act) stack ≡ handed act stack
+handed_is : (m : Method Act) (act : Act) (stack : List Value) → is_return act ≡ true → IsLast (effect m act) → handed_over (effect m act) stack ≡ handed act stack
 handed_is m (acts.Return k) stack e l = number_handed m.type.result k stack l
 handed_is m acts.ReturnReference stack e l = reference_handed m.type.result stack l
 handed_is m acts.ReturnVoid stack e l = nothing_handed m.type.result stack l
@@ -309,17 +309,17 @@ module _ (breadth : StepBreadth) (w : World) (InPlay : Callee → Type 0) where
     same_act : returns_so.1.act ≡ left
     same_act = some_same returns_so.1.act left (sym returns_so.1.here ∙ r.here)
 
-    handed_so : handed_over (task a.method returns_so.1.act) a.stack ≡ handed left a.stack
+    handed_so : handed_over (effect a.method returns_so.1.act) a.stack ≡ handed left a.stack
     handed_so =
-        ap (λ z. handed_over (task a.method z) a.stack) same_act
-        ∙ handed_is a.method left a.stack r.returns (subst (λ z. IsLast (task a.method z)) same_act returns_so.1.last)
+        ap (λ z. handed_over (effect a.method z) a.stack) same_act
+        ∙ handed_is a.method left a.stack r.returns (subst (λ z. IsLast (effect a.method z)) same_act returns_so.1.last)
 
     answered_by : (callers : List Activation) (q : Moment) → Answered (with_types p.types fresh) (handed left a.stack) callers q → Returns w p.types a callers q
     answered_by callers q k = record {
       fresh = fresh;
       no_fault = returns_so.0;
       ends = returns_so.1;
-      answered = subst (λ t. Answered t (handed_over (task a.method returns_so.1.act) a.stack) callers q) (sym (types_with p.types a.status fresh))
+      answered = subst (λ t. Answered t (handed_over (effect a.method returns_so.1.act) a.stack) callers q) (sym (types_with p.types a.status fresh))
           (subst (λ v. Answered (with_types p.types fresh) v callers q) (sym handed_so) k);
     }
 

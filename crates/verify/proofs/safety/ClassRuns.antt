@@ -8,7 +8,7 @@ use Rattle.hierarchy.specs.Extends.{Extends}
 use Rattle.insn.specs.Offsets.{IsAmong}
 use Rattle.machine.specs.Values.{Value, number, null, reference}
 use Rattle.machine.specs.Heap.{Status, ready, with_fresh}
-use Rattle.machine.specs.Tasks.{needs_of, task}
+use Rattle.machine.specs.Effects.{demands_of, effect}
 use Rattle.machine.specs.Demands.{AllMeet, IsNoFault}
 use Rattle.machine.specs.Steps.{Choice, raise}
 use Rattle.verify.specs.ClassRuns.{Callee, Types, Activation, heap_in, state_in, types_of, Moment, called, IsCall, constructs, status_after, taken, resumed, IsReadyAnswer, handed_over, StepsAlone, Enters, Answered, Returns, Unwinds, Raises, Goes, Begins, IsClassRun}
@@ -100,11 +100,11 @@ module _ (h : List ClassFact) (w : World) (hh : IsHierarchy h) (x : Extends w h)
   returns types a callers q k s =
       let heap = heap_in types a.status in
       let act : s.no_fault.act ≡ s.ends.act = some_same s.no_fault.act s.ends.act (sym s.no_fault.here ∙ s.ends.here) in
-      let meet : AllMeet w heap (needs_of (task a.method s.ends.act)) a.stack = subst (λ z. AllMeet w heap (needs_of (task a.method z)) a.stack) act s.no_fault.operands.operands in
+      let meet : AllMeet w heap (demands_of (effect a.method s.ends.act)) a.stack = subst (λ z. AllMeet w heap (demands_of (effect a.method z)) a.stack) act s.no_fault.operands.operands in
       let fits = returned_fits w heap a.method s.ends.act a.stack s.ends.last meet in
       let grown = fresh_grows types a.status s.fresh s.ends.unused in
       let next = types_of (with_fresh heap s.fresh) in
-      answered types next a.status a.method.type.result (handed_over (task a.method s.ends.act) a.stack) callers q grown fits (waiting_grows types next a.method.type.result callers grown k.1) s.answered
+      answered types next a.status a.method.type.result (handed_over (effect a.method s.ends.act) a.stack) callers q grown fits (waiting_grows types next a.method.type.result callers grown k.1) s.answered
 
   -- ---- what is raised comes to the callers
 

@@ -12,12 +12,12 @@ use Rattle.frames.specs.VerificationType.{VerificationType, top, int, float, lon
 use Rattle.frames.specs.FrameFact.{FrameFact}
 use Rattle.frames.specs.Slots.{is_wide, units_of}
 use Rattle.frames.specs.Conditions.{NoneHolds}
-use Rattle.rules.specs.Plans as rules
+use Rattle.rules.specs.TypingRules as rules
 use Rattle.rules.specs.After.{is_narrow, fits_place, fits_places, form_for, rearranged_by, after}
 use Rattle.rules.specs.Rules.{conditions}
 use Rattle.machine.specs.Values.{Value, is_wide_value, place_of}
 use Rattle.machine.specs.Heap.{Heap}
-use Rattle.machine.specs.Tasks as tasks
+use Rattle.machine.specs.Effects as effects
 use Rattle.machine.specs.Demands.{State, AreForm, HasForm, HasRoom}
 use Rattle.machine.specs.Steps.{moved, Does}
 use Rattle.verify.proofs.safety.Fits.{View, Items, Fits, Keeps, keep, depth_width, items_append}
@@ -89,7 +89,7 @@ same_form hh e p fs s f k al x c m y =
     let same : k ≡ r.0 = one_form fs k r.0 s.stack al m r.1 y (form_fits e s.heap r.0.takes s.stack f.stack r.2 x.items) in
     r.3 ∙ ap Some (sym same)
 
-pub form_room : (hh : List ClassFact) (e : View) (p : ℕ) (fs : List StackForm) (s : State) (f : FrameFact) → AllApart fs → Fits e s f → NoneHolds (conditions hh e.method p (rules.rearranges fs) f) → HasRoom e.method (tasks.moves fs) s
+pub form_room : (hh : List ClassFact) (e : View) (p : ℕ) (fs : List StackForm) (s : State) (f : FrameFact) → AllApart fs → Fits e s f → NoneHolds (conditions hh e.method p (rules.rearranges fs) f) → HasRoom e.method (effects.moves fs) s
 form_room hh e p fs s f al x c k m y =
     let o = same_form hh e p fs s f k al x c m y in
     let deep : units_of (rearranged_by (form_for fs f.stack) f.stack) ≤ e.method.max_stack = room hh e.method p (rules.rearranges fs) f c in
@@ -97,7 +97,7 @@ form_room hh e p fs s f al x c k m y =
     let d = depth_width e s.heap (rearranged k s.stack) (rearranged k f.stack) (items_form e s.heap k s.stack f.stack x.items) in
     omega arith
 
-pub form_does : (hh : List ClassFact) (e : View) (p : ℕ) (fs : List StackForm) (s : State) (f : FrameFact) (a : Option Value) (q : ℕ) (t : State) → AllApart fs → Fits e s f → NoneHolds (conditions hh e.method p (rules.rearranges fs) f) → Does e.world (tasks.moves fs) s a q t → Keeps e t (after e.method p (rules.rearranges fs) f)
+pub form_does : (hh : List ClassFact) (e : View) (p : ℕ) (fs : List StackForm) (s : State) (f : FrameFact) (a : Option Value) (q : ℕ) (t : State) → AllApart fs → Fits e s f → NoneHolds (conditions hh e.method p (rules.rearranges fs) f) → Does e.world (effects.moves fs) s a q t → Keeps e t (after e.method p (rules.rearranges fs) f)
 form_does hh e p fs s f a q t al x c d =
     let o = same_form hh e p fs s f d.0 al x c d.1 d.2 in
     keep e t (moved s q (rearranged d.0 s.stack)) (after e.method p (rules.rearranges fs) f) d.4 (record {

@@ -9,36 +9,36 @@ use Rattle.frames.specs.VerificationType.{VerificationType, top, int, float, lon
 use Rattle.frames.specs.FrameFact.{FrameFact}
 use Rattle.frames.specs.Slots.{is_wide}
 use Rattle.frames.specs.Conditions.{NoneHolds, is_no, missing_if}
-use Rattle.rules.specs.Plans as rules
-use Rattle.rules.specs.Plans.{Want}
+use Rattle.rules.specs.TypingRules as rules
+use Rattle.rules.specs.TypingRules.{ExpectedType}
 use Rattle.rules.specs.After.{or_top, local_of, loaded, top_first, stored_type, stored as stored_frame, top_of, rest_of}
 use Rattle.rules.specs.Rules.{accepts, is_short, operands, is_outside, local_conditions, conditions}
 use Rattle.machine.specs.Values.{Value, number, null, reference, Slot, empty, second, holds, is_wide_value, units, is_wide_slot, ArePairedBehind, ArePaired, behind_lost, second_first, stored}
 use Rattle.machine.specs.Heap.{Heap, FitsReference, IsThis}
-use Rattle.machine.specs.Tasks as tasks
-use Rattle.machine.specs.Tasks.{Need}
+use Rattle.machine.specs.Effects as effects
+use Rattle.machine.specs.Effects.{Demand}
 use Rattle.machine.specs.Demands.{State, Meets, HasLocal, MeetsRest, HasRoom}
 use Rattle.machine.specs.Steps.{moved, Does}
 use Rattle.verify.proofs.safety.Fits.{View, Sound, Fit, Item, Items, SlotFit, Slots, Fits, Keeps, keep, both_yes, val_fit, depth_width}
-use Rattle.verify.proofs.safety.Agree.{WantNeed, need_units}
+use Rattle.verify.proofs.safety.Agree.{IsDemanded, demand_units}
 use Rattle.verify.proofs.safety.Plain.{accept_meets, yes_of, operands_yes, room}
 
 -- ---- types that are accepted are not top
 
-never_top : (hh : List ClassFact) (x : Want) (n : Need) (t : VerificationType) → WantNeed x n → accepts hh x t ≡ yes → t ≡ top → ⊥
+never_top : (hh : List ClassFact) (x : ExpectedType) (n : Demand) (t : VerificationType) → IsDemanded x n → accepts hh x t ≡ yes → t ≡ top → ⊥
 never_top hh x n t a y e = go x n a (subst (λ z. accepts hh x z ≡ yes) e y)
   where
-    go : (x : Want) (n : Need) → WantNeed x n → accepts hh x top ≡ yes → ⊥
-    go (rules.number kinds.Int) (tasks.of_kind l) a y = cc
-    go (rules.number kinds.Float) (tasks.of_kind l) a y = cc
-    go (rules.number kinds.Long) (tasks.of_kind l) a y = cc
-    go (rules.number kinds.Double) (tasks.of_kind l) a y = cc
-    go (rules.assignable_to (class_type c)) (tasks.of_type l) a y = cc
-    go (rules.assignable_to (array_type c)) (tasks.of_type l) a y = cc
-    go rules.any_reference tasks.some_reference a y = cc
-    go rules.any_array tasks.some_array a y = cc
-    go (rules.any_array_for p) (tasks.some_array_for q) a y = cc
-    go (rules.own_or_assignable_to c) (tasks.own_or_of d) a y = cc
+    go : (x : ExpectedType) (n : Demand) → IsDemanded x n → accepts hh x top ≡ yes → ⊥
+    go (rules.number kinds.Int) (effects.of_kind l) a y = cc
+    go (rules.number kinds.Float) (effects.of_kind l) a y = cc
+    go (rules.number kinds.Long) (effects.of_kind l) a y = cc
+    go (rules.number kinds.Double) (effects.of_kind l) a y = cc
+    go (rules.assignable_to (class_type c)) (effects.of_type l) a y = cc
+    go (rules.assignable_to (array_type c)) (effects.of_type l) a y = cc
+    go rules.any_reference effects.some_reference a y = cc
+    go rules.any_array effects.some_array a y = cc
+    go (rules.any_array_for p) (effects.some_array_for q) a y = cc
+    go (rules.own_or_assignable_to c) (effects.own_or_of d) a y = cc
     go _ _ a y = elim a [ ]
 
 reference_narrow : (w : World) (h : Heap) (t : ReferenceType) (v : Value) → FitsReference w h t v → is_wide_value v ≡ false
@@ -77,7 +77,7 @@ local_at e h [] (t ∷ ts) n k f = elim f [ ]
 local_at e h (s ∷ ss) [] n k f = elim f [ ]
 
 -- what the conditions of a local variable say
-pub record Local (e : View) (y : Need) (n : ℕ) (s : State) (f : FrameFact) : Type 0 where
+pub record Local (e : View) (y : Demand) (n : ℕ) (s : State) (f : FrameFact) : Type 0 where
   pub value : Value
   pub here : slice_get s.locals n ≡ Some (holds value)
   pub item : Item e s.heap value (local_of n f)
@@ -87,7 +87,7 @@ inside_yes : (b : Bool) (a : Outcome) → b ≡ false → is_no (if b then yes e
 inside_yes false a e p q = yes_of a p q
 inside_yes true a e p q = cc
 
-pub local_read : (hh : List ClassFact) (e : View) (x : Want) (y : Need) (n k : ℕ) (s : State) (f : FrameFact) → WantNeed x y → Sound hh e → Fits e s f → NoneHolds (local_conditions hh e.method x n k f) → Local e y n s f
+pub local_read : (hh : List ClassFact) (e : View) (x : ExpectedType) (y : Demand) (n k : ℕ) (s : State) (f : FrameFact) → IsDemanded x y → Sound hh e → Fits e s f → NoneHolds (local_conditions hh e.method x n k f) → Local e y n s f
 local_read hh e x y n k s f a so fits c =
     let t = local_of n f in
     let ok = inside_yes (is_outside e.method n k) (accepts hh x t) c.1.0 c.0 c.1.1.0 in
@@ -95,7 +95,7 @@ local_read hh e x y n k s f a so fits c =
     let r = local_at e s.heap s.locals f.locals n nt fits.slots in
     record { value = r.0; here = r.1; item = fit_item e s.heap r.0 t nt r.2; meets = accept_meets hh e s.heap x y r.0 t a so ok r.2 }
 
-pub load_rest : (hh : List ClassFact) (e : View) (x : Want) (y : Need) (n k : ℕ) (s : State) (f : FrameFact) → WantNeed x y → Sound hh e → Fits e s f → NoneHolds (local_conditions hh e.method x n k f) → HasLocal e.world y n s
+pub load_rest : (hh : List ClassFact) (e : View) (x : ExpectedType) (y : Demand) (n k : ℕ) (s : State) (f : FrameFact) → IsDemanded x y → Sound hh e → Fits e s f → NoneHolds (local_conditions hh e.method x n k f) → HasLocal e.world y n s
 load_rest hh e x y n k s f a so fits c =
     let r = local_read hh e x y n k s f a so fits c in
     record { value = r.value; here = r.here; meets = r.meets }
@@ -103,7 +103,7 @@ load_rest hh e x y n k s f a so fits c =
 value_same : (v u : Value) → Some (holds v) ≡ Some (holds u) → v ≡ u
 value_same v u e = cc
 
-pub load_room : (hh : List ClassFact) (e : View) (p : ℕ) (x : Want) (y : Need) (n k : ℕ) (s : State) (f : FrameFact) → WantNeed x y → Sound hh e → Fits e s f → NoneHolds (conditions hh e.method p (rules.loads x n k) f) → HasRoom e.method (tasks.reads y n) s
+pub load_room : (hh : List ClassFact) (e : View) (p : ℕ) (x : ExpectedType) (y : Demand) (n k : ℕ) (s : State) (f : FrameFact) → IsDemanded x y → Sound hh e → Fits e s f → NoneHolds (conditions hh e.method p (rules.loads x n k) f) → HasRoom e.method (effects.reads y n) s
 load_room hh e p x y n k s f a so fits c v at =
     let u = local_of n f in
     let r = local_read hh e x y n k s f a so fits c.1 in
@@ -113,7 +113,7 @@ load_room hh e p x y n k s f a so fits c v at =
     let deep = room hh e.method p (rules.loads x n k) f c in
     omega arith
 
-pub load_does : (hh : List ClassFact) (e : View) (p : ℕ) (x : Want) (y : Need) (n k : ℕ) (s : State) (f : FrameFact) (a : Option Value) (q : ℕ) (t : State) → WantNeed x y → Sound hh e → Fits e s f → NoneHolds (conditions hh e.method p (rules.loads x n k) f) → Does e.world (tasks.reads y n) s a q t → Keeps e t (loaded n f)
+pub load_does : (hh : List ClassFact) (e : View) (p : ℕ) (x : ExpectedType) (y : Demand) (n k : ℕ) (s : State) (f : FrameFact) (a : Option Value) (q : ℕ) (t : State) → IsDemanded x y → Sound hh e → Fits e s f → NoneHolds (conditions hh e.method p (rules.loads x n k) f) → Does e.world (effects.reads y n) s a q t → Keeps e t (loaded n f)
 load_does hh e p x y n k s f a q t w so fits c d =
     let u = local_of n f in
     let r = local_read hh e x y n k s f w so fits c.1 in
@@ -126,10 +126,10 @@ load_does hh e p x y n k s f a q t w so fits c d =
       only = fits.only;
     })
 
-pub count_rest : (hh : List ClassFact) (e : View) (n : ℕ) (s : State) (f : FrameFact) → Sound hh e → Fits e s f → NoneHolds (local_conditions hh e.method (rules.number kinds.Int) n 1 f) → HasLocal e.world (tasks.of_kind kinds.Int) n s
-count_rest hh e n s f so fits c = load_rest hh e (rules.number kinds.Int) (tasks.of_kind kinds.Int) n 1 s f refl so fits c
+pub count_rest : (hh : List ClassFact) (e : View) (n : ℕ) (s : State) (f : FrameFact) → Sound hh e → Fits e s f → NoneHolds (local_conditions hh e.method (rules.number kinds.Int) n 1 f) → HasLocal e.world (effects.of_kind kinds.Int) n s
+count_rest hh e n s f so fits c = load_rest hh e (rules.number kinds.Int) (effects.of_kind kinds.Int) n 1 s f refl so fits c
 
-pub count_does : (e : View) (n : ℕ) (s : State) (f : FrameFact) (a : Option Value) (q : ℕ) (t : State) → Fits e s f → Does e.world (tasks.increments n) s a q t → Keeps e t f
+pub count_does : (e : View) (n : ℕ) (s : State) (f : FrameFact) (a : Option Value) (q : ℕ) (t : State) → Fits e s f → Does e.world (effects.increments n) s a q t → Keeps e t f
 count_does e n s f a q t fits d = keep e t (moved s q s.stack) f d.1 (record { items = fits.items; slots = fits.slots; paired = fits.paired; long = fits.long; only = fits.only })
 
 -- ---- stores: pairs stay pairs
@@ -272,29 +272,29 @@ store_slots e h v t (suc (suc n)) b (s ∷ ss) (x ∷ xs) w f p g = (g.0, store_
 store_slots e h v t n b [] (x ∷ xs) w f p g = elim g [ ]
 store_slots e h v t n b (s ∷ ss) [] w f p g = elim g [ ]
 
-meets_width : (w : World) (h : Heap) (x : Want) (y : Need) (v : Value) → WantNeed x y → Meets w h y v → need_units y ≡ units (is_wide_value v)
-meets_width w h (rules.number j) (tasks.of_kind k) v a f = ap (λ z. units (is_wide_value z)) (sym f)
-meets_width w h rules.any_reference tasks.some_reference (number k) a f = elim f [ ]
-meets_width w h rules.any_reference tasks.some_reference null a f = refl
-meets_width w h rules.any_reference tasks.some_reference (reference b) a f = refl
-meets_width w h (rules.assignable_to r) (tasks.of_type t) v a f = ap units (sym (reference_narrow w h t v f))
-meets_width w h rules.any_array tasks.some_array (number k) a f = elim f [ ]
-meets_width w h rules.any_array tasks.some_array null a f = refl
-meets_width w h rules.any_array tasks.some_array (reference b) a f = refl
-meets_width w h (rules.any_array_for p) (tasks.some_array_for q) (number k) a f = elim f [ ]
-meets_width w h (rules.any_array_for p) (tasks.some_array_for q) null a f = refl
-meets_width w h (rules.any_array_for p) (tasks.some_array_for q) (reference b) a f = refl
-meets_width w h (rules.own_or_assignable_to c) (tasks.own_or_of d) v a f = own v f
+meets_width : (w : World) (h : Heap) (x : ExpectedType) (y : Demand) (v : Value) → IsDemanded x y → Meets w h y v → demand_units y ≡ units (is_wide_value v)
+meets_width w h (rules.number j) (effects.of_kind k) v a f = ap (λ z. units (is_wide_value z)) (sym f)
+meets_width w h rules.any_reference effects.some_reference (number k) a f = elim f [ ]
+meets_width w h rules.any_reference effects.some_reference null a f = refl
+meets_width w h rules.any_reference effects.some_reference (reference b) a f = refl
+meets_width w h (rules.assignable_to r) (effects.of_type t) v a f = ap units (sym (reference_narrow w h t v f))
+meets_width w h rules.any_array effects.some_array (number k) a f = elim f [ ]
+meets_width w h rules.any_array effects.some_array null a f = refl
+meets_width w h rules.any_array effects.some_array (reference b) a f = refl
+meets_width w h (rules.any_array_for p) (effects.some_array_for q) (number k) a f = elim f [ ]
+meets_width w h (rules.any_array_for p) (effects.some_array_for q) null a f = refl
+meets_width w h (rules.any_array_for p) (effects.some_array_for q) (reference b) a f = refl
+meets_width w h (rules.own_or_assignable_to c) (effects.own_or_of d) v a f = own v f
   where
     own : (v : Value) → FitsReference w h (class_type d) v ⊎ IsThis h v → 1 ≡ units (is_wide_value v)
     own v (inl g) = ap units (sym (reference_narrow w h (class_type d) v g))
     own v (inr g) = ap (λ z. units (is_wide_value z)) (sym g.2)
 meets_width w h _ _ v a f = elim a [ ]
 
-pub store_rest : (hh : List ClassFact) (e : View) (p : ℕ) (x : Want) (y : Need) (n k : ℕ) (s : State) (f : FrameFact) → NoneHolds (conditions hh e.method p (rules.stores x n k) f) → MeetsRest e.world e.method (tasks.writes y n k) s
+pub store_rest : (hh : List ClassFact) (e : View) (p : ℕ) (x : ExpectedType) (y : Demand) (n k : ℕ) (s : State) (f : FrameFact) → NoneHolds (conditions hh e.method p (rules.stores x n k) f) → MeetsRest e.world e.method (effects.writes y n k) s
 store_rest hh e p x y n k s f c = ltb-false e.method.max_locals (n + k) c.1.0
 
-store_go : (hh : List ClassFact) (e : View) (x : Want) (y : Need) (n k : ℕ) (s : State) (f : FrameFact) (v : Value) (rest : List Value) (ts : List VerificationType) → WantNeed x y → need_units y ≡ k → Sound hh e → Fits e s f → accepts hh x (top_of ts) ≡ yes → n + k ≤ e.method.max_locals → Items e s.heap (v ∷ rest) ts → (q : ℕ)
+store_go : (hh : List ClassFact) (e : View) (x : ExpectedType) (y : Demand) (n k : ℕ) (s : State) (f : FrameFact) (v : Value) (rest : List Value) (ts : List VerificationType) → IsDemanded x y → demand_units y ≡ k → Sound hh e → Fits e s f → accepts hh x (top_of ts) ≡ yes → n + k ≤ e.method.max_locals → Items e s.heap (v ∷ rest) ts → (q : ℕ)
     → Fits e (record { at = q; stack = rest; locals = stored v n s.locals; heap = s.heap }) (record { locals = stored_type (top_of ts) n f.locals; stack = rest_of ts; flag = f.flag })
 store_go hh e x y n k s f v rest (t ∷ ts) a wk so fits ok fit_in it q =
     let nt = never_top hh x y t a ok in
@@ -311,11 +311,11 @@ store_go hh e x y n k s f v rest (t ∷ ts) a wk so fits ok fit_in it q =
     }
 store_go hh e x y n k s f v rest [] a wk so fits ok fit_in it q = elim it [ ]
 
-operand_one : (hh : List ClassFact) (x : Want) (ts : List VerificationType) → operands hh (x ∷ []) ts ≡ yes → is_short (x ∷ []) ts ≡ false → accepts hh x (top_of ts) ≡ yes
+operand_one : (hh : List ClassFact) (x : ExpectedType) (ts : List VerificationType) → operands hh (x ∷ []) ts ≡ yes → is_short (x ∷ []) ts ≡ false → accepts hh x (top_of ts) ≡ yes
 operand_one hh x [] y s = cc
 operand_one hh x (t ∷ ts) y s = (both_yes (accepts hh x t) yes y).0
 
-pub store_does : (hh : List ClassFact) (e : View) (p : ℕ) (x : Want) (y : Need) (n k : ℕ) (s : State) (f : FrameFact) (a : Option Value) (q : ℕ) (t : State) → WantNeed x y → need_units y ≡ k → Sound hh e → Fits e s f → NoneHolds (conditions hh e.method p (rules.stores x n k) f) → Does e.world (tasks.writes y n k) s a q t → Keeps e t (stored_frame n f)
+pub store_does : (hh : List ClassFact) (e : View) (p : ℕ) (x : ExpectedType) (y : Demand) (n k : ℕ) (s : State) (f : FrameFact) (a : Option Value) (q : ℕ) (t : State) → IsDemanded x y → demand_units y ≡ k → Sound hh e → Fits e s f → NoneHolds (conditions hh e.method p (rules.stores x n k) f) → Does e.world (effects.writes y n k) s a q t → Keeps e t (stored_frame n f)
 store_does hh e p x y n k s f a q t w wk so fits c d =
     let ok = operand_one hh x f.stack (operands_yes hh (x ∷ []) f.stack c.1.1) c.1.1.0 in
     let fit_in = ltb-false e.method.max_locals (n + k) c.1.0 in

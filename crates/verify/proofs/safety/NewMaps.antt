@@ -6,7 +6,7 @@ use Rattle.layout.specs.Format as formats
 use Rattle.frames.specs.Conditions.{reason}
 use Rattle.frames.specs.StackMaps as maps
 use Rattle.pool.specs.Lookups as lookups
-use Rattle.rules.specs.Table.{plan}
+use Rattle.rules.specs.Table.{typing_rule}
 use Rattle.verify.specs.Verdict.{refused, verdict}
 
 -- `new` at 0, `return` at 3, and a full frame at 3 whose stack holds what the `new` at 0 makes
@@ -34,6 +34,6 @@ abbrev makes_one : List (ℕ × Act)
 makes_one = (0, New 1) ∷ (3, ReturnVoid) ∷ []
 
 -- the map is fine, and the `new` names no class of the constant pool
-own_code : verdict plan [] (with_map makes_one) ≡ refused 0 (reason 66)
+own_code : verdict typing_rule [] (with_map makes_one) ≡ refused 0 (reason 66)
 unfolding maps.stack_map formats.times maps.map_entry maps.type_table maps.type_info lookups.class_name_at lookups.entry_at
 own_code = refl

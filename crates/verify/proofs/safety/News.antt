@@ -11,21 +11,21 @@ use Rattle.frames.specs.VerificationType.{VerificationType, top, int, float, lon
 use Rattle.frames.specs.FrameFact.{FrameFact}
 use Rattle.frames.specs.Slots.{to_reference, is_wide}
 use Rattle.frames.specs.Conditions.{NoneHolds}
-use Rattle.rules.specs.Plans as rules
-use Rattle.rules.specs.Plans.{Want}
+use Rattle.rules.specs.TypingRules as rules
+use Rattle.rules.specs.TypingRules.{ExpectedType}
 use Rattle.rules.specs.Table.{class_made_at}
 use Rattle.frames.specs.Objects.{is_made_at}
 use Rattle.rules.specs.After.{popped, top_of, rest_of, forgotten, initialized, class_after, flag_after, after}
 use Rattle.rules.specs.Rules.{is_short, is_on_stack, may_construct, conditions}
 use Rattle.machine.specs.Values.{Value, number, null, reference}
 use Rattle.machine.specs.Heap.{Status, ready, made, this, Object, object, Heap, with_object, FitsReference, IsFresh, with_fresh}
-use Rattle.machine.specs.Tasks as tasks
-use Rattle.machine.specs.Tasks.{Need}
+use Rattle.machine.specs.Effects as effects
+use Rattle.machine.specs.Effects.{Demand}
 use Rattle.machine.specs.Demands.{State, IsMade, IsOwn, HasReceiver, HasRoom}
 use Rattle.machine.specs.Steps.{moved_with, Does}
 use Rattle.verify.proofs.safety.Worlds.{name_same, below_itself}
 use Rattle.verify.proofs.safety.Fits.{View, Fit, Item, Items, Slots, OnlyOwn, Fits, Keeps, With, Gains, keep, depth_width, items_map, slots_map, fit_grows}
-use Rattle.verify.proofs.safety.Agree.{WantsNeeds}
+use Rattle.verify.proofs.safety.Agree.{AreDemanded}
 use Rattle.verify.proofs.safety.Plain.{items_beneath_same, items_beneath, beneath_same, reference_item, room}
 
 abbrev status_in : Option Object → Status
@@ -130,13 +130,13 @@ only_set e h a x st b ne o k t at = go (a == k) refl at
     go true i q = absurd (ne (ap status_in q))
     go false i q = o k t q
 
-pub makes_room : (hh : List ClassFact) (e : View) (p : ℕ) (c : List ℕ) (s : State) (f : FrameFact) → Fits e s f → NoneHolds (conditions hh e.method p (rules.makes c) f) → HasRoom e.method (tasks.creates c) s
+pub makes_room : (hh : List ClassFact) (e : View) (p : ℕ) (c : List ℕ) (s : State) (f : FrameFact) → Fits e s f → NoneHolds (conditions hh e.method p (rules.makes c) f) → HasRoom e.method (effects.creates c) s
 makes_room hh e p c s f x k =
     let deep = room hh e.method p (rules.makes c) f k in
     let d = depth_width e s.heap s.stack f.stack x.items in
     omega arith
 
-pub makes_does : (hh : List ClassFact) (e : View) (c : List ℕ) (s : State) (f : FrameFact) (v : Option Value) (q : ℕ) (t : State) → class_made_at e.method s.at ≡ Some c → Fits e s f → NoneHolds (conditions hh e.method s.at (rules.makes c) f) → Does e.world (tasks.creates c) s v q t → Keeps e t (after e.method s.at (rules.makes c) f)
+pub makes_does : (hh : List ClassFact) (e : View) (c : List ℕ) (s : State) (f : FrameFact) (v : Option Value) (q : ℕ) (t : State) → class_made_at e.method s.at ≡ Some c → Fits e s f → NoneHolds (conditions hh e.method s.at (rules.makes c) f) → Does e.world (effects.creates c) s v q t → Keeps e t (after e.method s.at (rules.makes c) f)
 makes_does hh e c s f v q t here x k d =
     let p = s.at in
     let a = d.0 in
@@ -263,7 +263,7 @@ uncons e h (v ∷ vs) (t ∷ ts) u us q f = record { first = v; rest = vs; parts
 uncons e h [] (t ∷ ts) u us q f = elim f [ ]
 uncons e h (v ∷ vs) [] u us q f = elim f [ ]
 
-receiver : (e : View) (ws : List Want) (s : State) (f : FrameFact) → is_short (rules.any_reference ∷ ws) f.stack ≡ false → Fits e s f → Uncons e s.heap (beneath ws s.stack) (beneath ws f.stack)
+receiver : (e : View) (ws : List ExpectedType) (s : State) (f : FrameFact) → is_short (rules.any_reference ∷ ws) f.stack ≡ false → Fits e s f → Uncons e s.heap (beneath ws s.stack) (beneath ws f.stack)
 receiver e ws s f i x =
     let k = short_beneath rules.any_reference ws f.stack i in
     uncons e s.heap (beneath ws s.stack) (beneath ws f.stack) k.0 k.1 k.2 (items_beneath_same e s.heap ws s.stack f.stack x.items)
@@ -294,7 +294,7 @@ may_meet e s c v (uninit p) k f =
     (e.site p, f.0, inl (record { here = f.2.2 ∙ ap (λ z. Some (object (class_type z) made)) b }))
 may_meet e s c v _ k f = cc
 
-pub constructs_rest : (hh : List ClassFact) (e : View) (p : ℕ) (c : List ℕ) (ws : List Want) (ns : List Need) (s : State) (f : FrameFact) → WantsNeeds ws ns → Fits e s f → NoneHolds (conditions hh e.method p (rules.constructs c ws) f) → HasReceiver e.method c ns s
+pub constructs_rest : (hh : List ClassFact) (e : View) (p : ℕ) (c : List ℕ) (ws : List ExpectedType) (ns : List Demand) (s : State) (f : FrameFact) → AreDemanded ws ns → Fits e s f → NoneHolds (conditions hh e.method p (rules.constructs c ws) f) → HasReceiver e.method c ns s
 constructs_rest hh e p c ws ns s f a x k =
     let r = receiver e ws s f k.1.0 x in
     let m = may_meet e s c r.first (top_of (beneath ws f.stack)) (not_false _ k.1.1.0) r.item.fit in
@@ -347,7 +347,7 @@ head_same v u vs us e = cc
 tail_same : (v u : Value) (vs us : List Value) → v ∷ vs ≡ u ∷ us → vs ≡ us
 tail_same v u vs us e = cc
 
-pub constructs_does : (hh : List ClassFact) (e : View) (p : ℕ) (c : List ℕ) (ws : List Want) (ns : List Need) (s : State) (f : FrameFact) (v : Option Value) (q : ℕ) (t : State) → WantsNeeds ws ns → Fits e s f → NoneHolds (conditions hh e.method p (rules.constructs c ws) f) → Does e.world (tasks.initializes c ns) s v q t → Keeps e t (after e.method p (rules.constructs c ws) f)
+pub constructs_does : (hh : List ClassFact) (e : View) (p : ℕ) (c : List ℕ) (ws : List ExpectedType) (ns : List Demand) (s : State) (f : FrameFact) (v : Option Value) (q : ℕ) (t : State) → AreDemanded ws ns → Fits e s f → NoneHolds (conditions hh e.method p (rules.constructs c ws) f) → Does e.world (effects.initializes c ns) s v q t → Keeps e t (after e.method p (rules.constructs c ws) f)
 constructs_does hh e p c ws ns s f v q t a x k d =
     let r = receiver e ws s f k.1.0 x in
     let eq = sym r.parts ∙ sym (beneath_same ws ns s.stack a) ∙ d.4 in
@@ -399,7 +399,7 @@ fresh_gains (x ∷ xs) h f = gains_trans h (with_object h x.0 (object x.1 ready)
 
 -- ---- a new array
 
-pub arrays_does : (e : View) (ws : List Want) (gs : List VerificationType) (ns : List Need) (r : ReferenceType) (s : State) (f : FrameFact) (v : Option Value) (q : ℕ) (t : State) → WantsNeeds ws ns → gs ≡ to_reference r ∷ [] → Fits e s f → Does e.world (tasks.makes_array ns r) s v q t → Keeps e t (popped ws gs f)
+pub arrays_does : (e : View) (ws : List ExpectedType) (gs : List VerificationType) (ns : List Demand) (r : ReferenceType) (s : State) (f : FrameFact) (v : Option Value) (q : ℕ) (t : State) → AreDemanded ws ns → gs ≡ to_reference r ∷ [] → Fits e s f → Does e.world (effects.makes_array ns r) s v q t → Keeps e t (popped ws gs f)
 arrays_does e ws gs ns r s f v q t a g x d =
     let k = with_object s.heap d.0 (object r ready) in
     let y = grows e s k f (one_gains s.heap d.0 r d.2) x in

@@ -16,19 +16,19 @@ use Rattle.frames.specs.FrameFact.{FrameFact}
 use Rattle.frames.specs.FrameAssignable.{width_of}
 use Rattle.frames.specs.Slots.{number_type, to_reference, descriptor_type, units_of}
 use Rattle.frames.specs.Conditions.{Conditions, NoneHolds, is_no, missing_if}
-use Rattle.rules.specs.Plans as rules
-use Rattle.rules.specs.Plans.{Want, Plan}
+use Rattle.rules.specs.TypingRules as rules
+use Rattle.rules.specs.TypingRules.{ExpectedType, TypingRule}
 use Rattle.rules.specs.After.{popped, after}
 use Rattle.rules.specs.Rules.{is_reference, is_array, is_array_for, own_or_answer, accepts, is_short, operands, operand_conditions, family, is_missing_class, gives_frame, conditions}
 use Rattle.insn.specs.Acts.{kind_units}
 use Rattle.machine.specs.Values.{Value, number, null, reference, is_wide_value, depth_of, field_units}
 use Rattle.machine.specs.Heap.{Heap, IsBelow, FitsReference, FitsField, AllFit, IsReference, IsArray, FitsArray, IsArrayFor, FitsArrayFor, IsThis}
-use Rattle.machine.specs.Tasks as tasks
-use Rattle.machine.specs.Tasks.{Need, Reply, reply_units}
+use Rattle.machine.specs.Effects as effects
+use Rattle.machine.specs.Effects.{Demand, Reply, reply_units}
 use Rattle.machine.specs.Demands.{State, Meets, AllMeet}
 use Rattle.machine.specs.Steps.{Replies, moved}
 use Rattle.verify.proofs.safety.Fits.{View, Sound, Fit, Item, Items, Fits, Keeps, keep, both_yes, yes_true, fit_number, fit_reference, assign_fit, depth_width, items_append}
-use Rattle.verify.proofs.safety.Agree.{WantNeed, WantsNeeds, GivesReply}
+use Rattle.verify.proofs.safety.Agree.{IsDemanded, AreDemanded, GivesReply}
 
 -- ---- values that are accepted meet what is needed
 
@@ -89,16 +89,16 @@ own_or hh e h c v (class n) so y f = inl (assign_fit hh e h v (class n) (class c
 own_or hh e h c v (array x) so y f = inl (assign_fit hh e h v (array x) (class c) so y f)
 own_or hh e h c v (uninit p) so y f = inl (assign_fit hh e h v (uninit p) (class c) so y f)
 
-pub accept_meets : (hh : List ClassFact) (e : View) (h : Heap) (x : Want) (n : Need) (v : Value) (t : VerificationType) → WantNeed x n → Sound hh e → accepts hh x t ≡ yes → Fit e h v t → Meets e.world h n v
-accept_meets hh e h (rules.number k) (tasks.of_kind l) v t a so y f = subst (λ z. v ≡ number z) a (fit_number e h v k (assign_fit hh e h v t (number_type k) so y f))
-accept_meets hh e h (rules.assignable_to r) (tasks.of_type q) v t a so y f = subst (λ z. FitsReference e.world h z v) a (fit_reference e h v r (assign_fit hh e h v t (to_reference r) so y f))
-accept_meets hh e h rules.any_reference tasks.some_reference v t a so y f = any_reference e h v t (yes_true _ y) f
-accept_meets hh e h rules.any_array tasks.some_array v t a so y f = any_array e h v t (yes_true _ y) f
-accept_meets hh e h (rules.any_array_for p) (tasks.some_array_for q) v t a so y f = subst (λ z. FitsArrayFor h z v) a (any_array_for e h p v t (yes_true _ y) f)
-accept_meets hh e h (rules.own_or_assignable_to c) (tasks.own_or_of d) v t a so y f = subst (λ z. FitsReference e.world h (class_type z) v ⊎ IsThis h v) a (own_or hh e h c v t so y f)
+pub accept_meets : (hh : List ClassFact) (e : View) (h : Heap) (x : ExpectedType) (n : Demand) (v : Value) (t : VerificationType) → IsDemanded x n → Sound hh e → accepts hh x t ≡ yes → Fit e h v t → Meets e.world h n v
+accept_meets hh e h (rules.number k) (effects.of_kind l) v t a so y f = subst (λ z. v ≡ number z) a (fit_number e h v k (assign_fit hh e h v t (number_type k) so y f))
+accept_meets hh e h (rules.assignable_to r) (effects.of_type q) v t a so y f = subst (λ z. FitsReference e.world h z v) a (fit_reference e h v r (assign_fit hh e h v t (to_reference r) so y f))
+accept_meets hh e h rules.any_reference effects.some_reference v t a so y f = any_reference e h v t (yes_true _ y) f
+accept_meets hh e h rules.any_array effects.some_array v t a so y f = any_array e h v t (yes_true _ y) f
+accept_meets hh e h (rules.any_array_for p) (effects.some_array_for q) v t a so y f = subst (λ z. FitsArrayFor h z v) a (any_array_for e h p v t (yes_true _ y) f)
+accept_meets hh e h (rules.own_or_assignable_to c) (effects.own_or_of d) v t a so y f = subst (λ z. FitsReference e.world h (class_type z) v ⊎ IsThis h v) a (own_or hh e h c v t so y f)
 accept_meets hh e h _ _ v t a so y f = elim a [ ]
 
-pub all_meet : (hh : List ClassFact) (e : View) (h : Heap) (ws : List Want) (ns : List Need) (vs : List Value) (ts : List VerificationType) → WantsNeeds ws ns → Sound hh e → is_short ws ts ≡ false → operands hh ws ts ≡ yes → Items e h vs ts → AllMeet e.world h ns vs
+pub all_meet : (hh : List ClassFact) (e : View) (h : Heap) (ws : List ExpectedType) (ns : List Demand) (vs : List Value) (ts : List VerificationType) → AreDemanded ws ns → Sound hh e → is_short ws ts ≡ false → operands hh ws ts ≡ yes → Items e h vs ts → AllMeet e.world h ns vs
 all_meet hh e h [] [] vs ts a so s y f = tt
 all_meet hh e h (x ∷ xs) (n ∷ ns) (v ∷ vs) (t ∷ ts) a so s y f =
     let p = both_yes (accepts hh x t) (operands hh xs ts) y in
@@ -117,14 +117,14 @@ items_beneath_same e h (x ∷ xs) (v ∷ vs) (t ∷ ts) f = items_beneath_same e
 items_beneath_same e h (x ∷ xs) [] (t ∷ ts) f = elim f [ ]
 items_beneath_same e h (x ∷ xs) (v ∷ vs) [] f = elim f [ ]
 
-pub beneath_same : {A : Type 0} (ws : List Want) (ns : List Need) (vs : List A) → WantsNeeds ws ns → beneath ns vs ≡ beneath ws vs
+pub beneath_same : {A : Type 0} (ws : List ExpectedType) (ns : List Demand) (vs : List A) → AreDemanded ws ns → beneath ns vs ≡ beneath ws vs
 beneath_same [] [] vs a = refl
 beneath_same (w ∷ ws) (n ∷ ns) [] a = refl
 beneath_same (w ∷ ws) (n ∷ ns) (v ∷ vs) a = beneath_same ws ns vs a.1
 beneath_same [] (n ∷ ns) vs a = elim a [ ]
 beneath_same (w ∷ ws) [] vs a = elim a [ ]
 
-pub items_beneath : (e : View) (h : Heap) (ws : List Want) (ns : List Need) (vs : List Value) (ts : List VerificationType) → WantsNeeds ws ns → Items e h vs ts → Items e h (beneath ns vs) (beneath ws ts)
+pub items_beneath : (e : View) (h : Heap) (ws : List ExpectedType) (ns : List Demand) (vs : List Value) (ts : List VerificationType) → AreDemanded ws ns → Items e h vs ts → Items e h (beneath ns vs) (beneath ws ts)
 items_beneath e h ws ns vs ts a f = subst (λ z. Items e h z (beneath ws ts)) (sym (beneath_same ws ns vs a)) (items_beneath_same e h ws vs ts f)
 
 -- ---- values that fit the types of fields and parameters
@@ -161,10 +161,10 @@ one_item : (e : View) (h : Heap) (v : Value) (t u : VerificationType) (vs : List
 one_item e h v t u vs i p q = subst (λ z. Items e h z (t ∷ [])) (sym q) (subst (λ z. Item e h v z) (sym p) i, tt)
 
 pub reply_items : (e : View) (h : Heap) (gs : List VerificationType) (r : Reply) (c : Option Value) (vs : List Value) → GivesReply gs r → Replies e.world h r c vs → Items e h vs gs
-reply_items e h [] tasks.no_reply c vs a f = subst (λ z. Items e h z []) (sym f.1) tt
-reply_items e h (t ∷ []) (tasks.gives_number k) c vs a f = one_item e h (number k) t (number_type k) vs (number_item e h k) a f.1
-reply_items e h (t ∷ []) tasks.gives_null c vs a f = one_item e h null t null_type vs (record { wide = refl; fit = refl }) a f.1
-reply_items e h (t ∷ []) (tasks.gives_answer x) c vs a f = one_item e h f.0 t (descriptor_type x) vs (field_item e h x f.0 f.2) a f.3
+reply_items e h [] effects.no_reply c vs a f = subst (λ z. Items e h z []) (sym f.1) tt
+reply_items e h (t ∷ []) (effects.gives_number k) c vs a f = one_item e h (number k) t (number_type k) vs (number_item e h k) a f.1
+reply_items e h (t ∷ []) effects.gives_null c vs a f = one_item e h null t null_type vs (record { wide = refl; fit = refl }) a f.1
+reply_items e h (t ∷ []) (effects.gives_answer x) c vs a f = one_item e h f.0 t (descriptor_type x) vs (field_item e h x f.0 f.2) a f.3
 reply_items e h _ _ c vs a f = elim a [ ]
 
 -- ---- widths
@@ -185,10 +185,10 @@ field_width (class_descriptor n) = refl
 field_width (array_descriptor c) = refl
 
 pub reply_width : (gs : List VerificationType) (r : Reply) → GivesReply gs r → units_of gs ≡ reply_units r
-reply_width [] tasks.no_reply a = refl
-reply_width (t ∷ []) (tasks.gives_number k) a = let p : width_of t ≡ kind_units k = ap width_of a ∙ number_width k in omega arith
-reply_width (t ∷ []) tasks.gives_null a = let p : width_of t ≡ 1 = ap width_of a in omega arith
-reply_width (t ∷ []) (tasks.gives_answer x) a = let p : width_of t ≡ field_units x = ap width_of a ∙ field_width x in omega arith
+reply_width [] effects.no_reply a = refl
+reply_width (t ∷ []) (effects.gives_number k) a = let p : width_of t ≡ kind_units k = ap width_of a ∙ number_width k in omega arith
+reply_width (t ∷ []) effects.gives_null a = let p : width_of t ≡ 1 = ap width_of a in omega arith
+reply_width (t ∷ []) (effects.gives_answer x) a = let p : width_of t ≡ field_units x = ap width_of a ∙ field_width x in omega arith
 reply_width _ _ a = elim a [ ]
 
 -- ---- what it says that no condition holds
@@ -198,7 +198,7 @@ yes_of yes p q = refl
 yes_of no p q = cc
 yes_of (missing n) p q = cc
 
-pub operands_yes : (hh : List ClassFact) (ws : List Want) (ts : List VerificationType) → NoneHolds (operand_conditions hh ws ts) → operands hh ws ts ≡ yes
+pub operands_yes : (hh : List ClassFact) (ws : List ExpectedType) (ts : List VerificationType) → NoneHolds (operand_conditions hh ws ts) → operands hh ws ts ≡ yes
 operands_yes hh ws ts c = yes_of (operands hh ws ts) c.1.0 c.1.1.0
 
 kept : (x y : Bool) → y ≡ false → (x || not y) ≡ true
@@ -214,21 +214,21 @@ gated true c e f = f
 gated false c e f = cc
 
 -- the stack after is not too wide
-pub room : (hh : List ClassFact) (m : Method Act) (p : ℕ) (pl : Plan) (f : FrameFact) → NoneHolds (conditions hh m p pl f) → units_of (after m p pl f).stack ≤ m.max_stack
+pub room : (hh : List ClassFact) (m : Method Act) (p : ℕ) (pl : TypingRule) (f : FrameFact) → NoneHolds (conditions hh m p pl f) → units_of (after m p pl f).stack ≤ m.max_stack
 room hh m p pl f c = ltb-false m.max_stack (units_of (after m p pl f).stack) (gated (gives_frame (family hh m p pl f)) (nat_lt m.max_stack (units_of (after m p pl f).stack)) (clean (family hh m p pl f) c.1) c.0)
 
 -- ---- operands are taken and results given
 
-pub pops_met : (hh : List ClassFact) (e : View) (ws : List Want) (ns : List Need) (s : State) (f : FrameFact) → WantsNeeds ws ns → Sound hh e → Fits e s f → NoneHolds (operand_conditions hh ws f.stack) → AllMeet e.world s.heap ns s.stack
+pub pops_met : (hh : List ClassFact) (e : View) (ws : List ExpectedType) (ns : List Demand) (s : State) (f : FrameFact) → AreDemanded ws ns → Sound hh e → Fits e s f → NoneHolds (operand_conditions hh ws f.stack) → AllMeet e.world s.heap ns s.stack
 pops_met hh e ws ns s f a so x c = all_meet hh e s.heap ws ns s.stack f.stack a so c.0 (operands_yes hh ws f.stack c) x.items
 
-pub pops_room : (e : View) (ws : List Want) (gs : List VerificationType) (ns : List Need) (n k : ℕ) (s : State) (f : FrameFact) → WantsNeeds ws ns → units_of gs ≡ k → Fits e s f → units_of (gs ++ beneath ws f.stack) ≤ n → k + depth_of (beneath ns s.stack) ≤ n
+pub pops_room : (e : View) (ws : List ExpectedType) (gs : List VerificationType) (ns : List Demand) (n k : ℕ) (s : State) (f : FrameFact) → AreDemanded ws ns → units_of gs ≡ k → Fits e s f → units_of (gs ++ beneath ws f.stack) ≤ n → k + depth_of (beneath ns s.stack) ≤ n
 pops_room e ws gs ns n k s f a g x c =
     let w1 = width_append gs (beneath ws f.stack) in
     let w3 = depth_width e s.heap (beneath ns s.stack) (beneath ws f.stack) (items_beneath e s.heap ws ns s.stack f.stack a x.items) in
     omega arith
 
-pub pops_does : (e : View) (ws : List Want) (gs : List VerificationType) (ns : List Need) (r : Reply) (c : Option Value) (s : State) (f : FrameFact) (q : ℕ) (t : State) → WantsNeeds ws ns → GivesReply gs r → Fits e s f → ((vs : List Value) × Replies e.world s.heap r c vs × (t ≡ moved s q (vs ++ beneath ns s.stack))) → Keeps e t (popped ws gs f)
+pub pops_does : (e : View) (ws : List ExpectedType) (gs : List VerificationType) (ns : List Demand) (r : Reply) (c : Option Value) (s : State) (f : FrameFact) (q : ℕ) (t : State) → AreDemanded ws ns → GivesReply gs r → Fits e s f → ((vs : List Value) × Replies e.world s.heap r c vs × (t ≡ moved s q (vs ++ beneath ns s.stack))) → Keeps e t (popped ws gs f)
 pops_does e ws gs ns r c s f q t a g x d =
     keep e t (moved s q (d.0 ++ beneath ns s.stack)) (popped ws gs f) d.2 (record {
       items = items_append e s.heap d.0 (beneath ns s.stack) gs (beneath ws f.stack) (reply_items e s.heap gs r c d.0 g d.1) (items_beneath e s.heap ws ns s.stack f.stack a x.items);

@@ -11,27 +11,27 @@ use Rattle.frames.specs.VerificationType.{VerificationType, null as null_type, c
 use Rattle.frames.specs.FrameFact.{FrameFact}
 use Rattle.frames.specs.Slots.{to_reference}
 use Rattle.frames.specs.Conditions.{NoneHolds}
-use Rattle.rules.specs.Plans as rules
-use Rattle.rules.specs.Plans.{Want}
+use Rattle.rules.specs.TypingRules as rules
+use Rattle.rules.specs.TypingRules.{ExpectedType}
 use Rattle.rules.specs.Table.{object_array}
 use Rattle.rules.specs.After.{popped, top_of, rest_of, element_of, after}
 use Rattle.rules.specs.Rules.{accepts, operands, conditions}
 use Rattle.machine.specs.Values.{Value, reference}
 use Rattle.machine.specs.Heap.{ready, Object, object, Heap, IsBelowType, FitsReference, FitsField}
-use Rattle.machine.specs.Tasks as tasks
+use Rattle.machine.specs.Effects as effects
 use Rattle.machine.specs.Demands.{State}
 use Rattle.machine.specs.Steps.{moved, Does}
 use Rattle.verify.proofs.safety.Worlds.{IsWorld}
 use Rattle.verify.proofs.safety.Fits.{View, Sound, Fit, Item, Items, Fits, Keeps, keep, both_yes, fits_up}
-use Rattle.verify.proofs.safety.Agree.{WantsNeeds}
+use Rattle.verify.proofs.safety.Agree.{AreDemanded}
 use Rattle.verify.proofs.safety.Plain.{operands_yes, items_beneath, reference_item}
 
 -- ---- checkcast
 
-two_parts : (e : View) (h : Heap) (ws : List Want) (v : Value) (rest : List Value) (ts : List VerificationType) → WantsNeeds ws (tasks.needs_of (tasks.passes (class_type []))) → Items e h (v ∷ rest) ts → Items e h rest (beneath ws ts)
-two_parts e h ws v rest ts a f = items_beneath e h ws (tasks.needs_of (tasks.passes (class_type []))) (v ∷ rest) ts a f
+two_parts : (e : View) (h : Heap) (ws : List ExpectedType) (v : Value) (rest : List Value) (ts : List VerificationType) → AreDemanded ws (effects.demands_of (effects.passes (class_type []))) → Items e h (v ∷ rest) ts → Items e h rest (beneath ws ts)
+two_parts e h ws v rest ts a f = items_beneath e h ws (effects.demands_of (effects.passes (class_type []))) (v ∷ rest) ts a f
 
-pub passes_does : (e : View) (ws : List Want) (gs : List VerificationType) (r : ReferenceType) (s : State) (f : FrameFact) (a : Option Value) (q : ℕ) (t : State) → WantsNeeds ws (tasks.needs_of (tasks.passes r)) → gs ≡ to_reference r ∷ [] → Fits e s f → Does e.world (tasks.passes r) s a q t → Keeps e t (popped ws gs f)
+pub passes_does : (e : View) (ws : List ExpectedType) (gs : List VerificationType) (r : ReferenceType) (s : State) (f : FrameFact) (a : Option Value) (q : ℕ) (t : State) → AreDemanded ws (effects.demands_of (effects.passes r)) → gs ≡ to_reference r ∷ [] → Fits e s f → Does e.world (effects.passes r) s a q t → Keeps e t (popped ws gs f)
 passes_does e ws gs r s f a q t w g x d =
     let u : State = moved s q (d.0 ∷ d.1) in
     let fit : Fits e u (popped ws (to_reference r ∷ []) f) = record {
@@ -80,7 +80,7 @@ elements_items hh e h i a y rest v (t ∷ (u ∷ us)) so z at g f =
 elements_items hh e h i a y rest v (t ∷ []) so z at g f = elim f.1 [ ]
 elements_items hh e h i a y rest v [] so z at g f = elim f [ ]
 
-pub elements_does : (hh : List ClassFact) (e : View) (p : ℕ) (s : State) (f : FrameFact) (k : Option Value) (q : ℕ) (t : State) → Sound hh e → Fits e s f → NoneHolds (conditions hh e.method p rules.loads_element f) → Does e.world tasks.takes_element s k q t → Keeps e t (after e.method p rules.loads_element f)
+pub elements_does : (hh : List ClassFact) (e : View) (p : ℕ) (s : State) (f : FrameFact) (k : Option Value) (q : ℕ) (t : State) → Sound hh e → Fits e s f → NoneHolds (conditions hh e.method p rules.loads_element f) → Does e.world effects.takes_element s k q t → Keeps e t (after e.method p rules.loads_element f)
 elements_does hh e p s f k q t so x c d =
     keep e t (moved s q (d.4 ∷ d.3)) (after e.method p rules.loads_element f) d.9 (record {
       items = elements_items hh e s.heap d.0 d.1 d.2 d.3 d.4 f.stack so (operands_yes hh (rules.number kinds.Int ∷ object_array ∷ []) f.stack c.1) d.6 d.7 (subst (λ z. Items e s.heap z f.stack) d.5 x.items);

@@ -10,12 +10,12 @@ use Rattle.insn.specs.Meanings.{Act}
 use Rattle.insn.specs.Offsets.{at_offset, first_offset, next_offset, IsStart, led_to, IsAmong}
 use Rattle.frames.specs.FrameFact.{FrameFact}
 use Rattle.frames.specs.Slots.{units_of}
-use Rattle.rules.specs.Table.{plan, made_by}
+use Rattle.rules.specs.Table.{typing_rule, made_by}
 use Rattle.rules.specs.After.{after}
 use Rattle.machine.specs.Values.{Value, reference}
 use Rattle.machine.specs.Heap.{with_fresh}
-use Rattle.machine.specs.Tasks as tasks
-use Rattle.machine.specs.Tasks.{task}
+use Rattle.machine.specs.Effects as effects
+use Rattle.machine.specs.Effects.{effect}
 use Rattle.machine.specs.Demands.{State, LeadsToStart, IsNoFault}
 use Rattle.machine.specs.Steps.{Choice, go, raise, goes_on, moved_with, GoesTo, Steps, IsCaught, Happens}
 use Rattle.machine.specs.Runs.{IsInitial, IsRun}
@@ -98,20 +98,20 @@ module _ (h : List ClassFact) (m : Method Act) (safe : IsTypeSafe h m) (w : Worl
 
   -- ---- one instruction
 
-  pub goes : (own : ℕ) (s t : State) (a : Act) (q : ℕ) → at_offset m.code s.at ≡ Some a → GoesTo m s.at (task m a) q → t.at ≡ q → (site home : ℕ → ℕ) → Fits (With (first_view w m own) site home) t (after m s.at (plan m a) (safe.table s.at)) → Inv w m own safe.table t
+  pub goes : (own : ℕ) (s t : State) (a : Act) (q : ℕ) → at_offset m.code s.at ≡ Some a → GoesTo m s.at (effect m a) q → t.at ≡ q → (site home : ℕ → ℕ) → Fits (With (first_view w m own) site home) t (after m s.at (typing_rule m a) (safe.table s.at)) → Inv w m own safe.table t
   goes own s t a q at (inl i) to site home fits =
       let fine = safe.each s.at a at in
-      let ways = ways_agree h m s.at (safe.table s.at) (plan m a) (task m a) fine.rule (agree m a) in
+      let ways = ways_agree h m s.at (safe.table s.at) (typing_rule m a) (effect m a) fine.rule (agree m a) in
       let l = fine.leads (pos q) (subst (λ z. IsAmong (pos q) (led_to s.at z)) ways.offsets i) in
       let e : q ≡ l.0 = pos_same q l.0 l.1 in
       leads own site home t l.0 _ (to ∙ e) fits l.2
   goes own s t a q at (inr (i, n)) to site home fits =
       let fine = safe.each s.at a at in
-      let ways = ways_agree h m s.at (safe.table s.at) (plan m a) (task m a) fine.rule (agree m a) in
+      let ways = ways_agree h m s.at (safe.table s.at) (typing_rule m a) (effect m a) fine.rule (agree m a) in
       let k = fine.next (sym ways.falls ∙ i) in
       let same : Some k.0 ≡ Some q = sym k.1 ∙ n in
       let e : k.0 ≡ q = cc in
-      comes own site home t q _ to fits (next_is_start m.code s.at q n) (room h m s.at (plan m a) (safe.table s.at) fine.rule) (subst (λ z. Comes h safe.frames safe.table (after m s.at (plan m a) (safe.table s.at)) z) e k.2)
+      comes own site home t q _ to fits (next_is_start m.code s.at q n) (room h m s.at (typing_rule m a) (safe.table s.at) fine.rule) (subst (λ z. Comes h safe.frames safe.table (after m s.at (typing_rule m a) (safe.table s.at)) z) e k.2)
 
   pub step : (own : ℕ) (s t : State) (br : Option ℕ) (v : Option Value) (fresh : List (ℕ × ReferenceType)) → Inv w m own safe.table s → Steps w m s br v fresh t → Inv w m own safe.table t
   step own s t br v fresh i d =
@@ -119,8 +119,8 @@ module _ (h : List ClassFact) (m : Method Act) (safe : IsTypeSafe h m) (w : Worl
       let fine = safe.each s.at d.act d.here in
       let heap = with_fresh s.heap fresh in
       let g = grows e s heap (safe.table s.at) (fresh_gains fresh s.heap d.unused) i.fits in
-      let k = does h e (plan m d.act) (task m d.act) (moved_with s s.at s.stack heap) (safe.table s.at) v d.to t (agree m d.act) (ap (made_by m) d.here) (sound own i.site i.home) g fine.rule d.does in
-      goes own s t d.act d.to d.here d.goes (does_at w (task m d.act) (moved_with s s.at s.stack heap) v d.to t d.does) k.site k.home k.fits
+      let k = does h e (typing_rule m d.act) (effect m d.act) (moved_with s s.at s.stack heap) (safe.table s.at) v d.to t (agree m d.act) (ap (made_by m) d.here) (sound own i.site i.home) g fine.rule d.does in
+      goes own s t d.act d.to d.here d.goes (does_at w (effect m d.act) (moved_with s s.at s.stack heap) v d.to t d.does) k.site k.home k.fits
 
   -- ---- an exception that is caught
 
@@ -147,28 +147,28 @@ module _ (h : List ClassFact) (m : Method Act) (safe : IsTypeSafe h m) (w : Worl
       let so = sound own i.site i.home in
       let d = depth_width e s.heap s.stack f.stack i.fits.items in
       let within = i.within in
-      let ways = ways_agree h m s.at f (plan m a) (task m a) fine.rule (agree m a) in
-      let operands = operands_met h e (plan m a) (task m a) s f (agree m a) so i.fits fine.rule in
+      let ways = ways_agree h m s.at f (typing_rule m a) (effect m a) fine.rule (agree m a) in
+      let operands = operands_met h e (typing_rule m a) (effect m a) s f (agree m a) so i.fits fine.rule in
       record {
         act = a;
         here = at;
         operands = record {
           operands = operands;
-          others = rest_met h e (plan m a) (task m a) s f (agree m a) so i.fits fine.rule;
+          others = rest_met h e (typing_rule m a) (effect m a) s f (agree m a) so i.fits fine.rule;
           all_locals = i.fits.long;
           paired = i.fits.paired;
         };
-        stack = record { before = omega arith; after = room_met h e (plan m a) (task m a) s f (agree m a) so i.fits fine.rule };
+        stack = record { before = omega arith; after = room_met h e (typing_rule m a) (effect m a) s f (agree m a) so i.fits fine.rule };
         control = record {
           branches = λ target k. start_of target (fine.leads target (subst (λ z. IsAmong target (led_to s.at z)) ways.offsets k));
           next = λ k. let n = fine.next (sym ways.falls ∙ k) in (n.0, n.1, next_is_start m.code s.at n.0 n.1);
           caught = λ c k v. let l = fine.handled c k v in (good c.handler l.declared l.here).start;
         };
-        objects = record { uses = all_usable w s.heap (tasks.needs_of (task m a)) s.stack operands };
-        own_object = record { own = ends_met h e (plan m a) (task m a) s f (agree m a) i.fits fine.rule };
+        objects = record { uses = all_usable w s.heap (effects.demands_of (effect m a)) s.stack operands };
+        own_object = record { own = ends_met h e (typing_rule m a) (effect m a) s f (agree m a) i.fits fine.rule };
       }
     where
-      start_of : (target : ℤ) → ((q : ℕ) × (target ≡ pos q) × LeadsTo h safe.frames (after m s.at (plan m i.start.what) (safe.table s.at)) q) → LeadsToStart m target
+      start_of : (target : ℤ) → ((q : ℕ) × (target ≡ pos q) × LeadsTo h safe.frames (after m s.at (typing_rule m i.start.what) (safe.table s.at)) q) → LeadsToStart m target
       start_of target l = (l.0, l.1, (good l.0 l.2.declared l.2.here).start)
 
   -- ---- runs

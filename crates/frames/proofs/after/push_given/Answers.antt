@@ -2,8 +2,8 @@ use Rattle.std.proofs.Common.{◌∷◌, ◌++◌, ◌∙◌, [], List, map, rev
 use Rattle.frames.specs.VerificationType.{VerificationType, type_of}
 use Rattle.frames.specs.MapViews.{info_of}
 use Rattle.frames.specs.DeclaredFrames.{types_given}
-use Rattle.frames.specs.Chains.{types_at, Grown}
-use Rattle.frames.proofs.Chains.{grown_none, grown_more}
+use Rattle.frames.specs.TypeChains.{types_at, Grown}
+use Rattle.frames.proofs.TypeChains.{grown_none, grown_more}
 use Rattle.frames.proofs.Leaving.{types_more}
 use Rattle.frames.proofs.after.push_given.Goals as goal
 

@@ -1,7 +1,7 @@
 use Rattle.std.proofs.Common.{◌≡◌, ◌++◌, map, reverse, take}
 use Rattle.frames.specs.MapViews.{info_of}
 use Rattle.frames.specs.DeclaredFrames.{types_given}
-use Rattle.frames.specs.Chains.{types_at, Grown}
+use Rattle.frames.specs.TypeChains.{types_at, Grown}
 use Rattle.frames.proofs.after.push_given.Given as goal
 
 abbrev pub invariant-loop-info : goal.invariant-loop-info

@@ -3,7 +3,7 @@ use Rattle.insn.specs.Offsets.{has_offset}
 use Rattle.frames.specs.Slots.{units_of, in_locals}
 use Rattle.frames.specs.MapViews.{entry_of}
 use Rattle.frames.specs.DeclaredFrames.{any_info, infos_of, chops_more, names_nothing, names_no_class, is_made_nowhere}
-use Rattle.frames.specs.Chains.{types_at}
+use Rattle.frames.specs.TypeChains.{types_at}
 use Rattle.frames.specs.DeclaredViews.{locals_at}
 use Rattle.frames.proofs.Judging.{is_49, is_50, is_51, is_52, is_53, is_none, over, not_over, units_in_locals}
 use Rattle.frames.proofs.refusing.judge.Goals as goal

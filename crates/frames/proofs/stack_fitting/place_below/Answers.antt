@@ -2,7 +2,7 @@ use Rattle.std.proofs.Common.{◌∙◌, true, List, length, sym, ap, subst, ari
 use Rattle.frames.specs.VerificationType.{VerificationType}
 use Rattle.frames.specs.Fitting.{AreFitBut}
 use Rattle.frames.specs.StackFitting.{HasSunk}
-use Rattle.frames.proofs.Chains.{linked_lower, types_bottom}
+use Rattle.frames.proofs.TypeChains.{linked_lower, types_bottom}
 use Rattle.frames.proofs.Fits.{lower_but}
 use Rattle.frames.proofs.stack_fitting.place_below.Goals as goal
 

@@ -1,7 +1,7 @@
 use Rattle.std.proofs.Common.{ℕ, true, List}
 use Rattle.hierarchy.specs.Class.{ClassFact}
 use Rattle.frames.specs.VerificationType.{VerificationType}
-use Rattle.frames.specs.Chains.{types_at}
+use Rattle.frames.specs.TypeChains.{types_at}
 use Rattle.frames.specs.Fitting.{AreFitBut}
 use Rattle.frames.specs.StackFitting.{HasSunk}
 use Rattle.frames.specs.declared.stack_fitting.Low.{Low}

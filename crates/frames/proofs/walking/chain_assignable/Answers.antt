@@ -2,8 +2,8 @@ use Rattle.std.proofs.Common.{◌≡◌, ◌∙◌, map, get_or, sym, ap}
 use Rattle.hierarchy.specs.Answer.{outcome_of}
 use Rattle.frames.specs.VerificationType.{type_of, top}
 use Rattle.frames.specs.FrameAssignable.{both, slot_answer}
-use Rattle.frames.specs.Chains.{types_at, chain_answer, place}
-use Rattle.frames.proofs.Chains.{linked_lower}
+use Rattle.frames.specs.TypeChains.{types_at, chain_answer, place}
+use Rattle.frames.proofs.TypeChains.{linked_lower}
 use Rattle.frames.proofs.Comparison.{walk_begins, walk_goes_on, walk_says_no, walk_ends}
 use Rattle.frames.proofs.walking.chain_assignable.Goals as goal
 

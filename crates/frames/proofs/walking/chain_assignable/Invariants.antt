@@ -2,7 +2,7 @@ use Rattle.std.proofs.Common.{◌≡◌, map}
 use Rattle.hierarchy.specs.Answer.{outcome_of}
 use Rattle.frames.specs.VerificationType.{type_of}
 use Rattle.frames.specs.FrameAssignable.{both, slot_answer}
-use Rattle.frames.specs.Chains.{types_at, chain_answer, place}
+use Rattle.frames.specs.TypeChains.{types_at, chain_answer, place}
 use Rattle.frames.proofs.walking.chain_assignable.Given as goal
 
 abbrev pub invariant-loop-link : goal.invariant-loop-link

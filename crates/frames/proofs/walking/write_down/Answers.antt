@@ -1,8 +1,8 @@
 use Rattle.std.proofs.Common.{◌∙◌, ◌++◌, ◌∷◌, [], map, ap, sym, append_assoc}
 use Rattle.std.proofs.lemmas.List.{append-nil, map-append}
 use Rattle.frames.specs.VerificationType.{type_of}
-use Rattle.frames.specs.Chains.{types_at}
-use Rattle.frames.proofs.Chains.{linked_lower, types_step, types_none}
+use Rattle.frames.specs.TypeChains.{types_at}
+use Rattle.frames.proofs.TypeChains.{linked_lower, types_step, types_none}
 use Rattle.frames.proofs.walking.write_down.Goals as goal
 
 pub loop-link-smaller : goal.loop-link-smaller

@@ -1,6 +1,6 @@
 use Rattle.std.proofs.Common.{◌≡◌, ◌++◌, map}
 use Rattle.frames.specs.VerificationType.{type_of}
-use Rattle.frames.specs.Chains.{types_at}
+use Rattle.frames.specs.TypeChains.{types_at}
 use Rattle.frames.proofs.walking.write_down.Given as goal
 
 abbrev pub invariant-loop-link : goal.invariant-loop-link

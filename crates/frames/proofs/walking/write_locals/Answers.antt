@@ -1,9 +1,9 @@
 use Rattle.std.proofs.Common.{◌∙◌, ap, sym, arith}
 use Rattle.frames.specs.VerificationType.{type_of}
 use Rattle.frames.specs.Slots.{units_of}
-use Rattle.frames.specs.Chains.{types_at, below_of, one_set}
+use Rattle.frames.specs.TypeChains.{types_at, below_of, one_set}
 use Rattle.frames.specs.Locals.{local}
-use Rattle.frames.proofs.Chains.{linked_lower, types_step}
+use Rattle.frames.proofs.TypeChains.{linked_lower, types_step}
 use Rattle.frames.proofs.Sharing.{on_itself, on_below, on_step, on_end}
 use Rattle.frames.proofs.LocalWrites.{written_none, written_more, written_all}
 use Rattle.frames.proofs.walking.write_locals.Goals as goal

@@ -1,6 +1,6 @@
 use Rattle.std.proofs.Common.{ℕ}
 use Rattle.frames.specs.Slots.{units_of}
-use Rattle.frames.specs.Chains.{types_at, IsOn, AreTopFrom, AreWritten}
+use Rattle.frames.specs.TypeChains.{types_at, IsOn, AreTopFrom, AreWritten}
 use Rattle.frames.specs.Locals.{local}
 use Rattle.frames.proofs.walking.write_locals.Given as goal
 

@@ -4,7 +4,7 @@ use Rattle.insn.specs.Stacks.{rearranged}
 use Rattle.insn.specs.Views.{stack_form_view}
 use Rattle.machine.specs.private.Decided.{form_for}
 use Rattle.machine.specs.Views.{stack_of}
-use Rattle.machine.proofs.Effects.{room_by_form}
+use Rattle.machine.proofs.EffectLaws.{room_by_form}
 use Rattle.machine.proofs.demands.moves_have_room.Goals as goal
 
 pub returns-in_ok-after-in-Some : goal.returns-in_ok-after-in-Some

@@ -1,7 +1,7 @@
 use Rattle.std.proofs.Common.{◌∙◌, ap, slice_get}
 use Rattle.machine.specs.Steps.{moved}
 use Rattle.machine.specs.Views.{value_view, stack_of, state_view}
-use Rattle.machine.proofs.Effects.{no_answer, top_item}
+use Rattle.machine.proofs.EffectLaws.{no_answer, top_item}
 use Rattle.machine.proofs.doing.pass.Goals as goal
 
 pub returns-then-fits_reference : goal.returns-then-fits_reference

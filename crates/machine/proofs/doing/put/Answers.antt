@@ -1,6 +1,6 @@
 use Rattle.std.specs.Prelude.{option_map}
 use Rattle.machine.specs.Views.{value_view, object_view, state_view}
-use Rattle.machine.proofs.Effects.{named, placed}
+use Rattle.machine.proofs.EffectLaws.{named, placed}
 use Rattle.machine.proofs.doing.put.Goals as goal
 
 pub returns-in-Ref : goal.returns-in-Ref

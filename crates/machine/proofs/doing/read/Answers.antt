@@ -2,7 +2,7 @@ use Rattle.std.proofs.Common.{sym, ◌∙◌, ap, slice_get}
 use Rattle.machine.specs.Steps.{moved}
 use Rattle.machine.specs.Views.{value_view, stack_of, locals_of, state_view}
 use Rattle.machine.proofs.Moves.{stack_last}
-use Rattle.machine.proofs.Effects.{no_answer}
+use Rattle.machine.proofs.EffectLaws.{no_answer}
 use Rattle.machine.proofs.doing.read.Goals as goal
 
 pub returns : goal.returns

@@ -6,7 +6,7 @@ use Rattle.machine.specs.Steps.{moved}
 use Rattle.machine.specs.private.Decided.{form_for}
 use Rattle.machine.specs.Views.{stack_of, state_view}
 use Rattle.machine.proofs.Forms.{form_chosen}
-use Rattle.machine.proofs.Effects.{no_answer}
+use Rattle.machine.proofs.EffectLaws.{no_answer}
 use Rattle.machine.proofs.doing.rearrange.Goals as goal
 
 pub returns : goal.returns

@@ -4,7 +4,7 @@ use Rattle.machine.specs.Values.{Slot, stored}
 use Rattle.machine.specs.Views.{value_view, stack_of, locals_of, heap_view}
 use Rattle.machine.proofs.Moves.{stack_last}
 use Rattle.machine.proofs.Raised.{state}
-use Rattle.machine.proofs.Effects.{no_answer}
+use Rattle.machine.proofs.EffectLaws.{no_answer}
 use Rattle.machine.proofs.doing.write.Goals as goal
 
 pub returns : goal.returns

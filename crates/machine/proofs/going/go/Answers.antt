@@ -3,9 +3,9 @@ use Rattle.std.proofs.lemmas.Bool.{false≢true}
 use Rattle.std.specs.Prelude.{option_map}
 use Rattle.hierarchy.specs.Class.{world_of}
 use Rattle.machine.specs.Heap.{with_fresh}
-use Rattle.machine.specs.private.Deeds.{task_view}
+use Rattle.machine.specs.private.EffectViews.{effect_view}
 use Rattle.machine.specs.Views.{value_view, fresh_view, state_view}
-use Rattle.machine.proofs.Effects.{refused, goes_from_there}
+use Rattle.machine.proofs.EffectLaws.{refused, goes_from_there}
 use Rattle.machine.proofs.going.go.Goals as goal
 
 pub returns-in-Ok : goal.returns-in-Ok
@@ -13,14 +13,14 @@ returns-in-Ok g c =
     let s = state_view c.args.state in
     let new = fresh_view c.args.fresh.now in (
       c.in_ok-state.ensures.0,
-      goes_from_there (world_of (g.C.Classes.content c.args.classes.now)) (task_view c.args.deed.now) c.args.next s (with_fresh s.heap new) c.args.branch (option_map value_view c.args.answer)
+      goes_from_there (world_of (g.C.Classes.content c.args.classes.now)) (effect_view c.args.effect.now) c.args.next s (with_fresh s.heap new) c.args.branch (option_map value_view c.args.answer)
           (state_view c.in_ok-state.state) c.in_ok-state.ensures.1 (Ok c.in-Ok.after) c.in-Ok.ensures,
     )
 
 pub returns-in-Err : goal.returns-in-Err
 returns-in-Err g c =
     let w = world_of (g.C.Classes.content c.args.classes.now) in
-    let t = task_view c.args.deed.now in
+    let t = effect_view c.args.effect.now in
     let s = state_view c.args.state in
     let new = fresh_view c.args.fresh.now in
     refused w t c.args.next s (with_fresh s.heap new) new c.args.branch (option_map value_view c.args.answer) c.in-Err.fault

@@ -2,7 +2,7 @@ use Rattle.std.proofs.Common.{◌≡◌, length, map, subst, arith, Ok, Err}
 use Rattle.machine.specs.Walks.{Walks, more}
 use Rattle.machine.specs.declared.choosing.StepFault.TheVariants.{NotAChoice}
 use Rattle.machine.specs.Stepped.{Stepped}
-use Rattle.machine.specs.Tasks.{task}
+use Rattle.machine.specs.Effects.{effect}
 use Rattle.hierarchy.specs.Class.{world_of}
 use Rattle.machine.specs.Bodies.{method_view}
 use Rattle.machine.specs.Views.{state_view, choice_view}
@@ -16,7 +16,7 @@ loop-taken-preserved g c =
     let s = state_view c.args.state.now in
     let cs = map choice_view c.args.choices.now in
     let t = state_view c.loop-taken.at in
-    on w m s cs c.args.choices.now c.loop-taken.taken c.index-choices-taken.result c.loop-taken-test.true c.index-choices-taken.is t c.loop-taken.invariant (state_view c.in-Ok-Next.next) (subst (λ o. Stepped task w m t (choice_view c.index-choices-taken.result) (Ok o)) c.in-Ok-Next.field-0-is c.in-Ok-Next.ensures)
+    on w m s cs c.args.choices.now c.loop-taken.taken c.index-choices-taken.result c.loop-taken-test.true c.index-choices-taken.is t c.loop-taken.invariant (state_view c.in-Ok-Next.next) (subst (λ o. Stepped effect w m t (choice_view c.index-choices-taken.result) (Ok o)) c.in-Ok-Next.field-0-is c.in-Ok-Next.ensures)
 
 pub returns-in-Ok-Ended-clause-walks : goal.returns-in-Ok-Ended-clause-walks
 returns-in-Ok-Ended-clause-walks g c =
@@ -25,7 +25,7 @@ returns-in-Ok-Ended-clause-walks g c =
     let s = state_view c.args.state.now in
     let cs = map choice_view c.args.choices.now in
     let t = state_view c.loop-taken.at in
-    at_end w m s cs c.args.choices.now c.loop-taken.taken c.index-choices-taken.result c.loop-taken-test.true c.index-choices-taken.is t c.loop-taken.invariant (subst (λ o. Stepped task w m t (choice_view c.index-choices-taken.result) (Ok o)) c.in-Ok-Ended.field-0-is c.in-Ok-Ended.ensures)
+    at_end w m s cs c.args.choices.now c.loop-taken.taken c.index-choices-taken.result c.loop-taken-test.true c.index-choices-taken.is t c.loop-taken.invariant (subst (λ o. Stepped effect w m t (choice_view c.index-choices-taken.result) (Ok o)) c.in-Ok-Ended.field-0-is c.in-Ok-Ended.ensures)
 
 pub returns-in-Ok-Fault-clause-walks : goal.returns-in-Ok-Fault-clause-walks
 returns-in-Ok-Fault-clause-walks g c =
@@ -34,7 +34,7 @@ returns-in-Ok-Fault-clause-walks g c =
     let s = state_view c.args.state.now in
     let cs = map choice_view c.args.choices.now in
     let t = state_view c.loop-taken.at in
-    at_fault w m s cs c.args.choices.now c.loop-taken.taken c.index-choices-taken.result c.loop-taken-test.true c.index-choices-taken.is t c.loop-taken.invariant (subst (λ o. Stepped task w m t (choice_view c.index-choices-taken.result) (Ok o)) c.in-Ok-Fault.field-0-is c.in-Ok-Fault.ensures)
+    at_fault w m s cs c.args.choices.now c.loop-taken.taken c.index-choices-taken.result c.loop-taken-test.true c.index-choices-taken.is t c.loop-taken.invariant (subst (λ o. Stepped effect w m t (choice_view c.index-choices-taken.result) (Ok o)) c.in-Ok-Fault.field-0-is c.in-Ok-Fault.ensures)
 
 pub returns-in-Err-NotAChoice-clause-walks : goal.returns-in-Err-NotAChoice-clause-walks
 returns-in-Err-NotAChoice-clause-walks g c =
@@ -43,8 +43,8 @@ returns-in-Err-NotAChoice-clause-walks g c =
     let s = state_view c.args.state.now in
     let cs = map choice_view c.args.choices.now in
     let t = state_view c.loop-taken.at in
-    let stuck : Stepped task w m t (choice_view c.index-choices-taken.result) (Err NotAChoice) =
-    subst (λ e. Stepped task w m t (choice_view c.index-choices-taken.result) (Err e)) c.in-Err-NotAChoice.field-0-is c.in-Err-NotAChoice.ensures in
+    let stuck : Stepped effect w m t (choice_view c.index-choices-taken.result) (Err NotAChoice) =
+    subst (λ e. Stepped effect w m t (choice_view c.index-choices-taken.result) (Err e)) c.in-Err-NotAChoice.field-0-is c.in-Err-NotAChoice.ensures in
     at_no_choice w m s cs c.args.choices.now c.loop-taken.taken c.index-choices-taken.result c.loop-taken-test.true c.index-choices-taken.is t c.loop-taken.invariant stuck.0 stuck.1
 
 pub returns-clause-walks : goal.returns-clause-walks

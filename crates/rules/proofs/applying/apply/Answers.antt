@@ -8,7 +8,7 @@ use Rattle.rules.specs.Bodies.{method_view}
 use Rattle.rules.specs.Held.{held}
 use Rattle.rules.specs.Protected.{member_conditions}
 use Rattle.rules.specs.Rules.{conditions}
-use Rattle.rules.specs.Table.{plan}
+use Rattle.rules.specs.Table.{typing_rule}
 use Rattle.rules.proofs.Going.{applied, refused}
 use Rattle.rules.proofs.Lesser.{both_least, judges_behind}
 use Rattle.rules.proofs.applying.apply.Goals as goal
@@ -19,7 +19,7 @@ returns g c =
     let m = method_view c.args.env.now.method in
     let w = held c.in-Ok.working in
     let b = act_view c.act-act.result in
-    let rule : Conditions = conditions classes m c.args.at (plan m b) w in
+    let rule : Conditions = conditions classes m c.args.at (typing_rule m b) w in
     let member : Conditions = member_conditions classes m b w in
     let ran = c.in_default-run.ensures.outcome in
     applied classes m c.args.at (frame_of c.args.frame.now) w (held c.run.new.frame) (act (view c.args.insn.now)) b c.in-Ok-into_frame.frame
@@ -33,7 +33,7 @@ returns-in-Err g c =
     let m = method_view c.args.env.now.method in
     let w = held c.in-Ok.working in
     let b = act_view c.act-act.result in
-    let rule : Conditions = conditions classes m c.args.at (plan m b) w in
+    let rule : Conditions = conditions classes m c.args.at (typing_rule m b) w in
     let member : Conditions = member_conditions classes m b w in
     refused classes m c.args.at (frame_of c.args.frame.now) w (act (view c.args.insn.now)) b c.first_reason-reason.result c.constructs_own-own.result
     c.act-act.ensures c.in-Ok.ensures c.constructs_own-own.ensures
@@ -45,7 +45,7 @@ returns-in-Err-used g c =
     let m = method_view c.args.env.now.method in
     let w = held c.in-Ok.working in
     let b = act_view c.act-act.result in
-    let rule : Conditions = conditions classes m c.args.at (plan m b) w in
+    let rule : Conditions = conditions classes m c.args.at (typing_rule m b) w in
     let member : Conditions = member_conditions classes m b w in
     refused classes m c.args.at (frame_of c.args.frame.now) w (act (view c.args.insn.now)) b c.in-Err-used.reason c.constructs_own-own.result
     c.act-act.ensures c.in-Ok.ensures c.constructs_own-own.ensures

@@ -4,7 +4,7 @@ use Rattle.names.specs.Types.{type_of}
 use Rattle.rules.specs.Bodies.{method_view}
 use Rattle.rules.specs.Constants.{load_dynamic}
 use Rattle.rules.specs.Held.{held}
-use Rattle.rules.specs.Plans.{where_judged}
+use Rattle.rules.specs.TypingRules.{where_judged}
 use Rattle.rules.proofs.Settling.{by_judged}
 use Rattle.rules.proofs.constants.load_dynamic.Goals as goal
 

@@ -8,8 +8,8 @@ use Rattle.classfile.specs.Bootstraps.{has_bootstrap}
 use Rattle.rules.specs.Bodies.{method_view}
 use Rattle.rules.specs.Constants.{is_bootstrapped, load_dynamic, load_wide_constant}
 use Rattle.rules.specs.Held.{held}
-use Rattle.rules.specs.Plans.{where_judged}
-use Rattle.rules.proofs.Settling.{by_plan}
+use Rattle.rules.specs.TypingRules.{where_judged}
+use Rattle.rules.proofs.Settling.{by_typing_rule}
 use Rattle.rules.proofs.constants.load_wide_constant.Goals as goal
 
 pub returns-in-Ok-Dynamic : goal.returns-in-Ok-Dynamic
@@ -19,7 +19,7 @@ returns-in-Ok-Dynamic g c = λ at.
     let d = c.in-Ok-Dynamic in
     let constant : constant_at m.constant_pool c.args.index ≡ Some (entries.Dynamic d.field-0-0 d.field-0-1) = ap found d.ensures ∙ ap (λ k. Some (view k)) d.field-0-is in
     let same : has_bootstrap m.constant_pool m.bootstraps d.field-0-0 ≡ c.args.bootstrapped = sym (c.requires ∙ ap (is_bootstrapped m) constant) in
-    by_plan m at (load_wide_constant m computed (constant_at m.constant_pool c.args.index)) (where_judged m.dynamic (load_dynamic 2 c.args.bootstrapped computed)) (g.C.Classes.content c.args.classes.now) (held c.args.frame.now)
+    by_typing_rule m at (load_wide_constant m computed (constant_at m.constant_pool c.args.index)) (where_judged m.dynamic (load_dynamic 2 c.args.bootstrapped computed)) (g.C.Classes.content c.args.classes.now) (held c.args.frame.now)
     (held c.load_dynamic.new.frame) c.load_dynamic.result (ap (load_wide_constant m computed) constant ∙ ap (λ (b : Bool). where_judged m.dynamic (load_dynamic 2 b computed)) same) (c.load_dynamic.ensures at)
 
 pub returns-in-Ok : goal.returns-in-Ok

@@ -2,7 +2,7 @@ use Rattle.std.proofs.Common.{◌≡◌, sym, ap, subst, option_map, Option}
 use Rattle.names.specs.declared.descriptor.FieldType.{FieldType}
 use Rattle.names.specs.Types.{type_of}
 use Rattle.rules.specs.Held.{held}
-use Rattle.rules.specs.Plans.{returns}
+use Rattle.rules.specs.TypingRules.{returns}
 use Rattle.rules.specs.Table.{return_nothing}
 use Rattle.rules.specs.After.{after}
 use Rattle.rules.specs.Rules.{conditions}

@@ -9,7 +9,7 @@ use Rattle.frames.specs.VerificationType.{VerificationType, type_of}
 use Rattle.names.specs.Descriptors.{FieldDescriptor}
 use Rattle.rules.specs.After.{top_of}
 use Rattle.rules.specs.Held.{held}
-use Rattle.rules.specs.Plans.{arguments_on}
+use Rattle.rules.specs.TypingRules.{arguments_on}
 use Rattle.rules.proofs.Made.{beneath_arguments}
 use Rattle.rules.proofs.kept_items.first_of_receiver.Goals as goal
 

@@ -9,8 +9,8 @@ use Rattle.insn.specs.Stacks.{beneath}
 use Rattle.rules.specs.After.{top_of}
 use Rattle.rules.specs.Bodies.{method_view}
 use Rattle.rules.specs.Held.{held}
-use Rattle.rules.specs.Plans.{arguments_on}
-use Rattle.rules.specs.Table.{plan}
+use Rattle.rules.specs.TypingRules.{arguments_on}
+use Rattle.rules.specs.Table.{typing_rule}
 use Rattle.rules.specs.Taken.{taken}
 use Rattle.rules.specs.Views.{stack_of}
 use Rattle.rules.proofs.Taken.{keeps_item, others, other_by}
@@ -30,8 +30,8 @@ returns-in-None c = λ at i lt.
     let a = act_view c.args.act.now in
     let f = held c.args.frame.now in
     let under = lies_under i c.saturating_sub-beneath.result (length f.stack) (length c.stack.result.now) c.taken_by.result lt (omega (arith, c.saturating_sub-beneath.ensures)) (as_many c.stack.result.now f.stack c.stack.ensures)
-    (taken (plan m a)) c.taken_by.ensures in
-    keeps_item m at f (plan m a) i under (others m a f i (sym c.special_index.ensures ∙ c.in-None.is))
+    (taken (typing_rule m a)) c.taken_by.ensures in
+    keeps_item m at f (typing_rule m a) i under (others m a f i (sym c.special_index.ensures ∙ c.in-None.is))
 
 pub returns-in-Some-method : goal.returns-in-Some-method
 returns-in-Some-method c = λ at i lt.
@@ -42,6 +42,6 @@ returns-in-Some-method c = λ at i lt.
     let object = top_of (beneath (arguments_on called.type.params []) f.stack) in
     let other = c.first_of_receiver.ensures.other i lt in
     let under = lies_under i c.first_of_receiver.result (length f.stack) (length c.stack.result.now) c.taken_by.result lt (omega (arith, c.first_of_receiver.ensures.few, c.saturating_sub-beneath.ensures)) (as_many c.stack.result.now f.stack c.stack.ensures)
-    (taken (plan m a)) c.taken_by.ensures in
+    (taken (typing_rule m a)) c.taken_by.ensures in
     let named = sym (ap (option_map (λ k. method_constant_view k.now)) (sym c.in-Some-method.is) ∙ c.method.ensures ∙ c.requires.method) in
-    keeps_item m at f (plan m a) i under (other_by m f i object other a (Some called) named refl)
+    keeps_item m at f (typing_rule m a) i under (other_by m f i object other a (Some called) named refl)

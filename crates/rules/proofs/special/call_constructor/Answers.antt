@@ -5,7 +5,7 @@ use Rattle.pool.specs.MemberViews.{method_constant_view}
 use Rattle.rules.specs.Bodies.{method_view}
 use Rattle.rules.specs.Constants.{constructor_call, has_room_for_receiver}
 use Rattle.rules.specs.Held.{held}
-use Rattle.rules.specs.Plans.{arguments_on, constructs}
+use Rattle.rules.specs.TypingRules.{arguments_on, constructs}
 use Rattle.rules.proofs.Settling.{by_allowed}
 use Rattle.rules.proofs.special.call_constructor.Goals as goal
 

@@ -12,7 +12,7 @@ use Rattle.insn.proofs.Readings.{reading_at, whole_reading, only_reading, has_in
 use Rattle.frames.specs.DeclaredTables.{declared_view, frames_in}
 use Rattle.rules.specs.Bodies.{method_view}
 use Rattle.rules.specs.Held.{held}
-use Rattle.rules.specs.Table.{plan}
+use Rattle.rules.specs.Table.{typing_rule}
 use Rattle.verify.specs.Coming.{frame_if, met}
 use Rattle.verify.proofs.Meeting.{met_at, goes_past, meets, skipped, start_behind, last_ahead, is_in_front}
 use Rattle.verify.proofs.Decoded.{decoded_rise, read_spelled}
@@ -53,7 +53,7 @@ returns-then-from-at-clause-found g c =
     let frames = frames_in c.args.body.now.frames.now in
     let at = c.args.at in
     let coming = frame_if c.loop-code.comes (held c.loop-code.frame) in
-    let total = met plan classes m frames m.code (Some (held c.args.first)) at in
+    let total = met typing_rule classes m frames m.code (Some (held c.args.first)) at in
     let now = c.loop-code.invariant.walks in
     let x : ℕ × program.Act = (c.at-here.result, c.take_act-act.result) in
     let one = steps c.loop-code.code c.take_act-act.new.self x now.instructions now.read (taken_at c.loop-code.code c.take_act-act.new.self c.at-here.result c.take_act-act.result c.at-here.ensures c.take_act-act.ensures) in
@@ -76,7 +76,7 @@ loop-code-preserved-then-from-last g c =
     let at = c.args.at in
     let last = c.last_before-last.result in
     let coming = frame_if c.loop-code.comes (held c.loop-code.frame) in
-    let total = met plan classes m frames m.code (Some (held c.args.first)) at in
+    let total = met typing_rule classes m frames m.code (Some (held c.args.first)) at in
     let now = c.loop-code.invariant.walks in
     let x : ℕ × program.Act = (c.at-here.result, c.take_act-act.result) in
     let taken = taken_at c.loop-code.code c.take_act-act.new.self c.at-here.result c.take_act-act.result c.at-here.ensures c.take_act-act.ensures in
@@ -111,7 +111,7 @@ loop-code-preserved g c =
     let at = c.args.at in
     let last = c.last_before-last.result in
     let coming = frame_if c.loop-code.comes (held c.loop-code.frame) in
-    let total = met plan classes m frames m.code (Some (held c.args.first)) at in
+    let total = met typing_rule classes m frames m.code (Some (held c.args.first)) at in
     let now = c.loop-code.invariant.walks in
     let x : ℕ × program.Act = (c.at-here.result, c.take_act-act.result) in
     let taken = taken_at c.loop-code.code c.take_act-act.new.self c.at-here.result c.take_act-act.result c.at-here.ensures c.take_act-act.ensures in

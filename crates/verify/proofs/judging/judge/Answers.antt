@@ -6,7 +6,7 @@ use Rattle.rules.specs.Held.{held}
 use Rattle.rules.specs.After.{after}
 use Rattle.rules.specs.Outcomes.{Done}
 use Rattle.rules.specs.Rules.{conditions}
-use Rattle.rules.specs.Table.{plan}
+use Rattle.rules.specs.Table.{typing_rule}
 use Rattle.rules.proofs.Changing.{plain_keeps}
 use Rattle.rules.proofs.Keeping.{locals_kept}
 use Rattle.verify.specs.Known.{IsKnown}
@@ -31,7 +31,7 @@ returns-then-are_idle-clause-known g c =
     let classes = g.C.Classes.content c.args.body.now.classes.now in
     let m = method_view c.args.body.now.method.now in
     let f = held c.args.frame.now in
-    let p = plan m (act_view c.args.act.now) in
+    let p = typing_rule m (act_view c.args.act.now) in
     let now = held c.run_plain.new.frame in
     on_ok c.run_plain.result (λ u is.
     let done = subst (Done (conditions classes m c.args.at p f) (after m c.args.at p f) now) is (c.run_plain.ensures c.args.at) in
@@ -44,7 +44,7 @@ returns-then-are_idle-clause-handlers g c =
     let m = method_view c.args.body.now.method.now in
     let frames = frames_in c.args.body.now.frames.now in
     let f = held c.args.frame.now in
-    let p = plan m (act_view c.args.act.now) in
+    let p = typing_rule m (act_view c.args.act.now) in
     let now = held c.run_plain.new.frame in
     on_ok c.run_plain.result (λ u is.
     let done = subst (Done (conditions classes m c.args.at p f) (after m c.args.at p f) now) is (c.run_plain.ensures c.args.at) in

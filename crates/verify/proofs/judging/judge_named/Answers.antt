@@ -7,7 +7,7 @@ use Rattle.rules.specs.Rules.{conditions}
 use Rattle.rules.specs.Held.{held}
 use Rattle.rules.specs.Bodies.{method_view}
 use Rattle.rules.specs.Outcomes.{Done, Judges}
-use Rattle.rules.specs.Table.{plan}
+use Rattle.rules.specs.Table.{typing_rule}
 use Rattle.rules.specs.Ways.{branch_offsets}
 use Rattle.verify.specs.Known.{IsKnown}
 use Rattle.verify.specs.Steps.{aside_conditions}
@@ -21,7 +21,7 @@ pub check_targets-led-requires-clause-size : goal.check_targets-led-requires-cla
 check_targets-led-requires-clause-size g c =
     let classes = g.C.Classes.content c.args.body.now.classes.now in
     let m = method_view c.args.body.now.method.now in
-    let p = plan m (act_view c.args.act) in
+    let p = typing_rule m (act_view c.args.act) in
     let f = held c.args.frame.now in
     let now = held c.run.new.frame in
     let ran = (subst (Done (conditions classes m c.args.at p f) (after m c.args.at p f) now) c.in-Ok.is c.run.ensures).outcome in
@@ -31,7 +31,7 @@ pub check_targets-led-requires-clause-known : goal.check_targets-led-requires-cl
 check_targets-led-requires-clause-known g c =
     let classes = g.C.Classes.content c.args.body.now.classes.now in
     let m = method_view c.args.body.now.method.now in
-    let p = plan m (act_view c.args.act) in
+    let p = typing_rule m (act_view c.args.act) in
     let f = held c.args.frame.now in
     let now = held c.run.new.frame in
     let ran = (subst (Done (conditions classes m c.args.at p f) (after m c.args.at p f) now) c.in-Ok.is c.run.ensures).outcome in
@@ -42,7 +42,7 @@ returns-in-Ok-clause-judged g c = λ last next e aside.
     let classes = g.C.Classes.content c.args.body.now.classes.now in
     let m = method_view c.args.body.now.method.now in
     let a = act_view c.args.act in
-    let p = plan m a in
+    let p = typing_rule m a in
     let f = held c.args.frame.now in
     let now = held c.run.new.frame in
     let frames = frames_in c.args.body.now.frames.now in
@@ -57,7 +57,7 @@ returns-in-Err-clause-judged g c = λ last next e aside.
     let classes = g.C.Classes.content c.args.body.now.classes.now in
     let m = method_view c.args.body.now.method.now in
     let a = act_view c.args.act in
-    let p = plan m a in
+    let p = typing_rule m a in
     let f = held c.args.frame.now in
     let now = held c.run.new.frame in
     let frames = frames_in c.args.body.now.frames.now in

@@ -13,7 +13,7 @@ use Rattle.rules.specs.Outcomes.{Done, Judges}
 use Rattle.rules.specs.Protected.{member_conditions}
 use Rattle.rules.specs.ReasonNumbers.{falls_off, constructor_covered}
 use Rattle.rules.specs.Rules.{constructs_own}
-use Rattle.rules.specs.Table.{plan}
+use Rattle.rules.specs.Table.{typing_rule}
 use Rattle.rules.specs.Ways.{goes_on}
 use Rattle.rules.specs.declared.reason.Reason.{Reason}
 use Rattle.verify.specs.Handling.{Follows}
@@ -30,11 +30,11 @@ some_next false = (Some 0, refl)
 
 -- whether it goes on, and whether an entry covers a constructor's call, as the instruction says
 end_as : (m : Method Act) (at : ℕ) (a : Act) (last : Bool) (f : FrameFact) (goes covered : Bool) (r : Result Unit Reason)
-    → goes ≡ goes_on a → covered ≡ (constructs_own (plan m a) f && is_covered m.exceptions at)
+    → goes ≡ goes_on a → covered ≡ (constructs_own (typing_rule m a) f && is_covered m.exceptions at)
     → Judges ((reason 71, goes && last) ∷ (reason 75, covered) ∷ []) r
-    → Judges ((reason falls_off, goes_on a && last) ∷ (reason constructor_covered, constructs_own (plan m a) f && is_covered m.exceptions at) ∷ []) r
+    → Judges ((reason falls_off, goes_on a && last) ∷ (reason constructor_covered, constructs_own (typing_rule m a) f && is_covered m.exceptions at) ∷ []) r
 end_as m at a last f goes covered r g e j =
-    subst (λ z. Judges ((reason 71, z && last) ∷ (reason 75, constructs_own (plan m a) f && is_covered m.exceptions at) ∷ []) r) g
+    subst (λ z. Judges ((reason 71, z && last) ∷ (reason 75, constructs_own (typing_rule m a) f && is_covered m.exceptions at) ∷ []) r) g
     (subst (λ z. Judges ((reason 71, goes && last) ∷ (reason 75, z) ∷ []) r) e j)
 
 pub judge_named-requires-clause-known : goal.judge_named-requires-clause-known
@@ -57,7 +57,7 @@ returns-clause-judged g c = λ next e.
     (looked.0 ∙ ap (λ b. b && is_covered m.exceptions c.args.at) c.constructs_own-own.ensures) c.check_end.ensures in
     let aside : Judges (aside_conditions classes m frames c.args.at a c.args.last f) c.together-aside.result =
     c.together-aside.ensures.judged (before_conditions classes m frames c.args.at a f)
-    ((reason falls_off, goes_on a && c.args.last) ∷ (reason constructor_covered, constructs_own (plan m a) f && is_covered m.exceptions c.args.at) ∷ []) before end in
+    ((reason falls_off, goes_on a && c.args.last) ∷ (reason constructor_covered, constructs_own (typing_rule m a) f && is_covered m.exceptions c.args.at) ∷ []) before end in
     c.judge_named.ensures.judged c.args.last next e aside
 
 pub returns-clause-handlers : goal.returns-clause-handlers
@@ -75,8 +75,8 @@ returns-clause-handlers g c =
     (looked.0 ∙ ap (λ b. b && is_covered m.exceptions c.args.at) c.constructs_own-own.ensures) c.check_end.ensures in
     let aside : Judges (aside_conditions classes m frames c.args.at a c.args.last f) c.together-aside.result =
     c.together-aside.ensures.judged (before_conditions classes m frames c.args.at a f)
-    ((reason falls_off, goes_on a && c.args.last) ∷ (reason constructor_covered, constructs_own (plan m a) f && is_covered m.exceptions c.args.at) ∷ []) before end in
-    let p = plan m a in
+    ((reason falls_off, goes_on a && c.args.last) ∷ (reason constructor_covered, constructs_own (typing_rule m a) f && is_covered m.exceptions c.args.at) ∷ []) before end in
+    let p = typing_rule m a in
     let now = held c.judge_named.new.frame in
     let next = some_next c.args.last in
     on_ok c.judge_named.result (λ u is.

@@ -11,7 +11,7 @@ use Rattle.rules.specs.After.{after}
 use Rattle.rules.specs.Bodies.{method_view}
 use Rattle.rules.specs.Held.{held}
 use Rattle.rules.specs.Outcomes.{Done}
-use Rattle.rules.specs.Table.{plan}
+use Rattle.rules.specs.Table.{typing_rule}
 use Rattle.frames.specs.DeclaredTables.{frames_in}
 use Rattle.verify.specs.Handling.{Follows}
 use Rattle.verify.specs.Verdict.{at_conditions, code_judged}
@@ -60,7 +60,7 @@ returns-in-Err-clause-judged g c =
     let m = method_view c.args.body.now.method.now in
     let frames = frames_in c.args.body.now.frames.now in
     let f = held c.loop-code.frame in
-    let v = code_judged plan classes m frames in
+    let v = code_judged typing_rule classes m frames in
     let comes = c.loop-code.comes in
     let now = c.loop-code.invariant.left in
     let x : ℕ × program.Act = (c.at-at.result, c.take_act-act.result) in
@@ -75,7 +75,7 @@ returns-in-Err-judged-clause-judged g c =
     let m = method_view c.args.body.now.method.now in
     let frames = frames_in c.args.body.now.frames.now in
     let f = held c.loop-code.frame in
-    let v = code_judged plan classes m frames in
+    let v = code_judged typing_rule classes m frames in
     let comes = c.loop-code.comes in
     let now = c.loop-code.invariant.left in
     let x : ℕ × program.Act = (c.at-at.result, c.take_act-act.result) in
@@ -95,7 +95,7 @@ loop-code-preserved g c =
     let m = method_view c.args.body.now.method.now in
     let frames = frames_in c.args.body.now.frames.now in
     let f = held c.loop-code.frame in
-    let v = code_judged plan classes m frames in
+    let v = code_judged typing_rule classes m frames in
     let comes = c.loop-code.comes in
     let now = c.loop-code.invariant.left in
     let x : ℕ × program.Act = (c.at-at.result, c.take_act-act.result) in
@@ -105,7 +105,7 @@ loop-code-preserved g c =
     let g1 = held c.arrive.new.frame in
     let next = first_offset (acts one.others) in
     let done = c.judge-judged.ensures.judged next (last_is c.take_act-act.new.self one.others one.read ∙ sym c.is_at_end-last.ensures) in
-    let well = subst (Done (at_conditions classes m frames x.0 a.1 (plan m a.1) next g1) (after m x.0 (plan m a.1) g1) (held c.judge-judged.new.frame)) c.in_default-judged.is done in
+    let well = subst (Done (at_conditions classes m frames x.0 a.1 (typing_rule m a.1) next g1) (after m x.0 (typing_rule m a.1) g1) (held c.judge-judged.new.frame)) c.in_default-judged.is done in
     let within = step_within c.loop-code.code c.take_act-act.new.self x (taken_at c.loop-code.code c.take_act-act.new.self c.at-at.result c.take_act-act.result c.at-at.ensures c.take_act-act.ensures) in
     record {
       left = record {
@@ -118,7 +118,7 @@ loop-code-preserved g c =
         within = within.1 ∙ now.within;
       };
       locals =
-          keeps_length m x.0 (plan m a.1) g1 (held c.judge-judged.new.frame) c.args.body.now.method.now.code.now.max_locals
+          keeps_length m x.0 (typing_rule m a.1) g1 (held c.judge-judged.new.frame) c.args.body.now.method.now.code.now.max_locals
           (c.in_default.ensures.locals ∙ c.loop-code.invariant.locals) well.outcome.1;
       constants = c.judge-judged.ensures.same ∙ c.loop-code.invariant.constants;
       known = c.in_default-judged.ensures.known;

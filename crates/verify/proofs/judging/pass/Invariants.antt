@@ -1,7 +1,7 @@
 use Rattle.std.proofs.Common.{◌≡◌, length}
 use Rattle.frames.specs.DeclaredTables.{frames_in}
 use Rattle.rules.specs.Held.{held}
-use Rattle.rules.specs.Table.{plan}
+use Rattle.rules.specs.Table.{typing_rule}
 use Rattle.rules.specs.Bodies.{method_view}
 use Rattle.verify.specs.Known.{IsKnown}
 use Rattle.verify.specs.Handling.{Follows}
@@ -13,7 +13,7 @@ abbrev pub invariant-loop-code : goal.invariant-loop-code
 invariant-loop-code g l = record {
   left :
       Remains (g.C.Classes.content l.body.classes.now) (method_view l.body.method.now) (frames_in l.body.frames.now) (length l.body.method.now.code.now.code.now) l.code l.comes (held l.frame)
-      (code_judged plan (g.C.Classes.content l.body.classes.now) (method_view l.body.method.now) (frames_in l.body.frames.now));
+      (code_judged typing_rule (g.C.Classes.content l.body.classes.now) (method_view l.body.method.now) (frames_in l.body.frames.now));
   locals : length (held l.frame).locals ≡ l.body.method.now.code.now.max_locals;
   constants : l.constants.members ≡ l.fn.constants.members;
   known : IsKnown (g.C.Classes.content l.body.classes.now) l.body.frames.now (held l.frame) l.comparisons.known;

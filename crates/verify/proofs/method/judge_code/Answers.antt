@@ -3,7 +3,7 @@ use Rattle.classfile.specs.Methods.{ExceptionEntry}
 use Rattle.frames.specs.DeclaredTables.{frames_in}
 use Rattle.rules.specs.Held.{held}
 use Rattle.rules.specs.Bodies.{method_view}
-use Rattle.rules.specs.Table.{plan}
+use Rattle.rules.specs.Table.{typing_rule}
 use Rattle.verify.specs.ExceptionTables.{entry_view, JudgesTable}
 use Rattle.verify.specs.Handling.{Follows}
 use Rattle.verify.specs.Verdict.{told_of, table_judged, code_judged}
@@ -15,7 +15,7 @@ returns-in-Err-clause-judged g c =
     let classes = g.C.Classes.content c.args.body.now.classes.now in
     let m = method_view c.args.body.now.method.now in
     let frames = frames_in c.args.body.now.frames.now in
-    let rest = code_judged plan classes m frames in
+    let rest = code_judged typing_rule classes m frames in
     let judged = (subst (JudgesTable classes m frames m.exceptions) c.in-Err.is (subst (λ es. JudgesTable classes m frames es c.check_table.result) (ap (map entry_view) c.deref.ensures.value ∙ c.in_ok-table.ensures.all) c.check_table.ensures)).outcome in
     c.refuse.ensures (table_judged classes m frames m.exceptions rest)
     (elim judged [ inl out ↦ inl out | inr why ↦ inr (ap told_of (why rest)) ])
@@ -26,7 +26,7 @@ returns-clause-judged g c =
     let m = method_view c.args.body.now.method.now in
     let frames = frames_in c.args.body.now.frames.now in
     let judged = (subst (JudgesTable classes m frames m.exceptions) c.in_default.is (subst (λ es. JudgesTable classes m frames es c.check_table.result) (ap (map entry_view) c.deref.ensures.value ∙ c.in_ok-table.ensures.all) c.check_table.ensures)).outcome in
-    subst (λ z. Gives z c.pass.result) (sym (judged (code_judged plan classes m frames))) c.pass.ensures.judged
+    subst (λ z. Gives z c.pass.result) (sym (judged (code_judged typing_rule classes m frames))) c.pass.ensures.judged
 
 pub pass-requires-clause-handlers : goal.pass-requires-clause-handlers
 pass-requires-clause-handlers g c =

@@ -1,7 +1,7 @@
 use Rattle.std.proofs.Common.{List, ap, drop, sym, ◌∙◌, arith}
 use Rattle.frames.specs.VerificationType.{VerificationType}
-use Rattle.frames.proofs.Chains.{linked_lower, types_step, types_none, types_bottom}
-use Rattle.frames.proofs.chain.Chains.below.Goals as goal
+use Rattle.frames.proofs.TypeChains.{linked_lower, types_step, types_none, types_bottom}
+use Rattle.frames.proofs.chain.TypeChains.below.Goals as goal
 
 pub returns-in-Some-clause-left : goal.returns-in-Some-clause-left
 returns-in-Some-clause-left c = sym (ap (λ (ts : List VerificationType). drop 1 ts) (types_step c.args.self.now.links.items c.args.self.now.linked c.args.top c.in-Some.link (sym c.link.ensures ∙ c.in-Some.is)))

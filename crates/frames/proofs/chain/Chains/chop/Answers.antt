@@ -1,8 +1,8 @@
 use Rattle.std.proofs.Common.{List, ap, drop, ◌∙◌, arith}
 use Rattle.frames.specs.VerificationType.{VerificationType}
-use Rattle.frames.specs.Chains.{types_at}
-use Rattle.frames.proofs.Chains.{drop_next}
-use Rattle.frames.proofs.chain.Chains.chop.Goals as goal
+use Rattle.frames.specs.TypeChains.{types_at}
+use Rattle.frames.proofs.TypeChains.{drop_next}
+use Rattle.frames.proofs.chain.TypeChains.chop.Goals as goal
 
 pub loop-i-preserved : goal.loop-i-preserved
 loop-i-preserved c =

@@ -1,5 +1,5 @@
 use Rattle.frames.proofs.Sharing.{on_below, on_bottom}
-use Rattle.frames.proofs.chain.Chains.common.Goals as goal
+use Rattle.frames.proofs.chain.TypeChains.common.Goals as goal
 
 pub loop-here-preserved-then-here-there : goal.loop-here-preserved-then-here-there
 loop-here-preserved-then-here-there c = record {

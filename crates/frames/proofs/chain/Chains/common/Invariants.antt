@@ -1,6 +1,6 @@
 use Rattle.std.proofs.Common.{◌+◌}
-use Rattle.frames.specs.Chains.{IsOn}
-use Rattle.frames.proofs.chain.Chains.common.Given as goal
+use Rattle.frames.specs.TypeChains.{IsOn}
+use Rattle.frames.proofs.chain.TypeChains.common.Given as goal
 
 abbrev pub invariant-loop-here : goal.invariant-loop-here
 invariant-loop-here l = record {

@@ -1,5 +1,5 @@
 use Rattle.frames.proofs.Sharing.{on_itself, on_further}
-use Rattle.frames.proofs.chain.Chains.jump_above.Goals as goal
+use Rattle.frames.proofs.chain.TypeChains.jump_above.Goals as goal
 
 pub returns-then-jumped : goal.returns-then-jumped
 returns-then-jumped c =

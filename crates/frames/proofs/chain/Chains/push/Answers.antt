@@ -1,9 +1,9 @@
 use Rattle.std.proofs.Common.{arith, is_ok}
-use Rattle.frames.specs.Chains.{types_at}
+use Rattle.frames.specs.TypeChains.{types_at}
 use Rattle.frames.specs.declared.chain.Link.{Link}
-use Rattle.frames.proofs.Chains.{types_short, units_few, linked_pushed, grown_pushed}
+use Rattle.frames.proofs.TypeChains.{types_short, units_few, linked_pushed, grown_pushed}
 use Rattle.frames.proofs.Sharing.{leads_on}
-use Rattle.frames.proofs.chain.Chains.push.Goals as goal
+use Rattle.frames.proofs.chain.TypeChains.push.Goals as goal
 
 pub with-sums-requires-clause-few : goal.with-sums-requires-clause-few
 with-sums-requires-clause-few c =

@@ -1,8 +1,8 @@
 use Rattle.std.proofs.Common.{◌∷◌, ◌++◌, [], List, map, reverse, take, subst}
 use Rattle.frames.specs.VerificationType.{VerificationType, type_of}
-use Rattle.frames.specs.Chains.{types_at, Grown}
-use Rattle.frames.proofs.Chains.{grown_none, grown_more, vtypes_more}
-use Rattle.frames.proofs.chain.Chains.push_all.Goals as goal
+use Rattle.frames.specs.TypeChains.{types_at, Grown}
+use Rattle.frames.proofs.TypeChains.{grown_none, grown_more, vtypes_more}
+use Rattle.frames.proofs.chain.TypeChains.push_all.Goals as goal
 
 pub loop-vtype-init : goal.loop-vtype-init
 loop-vtype-init c = grown_none c.args.self.now.links.items c.args.below c.requires

@@ -1,6 +1,6 @@
 use Rattle.std.proofs.Common.{sym, ◌∙◌}
-use Rattle.frames.proofs.Chains.{sums_found, sums_none}
-use Rattle.frames.proofs.chain.Chains.sums.Goals as goal
+use Rattle.frames.proofs.TypeChains.{sums_found, sums_none}
+use Rattle.frames.proofs.chain.TypeChains.sums.Goals as goal
 
 pub returns-in-Some : goal.returns-in-Some
 returns-in-Some c = sums_found c.args.self.now.links.items c.args.self.now.linked c.args.top c.in-Some.link (sym c.link.ensures ∙ c.in-Some.is)

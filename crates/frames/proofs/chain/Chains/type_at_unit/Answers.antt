@@ -1,8 +1,8 @@
 use Rattle.std.proofs.Common.{◌<◌, sym, ◌∙◌, arith}
-use Rattle.frames.proofs.Chains.{linked_lower, linked_jump, jump_lower}
+use Rattle.frames.proofs.TypeChains.{linked_lower, linked_jump, jump_lower}
 use Rattle.frames.proofs.Sharing.{on_leads}
 use Rattle.frames.proofs.Units.{seek_finds, seek_misses, seek_lower, seek_jumps, seek_ends}
-use Rattle.frames.proofs.chain.Chains.type_at_unit.Goals as goal
+use Rattle.frames.proofs.chain.TypeChains.type_at_unit.Goals as goal
 
 pub returns-then-start-unit : goal.returns-then-start-unit
 returns-then-start-unit c =

@@ -1,7 +1,7 @@
 use Rattle.std.proofs.Common.{arith}
-use Rattle.frames.specs.Chains.{types_at}
-use Rattle.frames.proofs.Chains.{types_short, units_few}
-use Rattle.frames.proofs.chain.Chains.units.Goals as goal
+use Rattle.frames.specs.TypeChains.{types_at}
+use Rattle.frames.proofs.TypeChains.{types_short, units_few}
+use Rattle.frames.proofs.chain.TypeChains.units.Goals as goal
 
 pub overflow_add-result : goal.overflow_add-result
 overflow_add-result c =

@@ -1,6 +1,6 @@
 use Rattle.std.proofs.Common.{◌≢◌, ◌≤◌, ◌∙◌, length, sym, arith}
 use Rattle.hierarchy.specs.Answer.{outcome_of}
-use Rattle.frames.specs.Chains.{types_at}
+use Rattle.frames.specs.TypeChains.{types_at}
 use Rattle.frames.proofs.Sharing.{shared_yes, both_right}
 use Rattle.frames.specs.DeclaredTables.{declared_view}
 use Rattle.frames.proofs.Comparison.{by_width, by_depth, by_locals, by_parts}

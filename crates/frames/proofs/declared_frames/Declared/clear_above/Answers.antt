@@ -2,11 +2,11 @@ use Rattle.std.proofs.Common.{◌≡◌, ◌≤◌, ◌<◌, ◌∙◌, ◌⊎�
 use Rattle.std.specs.Prelude.{nat_lt}
 use Rattle.std.proofs.lemmas.Bool.Decides.{nat_tests}
 use Rattle.frames.specs.Slots.{units_of}
-use Rattle.frames.specs.Chains.{types_at, IsOn}
+use Rattle.frames.specs.TypeChains.{types_at, IsOn}
 use Rattle.frames.specs.Locals.{local, locals_in}
 use Rattle.frames.specs.DeclaredTables.{declared_view, AreKept, AreOfOne}
 use Rattle.frames.specs.declared.chain.Link.{Link}
-use Rattle.frames.proofs.Chains.{types_bottom}
+use Rattle.frames.proofs.TypeChains.{types_bottom}
 use Rattle.frames.proofs.LocalWrites.{units_lower, shared_local, past_local}
 use Rattle.frames.proofs.declared_frames.Declared.clear_above.Goals as goal
 

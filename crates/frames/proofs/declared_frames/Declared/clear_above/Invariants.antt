@@ -1,7 +1,7 @@
 use Rattle.std.proofs.Common.{◌≡◌, ◌<◌, ◌≤◌, ℕ}
 use Rattle.frames.specs.VerificationType.{top}
 use Rattle.frames.specs.Slots.{units_of}
-use Rattle.frames.specs.Chains.{types_at}
+use Rattle.frames.specs.TypeChains.{types_at}
 use Rattle.frames.specs.Locals.{local}
 use Rattle.frames.proofs.declared_frames.Declared.clear_above.Given as goal
 

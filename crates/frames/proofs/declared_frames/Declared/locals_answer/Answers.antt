@@ -2,11 +2,11 @@ use Rattle.std.proofs.Common.{◌≤◌, ◌∙◌, [], false, map, length, ap, 
 use Rattle.frames.specs.VerificationType.{type_of}
 use Rattle.frames.specs.Assignable.{type_answer}
 use Rattle.frames.specs.FrameAssignable.{list_answer, slot_answer}
-use Rattle.frames.specs.Chains.{chain_answer, place}
+use Rattle.frames.specs.TypeChains.{chain_answer, place}
 use Rattle.frames.specs.HeldFrames.{held_locals}
 use Rattle.frames.specs.DeclaredViews.{fact_of}
 use Rattle.frames.specs.DeclaredTables.{declared_view}
-use Rattle.frames.proofs.Chains.{types_bottom}
+use Rattle.frames.proofs.TypeChains.{types_bottom}
 use Rattle.frames.proofs.Finding.{locals_filled}
 use Rattle.frames.proofs.Comparison.{locals_are}
 use Rattle.frames.proofs.declared_frames.Declared.locals_answer.Goals as goal

@@ -1,6 +1,6 @@
 use Rattle.std.proofs.Common.{◌≤◌, arith}
 use Rattle.frames.specs.Slots.{units_of}
-use Rattle.frames.specs.Chains.{types_at}
+use Rattle.frames.specs.TypeChains.{types_at}
 use Rattle.frames.proofs.Passing.{beyond_units}
 use Rattle.frames.proofs.declared_frames.Declared.units.Goals as goal
 

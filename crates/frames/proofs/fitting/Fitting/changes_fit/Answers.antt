@@ -2,7 +2,7 @@ use Rattle.std.proofs.Common.{◌≡◌, ◌≢◌, ◌<◌, ◌≤◌, ℕ, ◌
 use Rattle.std.proofs.lemmas.Option.{slice_get_within, get_or_from_slice_get}
 use Rattle.std.proofs.lemmas.Bool.Decides.{eqb_tells}
 use Rattle.frames.specs.VerificationType.{type_of}
-use Rattle.frames.specs.Chains.{types_at, FitsAt}
+use Rattle.frames.specs.TypeChains.{types_at, FitsAt}
 use Rattle.frames.proofs.fitting.Fitting.changes_fit.Goals as goal
 
 -- what holds of those in front holds of one more

@@ -1,6 +1,6 @@
 use Rattle.std.proofs.Common.{◌≡◌, ◌≤◌, ◌<◌, ℕ, map, slice_get, Some}
 use Rattle.frames.specs.VerificationType.{type_of}
-use Rattle.frames.specs.Chains.{types_at, FitsAt}
+use Rattle.frames.specs.TypeChains.{types_at, FitsAt}
 use Rattle.frames.proofs.fitting.Fitting.changes_fit.Given as goal
 
 abbrev pub invariant-loop-change : goal.invariant-loop-change

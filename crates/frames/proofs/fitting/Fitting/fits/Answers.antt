@@ -1,6 +1,6 @@
 use Rattle.std.proofs.Common.{◌≤◌, false, length, map, sym, arith}
 use Rattle.frames.specs.VerificationType.{type_of}
-use Rattle.frames.specs.Chains.{types_at}
+use Rattle.frames.specs.TypeChains.{types_at}
 use Rattle.frames.specs.DeclaredTables.{IsOf}
 use Rattle.frames.proofs.Fits.{known_for, in_use, with_all, floor_yes, yes_all, whole_fits}
 use Rattle.frames.proofs.fitting.Fitting.fits.Goals as goal

@@ -1,7 +1,7 @@
 use Rattle.std.proofs.Common.{◌≡◌, ◌⊎◌, inr, sym, subst, ◌∙◌, arith}
 use Rattle.frames.specs.declared.fitting.Floor.{Floor}
 use Rattle.frames.specs.Fitting.{IsSeen}
-use Rattle.frames.proofs.Chains.{linked_lower}
+use Rattle.frames.proofs.TypeChains.{linked_lower}
 use Rattle.frames.proofs.fitting.Fitting.floor.Goals as goal
 use Rattle.frames.proofs.fitting.Fitting.floor.Goals.{in-Some-moment+then-cost-floor, in-Some-moment+else-cost-floor, in_default-moment}
 

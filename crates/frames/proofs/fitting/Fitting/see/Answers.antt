@@ -1,7 +1,7 @@
 use Rattle.std.proofs.Common.{false, ◌≡◌, ◌∙◌, ◌-◌, ℕ, suc, Some, Result, Ok, Err, refl, sym, subst, arith}
 use Rattle.std.specs.Result.{OkIff, result_ok}
 use Rattle.std.proofs.lemmas.Option.{same_Some, none-some}
-use Rattle.frames.specs.Chains.{types_at}
+use Rattle.frames.specs.TypeChains.{types_at}
 use Rattle.frames.specs.Fitting.{FitAll}
 use Rattle.frames.proofs.Fits.{seen_one}
 use Rattle.frames.proofs.fitting.Fitting.see.Goals as goal

@@ -1,7 +1,7 @@
 use Rattle.std.proofs.Common.{false, sym, subst, ◌∙◌}
-use Rattle.frames.specs.Chains.{types_at}
+use Rattle.frames.specs.TypeChains.{types_at}
 use Rattle.frames.specs.Fitting.{FitAll}
-use Rattle.frames.proofs.Chains.{linked_lower}
+use Rattle.frames.proofs.TypeChains.{linked_lower}
 use Rattle.frames.proofs.Fits.{lower_all}
 use Rattle.frames.proofs.fitting.Fitting.see_down.Goals as goal
 

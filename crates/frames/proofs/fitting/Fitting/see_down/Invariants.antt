@@ -1,7 +1,7 @@
 use Rattle.std.proofs.Common.{false, ◌≡◌, List}
 use Rattle.hierarchy.specs.Class.{ClassFact}
 use Rattle.frames.specs.VerificationType.{VerificationType}
-use Rattle.frames.specs.Chains.{types_at}
+use Rattle.frames.specs.TypeChains.{types_at}
 use Rattle.frames.specs.declared.declared_frames.DeclaredFrames.{DeclaredFrames}
 use Rattle.frames.specs.Fitting.{FitAll, AreFitting}
 use Rattle.frames.proofs.fitting.Fitting.see_down.Given as goal

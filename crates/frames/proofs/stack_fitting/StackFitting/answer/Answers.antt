@@ -1,6 +1,6 @@
 use Rattle.std.proofs.Common.{true, map, refl, sym, subst}
 use Rattle.frames.specs.VerificationType.{type_of}
-use Rattle.frames.specs.Chains.{types_at}
+use Rattle.frames.specs.TypeChains.{types_at}
 use Rattle.frames.specs.Fitting.{FitAll}
 use Rattle.frames.specs.DeclaredTables.{IsOf}
 use Rattle.frames.proofs.Fits.{yes_all}

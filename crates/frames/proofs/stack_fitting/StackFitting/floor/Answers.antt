@@ -1,9 +1,9 @@
 use Rattle.std.proofs.Common.{◌≡◌, ◌-◌, suc, true, ap, subst, arith}
 use Rattle.frames.specs.FrameAssignable.{slot_answer}
-use Rattle.frames.specs.Chains.{types_at, chain_answer, place}
+use Rattle.frames.specs.TypeChains.{types_at, chain_answer, place}
 use Rattle.frames.specs.Fitting.{AreFitBut}
 use Rattle.frames.specs.StackFitting.{HasSunk}
-use Rattle.frames.proofs.Chains.{types_bottom}
+use Rattle.frames.proofs.TypeChains.{types_bottom}
 use Rattle.frames.proofs.StackFits.{below_yes}
 use Rattle.frames.proofs.stack_fitting.StackFitting.floor.Goals as goal
 

@@ -1,5 +1,5 @@
 use Rattle.std.proofs.Common.{◌≡◌, suc, ◌-◌, true, refl, subst, arith}
-use Rattle.frames.specs.Chains.{types_at}
+use Rattle.frames.specs.TypeChains.{types_at}
 use Rattle.frames.specs.Fitting.{FitAll}
 use Rattle.frames.proofs.StackFits.{one_seen}
 use Rattle.frames.proofs.stack_fitting.StackFitting.see.Goals as goal

@@ -5,7 +5,7 @@ use Rattle.insn.specs.Views.{act_view}
 use Rattle.frames.specs.DeclaredTables.{frames_in}
 use Rattle.rules.specs.After.{after}
 use Rattle.rules.specs.Held.{held}
-use Rattle.rules.specs.Table.{plan}
+use Rattle.rules.specs.Table.{typing_rule}
 use Rattle.rules.proofs.Keeping.{stored_by}
 use Rattle.verify.proofs.Changes.{follows_alone, follows_same}
 use Rattle.verify.proofs.InTurn.{none_left}
@@ -17,7 +17,7 @@ returns-then-is_empty g c = λ es m at changes flag k.
     let h = c.args.self.now in
     let f = held c.args.frame.now in
     let is = sym c.is_empty.ensures ∙ c.if-is_empty.true in
-    follows_alone (g.C.Classes.content c.args.classes.now) (frames_in c.args.frames.now) es at f (after m at (plan m (act_view c.args.act.now)) f) h
+    follows_alone (g.C.Classes.content c.args.classes.now) (frames_in c.args.frames.now) es at f (after m at (typing_rule m (act_view c.args.act.now)) f) h
     (none_left h.settled.items h.settled.len h.settled.ok.0 (grind (arith, nat_tests, is))) k
 
 pub returns-in-Some : goal.returns-in-Some
@@ -32,11 +32,11 @@ pub returns : goal.returns
 returns g c = λ es m at changes flag k.
     let f = held c.args.frame.now in
     let a = act_view c.args.act.now in
-    let behind = after m at (plan m a) f in
+    let behind = after m at (typing_rule m a) f in
     follows_same (g.C.Classes.content c.args.classes.now) (frames_in c.args.frames.now) es at f behind c.args.self.now
     (sym (c.is_in_a_local.ensures behind c.if-is_in_a_local.false (changes (sym c.stored_to.ensures ∙ c.in_default.is)))) (sym (flag c.if-own.false)) k
 
 pub returns-then-own : goal.returns-then-own
 returns-then-own g c = λ es m at changes flag k.
     let f = held c.args.frame.now in
-    c.compare_again.ensures (g.C.Classes.content c.args.classes.now) (frames_in c.args.frames.now) es at f (after m at (plan m (act_view c.args.act.now)) f) k
+    c.compare_again.ensures (g.C.Classes.content c.args.classes.now) (frames_in c.args.frames.now) es at f (after m at (typing_rule m (act_view c.args.act.now)) f) k

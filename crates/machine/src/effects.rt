@@ -1,4 +1,4 @@
-//! The deeds of instructions (JVMS 6.5).
+//! The effects of instructions (JVMS 6.5).
 ghost use Rattle.std.specs.Prelude.{◌≡◌, [], ◌∷◌, None, Some, true, IfOk, option_map};
 ghost use Rattle.names.specs.Descriptors.{primitive, class};
 ghost use Rattle.names.specs.ReferenceTypes.{class_type};
@@ -9,8 +9,8 @@ ghost use Rattle.names.specs.Types.{type_of};
 ghost use Rattle.pool.specs.Members.{constant_at, dynamic_type_at};
 ghost use Rattle.insn.specs.Branching.{branches_view};
 ghost use Rattle.insn.specs.Views.{act_view};
-ghost use Rattle.machine.specs.Tasks.{of_kind, of_type, some_array_for, gives_answer, objects, operates, reads, writes, no_reply, task, return_number, return_reference, return_nothing, needs_of_kinds, load_dynamic, load_constant, load_wide_constant};
-ghost use Rattle.machine.specs.private.Deeds.{need_view, need_units, needs_view, task_view};
+ghost use Rattle.machine.specs.Effects.{of_kind, of_type, some_array_for, gives_answer, objects, operates, reads, writes, no_reply, effect, return_number, return_reference, return_nothing, demands_of_kinds, load_dynamic, load_constant, load_wide_constant};
+ghost use Rattle.machine.specs.private.EffectViews.{demand_view, demand_units, demands_view, effect_view};
 ghost use Rattle.machine.specs.Bodies.{method_view};
 
 use crate::body::Method;
@@ -21,7 +21,7 @@ use crate::constants::dynamic_type_at;
 use crate::creations::{
     check_cast, instance_of, new_array, new_multi_array, new_object, new_reference_array,
 };
-use crate::deed::{Deed, Need, Operation, Reply, gives, operates};
+use crate::effect::{Demand, Effect, Operation, Reply, gives, operates};
 use crate::fields::{get_field, get_static, put_field, put_static};
 use crate::objects::{OBJECTS, RunType};
 use insn::{Act, Branches, Kind, computed_as};
@@ -29,7 +29,7 @@ use names::{Base, FieldType, OBJECT, Primitive};
 use pool::Constant;
 use std::alloc::{AllocError, Global};
 
-const INT: Need<'static> = Need::Number(Kind::Int);
+const INT: Demand<'static> = Demand::Number(Kind::Int);
 
 const STRING: &[u8] = b"java/lang/String";
 
@@ -40,12 +40,13 @@ const METHOD_TYPE: &[u8] = b"java/lang/invoke/MethodType";
 const METHOD_HANDLE: &[u8] = b"java/lang/invoke/MethodHandle";
 
 // It branches, or it may go on as well.
-fn branches<'a>(needs: Vec<Need<'a>>, branches: Branches<'a>, falls: bool) -> Deed<'a>
-    ensures { task_view result ≡ operates (needs_view needs.entry.items) None no_reply (branches_view branches.entry) falls }
+fn branches<'a>(demands: Vec<Demand<'a>>, branches: Branches<'a>, falls: bool) -> Effect<'a>
+    ensures { effect_view result ≡ operates (demands_view demands.entry.items) None no_reply
+        (branches_view branches.entry) falls }
 {
-    Deed::Operates {
+    Effect::Operates {
         operation: Operation {
-            needs,
+            demands,
             live: None,
             reply: Reply::Nothing,
         },
@@ -55,21 +56,21 @@ fn branches<'a>(needs: Vec<Need<'a>>, branches: Branches<'a>, falls: bool) -> De
 }
 
 // It branches by this offset, or goes on.
-fn branches_if<'a>(needs: Vec<Need<'a>>, offset: i32) -> Deed<'a>
-    ensures { task_view result ≡ operates (needs_view needs.entry.items) None no_reply (offset ∷ []) true }
+fn branches_if<'a>(demands: Vec<Demand<'a>>, offset: i32) -> Effect<'a>
+    ensures { effect_view result ≡ operates (demands_view demands.entry.items) None no_reply (offset ∷ []) true }
 {
-    branches(needs, Branches::One(offset), true)
+    branches(demands, Branches::One(offset), true)
 }
 
 // Numbers of these kinds.
-fn numbers<'a>(alloc: Global, kinds: &[Kind]) -> Result<Vec<Need<'a>>, AllocError>
-    ensures { IfOk result (λ v. needs_view v.items ≡ needs_of_kinds kinds.now) }
+fn numbers<'a>(alloc: Global, kinds: &[Kind]) -> Result<Vec<Demand<'a>>, AllocError>
+    ensures { IfOk result (λ v. demands_view v.items ≡ demands_of_kinds kinds.now) }
 {
-    let mut needs = Vec::new(alloc);
+    let mut demands = Vec::new(alloc);
     for kind in kinds {
-        needs.push(Need::Number(*kind))?;
+        demands.push(Demand::Number(*kind))?;
     }
-    Ok(needs)
+    Ok(demands)
 }
 
 // ---- constants
@@ -94,25 +95,28 @@ fn number_of<'a>(number: Primitive) -> FieldType<'a>
 }
 
 // A load of the Dynamic constant at this index, of a type of so many units.
-fn load_dynamic<'a>(alloc: Global, method: &Method<'_, 'a>, units: u8, index: u16) -> Deed<'a>
-    ensures { let m = method_view method.now in task_view result ≡ load_dynamic m.dynamic units (dynamic_type_at m.constant_pool index) }
+fn load_dynamic<'a>(alloc: Global, method: &Method<'_, 'a>, units: u8, index: u16) -> Effect<'a>
+    ensures { let m = method_view method.now in
+        effect_view result ≡ load_dynamic m.dynamic units (dynamic_type_at m.constant_pool index) }
 {
     let Some(computed) = dynamic_type_at(method.pool(), index) else {
-        return Deed::Stuck;
+        return Effect::Stuck;
     };
     if method.declared.dynamic && computed.width() == units {
         gives(alloc, Reply::Answer(computed))
     } else {
-        Deed::Stuck
+        Effect::Stuck
     }
 }
 
 // `ldc` and `ldc_w`
-fn load_constant<'a>(alloc: Global, method: &Method<'_, 'a>, index: u16) -> Deed<'a>
-    ensures { let m = method_view method.now in task_view result ≡ load_constant m (dynamic_type_at m.constant_pool index) (constant_at m.constant_pool index) }
+fn load_constant<'a>(alloc: Global, method: &Method<'_, 'a>, index: u16) -> Effect<'a>
+    ensures { let m = method_view method.now in
+        effect_view result ≡ load_constant m (dynamic_type_at m.constant_pool index)
+        (constant_at m.constant_pool index) }
 {
     let Ok(constant) = method.pool().get(index) else {
-        return Deed::Stuck;
+        return Effect::Stuck;
     };
     let loaded = match constant {
         Constant::Integer { .. } => number_of(Primitive::Int),
@@ -122,23 +126,25 @@ fn load_constant<'a>(alloc: Global, method: &Method<'_, 'a>, index: u16) -> Deed
         Constant::MethodType { .. } => object_of(METHOD_TYPE),
         Constant::MethodHandle { .. } => object_of(METHOD_HANDLE),
         Constant::Dynamic { .. } => return load_dynamic(alloc, method, 1, index),
-        _ => return Deed::Stuck,
+        _ => return Effect::Stuck,
     };
     gives(alloc, Reply::Answer(loaded))
 }
 
 // `ldc2_w`
-fn load_wide_constant<'a>(alloc: Global, method: &Method<'_, 'a>, index: u16) -> Deed<'a>
-    ensures { let m = method_view method.now in task_view result ≡ load_wide_constant m (dynamic_type_at m.constant_pool index) (constant_at m.constant_pool index) }
+fn load_wide_constant<'a>(alloc: Global, method: &Method<'_, 'a>, index: u16) -> Effect<'a>
+    ensures { let m = method_view method.now in
+        effect_view result ≡ load_wide_constant m (dynamic_type_at m.constant_pool index)
+        (constant_at m.constant_pool index) }
 {
     let Ok(constant) = method.pool().get(index) else {
-        return Deed::Stuck;
+        return Effect::Stuck;
     };
     let kind = match constant {
         Constant::Long { .. } => Kind::Long,
         Constant::Double { .. } => Kind::Double,
         Constant::Dynamic { .. } => return load_dynamic(alloc, method, 2, index),
-        _ => return Deed::Stuck,
+        _ => return Effect::Stuck,
     };
     gives(alloc, Reply::Number(kind))
 }
@@ -146,106 +152,112 @@ fn load_wide_constant<'a>(alloc: Global, method: &Method<'_, 'a>, index: u16) ->
 // ---- returns
 
 // A return of a number from a method with this result.
-fn leave<'a>(number: Primitive, kind: Kind) -> Deed<'a>
-    ensures { task_view result ≡ return_number (Some (primitive number)) kind }
+fn leave<'a>(number: Primitive, kind: Kind) -> Effect<'a>
+    ensures { effect_view result ≡ return_number (Some (primitive number)) kind }
 {
     if computed_as(number) == kind {
-        Deed::Leaves(Need::Number(kind))
+        Effect::Leaves(Demand::Number(kind))
     } else {
-        Deed::Stuck
+        Effect::Stuck
     }
 }
 
-fn return_number<'a>(result_type: Option<FieldType<'_>>, kind: Kind) -> Deed<'a>
-    ensures { task_view result ≡ return_number (option_map type_of result_type.entry) kind }
+fn return_number<'a>(result_type: Option<FieldType<'_>>, kind: Kind) -> Effect<'a>
+    ensures { effect_view result ≡ return_number (option_map type_of result_type.entry) kind }
 {
     let Some(t) = result_type else {
-        return Deed::Stuck;
+        return Effect::Stuck;
     };
     if t.dims != 0 {
-        return Deed::Stuck;
+        return Effect::Stuck;
     }
     let Base::Primitive(primitive) = t.base else {
-        return Deed::Stuck;
+        return Effect::Stuck;
     };
     leave(primitive, kind)
 }
 
-fn return_reference<'a>(result_type: Option<FieldType<'a>>) -> Deed<'a>
-    ensures { task_view result ≡ return_reference (option_map type_of result_type.entry) }
+fn return_reference<'a>(result_type: Option<FieldType<'a>>) -> Effect<'a>
+    ensures { effect_view result ≡ return_reference (option_map type_of result_type.entry) }
 {
     let Some(t) = result_type else {
-        return Deed::Stuck;
+        return Effect::Stuck;
     };
     match t.dims {
         0 => match t.base {
-            Base::Primitive(_) => Deed::Stuck,
-            Base::Class(name) => Deed::Leaves(Need::Type(RunType::Class(name))),
+            Base::Primitive(_) => Effect::Stuck,
+            Base::Class(name) => Effect::Leaves(Demand::Type(RunType::Class(name))),
         },
-        dims => Deed::Leaves(Need::Type(RunType::Array { dims, base: t.base })),
+        dims => Effect::Leaves(Demand::Type(RunType::Array { dims, base: t.base })),
     }
 }
 
-fn return_nothing<'a>(result_type: Option<FieldType<'_>>) -> Deed<'a>
-    ensures { task_view result ≡ return_nothing (option_map type_of result_type.entry) }
+fn return_nothing<'a>(result_type: Option<FieldType<'_>>) -> Effect<'a>
+    ensures { effect_view result ≡ return_nothing (option_map type_of result_type.entry) }
 {
     match result_type {
-        None => Deed::Ends,
-        Some(_) => Deed::Stuck,
+        None => Effect::Ends,
+        Some(_) => Effect::Stuck,
     }
 }
 
 // ---- elements of arrays
 
 // `iaload` to `saload`, but for `aaload`
-fn load_element<'a>(alloc: Global, element: Primitive) -> Result<Deed<'a>, AllocError>
-    ensures { IfOk result (λ d. task_view d ≡ operates (of_kind kinds.Int ∷ some_array_for element ∷ []) (Some 1) (gives_answer (primitive element)) [] true) }
+fn load_element<'a>(alloc: Global, element: Primitive) -> Result<Effect<'a>, AllocError>
+    ensures { IfOk result (λ d. effect_view d
+        ≡ operates (of_kind kinds.Int ∷ some_array_for element ∷ []) (Some 1)
+        (gives_answer (primitive element)) [] true) }
 {
-    let needs = vec![in alloc; INT, Need::ArrayFor(element)]?;
-    Ok(operates(needs, Some(1), Reply::Answer(number_of(element))))
+    let demands = vec![in alloc; INT, Demand::ArrayFor(element)]?;
+    Ok(operates(demands, Some(1), Reply::Answer(number_of(element))))
 }
 
 // `iastore` to `sastore`, but for `aastore`
-fn store_element<'a>(alloc: Global, element: Primitive) -> Result<Deed<'a>, AllocError>
-    ensures { IfOk result (λ d. task_view d ≡ operates (of_kind (computed_as element) ∷ of_kind kinds.Int ∷ some_array_for element ∷ []) (Some 2) no_reply [] true) }
+fn store_element<'a>(alloc: Global, element: Primitive) -> Result<Effect<'a>, AllocError>
+    ensures { IfOk result (λ d. effect_view d
+        ≡ operates (of_kind (computed_as element) ∷ of_kind kinds.Int ∷ some_array_for element ∷ [])
+        (Some 2) no_reply [] true) }
 {
-    let value = Need::Number(computed_as(element));
-    let needs = vec![in alloc; value, INT, Need::ArrayFor(element)]?;
-    Ok(operates(needs, Some(2), Reply::Nothing))
+    let value = Demand::Number(computed_as(element));
+    let demands = vec![in alloc; value, INT, Demand::ArrayFor(element)]?;
+    Ok(operates(demands, Some(2), Reply::Nothing))
 }
 
 // `aastore`
-fn store_reference_element<'a>(alloc: Global) -> Result<Deed<'a>, AllocError>
-    ensures { IfOk result (λ d. task_view d ≡ operates (of_type (class_type object_name) ∷ of_kind kinds.Int ∷ of_type objects ∷ []) (Some 2) no_reply [] true) }
+fn store_reference_element<'a>(alloc: Global) -> Result<Effect<'a>, AllocError>
+    ensures { IfOk result (λ d. effect_view d
+        ≡ operates (of_type (class_type object_name) ∷ of_kind kinds.Int ∷ of_type objects ∷ [])
+        (Some 2) no_reply [] true) }
 {
-    let value = Need::Type(RunType::Class(OBJECT));
-    let needs = vec![in alloc; value, INT, Need::Type(OBJECTS)]?;
-    Ok(operates(needs, Some(2), Reply::Nothing))
+    let value = Demand::Type(RunType::Class(OBJECT));
+    let demands = vec![in alloc; value, INT, Demand::Type(OBJECTS)]?;
+    Ok(operates(demands, Some(2), Reply::Nothing))
 }
 
 // ---- local variables
 
-fn reads<'a>(need: Need<'a>, local: u16) -> Deed<'a>
-    ensures { task_view result ≡ reads (need_view need.entry) local }
+fn reads<'a>(demand: Demand<'a>, local: u16) -> Effect<'a>
+    ensures { effect_view result ≡ reads (demand_view demand.entry) local }
 {
-    Deed::Reads { need, local }
+    Effect::Reads { demand, local }
 }
 
-fn writes<'a>(need: Need<'a>, local: u16) -> Deed<'a>
-    ensures { task_view result ≡ writes (need_view need.entry) local (need_units need.entry) }
+fn writes<'a>(demand: Demand<'a>, local: u16) -> Effect<'a>
+    ensures { effect_view result ≡ writes (demand_view demand.entry) local (demand_units demand.entry) }
 {
-    Deed::Writes { need, local }
+    Effect::Writes { demand, local }
 }
 
 // ---- the table
 
-/// The deed of an instruction of the method.
-pub fn deed_of<'a>(
+/// The effect of an instruction of the method.
+pub fn effect_of<'a>(
     alloc: Global,
     act: Act<'a>,
     method: &Method<'_, 'a>,
-) -> Result<Deed<'a>, AllocError>
-    ensures { IfOk result (λ d. task_view d ≡ task (method_view method.now) (act_view act.entry)) }
+) -> Result<Effect<'a>, AllocError>
+    ensures { IfOk result (λ d. effect_view d ≡ effect (method_view method.now) (act_view act.entry)) }
 {
     let pool = method.pool();
     match act {
@@ -254,22 +266,25 @@ pub fn deed_of<'a>(
         Act::ConstantNull => Ok(gives(alloc, Reply::Null)),
         Act::LoadConstant { index } => Ok(load_constant(alloc, method, index)),
         Act::LoadWideConstant { index } => Ok(load_wide_constant(alloc, method, index)),
-        Act::Load { kind, local } => Ok(reads(Need::Number(kind), local)),
-        Act::LoadReference { local } => Ok(reads(Need::Reference, local)),
-        Act::Store { kind, local } => Ok(writes(Need::Number(kind), local)),
-        Act::StoreReference { local } => Ok(writes(Need::Reference, local)),
-        Act::Increment { local } => Ok(Deed::Increments { local }),
+        Act::Load { kind, local } => Ok(reads(Demand::Number(kind), local)),
+        Act::LoadReference { local } => Ok(reads(Demand::Reference, local)),
+        Act::Store { kind, local } => Ok(writes(Demand::Number(kind), local)),
+        Act::StoreReference { local } => Ok(writes(Demand::Reference, local)),
+        Act::Increment { local } => Ok(Effect::Increments { local }),
         Act::Numeric(operator) => {
             let (taken, given) = operator.row();
             Ok(operates(numbers(alloc, taken)?, None, Reply::Number(given)))
         }
-        Act::Stack(operator) => Ok(Deed::Moves(operator)),
+        Act::Stack(operator) => Ok(Effect::Moves(operator)),
         Act::IfInt { offset } => Ok(branches_if(vec![in alloc; INT]?, offset)),
         Act::IfInts { offset } => Ok(branches_if(vec![in alloc; INT, INT]?, offset)),
         Act::IfReferences { offset } => {
-            Ok(branches_if(vec![in alloc; Need::Reference, Need::Reference]?, offset))
+            Ok(branches_if(
+                vec![in alloc; Demand::Reference, Demand::Reference]?,
+                offset,
+            ))
         }
-        Act::IfNull { offset } => Ok(branches_if(vec![in alloc; Need::Reference]?, offset)),
+        Act::IfNull { offset } => Ok(branches_if(vec![in alloc; Demand::Reference]?, offset)),
         Act::Goto { offset } => Ok(branches(Vec::new(alloc), Branches::One(offset), false)),
         Act::Switch { default, targets } => Ok(branches(
             vec![in alloc; INT]?,
@@ -291,10 +306,10 @@ pub fn deed_of<'a>(
         Act::New { index } => Ok(new_object(pool, index)),
         Act::LoadElement(element) => load_element(alloc, element),
         Act::StoreElement(element) => store_element(alloc, element),
-        Act::LoadReferenceElement => Ok(Deed::TakesElement),
+        Act::LoadReferenceElement => Ok(Effect::TakesElement),
         Act::StoreReferenceElement => store_reference_element(alloc),
         Act::ArrayLength => Ok(operates(
-            vec![in alloc; Need::Array]?,
+            vec![in alloc; Demand::Array]?,
             Some(0),
             Reply::Number(Kind::Int),
         )),
@@ -303,8 +318,8 @@ pub fn deed_of<'a>(
         Act::NewMultiArray { index, dimensions } => new_multi_array(alloc, pool, index, dimensions),
         Act::CheckCast { index } => Ok(check_cast(pool, index)),
         Act::InstanceOf { index } => instance_of(alloc, pool, index),
-        Act::Throw => Ok(Deed::Throws),
-        Act::Monitor => Ok(operates(vec![in alloc; Need::Reference]?, Some(0), Reply::Nothing)),
-        Act::Unsupported => Ok(Deed::Stuck),
+        Act::Throw => Ok(Effect::Throws),
+        Act::Monitor => Ok(operates(vec![in alloc; Demand::Reference]?, Some(0), Reply::Nothing)),
+        Act::Unsupported => Ok(Effect::Stuck),
     }
 }

@@ -1,12 +1,12 @@
-//! The wants of operands and local variables.
+//! The expected types of operands and local variables.
 ghost use Rattle.std.specs.Prelude.{◌≡◌};
 ghost use Rattle.names.specs.StandardNames.{throwable_name};
 ghost use Rattle.names.specs.Types as names;
 ghost use Rattle.frames.specs.VerificationType.{type_of};
 ghost use Rattle.hierarchy.specs.Answer.{outcome_of};
 ghost use Rattle.rules.specs.Rules.{accepts};
-ghost use Rattle.rules.specs.Plans.{Want, class_want, number, want_of};
-ghost use Rattle.rules.specs.Views.{want_view};
+ghost use Rattle.rules.specs.TypingRules.{ExpectedType, expected_class, number, expected_of};
+ghost use Rattle.rules.specs.Views.{expected_view};
 
 use crate::operands::{accepts, is_number, yes_if};
 use frames::VType;
@@ -14,9 +14,9 @@ use hierarchy::{Answer, Classes};
 use insn::{Kind, computed_as};
 use names::{Base, FieldType, Primitive, RefType, THROWABLE};
 
-/// A want: what is asked of the type of an operand or a local variable.
+/// The expected type of an operand or a local variable.
 #[derive(Clone, Copy, Debug)]
-pub enum Want<'a> {
+pub enum ExpectedType<'a> {
     /// A number of the kind.
     Number(Kind),
     /// A type that is assignable to this one.
@@ -31,37 +31,37 @@ pub enum Want<'a> {
     OwnOr(&'a [u8]),
 }
 
-/// The want of a field or a parameter of this type.
-pub fn want_of<'a>(t: &FieldType<'a>) -> Want<'a>
-    ensures { want_view result ≡ want_of (names.type_of t.now) }
+/// The expected type of a field or a parameter of this type.
+pub fn expected_of<'a>(t: &FieldType<'a>) -> ExpectedType<'a>
+    ensures { expected_view result ≡ expected_of (names.type_of t.now) }
 {
     match t.dims {
         0 => match t.base {
-            Base::Primitive(primitive) => Want::Number(computed_as(primitive)),
-            Base::Class(name) => Want::Assignable(RefType::Class(name)),
+            Base::Primitive(primitive) => ExpectedType::Number(computed_as(primitive)),
+            Base::Class(name) => ExpectedType::Assignable(RefType::Class(name)),
         },
-        dims => Want::Assignable(RefType::Array { dims, base: t.base }),
+        dims => ExpectedType::Assignable(RefType::Array { dims, base: t.base }),
     }
 }
 
 /// An object that may be raised (JVMS 2.10).
-pub fn throwable<'a>() -> Want<'a>
-    ensures { want_view result ≡ class_want throwable_name }
+pub fn throwable<'a>() -> ExpectedType<'a>
+    ensures { expected_view result ≡ expected_class throwable_name }
 {
-    Want::Assignable(RefType::Class(THROWABLE))
+    ExpectedType::Assignable(RefType::Class(THROWABLE))
 }
 
-/// A thing that stands for a want.
-pub trait Ask<'a>: Copy {
-    ghost asked: { Self → Want };
+/// Something that stands for an expected type.
+pub trait Expected<'a>: Copy {
+    ghost asked: { Self → ExpectedType };
 
     /// Whether a type meets it.
     fn meets<C: Classes>(&self, t: &VType<'a>, classes: &C) -> Answer<'a>
         ensures { outcome_of result ≡ accepts (C.content classes.now) (asked self.now) (type_of t.now) };
 }
 
-impl<'a> Ask<'a> for Want<'a> {
-    ghost asked = { want_view };
+impl<'a> Expected<'a> for ExpectedType<'a> {
+    ghost asked = { expected_view };
 
     fn meets<C: Classes>(&self, t: &VType<'a>, classes: &C) -> Answer<'a> {
         accepts(*self, t, classes)
@@ -69,7 +69,7 @@ impl<'a> Ask<'a> for Want<'a> {
 }
 
 /// A number of the kind is asked.
-impl<'a> Ask<'a> for Kind {
+impl<'a> Expected<'a> for Kind {
     ghost asked = { number };
 
     fn meets<C: Classes>(&self, t: &VType<'a>, classes: &C) -> Answer<'a> {

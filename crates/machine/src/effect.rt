@@ -1,16 +1,16 @@
-//! The deeds of instructions, with what they take and give.
+//! The effects of instructions, with what they take and give.
 ghost use Rattle.std.specs.Prelude.{◌≡◌, [], None, true};
-ghost use Rattle.machine.specs.Tasks.{operates};
-ghost use Rattle.machine.specs.private.Deeds.{needs_view, reply_view, task_view};
+ghost use Rattle.machine.specs.Effects.{operates};
+ghost use Rattle.machine.specs.private.EffectViews.{demands_view, reply_view, effect_view};
 
 use crate::objects::RunType;
 use insn::{Branches, Kind, StackOperator};
 use names::{FieldType, Primitive};
 use std::alloc::Global;
 
-/// The need of an operand.
+/// The demand of an operand.
 #[derive(Clone, Copy, Debug)]
-pub enum Need<'a> {
+pub enum Demand<'a> {
     /// A number of the kind.
     Number(Kind),
     /// Null, or an initialized object of a type below this one.
@@ -39,15 +39,15 @@ pub enum Reply<'a> {
 #[derive(Drop)]
 pub struct Operation<'a> {
     /// The operands that are taken from the stack, the first of them from the top.
-    pub needs: Vec<Need<'a>>,
+    pub demands: Vec<Demand<'a>>,
     /// The place of an operand, counted from the top, that only raises where it is null.
     pub live: Option<usize>,
     pub reply: Reply<'a>,
 }
 
-/// The deed of an instruction (JVMS 6.5).
+/// The effect of an instruction (JVMS 6.5).
 #[derive(Drop)]
-pub enum Deed<'a> {
+pub enum Effect<'a> {
     /// It operates; then it goes to where it branches, or on.
     Operates {
         operation: Operation<'a>,
@@ -56,12 +56,12 @@ pub enum Deed<'a> {
     },
     /// A value is read from a local variable.
     Reads {
-        need: Need<'a>,
+        demand: Demand<'a>,
         local: u16,
     },
     /// A value is written to a local variable.
     Writes {
-        need: Need<'a>,
+        demand: Demand<'a>,
         local: u16,
     },
     /// An int in a local variable is changed.
@@ -78,13 +78,13 @@ pub enum Deed<'a> {
     Creates(&'a [u8]),
     /// An array is made.
     MakesArray {
-        needs: Vec<Need<'a>>,
+        demands: Vec<Demand<'a>>,
         made: RunType<'a>,
     },
     /// An object is initialized by an instance initialization method of the class, on these arguments.
     Initializes {
         class: &'a [u8],
-        needs: Vec<Need<'a>>,
+        demands: Vec<Demand<'a>>,
     },
     /// A method is called of the class or one above it, with the method's own class as receiver.
     CallsSpecial {
@@ -92,7 +92,7 @@ pub enum Deed<'a> {
         operation: Operation<'a>,
     },
     /// The method returns a value.
-    Leaves(Need<'a>),
+    Leaves(Demand<'a>),
     /// A Throwable is raised.
     Throws,
     /// The method returns without a value.
@@ -102,19 +102,23 @@ pub enum Deed<'a> {
 }
 
 /// These are needed, and it goes on.
-pub fn operates<'a>(needs: Vec<Need<'a>>, live: Option<usize>, reply: Reply<'a>) -> Deed<'a>
-    ensures { task_view result ≡ operates (needs_view needs.entry.items) live (reply_view reply.entry) [] true }
+pub fn operates<'a>(demands: Vec<Demand<'a>>, live: Option<usize>, reply: Reply<'a>) -> Effect<'a>
+    ensures { effect_view result ≡ operates (demands_view demands.entry.items) live (reply_view reply.entry) [] true }
 {
-    Deed::Operates {
-        operation: Operation { needs, live, reply },
+    Effect::Operates {
+        operation: Operation {
+            demands,
+            live,
+            reply,
+        },
         branches: Branches::Nowhere,
         falls: true,
     }
 }
 
 /// Nothing is needed, and it goes on.
-pub fn gives<'a>(alloc: Global, reply: Reply<'a>) -> Deed<'a>
-    ensures { task_view result ≡ operates [] None (reply_view reply.entry) [] true }
+pub fn gives<'a>(alloc: Global, reply: Reply<'a>) -> Effect<'a>
+    ensures { effect_view result ≡ operates [] None (reply_view reply.entry) [] true }
 {
     operates(Vec::new(alloc), None, reply)
 }

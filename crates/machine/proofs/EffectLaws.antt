@@ -18,7 +18,7 @@ use Rattle.machine.specs.declared.choosing.StepFault.{StepFault}
 use Rattle.machine.specs.declared.choosing.StepFault.TheVariants.{OutOfMemory, NotAChoice, NotInitial}
 use Rattle.machine.specs.Values.{Value, reference, depth_of}
 use Rattle.machine.specs.Heap.{Object, IsAddress, Heap, object, ready, with_object, with_fresh}
-use Rattle.machine.specs.Tasks.{Need, Task, falls, targets}
+use Rattle.machine.specs.Effects.{Demand, Effect, falls, targets}
 use Rattle.machine.specs.Demands.{State, AreForm, HasReceiver}
 use Rattle.machine.specs.Steps.{IsLast, Does, moved, moved_with}
 use Rattle.machine.specs.private.Decided.{form_for}
@@ -53,27 +53,27 @@ item_under [] (w ∷ ws) v rest e =
 item_under (n ∷ ns) [] v rest e = absurd cc
 item_under (n ∷ ns) (w ∷ ws) v rest e = item_under ns ws v rest e
 
-module _ (m : Method Act) (class : List ℕ) (needs : List Need) (s : State) where
-  pub no_receiver : None ≡ slice_get s.stack (length needs) → HasReceiver m class needs s → ⊥
+module _ (m : Method Act) (class : List ℕ) (demands : List Demand) (s : State) where
+  pub no_receiver : None ≡ slice_get s.stack (length demands) → HasReceiver m class demands s → ⊥
   no_receiver e h =
-      let there : slice_get s.stack (length needs) ≡ Some (reference h.address) = item_under needs s.stack (reference h.address) h.rest h.here in
+      let there : slice_get s.stack (length demands) ≡ Some (reference h.address) = item_under demands s.stack (reference h.address) h.rest h.here in
       cc
 
-  pub receiver_found : (v : Value) → Some v ≡ slice_get s.stack (length needs) → IsUninitialized m s.heap class v → HasReceiver m class needs s
+  pub receiver_found : (v : Value) → Some v ≡ slice_get s.stack (length demands) → IsUninitialized m s.heap class v → HasReceiver m class demands s
   receiver_found v e u =
-      let r = under needs s.stack v e in
+      let r = under demands s.stack v e in
       record { address = u.0; rest = r.0; here = r.1 ∙ ap (λ z. z ∷ r.0) u.1; uninitialized = u.2 }
 
-  pub receiver_there : (v : Value) → Some v ≡ slice_get s.stack (length needs) → HasReceiver m class needs s → IsUninitialized m s.heap class v
+  pub receiver_there : (v : Value) → Some v ≡ slice_get s.stack (length demands) → HasReceiver m class demands s → IsUninitialized m s.heap class v
   receiver_there v e h =
-      let there : slice_get s.stack (length needs) ≡ Some (reference h.address) = item_under needs s.stack (reference h.address) h.rest h.here in
+      let there : slice_get s.stack (length demands) ≡ Some (reference h.address) = item_under demands s.stack (reference h.address) h.rest h.here in
       let same : v ≡ reference h.address = cc in
       (h.address, same, h.uninitialized)
 
 -- ---- objects
 
-module _ (needs : List Need) (s : State) (answer : Option Value) (a : ℕ) (rest : List Value) (e : beneath needs s.stack ≡ reference a ∷ rest) (none : answer ≡ None) where
-  pub initialized : (r : Result RawState StepFault) → Done (MakesReady a (moved s s.at rest)) r → Done (Initializes needs s answer) r
+module _ (demands : List Demand) (s : State) (answer : Option Value) (a : ℕ) (rest : List Value) (e : beneath demands s.stack ≡ reference a ∷ rest) (none : answer ≡ None) where
+  pub initialized : (r : Result RawState StepFault) → Done (MakesReady a (moved s s.at rest)) r → Done (Initializes demands s answer) r
   initialized (Ok t) d = (a, rest, d.0, d.1, e, d.2, none, d.3)
   initialized (Err OutOfMemory) d = tt
   initialized (Err NotInitial) d = absurd d
@@ -121,7 +121,7 @@ room_by_form operator vs after f limit b found is both = (
 
 -- ---- ways
 
-module _ (world : World) (t : Task) (next : Option ℕ) (s : State) (heap : Heap) (branch : Option ℕ) (answer : Option Value) (at : ℕ) (there : State) (is : there ≡ moved_to s at heap) (way : GoesWay t next s.at branch at) where
+module _ (world : World) (t : Effect) (next : Option ℕ) (s : State) (heap : Heap) (branch : Option ℕ) (answer : Option Value) (at : ℕ) (there : State) (is : there ≡ moved_to s at heap) (way : GoesWay t next s.at branch at) where
   pub goes_on_there : (r : Result RawState StepFault) → Done (DoesHere world t there answer) r → Done (GoesOn world t next s heap branch answer) r
   goes_on_there (Ok u) d = record {
     to = at;
@@ -134,7 +134,7 @@ module _ (world : World) (t : Task) (next : Option ℕ) (s : State) (heap : Heap
       let here : Does world t (moved_to s s.at heap) answer at u = subst (λ k. Does world t (moved_to s s.at heap) answer k u) (one_way (targets s.at t) (falls t) next branch g.to at g.way way) g.does in
       d u (subst (λ z. DoesHere world t z answer u) (sym is) (elsewhere world t s s.at at at heap answer u here))
 
-module _ (world : World) (t : Task) (next : Option ℕ) (s : State) (heap : Heap) (branch : Option ℕ) (answer : Option Value) where
+module _ (world : World) (t : Effect) (next : Option ℕ) (s : State) (heap : Heap) (branch : Option ℕ) (answer : Option Value) where
   -- it goes on so from the state that has new objects
   there_is_here : (u : State) → GoesOn world t next (moved_to s s.at heap) heap branch answer u → GoesOn world t next s heap branch answer u
   there_is_here u g = record { to = g.to; way = g.way; does = g.does }
@@ -151,7 +151,7 @@ module _ (world : World) (t : Task) (next : Option ℕ) (s : State) (heap : Heap
   pub goes_from_there : (v : State) → v ≡ moved_to s s.at heap → (r : Result RawState StepFault) → Done (GoesOn world t next v v.heap branch answer) r → Done (GoesOn world t next s heap branch answer) r
   goes_from_there v e r d = from_there r (subst (λ z. Done (GoesOn world t next z z.heap branch answer) r) e d)
 
-module _ (world : World) (t : Task) (next : Option ℕ) (s : State) (heap : Heap) (fresh : List (ℕ × ReferenceType)) (branch : Option ℕ) (answer : Option Value) where
+module _ (world : World) (t : Effect) (next : Option ℕ) (s : State) (heap : Heap) (fresh : List (ℕ × ReferenceType)) (branch : Option ℕ) (answer : Option Value) where
   pub refused : (fault : StepFault) → Done (GoesOn world t next s heap branch answer) (Err fault) → heap ≡ with_fresh s.heap fresh → (IsLast t → ⊥) → Goes world t next s branch answer fresh (Err fault)
   refused OutOfMemory d e n = tt
   refused NotInitial d e n = absurd d
