@@ -78,7 +78,7 @@ pub use frame_fault::FrameFault;
 pub use holders::Holder;
 pub use locals::Locals;
 pub use naming::{array_of, held_by, number_type, reference_to};
-pub use objects::{is_made_at, is_own};
+pub use objects::{is_made_at, is_object, is_own};
 pub use operand_stack::OperandStack;
 pub use packed::{Packed, packed_assignable};
 pub use packing::pack;
