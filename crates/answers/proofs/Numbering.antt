@@ -31,7 +31,7 @@ is_less a b lt = by (nat_lt a b) refl
     by true e = refl
     by false e = let le = ltb-false a b e in absurd (omega (arith, lt, le))
 
--- of three the greatest, whichever two are compared first
+-- the greatest of three is the same, whichever two are compared first
 pub of_three : (a b c : ℕ) → greater a (greater b c) ≡ greater (greater a b) c
 of_three a b c = by (nat_lt a b) (nat_lt b c) refl refl
   where

@@ -114,7 +114,7 @@ module _ (laws : Laws) (classes : List ClassFact) (cs : List JudgedClass) (place
 -- ---- of all classes
 
 module _ (laws : Laws) (classes : List ClassFact) (cs : List JudgedClass) where
-  -- of a class among those that break no rule
+  -- a class among those that break no rule
   not_among : (place : ℕ) (c : JudgedClass) (text : List ℕ) (status : ℕ) (rs : List Report) → slice_get cs place ≡ Some c → BrokenSays classes cs place c text status
       → AreFine classes cs rs → place < length rs → ⊥
   not_among place c text status rs here b fine lt =

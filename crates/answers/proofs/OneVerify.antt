@@ -206,7 +206,7 @@ abbrev begun_of : List ℕ → List ℕ → List Field → List ℕ → List ℕ
 begun_of called descriptor verdict rest =
     object_then (kind (codes "method")) ((codes "name", name called) ∷ (codes "descriptor", name descriptor) ∷ verdict) rest
 
--- what is said of methods whose lines are the same, with the same frames
+-- the explanations of methods whose lines and frames are the same
 same_said : (form : Form) (pool : List Entry) (body : Option CodeBody) (r q : MethodVerdict) (x y : FramesFact) → IsSameLine r q → x ≡ y
     → explained form pool r body x ≡ explained form pool q body y
 same_said Plain pool body r q x y here e =
@@ -308,7 +308,7 @@ module _ (laws : Laws) where
   one_told (Explained Plain) read r line object text other (a, p, e) (b, q, f) =
       e ∙ ap (λ x. line Plain ++ (sentence_line (file_fault_number r) ++ x)) (one_part read r a b p q) ∙ sym f
 
-  -- of two that are the same
+  -- refusals of one file are the same
   same_known : (manner : Manner) (reads : List Read) (i j : ℕ) (r s : FileFault) (p : IsFirstRefused reads i r) (q : IsFirstRefused reads j s) (text other : List ℕ)
       → IsTold manner p.read r (λ form. known_refusal form (i + 1) r) (known_object (i + 1) r) text → IsTold manner q.read s (λ form. known_refusal form (j + 1) s) (known_object (j + 1) s) other → text ≡ other
   same_known manner reads i j r s p q text other t u =

@@ -14,7 +14,7 @@ parted xs n m few many = by (cases_lt n (length xs))
         let most : length xs ≤ m = omega (arith, e) in
         (take_all m xs most ∙ sym (take_all n xs le), drop_all m xs most ∙ sym (drop_all n xs le))
 
--- as what they are to others
+-- the two parts, with a function applied to each item
 pub parted_as : {A B : Type 0} (f : A → B) (xs front back : List A) (n m : ℕ) → front ≡ take m xs → back ≡ drop m xs → (n ≤ length xs → m ≡ n) → (length xs ≤ n → m ≡ length xs)
     → (map f front ≡ take n (map f xs)) × (map f back ≡ drop n (map f xs))
 parted_as f xs front back n m is other few many =

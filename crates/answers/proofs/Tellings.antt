@@ -1,4 +1,4 @@
--- An answer of what is told is an answer of what is said.
+-- A call that writes a text about a class, or about a file that is refused, answers the command.
 use Rattle.std.proofs.Common.{◌≡◌, ◌≢◌, ℕ, List, Option, Result, Ok, Err, refl, inl, inr}
 use Rattle.classfile.specs.Values.{Class}
 use Rattle.answers.specs.Answers.{Answered, FileSays}
@@ -17,14 +17,14 @@ answered_more P Q more old new (Ok status) (text, told, wrote) = (text, more tex
 answered_more P Q more old new (Err OutOfMemory) kept = kept
 answered_more P Q more old new (Err WriteFailed) (text, status, told, wrote) = (text, status, more text status told, wrote)
 
--- of a class
+-- the text is about a class
 pub of_class : (form : Form) (Tells : Class → List ℕ → ℕ → Type 0) (read : Read) (c : Class) (P : List ℕ → ℕ → Type 0) → IsFormed read c
     → ((text : List ℕ) (status : ℕ) → P text status → Tells c text status)
     → (old new : Option (List ℕ)) (r : Result ℕ AnswerFault) → Answered P old new r → Answered (FileSays form Tells read) old new r
 of_class form Tells read c P formed tells old new r told =
     answered_more P (FileSays form Tells read) (λ text status p. inl (c, formed, tells text status p)) old new r told
 
--- of a file that is refused
+-- the file is refused
 refused : (read : Read) (fault : FileFault) → OrMemory read fault → fault ≢ faults.OutOfMemory → IsRefused read fault
 refused read faults.OutOfMemory p other = absurd (other refl)
 refused read (faults.Unread e) p other = p

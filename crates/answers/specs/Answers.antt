@@ -21,21 +21,21 @@ use Rattle.answers.specs.declared.command.Form.{Form}
 use Rattle.answers.specs.declared.command.Form.TheVariants.{Plain}
 use Rattle.answers.specs.declared.manner.Manner.TheVariants as manners
 
--- The answer about a file: what is told of its class, or why it has none.
+-- The answer about a file: the text and the status for its class, or why it has no class that is well formed.
 abbrev pub FileSays : Form → (Class → List ℕ → ℕ → Type 0) → Read → List ℕ → ℕ → Type 0
 FileSays form Tells read text status =
     ((c : Class) × IsFormed read c × Tells c text status)
     ⊎ ((r : FileFault) × IsRefused read r × (text ≡ refusal_line form r) × (status ≡ refusal_status r))
 
--- `check` tells of a class that it is well formed
+-- the answer to `check` about a class that is well formed
 abbrev pub CheckTells : Form → Class → List ℕ → ℕ → Type 0
 CheckTells form c text status = (text ≡ ok_line form) × (status ≡ 0)
 
--- `show` tells what it holds, and by the status whether the code of a method is refused
+-- the answer to `show`: what the class holds, and by the status whether the code of a method is refused
 abbrev pub ShowTells : Class → List ℕ → ℕ → Type 0
 ShowTells c text status = (text ≡ class_lines c) × (status ≡ (if has_refused c then 1 else 0))
 
--- The answer about these files. Of no file nothing is said.
+-- The text and the status that answer a command about these files. Without files the text is empty, and the status 0.
 abbrev pub Says : Command → List Read → List ℕ → ℕ → Type 0
 Says command [] text status = (text ≡ []) × (status ≡ 0)
 Says (Check form) (read ∷ others) text status = FileSays form (CheckTells form) read text status
@@ -47,8 +47,8 @@ Says (Play profile) (read ∷ others) text status = PlaySays profile (read ∷ o
 Says (VerifyEach profile classes) (read ∷ others) text status =
     EachSays profile (take classes (read ∷ others)) (drop classes (read ∷ others)) text status
 
--- The bytes that a writer holds behind an answer: all of what is to be said was written; or nothing, where memory
--- ran out; or a beginning of it, where a write failed.
+-- The bytes that a writer holds after an answer: the whole text was written; or nothing, where memory ran out; or a
+-- prefix of the text, where a write failed.
 abbrev pub Answered : (List ℕ → ℕ → Type 0) → Option (List ℕ) → Option (List ℕ) → Result ℕ AnswerFault → Type 0
 Answered Told old new (Ok status) = (text : List ℕ) × Told text status × Appends old new text
 Answered Told old new (Err OutOfMemory) = Keeps old new

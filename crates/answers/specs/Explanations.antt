@@ -1,5 +1,5 @@
--- The lines of `explain` about the methods of a class: of each that is refused its line, what the number says, and what
--- is shown of its code.
+-- The lines of `explain` about the methods of a class: for each that is refused its line, the sentence on the number,
+-- and the part of its code that is shown.
 use Rattle.std.specs.Prelude.{ℕ, Bool, ◌||◌, nat_eq, if◌then◌else◌, List, [], ◌∷◌, ◌++◌, Option, Some, None, codes}
 use Rattle.std.specs.List.{flat_map}
 use Rattle.pool.specs.Entries.{Entry}
@@ -28,12 +28,12 @@ is_of_table n = nat_eq n 72 || nat_eq n 73 || nat_eq n 75
 abbrev pub entries_for : ℕ → List Entry → CodeBody → List ℕ
 entries_for n pool body = if is_of_table n then flat_map (catch_line pool) body.exception_table else []
 
--- of a frame under a label, if there is one
+-- the lines of a frame under a label, if there is a frame
 abbrev pub lines_if : List ℕ → Option FrameFact → List ℕ
 lines_if label None = []
 lines_if label (Some f) = frame_lines label f
 
--- of a difference, if there is one
+-- the line of a difference, if there is one
 abbrev pub difference_line_of : Option DifferenceFact → List ℕ
 difference_line_of None = []
 difference_line_of (Some d) = difference_line d
@@ -42,22 +42,24 @@ difference_line_of (Some d) = difference_line d
 abbrev pub is_of_entry : ℕ → Bool
 is_of_entry n = nat_eq n not_assignable
 
--- the frame before an instruction; where a number is about both, the one that comes, the declared one, and what differs
+-- the lines of the frame before an instruction; where a number is about the frame that comes and the declared one, the
+-- lines of both and the line of the first difference
 abbrev pub frames_for : ℕ → FramesFact → List ℕ
 frames_for n x =
     if is_of_entry n then lines_if [] x.coming
     ++ (lines_if (codes "declared ") x.declared ++ difference_line_of x.difference)
     else lines_if [] (before x.coming x.declared)
 
--- of the code, as `show` has it: its sizes, the instruction at the offset with the constant that it names, the frames
--- there, and the exception table where a number is about it
+-- the lines of the code, as `show` has them: its sizes, the instruction at the offset with the constant that it names,
+-- the frames there, and the exception table where a number is about it
 abbrev pub code_part : ℕ → List Entry → Option CodeBody → ℕ → FramesFact → List ℕ
 code_part n pool None at x = []
 code_part n pool (Some body) at x =
     sizes_line body ++ (line_at (reading_of body.code) at
     ++ (named_at pool (reading_of body.code) at ++ (frames_for n x ++ entries_for n pool body)))
 
--- of a method with this line, this verdict and these frames at the instruction at which it is refused
+-- the explanation of a method with this line, this verdict and these frames at the instruction at which it is refused;
+-- nothing where it is not refused
 abbrev pub explanation : List Entry → Option CodeBody → List ℕ → Verdict → FramesFact → List ℕ
 explanation pool body line Verified x = []
 explanation pool body line NoCode x = []
@@ -66,7 +68,7 @@ explanation pool body line (Refused at why) x =
 
 -- ---- as an object of JSON
 
--- of a frame under these names, if there is one
+-- the fields of a frame under these names, if there is a frame
 abbrev pub fields_if : List ℕ → List ℕ → List ℕ → Option FrameFact → List Field
 fields_if locals stack flags None = []
 fields_if locals stack flags (Some f) = frame_fields locals stack flags f
@@ -85,7 +87,8 @@ abbrev pub fields_of_both : FramesFact → List ℕ → List ℕ
 fields_of_both x rest = fields_then (frame_fields_of x.coming)
     (fields_then (declared_fields_of x.declared) (fields_then (difference_fields_of x.difference) rest))
 
--- the frame before an instruction; where a number is about both, the one that comes, the declared one, and what differs
+-- the fields of the frame before an instruction; where a number is about the frame that comes and the declared one, the
+-- fields of both and of the first difference
 abbrev pub frame_fields_for : ℕ → FramesFact → List ℕ → List ℕ
 frame_fields_for n x rest =
     if is_of_entry n then fields_of_both x rest
@@ -94,7 +97,7 @@ frame_fields_for n x rest =
 abbrev pub entry_fields_for : ℕ → List Entry → CodeBody → List Field
 entry_fields_for n pool body = if is_of_table n then table_fields pool body.exception_table else []
 
--- of the code, up to the end of the object
+-- the fields of the code, and the end of the object
 abbrev pub code_fields : ℕ → List Entry → Option CodeBody → ℕ → FramesFact → List ℕ
 code_fields n pool None at x = object_end
 code_fields n pool (Some body) at x =
@@ -102,14 +105,15 @@ code_fields n pool (Some body) at x =
     (fields_then (named_fields_at pool (reading_of body.code) at)
     (frame_fields_for n x (fields_behind (entry_fields_for n pool body)))))
 
--- of a method whose object begins so, with this verdict and these frames at the instruction at which it is refused
+-- the object of a method whose first fields are written by `begun`, with this verdict and these frames at the
+-- instruction at which it is refused; nothing where it is not refused
 abbrev pub explanation_object : List Entry → Option CodeBody → (List ℕ → List ℕ) → Verdict → FramesFact → List ℕ
 explanation_object pool body begun Verified x = []
 explanation_object pool body begun NoCode x = []
 explanation_object pool body begun (Refused at why) x =
     begun (fields_then (reason_sentence_fields why) (code_fields (reason_number why) pool body at x))
 
--- ---- of methods, the verdicts on them and their frames, with what is said of each that has this code
+-- ---- methods one after the other, with their verdicts and frames; `said` gives the text about each
 
 abbrev pub explanations : (MethodVerdict → Option CodeBody → FramesFact → List ℕ) → List Member → List MethodVerdict
     → List FramesAt → List ℕ

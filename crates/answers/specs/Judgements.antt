@@ -16,18 +16,18 @@ use Rattle.answers.specs.Verdicts.{class_refusal, final_super_refusal, hierarchy
 
 -- ---- texts; files count from 1
 
--- the class is not one of the hierarchy
+-- the hierarchy does not have the class
 abbrev pub outside_refusal : List ℕ
 outside_refusal = codes "class refused 80\n"
 
--- what is answered of a file: the lines that `verify` writes where the hierarchy has the class
+-- the lines about a file: those of `verify` where the hierarchy has the class
 abbrev pub judgement_lines : Judgement → List ℕ
 judgement_lines (Reported name report) = flat_map (verdict_line Plain) report.methods.items
 judgement_lines (Refused r) = class_refusal Plain r
 judgement_lines (NotInHierarchy name) = outside_refusal
 judgement_lines (FinalSuper name) = final_super_refusal Plain
 
--- the name of the class, where there is one
+-- the name of the class behind a blank, where there is a class
 abbrev pub class_text : Judgement → List ℕ
 class_text (Reported name report) = codes " " ++ spelled_text name.now
 class_text (Refused r) = []
@@ -37,7 +37,7 @@ class_text (FinalSuper name) = codes " " ++ spelled_text name.now
 abbrev pub numbered_lines : ℕ → Judgement → List ℕ
 numbered_lines number j = codes "file " ++ (decimal number ++ (class_text j ++ (codes "\n" ++ judgement_lines j)))
 
--- of each of these files, the first of which has this number
+-- the lines about these files, the first of which has this number
 abbrev pub lines_from : ℕ → List Judgement → List ℕ
 lines_from number [] = []
 lines_from number (j ∷ js) = numbered_lines number j ++ lines_from (number + 1) js
@@ -53,14 +53,15 @@ judgement_status (FinalSuper name) = 1
 abbrev pub greater : ℕ → ℕ → ℕ
 greater a b = if nat_lt a b then b else a
 
--- the greatest
+-- the greatest status of these judgements, or 0
 abbrev pub worst_status : List Judgement → ℕ
 worst_status [] = 0
 worst_status (j ∷ js) = greater (judgement_status j) (worst_status js)
 
--- ---- what is said
+-- ---- the answer
 
--- by a profile of each file in the hierarchy of the classes that stand; or why these are none
+-- the answer to `verify-each`, by a profile: about each file in the hierarchy of the classes that stand, or why these
+-- classes are no hierarchy
 abbrev pub EachSays : Profile → List Read → List Read → List ℕ → ℕ → Type 0
 EachSays profile reads known text status =
     ((js : List Judgement) × JudgesEach profile reads known js × (text ≡ lines_from 1 js) × (status ≡ worst_status js))

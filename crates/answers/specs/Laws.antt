@@ -1,4 +1,4 @@
--- A law that follows of the definition of answers alone: a command has one answer.
+-- A law that follows from the definition of answers alone: a command has one answer.
 use Rattle.std.specs.Prelude.{◌≡◌, ℕ, List}
 use Rattle.answers.specs.Answers.{Says}
 use Rattle.verify.specs.Files.{Read}

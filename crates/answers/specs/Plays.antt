@@ -1,4 +1,4 @@
--- The answer of `play` about the classes that files are.
+-- The answer to `play` about the classes in files.
 use Rattle.std.specs.Prelude.{◌≡◌, ◌≢◌, ◌⊎◌, ℕ, ◌+◌, List, ◌++◌, map, codes, decimal}
 use Rattle.classfile.specs.Values.{Class}
 use Rattle.classfile.specs.Methods.{JudgedClass}
@@ -36,29 +36,29 @@ method_refusal number r = codes "class " ++ (decimal number ++ (codes " " ++ ver
 abbrev pub play_verified : List ℕ
 play_verified = codes "play verified\n"
 
--- ---- what is said
+-- ---- the answer
 
--- of the class at a place: the rule that it breaks, or its first method that is refused
+-- the answer about the class at a place that is refused: the rule that it breaks, or its first method that is refused
 abbrev pub BrokenSays : List ClassFact → List JudgedClass → ℕ → JudgedClass → List ℕ → ℕ → Type 0
 BrokenSays classes cs place c text status =
     ((rule : PlayRule) × Breaks classes cs place c rule × (text ≡ rule_refusal (place + 1) rule) × (status ≡ 1))
     ⊎ ((n : ℕ) × (r : MethodVerdict) × HasRefused classes cs place c n r × (text ≡ method_refusal (place + 1) r)
     × (status ≡ 1))
 
--- of classes in their hierarchy: the first that breaks a rule, or that all are verified
+-- the answer about classes in their hierarchy: the first that is refused, or that all are verified
 abbrev pub ClassesSay : List ClassFact → List JudgedClass → List ℕ → ℕ → Type 0
 ClassesSay classes cs text status =
     ((place : ℕ) × BreaksFirst classes cs place (λ c. BrokenSays classes cs place c text status))
     ⊎ ((rs : List Report) × ArePlayed classes cs rs × (text ≡ play_verified) × (status ≡ 0))
 
--- why they are no hierarchy, or what is said of them in it
+-- why the classes are no hierarchy, or the answer about them in it
 abbrev pub TogetherSay : List JudgedClass → List ℕ → ℕ → Type 0
 TogetherSay cs text status =
     ((f : HierarchyFault) × (f ≢ OutOfMemory) × FaultOf (facts_in cs) f × (text ≡ hierarchy_refusal Plain f)
     × (status ≡ 1))
     ⊎ (IsHierarchy (facts_in cs) × ClassesSay (facts_in cs) cs text status)
 
--- the first file that is refused, or what is said of the classes by a profile
+-- the answer to `play`, by a profile: the first file that is refused, or the answer about the classes
 abbrev pub PlaySays : Profile → List Read → List ℕ → ℕ → Type 0
 PlaySays profile reads text status =
     ((i : ℕ) × (r : FileFault) × IsFirstRefused reads i r × (text ≡ numbered_refusal (i + 1) r)

@@ -1,4 +1,4 @@
--- The name of each number of a refusal and, in one sentence, what holds.
+-- The name of each number of a refusal, and one sentence that says what is wrong.
 use Rattle.std.specs.Prelude.{ℕ, nat_eq, List, [], ◌∷◌, ◌++◌, codes, decimal, find}
 use Rattle.std.specs.Option.{option_map_or}
 use Rattle.layout.specs.Refusals.{read_fault_number}
@@ -10,7 +10,7 @@ use Rattle.printing.specs.Json.{Field, word}
 use Rattle.verify.specs.declared.files.FileFault.{FileFault}
 use Rattle.verify.specs.declared.files.FileFault.TheVariants.{OutOfMemory, Unread, NoClass, Malformed}
 
--- of files, of classes that are not well formed, of hierarchies, and of methods
+-- the texts for refusals of files, of classes that are not well formed, of hierarchies, and of methods
 abbrev pub sentences : List (ℕ × List ℕ)
 sentences =
     (1, codes "OutOfMemory: memory ran out")
@@ -69,7 +69,7 @@ sentences =
     ∷ (90, codes "BadBootstrap: the class has no bootstrap method for the constant, or one whose handle or arguments may not be used")
     ∷ []
 
--- of stack maps (behind 78) and of code (behind 79)
+-- the texts for faults of stack maps (behind 78) and of code (behind 79)
 abbrev pub fault_sentences : List (ℕ × List ℕ)
 fault_sentences =
     (2, codes "EndsEarly: the stack map ends within an entry")
@@ -111,13 +111,13 @@ sentence_line n = numbered_line n (sentence n)
 abbrev pub fault_line : ℕ → List ℕ
 fault_line n = numbered_line n (fault_sentence n)
 
--- of the fault in a stack map (78) or in code (79)
+-- the line on the fault in a stack map (78) or in code (79), where the reason has one
 abbrev pub fault_lines : Reason → List ℕ
 fault_lines (BadStackMap fault) = fault_line fault
 fault_lines (BadCode fault) = fault_line fault
 fault_lines why = []
 
--- of a method that is refused
+-- the lines that say why a method is refused
 abbrev pub reason_lines : Reason → List ℕ
 reason_lines why = sentence_line (reason_number why) ++ fault_lines why
 
@@ -126,13 +126,13 @@ reason_lines why = sentence_line (reason_number why) ++ fault_lines why
 abbrev pub sentence_fields : ℕ → List Field
 sentence_fields n = (codes "sentence", word (sentence n)) ∷ []
 
--- of the fault in a stack map (78) or in code (79)
+-- the field on the fault in a stack map (78) or in code (79), where the reason has one
 abbrev pub fault_sentence_fields : Reason → List Field
 fault_sentence_fields (BadStackMap fault) = (codes "fault_sentence", word (fault_sentence fault)) ∷ []
 fault_sentence_fields (BadCode fault) = (codes "fault_sentence", word (fault_sentence fault)) ∷ []
 fault_sentence_fields why = []
 
--- of a method that is refused
+-- the fields that say why a method is refused
 abbrev pub reason_sentence_fields : Reason → List Field
 reason_sentence_fields why = (codes "sentence", word (sentence (reason_number why))) ∷ fault_sentence_fields why
 

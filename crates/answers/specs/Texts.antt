@@ -22,7 +22,7 @@ refusal_fields (Unread fault) = fault_fields fault
 refusal_fields (NoClass fault) = fault_fields fault
 refusal_fields (Malformed rule place) = (codes "number", number (rule_number rule)) ∷ place_fields place
 
--- ---- fields that say of what a line speaks, and what it answers
+-- ---- the fields that begin an object: the kind of thing it is about, and the answer
 
 abbrev pub kind : List ℕ → Field
 kind name = (codes "kind", word name)

@@ -1,4 +1,4 @@
--- The answer of `verify` about a class and the classes that it may refer to.
+-- The answers to `verify` and `explain` about a class among its known classes.
 use Rattle.std.specs.Prelude.{◌≡◌, ◌≢◌, ◌⊎◌, ℕ, ◌+◌, Bool, true, false, if◌then◌else◌, List, [], ◌∷◌, ◌++◌, map, codes, decimal, Option}
 use Rattle.std.specs.List.{flat_map, list_any}
 use Rattle.pool.specs.Entries.{Entry}
@@ -40,7 +40,7 @@ use Rattle.answers.specs.Files.{refusal_status}
 
 -- ---- texts, in words or as objects of JSON
 
--- up to a text behind its fields
+-- the object of a file that is refused as the class to be verified, with this text behind its fields
 abbrev pub class_object : FileFault → List ℕ → List ℕ
 class_object r rest = object_then (kind (codes "class")) (answer (codes "refused") ∷ refusal_fields r) rest
 
@@ -53,7 +53,7 @@ known_object position r rest =
     object_then (kind (codes "known"))
     ((codes "position", number position) ∷ answer (codes "refused") ∷ refusal_fields r) rest
 
--- of the known class at this position; they count from 1
+-- the refusal of the known class at this position, counted from 1
 abbrev pub known_refusal : Form → ℕ → FileFault → List ℕ
 known_refusal Plain position r =
     codes "known " ++ (decimal position ++ (codes " refused " ++ (refusal_text r ++ codes "\n")))
@@ -61,7 +61,7 @@ known_refusal Json position r =
     object_line (kind (codes "known") ∷ (codes "position", number position) ∷ answer (codes "refused")
     ∷ refusal_fields r)
 
--- the name of the class that has the fault, where it has one
+-- the name of the class that has the fault, behind a blank, where the fault has one
 abbrev pub fault_name : HierarchyFault → List ℕ
 fault_name OutOfMemory = []
 fault_name (ClassTwice name) = codes " " ++ spelled_text name.now
@@ -102,7 +102,7 @@ final_super_refusal Plain = codes "class refused 81\n"
 final_super_refusal Json = object_line
     (kind (codes "class") ∷ answer (codes "refused") ∷ (codes "number", number 81) ∷ [])
 
--- behind a reason: the class that is missing, or the number of the fault in a stack map or in code
+-- the text behind a reason: the class that is missing, or the number of the fault in a stack map or in code
 abbrev pub reason_ending : Reason → List ℕ
 reason_ending (ClassMissing name) = codes " missing " ++ spelled_text name.now
 reason_ending (BadStackMap fault) = codes " fault " ++ decimal fault
@@ -135,14 +135,14 @@ verdict_line Json r =
     object_line (kind (codes "method") ∷ (codes "name", name r.name.bytes.now)
     ∷ (codes "descriptor", name r.descriptor.bytes.now) ∷ verdict_fields r.verdict)
 
--- the object of a method, up to a text behind its fields
+-- the object of a method and its verdict, with this text behind its fields
 abbrev pub verdict_object : MethodVerdict → List ℕ → List ℕ
 verdict_object r rest =
     object_then (kind (codes "method"))
     ((codes "name", name r.name.bytes.now) ∷ (codes "descriptor", name r.descriptor.bytes.now)
     ∷ verdict_fields r.verdict) rest
 
--- what `explain` says of a method with this code and these frames
+-- the text of `explain` about a method with this code and these frames
 abbrev pub explained : Form → List Entry → MethodVerdict → Option CodeBody → FramesFact → List ℕ
 explained Plain pool r body x = explanation pool body (verdict_line Plain r) r.verdict x
 explained Json pool r body x = explanation_object pool body (verdict_object r) r.verdict x
@@ -156,19 +156,19 @@ is_refusal (Refused at why) = true
 abbrev pub report_status : List MethodVerdict → ℕ
 report_status rs = if list_any (λ r. is_refusal r.verdict) rs then 1 else 0
 
--- ---- in the manner of `verify`, or in that of `explain`, which has behind each refusal what its number says
+-- ---- in the manner of `verify`, or in that of `explain`, which has the sentence on its number behind each refusal
 
--- where a class breaks a rule: the part of it where that is
+-- the text of the part of a class that breaks a rule; empty for any other refusal of a file
 abbrev pub IsPart : Read → FileFault → List ℕ → Type 0
 IsPart read (Malformed rule place) text = (c : Class) × IsDecoded read c × (text ≡ part_lines c place)
 IsPart read r text = text ≡ []
 
--- of a file with this line that is refused
+-- the lines of `explain` about a file that is refused with this line
 abbrev pub IsExplained : Read → FileFault → List ℕ → List ℕ → Type 0
 IsExplained read r line text = (part : List ℕ) × IsPart read r part
     × (text ≡ line ++ (sentence_line (file_fault_number r) ++ part))
 
--- of a file that is refused, and has a line in each form and an object of JSON
+-- the text about a file that is refused, by its line in each form and its object of JSON
 abbrev pub IsTold : Manner → Read → FileFault → (Form → List ℕ) → (List ℕ → List ℕ) → List ℕ → Type 0
 IsTold (Told form) read r line object text = text ≡ line form
 IsTold (Explained Plain) read r line object text = IsExplained read r (line Plain) text
@@ -185,34 +185,35 @@ final_super_told (Explained Plain) = final_super_refusal Plain ++ sentence_line 
 final_super_told (Explained Json) =
     object_line (kind (codes "class") ∷ answer (codes "refused") ∷ (codes "number", number 81) ∷ sentence_fields 81)
 
--- the verdicts on the methods of a class; `explain` tells those that refuse, with the frames at the instructions at
--- which they do
+-- the text about the methods of a class; `explain` writes only about those that are refused, with the frames at the
+-- instructions at which they are
 abbrev pub IsReportTold : Manner → List ClassFact → JudgedClass → List MethodVerdict → List ℕ → Type 0
 IsReportTold (Told form) classes c rs text = text ≡ flat_map (verdict_line form) rs
 IsReportTold (Explained form) classes c rs text =
     (xs : List FramesAt) × AreFramed classes c rs xs
     × (text ≡ explanations (explained form c.file.constant_pool) c.file.methods rs xs)
 
--- ---- what is said
+-- ---- the answer
 
--- the verdicts on the methods of a class
+-- the answer about a class that the hierarchy has as it is: the verdicts on its methods
 abbrev pub ReportSays : Manner → List ClassFact → JudgedClass → List ℕ → ℕ → Type 0
 ReportSays manner classes c text status = (rs : List MethodVerdict) × IsReport classes c rs
     × IsReportTold manner classes c rs text × (status ≡ report_status rs)
 
--- Of a class in a hierarchy: that its superclass is final, or the verdicts on its methods.
+-- The answer about a class in a hierarchy: its superclass is final, or there are verdicts on its methods.
 abbrev pub ClassSays : Manner → List ClassFact → JudgedClass → List ℕ → ℕ → Type 0
 ClassSays manner classes c text status =
     ((has_final_super classes (summary_of c.file) ≡ true) × (text ≡ final_super_told manner) × (status ≡ 1))
     ⊎ ((has_final_super classes (summary_of c.file) ≡ false) × ReportSays manner classes c text status)
 
--- Of a class and of the summaries of all: why they are no hierarchy, or what is said of the class in it.
+-- The answer about a class and its known classes: why they are no hierarchy, or the answer about the class in it.
 abbrev pub HierarchySays : Manner → List ClassFact → JudgedClass → List ℕ → ℕ → Type 0
 HierarchySays manner classes c text status =
     ((f : HierarchyFault) × (f ≢ OutOfMemory) × FaultOf classes f × (text ≡ hierarchy_told manner f) × (status ≡ 1))
     ⊎ (IsHierarchy classes × ClassSays manner classes c text status)
 
--- Of a class and the files of the known ones: the first of these that is refused, or what is said of all.
+-- The answer about a class and its known files: the refusal of the first known file that is refused, or, where none is,
+-- the answer about all.
 abbrev pub KnownSays : Manner → JudgedClass → List Read → List ℕ → ℕ → Type 0
 KnownSays manner c known text status =
     ((i : ℕ) × (r : FileFault) × (first : IsFirstRefused known i r)
@@ -220,7 +221,8 @@ KnownSays manner c known text status =
     × (status ≡ refusal_status r))
     ⊎ ((cs : List Class) × AreFormed known cs × HierarchySays manner (map summary_of (c.file ∷ cs)) c text status)
 
--- by a profile
+-- the answer to `verify` and to `explain`, by a profile: why the file is no class that is well formed, or the answer
+-- about its class
 abbrev pub VerifySays : Manner → Profile → Read → List Read → List ℕ → ℕ → Type 0
 VerifySays manner profile read known text status =
     ((r : FileFault) × IsRefused read r × IsTold manner read r (λ form. class_refusal form r) (class_object r) text

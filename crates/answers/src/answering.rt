@@ -17,11 +17,11 @@ use std::alloc::Global;
 use std::hash::BuildHasher;
 use std::io::Write;
 
-/// Writes the answer to a command, of whose files each was read so, and gives the status that goes with it. Of no file
-/// nothing is said.
+/// Writes the answer to a command about these files, and returns its status. `reads` has for each file its bytes, or
+/// why it could not be read. Where there are no files, nothing is written.
 ///
 /// 1 where memory ran out, also while a file was read: then nothing was written. 19 where a write fails or takes
-/// nothing: then what went out is a beginning of the text.
+/// nothing: then a prefix of the text was written.
 pub fn answer<W: Write, S: BuildHasher + Drop>(
     alloc: Global,
     command: Command,

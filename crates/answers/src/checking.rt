@@ -31,7 +31,7 @@ impl Print for OkLine {
     }
 }
 
-/// Answers `check` of a file that was read so.
+/// Answers `check` of a file, by its bytes or by why it could not be read.
 pub fn check<W: Write>(
     alloc: Global,
     form: Form,

@@ -1,7 +1,7 @@
 //! The commands of the program.
 use classfile::Profile;
 
-/// The form that an answer is written in.
+/// The form in which an answer is written.
 #[derive(Clone, Copy, Debug, PartialEq, Eq)]
 pub enum Form {
     /// Words for people.
@@ -20,8 +20,8 @@ pub enum Command {
     /// `verify CLASS KNOWN...`: the verdicts on the methods of the class in the first file, which may refer to the
     /// classes in the others; with `--dynamic` by [`Profile::Dynamic`].
     Verify(Form, Profile),
-    /// `explain CLASS KNOWN...`: the methods that `verify` refuses, and of each what its number says and what stands
-    /// there; with `--dynamic` by [`Profile::Dynamic`].
+    /// `explain CLASS KNOWN...`: the methods that `verify` refuses, and for each the meaning of its number, the
+    /// instruction and the frames there; with `--dynamic` by [`Profile::Dynamic`].
     Explain(Form, Profile),
     /// `play CLASS...`: whether the classes in the files may run together, each method that has code verified; with
     /// `--dynamic` by [`Profile::Dynamic`].

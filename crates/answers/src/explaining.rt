@@ -36,7 +36,7 @@ fn is_of_table(reason: &Reason<'_>) -> bool
     }
 }
 
-/// The exception table of code, where a reason is about it.
+/// The lines of the exception table of code, where a reason is about it.
 #[derive(Clone, Copy)]
 struct Entries<'m, 'a> {
     reason: Reason<'a>,
@@ -189,8 +189,8 @@ impl<'m, 'r, 'a> Print for CodePart<'m, 'r, 'a> {
     }
 }
 
-/// A method and the verdict on it, which is explained where it refuses, with the frames at the instruction at which it
-/// does.
+/// The lines about a method that is refused: its verdict, the explanation, and the frames at the instruction at which
+/// it is refused. There are none for a method that is not refused.
 #[derive(Clone, Copy)]
 struct Explanation<'m, 'r, 'a> {
     pool: &'m Pool<'a>,
@@ -224,7 +224,8 @@ impl<'m, 'r, 'a> Print for Explanation<'m, 'r, 'a> {
     }
 }
 
-/// The exception table of code as the last field of an object, where a reason is about it, and the end of the object.
+/// The exception table of code as the last field of an object, where a reason is about it, and then the end of the
+/// object.
 #[derive(Clone, Copy)]
 struct EntryFields<'m, 'a> {
     reason: Reason<'a>,
@@ -249,7 +250,7 @@ impl<'m, 'a> Print for EntryFields<'m, 'a> {
     }
 }
 
-/// The fields of a frame, if there is one, and then what stands behind them.
+/// The fields of a frame, if there is one, and then the text behind them.
 #[derive(Clone, Copy)]
 struct FrameIf<'r, 'a, B>(Option<&'r Frame<'a>>, B);
 
@@ -271,7 +272,7 @@ impl<'r, 'a, B: Print + Copy> Print for FrameIf<'r, 'a, B> {
     }
 }
 
-/// The fields of a frame that is declared, if one is, and then what stands behind them.
+/// The fields of a declared frame, if there is one, and then the text behind them.
 #[derive(Clone, Copy)]
 struct DeclaredIf<'r, 'a, B>(Option<&'r Frame<'a>>, B);
 
@@ -293,7 +294,7 @@ impl<'r, 'a, B: Print + Copy> Print for DeclaredIf<'r, 'a, B> {
     }
 }
 
-/// The fields of a difference, if there is one, and then what stands behind them.
+/// The fields of a difference, if there is one, and then the text behind them.
 #[derive(Clone, Copy)]
 struct DifferenceIf<'a, B>(Option<Difference<'a>>, B);
 
@@ -308,7 +309,7 @@ impl<'a, B: Print + Copy> Print for DifferenceIf<'a, B> {
     }
 }
 
-/// The fields of the frames at the instruction at which a method is refused for a reason, and then what stands behind
+/// The fields of the frames at the instruction at which a method is refused for a reason, and then the text behind
 /// them.
 #[derive(Clone, Copy)]
 struct FrameFieldsFor<'r, 'a, B> {
@@ -379,8 +380,8 @@ impl<'m, 'r, 'a> Print for CodeFields<'m, 'r, 'a> {
     }
 }
 
-/// A method and the verdict on it as an object of JSON, where it refuses, with the frames at the instruction at which
-/// it does.
+/// The object of JSON about a method that is refused: its verdict, the explanation, and the frames at the instruction
+/// at which it is refused. There is none for a method that is not refused.
 #[derive(Clone, Copy)]
 struct ExplanationObject<'m, 'r, 'a> {
     pool: &'m Pool<'a>,
@@ -414,7 +415,7 @@ impl<'m, 'r, 'a> Print for ExplanationObject<'m, 'r, 'a> {
     }
 }
 
-/// A method and the verdict on it in a form, which is explained where it refuses.
+/// The explanation of a method that is refused, in a form.
 #[derive(Clone, Copy)]
 struct Explained<'m, 'r, 'a> {
     form: Form,
@@ -452,8 +453,8 @@ impl<'m, 'r, 'a> Print for Explained<'m, 'r, 'a> {
     }
 }
 
-/// The methods of a class, whose names are in this pool, the verdicts on them, of which each is explained that refuses,
-/// and their frames.
+/// The explanations of the methods of a class that are refused. The pool has the names of the methods; each method has
+/// a verdict, and frames at the instruction at which it is refused.
 #[derive(Clone, Copy)]
 pub struct Explanations<'m, 'r, 'a> {
     pub form: Form,

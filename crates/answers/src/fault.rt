@@ -5,13 +5,13 @@ use printing::WriteFailed;
 use std::alloc::{AllocError, AllocFailed};
 use thiserror::Error;
 
-/// Why an answer was not written whole.
+/// Why an answer was not written as a whole.
 #[derive(Clone, Copy, Debug, Error)]
 pub enum AnswerFault {
     /// 1: memory ran out, and nothing was written.
     #[error("refused 1")]
     OutOfMemory,
-    /// 19: a write failed or took nothing, and what went out is a beginning of the text.
+    /// 19: a write failed or took nothing, and a prefix of the text was written.
     #[error("refused 19")]
     WriteFailed,
 }

@@ -5,7 +5,7 @@ use classfile::{no_fault_in_class, no_fault_in_formed, one_class, one_fault, one
 use hierarchy::laws::{faults_break_rules, one_hierarchy_fault};
 use verify::{one_frames, one_report};
 
-/// To a command whose files were read so there is one text and one status.
+/// For each command, and each list of files as they were read, there is one text and one status.
 pub fn one_answer()
     ensures { OneAnswer }
 {

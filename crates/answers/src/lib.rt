@@ -1,9 +1,26 @@
-//! The answers on files, once these are read: a text and a status.
+//! The answers on files, once these are read: a text and a status. The call to know is [`answer`].
 //!
-//! `answer` (`answering`) answers each [`Command`], with a module for each: `checking`, `showing`, `verifying`,
-//! `playing`, `verifying_each`. What is said is decided by the verifier, of files as they were read (`reads`), and then
-//! written (`telling`, `refusal`, `verdicts`, `plays`, `judgements`). `verifying` answers `explain` too, in a `manner`
-//! of its own (`refusing`, `explaining`, `sentences`).
+//! The commands, by the verdicts of the verifier:
+//!
+//! - `command`: the commands, and the forms of an answer: words or objects of JSON.
+//! - `answering`: `answer`, which answers a command by one of the modules below.
+//! - `checking`, `showing`, `playing`, `verifying_each`: the answers to `check`, `show`, `play` and `verify-each`.
+//! - `verifying`: the answers to `verify` and `explain`; `manner`: which of the two, and the form.
+//! - `reads`: files as they were read, for the verifier; `fault`: why an answer was not written.
+//!
+//! The texts:
+//!
+//! - `telling`: writes a text, and returns its status.
+//! - `refusal`: the line of a file that is refused.
+//! - `verdicts`: the lines of `verify`; `judgements`: those of `verify-each`; `plays`: those of `play`.
+//! - `refusing`: the lines of `verify` and of `explain` where there are no verdicts on a class that is well formed.
+//! - `explaining`: the lines of `explain` about methods; `sentences`: the sentence on each number.
+//!
+//! `laws` says that a command has one answer.
+//!
+//! Definitions: `specs/Answers.antt` has the answer to each command; `Verdicts`, `Plays` and `Judgements` have those to
+//! `verify` and `explain`, to `play` and to `verify-each`; `Explanations`, `Sentences` and `Texts` have the texts of
+//! `explain`, the sentences, and the lines of files that are refused; `Files` has files as they were read.
 #![tactic(auto)]
 
 mod answering;

@@ -1,11 +1,11 @@
-//! The manner in which verdicts are told.
+//! The manner of an answer: that of `verify`, or that of `explain`.
 use crate::command::Form;
 
-/// The manner in which verdicts are told.
+/// The manner of an answer about the methods of a class.
 #[derive(Clone, Copy, Debug, PartialEq, Eq)]
 pub enum Manner {
     /// `verify`: a line for each verdict, in this form.
     Told(Form),
-    /// `explain`: each refusal, and behind it what it says, in this form.
+    /// `explain`: each refusal, and behind it the sentence on its number, in this form.
     Explained(Form),
 }

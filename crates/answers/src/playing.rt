@@ -45,7 +45,7 @@ fn refuse<W: Write>(fault: TogetherFault<'_>, out: &mut W) -> Result<u8, AnswerF
     }
 }
 
-/// Answers `play` of the files of classes, which were read so, by a profile.
+/// Answers `play` of these files, by a profile.
 pub fn play<S: BuildHasher + Drop, W: Write>(
     alloc: Global,
     profile: Profile,

@@ -17,7 +17,7 @@ use verify::FileFault;
 pub struct Refusal(pub FileFault);
 
 impl Refusal {
-    /// The status that the program ends with: 2 where the file could not be read, as far as that shows.
+    /// The status with which the program ends: 2 where a read of the file failed (15), and otherwise 1.
     pub fn status(&self) -> u8
         ensures { result ≡ refusal_status self.now.0 }
     {
@@ -45,7 +45,7 @@ impl Print for Refusal {
     }
 }
 
-/// Why a file is no class that is well formed, as fields of an object, and then what stands behind them.
+/// Why a file is no class that is well formed, as fields of an object, and then the text behind them.
 #[derive(Clone, Copy)]
 pub struct RefusalFields<B>(pub FileFault, pub B);
 

@@ -11,7 +11,7 @@ use hierarchy::HierarchyFault;
 use printing::{More, Number, Object, Print, Quoted, Then, WriteFailed};
 use std::io::Write;
 
-/// The classes are no hierarchy.
+/// The refusal of a class and its known classes that are no hierarchy.
 #[derive(Clone, Copy)]
 pub struct HierarchyTold<'a> {
     pub manner: Manner,
@@ -36,7 +36,7 @@ impl<'a> Print for HierarchyTold<'a> {
     }
 }
 
-/// The superclass of the class is final.
+/// The refusal of a class whose superclass is final.
 #[derive(Clone, Copy)]
 pub struct FinalSuperTold(pub Manner);
 

@@ -1,4 +1,4 @@
-//! The name of each number of a refusal and, in one sentence, what holds.
+//! The name of each number of a refusal, and one sentence that says what is wrong.
 ghost use Rattle.std.specs.Prelude.{◌≡◌};
 ghost use Rattle.layout.specs.Refusals.{read_fault_number};
 ghost use Rattle.classfile.specs.Conditions.{rule_number};
@@ -166,7 +166,7 @@ fn fault_sentence(number: u8) -> &'static str
     }
 }
 
-/// The line of a number and of what it says.
+/// The line of a number and its sentence.
 #[derive(Clone, Copy)]
 struct NumberedLine {
     number: u8,
@@ -334,8 +334,7 @@ impl Print for FinalSuperSentenceField {
     }
 }
 
-/// The sentence on the fault of a stack map or of code as a field, where a reason has one, and then what stands behind
-/// it.
+/// The sentence on the fault of a stack map or of code as a field, where a reason has one, and then the text behind it.
 #[derive(Clone, Copy)]
 struct FaultSentenceFields<'a, B>(Reason<'a>, B);
 
@@ -355,7 +354,7 @@ impl<'a, B: Print + Copy> Print for FaultSentenceFields<'a, B> {
     }
 }
 
-/// The sentences that say why a method is refused, as fields, and then what stands behind them.
+/// The sentences that say why a method is refused, as fields, and then the text behind them.
 #[derive(Clone, Copy)]
 pub struct ReasonSentenceFields<'a, B>(pub Reason<'a>, pub B);
 

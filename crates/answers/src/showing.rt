@@ -13,7 +13,7 @@ use std::alloc::Global;
 use std::io::Write;
 use verify::class_file;
 
-/// Answers `show` of a file that was read so.
+/// Answers `show` of a file, by its bytes or by why it could not be read.
 pub fn show<W: Write>(
     alloc: Global,
     read: &Result<Vec<u8>, StreamFault>,

@@ -1,4 +1,4 @@
-//! Writes what was decided.
+//! Writes a text, and returns the status that goes with it.
 ghost use Rattle.std.specs.Prelude.{◌≡◌, ◌≢◌};
 ghost use Rattle.verify.specs.declared.files.FileFault.TheVariants.{OutOfMemory};
 ghost use Rattle.answers.specs.Answers.{Answered};
@@ -12,7 +12,7 @@ use printing::Print;
 use std::io::Write;
 use verify::FileFault;
 
-/// Writes a text, with which this status goes.
+/// Writes a text, and returns the status that goes with it.
 pub fn tell<T: Print, W: Write>(text: &T, status: u8, out: &mut W) -> Result<u8, AnswerFault>
     ensures { Answered (λ t s. (t ≡ T.text text.now) × (s ≡ status)) (W.contents out.old) (W.contents out.new) result }
 {
@@ -22,7 +22,7 @@ pub fn tell<T: Print, W: Write>(text: &T, status: u8, out: &mut W) -> Result<u8,
     }
 }
 
-/// Writes why a file is refused.
+/// Writes the line of a file that is refused, and returns its status.
 pub fn refuse<W: Write>(form: Form, fault: FileFault, out: &mut W) -> Result<u8, AnswerFault>
     ensures { Answered (λ t s. (fault ≢ OutOfMemory) × (t ≡ refusal_line form fault) × (s ≡ refusal_status fault))
         (W.contents out.old) (W.contents out.new) result }

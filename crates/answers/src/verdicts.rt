@@ -16,7 +16,7 @@ use rules::Reason;
 use std::io::Write;
 use verify::{FileFault, MethodVerdict, Verdict};
 
-/// The class that is to be verified is refused, as an object of JSON, and then what stands behind its fields.
+/// The refusal of the file that is to be verified, as an object of JSON, and then the text behind its fields.
 #[derive(Clone, Copy)]
 pub struct ClassObject<B>(pub FileFault, pub B);
 
@@ -29,7 +29,7 @@ impl<B: Print + Copy> Print for ClassObject<B> {
     }
 }
 
-/// The class that is to be verified is refused.
+/// The refusal of the file that is to be verified.
 #[derive(Clone, Copy)]
 pub struct ClassRefusal {
     pub form: Form,
@@ -47,7 +47,7 @@ impl Print for ClassRefusal {
     }
 }
 
-/// The known class of this number is refused, as an object of JSON, and then what stands behind its fields.
+/// The refusal of the known class of this number, as an object of JSON, and then the text behind its fields.
 #[derive(Clone, Copy)]
 pub struct KnownObject<B> {
     /// It counts from 1.
@@ -67,7 +67,7 @@ impl<B: Print + Copy> Print for KnownObject<B> {
     }
 }
 
-/// The known class of this number is refused.
+/// The refusal of the known class of this number.
 #[derive(Clone, Copy)]
 pub struct KnownRefusal {
     pub form: Form,
@@ -96,7 +96,7 @@ impl Print for KnownRefusal {
     }
 }
 
-/// The name of the class that has a fault, where it has one.
+/// The name of the class that has a fault, where the fault has one.
 #[derive(Clone, Copy)]
 struct FaultName<'a>(HierarchyFault<'a>);
 
@@ -117,7 +117,7 @@ impl<'a> Print for FaultName<'a> {
     }
 }
 
-/// Writes the name of a class as a field, and then what stands behind it.
+/// Writes the name of a class as a field, and then the text behind it.
 fn put_named<W: Write, B: Print + Copy>(
     out: &mut W,
     name: &[u8],
@@ -129,7 +129,7 @@ fn put_named<W: Write, B: Print + Copy>(
     More("name", QuotedSpelled(name), behind).put(out)
 }
 
-/// The name of the class that has a fault, as a field where it has one, and then what stands behind it.
+/// The name of the class that has a fault, as a field where the fault has one, and then the text behind it.
 #[derive(Clone, Copy)]
 struct NameFields<'a, B>(HierarchyFault<'a>, B);
 
@@ -150,7 +150,7 @@ impl<'a, B: Print + Copy> Print for NameFields<'a, B> {
     }
 }
 
-/// The classes are no hierarchy, as an object of JSON, and then what stands behind its fields.
+/// The refusal of classes that are no hierarchy, as an object of JSON, and then the text behind its fields.
 #[derive(Clone, Copy)]
 pub struct HierarchyObject<'a, B>(pub HierarchyFault<'a>, pub B);
 
@@ -165,7 +165,7 @@ impl<'a, B: Print + Copy> Print for HierarchyObject<'a, B> {
     }
 }
 
-/// The classes are no hierarchy.
+/// The refusal of classes that are no hierarchy.
 #[derive(Clone, Copy)]
 pub struct HierarchyRefusal<'a> {
     pub form: Form,
@@ -187,7 +187,7 @@ impl<'a> Print for HierarchyRefusal<'a> {
     }
 }
 
-/// The superclass of the class is final.
+/// The refusal of a class whose superclass is final.
 #[derive(Clone, Copy)]
 pub struct FinalSuper(pub Form);
 
@@ -224,7 +224,7 @@ impl<'a> Print for ReasonEnding<'a> {
     }
 }
 
-/// The end of a refusal, as a field where it has one, and then what stands behind it.
+/// The end of a refusal, as a field where it has one, and then the text behind it.
 #[derive(Clone, Copy)]
 struct ReasonFields<'a, B>(Reason<'a>, B);
 
@@ -266,7 +266,7 @@ impl<'a> Print for VerdictText<'a> {
     }
 }
 
-/// The verdict on a method, as fields behind its name, and then what stands behind them.
+/// The verdict on a method, as fields behind its name, and then the text behind them.
 #[derive(Clone, Copy)]
 struct VerdictFields<'a, B>(Verdict<'a>, B);
 
@@ -286,7 +286,7 @@ impl<'a, B: Print + Copy> Print for VerdictFields<'a, B> {
     }
 }
 
-/// The object of a method and the verdict on it, and then what stands behind its fields.
+/// The object of JSON about a method and the verdict on it, and then the text behind its fields.
 #[derive(Clone, Copy)]
 pub struct VerdictObject<'a, B> {
     pub method: MethodVerdict<'a>,

@@ -32,7 +32,7 @@ use verify::{
     AmongFault, Explained, FileFault, class_file, explain_among_under, verify_among_under,
 };
 
-/// The class that a file is, which was read so; 1 where memory runs out. The file is a class.
+/// The class file in a file; 1 where memory runs out. The file is known to be a class file.
 fn file_class<'a>(
     alloc: Global,
     read: &'a Result<Vec<u8>, StreamFault>,
@@ -49,7 +49,7 @@ fn file_class<'a>(
     }
 }
 
-/// Writes the line of a file that is refused, which was read so, and explains it.
+/// Writes the line of a file that is refused, and explains the refusal.
 fn explain_file<T: Print + Copy, W: Write>(
     alloc: Global,
     line: T,
@@ -77,7 +77,7 @@ fn explain_file<T: Print + Copy, W: Write>(
     }
 }
 
-/// Writes why the class that is to be verified is refused, whose file was read so.
+/// Writes why the class that is to be verified is refused.
 fn refuse_class<W: Write>(
     alloc: Global,
     manner: Manner,
@@ -101,7 +101,7 @@ fn refuse_class<W: Write>(
     }
 }
 
-/// Writes why the known class of this number is refused, whose file was read so.
+/// Writes why the known class of this number is refused.
 fn refuse_known<W: Write>(
     alloc: Global,
     manner: Manner,
@@ -144,8 +144,7 @@ fn refuse_known<W: Write>(
     }
 }
 
-/// Writes why there are no verdicts, of the class in the first file and of those in the known files, which were read
-/// so.
+/// Writes why there are no verdicts on the class in the first file, or which known file is refused.
 fn refuse<W: Write>(
     alloc: Global,
     manner: Manner,
@@ -172,7 +171,7 @@ fn refuse<W: Write>(
     }
 }
 
-/// Writes the explanations of the methods of a class, whose file was read so.
+/// Writes the explanations of the methods of a class, by its file.
 fn explain<'a, W: Write>(
     alloc: Global,
     form: Form,
@@ -197,13 +196,12 @@ fn explain<'a, W: Write>(
             };
             tell(&explanations, ReportText { form, methods }.status(), out)
         }
-        // The file is a class that is well formed, so nothing but memory is wanting.
+        // The file is a well-formed class, so only memory can have run out.
         Err(_) => Err(AnswerFault::OutOfMemory),
     }
 }
 
-/// Answers `verify` in a form of the file of a class and of the files of the classes that it may refer to, which were
-/// read so, by a profile.
+/// Answers `verify` in a form, by a profile: about the class in a file, among the known classes in the others.
 fn tell_verdicts<'a, S: BuildHasher + Drop, W: Write>(
     alloc: Global,
     form: Form,
@@ -253,8 +251,7 @@ fn explain_verdicts<'a, S: BuildHasher + Drop, W: Write>(
     }
 }
 
-/// Answers `verify`, or `explain`, of the file of a class and of the files of the classes that it may refer to, which
-/// were read so, by a profile.
+/// Answers `verify` or `explain`, by a profile: about the class in a file, among the known classes in the others.
 pub fn verify<'a, S: BuildHasher + Drop, W: Write>(
     alloc: Global,
     manner: Manner,

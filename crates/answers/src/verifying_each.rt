@@ -17,8 +17,7 @@ use std::hash::BuildHasher;
 use std::io::Write;
 use verify::{EachFault, verify_each as judge_each};
 
-/// Answers `verify-each` of the files of classes and of those that they may refer to besides one another, which were
-/// read so, by a profile.
+/// Answers `verify-each`, by a profile: about the classes in these files, among one another and the known classes.
 fn verify_among<'a, S: BuildHasher + Drop, W: Write>(
     alloc: Global,
     profile: Profile,
@@ -51,8 +50,8 @@ fn verify_among<'a, S: BuildHasher + Drop, W: Write>(
     }
 }
 
-/// Answers `verify-each` of files, which were read so, by a profile: of the first so many, the others being those of
-/// known classes.
+/// Answers `verify-each`, by a profile: about the classes in the first so many files. The others are files of known
+/// classes.
 pub fn verify_each<S: BuildHasher + Drop, W: Write>(
     alloc: Global,
     profile: Profile,

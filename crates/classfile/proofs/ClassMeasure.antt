@@ -15,7 +15,7 @@ use Rattle.classfile.specs.Layouts.{layout_at}
 use Rattle.classfile.specs.Numbers.{is_laid_out}
 use Rattle.classfile.specs.Values.{of_parts, of_numbers, raw, Handler, Nested, CodeBody, Attribute, Member, Component, ClassAttribute, Class}
 use Rattle.classfile.specs.ClassFile.{is_version}
-use Rattle.classfile.specs.Pieces.{has_none, handler_pieces, nested_pieces, code_pieces, attribute_pieces, member_pieces, component_pieces, class_attribute_pieces, class_pieces}
+use Rattle.classfile.specs.private.Pieces.{has_none, handler_pieces, nested_pieces, code_pieces, attribute_pieces, member_pieces, component_pieces, class_attribute_pieces, class_pieces}
 use Rattle.classfile.specs.Sizes.{is_u2, total, entry_fits, entry_size, pool_fits, pool_size, handler_fits, nested_fits, nested_size, code_fits, code_size, attribute_fits, attribute_size, member_fits, member_size, component_fits, component_size, class_attribute_fits, class_attribute_size, class_fits, class_size}
 use Rattle.classfile.proofs.Measures.{Measured, measured_append, measured_none, measured_plain, measured_unspelled, measured_marked, measured_1, measured_2, measured_4, measured_lengthened, measured_table}
 

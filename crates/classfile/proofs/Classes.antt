@@ -12,7 +12,7 @@ use Rattle.layout.specs.PieceLaws.{no_other}
 use Rattle.classfile.specs.Values.{Class}
 use Rattle.classfile.specs.ClassFile.{class, IsClass, ClassFault}
 use Rattle.classfile.specs.Laws.{OneClass, OneSpelling, ClassOrFault, NoFaultInClass, OneFault}
-use Rattle.classfile.specs.Pieces.{writes_class}
+use Rattle.classfile.specs.private.Pieces.{writes_class}
 
 pub same_class : OneClass
 same_class bytes c d s t = (one_reading class bytes bytes [] c d s.spelled t.spelled (sym (append-nil bytes))).1

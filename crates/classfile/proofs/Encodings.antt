@@ -10,7 +10,7 @@ use Rattle.layout.specs.PieceLaws.{spells_if, spells_none, reads_back}
 use Rattle.classfile.specs.Values.{Class}
 use Rattle.classfile.specs.ClassFile.{IsClass}
 use Rattle.classfile.specs.Encoding.{Encodes, IsTooLarge, IsUnspelled}
-use Rattle.classfile.specs.Pieces.{class_pieces, writes_class}
+use Rattle.classfile.specs.private.Pieces.{class_pieces, writes_class}
 use Rattle.classfile.proofs.Measures.{large_if, large_then}
 use Rattle.classfile.proofs.ClassMeasure.{class_measure}
 

@@ -6,7 +6,7 @@ use Rattle.std.proofs.lemmas.Bool.Decides.{nat_tests}
 use Rattle.std.proofs.lemmas.List.Sums.{sum_by-cons}
 use Rattle.classfile.specs.declared.location.Location.{Location}
 use Rattle.classfile.specs.Layouts.{AttributeLayout, layouts_in}
-use Rattle.classfile.specs.IndexColumns.{has_numbers, two_have_numbers}
+use Rattle.classfile.specs.private.IndexColumns.{has_numbers, two_have_numbers}
 use Rattle.classfile.specs.Numbers.{is_same_layout}
 use Rattle.classfile.specs.NumberForm.{has_this_layout, layout_stands_twice, numbers_stand_twice}
 use Rattle.classfile.specs.Values.{AttributeOf, of_parts, of_numbers, raw}

@@ -7,7 +7,7 @@ use Rattle.names.specs.Reading.{ends_class_name, read_base, read_field, read_met
 use Rattle.classfile.specs.Naming.{begins_with, is_array_name, is_class_name, is_field_descriptor, is_method_descriptor, is_void_descriptor}
 use Rattle.classfile.specs.declared.text_forms.DescriptorForm.{DescriptorForm}
 use Rattle.classfile.specs.ConstantForm.{names_class}
-use Rattle.classfile.specs.TextForms.{descriptor_form_of, AreMethodForms}
+use Rattle.classfile.specs.private.TextForms.{descriptor_form_of, AreMethodForms}
 
 -- ---- a '(' begins no field's descriptor, and every method's
 

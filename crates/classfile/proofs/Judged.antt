@@ -8,7 +8,7 @@ use Rattle.pool.specs.declared.fault.PoolFault.{PoolFault}
 use Rattle.pool.specs.Entries.{Entry}
 use Rattle.pool.specs.Lookups.{text_at}
 use Rattle.pool.proofs.LookupLaws.{text_stands}
-use Rattle.classfile.specs.TextForms.{AreKept}
+use Rattle.classfile.specs.private.TextForms.{AreKept}
 
 -- the place of a text's entry
 pub record Place {F : Type 0} (pool : List Entry) (forms : List (Option F)) (index : ℕ) (text : List ℕ) : Type 0 where

@@ -8,7 +8,7 @@ use Rattle.pool.specs.declared.fault.PoolFault.{PoolFault}
 use Rattle.pool.specs.Entries.{Entry}
 use Rattle.pool.specs.Lookups.{Named, named, text_at, and_then}
 use Rattle.classfile.specs.Indices.{on_found, on_text}
-use Rattle.classfile.specs.Earlier.{byte_at, mark, AreMarked, MeetsMarked}
+use Rattle.classfile.specs.private.DuplicateFinder.{byte_at, mark, AreMarked, MeetsMarked}
 use Rattle.classfile.specs.MemberForm.{are_same, on_member, is_among}
 use Rattle.classfile.specs.Values.{Member}
 use Rattle.classfile.proofs.SeenLaws.{alike, repeated_one, repeated_none, among_one, among_none}

@@ -6,7 +6,7 @@ use Rattle.std.proofs.lemmas.List.{drop-drop, drop_all}
 use Rattle.std.proofs.lemmas.Option.{slice_get_past}
 use Rattle.classfile.specs.declared.layouts.Column.{Column}
 use Rattle.classfile.specs.Numbers.{Numbers, row_in, behind_row, rows_in, counted_rows, rows_of, number_at}
-use Rattle.classfile.specs.IndexColumns.{first_number, behind_count}
+use Rattle.classfile.specs.private.IndexColumns.{first_number, behind_count}
 
 double : (n : ℕ) → 2 * suc n ≡ suc (suc (2 * n))
 double n = omega arith

@@ -9,7 +9,7 @@ use Rattle.names.specs.declared.fault.NameFault.TheVariants.{TooManyDimensions, 
 use Rattle.names.specs.Descriptors.{FieldDescriptor, MethodDescriptor, field_types, method_width}
 use Rattle.names.specs.Reading.{whole, read_method, is_deep, limited_method, method_answer}
 use Rattle.classfile.specs.Naming.{has_no_result}
-use Rattle.classfile.specs.TextForms.{AreMethodForms}
+use Rattle.classfile.specs.private.TextForms.{AreMethodForms}
 
 abbrev Answer : Type 0
 Answer = Result MethodDescriptor NameFault

@@ -8,8 +8,8 @@ use Rattle.classfile.specs.declared.layouts.Column.TheVariants.{Plain}
 use Rattle.classfile.specs.declared.number_form.IndexRule.{IndexRule}
 use Rattle.classfile.specs.declared.number_form.IndexRule.TheVariants.{BadIndex, WrongKind, Both}
 use Rattle.classfile.specs.Numbers.{Numbers, row_in, behind_row, rows_in, counted_rows, rows_of}
-use Rattle.classfile.specs.IndexColumns.{is_plain, are_plain, variable, are_variable}
-use Rattle.classfile.specs.NumbersLaws.{columns_decide}
+use Rattle.classfile.specs.private.IndexColumns.{is_plain, are_plain, variable, are_variable}
+use Rattle.classfile.specs.private.NumbersLaws.{columns_decide}
 use Rattle.classfile.specs.NumberForm.{breaks, row_breaks, numbers_break}
 use Rattle.classfile.proofs.Tables.{four}
 

@@ -29,10 +29,12 @@ has_two attributes = nat_lt 1 (count_by is_of_parts attributes)
 
 -- the index of its name breaks the rule, or one among its numbers does
 unfoldable pub head_has_bad : {A : Type 0} → List Entry → AttributeOf A → Bool
-head_has_bad pool attribute = is_bad pool (name_of attribute) || on_numbers (numbers_break pool rules.BadIndex) attribute
+head_has_bad pool attribute =
+    is_bad pool (name_of attribute) || on_numbers (numbers_break pool rules.BadIndex) attribute
 
 unfoldable pub head_has_other : {A : Type 0} → List Entry → AttributeOf A → Bool
-head_has_other pool attribute = is_other pool kinds.Utf8 (name_of attribute) || on_numbers (numbers_break pool rules.WrongKind) attribute
+head_has_other pool attribute =
+    is_other pool kinds.Utf8 (name_of attribute) || on_numbers (numbers_break pool rules.WrongKind) attribute
 
 -- ---- a Code attribute
 
@@ -89,4 +91,5 @@ stack_map_stands_twice attributes = list_any (on_body has_two_stack_maps) attrib
 
 -- and at most one of each other kind of which there may be one
 unfoldable pub have_twice : List Attribute → Bool
-have_twice attributes = code_stands_twice attributes || stack_map_stands_twice attributes || numbers_stand_twice location.Method attributes
+have_twice attributes = code_stands_twice attributes || stack_map_stands_twice attributes
+    || numbers_stand_twice location.Method attributes

@@ -26,7 +26,8 @@ unfoldable pub arguments : Format (List ℕ)
 arguments = table (number 2)
 
 unfoldable pub bootstrap_method : Format BootstrapMethod
-bootstrap_method = andthen (number 2) (λ handle. andthen arguments (λ arguments. done (record { handle = handle; arguments = arguments })))
+bootstrap_method = andthen (number 2)
+    (λ handle. andthen arguments (λ arguments. done (record { handle = handle; arguments = arguments })))
 
 unfoldable pub bootstrap_methods : Format (List BootstrapMethod)
 bootstrap_methods = table bootstrap_method

@@ -1,4 +1,5 @@
--- Facts that the attributes of a class tell: the components of a record (JVMS 4.7.30), and the classes that may extend it directly (4.7.31).
+-- Facts that the attributes of a class tell: the components of a record (JVMS 4.7.30), and the classes that may extend
+-- it directly (4.7.31).
 use Rattle.std.specs.Prelude.{ℕ, if◌then◌else◌, List, [], Option, Some, None, codes}
 use Rattle.std.specs.Option.{option_map_or}
 use Rattle.std.specs.Str.{bytes_eq}

@@ -19,15 +19,17 @@ table item = andthen (number 2) (λ n. times n item)
 
 -- an item of an exception table
 unfoldable pub handler : Format Handler
-handler = andthen (number 2) (λ start. andthen (number 2) (λ end. andthen (number 2) (λ handler. andthen (number 2) (λ catch.
+handler = andthen (number 2) (λ start. andthen (number 2)
+    (λ end. andthen (number 2) (λ handler. andthen (number 2) (λ catch.
     done (record { start_pc = start; end_pc = end; handler_pc = handler; catch_type = catch })))))
 
--- A body of n bytes was taken. Where attributes of its name have a layout here, it is numbers, if it is laid out so, and otherwise does not
--- use exactly its length. Where they have none, it is kept as it is.
+-- A body of n bytes was taken. Where attributes of its name have a layout here, it is numbers, if it is laid out so,
+-- and otherwise does not use exactly its length. Where they have none, it is kept as it is.
 abbrev pub kept : {A : Type 0} → Option AttributeLayout → (name n : ℕ) → List ℕ → Format (AttributeOf A)
 kept None name n body = done (raw name body)
 kept (Some layout) name n body =
-    if has_layout layout body then done (of_numbers name (record { layout = layout; body = body })) else refuse (λ at. AttributeLength (at - n - 6))
+    if has_layout layout body then done (of_numbers name (record { layout = layout; body = body }))
+    else refuse (λ at. AttributeLength (at - n - 6))
 
 -- an attribute of a Code attribute: its name's index, the length of its body, and the body, as it is or as numbers
 unfoldable pub nested : List Entry → Format Nested
@@ -54,9 +56,17 @@ nested_attributes pool = table (nested pool)
 -- the body of a Code attribute
 unfoldable pub code : List Entry → Format CodeBody
 code pool = andthen sizes (λ s. andthen handlers (λ handlers. andthen (nested_attributes pool) (λ attributes.
-    done (record { max_stack = s.max_stack; max_locals = s.max_locals; code = s.code; exception_table = handlers; attributes = attributes }))))
+    done (record {
+      max_stack = s.max_stack;
+      max_locals = s.max_locals;
+      code = s.code;
+      exception_table =
+          handlers;
+      attributes = attributes;
+    }))))
 
--- an attribute: its name's index, the length of its body, and the body, whose parts are read where it is a Code attribute
+-- an attribute: its name's index, the length of its body, and the body, whose parts are read where it is a Code
+-- attribute
 unfoldable pub attribute : List Entry → Location → Format Attribute
 attribute pool place = andthen (number 2) (λ name. andthen (number 4) (λ n. part n (λ body.
     if is_code pool place name then inside n body (code pool) (λ c. done (of_parts name c))
@@ -88,7 +98,8 @@ component pool = andthen two (λ head. andthen (attributes pool location.RecordC
 unfoldable pub components : List Entry → Format (List Component)
 components pool = table (component pool)
 
--- an attribute of a class: its name's index, the length of its body, and the body, whose parts are read where it is a Record attribute
+-- an attribute of a class: its name's index, the length of its body, and the body, whose parts are read where it is a
+-- Record attribute
 unfoldable pub class_attribute : List Entry → Location → Format ClassAttribute
 class_attribute pool place = andthen (number 2) (λ name. andthen (number 4) (λ n. part n (λ body.
     if is_record pool place name then inside n body (components pool) (λ c. done (of_parts name c))
@@ -104,7 +115,8 @@ is_version minor major = nat_le 51 major && nat_le major 61 && (nat_le major 55 
 -- the magic number and the version, the minor one first
 unfoldable pub version : Format (ℕ × ℕ)
 version = andthen (number 4) (λ magic. if nat_eq magic 0xCAFEBABE
-    then andthen (number 2) (λ minor. andthen (number 2) (λ major. if is_version minor major then done (minor, major) else refuse (λ at. BadVersion major minor)))
+    then andthen (number 2) (λ minor. andthen (number 2)
+    (λ major. if is_version minor major then done (minor, major) else refuse (λ at. BadVersion major minor)))
     else refuse (λ at. BadMagic))
 
 unfoldable pub interfaces : Format (List ℕ)
@@ -112,7 +124,9 @@ interfaces = table (number 2)
 
 unfoldable pub class : Format Class
 class = andthen version (λ version. andthen pool (λ pool. andthen three (λ head. andthen interfaces (λ interfaces.
-    andthen (members pool location.Field) (λ fields. andthen (members pool location.Method) (λ methods. andthen (class_attributes pool (location.Class version.1)) (λ attributes.
+    andthen (members pool location.Field)
+    (λ fields. andthen (members pool location.Method)
+    (λ methods. andthen (class_attributes pool (location.Class version.1)) (λ attributes.
     done (record {
       minor_version = version.0;
       major_version = version.1;

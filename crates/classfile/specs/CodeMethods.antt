@@ -32,7 +32,8 @@ class_of m = record { file = class_view m.class.now; dynamic = m.dynamic }
 -- the method, whose code says this
 abbrev pub code_method_view : {A : Type 0} → CodeMethod → List (ℕ × A) → Method A
 code_method_view m code =
-    method_by_parts (class_of m) m.number (code_view m.code.now) m.is_static m.is_init (option_map type_of m.result_type) code
+    method_by_parts (class_of m) m.number (code_view m.code.now) m.is_static m.is_init
+    (option_map type_of m.result_type) code
 
 -- the types that its descriptor names (4.3.3)
 abbrev pub types_of : CodeMethod → MethodDescriptor

@@ -1,4 +1,5 @@
--- The faults that a place of a class file may have, as a list of conditions with their numbers, and which of them is told.
+-- The faults that a place of a class file may have, as a list of conditions with their numbers, and which of them is
+-- told.
 use Rattle.std.specs.Prelude.{◌≡◌, ℕ, ◌≤◌, ◌⊎◌, Bool, true, ◌&&◌, nat_lt, if◌then◌else◌, List, [], ◌∷◌, Option, Some, None}
 use Rattle.classfile.specs.declared.form_fault.FormRule.{FormRule}
 use Rattle.classfile.specs.declared.form_fault.FormRule.TheVariants.{BadIndex, WrongKind, BadName, BadDescriptor, BadFlags, Twice, CodeMissing, CodeNotAllowed, BadSuper, BadCodeLength, AttributeTwice}

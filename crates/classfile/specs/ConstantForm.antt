@@ -1,5 +1,5 @@
--- The faults that an entry of the constant pool may have (JVMS 4.4.1 to 4.4.10), by its kind. A condition that needs an entry
--- which is itself refused for its indices does not hold.
+-- The faults that an entry of the constant pool may have (JVMS 4.4.1 to 4.4.10), by its kind. A condition that needs an
+-- entry which is itself refused for its indices does not hold.
 use Rattle.std.specs.Prelude.{ℕ, Bool, false, not, ◌&&◌, ◌||◌, List, [], ◌∷◌, nat_lt}
 use Rattle.names.specs.Names.{less_than}
 use Rattle.pool.specs.Entries.{Entry, Utf8, Integer, Float, Long, Double, Class, String, Fieldref, Methodref, InterfaceMethodref, NameAndType, MethodHandle, MethodType, Dynamic, InvokeDynamic, Unusable}
@@ -62,7 +62,8 @@ is_no_method_name pool index = on_name_and_type pool index (λ x. not (is_method
 
 abbrev pub class_conditions : List Entry → ℕ → List Condition
 class_conditions pool name =
-    (BadIndex, is_bad pool name) ∷ (WrongKind, is_other pool kinds.Utf8 name) ∷ (BadName, is_no_class_name pool name) ∷ []
+    (BadIndex, is_bad pool name) ∷ (WrongKind, is_other pool kinds.Utf8 name) ∷ (BadName, is_no_class_name pool name)
+    ∷ []
 
 -- 4.4.3
 abbrev pub string_conditions : List Entry → ℕ → List Condition
@@ -118,7 +119,8 @@ name_and_type_conditions pool name descriptor =
 
 -- a field or a method of any kind (4.4.8)
 abbrev pub method_handle_conditions : List Entry → ℕ → List Condition
-method_handle_conditions pool reference = (BadIndex, is_bad pool reference) ∷ (WrongKind, is_other pool kinds.Reference reference) ∷ []
+method_handle_conditions pool reference =
+    (BadIndex, is_bad pool reference) ∷ (WrongKind, is_other pool kinds.Reference reference) ∷ []
 
 -- 4.4.9
 abbrev pub method_type_conditions : List Entry → ℕ → List Condition
@@ -139,7 +141,8 @@ dynamic_conditions major pool named =
 -- a method's name and type (4.4.10)
 abbrev pub invoke_dynamic_conditions : List Entry → ℕ → List Condition
 invoke_dynamic_conditions pool named =
-    (BadIndex, is_bad pool named) ∷ (WrongKind, is_other pool kinds.NameAndType named) ∷ (BadDescriptor, is_no_method pool named) ∷ []
+    (BadIndex, is_bad pool named) ∷ (WrongKind, is_other pool kinds.NameAndType named)
+    ∷ (BadDescriptor, is_no_method pool named) ∷ []
 
 -- texts were judged when they were read, and numbers are as they are
 unfoldable pub constant_conditions : ℕ → List Entry → Entry → List Condition

@@ -1,4 +1,4 @@
--- Of the fields that a class declares itself: whether the one that a constant names is among them (JVMS 4.4.2, 4.5).
+-- Whether the field that a constant names is among those that the class declares itself (JVMS 4.4.2, 4.5).
 use Rattle.std.specs.Prelude.{ℕ, nat_eq, Bool, false, List, Option, Some, None, map}
 use Rattle.std.specs.Option.{option_and_then}
 use Rattle.pool.specs.Entries.{Entry, Fieldref, NameAndType}
@@ -15,7 +15,8 @@ fields_of c = declared_fields c.constant_pool (map member_view c.fields.items)
 
 -- the class declares the field of the name and the descriptor at these indices
 abbrev pub has_named : ClassFile → ℕ → ℕ → Bool
-has_named c name descriptor = on_found (λ x. is_declared (fields_of c) x.name x.descriptor) (named c.constant_pool name descriptor)
+has_named c name descriptor =
+    on_found (λ x. is_declared (fields_of c) x.name x.descriptor) (named c.constant_pool name descriptor)
 
 -- a Fieldref stands at this index, it leads to texts, and the class declares a field of its name and its descriptor
 abbrev pub declares : ClassFile → ℕ → Bool
@@ -43,4 +44,5 @@ both_indices _ = None
 -- of its name and of its descriptor
 abbrev pub text_indices : List Entry → ℕ → Option (ℕ × ℕ)
 text_indices pool field =
-    option_and_then (λ i. option_and_then both_indices (constant_at pool i)) (option_and_then type_index (constant_at pool field))
+    option_and_then (λ i. option_and_then both_indices (constant_at pool i))
+    (option_and_then type_index (constant_at pool field))

@@ -62,8 +62,8 @@ has flags flag = not (nat_eq (bit_and flags flag) 0)
 abbrev pub row : (set clear excluded needed : ℕ) → FlagRow
 row set clear excluded needed = record { set = set; clear = clear; excluded = excluded; needed = needed }
 
--- no class is a module; an interface is abstract, and not final, special in its calls or an enum; another class is no annotation,
--- and not both final and abstract
+-- no class is a module; an interface is abstract, and not final, special in its calls or an enum; another class is no
+-- annotation, and not both final and abstract
 abbrev pub class_flags : List FlagRow
 class_flags =
     row 0 0 MODULE 0
@@ -79,8 +79,8 @@ one_access others = row PUBLIC 0 (PRIVATE + PROTECTED) 0 ∷ row PRIVATE 0 PROTE
 abbrev pub field_flags : List FlagRow
 field_flags = one_access (row FINAL 0 VOLATILE 0 ∷ [])
 
--- what is abstract has no body; an instance initialization method is none of these at all, and of a class initialization method only
--- its being static counts
+-- what is abstract has no body; an instance initialization method is none of these at all, and of a class
+-- initialization method only its being static counts
 abbrev pub method_flags : (init clinit : Bool) → List FlagRow
 method_flags init clinit =
     if clinit then row 0 0 0 STATIC ∷ []
@@ -98,7 +98,8 @@ has_some flags those = not (nat_eq (bit_and flags those) 0)
 
 -- the row applies, and something is set that it excludes or missing that it needs
 abbrev pub breaks : ℕ → FlagRow → Bool
-breaks flags r = (has_all flags r.set && not (has_some flags r.clear)) && (has_some flags r.excluded || not (has_all flags r.needed))
+breaks flags r = (has_all flags r.set && not (has_some flags r.clear))
+    && (has_some flags r.excluded || not (has_all flags r.needed))
 
 unfoldable pub are_bad_class_flags : ℕ → Bool
 are_bad_class_flags flags = list_any (breaks flags) class_flags

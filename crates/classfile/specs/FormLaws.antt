@@ -1,5 +1,6 @@
--- Laws that follow of the definition of well-formed classes alone: which rule is told of a place, that a class is
--- well formed or has one first fault, that the tests of names and descriptors are their forms, and that what a class names is there.
+-- Laws that follow of the definition of well-formed classes alone: which rule is told of a place, that a class is well
+-- formed or has one first fault, that the tests of names and descriptors are their forms, and that what a class names
+-- is there.
 use Rattle.std.specs.Prelude.{◌≡◌, ◌≢◌, ◌↔◌, ◌≤◌, ◌⊎◌, ℕ, Bool, List, slice_get, Some, None, Ok, IsTrue}
 use Rattle.names.specs.Names.{IsUnqualifiedName, IsMethodName, IsClassName}
 use Rattle.names.specs.Descriptors.{FieldDescriptor, MethodDescriptor, SpellsField, SpellsMethod, dimensions, method_width, AreWithinDimensions}
@@ -13,7 +14,8 @@ use Rattle.classfile.specs.WellFormed.{conditions_at, fault_at, WellFormed, IsFi
 
 -- of a place the broken rule of the least number is told
 abbrev pub LeastIsTold : Type 0
-LeastIsTold = (c : Class) (p : Place) (rule : FormRule) → (fault_at c p ≡ Some rule) ↔ IsLeastBroken (conditions_at c p) rule
+LeastIsTold = (c : Class) (p : Place) (rule : FormRule)
+    → (fault_at c p ≡ Some rule) ↔ IsLeastBroken (conditions_at c p) rule
 
 -- and none only where none is broken
 abbrev pub NoneIsTold : Type 0
@@ -57,15 +59,20 @@ pub record SpellsSomeVoidMethod (receiver : Bool) (bytes : List ℕ) : Type 0 wh
 -- the tests of descriptors are the grammar within its limits
 pub record DescriptorsAreSpellings : Type 0 where
   pub field : (bytes : List ℕ) → IsTrue (is_field_descriptor bytes) ↔ SpellsSomeField bytes
-  pub method : (receiver : Bool) (bytes : List ℕ) → IsTrue (is_method_descriptor receiver bytes) ↔ SpellsSomeMethod receiver bytes
-  pub void : (receiver : Bool) (bytes : List ℕ) → IsTrue (is_void_descriptor receiver bytes) ↔ SpellsSomeVoidMethod receiver bytes
+  pub method : (receiver : Bool) (bytes : List ℕ)
+      → IsTrue (is_method_descriptor receiver bytes) ↔ SpellsSomeMethod receiver bytes
+  pub void : (receiver : Bool) (bytes : List ℕ)
+      → IsTrue (is_void_descriptor receiver bytes) ↔ SpellsSomeVoidMethod receiver bytes
 
--- the name of the class, that of its superclass where it has one, and the names and descriptors of its members are there
+-- the name of the class, that of its superclass where it has one, and the names and descriptors of its members are
+-- there
 pub record HasNames (c : Class) : Type 0 where
   pub this : (name : List ℕ) × (class_name_at c.constant_pool c.this_class ≡ Ok name)
   pub above : c.super_class ≢ 0 → (name : List ℕ) × (class_name_at c.constant_pool c.super_class ≡ Ok name)
-  pub field : (n : ℕ) (m : Member) → slice_get c.fields n ≡ Some m → (x : Named) × (named c.constant_pool m.name m.descriptor ≡ Ok x)
-  pub method : (n : ℕ) (m : Member) → slice_get c.methods n ≡ Some m → (x : Named) × (named c.constant_pool m.name m.descriptor ≡ Ok x)
+  pub field : (n : ℕ) (m : Member) → slice_get c.fields n ≡ Some m → (x : Named)
+      × (named c.constant_pool m.name m.descriptor ≡ Ok x)
+  pub method : (n : ℕ) (m : Member) → slice_get c.methods n ≡ Some m → (x : Named)
+      × (named c.constant_pool m.name m.descriptor ≡ Ok x)
 
 abbrev pub FormedHasNames : Type 0
 FormedHasNames = (c : Class) → WellFormed c → HasNames c

@@ -34,12 +34,15 @@ row columns = times (length columns) (number 2)
 
 -- the rows of a body: as many as a count says, or one
 abbrev pub rows : AttributeLayout → Format (List (List ℕ))
-rows layout = if layout.counted then table (row layout.columns) else andthen (row layout.columns) (λ only. done (only ∷ []))
+rows layout = if layout.counted then table (row layout.columns)
+    else andthen (row layout.columns) (λ only. done (only ∷ []))
 
 -- a body that is laid out so spells its rows
 abbrev pub BodySpellsRows : Type 0
-BodySpellsRows = (layout : AttributeLayout) (body : List ℕ) → has_layout layout body ≡ true → Spells (rows layout) body (rows_of (record { layout = layout; body = body }))
+BodySpellsRows = (layout : AttributeLayout) (body : List ℕ) → has_layout layout body ≡ true
+    → Spells (rows layout) body (rows_of (record { layout = layout; body = body }))
 
 -- and what spells rows is laid out so
 abbrev pub SpelledIsLaidOut : Type 0
-SpelledIsLaidOut = (layout : AttributeLayout) (body : List ℕ) (told : List (List ℕ)) → Spells (rows layout) body told → has_layout layout body ≡ true
+SpelledIsLaidOut = (layout : AttributeLayout) (body : List ℕ) (told : List (List ℕ)) → Spells (rows layout) body told
+    → has_layout layout body ≡ true

@@ -5,7 +5,14 @@ use Rattle.classfile.specs.Layouts.{AttributeLayout}
 use Rattle.classfile.specs.Numbers.{Numbers}
 
 abbrev pub layout_view : program.AttributeLayout → AttributeLayout
-layout_view l = record { name = l.name.now; first_major = l.first_major; once = l.once; counted = l.counted; columns = l.columns.now }
+layout_view l = record {
+  name = l.name.now;
+  first_major = l.first_major;
+  once = l.once;
+  counted = l.counted;
+  columns =
+      l.columns.now;
+}
 
 abbrev pub numbers_view : numbers.Numbers → Numbers
 numbers_view n = record { layout = layout_view n.layout.now; body = n.body.now }

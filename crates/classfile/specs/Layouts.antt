@@ -10,8 +10,8 @@ use Rattle.classfile.specs.declared.layouts.Column.TheVariants as columns
 use Rattle.classfile.specs.declared.layouts.Column.TheVariants.{Plain, Text, TextOrZero, ClassOrZero, Value}
 use lib.Pointwise.{pointwise}
 
--- An attribute whose body is numbers of two bytes each: a row of such numbers, or a count and as many rows. It is read so from a major
--- version on. What the numbers of a row are is told column by column.
+-- An attribute whose body is numbers of two bytes each: a row of such numbers, or a count and as many rows. It is read
+-- so from a major version on. What the numbers of a row are is told column by column.
 pub record AttributeLayout : Type 0 where
   pub name : List ℕ
   pub first_major : ℕ
@@ -47,8 +47,8 @@ shared = signature ∷ mark (codes "Deprecated") ∷ mark (codes "Synthetic") �
 abbrev pub permitted_subclasses : AttributeLayout
 permitted_subclasses = counted 61 (codes "PermittedSubclasses") (columns.Class ∷ [])
 
--- those of classes (4.7.10, 4.7.6, 4.7.28, 4.7.29, 4.7.31), fields (4.7.2), methods (4.7.5), Code attributes (4.7.12, 4.7.13) and record
--- components (4.7.30)
+-- those of classes (4.7.10, 4.7.6, 4.7.28, 4.7.29, 4.7.31), fields (4.7.2), methods (4.7.5), Code attributes (4.7.12,
+-- 4.7.13) and record components (4.7.30)
 abbrev pub layouts_in : Location → List AttributeLayout
 layouts_in (Class major) =
     one 51 (codes "SourceFile") (Text ∷ [])
@@ -79,7 +79,8 @@ is_layout major name layout = nat_le layout.first_major major && pointwise nat_e
 
 abbrev pub layout_in : ℕ → List ℕ → List AttributeLayout → Option AttributeLayout
 layout_in major name [] = None
-layout_in major name (layout ∷ others) = if is_layout major name layout then Some layout else layout_in major name others
+layout_in major name (layout ∷ others) = if is_layout major name layout then Some layout
+    else layout_in major name others
 
 -- the layout of an attribute whose name was looked up
 abbrev pub layout_named : Location → Result (List ℕ) PoolFault → Option AttributeLayout
@@ -98,4 +99,5 @@ has_count width (high ∷ low ∷ behind) = nat_eq (length behind) ((high * 256 
 
 abbrev pub has_layout : AttributeLayout → List ℕ → Bool
 has_layout layout body =
-    if layout.counted then has_count (2 * length layout.columns) body else nat_eq (length body) (2 * length layout.columns)
+    if layout.counted then has_count (2 * length layout.columns) body
+    else nat_eq (length body) (2 * length layout.columns)

@@ -1,5 +1,5 @@
--- Which attributes are read by their parts, by their name and the table that they stand in (JVMS 4.7, table 4.7-C). Those of numbers are in
--- `Layouts`.
+-- Which attributes are read by their parts, by their name and the table that they stand in (JVMS 4.7, table 4.7-C).
+-- `Layouts` has the attributes of numbers.
 use Rattle.std.specs.Prelude.{ℕ, Bool, false, ◌&&◌, List, nat_eq, nat_le, Result, Ok, Err, codes}
 use Rattle.pool.specs.declared.fault.PoolFault.{PoolFault}
 use Rattle.pool.specs.Entries.{Entry}

@@ -74,7 +74,8 @@ unfoldable pub is_class_initializer : List Entry → Member → Bool
 is_class_initializer pool m = on_text pool m.name is_clinit
 
 unfoldable pub is_badly_flagged : List Entry → Member → Bool
-is_badly_flagged pool m = are_bad_method_flags (is_instance_initializer pool m) (is_class_initializer pool m) m.access_flags
+is_badly_flagged pool m = are_bad_method_flags (is_instance_initializer pool m)
+    (is_class_initializer pool m) m.access_flags
 
 -- the body of the method stands in a Code attribute (4.7.3)
 unfoldable pub has_body : List Entry → Member → Bool

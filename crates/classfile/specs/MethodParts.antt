@@ -1,5 +1,5 @@
--- A method with code by the parts that the program keeps of it (JVMS 4.6, 4.7.3): its class, its number, its Code attribute, two of
--- its properties, and the type of its result. Its other parts are what the class file says.
+-- A method with code by the parts that the program keeps of it (JVMS 4.6, 4.7.3): its class, its number, its Code
+-- attribute, two of its properties, and the type of its result. Its other parts are what the class file says.
 use Rattle.std.specs.Prelude.{◌≡◌, ℕ, Bool, List, [], length, Option, Some, None, slice_get}
 use Rattle.std.specs.Option.{option_and_then}
 use Rattle.std.specs.Coded.{Coded, Coded-set, codes}
@@ -27,7 +27,8 @@ abbrev pub code_at : Class → ℕ → Option CodeBody
 code_at c number = option_and_then (λ m. code_of m.attributes) (slice_get c.methods number)
 
 -- `code` is what its code says
-abbrev pub method_by_parts : {A : Type 0} → JudgedClass → ℕ → CodeBody → Bool → Bool → Option FieldDescriptor → List (ℕ × A) → Method A
+abbrev pub method_by_parts : {A : Type 0} → JudgedClass → ℕ → CodeBody → Bool → Bool → Option FieldDescriptor
+    → List (ℕ × A) → Method A
 method_by_parts c number body is_static is_init result code = record {
   code = code;
   code_length = length body.code;
@@ -47,7 +48,8 @@ method_by_parts c number body is_static is_init result code = record {
   dynamic = c.dynamic;
 }
 
--- These are the parts of the method of this number. What its code says is only handed on, so that one list stands for all.
+-- These are the parts of the method of this number. What its code says is only handed on, so that one list stands for
+-- all.
 abbrev pub IsMethod : JudgedClass → ℕ → CodeBody → Bool → Bool → Option FieldDescriptor → Type 0
 IsMethod c number body is_static is_init result =
     method_of {A = ℕ} c number [] ≡ Some (method_by_parts c number body is_static is_init result [])

@@ -114,14 +114,16 @@ texts _ _ others = others
 
 abbrev pub declared_fields : List Entry → List Member → List Named
 declared_fields pool [] = []
-declared_fields pool (f ∷ fs) = texts (found (text_at pool f.name)) (found (text_at pool f.descriptor)) (declared_fields pool fs)
+declared_fields pool (f ∷ fs) =
+    texts (found (text_at pool f.name)) (found (text_at pool f.descriptor)) (declared_fields pool fs)
 
 -- catch type 0 is for all that is thrown
 abbrev pub caught_type : List Entry → ℕ → Option ReferenceType
 caught_type pool index = if nat_eq index 0 then Some (class_type throwable_name) else class_at pool index
 
 abbrev pub entry_with : Handler → Option ReferenceType → Option (List ExceptionEntry) → Option (List ExceptionEntry)
-entry_with h (Some caught) (Some others) = Some (record { from = h.start_pc; to = h.end_pc; handler = h.handler_pc; caught = caught } ∷ others)
+entry_with h (Some caught) (Some others) =
+    Some (record { from = h.start_pc; to = h.end_pc; handler = h.handler_pc; caught = caught } ∷ others)
 entry_with h _ _ = None
 
 abbrev pub exception_entries : List Entry → List Handler → Option (List ExceptionEntry)
@@ -132,9 +134,11 @@ exception_entries pool (h ∷ hs) = entry_with h (caught_type pool h.catch_type)
 abbrev pub judged_bootstraps : JudgedClass → List BootstrapMethod
 judged_bootstraps c = if c.dynamic then bootstraps_of c.file else []
 
--- The parts of a method that hang on constants: the names of its class and of itself, its types, and its exception table.
+-- The parts of a method that hang on constants: the names of its class and of itself, its types, and its exception
+-- table.
 abbrev pub method_with :
-    {A : Type 0} → JudgedClass → Member → List (ℕ × A) → CodeBody → Option (List ℕ) → Option (List ℕ) → Option MethodDescriptor → Option (List ExceptionEntry) → Option (Method A)
+    {A : Type 0} → JudgedClass → Member → List (ℕ × A) → CodeBody → Option (List ℕ) → Option (List ℕ)
+    → Option MethodDescriptor → Option (List ExceptionEntry) → Option (Method A)
 method_with c member code body (Some class) (Some name) (Some type) (Some exceptions) = Some (record {
   code = code;
   code_length = length body.code;
@@ -158,7 +162,8 @@ method_with c member code body _ _ _ _ = None
 -- a descriptor is measured with a receiver unless the method is static
 abbrev pub member_type : List Entry → Member → Option MethodDescriptor
 member_type pool member =
-    option_and_then (λ text. found (method_answer (not (has member.access_flags STATIC)) text)) (found (text_at pool member.descriptor))
+    option_and_then (λ text. found (method_answer (not (has member.access_flags STATIC)) text))
+    (found (text_at pool member.descriptor))
 
 abbrev pub method_from : {A : Type 0} → JudgedClass → List (ℕ × A) → Member → Option (Method A)
 method_from c code member =
@@ -169,7 +174,7 @@ method_from c code member =
     (exception_entries c.file.constant_pool body.exception_table))
     (code_of member.attributes)
 
--- The method of this number, if it has code, and of the constants that it names each is of its kind and form. `code` is what
--- its code says.
+-- The method of this number, if it has code, and of the constants that it names each is of its kind and form. `code` is
+-- what its code says.
 abbrev pub method_of : {A : Type 0} → JudgedClass → ℕ → List (ℕ × A) → Option (Method A)
 method_of c number code = option_and_then (method_from c code) (slice_get c.file.methods number)

@@ -1,4 +1,5 @@
--- The numbers in the body of an attribute (JVMS 4.7.2 to 4.7.31), row by row as its layout says, each of two bytes, the high one first.
+-- The numbers in the body of an attribute (JVMS 4.7.2 to 4.7.31), row by row as its layout says, each of two bytes, the
+-- high one first.
 use Rattle.std.specs.Prelude.{ℕ, zero, suc, ◌+◌, ◌*◌, Bool, true, false, nat_eq, ◌&&◌, if◌then◌else◌, List, [], ◌∷◌, slice_get, Option, Some, None}
 use Rattle.std.specs.List.{flat_map}
 use Rattle.std.specs.Option.{option_and_then}

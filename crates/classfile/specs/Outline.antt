@@ -1,5 +1,5 @@
--- The outline of a class file (JVMS 4.1, 4.4 to 4.7): how far it reaches by its magic number, by the tags and lengths of its constants, and
--- by the counts of its tables and the lengths of its attributes. What these hold does not matter.
+-- The outline of a class file (JVMS 4.1, 4.4 to 4.7): how far it reaches by its magic number, by the tags and lengths
+-- of its constants, and by the counts of its tables and the lengths of its attributes. What these hold does not matter.
 use Rattle.std.specs.Prelude.{◌≡◌, ℕ, zero, suc, ◌-◌, Bool, true, false, List, length, Option, nat_eq, if◌then◌else◌, ◌||◌}
 use Rattle.layout.specs.Format.{Format, done, part, refuse, andthen, number}
 use Rattle.std.specs.Io.KnownBytes.{Consumes, IsAtEnd}
@@ -78,7 +78,8 @@ constants zero second = end
 constants (suc n) second = andthen (indexed second (nat_eq n 0)) (λ next. constants n next)
 
 unfoldable pub pool : Format (Unit {0})
-pool = andthen (number 2) (λ count. if nat_eq count 0 then refuse (λ at. BadPoolCount (at - 2)) else constants (count - 1) false)
+pool = andthen (number 2) (λ count. if nat_eq count 0 then refuse (λ at. BadPoolCount (at - 2))
+    else constants (count - 1) false)
 
 -- ---- the rest
 
@@ -105,7 +106,8 @@ interfaces = andthen (number 2) numbers
 
 -- access flags, this class, its superclass, and the four tables
 unfoldable pub behind_pool : Format (Unit {0})
-behind_pool = andthen (numbers 3) (λ skipped. andthen interfaces (λ skipped. andthen members (λ skipped. andthen members (λ skipped. attributes))))
+behind_pool = andthen (numbers 3)
+    (λ skipped. andthen interfaces (λ skipped. andthen members (λ skipped. andthen members (λ skipped. attributes))))
 
 -- the magic number, and the version, which does not matter
 unfoldable pub head : Format (Unit {0})
@@ -120,8 +122,8 @@ outline = andthen head (λ skipped. andthen pool (λ skipped. behind_pool))
 abbrev pub IsOutline : List ℕ → Type 0
 IsOutline given = Leads outline 0 given (whole tt)
 
--- The fault of a stream of which no front is an outline: the first part in the order of the file that is not whole, that breaks its rule, or
--- that would pass the limit.
+-- The fault of a stream of which no front is an outline: the first part in the order of the file that is not whole,
+-- that breaks its rule, or that would pass the limit.
 abbrev pub OutlineFault : List ℕ → ReadFault → Type 0
 OutlineFault stream e = StreamHas outline stream e
 
@@ -129,8 +131,8 @@ OutlineFault stream e = StreamHas outline stream e
 abbrev pub IsUndecided : List ℕ → Type 0
 IsUndecided given = (at : ℕ) × Leads outline 0 given (partial at)
 
--- Why a stream was given up behind these bytes. Memory ran out or the reader failed while nothing was decided; or the reader ended within
--- a part; or these bytes have a fault, and no fewer of them have it.
+-- Why a stream was given up behind these bytes. Memory ran out or the reader failed while nothing was decided; or the
+-- reader ended within a part; or these bytes have a fault, and no fewer of them have it.
 abbrev pub GivesUp : List ℕ → Option (List ℕ) → ReadFault → Type 0
 GivesUp given after OutOfMemory = IsUndecided given
 GivesUp given after (ReadFailed at) = (at ≡ length given) × IsUndecided given

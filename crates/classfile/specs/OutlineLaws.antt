@@ -1,4 +1,5 @@
--- Laws that follow of outlines alone: a class file is one, a stream has one at most in front, and where it has none it has a fault.
+-- Laws that follow of outlines alone: a class file is one, a stream has one at most in front, and where it has none it
+-- has a fault.
 use Rattle.std.specs.Prelude.{◌≡◌, ℕ, List, ◌++◌, ◌⊎◌}
 use Rattle.layout.specs.declared.fault.ReadFault.{ReadFault}
 use Rattle.classfile.specs.Values.{Class}
@@ -13,7 +14,8 @@ abbrev pub OneOutline : Type 0
 OneOutline = (a b x y : List ℕ) → a ++ x ≡ b ++ y → IsOutline a → IsOutline b → a ≡ b
 
 abbrev pub OutlineOrFault : Type 0
-OutlineOrFault = (stream : List ℕ) → ((front : List ℕ) × (rest : List ℕ) × (stream ≡ front ++ rest) × IsOutline front) ⊎ ((e : ReadFault) × OutlineFault stream e)
+OutlineOrFault = (stream : List ℕ) → ((front : List ℕ) × (rest : List ℕ) × (stream ≡ front ++ rest) × IsOutline front)
+    ⊎ ((e : ReadFault) × OutlineFault stream e)
 
 -- not both
 abbrev pub NoFaultBehindOutline : Type 0

@@ -1,4 +1,5 @@
--- The faults that the attributes of a class may have (JVMS 4.7), and the components that a Record attribute holds (4.7.30).
+-- The faults that the attributes of a class may have (JVMS 4.7), and the components that a Record attribute holds
+-- (4.7.30).
 use Rattle.std.specs.Prelude.{Bool, ◌||◌, List}
 use Rattle.std.specs.List.{list_any}
 use Rattle.pool.specs.Entries.{Entry}
@@ -36,7 +37,8 @@ unfoldable pub class_attribute_has_bad : List Entry → ClassAttribute → Bool
 class_attribute_has_bad pool attribute = head_has_bad pool attribute || on_body (components_have_bad pool) attribute
 
 unfoldable pub class_attribute_has_other : List Entry → ClassAttribute → Bool
-class_attribute_has_other pool attribute = head_has_other pool attribute || on_body (components_have_other pool) attribute
+class_attribute_has_other pool attribute =
+    head_has_other pool attribute || on_body (components_have_other pool) attribute
 
 unfoldable pub class_attributes_have_bad : List Entry → List ClassAttribute → Bool
 class_attributes_have_bad pool attributes = list_any (class_attribute_has_bad pool) attributes
@@ -54,4 +56,5 @@ records_have_twice attributes = list_any (on_body components_have_twice) attribu
 
 -- and at most one of each other kind of which there may be one
 unfoldable pub class_attributes_have_twice : Location → List ClassAttribute → Bool
-class_attributes_have_twice place attributes = record_stands_twice attributes || records_have_twice attributes || numbers_stand_twice place attributes
+class_attributes_have_twice place attributes =
+    record_stands_twice attributes || records_have_twice attributes || numbers_stand_twice place attributes

@@ -84,10 +84,12 @@ nested_size (of_numbers name numbers) = 2 + (4 + length numbers.body)
 nested_size (raw name body) = 2 + (4 + length body)
 
 abbrev pub code_fits : CodeBody → Bool
-code_fits c = (is_u2 c.max_stack && is_u2 c.max_locals) && (table_fits handler_fits c.exception_table && table_fits nested_fits c.attributes)
+code_fits c = (is_u2 c.max_stack && is_u2 c.max_locals)
+    && (table_fits handler_fits c.exception_table && table_fits nested_fits c.attributes)
 
 abbrev pub code_size : CodeBody → ℕ
-code_size c = (2 + (2 + (4 + length c.code))) + (table_size (λ h. 8) c.exception_table + table_size nested_size c.attributes)
+code_size c = (2 + (2 + (4 + length c.code))) +
+    (table_size (λ h. 8) c.exception_table + table_size nested_size c.attributes)
 
 abbrev pub attribute_fits : Attribute → Bool
 attribute_fits (of_parts name code) = is_u2 name && code_fits code

@@ -15,7 +15,8 @@ number_of s text = get_by (λ k. slice_cmp nat_cmp text k.now) s.numbers
 pub record AreNumbers (pool : List Entry) (s : TextNumbers) : Type 0 where
   pub sized : length s.known.items ≡ length pool
   pub leads : (text : List ℕ) (n : ℕ) → number_of s text ≡ Some n → text_at pool n ≡ Ok text
-  pub kept : (place default : ℕ) (text : List ℕ) → slice_index_or s.known.items place default ≢ 0 → place < length pool → text_at pool (place + 1) ≡ Ok text → number_of s text ≡ Some (slice_index_or s.known.items place default)
+  pub kept : (place default : ℕ) (text : List ℕ) → slice_index_or s.known.items place default ≢ 0 → place < length pool
+      → text_at pool (place + 1) ≡ Ok text → number_of s text ≡ Some (slice_index_or s.known.items place default)
 
 -- the text has this number, and all that had one keep it
 pub record Numbers (pool : List Entry) (old new : TextNumbers) (text : List ℕ) (n : ℕ) : Type 0 where

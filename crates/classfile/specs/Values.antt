@@ -11,8 +11,8 @@ pub record Handler : Type 0 where
   pub handler_pc : ℕ
   pub catch_type : ℕ
 
--- An attribute (4.7) by the index of its name: one whose body is read by its parts, one whose body is numbers, or one of which nothing but
--- the body is known.
+-- An attribute (4.7) by the index of its name: one whose body is read by its parts, one whose body is numbers, or one
+-- of which nothing but the body is known.
 pub data AttributeOf (A : Type 0) : Type 0 where
   of_parts : (name : ℕ) (value : A) → AttributeOf A
   of_numbers : (name : ℕ) (numbers : Numbers) → AttributeOf A

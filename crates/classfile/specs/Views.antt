@@ -16,7 +16,13 @@ use Rattle.classfile.specs.Values as values
 use Rattle.classfile.specs.Values.{of_parts, of_numbers, raw}
 
 abbrev pub handler_view : ExceptionHandler → values.Handler
-handler_view h = record { start_pc = h.start_pc; end_pc = h.end_pc; handler_pc = h.handler_pc; catch_type = h.catch_type }
+handler_view h = record {
+  start_pc = h.start_pc;
+  end_pc = h.end_pc;
+  handler_pc = h.handler_pc;
+  catch_type =
+      h.catch_type;
+}
 
 abbrev pub nested_view : NestedAttribute → values.Nested
 nested_view (nested.StackMapTable name body) = of_parts name body.now
@@ -24,7 +30,14 @@ nested_view (nested.Numbers name n) = of_numbers name (numbers_view n)
 nested_view (nested.Raw name body) = raw name body.now
 
 abbrev pub code_view : CodeAttr → values.CodeBody
-code_view c = record { max_stack = c.max_stack; max_locals = c.max_locals; code = c.code.now; exception_table = map handler_view c.exception_table.items; attributes = map nested_view c.attributes.items }
+code_view c = record {
+  max_stack = c.max_stack;
+  max_locals = c.max_locals;
+  code = c.code.now;
+  exception_table =
+      map handler_view c.exception_table.items;
+  attributes = map nested_view c.attributes.items;
+}
 
 abbrev pub attribute_view : Attribute → values.Attribute
 attribute_view (attributes.Code name code) = of_parts name (code_view code.value)
@@ -32,10 +45,21 @@ attribute_view (attributes.Numbers name n) = of_numbers name (numbers_view n)
 attribute_view (attributes.Raw name body) = raw name body.now
 
 abbrev pub member_view : Member → values.Member
-member_view m = record { access_flags = m.access_flags; name = m.name; descriptor = m.descriptor; attributes = map attribute_view m.attributes.items }
+member_view m = record {
+  access_flags = m.access_flags;
+  name = m.name;
+  descriptor = m.descriptor;
+  attributes =
+      map attribute_view m.attributes.items;
+}
 
 abbrev pub component_view : Component → values.Component
-component_view c = record { name = c.name; descriptor = c.descriptor; attributes = map attribute_view c.attributes.items }
+component_view c = record {
+  name = c.name;
+  descriptor = c.descriptor;
+  attributes =
+      map attribute_view c.attributes.items;
+}
 
 abbrev pub class_attribute_view : ClassAttribute → values.ClassAttribute
 class_attribute_view (class_attributes.Record name components) = of_parts name (map component_view components.items)

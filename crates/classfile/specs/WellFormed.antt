@@ -1,5 +1,5 @@
--- Well-formed class files (JVMS 4.1 to 4.7): no rule is broken at any place. Otherwise the first place where one is broken
--- is told, with the least number that is broken there.
+-- Well-formed class files (JVMS 4.1 to 4.7): no rule is broken at any place. Otherwise the first place where one is
+-- broken is told, with the least number that is broken there.
 use Rattle.std.specs.Prelude.{◌≡◌, ℕ, zero, suc, ◌<◌, List, [], take, slice_get, Option, Some, None, ⊤, Result, Ok, Err}
 use Rattle.std.specs.Option.{option_map_or}
 use Rattle.classfile.specs.declared.form_fault.FormRule.{FormRule}
@@ -17,14 +17,16 @@ use Rattle.classfile.specs.MemberForm.{is_repeated, field_conditions, method_con
 -- what may be wrong with the entry at an index, which counts from 1
 abbrev pub entry_conditions : Class → ℕ → List Condition
 entry_conditions c zero = []
-entry_conditions c (suc k) = option_map_or (constant_conditions c.major_version c.constant_pool) (slice_get c.constant_pool k) []
+entry_conditions c (suc k) = option_map_or (constant_conditions c.major_version c.constant_pool)
+    (slice_get c.constant_pool k) []
 
 abbrev pub conditions_of_field : Class → ℕ → Member → List Condition
 conditions_of_field c n m = field_conditions c.constant_pool (is_repeated c.constant_pool (take n c.fields) m) m
 
 abbrev pub conditions_of_method : Class → ℕ → Member → List Condition
 conditions_of_method c n m =
-    method_conditions c.constant_pool (has c.access_flags INTERFACE) (is_repeated c.constant_pool (take n c.methods) m) m
+    method_conditions c.constant_pool (has c.access_flags INTERFACE)
+    (is_repeated c.constant_pool (take n c.methods) m) m
 
 -- Where nothing stands, nothing is wrong. Fields and methods count from 0.
 unfoldable pub conditions_at : Class → Place → List Condition
@@ -71,7 +73,8 @@ form_fault_place (Broken rule place) = Some place
 abbrev pub Passes : Class → (ℕ → Place) → Result (Unit {0}) FormFault → Type 0
 Passes c place (Ok done) = (n : ℕ) → fault_at c (place n) ≡ None
 Passes c place (Err OutOfMemory) = Unit {0}
-Passes c place (Err (Broken rule p)) = (n : ℕ) × (p ≡ place n) × (fault_at c (place n) ≡ Some rule) × ((k : ℕ) → k < n → fault_at c (place k) ≡ None)
+Passes c place (Err (Broken rule p)) = (n : ℕ) × (p ≡ place n) × (fault_at c (place n) ≡ Some rule)
+    × ((k : ℕ) → k < n → fault_at c (place k) ≡ None)
 
 -- what is said where the check did not run out of memory
 abbrev pub TellsFirst : Class → FormFault → Type 0

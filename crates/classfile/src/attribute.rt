@@ -1,7 +1,7 @@
 //! Attributes of fields, methods and components of records (JVMS 4.7).
 ghost use Rattle.std.specs.Prelude.{◌≡◌, ◌++◌};
 ghost use Rattle.layout.specs.Pieces.{Goes, field, lengthened, marked};
-ghost use Rattle.classfile.specs.Pieces.{code_pieces};
+ghost use Rattle.classfile.specs.private.Pieces.{code_pieces};
 ghost use Rattle.classfile.specs.Views.{code_view};
 
 use crate::code::{CodeAttr, put_code, whole_code};
@@ -14,7 +14,8 @@ use layout::{Cursor, Output, ReadFault, WriteFault};
 use pool::Pool;
 use std::alloc::Global;
 
-/// An attribute of a field, a method or a component of a record. The name is the index of a Utf8 constant where the class is well formed.
+/// An attribute of a field, a method or a component of a record. The name is the index of a Utf8 constant where the
+/// class is well formed.
 #[derive(Drop)]
 pub enum Attribute<'a> {
     /// A Code attribute (4.7.3), which stands in a method alone.
@@ -46,7 +47,8 @@ fn put_code_attribute(
     fine: bool,
     code: &CodeAttr<'_>,
 ) -> Result<(), WriteFault>
-    ensures { Goes (field 2 name ++ lengthened (marked fine (code_pieces pool.now (code_view code.now)))) out.old out.new result }
+    ensures { Goes (field 2 name ++ lengthened
+        (marked fine (code_pieces pool.now (code_view code.now)))) out.old out.new result }
 {
     out.put_u2(name)?;
     let mark = out.begin()?;
@@ -57,7 +59,7 @@ fn put_code_attribute(
 impl<'a> Item<'a> for Attribute<'a> {
     ghost use Rattle.classfile.specs.Values as values;
     ghost use Rattle.classfile.specs.ClassFile.{attribute};
-    ghost use Rattle.classfile.specs.Pieces.{attribute_pieces};
+    ghost use Rattle.classfile.specs.private.Pieces.{attribute_pieces};
     ghost use Rattle.classfile.specs.Views.{attribute_view};
 
     ghost View = { values.Attribute };

@@ -10,7 +10,7 @@ use crate::indices::{ConstantKind, is_bad, is_bad_unless_zero, lacks, lacks_unle
 use crate::location::Location;
 use crate::nested::NestedAttribute;
 use crate::number_form::{IndexRule, numbers_break, numbers_have_fault};
-use crate::once::numbers_stand_twice;
+use crate::repeated_attributes::numbers_stand_twice;
 use pool::Pool;
 
 #[tactic(auto, unfolding(crate::specs::AttributeForm::head_has_bad))]
@@ -30,7 +30,8 @@ fn nested_has_bad(pool: &Pool<'_>, attribute: &NestedAttribute<'_>) -> bool
 /// Whether one of its indices breaks a rule, 20 or 21; each is looked up once for both, here and in what follows.
 #[tactic(auto, unfolding(crate::specs::AttributeForm::head_has_bad, crate::specs::AttributeForm::head_has_other))]
 fn nested_has_fault(pool: &Pool<'_>, attribute: &NestedAttribute<'_>) -> bool
-    ensures { result ≡ (head_has_bad pool.now (nested_view attribute.now) || head_has_other pool.now (nested_view attribute.now)) }
+    ensures { result ≡ (head_has_bad pool.now (nested_view attribute.now)
+        || head_has_other pool.now (nested_view attribute.now)) }
 {
     match attribute {
         NestedAttribute::Numbers { name, numbers } => {
@@ -65,7 +66,8 @@ fn handlers_have_bad(pool: &Pool<'_>, handlers: &[ExceptionHandler]) -> bool
 
 #[tactic(auto, unfolding(crate::specs::AttributeForm::handlers_have_bad, crate::specs::AttributeForm::handlers_have_other))]
 fn handlers_have_fault(pool: &Pool<'_>, handlers: &[ExceptionHandler]) -> bool
-    ensures { result ≡ (handlers_have_bad pool.now (map handler_view handlers.now) || handlers_have_other pool.now (map handler_view handlers.now)) }
+    ensures { result ≡ (handlers_have_bad pool.now (map handler_view handlers.now)
+        || handlers_have_other pool.now (map handler_view handlers.now)) }
 {
     handlers.iter().any(|h| lacks_unless_zero(pool, ConstantKind::Class, h.catch_type))
 }
@@ -79,7 +81,8 @@ fn nested_have_bad(pool: &Pool<'_>, attributes: &[NestedAttribute<'_>]) -> bool
 
 #[tactic(auto, unfolding(crate::specs::AttributeForm::nested_have_bad, crate::specs::AttributeForm::nested_have_other))]
 fn nested_have_fault(pool: &Pool<'_>, attributes: &[NestedAttribute<'_>]) -> bool
-    ensures { result ≡ (nested_have_bad pool.now (map nested_view attributes.now) || nested_have_other pool.now (map nested_view attributes.now)) }
+    ensures { result ≡ (nested_have_bad pool.now (map nested_view attributes.now)
+        || nested_have_other pool.now (map nested_view attributes.now)) }
 {
     attributes.iter().any(|a| nested_has_fault(pool, a))
 }
@@ -126,7 +129,8 @@ fn attribute_has_bad(pool: &Pool<'_>, attribute: &Attribute<'_>) -> bool
 
 #[tactic(auto, unfolding(crate::specs::AttributeForm::attribute_has_bad, crate::specs::AttributeForm::attribute_has_other, crate::specs::AttributeForm::head_has_bad, crate::specs::AttributeForm::head_has_other))]
 fn attribute_has_fault(pool: &Pool<'_>, attribute: &Attribute<'_>) -> bool
-    ensures { result ≡ (attribute_has_bad pool.now (attribute_view attribute.now) || attribute_has_other pool.now (attribute_view attribute.now)) }
+    ensures { result ≡ (attribute_has_bad pool.now (attribute_view attribute.now)
+        || attribute_has_other pool.now (attribute_view attribute.now)) }
 {
     match attribute {
         Attribute::Code { name, code } => {
@@ -168,7 +172,8 @@ pub fn attributes_have_bad(pool: &Pool<'_>, attributes: &[Attribute<'_>]) -> boo
 /// Whether an index in the attributes may not be looked up, or leads to another kind.
 #[tactic(auto, unfolding(crate::specs::AttributeForm::attributes_have_bad, crate::specs::AttributeForm::attributes_have_other))]
 pub fn attributes_have_fault(pool: &Pool<'_>, attributes: &[Attribute<'_>]) -> bool
-    ensures { result ≡ (attributes_have_bad pool.now (map attribute_view attributes.now) || attributes_have_other pool.now (map attribute_view attributes.now)) }
+    ensures { result ≡ (attributes_have_bad pool.now (map attribute_view attributes.now)
+        || attributes_have_other pool.now (map attribute_view attributes.now)) }
 {
     attributes.iter().any(|a| attribute_has_fault(pool, a))
 }
@@ -203,7 +208,8 @@ fn stack_map_stands_twice(attributes: &[Attribute<'_>]) -> bool
     attributes.iter().any(|a| code_has_two_stack_maps(a))
 }
 
-/// Whether two attributes of a method are among them of which there may be one, or in a Code attribute two StackMapTables.
+/// Whether two attributes of a method are among them of which there may be one, or in a Code attribute two
+/// StackMapTables.
 #[tactic(auto, unfolding(crate::specs::AttributeForm::have_twice))]
 pub fn have_twice(attributes: &[Attribute<'_>]) -> bool
     ensures { result ≡ have_twice (map attribute_view attributes.now) }

@@ -193,7 +193,8 @@ fn sound_of(alloc: Global, class: &ClassFile<'_>) -> Result<Vec<bool>, AllocErro
     }
 }
 
-/// The bootstrap methods of a class, as its instructions ask for them. All of them are looked at when they are asked first.
+/// The bootstrap methods of a class, as its instructions ask for them. All of them are looked at when they are asked
+/// first.
 #[derive(Drop)]
 pub struct Bootstraps<'c, 'a> {
     alloc: Global,
@@ -236,13 +237,14 @@ impl<'c, 'a> Bootstraps<'c, 'a> {
         }
     }
 
-    /// Whether the class has a bootstrap method of this number, which counts from 0, whose handle is a MethodHandle and whose static arguments
-    /// may be loaded (JVMS 4.4.10, 4.7.23). A call takes the same time however many there are, but that the first looks at each once. The only
-    /// refusal is want of memory.
+    /// Whether the class has a bootstrap method of this number, which counts from 0, whose handle is a MethodHandle and
+    /// whose static arguments may be loaded (JVMS 4.4.10, 4.7.23). A call takes the same time however many there are,
+    /// but that the first looks at each once. The only refusal is want of memory.
     #[tactic(auto, unfolding(crate::specs::Bootstraps::has_bootstrap))]
     pub fn has(&mut self, number: u16) -> Result<bool, AllocError>
         ensures same { self.new ≡ self.old }
-        ensures found { IfOk result (λ b. b ≡ has_bootstrap self.old.constant_pool (bootstraps_of (class_view self.old)) number) }
+        ensures found { IfOk result (λ b. b
+            ≡ has_bootstrap self.old.constant_pool (bootstraps_of (class_view self.old)) number) }
     {
         let sound = self.take_sound()?;
         let answer = sound.get(number as usize).copied().unwrap_or(false);

@@ -2,7 +2,7 @@
 ghost use Rattle.std.specs.Prelude.{◌≡◌, ◌++◌, map};
 ghost use Rattle.layout.specs.PieceLaws.{counted};
 ghost use Rattle.layout.specs.Pieces.{Goes, field, lengthened, marked};
-ghost use Rattle.classfile.specs.Pieces.{component_pieces};
+ghost use Rattle.classfile.specs.private.Pieces.{component_pieces};
 ghost use Rattle.classfile.specs.Views.{component_view, class_attribute_view};
 
 use crate::component::{Component, put_components, whole_components};
@@ -41,7 +41,8 @@ fn put_marked_components(
     fine: bool,
     components: &Vec<Component<'_>>,
 ) -> Result<(), WriteFault>
-    ensures { Goes (marked fine (counted (component_pieces pool.now) (map component_view components.now.items))) out.old out.new result }
+    ensures { Goes (marked fine (counted (component_pieces pool.now)
+        (map component_view components.now.items))) out.old out.new result }
 {
     if !fine {
         out.put_nothing();
@@ -56,7 +57,9 @@ fn put_record(
     fine: bool,
     components: &Vec<Component<'_>>,
 ) -> Result<(), WriteFault>
-    ensures { Goes (field 2 name ++ lengthened (marked fine (counted (component_pieces pool.now) (map component_view components.now.items)))) out.old out.new result }
+    ensures { Goes (field 2 name ++ lengthened
+        (marked fine (counted (component_pieces pool.now)
+        (map component_view components.now.items)))) out.old out.new result }
 {
     out.put_u2(name)?;
     let mark = out.begin()?;
@@ -67,7 +70,7 @@ fn put_record(
 impl<'a> Item<'a> for ClassAttribute<'a> {
     ghost use Rattle.classfile.specs.Values as values;
     ghost use Rattle.classfile.specs.ClassFile.{class_attribute};
-    ghost use Rattle.classfile.specs.Pieces.{class_attribute_pieces};
+    ghost use Rattle.classfile.specs.private.Pieces.{class_attribute_pieces};
     ghost use Rattle.classfile.specs.Views.{class_attribute_view};
 
     ghost View = { values.ClassAttribute };
@@ -140,8 +143,8 @@ impl<'a> ClassAttribute<'a> {
         }
     }
 
-    /// The numbers of a PermittedSubclasses attribute (JVMS 4.7.31): rows of one number, the index of a Class. Nothing of another
-    /// attribute.
+    /// The numbers of a PermittedSubclasses attribute (JVMS 4.7.31): rows of one number, the index of a Class. Nothing
+    /// of another attribute.
     pub fn permitted_subclasses(&self) -> Option<Numbers<'a>>
         ensures { option_map numbers_view result ≡ permitted_in (class_attribute_view self.now) }
     {

@@ -3,7 +3,7 @@ ghost use Rattle.std.specs.Prelude.{◌≡◌, map};
 ghost use Rattle.layout.specs.Faults.{GoesOn};
 ghost use Rattle.layout.specs.Pieces.{Goes, field, marked};
 ghost use Rattle.classfile.specs.ClassFile.{interfaces, members, class_attributes, is_version, version, class};
-ghost use Rattle.classfile.specs.Pieces.{version_pieces, tables_pieces, behind_pool_pieces, pieces_with, class_pieces};
+ghost use Rattle.classfile.specs.private.Pieces.{version_pieces, tables_pieces, behind_pool_pieces, pieces_with, class_pieces};
 ghost use Rattle.classfile.specs.Views.{member_view, class_attribute_view, class_view};
 
 use crate::class_attribute::ClassAttribute;
@@ -123,7 +123,8 @@ fn class_attributes<'a>(
     location: Location,
     cursor: &mut Cursor<'a>,
 ) -> Result<Vec<ClassAttribute<'a>>, ReadFault>
-    ensures { GoesOn (class_attributes pool.now location) (λ v. map class_attribute_view v.items) cursor.old cursor.new result }
+    ensures { GoesOn (class_attributes pool.now location)
+        (λ v. map class_attribute_view v.items) cursor.old cursor.new result }
 {
     take_table::<ClassAttribute<'a>>(alloc, pool, location, cursor)
 }
@@ -210,7 +211,7 @@ fn put_all(out: &mut Output, pool: &Pool<'_>, class: &ClassFile<'_>) -> Result<(
 }
 
 /// Writes a class file, from its magic number to its attributes.
-#[tactic(auto, unfolding(crate::specs::Pieces::class_pieces))]
+#[tactic(auto, unfolding(crate::specs::private::Pieces::class_pieces))]
 pub fn put_class(out: &mut Output, class: &ClassFile<'_>) -> Result<(), WriteFault>
     ensures { Goes (class_pieces (class_view class.now)) out.old out.new result }
 {

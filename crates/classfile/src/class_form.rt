@@ -54,7 +54,8 @@ fn interfaces_have_bad(pool: &Pool<'_>, interfaces: &[u16]) -> bool
 
 #[tactic(auto, unfolding(crate::specs::ClassForm::interfaces_have_bad, crate::specs::ClassForm::interfaces_have_other))]
 fn interfaces_have_fault(pool: &Pool<'_>, interfaces: &[u16]) -> bool
-    ensures { result ≡ (interfaces_have_bad pool.now (map (λ n. n) interfaces.now) || interfaces_have_other pool.now (map (λ n. n) interfaces.now)) }
+    ensures { result ≡ (interfaces_have_bad pool.now (map (λ n. n) interfaces.now)
+        || interfaces_have_other pool.now (map (λ n. n) interfaces.now)) }
 {
     interfaces
         .iter()

@@ -3,7 +3,7 @@ ghost use Rattle.std.specs.Prelude.{◌≡◌, ◌+◌, ◌<◌, ◌^◌, ℕ, L
 ghost use Rattle.layout.specs.Faults.{GoesOn, Settles};
 ghost use Rattle.layout.specs.Pieces.{Goes, field, plain, lengthened};
 ghost use Rattle.classfile.specs.ClassFile.{sizes, handlers, nested_attributes, code};
-ghost use Rattle.classfile.specs.Pieces.{code_pieces};
+ghost use Rattle.classfile.specs.private.Pieces.{code_pieces};
 ghost use Rattle.classfile.specs.Views.{handler_view, nested_view, code_view};
 
 use crate::location::Location;
@@ -44,7 +44,7 @@ pub struct CodeAttr<'a> {
 impl<'a> Item<'a> for ExceptionHandler {
     ghost use Rattle.classfile.specs.Values.{Handler};
     ghost use Rattle.classfile.specs.ClassFile.{handler};
-    ghost use Rattle.classfile.specs.Pieces.{handler_pieces};
+    ghost use Rattle.classfile.specs.private.Pieces.{handler_pieces};
     ghost use Rattle.classfile.specs.Views.{handler_view};
 
     ghost View = { Handler };
@@ -90,7 +90,12 @@ impl<'a> Item<'a> for ExceptionHandler {
 
 #[tactic(auto, unfolding(crate::specs::ClassFile::sizes))]
 fn sizes<'a>(cursor: &mut Cursor<'a>) -> Result<(u16, u16, &'a [u8]), ReadFault>
-    ensures { GoesOn sizes (λ s. record { max_stack = s.0; max_locals = s.1; code = s.2.now }) cursor.old cursor.new result }
+    ensures { GoesOn sizes (λ s. record {
+      max_stack = s.0;
+      max_locals = s.1;
+      code =
+          s.2.now;
+    }) cursor.old cursor.new result }
 {
     let max_stack = cursor.u2()?;
     let max_locals = cursor.u2()?;
@@ -172,7 +177,8 @@ fn put_sizes(
     max_locals: u16,
     code: &[u8],
 ) -> Result<(), WriteFault>
-    ensures { Goes (field 2 max_stack ++ (field 2 max_locals ++ lengthened (plain code.now ∷ []))) out.old out.new result }
+    ensures { Goes (field 2 max_stack
+        ++ (field 2 max_locals ++ lengthened (plain code.now ∷ []))) out.old out.new result }
 {
     out.put_u2(max_stack)?;
     out.put_u2(max_locals)?;

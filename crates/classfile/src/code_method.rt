@@ -20,8 +20,8 @@ use crate::member_form::is_instance_initializer;
 use names::{FieldType, Text, result_type};
 use pool::Pool;
 
-/// A method of a class that has a Code attribute. It is the method of its number: what the class file says of that one is
-/// what these parts say.
+/// A method of a class that has a Code attribute. It is the method of its number: what the class file says of that one
+/// is what these parts say.
 #[derive(Clone, Copy)]
 pub struct CodeMethod<'c, 'a> {
     /// The class file that declares it.
@@ -79,7 +79,9 @@ fn code_of<'c, 'a>(attributes: &'c [Attribute<'a>]) -> Option<&'c CodeAttr<'a>>
 
 /// The result of the method descriptor at this index.
 fn result_at<'a>(pool: &Pool<'a>, index: u16) -> Option<FieldType<'a>>
-    ensures { (receiver : Bool) (m : MethodDescriptor) → option_and_then (λ text. found (method_answer receiver text)) (found (text_at pool.now index)) ≡ Some m → option_map type_of result ≡ m.result }
+    ensures { (receiver : Bool) (m : MethodDescriptor)
+        → option_and_then (λ text. found (method_answer receiver text)) (found (text_at pool.now index)) ≡ Some m
+        → option_map type_of result ≡ m.result }
 {
     match pool.text(index) {
         Ok(text) => result_type(text),
@@ -94,7 +96,8 @@ impl<'c, 'a> Formed<'c, 'a> {
     pub fn method(self, number: usize) -> Option<CodeMethod<'c, 'a>>
         requires { number < length self.class.now.methods.items }
         // None exactly where the method has no Code attribute.
-        ensures code { option_map (λ m. code_view m.code.now) result ≡ code_at (class_view self.entry.class.now) number }
+        ensures code { option_map (λ m. code_view m.code.now) result
+            ≡ code_at (class_view self.entry.class.now) number }
         // It is the method of that number of this class, and is judged as the class is.
         ensures here { IfSome result (λ m. IsAt self.entry number m) }
         // So what the class file says of the method is what is answered, whatever its code says.

@@ -4,7 +4,7 @@ ghost use Rattle.layout.specs.Faults.{GoesOn, Settles};
 ghost use Rattle.layout.specs.PieceLaws.{counted};
 ghost use Rattle.layout.specs.Pieces.{Goes};
 ghost use Rattle.classfile.specs.ClassFile.{two, components};
-ghost use Rattle.classfile.specs.Pieces.{component_pieces};
+ghost use Rattle.classfile.specs.private.Pieces.{component_pieces};
 ghost use Rattle.classfile.specs.Views.{component_view};
 
 use crate::attribute::Attribute;
@@ -39,7 +39,7 @@ fn two(cursor: &mut Cursor<'_>) -> Result<(u16, u16), ReadFault>
 impl<'a> Item<'a> for Component<'a> {
     ghost use Rattle.classfile.specs.Values as values;
     ghost use Rattle.classfile.specs.ClassFile.{component};
-    ghost use Rattle.classfile.specs.Pieces.{component_pieces};
+    ghost use Rattle.classfile.specs.private.Pieces.{component_pieces};
     ghost use Rattle.classfile.specs.Views.{component_view};
 
     ghost View = { values.Component };
@@ -90,7 +90,8 @@ fn components<'a>(
     take_table::<Component<'a>>(alloc, pool, Location::RecordComponent, cursor)
 }
 
-/// The components of a body, which are to be all of it. The attribute's name index stands at `name_at`, its body at `start`.
+/// The components of a body, which are to be all of it. The attribute's name index stands at `name_at`, its body at
+/// `start`.
 pub fn whole_components<'a>(
     alloc: Global,
     pool: &Pool<'a>,
@@ -112,7 +113,8 @@ pub fn put_components(
     pool: &Pool<'_>,
     components: &Vec<Component<'_>>,
 ) -> Result<(), WriteFault>
-    ensures { Goes (counted (component_pieces pool.now) (map component_view components.now.items)) out.old out.new result }
+    ensures { Goes (counted (component_pieces pool.now)
+        (map component_view components.now.items)) out.old out.new result }
 {
     put_table(out, pool, Location::RecordComponent, components)
 }

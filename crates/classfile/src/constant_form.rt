@@ -3,8 +3,8 @@ ghost use Rattle.std.specs.Prelude.{◌≡◌, ◌||◌, ◌∷◌, []};
 ghost use Rattle.classfile.specs.declared.form_fault.FormRule.TheVariants.{BadName, BadDescriptor};
 ghost use Rattle.classfile.specs.Conditions.{broken_rule};
 ghost use Rattle.classfile.specs.ConstantForm.{is_no_class_name, is_array_class, is_no_unqualified_name, is_no_descriptor, is_no_field_descriptor, is_no_method_descriptor, is_no_field, is_no_method, is_no_method_of_class, is_special_name, is_special, is_no_method_name, has_bad, has_other, texts_have_bad, texts_have_other, class_conditions, string_conditions, field_conditions, method_conditions, interface_method_conditions, name_and_type_conditions, method_handle_conditions, method_type_conditions, dynamic_conditions, invoke_dynamic_conditions, constant_conditions};
-ghost use Rattle.classfile.specs.NamedAt.{IsNamedAt};
-ghost use Rattle.classfile.specs.TextForms.{AreForms};
+ghost use Rattle.classfile.specs.private.NamedAt.{IsNamedAt};
+ghost use Rattle.classfile.specs.private.TextForms.{AreForms};
 ghost use Rattle.pool.specs.Views.{view};
 
 use crate::form_fault::FormRule;
@@ -128,7 +128,8 @@ fn is_no_method(pool: &Pool<'_>, forms: &mut TextForms, index: u16) -> bool
 #[tactic(auto, unfolding(crate::specs::ConstantForm::is_special, crate::specs::ConstantForm::is_no_method_of_class))]
 fn method_name_rule(pool: &Pool<'_>, forms: &mut TextForms, named: u16) -> Option<FormRule>
     requires { AreForms pool.now forms.now }
-    ensures told { result ≡ broken_rule ((BadName, is_special pool.now named) ∷ (BadDescriptor, is_no_method_of_class pool.now named) ∷ []) }
+    ensures told { result ≡ broken_rule
+        ((BadName, is_special pool.now named) ∷ (BadDescriptor, is_no_method_of_class pool.now named) ∷ []) }
     ensures kept { AreForms pool.now forms.new }
 {
     let named = named_at(pool, named)?;

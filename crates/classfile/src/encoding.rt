@@ -5,7 +5,7 @@ ghost use Rattle.layout.specs.Format.{AreBytes};
 ghost use Rattle.layout.specs.Pieces.{Delivers};
 ghost use Rattle.classfile.specs.ClassFile.{IsClass};
 ghost use Rattle.classfile.specs.Encoding.{Encodes};
-ghost use Rattle.classfile.specs.Pieces.{class_pieces};
+ghost use Rattle.classfile.specs.private.Pieces.{class_pieces};
 ghost use Rattle.classfile.specs.Views.{class_view};
 
 use crate::class_file::{ClassFile, put_class};
@@ -28,7 +28,8 @@ pub fn encode(alloc: Global, class: &ClassFile<'_>) -> Result<Vec<u8>, WriteFaul
     // The bytes that are answered spell the class; and which refusal it is.
     ensures exact { Encodes (class_view class.now) (λ v. v.items) result }
     // A class that has a spelling is written, unless memory runs out.
-    ensures only { (bytes : List ℕ) → AreBytes bytes → IsClass bytes (class_view class.now) → IfErr result (λ e. e ≡ OutOfMemory) }
+    ensures only { (bytes : List ℕ) → AreBytes bytes → IsClass bytes (class_view class.now)
+        → IfErr result (λ e. e ≡ OutOfMemory) }
 {
     written(alloc, class)
 }

@@ -34,8 +34,8 @@ pub const ENUM: u16 = 0x4000;
 /// ACC_MODULE, of classes.
 pub const MODULE: u16 = 0x8000;
 
-/// Flags that may not stand as they do: where all of `set` stand and none of `clear`, none of `excluded` may stand, and all
-/// of `needed` have to.
+/// Flags that may not stand as they do: where all of `set` stand and none of `clear`, none of `excluded` may stand, and
+/// all of `needed` have to.
 #[derive(Clone, Copy)]
 struct FlagRow {
     set: u16,
@@ -51,7 +51,7 @@ macro_rules! flag_rows {
     };
 }
 
-/// Of classes (JVMS 4.1).
+/// The rules for the flags of classes (JVMS 4.1).
 static CLASS_FLAGS: [FlagRow; 4] = flag_rows! {
     0,         0,         MODULE,               0;
     INTERFACE, 0,         FINAL | SUPER | ENUM, ABSTRACT;
@@ -59,28 +59,28 @@ static CLASS_FLAGS: [FlagRow; 4] = flag_rows! {
     FINAL,     INTERFACE, ABSTRACT,             0;
 };
 
-/// Of fields (JVMS 4.5).
+/// The rules for the flags of fields (JVMS 4.5).
 static FIELD_FLAGS: [FlagRow; 3] = flag_rows! {
     PUBLIC,    0,         PRIVATE | PROTECTED,  0;
     PRIVATE,   0,         PROTECTED,            0;
     FINAL,     0,         VOLATILE,             0;
 };
 
-/// Of methods (JVMS 4.6), but for initialization methods.
+/// The rules for the flags of methods (JVMS 4.6) that are no initialization methods.
 static METHOD_FLAGS: [FlagRow; 3] = flag_rows! {
     PUBLIC,    0,         PRIVATE | PROTECTED,  0;
     PRIVATE,   0,         PROTECTED,            0;
     ABSTRACT,  0,         PRIVATE | STATIC | FINAL | SYNCHRONIZED | NATIVE, 0;
 };
 
-/// Of instance initialization methods.
+/// The rules for the flags of instance initialization methods.
 static INIT_FLAGS: [FlagRow; 3] = flag_rows! {
     PUBLIC,    0,         PRIVATE | PROTECTED,  0;
     PRIVATE,   0,         PROTECTED,            0;
     0,         0,         STATIC | FINAL | SYNCHRONIZED | BRIDGE | NATIVE | ABSTRACT, 0;
 };
 
-/// Of class initialization methods, of whose flags only this one counts.
+/// The rule for the flags of class initialization methods: only this one counts.
 static CLINIT_FLAGS: [FlagRow; 1] = flag_rows! {
     0,         0,         0,                    STATIC;
 };

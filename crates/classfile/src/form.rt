@@ -1,6 +1,6 @@
 //! Whether a class file is well formed (JVMS 4.1 to 4.7).
 ghost use Rattle.std.specs.Prelude.{◌≡◌, false, IfOk, IfErr, MatchResult};
-ghost use Rattle.classfile.specs.TextForms.{AreForms};
+ghost use Rattle.classfile.specs.private.TextForms.{AreForms};
 ghost use Rattle.classfile.specs.Views.{class_view};
 ghost use Rattle.classfile.specs.WellFormed.{WellFormed, Passes, TellsFirst};
 ghost use Rattle.classfile.specs.declared.form_fault.FormFault.TheVariants.{OutOfMemory};
@@ -9,7 +9,7 @@ ghost use Rattle.classfile.specs.declared.form_fault.Place.TheVariants as places
 use crate::class_file::ClassFile;
 use crate::class_form::class_rule;
 use crate::constant_form::constant_rule;
-use crate::earlier::Earlier;
+use crate::duplicate_finder::DuplicateFinder;
 use crate::flags::{INTERFACE, has};
 use crate::form_fault::{FormFault, Place};
 use crate::member_form::{field_rule, method_rule};
@@ -83,7 +83,7 @@ fn fields_form(alloc: Global, class: &ClassFile<'_>, forms: &mut TextForms) -> R
     ensures kept { AreForms class.now.constant_pool forms.new }
 {
     let pool = &class.constant_pool;
-    let mut seen = Earlier::new(alloc, pool, class.fields.len())?;
+    let mut seen = DuplicateFinder::new(alloc, pool, class.fields.len())?;
     for (n, field) in class.fields.iter().enumerate() {
         let repeated = seen.meet(pool, &class.fields[..n], field)?;
         if let Some(rule) = field_rule(pool, forms, repeated, field) {
@@ -106,7 +106,7 @@ fn methods_form(
 {
     let pool = &class.constant_pool;
     let interface = has(class.access_flags, INTERFACE);
-    let mut seen = Earlier::new(alloc, pool, class.methods.len())?;
+    let mut seen = DuplicateFinder::new(alloc, pool, class.methods.len())?;
     for (n, method) in class.methods.iter().enumerate() {
         let repeated = seen.meet(pool, &class.methods[..n], method)?;
         if let Some(rule) = method_rule(pool, forms, interface, repeated, method) {
@@ -133,8 +133,8 @@ fn places_form(alloc: Global, class: &ClassFile<'_>) -> Result<(), FormFault>
 /// Whether the class file is well formed: the entries of its pool (JVMS 4.4), the class itself (4.1), its fields (4.5),
 /// its methods (4.6) and their Code (4.7.3).
 ///
-/// Otherwise the first place at which a rule is broken, in this order, with the least number that is broken there:
-/// 20 to 30, as [`FormRule`](crate::FormRule) has them; or 1 where memory runs out. Time grows with the class as n log n.
+/// Otherwise the first place at which a rule is broken, in this order, with the least number that is broken there: 20
+/// to 30, as [`FormRule`](crate::FormRule) has them; or 1 where memory runs out. Time grows with the class as n log n.
 pub fn form_check<'c, 'a>(
     alloc: Global,
     class: &'c ClassFile<'a>,

@@ -7,7 +7,7 @@ ghost use Rattle.classfile.specs.CodeMethods.{class_of, code_method_view};
 use crate::code_method::CodeMethod;
 use names::{field_answers, method_answers};
 
-/// Of a place that rule is told which has the least number of those that are broken there.
+/// The rule that is told of a place has the least number of those that are broken there.
 pub fn least_rule_is_told()
     ensures some { LeastIsTold }
     ensures none { NoneIsTold }
@@ -44,5 +44,6 @@ pub fn formed_has_names()
 
 /// A method is kept as the class file has it, whatever its code says: `A` is what is known of an instruction.
 pub fn method_is_told<A>(method: CodeMethod<'_, '_>)
-    ensures { (code : List (ℕ × A)) → method_of (class_of method.entry) method.entry.number code ≡ Some (code_method_view method.entry code) }
+    ensures { (code : List (ℕ × A))
+        → method_of (class_of method.entry) method.entry.number code ≡ Some (code_method_view method.entry code) }
 {}

@@ -24,7 +24,8 @@ pub enum Column {
     Value,
 }
 
-/// How the body of an attribute is laid out that is numbers of two bytes each: a row of such numbers, or a count and as many rows.
+/// How the body of an attribute is laid out that is numbers of two bytes each: a row of such numbers, or a count and as
+/// many rows.
 #[derive(Clone, Copy, Debug, PartialEq, Eq)]
 pub struct AttributeLayout<'t> {
     /// The attribute's name.
@@ -46,7 +47,7 @@ macro_rules! attributes {
     };
 }
 
-/// Of classes.
+/// The layouts of attributes of classes.
 static CLASS_LAYOUTS: [AttributeLayout<'static>; 8] = attributes! {
     "SourceFile"          51 true  false [Text];
     "InnerClasses"        51 true  true  [Class, ClassOrZero, TextOrZero, Plain];
@@ -58,7 +59,7 @@ static CLASS_LAYOUTS: [AttributeLayout<'static>; 8] = attributes! {
     "Synthetic"           51 false false [];
 };
 
-/// Of fields.
+/// The layouts of attributes of fields.
 static FIELD_LAYOUTS: [AttributeLayout<'static>; 4] = attributes! {
     "ConstantValue" 51 true  false [Value];
     "Signature"     51 true  false [Text];
@@ -66,7 +67,7 @@ static FIELD_LAYOUTS: [AttributeLayout<'static>; 4] = attributes! {
     "Synthetic"     51 false false [];
 };
 
-/// Of methods.
+/// The layouts of attributes of methods.
 static METHOD_LAYOUTS: [AttributeLayout<'static>; 4] = attributes! {
     "Exceptions" 51 true  true  [Class];
     "Signature"  51 true  false [Text];
@@ -74,13 +75,13 @@ static METHOD_LAYOUTS: [AttributeLayout<'static>; 4] = attributes! {
     "Synthetic"  51 false false [];
 };
 
-/// Of Code attributes.
+/// The layouts of attributes of Code attributes.
 static CODE_LAYOUTS: [AttributeLayout<'static>; 2] = attributes! {
     "LineNumberTable"    51 false true [Plain, Plain];
     "LocalVariableTable" 51 false true [Plain, Plain, Text, Text, Plain];
 };
 
-/// Of components of records.
+/// The layouts of attributes of components of records.
 static COMPONENT_LAYOUTS: [AttributeLayout<'static>; 1] = attributes! {
     "Signature" 51 true false [Text];
 };

@@ -4,8 +4,8 @@
 //! [`decode`] answers a class exactly where the bytes spell one, and otherwise the first fault in the
 //! file's order; [`encode`] answers the one spelling, exactly where there is one.
 //!
-//! [`form_check`] answers a [`Formed`] exactly where a class is well formed (`specs/WellFormed.antt`), and otherwise the
-//! first place at which a rule is broken, with the least number.
+//! [`form_check`] answers a [`Formed`] exactly where a class is well formed (`specs/WellFormed.antt`), and otherwise
+//! the first place at which a rule is broken, with the least number.
 //!
 //! | File | What it holds |
 //! |---|---|
@@ -28,12 +28,12 @@
 //! | `profile` | [`Profile`], how the methods of a class are judged |
 //! | `form_fault` | [`FormRule`], [`Place`] and [`FormFault`] |
 //! | `constant_form`, `class_form`, `member_form`, `attribute_form` | which rule is broken at a place |
-//! | `number_form`, `once` | which rule is broken by an index in an attribute of numbers, and whether one stands twice |
+//! | `number_form`, `repeated_attributes` | which rule is broken by an index in an attribute of numbers, and whether one stands twice |
 //! | `record_form` | which rule is broken by the attributes of a class |
-//! | `text_forms` | of which forms each text of the pool is, judged once |
+//! | `text_forms` | the forms of each text of the pool, judged once |
 //! | `indices`, `naming`, `flags` | what an index leads to, forms of names and descriptors, access flags |
-//! | `earlier` | whether a member has the name and the descriptor of an earlier one |
-//! | `signatures` | the names and descriptors that were met |
+//! | `duplicate_finder` | whether a member has the name and the descriptor of an earlier one |
+//! | `member_keys` | the names and descriptors that were met |
 //! | `text_numbers` | a number for each text of the pool, the same exactly for equal texts |
 //! | `own_fields` | whether the class declares a field |
 //! | `form_laws` | what the rules mean, and that there is one first fault |
@@ -50,7 +50,7 @@ mod code_method;
 mod component;
 mod constant_form;
 mod decoding;
-mod earlier;
+mod duplicate_finder;
 mod encoding;
 pub mod flags;
 mod form;
@@ -62,17 +62,17 @@ mod layouts;
 mod location;
 mod member;
 mod member_form;
+mod member_keys;
 mod naming;
 mod nested;
 mod number_form;
 mod numbers;
-mod once;
 mod outline;
 mod own_fields;
 mod profile;
 mod reading;
 mod record_form;
-mod signatures;
+mod repeated_attributes;
 mod table;
 mod text_forms;
 mod text_numbers;

@@ -62,7 +62,7 @@ pub fn attributes<'a>(
 impl<'a> Item<'a> for Member<'a> {
     ghost use Rattle.classfile.specs.Values as values;
     ghost use Rattle.classfile.specs.ClassFile.{member};
-    ghost use Rattle.classfile.specs.Pieces.{member_pieces};
+    ghost use Rattle.classfile.specs.private.Pieces.{member_pieces};
     ghost use Rattle.classfile.specs.Views.{member_view};
 
     ghost View = { values.Member };

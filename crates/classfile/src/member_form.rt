@@ -2,8 +2,8 @@
 ghost use Rattle.std.specs.Prelude.{◌≡◌, ◌||◌, Ok};
 ghost use Rattle.classfile.specs.Conditions.{broken_rule};
 ghost use Rattle.classfile.specs.MemberForm.{member_has_bad, member_has_other, field_conditions, may_name_method, is_bad_method_name, may_describe_method, is_badly_described, is_instance_initializer, is_badly_flagged, has_body, body_conditions, method_conditions};
-ghost use Rattle.classfile.specs.MemberTexts.{HasTexts, AreSoundTexts, named_method_conditions};
-ghost use Rattle.classfile.specs.TextForms.{name_form_of, descriptor_form_of, AreForms};
+ghost use Rattle.classfile.specs.private.MemberTexts.{HasTexts, AreSoundTexts, named_method_conditions};
+ghost use Rattle.classfile.specs.private.TextForms.{name_form_of, descriptor_form_of, AreForms};
 ghost use Rattle.classfile.specs.Views.{member_view};
 ghost use Rattle.pool.specs.Lookups.{text_at};
 ghost use Rattle.pool.specs.Views.{name_and_type_view};
@@ -20,7 +20,7 @@ use crate::indices::index_rule;
 use crate::location::Location;
 use crate::member::Member;
 use crate::naming::{is_clinit, is_init};
-use crate::once::numbers_stand_twice;
+use crate::repeated_attributes::numbers_stand_twice;
 use crate::text_forms::{DescriptorForm, NameForm, TextForms, fits_method};
 use names::Text;
 use pool::{NameAndType, Pool};
@@ -36,7 +36,8 @@ fn member_has_bad(pool: &Pool<'_>, member: &Member<'_>) -> bool
 /// Whether one of its indices breaks a rule, 20 or 21; each is looked up once for both.
 #[tactic(auto, unfolding(crate::specs::MemberForm::member_has_bad, crate::specs::MemberForm::member_has_other))]
 fn member_has_fault(pool: &Pool<'_>, member: &Member<'_>) -> bool
-    ensures { result ≡ (member_has_bad pool.now (member_view member.now) || member_has_other pool.now (member_view member.now)) }
+    ensures { result ≡ (member_has_bad pool.now (member_view member.now)
+        || member_has_other pool.now (member_view member.now)) }
 {
     texts_have_fault(pool, member.name, member.descriptor)
         || attributes_have_fault(pool, &member.attributes)

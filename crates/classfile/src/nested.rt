@@ -43,7 +43,7 @@ fn put_marked(out: &mut Output, fine: bool, bytes: &[u8]) -> Result<(), WriteFau
 impl<'a> Item<'a> for NestedAttribute<'a> {
     ghost use Rattle.classfile.specs.Values.{Nested};
     ghost use Rattle.classfile.specs.ClassFile.{nested};
-    ghost use Rattle.classfile.specs.Pieces.{nested_pieces};
+    ghost use Rattle.classfile.specs.private.Pieces.{nested_pieces};
     ghost use Rattle.classfile.specs.Views.{nested_view};
 
     ghost View = { Nested };

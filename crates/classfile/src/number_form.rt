@@ -3,7 +3,7 @@ ghost use Rattle.std.specs.Prelude.{◌≡◌, ◌≤◌, ◌||◌, if◌then◌
 ghost use Rattle.std.specs.List.{list_any};
 ghost use Rattle.classfile.specs.LayoutViews.{numbers_view};
 ghost use Rattle.classfile.specs.declared.number_form.IndexRule.TheVariants as rules;
-ghost use Rattle.classfile.specs.IndexColumns.{is_plain, are_plain, variable, are_variable};
+ghost use Rattle.classfile.specs.private.IndexColumns.{is_plain, are_plain, variable, are_variable};
 ghost use Rattle.classfile.specs.Numbers.{row_in, behind_row, rows_in, counted_rows};
 ghost use Rattle.classfile.specs.NumberForm.{is_bad_in, is_other_in, breaks, row_breaks, numbers_break};
 
@@ -14,7 +14,7 @@ use crate::layouts::Column;
 use crate::numbers::{Numbers, number};
 use pool::Pool;
 
-/// Of five numbers the third and the fourth are indices of texts.
+/// Five numbers, of which the third and the fourth are indices of texts.
 static VARIABLE: [Column; 5] = [
     Column::Plain,
     Column::Plain,
@@ -86,7 +86,9 @@ fn sound_row<'b>(
     columns: &[Column],
     bytes: &'b [u8],
 ) -> Option<&'b [u8]>
-    ensures { option_map (λ b. b.now) result ≡ (if row_breaks (breaks pool.now rule) columns.now (row_in columns.now bytes.entry.now) then None else Some (behind_row columns.now bytes.entry.now)) }
+    ensures { option_map (λ b. b.now) result
+        ≡ (if row_breaks (breaks pool.now rule) columns.now (row_in columns.now bytes.entry.now) then None
+        else Some (behind_row columns.now bytes.entry.now)) }
 {
     let mut rest = bytes;
     for column in columns {
@@ -161,7 +163,8 @@ fn body_breaks(pool: &Pool<'_>, rule: IndexRule, numbers: &Numbers<'_>) -> bool
     }
 }
 
-/// Whether an index among the numbers breaks the rule. Rows that have no index, as those of line numbers, are not looked at.
+/// Whether an index among the numbers breaks the rule. Rows that have no index, as those of line numbers, are not
+/// looked at.
 pub fn numbers_break(pool: &Pool<'_>, rule: IndexRule, numbers: &Numbers<'_>) -> bool
     ensures { result ≡ numbers_break pool.now rule (numbers_view numbers.now) }
 {
@@ -182,11 +185,13 @@ fn variable() -> &'static [Column]
     &VARIABLE
 }
 
-/// The bytes behind a local variable, if neither its name nor its descriptor breaks one of the two rules. Of all rows these are
-/// the most, so their other numbers are not looked at one by one.
+/// The bytes behind a local variable, if neither its name nor its descriptor breaks one of the two rules. Of all rows
+/// these are the most, so their other numbers are not looked at one by one.
 fn sound_variable<'b>(pool: &Pool<'_>, bytes: &'b [u8]) -> Option<&'b [u8]>
     requires { 10 ≤ length bytes.now }
-    ensures { option_map (λ b. b.now) result ≡ (if row_breaks (breaks pool.now rules.Both) variable (row_in variable bytes.entry.now) then None else Some (behind_row variable bytes.entry.now)) }
+    ensures { option_map (λ b. b.now) result
+        ≡ (if row_breaks (breaks pool.now rules.Both) variable (row_in variable bytes.entry.now) then None
+        else Some (behind_row variable bytes.entry.now)) }
 {
     let [_, _, _, _, a, b, c, d, _, _, behind @ ..] = bytes else {
         return None;
@@ -227,7 +232,8 @@ fn variables_have_fault(pool: &Pool<'_>, body: &[u8]) -> bool
 
 /// Whether an index among the numbers breaks one of the two rules; each is looked up once.
 pub fn numbers_have_fault(pool: &Pool<'_>, numbers: &Numbers<'_>) -> bool
-    ensures { result ≡ (numbers_break pool.now rules.BadIndex (numbers_view numbers.now) || numbers_break pool.now rules.WrongKind (numbers_view numbers.now)) }
+    ensures { result ≡ (numbers_break pool.now rules.BadIndex (numbers_view numbers.now)
+        || numbers_break pool.now rules.WrongKind (numbers_view numbers.now)) }
 {
     if numbers.layout.counted && are_variable(numbers.layout.columns) {
         return variables_have_fault(pool, numbers.body);

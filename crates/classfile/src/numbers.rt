@@ -2,7 +2,7 @@
 ghost use Rattle.std.specs.Prelude.{◌≡◌, ◌+◌, ◌*◌, length, drop};
 ghost use Rattle.classfile.specs.Layouts.{layout_at};
 ghost use Rattle.classfile.specs.LayoutViews.{numbers_view};
-ghost use Rattle.classfile.specs.IndexColumns.{first_number, behind_count};
+ghost use Rattle.classfile.specs.private.IndexColumns.{first_number, behind_count};
 ghost use Rattle.classfile.specs.Numbers.{rows_of, number_at, is_laid_out};
 
 use crate::layouts::{AttributeLayout, has_layout, layout_at};
@@ -10,8 +10,8 @@ use crate::location::Location;
 use byteorder::{BigEndian, ByteOrder};
 use pool::Pool;
 
-/// The numbers of an attribute: rows of them, each with one number in every column of the layout. A count of rows that stands before
-/// them is none of them. Of a class that was decoded the body has as many bytes as the layout asks for.
+/// The numbers of an attribute: rows of them, each with one number in every column of the layout. A count of rows that
+/// stands before them is none of them. Of a class that was decoded the body has as many bytes as the layout asks for.
 #[derive(Clone, Copy, Debug)]
 pub struct Numbers<'a> {
     /// The name of such attributes, and the columns of a row.

@@ -2,7 +2,7 @@
 ghost use Rattle.std.specs.Prelude.{◌≡◌, ◌-◌, ◌<◌, length, false};
 ghost use Rattle.layout.specs.Streams.{Streams};
 ghost use Rattle.layout.specs.declared.fault.ReadFault.TheVariants.{BadTag};
-ghost use Rattle.classfile.specs.Outline.{bytes, repeated, text, both, wide, constant, is_wide, tagged, indexed, constants, pool, attribute, attributes, numbers, member, members, interfaces, behind_pool, head, outline};
+ghost use Rattle.classfile.specs.Outline.{bytes, counted, repeated, text, both, wide, constant, is_wide, tagged, indexed, constants, pool, attributes, numbers, members, interfaces, behind_pool, head, outline};
 
 use layout::{ReadFault, Reading, StreamFault};
 use std::io::Read;
@@ -10,7 +10,8 @@ use std::io::Read;
 /// So many bytes, whatever they are.
 #[tactic(auto, using(crate::proofs::Outlines::steps))]
 fn bytes<R: Read>(reading: &mut Reading, reader: &mut R, n: usize) -> Result<(), StreamFault>
-    ensures { Streams (bytes n) (λ x. x) reading.old.bytes reading.new.bytes (R.remaining reader.old) (R.remaining reader.new) result }
+    ensures { Streams (bytes n) (λ x. x) reading.old.bytes reading.new.bytes (R.remaining reader.old)
+        (R.remaining reader.new) result }
 {
     reading.part(reader, n)?;
     Ok(())
@@ -19,7 +20,8 @@ fn bytes<R: Read>(reading: &mut Reading, reader: &mut R, n: usize) -> Result<(),
 /// A text: its length, and so many bytes (JVMS 4.4.7).
 #[tactic(auto, using(crate::proofs::Outlines::steps), unfolding(crate::specs::Outline::text))]
 fn text<R: Read>(reading: &mut Reading, reader: &mut R) -> Result<(), StreamFault>
-    ensures { Streams text (λ x. x) reading.old.bytes reading.new.bytes (R.remaining reader.old) (R.remaining reader.new) result }
+    ensures { Streams text (λ x. x) reading.old.bytes reading.new.bytes (R.remaining reader.old)
+        (R.remaining reader.new) result }
 {
     let length = reading.u2(reader)?;
     bytes(reading, reader, length as usize)
@@ -33,7 +35,8 @@ fn both<R: Read>(
     first: usize,
     second: usize,
 ) -> Result<(), StreamFault>
-    ensures { Streams (both first second) (λ x. x) reading.old.bytes reading.new.bytes (R.remaining reader.old) (R.remaining reader.new) result }
+    ensures { Streams (both first second) (λ x. x) reading.old.bytes reading.new.bytes (R.remaining reader.old)
+        (R.remaining reader.new) result }
 {
     reading.part(reader, first)?;
     bytes(reading, reader, second)
@@ -60,7 +63,8 @@ fn wide<R: Read>(
     tag: u8,
 ) -> Result<(), StreamFault>
     requires { 0 < length reading.now.bytes }
-    ensures { Streams (wide last tag) (λ x. x) reading.old.bytes reading.new.bytes (R.remaining reader.old) (R.remaining reader.new) result }
+    ensures { Streams (wide last tag) (λ x. x) reading.old.bytes reading.new.bytes (R.remaining reader.old)
+        (R.remaining reader.new) result }
 {
     if last {
         return Err(bad_tag(reading, tag));
@@ -77,7 +81,8 @@ fn constant<R: Read>(
     tag: u8,
 ) -> Result<(), StreamFault>
     requires { 0 < length reading.now.bytes }
-    ensures { Streams (constant last tag) (λ x. x) reading.old.bytes reading.new.bytes (R.remaining reader.old) (R.remaining reader.new) result }
+    ensures { Streams (constant last tag) (λ x. x) reading.old.bytes reading.new.bytes (R.remaining reader.old)
+        (R.remaining reader.new) result }
 {
     match tag {
         // Utf8
@@ -114,7 +119,8 @@ fn is_wide(tag: u8) -> bool
 /// A constant, its tag first, and whether it takes a second index; `last` says that there is none.
 #[tactic(auto, using(crate::proofs::Outlines::steps), unfolding(crate::specs::Outline::tagged))]
 fn tagged<R: Read>(reading: &mut Reading, reader: &mut R, last: bool) -> Result<bool, StreamFault>
-    ensures { Streams (tagged last) (λ x. x) reading.old.bytes reading.new.bytes (R.remaining reader.old) (R.remaining reader.new) result }
+    ensures { Streams (tagged last) (λ x. x) reading.old.bytes reading.new.bytes (R.remaining reader.old)
+        (R.remaining reader.new) result }
 {
     let tag = reading.u1(reader)?;
     constant(reading, reader, last, tag)?;
@@ -129,7 +135,8 @@ fn indexed<R: Read>(
     second: bool,
     last: bool,
 ) -> Result<bool, StreamFault>
-    ensures { Streams (indexed second last) (λ x. x) reading.old.bytes reading.new.bytes (R.remaining reader.old) (R.remaining reader.new) result }
+    ensures { Streams (indexed second last) (λ x. x) reading.old.bytes reading.new.bytes (R.remaining reader.old)
+        (R.remaining reader.new) result }
 {
     if second {
         Ok(false)
@@ -140,7 +147,8 @@ fn indexed<R: Read>(
 
 /// The constants of so many indices.
 fn constants<R: Read>(reading: &mut Reading, reader: &mut R, count: u16) -> Result<(), StreamFault>
-    ensures { Streams (constants count false) (λ x. x) reading.old.bytes reading.new.bytes (R.remaining reader.old) (R.remaining reader.new) result }
+    ensures { Streams (constants count false) (λ x. x) reading.old.bytes reading.new.bytes (R.remaining reader.old)
+        (R.remaining reader.new) result }
 {
     let mut second = false;
     for i in 0..count {
@@ -152,7 +160,8 @@ fn constants<R: Read>(reading: &mut Reading, reader: &mut R, count: u16) -> Resu
 /// The constant pool (JVMS 4.1).
 #[tactic(auto, using(crate::proofs::Outlines::steps), unfolding(crate::specs::Outline::pool))]
 fn pool<R: Read>(reading: &mut Reading, reader: &mut R) -> Result<(), StreamFault>
-    ensures { Streams pool (λ x. x) reading.old.bytes reading.new.bytes (R.remaining reader.old) (R.remaining reader.new) result }
+    ensures { Streams pool (λ x. x) reading.old.bytes reading.new.bytes (R.remaining reader.old)
+        (R.remaining reader.new) result }
 {
     let count = reading.u2(reader)?;
     if count == 0 {
@@ -165,43 +174,75 @@ fn pool<R: Read>(reading: &mut Reading, reader: &mut R) -> Result<(), StreamFaul
     constants(reading, reader, count - 1)
 }
 
-/// An attribute (JVMS 4.7).
-#[tactic(auto, using(crate::proofs::Outlines::steps), unfolding(crate::specs::Outline::attribute))]
-fn attribute<R: Read>(reading: &mut Reading, reader: &mut R) -> Result<(), StreamFault>
-    ensures { Streams attribute (λ x. x) reading.old.bytes reading.new.bytes (R.remaining reader.old) (R.remaining reader.new) result }
-{
-    reading.u2(reader)?;
-    let length = reading.u4(reader)?;
-    bytes(reading, reader, length as usize)
+/// A part of which a table of a class file is made.
+trait Outlined {
+    ghost use Rattle.layout.specs.Format.{Format};
+    ghost use Rattle.layout.specs.Streams.{Streams};
+
+    // Its outline.
+    ghost outline: { Format (Unit {0}) };
+
+    /// Reads one such part.
+    fn read<R: Read>(reading: &mut Reading, reader: &mut R) -> Result<(), StreamFault>
+        ensures { Streams outline (λ x. x) reading.old.bytes reading.new.bytes (R.remaining reader.old)
+            (R.remaining reader.new) result };
 }
 
-/// So many attributes.
-fn so_many_attributes<R: Read>(
+/// So many parts of a kind.
+fn items<T: Outlined, R: Read>(
     reading: &mut Reading,
     reader: &mut R,
     count: u16,
 ) -> Result<(), StreamFault>
-    ensures { Streams (repeated count attribute) (λ x. x) reading.old.bytes reading.new.bytes (R.remaining reader.old) (R.remaining reader.new) result }
+    ensures { Streams (repeated count T.outline) (λ x. x) reading.old.bytes reading.new.bytes (R.remaining reader.old)
+        (R.remaining reader.new) result }
 {
     for _ in 0..count {
-        attribute(reading, reader)?;
+        T::read(reading, reader)?;
     }
     Ok(())
 }
 
-/// A table of attributes.
-#[tactic(auto, using(crate::proofs::Outlines::steps), unfolding(crate::specs::Outline::attributes))]
-fn attributes<R: Read>(reading: &mut Reading, reader: &mut R) -> Result<(), StreamFault>
-    ensures { Streams attributes (λ x. x) reading.old.bytes reading.new.bytes (R.remaining reader.old) (R.remaining reader.new) result }
+/// A table: a count of two bytes, and so many parts of a kind.
+#[tactic(auto, using(crate::proofs::Outlines::steps))]
+fn table<T: Outlined, R: Read>(reading: &mut Reading, reader: &mut R) -> Result<(), StreamFault>
+    ensures { Streams (counted T.outline) (λ x. x) reading.old.bytes reading.new.bytes (R.remaining reader.old)
+        (R.remaining reader.new) result }
 {
     let count = reading.u2(reader)?;
-    so_many_attributes(reading, reader, count)
+    items::<T, R>(reading, reader, count)
+}
+
+/// An attribute (JVMS 4.7).
+struct Attribute;
+
+impl Outlined for Attribute {
+    ghost use Rattle.classfile.specs.Outline.{attribute};
+
+    ghost outline = { attribute };
+
+    #[tactic(auto, using(crate::proofs::Outlines::steps), unfolding(crate::specs::Outline::attribute))]
+    fn read<R: Read>(reading: &mut Reading, reader: &mut R) -> Result<(), StreamFault> {
+        reading.u2(reader)?;
+        let length = reading.u4(reader)?;
+        bytes(reading, reader, length as usize)
+    }
+}
+
+/// A table of attributes.
+#[tactic(auto, unfolding(crate::specs::Outline::attributes))]
+fn attributes<R: Read>(reading: &mut Reading, reader: &mut R) -> Result<(), StreamFault>
+    ensures { Streams attributes (λ x. x) reading.old.bytes reading.new.bytes (R.remaining reader.old)
+        (R.remaining reader.new) result }
+{
+    table::<Attribute, R>(reading, reader)
 }
 
 /// So many numbers of two bytes.
 #[tactic(auto, unfolding(crate::specs::Outline::numbers))]
 fn numbers<R: Read>(reading: &mut Reading, reader: &mut R, count: u16) -> Result<(), StreamFault>
-    ensures { Streams (numbers count) (λ x. x) reading.old.bytes reading.new.bytes (R.remaining reader.old) (R.remaining reader.new) result }
+    ensures { Streams (numbers count) (λ x. x) reading.old.bytes reading.new.bytes (R.remaining reader.old)
+        (R.remaining reader.new) result }
 {
     for _ in 0..count {
         reading.u2(reader)?;
@@ -210,41 +251,34 @@ fn numbers<R: Read>(reading: &mut Reading, reader: &mut R, count: u16) -> Result
 }
 
 /// A field or a method (JVMS 4.5, 4.6).
-#[tactic(auto, using(crate::proofs::Outlines::steps), unfolding(crate::specs::Outline::member))]
-fn member<R: Read>(reading: &mut Reading, reader: &mut R) -> Result<(), StreamFault>
-    ensures { Streams member (λ x. x) reading.old.bytes reading.new.bytes (R.remaining reader.old) (R.remaining reader.new) result }
-{
-    numbers(reading, reader, 3)?;
-    attributes(reading, reader)
-}
+struct Member;
 
-/// So many fields or methods.
-fn so_many_members<R: Read>(
-    reading: &mut Reading,
-    reader: &mut R,
-    count: u16,
-) -> Result<(), StreamFault>
-    ensures { Streams (repeated count member) (λ x. x) reading.old.bytes reading.new.bytes (R.remaining reader.old) (R.remaining reader.new) result }
-{
-    for _ in 0..count {
-        member(reading, reader)?;
+impl Outlined for Member {
+    ghost use Rattle.classfile.specs.Outline.{member};
+
+    ghost outline = { member };
+
+    #[tactic(auto, using(crate::proofs::Outlines::steps), unfolding(crate::specs::Outline::member))]
+    fn read<R: Read>(reading: &mut Reading, reader: &mut R) -> Result<(), StreamFault> {
+        numbers(reading, reader, 3)?;
+        attributes(reading, reader)
     }
-    Ok(())
 }
 
 /// A table of fields or of methods.
-#[tactic(auto, using(crate::proofs::Outlines::steps), unfolding(crate::specs::Outline::members))]
+#[tactic(auto, unfolding(crate::specs::Outline::members))]
 fn members<R: Read>(reading: &mut Reading, reader: &mut R) -> Result<(), StreamFault>
-    ensures { Streams members (λ x. x) reading.old.bytes reading.new.bytes (R.remaining reader.old) (R.remaining reader.new) result }
+    ensures { Streams members (λ x. x) reading.old.bytes reading.new.bytes (R.remaining reader.old)
+        (R.remaining reader.new) result }
 {
-    let count = reading.u2(reader)?;
-    so_many_members(reading, reader, count)
+    table::<Member, R>(reading, reader)
 }
 
 /// The table of interfaces.
 #[tactic(auto, using(crate::proofs::Outlines::steps), unfolding(crate::specs::Outline::interfaces))]
 fn interfaces<R: Read>(reading: &mut Reading, reader: &mut R) -> Result<(), StreamFault>
-    ensures { Streams interfaces (λ x. x) reading.old.bytes reading.new.bytes (R.remaining reader.old) (R.remaining reader.new) result }
+    ensures { Streams interfaces (λ x. x) reading.old.bytes reading.new.bytes (R.remaining reader.old)
+        (R.remaining reader.new) result }
 {
     let count = reading.u2(reader)?;
     numbers(reading, reader, count)
@@ -253,7 +287,8 @@ fn interfaces<R: Read>(reading: &mut Reading, reader: &mut R) -> Result<(), Stre
 /// Reads the part behind the constant pool.
 #[tactic(auto, using(crate::proofs::Outlines::steps), unfolding(crate::specs::Outline::behind_pool))]
 fn behind_pool<R: Read>(reading: &mut Reading, reader: &mut R) -> Result<(), StreamFault>
-    ensures { Streams behind_pool (λ x. x) reading.old.bytes reading.new.bytes (R.remaining reader.old) (R.remaining reader.new) result }
+    ensures { Streams behind_pool (λ x. x) reading.old.bytes reading.new.bytes (R.remaining reader.old)
+        (R.remaining reader.new) result }
 {
     numbers(reading, reader, 3)?;
     interfaces(reading, reader)?;
@@ -265,7 +300,8 @@ fn behind_pool<R: Read>(reading: &mut Reading, reader: &mut R) -> Result<(), Str
 /// The magic number and the version, which may be any.
 #[tactic(auto, using(crate::proofs::Outlines::steps), unfolding(crate::specs::Outline::head))]
 fn head<R: Read>(reading: &mut Reading, reader: &mut R) -> Result<(), StreamFault>
-    ensures { Streams head (λ x. x) reading.old.bytes reading.new.bytes (R.remaining reader.old) (R.remaining reader.new) result }
+    ensures { Streams head (λ x. x) reading.old.bytes reading.new.bytes (R.remaining reader.old)
+        (R.remaining reader.new) result }
 {
     if reading.u4(reader)? != 0xCAFE_BABE {
         return Err(StreamFault {
@@ -279,7 +315,8 @@ fn head<R: Read>(reading: &mut Reading, reader: &mut R) -> Result<(), StreamFaul
 /// The outline of a class file.
 #[tactic(auto, using(crate::proofs::Outlines::steps), unfolding(crate::specs::Outline::outline))]
 pub fn outline<R: Read>(reading: &mut Reading, reader: &mut R) -> Result<(), StreamFault>
-    ensures { Streams outline (λ x. x) reading.old.bytes reading.new.bytes (R.remaining reader.old) (R.remaining reader.new) result }
+    ensures { Streams outline (λ x. x) reading.old.bytes reading.new.bytes (R.remaining reader.old)
+        (R.remaining reader.new) result }
 {
     head(reading, reader)?;
     pool(reading, reader)?;

@@ -10,13 +10,13 @@ ghost use Rattle.classfile.specs.Views.{member_view};
 
 use crate::class_file::ClassFile;
 use crate::member::Member;
-use crate::signatures::Signatures;
+use crate::member_keys::MemberKeys;
 use pool::{Constant, Pool};
 use std::alloc::{AllocError, Global};
 use std::marker::Model;
 
-/// Up to so many fields of short texts are looked at one by one: that takes no memory, and less time than a set of their names and
-/// descriptors.
+/// Up to so many fields of short texts are looked at one by one: that takes no memory, and less time than a set of
+/// their names and descriptors.
 const FEW: usize = 32;
 
 /// A text of up to so many bytes is short: to compare it takes little, however often it is done.
@@ -24,7 +24,9 @@ const SHORT: usize = 128;
 
 /// Whether the texts at a member's indices are these.
 fn is_named(pool: &Pool<'_>, member: &Member<'_>, name: &[u8], descriptor: &[u8]) -> bool
-    ensures { result ≡ is_declared (texts (found (text_at pool.now member.now.name)) (found (text_at pool.now member.now.descriptor)) []) name.now descriptor.now }
+    ensures { result ≡ is_declared
+        (texts (found (text_at pool.now member.now.name))
+        (found (text_at pool.now member.now.descriptor)) []) name.now descriptor.now }
 {
     let (Ok(own_name), Ok(own_descriptor)) = (pool.text(member.name), pool.text(member.descriptor))
     else {
@@ -45,9 +47,11 @@ fn is_among(pool: &Pool<'_>, fields: &[Member<'_>], name: &[u8], descriptor: &[u
     false
 }
 
-/// Whether the class declares a field of this name and descriptor, static or not. Takes no memory, and goes through all its fields.
+/// Whether the class declares a field of this name and descriptor, static or not. Takes no memory, and goes through all
+/// its fields.
 pub fn declares_field(class: &ClassFile<'_>, name: &[u8], descriptor: &[u8]) -> bool
-    ensures { result ≡ is_declared (declared_fields class.now.constant_pool (map member_view class.now.fields.items)) name.now descriptor.now }
+    ensures { result ≡ is_declared
+        (declared_fields class.now.constant_pool (map member_view class.now.fields.items)) name.now descriptor.now }
 {
     is_among(&class.constant_pool, &class.fields, name, descriptor)
 }
@@ -70,14 +74,14 @@ fn have_short_texts(pool: &Pool<'_>, fields: &[Member<'_>]) -> bool {
     true
 }
 
-/// The fields that a class declares, as its instructions ask for them. A set of their names and descriptors, as numbers of their texts,
-/// is made when they are asked first, but for few fields of short texts.
+/// The fields that a class declares, as its instructions ask for them. A set of their names and descriptors, as numbers
+/// of their texts, is made when they are asked first, but for few fields of short texts.
 #[derive(Drop)]
 pub struct OwnFields<'c, 'a> {
     alloc: Global,
     class: &'c ClassFile<'a>,
     one_by_one: bool,
-    met: Option<Signatures<'a>>,
+    met: Option<MemberKeys<'a>>,
 }
 
 impl<'c, 'a> Model for OwnFields<'c, 'a> {
@@ -90,7 +94,8 @@ impl<'c, 'a> Model for OwnFields<'c, 'a> {
 
     ghost view = { λ o. o.class.now };
 
-    ghost invariant = { λ o. IfSome o.met (AreSeen o.class.now.constant_pool (map member_view o.class.now.fields.items)) };
+    ghost invariant = { λ o. IfSome o.met
+        (AreSeen o.class.now.constant_pool (map member_view o.class.now.fields.items)) };
 }
 
 /// The names and descriptors of fields.
@@ -98,10 +103,10 @@ fn met_fields<'a>(
     alloc: Global,
     pool: &Pool<'a>,
     fields: &[Member<'_>],
-) -> Result<Signatures<'a>, AllocError>
+) -> Result<MemberKeys<'a>, AllocError>
     ensures { IfOk result (AreSeen pool.now (map member_view fields.now)) }
 {
-    let mut met = Signatures::new(alloc, pool)?;
+    let mut met = MemberKeys::new(alloc, pool)?;
     for field in fields {
         met.meet_member(pool, field)?;
     }
@@ -157,11 +162,13 @@ impl<'c, 'a> OwnFields<'c, 'a> {
         }
     }
 
-    /// Whether the constant at this index is a Fieldref of the Class constant by which the class file names its own class. Takes no memory.
+    /// Whether the constant at this index is a Fieldref of the Class constant by which the class file names its own
+    /// class. Takes no memory.
     pub fn names_class(&self, field: u16) -> bool
         ensures exactly { result ≡ names_class self.now field }
         // Then its class has the name of the own class.
-        ensures name { result ≡ true → (f : FieldOf) → field_ref_at self.now.constant_pool field ≡ Ok f → class_name_at self.now.constant_pool self.now.this_class ≡ Ok f.class }
+        ensures name { result ≡ true → (f : FieldOf) → field_ref_at self.now.constant_pool field ≡ Ok f
+            → class_name_at self.now.constant_pool self.now.this_class ≡ Ok f.class }
     {
         match self.class.constant_pool.get(field) {
             Ok(Constant::Fieldref { class, .. }) => class == self.class.this_class,
@@ -170,7 +177,7 @@ impl<'c, 'a> OwnFields<'c, 'a> {
     }
 
     /// The names and descriptors of the fields, which are taken out.
-    fn take_met(&mut self) -> Result<Signatures<'a>, AllocError>
+    fn take_met(&mut self) -> Result<MemberKeys<'a>, AllocError>
         ensures same { self.new ≡ self.old }
         ensures met { IfOk result (AreSeen self.old.constant_pool (map member_view self.old.fields.items)) }
     {
@@ -191,9 +198,10 @@ impl<'c, 'a> OwnFields<'c, 'a> {
         Ok(found)
     }
 
-    /// Whether a Fieldref stands at this index that leads to texts, and the class declares a field, static or not, of its name and its
-    /// descriptor (JVMS 4.4.2). A call takes the same time however many fields there are and however long the texts, but that the first may
-    /// read each field once, and a long text is read once at each index. The only refusal is want of memory.
+    /// Whether a Fieldref stands at this index that leads to texts, and the class declares a field, static or not, of
+    /// its name and its descriptor (JVMS 4.4.2). A call takes the same time however many fields there are and however
+    /// long the texts, but that the first may read each field once, and a long text is read once at each index. The
+    /// only refusal is want of memory.
     pub fn declares(&mut self, field: u16) -> Result<bool, AllocError>
         ensures same { self.new ≡ self.old }
         ensures declared { IfOk result (λ b. b ≡ declares self.old field) }

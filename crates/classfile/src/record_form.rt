@@ -11,7 +11,7 @@ use crate::constant_form::{texts_have_bad, texts_have_fault};
 use crate::indices::{ConstantKind, is_bad, lacks};
 use crate::location::Location;
 use crate::number_form::{IndexRule, numbers_break, numbers_have_fault};
-use crate::once::numbers_stand_twice;
+use crate::repeated_attributes::numbers_stand_twice;
 use pool::Pool;
 
 #[tactic(auto, unfolding(crate::specs::RecordForm::component_has_bad))]
@@ -25,7 +25,8 @@ fn component_has_bad(pool: &Pool<'_>, component: &Component<'_>) -> bool
 /// Whether one of its indices breaks a rule, 20 or 21; each is looked up once for both, here and in what follows.
 #[tactic(auto, unfolding(crate::specs::RecordForm::component_has_bad, crate::specs::RecordForm::component_has_other))]
 fn component_has_fault(pool: &Pool<'_>, component: &Component<'_>) -> bool
-    ensures { result ≡ (component_has_bad pool.now (component_view component.now) || component_has_other pool.now (component_view component.now)) }
+    ensures { result ≡ (component_has_bad pool.now (component_view component.now)
+        || component_has_other pool.now (component_view component.now)) }
 {
     texts_have_fault(pool, component.name, component.descriptor)
         || attributes_have_fault(pool, &component.attributes)
@@ -47,7 +48,8 @@ fn components_have_bad(pool: &Pool<'_>, components: &[Component<'_>]) -> bool
 
 #[tactic(auto, unfolding(crate::specs::RecordForm::components_have_bad, crate::specs::RecordForm::components_have_other))]
 fn components_have_fault(pool: &Pool<'_>, components: &[Component<'_>]) -> bool
-    ensures { result ≡ (components_have_bad pool.now (map component_view components.now) || components_have_other pool.now (map component_view components.now)) }
+    ensures { result ≡ (components_have_bad pool.now (map component_view components.now)
+        || components_have_other pool.now (map component_view components.now)) }
 {
     components.iter().any(|c| component_has_fault(pool, c))
 }
@@ -76,7 +78,8 @@ fn class_attribute_has_bad(pool: &Pool<'_>, attribute: &ClassAttribute<'_>) -> b
 
 #[tactic(auto, unfolding(crate::specs::RecordForm::class_attribute_has_bad, crate::specs::RecordForm::class_attribute_has_other, crate::specs::AttributeForm::head_has_bad, crate::specs::AttributeForm::head_has_other))]
 fn class_attribute_has_fault(pool: &Pool<'_>, attribute: &ClassAttribute<'_>) -> bool
-    ensures { result ≡ (class_attribute_has_bad pool.now (class_attribute_view attribute.now) || class_attribute_has_other pool.now (class_attribute_view attribute.now)) }
+    ensures { result ≡ (class_attribute_has_bad pool.now (class_attribute_view attribute.now)
+        || class_attribute_has_other pool.now (class_attribute_view attribute.now)) }
 {
     match attribute {
         ClassAttribute::Record { name, components } => {
@@ -100,7 +103,8 @@ pub fn class_attributes_have_bad(pool: &Pool<'_>, attributes: &[ClassAttribute<'
 /// Whether an index in the attributes of a class may not be looked up, or leads to another kind.
 #[tactic(auto, unfolding(crate::specs::RecordForm::class_attributes_have_bad, crate::specs::RecordForm::class_attributes_have_other))]
 pub fn class_attributes_have_fault(pool: &Pool<'_>, attributes: &[ClassAttribute<'_>]) -> bool
-    ensures { result ≡ (class_attributes_have_bad pool.now (map class_attribute_view attributes.now) || class_attributes_have_other pool.now (map class_attribute_view attributes.now)) }
+    ensures { result ≡ (class_attributes_have_bad pool.now (map class_attribute_view attributes.now)
+        || class_attributes_have_other pool.now (map class_attribute_view attributes.now)) }
 {
     attributes
         .iter()

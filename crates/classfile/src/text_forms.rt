@@ -1,16 +1,35 @@
-//! Of which forms the texts of a constant pool are (JVMS 4.2, 4.3): each that some constant or member asks it of is judged once, however many do.
+//! The forms of the texts of a constant pool (JVMS 4.2, 4.3). Each text is judged once, however many constants and
+//! members ask for its form.
 ghost use Rattle.std.specs.Prelude.{◌≡◌, Ok, IfOk};
 ghost use Rattle.pool.specs.Lookups.{text_at};
 ghost use Rattle.classfile.specs.Naming.{is_class_name, fits_method};
 ghost use Rattle.classfile.specs.ConstantForm.{names_class};
-ghost use Rattle.classfile.specs.TextForms.{name_form_of, descriptor_form_of, AreForms, AreMethodForms};
+ghost use Rattle.classfile.specs.private.TextForms.{name_form_of, descriptor_form_of, AreForms, AreKept, AreMethodForms};
 
 use crate::naming::{begins_with, is_array_name, is_field_descriptor, is_init, name_forms};
 use names::{Text, method_shape};
 use pool::Pool;
 use std::alloc::{AllocError, Global};
 
-/// Of which forms of names a text is.
+/// A form of texts, which reading a text once tells.
+trait TextForm: Copy {
+    ghost use Rattle.std.specs.Prelude.{◌≡◌, ℕ, List};
+
+    ghost form_of: { List ℕ → Self };
+
+    /// The form of a text.
+    fn form_of(text: Text<'_>) -> Self
+        ensures { result ≡ form_of text.entry.bytes.now };
+}
+
+/// Whether a text names a class.
+#[derive(Clone, Copy)]
+pub struct ClassForm {
+    /// The name of a class or interface, or the descriptor of an array (JVMS 4.4.1).
+    pub names_class: bool,
+}
+
+/// The forms of names that a text has.
 #[derive(Clone, Copy)]
 pub struct NameForm {
     /// An unqualified name.
@@ -19,7 +38,7 @@ pub struct NameForm {
     pub method_name: bool,
 }
 
-/// Of which forms of descriptors a text is.
+/// The forms of descriptors that a text has.
 #[derive(Clone, Copy)]
 pub struct DescriptorForm {
     /// The descriptor of a field.
@@ -79,45 +98,96 @@ fn names_class(text: Text<'_>) -> bool
     }
 }
 
-/// The forms of unqualified names (JVMS 4.2.2), found in one pass.
-#[inline(never)]
-fn name_form(text: Text<'_>) -> NameForm
-    ensures { result ≡ name_form_of text.entry.bytes.now }
-{
-    let names = name_forms(text);
-    NameForm {
-        unqualified_name: names.unqualified_name,
-        method_name: names.method_name,
-    }
-}
+impl TextForm for ClassForm {
+    ghost use Rattle.classfile.specs.private.TextForms.{class_form_of};
 
-/// A text that begins with a `(` is no field's descriptor, and no other is a method's (JVMS 4.3).
-#[inline(never)]
-fn descriptor_form(text: Text<'_>) -> DescriptorForm
-    ensures { result ≡ descriptor_form_of text.entry.bytes.now }
-{
-    if begins_with(text, b'(') {
-        method_form(text)
-    } else {
-        DescriptorForm {
-            field: is_field_descriptor(text),
-            method: false,
-            void: false,
-            receiver_method: false,
-            receiver_void: false,
+    ghost form_of = { class_form_of };
+
+    fn form_of(text: Text<'_>) -> ClassForm {
+        ClassForm {
+            names_class: names_class(text),
         }
     }
 }
 
-/// The forms of the texts of a pool, each found when it is first asked.
+/// The forms of unqualified names (JVMS 4.2.2), found in one pass.
+impl TextForm for NameForm {
+    ghost use Rattle.classfile.specs.private.TextForms.{name_form_of};
+
+    ghost form_of = { name_form_of };
+
+    #[inline(never)]
+    fn form_of(text: Text<'_>) -> NameForm {
+        let names = name_forms(text);
+        NameForm {
+            unqualified_name: names.unqualified_name,
+            method_name: names.method_name,
+        }
+    }
+}
+
+/// A text that begins with a `(` is no field's descriptor, and no other is a method's (JVMS 4.3).
+impl TextForm for DescriptorForm {
+    ghost use Rattle.classfile.specs.private.TextForms.{descriptor_form_of};
+
+    ghost form_of = { descriptor_form_of };
+
+    #[inline(never)]
+    fn form_of(text: Text<'_>) -> DescriptorForm {
+        if begins_with(text, b'(') {
+            method_form(text)
+        } else {
+            DescriptorForm {
+                field: is_field_descriptor(text),
+                method: false,
+                void: false,
+                receiver_method: false,
+                receiver_void: false,
+            }
+        }
+    }
+}
+
+/// The forms of one kind of the texts of a pool, each found when it is first asked.
+#[derive(Drop)]
+struct JudgedTexts<F: TextForm> {
+    /// For each entry its form, where it was asked.
+    forms: Vec<Option<F>>,
+}
+
+impl<F: TextForm> JudgedTexts<F> {
+    /// No text is judged yet.
+    fn new(alloc: Global, pool: &Pool<'_>) -> Result<JudgedTexts<F>, AllocError>
+        ensures { IfOk result (λ j. AreKept F.form_of pool.now j.forms.items) }
+    {
+        Ok(JudgedTexts {
+            forms: vec![in alloc; None; pool.constants().len()]?,
+        })
+    }
+
+    /// The form of the text at this index.
+    fn form(&mut self, pool: &Pool<'_>, index: u16, text: Text<'_>) -> F
+        requires kept { AreKept F.form_of pool.now self.now.forms.items }
+        requires text { text_at pool.now index ≡ Ok text.bytes.now }
+        ensures form { result ≡ F.form_of text.entry.bytes.now }
+        ensures kept { AreKept F.form_of pool.now self.new.forms.items }
+    {
+        let place = usize::from(index) - 1;
+        if let Some(form) = self.forms[place] {
+            return form;
+        }
+        let form = F::form_of(text);
+        self.forms[place] = Some(form);
+        form
+    }
+}
+
+/// The forms of the texts of a pool.
 #[derive(Drop)]
 pub struct TextForms {
-    /// For each entry whether it names a class, where it was asked.
-    classes: Vec<Option<bool>>,
-    /// For each entry its form as a name, where it was asked.
-    names: Vec<Option<NameForm>>,
-    /// For each entry its form as a descriptor, where it was asked.
-    descriptors: Vec<Option<DescriptorForm>>,
+    classes: JudgedTexts<ClassForm>,
+    names: JudgedTexts<NameForm>,
+    descriptors: JudgedTexts<DescriptorForm>,
 }
 
 impl TextForms {
@@ -125,13 +195,10 @@ impl TextForms {
     pub fn new(alloc: Global, pool: &Pool<'_>) -> Result<TextForms, AllocError>
         ensures { IfOk result (AreForms pool.now) }
     {
-        let classes = vec![in alloc; None; pool.constants().len()]?;
-        let names = vec![in alloc; None; pool.constants().len()]?;
-        let descriptors = vec![in alloc; None; pool.constants().len()]?;
         Ok(TextForms {
-            classes,
-            names,
-            descriptors,
+            classes: JudgedTexts::new(alloc, pool)?,
+            names: JudgedTexts::new(alloc, pool)?,
+            descriptors: JudgedTexts::new(alloc, pool)?,
         })
     }
 
@@ -142,45 +209,27 @@ impl TextForms {
         ensures form { result ≡ names_class text.entry.bytes.now }
         ensures kept { AreForms pool.now self.new }
     {
-        let place = usize::from(index) - 1;
-        if let Some(form) = self.classes[place] {
-            return form;
-        }
-        let form = names_class(text);
-        self.classes[place] = Some(form);
-        form
+        self.classes.form(pool, index, text).names_class
     }
 
-    /// Of which forms of names the text at this index is.
+    /// The forms of names that the text at this index has.
     pub fn name(&mut self, pool: &Pool<'_>, index: u16, text: Text<'_>) -> NameForm
         requires kept { AreForms pool.now self.now }
         requires text { text_at pool.now index ≡ Ok text.bytes.now }
         ensures form { result ≡ name_form_of text.entry.bytes.now }
         ensures kept { AreForms pool.now self.new }
     {
-        let place = usize::from(index) - 1;
-        if let Some(form) = self.names[place] {
-            return form;
-        }
-        let form = name_form(text);
-        self.names[place] = Some(form);
-        form
+        self.names.form(pool, index, text)
     }
 
-    /// Of which forms of descriptors the text at this index is.
+    /// The forms of descriptors that the text at this index has.
     pub fn descriptor(&mut self, pool: &Pool<'_>, index: u16, text: Text<'_>) -> DescriptorForm
         requires kept { AreForms pool.now self.now }
         requires text { text_at pool.now index ≡ Ok text.bytes.now }
         ensures form { result ≡ descriptor_form_of text.entry.bytes.now }
         ensures kept { AreForms pool.now self.new }
     {
-        let place = usize::from(index) - 1;
-        if let Some(form) = self.descriptors[place] {
-            return form;
-        }
-        let form = descriptor_form(text);
-        self.descriptors[place] = Some(form);
-        form
+        self.descriptors.form(pool, index, text)
     }
 }
 

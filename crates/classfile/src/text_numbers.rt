@@ -1,5 +1,5 @@
-//! Numbers of the texts of a constant pool, the same exactly for equal texts: with them, names and descriptors are compared without
-//! their bytes.
+//! Numbers of the texts of a constant pool, the same exactly for equal texts: with them, names and descriptors are
+//! compared without their bytes.
 ghost use Rattle.std.specs.Prelude.{◌≡◌, Ok, IfOk};
 ghost use Rattle.pool.specs.Lookups.{text_at};
 ghost use Rattle.classfile.specs.TextNumbers.{AreNumbers, Numbers};
@@ -29,8 +29,8 @@ impl<'a> TextNumbers<'a> {
         })
     }
 
-    /// The number of a text that stands at this index, which is looked for by its bytes. Most have none yet, so its index is put to
-    /// them at once.
+    /// The number of a text that stands at this index, which is looked for by its bytes. Most have none yet, so its
+    /// index is put to them at once.
     fn find(&mut self, _pool: &Pool<'_>, index: u16, text: Text<'a>) -> Result<u16, AllocError>
         requires kept { AreNumbers _pool.now self.now }
         requires text { text_at _pool.now index ≡ Ok text.bytes.now }

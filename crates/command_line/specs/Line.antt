@@ -76,7 +76,7 @@ known_option = record (new_rule (codes "KNOWN")) {
 abbrev pub verify_each : Shape
 verify_each = (with_rule (with_rule (with_rule (new_app (codes "verify-each")) class_files) known_option) dynamic).top
 
--- the program itself, which tells its version, and of which a command must be asked
+-- the program itself, which prints its version, and takes one of the commands
 abbrev pub program : App
 program = record (new_app (codes "classck")) {
   top =
@@ -91,7 +91,7 @@ line_of_file = with_subcommand (with_subcommand program check) show
 abbrev pub line_with_known : App
 line_with_known = with_subcommand (with_subcommand line_of_file verify) explain
 
--- and that of classes in play
+-- the commands above, and that of classes in play
 abbrev pub line_with_play : App
 line_with_play = with_subcommand line_with_known play
 
@@ -134,16 +134,17 @@ command_named name rows =
     then VerifyEach (profile_in rows) (length (words_for (codes "CLASS") rows))
     else Check (form_in rows)
 
--- what the matches of a line ask for
+-- the request that the matches of a line make
 abbrev pub asked : Option (Text × List Row) → Option (Command × List Text)
 asked = option_map (λ p. (command_named p.0 p.1, files_in (command_named p.0 p.1) p.1))
 
--- a fault of one of these kinds; of want of memory nothing is said
+-- the fault has one of these kinds, or memory ran out
 abbrev pub IsFault : Kinds → LineFault → Type 0
 IsFault kinds OutOfMemory = Unit {0}
 IsFault kinds (NoRequest e) = IsAmong (kind_of e) kinds
 
--- The fault that an error of `clap` is: want of memory where it says so, and otherwise the error itself.
+-- The fault that stands for an error of `clap`: that memory ran out where the error says so, and otherwise the error
+-- itself.
 abbrev pub ToldBy : Error → LineFault → Type 0
 ToldBy e OutOfMemory = kind_of e ≡ kind.OutOfMemory
 ToldBy e (NoRequest f) = (f ≡ e) × (kind_of e ≡ kind.OutOfMemory → ⊥)

@@ -5,7 +5,7 @@ use Rattle.printing.specs.Writing.{AppendsFront}
 use Rattle.answers.specs.declared.fault.AnswerFault.{AnswerFault}
 use Rattle.answers.specs.declared.fault.AnswerFault.TheVariants as faults
 
--- the text was written, or a write failed and a beginning of it was
+-- the text was written, or a write failed and a prefix of it was written
 abbrev pub WritesOrFails : Option (List ℕ) → Option (List ℕ) → List ℕ → Result (Unit {0}) AnswerFault → Type 0
 WritesOrFails old new text (Ok done) = Appends old new text
 WritesOrFails old new text (Err e) = (e ≡ faults.WriteFailed) × AppendsFront old new text

@@ -1,4 +1,4 @@
-//! Says why the program ends without an answer.
+//! Writes why the program ends without an answer.
 ghost use Rattle.command_line.specs.Texts.{complaint_text};
 ghost use Rattle.command_line.specs.Writing.{WritesOrFails};
 

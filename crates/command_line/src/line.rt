@@ -15,7 +15,7 @@ pub struct Request {
     pub files: Vec<String>,
 }
 
-/// Why a command line asks for nothing.
+/// Why a command line makes no request.
 #[derive(Debug, Drop, Error)]
 pub enum LineFault {
     /// 1: memory ran out.

@@ -435,7 +435,7 @@ fn command_named(name: &str, found: &ArgMatches<'_>) -> Command
     }
 }
 
-/// Why a line asks for nothing, of which `clap` says so.
+/// Why a line makes no request, by an error of `clap`.
 fn line_fault(error: clap::Error) -> LineFault
     ensures kind { (kinds : Kinds) → HasKind kinds error → IsFault kinds result }
     ensures told { ToldBy error result }

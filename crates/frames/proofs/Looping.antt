@@ -14,7 +14,7 @@ use Rattle.frames.specs.StackMaps.{MapEntry}
 use Rattle.frames.specs.DeclaredFrames.{locals_of, stack_of, delta_of, offset_of, frame_with, frame_before, declared_from, any_info, infos_of, names_nothing, names_no_class, is_made_nowhere, chops_more, entry_conditions}
 use Rattle.frames.specs.TypeChains.{types_at, AreLinked}
 use Rattle.frames.specs.DeclaredViews.{locals_at, fact_of, facts_of, IsInside, AreInside, Made}
-use Rattle.frames.specs.Judging.{told, front_of, against, Declared}
+use Rattle.frames.specs.private.Judging.{told, front_of, against, Declared}
 use Rattle.frames.specs.declared.chain.Link.{Link}
 use Rattle.frames.specs.declared.after.FrameTops.{FrameTops}
 use Rattle.frames.specs.declared.frame_fault.FrameFault.{FrameFault}

@@ -16,7 +16,7 @@ use Rattle.frames.specs.DeclaredTables.{declared_view, IsOf, AreOfOne, AreFit}
 use Rattle.frames.specs.declared.chain.Link.{Link}
 use Rattle.frames.specs.declared.declared_frames.DeclaredFrames.{DeclaredFrames}
 use Rattle.frames.specs.declared.declared_frames.Declared.{Declared}
-use Rattle.frames.proofs.TypeChains.{linked_lower, linked_jump, link_nowhere, types_step, types_none, types_bottom}
+use Rattle.frames.proofs.TypeChains.{linked_lower, linked_skip, link_nowhere, types_step, types_none, types_bottom}
 use Rattle.frames.proofs.Frames.{list_itself}
 use Rattle.frames.proofs.Walks.{locals_walked}
 use Rattle.frames.proofs.Finding.{locals_filled}
@@ -116,9 +116,9 @@ module _ (links : List Link) where
     pub on_leads : (high here : ℕ) → LeadsTo links high here → IsOn links high here
     on_leads high here e = record { steps = length (types_at links high) - length (types_at links here); leads = e }
 
-    -- one jump down
-    pub on_jump : (here : ℕ) (l : Link) → link_at links here ≡ Some l → IsOn links here l.jump
-    on_jump here l e = on_further here l.below l.jump (on_below here here l.below (sym (ap below_of e)) (on_itself here)) (on_leads l.below l.jump (linked_jump links k here l e))
+    -- one skip down
+    pub on_skip : (here : ℕ) (l : Link) → link_at links here ≡ Some l → IsOn links here l.skip
+    on_skip here l e = on_further here l.below l.skip (on_below here here l.below (sym (ap below_of e)) (on_itself here)) (on_leads l.below l.skip (linked_skip links k here l e))
 
 -- ---- locals of a frame that shares a place
 

@@ -59,11 +59,11 @@ module _ (links : List Link) (k : AreLinked links) (unit high here : ℕ) (l : L
   pub seek_lower : (start : ℕ) → start ≡ units_of (types_at links l.below) → unit < start → type_at_unit unit (types_at links l.below) ≡ type_at_unit unit (types_at links high)
   seek_lower start s lt = sym (at_lower (type_of l.vtype) (types_at links l.below) unit (λ q. omega (arith, q, s, lt))) ∙ here_too
 
-  pub seek_jumps : (start far : ℕ) → start ≡ units_of (types_at links l.below) → unit < start → IsOn links l.below l.jump → far ≡ units_of (types_at links l.jump) → unit < far
-      → type_at_unit unit (types_at links l.jump) ≡ type_at_unit unit (types_at links high)
-  seek_jumps start far s lt g f low =
-      let on = types_on links k l.below l.jump g in
-      sym (ap (type_at_unit unit) on.1 ∙ none_skipped on.0 (types_at links l.jump) unit (omega (arith, f, low))) ∙ seek_lower start s lt
+  pub seek_skips : (start far : ℕ) → start ≡ units_of (types_at links l.below) → unit < start → IsOn links l.below l.skip → far ≡ units_of (types_at links l.skip) → unit < far
+      → type_at_unit unit (types_at links l.skip) ≡ type_at_unit unit (types_at links high)
+  seek_skips start far s lt g f low =
+      let on = types_on links k l.below l.skip g in
+      sym (ap (type_at_unit unit) on.1 ∙ none_skipped on.0 (types_at links l.skip) unit (omega (arith, f, low))) ∙ seek_lower start s lt
 
 pub seek_ends : (links : List Link) (unit high here : ℕ) → link_at links here ≡ None → type_at_unit unit (types_at links here) ≡ type_at_unit unit (types_at links high) → None ≡ type_at_unit unit (types_at links high)
 seek_ends links unit high here e same = sym (ap (type_at_unit unit) (types_none links here e)) ∙ same

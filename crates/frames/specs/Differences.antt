@@ -72,7 +72,7 @@ difference_of (Item m) = item (mismatch_of m)
 
 -- ---- what they tell
 
--- Of frames with as many locals one differs from another exactly where the answer is no.
+-- One frame differs from another with as many locals exactly where the answer is no.
 abbrev pub DifferencesAreNo : Type 0
 DifferencesAreNo =
     (classes : List ClassFact) (f g : FrameFact) → length f.locals ≡ length g.locals

@@ -10,7 +10,6 @@ pub mod Slots
 pub mod StackMaps
 pub mod DeclaredFrames
 pub mod MapViews
-pub mod MapLaws
 pub mod HeldFrames
 pub mod Objects
 pub mod Holders
@@ -22,7 +21,6 @@ pub mod OperandStacks
 pub mod TypeChains
 pub mod Rising
 pub mod DeclaredViews
-pub mod Judging
 pub mod DeclaredTables
 pub mod Marks
 pub mod MarkedCode
@@ -32,3 +30,4 @@ pub mod StackFitting
 pub mod Packing
 pub mod PackedFrames
 pub mod Undecided
+pub mod private

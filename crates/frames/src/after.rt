@@ -8,7 +8,7 @@ ghost use Rattle.frames.specs.DeclaredViews.{locals_at, Made};
 use crate::chain::TypeChains;
 use crate::constants::type_given;
 use crate::stack_map::{MapEntry, TypeInfo};
-use pool::Descriptors;
+use pool::ConstantTypes;
 use std::alloc::AllocError;
 
 /// A declared frame by its offset, in bytes, and the places where its chains begin.
@@ -24,7 +24,7 @@ fn push_given<'a>(
     chains: &mut TypeChains<'a>,
     infos: &[TypeInfo],
     below: usize,
-    constants: &mut Descriptors<'_, 'a>,
+    constants: &mut ConstantTypes<'_, 'a>,
 ) -> Result<usize, AllocError>
     requires { below ≤ length chains.old.links.items }
     ensures same { constants.new ≡ constants.old }
@@ -44,7 +44,7 @@ fn locals_after<'a>(
     chains: &mut TypeChains<'a>,
     before: usize,
     entry: &MapEntry,
-    constants: &mut Descriptors<'_, 'a>,
+    constants: &mut ConstantTypes<'_, 'a>,
 ) -> Result<usize, AllocError>
     requires { before ≤ length chains.old.links.items }
     ensures same { constants.new ≡ constants.old }
@@ -66,7 +66,7 @@ fn locals_after<'a>(
 fn stack_after<'a>(
     chains: &mut TypeChains<'a>,
     entry: &MapEntry,
-    constants: &mut Descriptors<'_, 'a>,
+    constants: &mut ConstantTypes<'_, 'a>,
 ) -> Result<usize, AllocError>
     ensures same { constants.new ≡ constants.old }
     ensures left { IfOk result (Grown chains.old.links.items chains.new.links.items
@@ -91,7 +91,7 @@ pub fn frame_after<'a>(
     before: usize,
     at: u32,
     entry: &MapEntry,
-    constants: &mut Descriptors<'_, 'a>,
+    constants: &mut ConstantTypes<'_, 'a>,
 ) -> Result<FrameTops, AllocError>
     requires { before ≤ length chains.old.links.items }
     ensures same { constants.new ≡ constants.old }

@@ -1,20 +1,13 @@
 //! When a type may stand where another is wanted.
 ghost use Rattle.std.specs.Prelude.{◌≡◌};
 ghost use Rattle.names.specs.Descriptors.{base_of, dimensioned};
-ghost use Rattle.hierarchy.specs.Answer.{outcome_of, yes_if};
+ghost use Rattle.hierarchy.specs.Answer.{outcome_of};
 ghost use Rattle.frames.specs.VerificationType.{type_of};
 ghost use Rattle.frames.specs.Assignable.{class_answer, component_answer, type_answer, is_above_arrays};
 
 use crate::vtype::VType;
 use hierarchy::{Answer, Classes};
 use names::{Base, CLONEABLE, OBJECT, SERIALIZABLE};
-
-// Yes or no.
-fn yes_if<'n>(holds: bool) -> Answer<'n>
-    ensures { outcome_of result ≡ yes_if holds }
-{
-    if holds { Answer::Yes } else { Answer::No }
-}
 
 // Class `from` to class `to`.
 fn class_assignable<'n, C: Classes>(from: &'n [u8], to: &'n [u8], classes: &C) -> Answer<'n>
@@ -42,7 +35,7 @@ fn bases_assignable<'n, C: Classes>(x: Base<'n>, y: Base<'n>, classes: &C) -> An
     ensures { outcome_of result ≡ component_answer (C.content classes.now) (base_of x.entry) (base_of y.entry) }
 {
     match (x, y) {
-        (Base::Primitive(p), Base::Primitive(q)) => yes_if(p == q),
+        (Base::Primitive(p), Base::Primitive(q)) => Answer::yes_if(p == q),
         (Base::Class(a), Base::Class(b)) => class_assignable(a, b, classes),
         _ => Answer::No,
     }
@@ -67,7 +60,7 @@ fn components_assignable<'n, C: Classes>(
     }
     match y {
         Base::Primitive(_) => Answer::No,
-        Base::Class(to) => yes_if(is_above_arrays(to)),
+        Base::Class(to) => Answer::yes_if(is_above_arrays(to)),
     }
 }
 
@@ -90,12 +83,12 @@ pub fn assignable<'n, C: Classes>(from: &VType<'n>, to: &VType<'n>, classes: &C)
         (VType::Double, VType::Double) => Answer::Yes,
         (VType::Null, VType::Null | VType::Class(_) | VType::Array { .. }) => Answer::Yes,
         (VType::Class(a), VType::Class(b)) => class_assignable(a, b, classes),
-        (VType::Array { .. }, VType::Class(b)) => yes_if(is_above_arrays(b)),
+        (VType::Array { .. }, VType::Class(b)) => Answer::yes_if(is_above_arrays(b)),
         (VType::Array { dims: d, base: x }, VType::Array { dims: e, base: y }) => {
             components_assignable(d.saturating_sub(1), x, e.saturating_sub(1), y, classes)
         }
         (VType::UninitThis, VType::UninitThis) => Answer::Yes,
-        (VType::Uninit(p), VType::Uninit(q)) => yes_if(p == q),
+        (VType::Uninit(p), VType::Uninit(q)) => Answer::yes_if(p == q),
         _ => Answer::No,
     }
 }

@@ -9,11 +9,14 @@ ghost use Rattle.frames.specs.DeclaredFrames.{is_absent, is_other, object_type, 
 use crate::naming::reference_to;
 use crate::stack_map::TypeInfo;
 use crate::vtype::VType;
-use pool::{Constant, Descriptors, Pool};
+use pool::{Constant, ConstantTypes, Pool};
 use std::alloc::AllocError;
 
 // The type that the Class constant of an index names, or top.
-fn object_type<'a>(constants: &mut Descriptors<'_, 'a>, class: u16) -> Result<VType<'a>, AllocError>
+fn object_type<'a>(
+    constants: &mut ConstantTypes<'_, 'a>,
+    class: u16,
+) -> Result<VType<'a>, AllocError>
     ensures same { constants.new ≡ constants.old }
     ensures named { IfOk result (λ t. type_of t ≡ object_type (class_at constants.old class)) }
 {
@@ -25,7 +28,7 @@ fn object_type<'a>(constants: &mut Descriptors<'_, 'a>, class: u16) -> Result<VT
 
 /// The type that an entry gives.
 pub fn type_given<'a>(
-    constants: &mut Descriptors<'_, 'a>,
+    constants: &mut ConstantTypes<'_, 'a>,
     info: TypeInfo,
 ) -> Result<VType<'a>, AllocError>
     ensures same { constants.new ≡ constants.old }

@@ -4,7 +4,7 @@ ghost use Rattle.frames.specs.VerificationType.{type_of};
 ghost use Rattle.frames.specs.MapViews.{entry_of};
 ghost use Rattle.frames.specs.DeclaredFrames.{delta_of, declared_frames};
 ghost use Rattle.frames.specs.DeclaredViews.{locals_at};
-ghost use Rattle.frames.specs.Judging.{Declares, AreDeclared};
+ghost use Rattle.frames.specs.private.Judging.{Declares, AreDeclared};
 ghost use Rattle.frames.specs.DeclaredTables.{IsDeclared, locals_in};
 
 use crate::after::{FrameTops, frame_after};
@@ -15,7 +15,7 @@ use crate::refusing::{Limits, judge};
 use crate::stack_map::MapEntry;
 use crate::starts::Starts;
 use crate::vtype::VType;
-use pool::Descriptors;
+use pool::ConstantTypes;
 use std::alloc::{AllocError, Global};
 
 fn delta(entry: &MapEntry) -> u16
@@ -40,7 +40,7 @@ fn declare_one<'a, S: Starts>(
     behind: u32,
     entry: &MapEntry,
     limits: &Limits<'_, 'a, S>,
-    constants: &mut Descriptors<'_, 'a>,
+    constants: &mut ConstantTypes<'_, 'a>,
 ) -> Result<Result<FrameTops, FrameFault>, AllocError>
     requires constants { constants.old ≡ limits.now.pool.now }
     requires few { behind ≤ 65536 }
@@ -67,7 +67,7 @@ fn declare_all<'a, S: Starts>(
     first: usize,
     entries: &[MapEntry],
     limits: &Limits<'_, 'a, S>,
-    constants: &mut Descriptors<'_, 'a>,
+    constants: &mut ConstantTypes<'_, 'a>,
 ) -> Result<Result<(), FrameFault>, AllocError>
     requires constants { constants.old ≡ limits.now.pool.now }
     requires empty { frames.old.items ≡ [] }
@@ -105,7 +105,7 @@ pub fn declare<'a, S: Starts>(
     alloc: Global,
     entries: &[MapEntry],
     limits: &Limits<'_, 'a, S>,
-    constants: &mut Descriptors<'_, 'a>,
+    constants: &mut ConstantTypes<'_, 'a>,
     initial: &[VType<'a>],
 ) -> Result<Result<DeclaredFrames<'a>, FrameFault>, AllocError>
     requires { constants.old ≡ limits.now.pool.now }

@@ -5,7 +5,7 @@ ghost use Rattle.frames.specs.Conditions.{least};
 ghost use Rattle.frames.specs.DeclaredFrames.{any_info, infos_of, chops_more, entry_conditions};
 ghost use Rattle.frames.specs.TypeChains.{types_at};
 ghost use Rattle.frames.specs.DeclaredViews.{locals_at};
-ghost use Rattle.frames.specs.Judging.{is_wrong, told};
+ghost use Rattle.frames.specs.private.Judging.{is_wrong, told};
 
 use crate::after::FrameTops;
 use crate::chain::TypeChains;

@@ -94,7 +94,7 @@ impl<'a> StackMap<'a> {
 /// `BadTypeTag` at a tag over 8. Each value has a spelling.
 impl<'a> Part<'a> for TypeInfo {
     ghost use Rattle.frames.specs.StackMaps as maps;
-    ghost use Rattle.frames.specs.MapLaws.{writes_type};
+    ghost use Rattle.frames.specs.private.MapLaws.{writes_type};
     ghost use Rattle.frames.specs.MapViews.{info_of};
 
     ghost View = { maps.TypeInfo };
@@ -127,7 +127,7 @@ impl<'a> Part<'a> for TypeInfo {
 /// a `Full` with more than 65,535 types in a list is too large, 17.
 impl<'a> Part<'a> for MapEntry {
     ghost use Rattle.frames.specs.StackMaps as maps;
-    ghost use Rattle.frames.specs.MapLaws.{writes_entry};
+    ghost use Rattle.frames.specs.private.MapLaws.{writes_entry};
     ghost use Rattle.frames.specs.MapViews.{entry_of};
 
     ghost View = { maps.MapEntry };
@@ -160,7 +160,7 @@ impl<'a> Part<'a> for MapEntry {
 impl<'a> Part<'a> for StackMap<'a> {
     ghost use Rattle.std.specs.Prelude.{List};
     ghost use Rattle.frames.specs.StackMaps as maps;
-    ghost use Rattle.frames.specs.MapLaws.{writes_map};
+    ghost use Rattle.frames.specs.private.MapLaws.{writes_map};
 
     ghost View = { List maps.MapEntry };
 

@@ -15,7 +15,7 @@ use crate::refusing::Limits;
 use crate::stack_map::StackMap;
 use crate::vtype::VType;
 use insn::Insn;
-use pool::{Descriptors, Pool};
+use pool::{ConstantTypes, Pool};
 use std::alloc::{AllocError, Global};
 
 /// All frames of a table, each with its offset in bytes.
@@ -54,7 +54,7 @@ pub fn declared<'a>(
         (map type_of initial.now) stack_map.now) result }
 {
     let starts = ListStarts::new(alloc, code)?;
-    let mut constants = Descriptors::new(alloc, pool);
+    let mut constants = ConstantTypes::new(alloc, pool);
     let limits = Limits {
         pool,
         starts: &starts,

@@ -8,16 +8,16 @@ use Rattle.hierarchy.specs.declared.ancestry.Ancestry.{Ancestry}
 use Rattle.hierarchy.specs.declared.inheritance.Inherited.{Inherited}
 use Rattle.hierarchy.specs.declared.member_numbers.MemberNumbers.{MemberNumbers}
 use Rattle.hierarchy.specs.declared.versions.Versions.{Versions}
-use Rattle.hierarchy.specs.Above.{class_above, number_of}
-use Rattle.hierarchy.specs.Ancestry.{IsAncestry, IsOwn, facts_at}
+use Rattle.hierarchy.specs.private.Above.{class_above, number_of}
+use Rattle.hierarchy.specs.private.Ancestry.{IsAncestry, IsOwn, facts_at}
 use Rattle.hierarchy.specs.Answer.{on_chain}
 use Rattle.hierarchy.specs.Class.{MemberFact, ClassFact, class_of, world_of, IsSubclass}
-use Rattle.hierarchy.specs.Flags.{AreNumbers, KeepNumbers}
-use Rattle.hierarchy.specs.Inheritance.{Declares, Inherits, InheritsAny, InheritSoFar, IsCoded, IsProtectedAt, free, kept, KeepVersions, NumberAll, Tells, asked_number, declared_value}
-use Rattle.hierarchy.specs.MemberNumbers.{member_number}
+use Rattle.hierarchy.specs.private.Flags.{AreNumbers, KeepNumbers}
+use Rattle.hierarchy.specs.private.Inheritance.{Declares, Inherits, InheritsAny, InheritSoFar, IsCoded, IsProtectedAt, free, kept, KeepVersions, NumberAll, Tells, asked_number, declared_value}
+use Rattle.hierarchy.specs.private.MemberNumbers.{member_number}
 use Rattle.hierarchy.specs.Nearest.{MemberReference, Declaration, declared_by, is_named, nearest, IsNearest, here, above, is_elsewhere, is_protected_elsewhere, is_guarded, package_of}
 use Rattle.hierarchy.specs.Rules.{IsHierarchy}
-use Rattle.hierarchy.specs.Versions.{IsVersion, Puts, value_at}
+use Rattle.hierarchy.specs.private.Versions.{IsVersion, Puts, value_at}
 use Rattle.hierarchy.specs.World.{superclass_in, IsSubclassIn}
 use Rattle.hierarchy.specs.World as world
 use Rattle.hierarchy.proofs.Chain.{shorten}

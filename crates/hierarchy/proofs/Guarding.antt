@@ -12,10 +12,10 @@ use Rattle.std.proofs.lemmas.Option.{slice_get_within, slice_get-get_or, slice_g
 use Rattle.std.proofs.lemmas.Slice.Eq.{bytes_eq-Decides}
 use Rattle.hierarchy.specs.declared.nearest.MemberRef.{MemberRef}
 use Rattle.hierarchy.specs.declared.spot.Spot.{Spot}
-use Rattle.hierarchy.specs.Above.{class_above, upward, classes_above, names_above, names_of, number_of, ArePlaces}
+use Rattle.hierarchy.specs.private.Above.{class_above, upward, classes_above, names_above, names_of, number_of, ArePlaces}
 use Rattle.hierarchy.specs.Answer.{on_chain}
 use Rattle.hierarchy.specs.Class.{ClassFact, class_of, world_of}
-use Rattle.hierarchy.specs.Flags.{AreNumbers, KeepNumbers, GetsNumber, IsStart, own, outside, begins, AreStarts, AreFlags, KeepsClass, first_flag}
+use Rattle.hierarchy.specs.private.Flags.{AreNumbers, KeepNumbers, GetsNumber, IsStart, own, outside, begins, AreStarts, AreFlags, KeepsClass, first_flag}
 use Rattle.hierarchy.specs.Nearest.{MemberReference, nearest, is_elsewhere, is_protected_elsewhere, is_guarded}
 use Rattle.hierarchy.specs.Rules.{IsHierarchy}
 use Rattle.hierarchy.specs.Summary.{reference_of}

@@ -15,9 +15,9 @@ use Rattle.hierarchy.specs.declared.summary.Kind.{Kind}
 use Rattle.hierarchy.specs.declared.summary.MemberSummary.{MemberSummary}
 use Rattle.hierarchy.specs.declared.summary.Summary.{Summary}
 use Rattle.hierarchy.specs.declared.summary.Kind.TheVariants.{Field, Method}
-use Rattle.hierarchy.specs.Above.{number_of, first_declared}
+use Rattle.hierarchy.specs.private.Above.{number_of, first_declared}
 use Rattle.hierarchy.specs.Class.{MemberFact, ClassFact}
-use Rattle.hierarchy.specs.Flags.{AreNumbers, IsMember, spot_with, spot_of, spot_cmp, flag_of, moved, first_from, first_flag, flag_in, AreFlags}
+use Rattle.hierarchy.specs.private.Flags.{AreNumbers, IsMember, spot_with, spot_of, spot_cmp, flag_of, moved, first_from, first_flag, flag_in, AreFlags}
 use Rattle.hierarchy.specs.Nearest.{MemberReference, Declaration, is_kind, is_named, declared_by, or_above, is_elsewhere, is_protected_elsewhere}
 use Rattle.hierarchy.specs.Summary.{member_of, fact_of}
 use Rattle.hierarchy.proofs.Names.{none_some, some_same}

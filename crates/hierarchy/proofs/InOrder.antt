@@ -9,8 +9,8 @@ use Rattle.std.proofs.lemmas.Option.{slice_get_within, slice_get-get_or, slice_g
 use Rattle.std.proofs.lemmas.Slice.Eq.{bytes_eq-Decides}
 use Rattle.hierarchy.specs.declared.ancestry.Ancestry.{Ancestry}
 use Rattle.hierarchy.specs.declared.summary.Summary.{Summary}
-use Rattle.hierarchy.specs.Above.{class_above, upward, number_of}
-use Rattle.hierarchy.specs.Ancestry.{Adds, AreInTurn, Has, HasAny, IsAncestry, IsOwn, facts_at}
+use Rattle.hierarchy.specs.private.Above.{class_above, upward, number_of}
+use Rattle.hierarchy.specs.private.Ancestry.{Adds, AreInTurn, Has, HasAny, IsAncestry, IsOwn, facts_at}
 use Rattle.hierarchy.specs.Class.{ClassFact, class_of}
 use Rattle.hierarchy.specs.Rules.{IsHierarchy}
 use Rattle.hierarchy.specs.Summary.{fact_of}

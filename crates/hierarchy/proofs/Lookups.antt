@@ -8,10 +8,10 @@ use Rattle.std.proofs.lemmas.Option.{slice_get_within, slice_get-get_or}
 use Rattle.hierarchy.specs.declared.inheritance.Inherited.{Inherited}
 use Rattle.hierarchy.specs.declared.inheritance.Inheritance.{Inheritance}
 use Rattle.hierarchy.specs.declared.summary.Summary.{Summary}
-use Rattle.hierarchy.specs.Above.{number_of}
-use Rattle.hierarchy.specs.Ancestry.{facts_at}
+use Rattle.hierarchy.specs.private.Above.{number_of}
+use Rattle.hierarchy.specs.private.Ancestry.{facts_at}
 use Rattle.hierarchy.specs.Class.{ClassFact, IsSubclass}
-use Rattle.hierarchy.specs.Inheritance.{Inherits, IsCoded, IsInheritance, IsProtectedAt, free, kept, Tells}
+use Rattle.hierarchy.specs.private.Inheritance.{Inherits, IsCoded, IsInheritance, IsProtectedAt, free, kept, Tells}
 use Rattle.hierarchy.specs.Nearest.{MemberReference, Declaration, IsNearest, is_guarded}
 use Rattle.hierarchy.specs.Rules.{IsHierarchy}
 use Rattle.hierarchy.specs.Summary.{fact_of}

@@ -3,7 +3,7 @@ use Rattle.std.proofs.Common.{◌≡◌, ℕ, zero, suc, ◌+◌, ◌-◌, ◌<�
 use Rattle.std.specs.Option.{option_and_then}
 use Rattle.std.proofs.lemmas.List.{length-drop}
 use Rattle.std.proofs.lemmas.Option.{slice_get_within}
-use Rattle.hierarchy.specs.Above.{class_above, upward, first_above, classes_above, first_declared}
+use Rattle.hierarchy.specs.private.Above.{class_above, upward, first_above, classes_above, first_declared}
 use Rattle.hierarchy.specs.Class.{MemberFact, ClassFact, class_of}
 use Rattle.hierarchy.specs.Nearest.{MemberReference, Declaration, declared_by, or_above, nearest_among, nearest, IsNearest, here, above, NearestIsComputed}
 use Rattle.hierarchy.specs.Rules.{IsHierarchy}

@@ -7,13 +7,13 @@ use Rattle.hierarchy.specs.declared.member_numbers.MemberNumbers.{MemberNumbers}
 use Rattle.hierarchy.specs.declared.summary.MemberSummary.{MemberSummary}
 use Rattle.hierarchy.specs.declared.summary.Summary.{Summary}
 use Rattle.hierarchy.specs.declared.versions.Versions.{Versions}
-use Rattle.hierarchy.specs.Ancestry.{facts_at}
+use Rattle.hierarchy.specs.private.Ancestry.{facts_at}
 use Rattle.hierarchy.specs.Class.{MemberFact, ClassFact}
-use Rattle.hierarchy.specs.Inheritance.{Declares, HaveNumbers, KeepMembers, NumberAll, asked_number, declared_value}
-use Rattle.hierarchy.specs.MemberNumbers.{AreMemberNumbers, member_number}
+use Rattle.hierarchy.specs.private.Inheritance.{Declares, HaveNumbers, KeepMembers, NumberAll, asked_number, declared_value}
+use Rattle.hierarchy.specs.private.MemberNumbers.{AreMemberNumbers, member_number}
 use Rattle.hierarchy.specs.Nearest.{MemberReference, is_named}
 use Rattle.hierarchy.specs.Summary.{fact_of, member_of}
-use Rattle.hierarchy.specs.Versions.{AreVersions, IsVersion, Puts, value_at}
+use Rattle.hierarchy.specs.private.Versions.{AreVersions, IsVersion, Puts, value_at}
 use Rattle.hierarchy.proofs.Descent.{keep_on, put_keeps}
 use Rattle.hierarchy.proofs.Guarding.{map_more}
 use Rattle.hierarchy.proofs.Guards.{at_last, is_named_by, named_is}

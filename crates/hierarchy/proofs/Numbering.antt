@@ -13,10 +13,10 @@ use Rattle.std.proofs.lemmas.Map.Lookups.{exact_unsigned}
 use Rattle.hierarchy.specs.declared.member_key.MemberKey.{MemberKey}
 use Rattle.hierarchy.specs.declared.member_numbers.MemberNumbers.{MemberNumbers}
 use Rattle.hierarchy.specs.declared.summary.Kind.{Kind}
-use Rattle.hierarchy.specs.Above.{number_of}
+use Rattle.hierarchy.specs.private.Above.{number_of}
 use Rattle.hierarchy.specs.Class.{MemberFact}
-use Rattle.hierarchy.specs.Flags.{AreNumbers, KeepNumbers}
-use Rattle.hierarchy.specs.MemberNumbers.{key_cmp, number_at, key_with, member_number, AreMemberNumbers, AddsMember}
+use Rattle.hierarchy.specs.private.Flags.{AreNumbers, KeepNumbers}
+use Rattle.hierarchy.specs.private.MemberNumbers.{key_cmp, number_at, key_with, member_number, AreMemberNumbers, AddsMember}
 use Rattle.hierarchy.proofs.Guards.{TextNumbers}
 use Rattle.hierarchy.proofs.Names.{none_some, some_same}
 use Rattle.hierarchy.proofs.Spots.{kind_cmp, both_equal, equal_is, kinds_equal, kind_itself}

@@ -10,14 +10,14 @@ use Rattle.std.proofs.lemmas.Option.{slice_get_within, slice_get-get_or, slice_g
 use Rattle.std.proofs.lemmas.List.{get_or-map, get_or_read}
 use Rattle.std.proofs.Math.Nat.{mul-le-mul_right}
 use Rattle.names.specs.StandardNames.{object_name}
-use Rattle.hierarchy.specs.declared.jumps.Jump.{Jump}
+use Rattle.hierarchy.specs.declared.skips.Skip.{Skip}
 use Rattle.hierarchy.specs.World.{World, climb}
 use Rattle.hierarchy.specs.Class.{ClassFact, class_of, world_of, superclass_of, IsPresent, IsAbsent, IsSubclass}
 use Rattle.hierarchy.specs.Answer.{SubclassAnswer, yes_if}
 use Rattle.hierarchy.specs.Rules.{IsNamedAt, IsHierarchy}
 use Rattle.hierarchy.specs.Ancestors.{IsAncestor}
 use Rattle.hierarchy.specs.Rows.{IsDepth, AncestorAnswer, IsLookedUp, AreRows}
-use Rattle.hierarchy.specs.Jumps.{AreJumps, jump_at, row_of, AreTables, FitTogether, HaveRows}
+use Rattle.hierarchy.specs.private.Skips.{AreSkips, skip_at, row_of, AreTables, FitTogether, HaveRows}
 use Rattle.hierarchy.proofs.Names.{found_class, found_some, same_some, some_same, none_some}
 use Rattle.hierarchy.proofs.Worlds.{up_from, steps_of, chain_of}
 use Rattle.hierarchy.proofs.Ancestors.{climb_on, present, at_found, one_place}
@@ -36,14 +36,14 @@ module _ (classes : List ClassFact) (h : IsHierarchy classes) where
   abbrev world : World
   world = world_of classes
 
-  module _ (tables : List (List Jump)) (tops : List Jump) (t : AreTables classes tables tops) where
+  module _ (tables : List (List Skip)) (tops : List Skip) (t : AreTables classes tables tops) where
     pub fit_together : FitTogether tables tops
     fit_together =
         let each = t.top_each in
         let few = h.few in
         record {
           few = omega (arith, each, few);
-          each = λ k jumps e. (t.table k jumps e).each ∙ sym each;
+          each = λ k skips e. (t.table k skips e).each ∙ sym each;
           enough = λ i lt. t.enough i (omega (arith, each, lt));
         }
 
@@ -51,47 +51,47 @@ module _ (classes : List ClassFact) (h : IsHierarchy classes) where
       in_tops : (i : ℕ) → i < length classes → i < length tops
       in_tops i lt = let each = t.top_each in omega (arith, each, lt)
 
-      depth_is : (i : ℕ) → i < length classes → slice_index depths i ≡ (jump_at tops i).steps
+      depth_is : (i : ℕ) → i < length classes → slice_index depths i ≡ (skip_at tops i).steps
       depth_is i lt = r.depth i (in_tops i lt)
 
-      depth_of : (i : ℕ) (c : ClassFact) → slice_get classes i ≡ Some c → IsDepth classes c.name (jump_at tops i).steps
+      depth_of : (i : ℕ) (c : ClassFact) → slice_get classes i ≡ Some c → IsDepth classes c.name (skip_at tops i).steps
       depth_of i c e =
           let a = t.top i (slice_get_within classes i c e) in
           let p = a.0 in
           let named = a.1 in
-          ap (λ (d : ClassFact). climb world (jump_at tops i).steps d.name) (same_some e p.2) ∙ p.4 ∙ ap (λ (d : ClassFact). Some d.name) (same_some p.3 named.1) ∙ ap (λ n. Some n) named.2
+          ap (λ (d : ClassFact). climb world (skip_at tops i).steps d.name) (same_some e p.2) ∙ p.4 ∙ ap (λ (d : ClassFact). Some d.name) (same_some p.3 named.1) ∙ ap (λ n. Some n) named.2
 
-      entry_is : (i k : ℕ) → i < length classes → 2 ^ k ≤ (jump_at tops i).steps → IsAncestor classes (2 ^ k) i (slice_index (row_of tables i) k)
-      entry_is i k lt p = by (cases_lt (jump_at (get_or tables k []) i).steps (2 ^ k))
+      entry_is : (i k : ℕ) → i < length classes → 2 ^ k ≤ (skip_at tops i).steps → IsAncestor classes (2 ^ k) i (slice_index (row_of tables i) k)
+      entry_is i k lt p = by (cases_lt (skip_at (get_or tables k []) i).steps (2 ^ k))
         where
           short : k < length tables
-          short = power_below k (length tables) (jump_at tops i).steps p (t.enough i lt)
+          short = power_below k (length tables) (skip_at tops i).steps p (t.enough i lt)
 
-          jumps : AreJumps classes (2 ^ k) (get_or tables k [])
-          jumps = t.table k (get_or tables k []) (slice_get-get_or tables k [] short)
+          skips : AreSkips classes (2 ^ k) (get_or tables k [])
+          skips = t.table k (get_or tables k []) (slice_get-get_or tables k [] short)
 
           inside : i < length (get_or tables k [])
-          inside = let each = jumps.each in omega (arith, each, lt)
+          inside = let each = skips.each in omega (arith, each, lt)
 
-          there : slice_get (get_or tables k []) i ≡ Some (jump_at (get_or tables k []) i)
+          there : slice_get (get_or tables k []) i ≡ Some (skip_at (get_or tables k []) i)
           there = slice_get-get_or (get_or tables k []) i (record { place = 0; steps = 0 }) inside
 
-          to : IsAncestor classes (jump_at (get_or tables k []) i).steps i (jump_at (get_or tables k []) i).place
-          to = (jumps.jump i (jump_at (get_or tables k []) i) there).to
+          to : IsAncestor classes (skip_at (get_or tables k []) i).steps i (skip_at (get_or tables k []) i).place
+          to = (skips.skip i (skip_at (get_or tables k []) i) there).to
 
-          entry : slice_index (row_of tables i) k ≡ (jump_at (get_or tables k []) i).place
-          entry = get_or-map (λ (jumps : List Jump). (jump_at jumps i).place) tables k [] 0 short
+          entry : slice_index (row_of tables i) k ≡ (skip_at (get_or tables k []) i).place
+          entry = get_or-map (λ (skips : List Skip). (skip_at skips i).place) tables k [] 0 short
 
-          whole : (jump_at (get_or tables k []) i).steps ≡ 2 ^ k → IsAncestor classes (2 ^ k) i (slice_index (row_of tables i) k)
-          whole e = subst (λ n. IsAncestor classes n i (slice_index (row_of tables i) k)) e (subst (λ j. IsAncestor classes (jump_at (get_or tables k []) i).steps i j) (sym entry) to)
+          whole : (skip_at (get_or tables k []) i).steps ≡ 2 ^ k → IsAncestor classes (2 ^ k) i (slice_index (row_of tables i) k)
+          whole e = subst (λ n. IsAncestor classes n i (slice_index (row_of tables i) k)) e (subst (λ j. IsAncestor classes (skip_at (get_or tables k []) i).steps i j) (sym entry) to)
 
-          by : ((jump_at (get_or tables k []) i).steps < 2 ^ k) ⊎ (2 ^ k ≤ (jump_at (get_or tables k []) i).steps) → IsAncestor classes (2 ^ k) i (slice_index (row_of tables i) k)
+          by : ((skip_at (get_or tables k []) i).steps < 2 ^ k) ⊎ (2 ^ k ≤ (skip_at (get_or tables k []) i).steps) → IsAncestor classes (2 ^ k) i (slice_index (row_of tables i) k)
           by (inl less) =
-              let named = (jumps.jump i (jump_at (get_or tables k []) i) there).whole less in
+              let named = (skips.skip i (skip_at (get_or tables k []) i) there).whole less in
               let deep = to.4 ∙ ap (λ (d : ClassFact). Some d.name) (same_some to.3 named.1) ∙ ap (λ n. Some n) named.2 in
-              let e = one_depth classes h to.0.name (jump_at (get_or tables k []) i).steps (jump_at tops i).steps deep (depth_of i to.0 to.2) in
+              let e = one_depth classes h to.0.name (skip_at (get_or tables k []) i).steps (skip_at tops i).steps deep (depth_of i to.0 to.2) in
               absurd (omega (arith, e, less, p))
-          by (inr more) = let most = (jumps.jump i (jump_at (get_or tables k []) i) there).most in whole (omega (arith, more, most))
+          by (inr more) = let most = (skips.skip i (skip_at (get_or tables k []) i) there).most in whole (omega (arith, more, most))
 
       pub are_rows : AreRows classes depths starts entries
       are_rows = record {

@@ -6,7 +6,7 @@ use Rattle.std.proofs.lemmas.List.{get_or_append_left, get_or_push, get_or_read,
 use Rattle.std.proofs.lemmas.Result.{IfOk-weaker}
 use Rattle.hierarchy.specs.declared.versions.Node.{Node}
 use Rattle.hierarchy.specs.declared.versions.Versions.{Versions}
-use Rattle.hierarchy.specs.Versions.{node_at, node_below, value_in, value_at, IsVersion, AreVersions, Puts}
+use Rattle.hierarchy.specs.private.Versions.{node_at, node_below, value_in, value_at, IsVersion, AreVersions, Puts}
 
 -- ---- the way to an index
 

@@ -11,7 +11,7 @@ use Rattle.hierarchy.specs.declared.spot.Spot.{Spot}
 use Rattle.hierarchy.specs.declared.summary.Kind.{Kind}
 use Rattle.hierarchy.specs.declared.summary.Kind.TheVariants.{Field, Method}
 use Rattle.hierarchy.specs.contracts.summary.KindOrd.TheImpl as kind_ord
-use Rattle.hierarchy.specs.Flags.{spot_cmp, moved}
+use Rattle.hierarchy.specs.private.Flags.{spot_cmp, moved}
 
 abbrev pub kind_cmp : Kind → Kind → Ordering
 kind_cmp = (kind_ord.ghosts).cmp

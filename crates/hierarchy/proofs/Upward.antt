@@ -12,7 +12,7 @@ use Rattle.std.proofs.lemmas.Map.Made.{length-le_from_is_member}
 use Rattle.std.proofs.lemmas.Option.{slice_get-get_or, slice_get-map}
 use Rattle.std.proofs.lemmas.Slice.Eq.{bytes_eq-Decides}
 use Rattle.names.specs.StandardNames.{object_name}
-use Rattle.hierarchy.specs.Above.{class_above, upward, classes_above}
+use Rattle.hierarchy.specs.private.Above.{class_above, upward, classes_above}
 use Rattle.hierarchy.specs.Answer.{on_chain}
 use Rattle.hierarchy.specs.Class.{ClassFact, class_of, entry_of, world_of}
 use Rattle.hierarchy.specs.Rules.{IsHierarchy}

@@ -42,4 +42,5 @@ SubclassAnswer classes a b (missing name) = (name ≡ a) × (a ≢ b) × IsAbsen
 
 -- each question about a subclass has one answer, which the word computes
 abbrev pub HasOneSubclassAnswer : Type 0
-HasOneSubclassAnswer = (classes : List ClassFact) (a b : List ℕ) (r : Outcome) → SubclassAnswer classes a b r ↔ (r ≡ subclass_answer classes a b)
+HasOneSubclassAnswer = (classes : List ClassFact) (a b : List ℕ) (r : Outcome)
+    → SubclassAnswer classes a b r ↔ (r ≡ subclass_answer classes a b)

@@ -1,4 +1,5 @@
--- Classes by their summaries (JVMS 4.1, 4.5, 4.6), names being lists of bytes, and the world that a list of classes is (JVMS 4.10.1.2).
+-- Classes by their summaries (JVMS 4.1, 4.5, 4.6), names being lists of bytes, and the world that a list of classes is
+-- (JVMS 4.10.1.2).
 use Rattle.std.specs.Prelude.{◌≡◌, ℕ, Bool, List, Option, None, IsSome, find, option_map}
 use Rattle.std.specs.Str.{bytes_eq}
 use Rattle.hierarchy.specs.declared.summary.Kind.{Kind}

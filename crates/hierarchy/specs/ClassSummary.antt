@@ -1,5 +1,5 @@
--- The summary of a class file (JVMS 4.1, 4.5, 4.6). Where no text stands at an index, which in a well-formed class file is
--- nowhere, the text is empty.
+-- The summary of a class file (JVMS 4.1, 4.5, 4.6). Where no text stands at an index, which in a well-formed class file
+-- is nowhere, the text is empty.
 use Rattle.std.specs.Prelude.{◌≡◌, ◌≢◌, ℕ, List, [], ◌++◌, map, slice_get, Option, Some, None, Ok, nat_eq, if◌then◌else◌}
 use Rattle.std.specs.Result.{result_unwrap_or}
 use Rattle.pool.specs.Entries.{Entry}
@@ -50,10 +50,13 @@ summary_of c = record {
 -- the texts of a summary are those that the constants of the class lead to
 pub record HasItsTexts (c : values.Class) : Type 0 where
   pub name : class_name_at c.constant_pool c.this_class ≡ Ok (summary_of c).name
-  pub superclass : c.super_class ≢ 0 → (name : List ℕ) × ((summary_of c).superclass ≡ Some name) × (class_name_at c.constant_pool c.super_class ≡ Ok name)
+  pub superclass : c.super_class ≢ 0 → (name : List ℕ) × ((summary_of c).superclass ≡ Some name)
+      × (class_name_at c.constant_pool c.super_class ≡ Ok name)
   pub no_superclass : c.super_class ≡ 0 → (summary_of c).superclass ≡ None
-  pub field : (n : ℕ) (m : values.Member) → slice_get c.fields n ≡ Some m → HasNameAndType c.constant_pool m (member_summary c.constant_pool Field m)
-  pub method : (n : ℕ) (m : values.Member) → slice_get c.methods n ≡ Some m → HasNameAndType c.constant_pool m (member_summary c.constant_pool Method m)
+  pub field : (n : ℕ) (m : values.Member) → slice_get c.fields n ≡ Some m
+      → HasNameAndType c.constant_pool m (member_summary c.constant_pool Field m)
+  pub method : (n : ℕ) (m : values.Member) → slice_get c.methods n ≡ Some m
+      → HasNameAndType c.constant_pool m (member_summary c.constant_pool Method m)
 
 -- of a class that is well formed
 abbrev pub SummaryHasTexts : Type 0

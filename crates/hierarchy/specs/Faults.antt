@@ -1,4 +1,6 @@
--- Which fault of a list of classes is answered: that of the first rule that the list breaks, in the order of their numbers, with the name of the first class that breaks it, in the list's order. No section of the standard numbers these faults.
+-- Which fault of a list of classes is answered: that of the first rule that the list breaks, in the order of their
+-- numbers, with the name of the first class that breaks it, in the list's order. No section of the standard numbers
+-- these faults.
 use Rattle.std.specs.Prelude.{◌≡◌, ◌≢◌, ◌↔◌, ℕ, ◌≤◌, ◌<◌, List, Option, Some, None, length}
 use Rattle.hierarchy.specs.declared.fault.HierarchyFault.{HierarchyFault}
 use Rattle.hierarchy.specs.declared.fault.HierarchyFault.TheVariants.{OutOfMemory, ClassTwice, Cycle, SuperMissing, NoObject, BadArrayInterface, TooManyClasses, InterfaceSuper}
@@ -77,7 +79,8 @@ RulesMakeHierarchies = (classes : List ClassFact) → IsHierarchy classes ↔ ((
 
 -- a list that is refused is no hierarchy, want of memory aside
 abbrev pub FaultsBreakRules : Type 0
-FaultsBreakRules = (classes : List ClassFact) (fault : HierarchyFault) → fault ≢ OutOfMemory → FaultOf classes fault → IsHierarchy classes → ⊥
+FaultsBreakRules = (classes : List ClassFact) (fault : HierarchyFault) → fault ≢ OutOfMemory → FaultOf classes fault
+    → IsHierarchy classes → ⊥
 
 -- a list has one fault at most, want of memory aside, and it names one class
 abbrev pub OneFault : Type 0

@@ -9,11 +9,5 @@ pub mod Extends
 pub mod Nearest
 pub mod Ancestors
 pub mod Rows
-pub mod Jumps
 pub mod Places
-pub mod Above
-pub mod Flags
-pub mod Versions
-pub mod MemberNumbers
-pub mod Ancestry
-pub mod Inheritance
+pub mod private

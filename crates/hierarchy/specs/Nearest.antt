@@ -1,4 +1,5 @@
--- The nearest declaration of a member from a class upward along its superclasses, and whether it guards the member (JVMS 4.6, 4.10.1.8).
+-- The nearest declaration of a member from a class upward along its superclasses, and whether it guards the member
+-- (JVMS 4.6, 4.10.1.8).
 use Rattle.std.specs.Prelude.{◌≡◌, ◌↔◌, ◌==◌, ℕ, zero, suc, Bool, true, false, not, ◌&&◌, ◌||◌, List, [], ◌∷◌, length, find, Option, Some, None, if◌then◌else◌}
 use Rattle.std.specs.Option.{option_and_then}
 use Rattle.std.specs.Str.{bytes_eq}
@@ -43,7 +44,8 @@ pub data IsNearest (classes : List ClassFact) (r : MemberReference) : List ℕ �
   here : {name : List ℕ} {c : ClassFact} {m : MemberFact} → class_of classes name ≡ Some c → declared_by c r ≡ Some m
       → IsNearest classes r name (record { class = c; member = m })
   -- it does not, and so the declaration is the nearest from its superclass upward
-  above : {name s : List ℕ} {c : ClassFact} {d : Declaration} → class_of classes name ≡ Some c → declared_by c r ≡ None → c.superclass ≡ Some s
+  above : {name s : List ℕ} {c : ClassFact} {d : Declaration} → class_of classes name ≡ Some c → declared_by c r ≡ None
+      → c.superclass ≡ Some s
       → IsNearest classes r s d → IsNearest classes r name d
 
 -- the class where it declares the member, and otherwise another declaration
@@ -55,7 +57,8 @@ or_above c None others = others
 abbrev pub nearest_among : List ClassFact → MemberReference → ℕ → List ℕ → Option Declaration
 nearest_among classes r zero name = None
 nearest_among classes r (suc n) name =
-    option_and_then (λ c. or_above c (declared_by c r) (option_and_then (nearest_among classes r n) c.superclass)) (class_of classes name)
+    option_and_then (λ c. or_above c (declared_by c r) (option_and_then (nearest_among classes r n) c.superclass))
+    (class_of classes name)
 
 -- from the class that is asked; no chain of superclasses has more classes than there are
 abbrev pub nearest : List ClassFact → MemberReference → Option Declaration
@@ -64,7 +67,8 @@ nearest classes r = nearest_among classes r (length classes) r.class
 -- in a hierarchy the word computes the nearest declaration, and nothing else
 abbrev pub NearestIsComputed : Type 0
 NearestIsComputed =
-    (classes : List ClassFact) → IsHierarchy classes → (r : MemberReference) (d : Declaration) → (nearest classes r ≡ Some d) ↔ IsNearest classes r r.class d
+    (classes : List ClassFact) → IsHierarchy classes → (r : MemberReference) (d : Declaration)
+    → (nearest classes r ≡ Some d) ↔ IsNearest classes r r.class d
 
 -- ---- packages (4.2.1)
 
@@ -89,7 +93,9 @@ abbrev pub is_protected_elsewhere : List ℕ → Option Declaration → Bool
 is_protected_elsewhere class None = false
 is_protected_elsewhere class (Some d) = d.member.is_protected && is_elsewhere class d.class.name
 
--- a class may use the member on objects of its own alone: a class above it is asked, and the nearest declaration from there is protected and of another package
+-- a class may use the member on objects of its own alone: a class above it is asked, and the nearest declaration from
+-- there is protected and of another package
 abbrev pub is_guarded : List ClassFact → List ℕ → MemberReference → Bool
 is_guarded classes class r =
-    not (bytes_eq class r.class) && (on_chain (world_of classes) (length classes) class r.class && is_protected_elsewhere class (nearest classes r))
+    not (bytes_eq class r.class) &&
+    (on_chain (world_of classes) (length classes) class r.class && is_protected_elsewhere class (nearest classes r))

@@ -9,4 +9,5 @@ place_in classes name = position (λ c. bytes_eq name c.name) classes
 
 -- two names with one place are equal
 abbrev pub PlacesAreNames : Type 0
-PlacesAreNames = (classes : List ClassFact) (a b : List ℕ) (n : ℕ) → place_in classes a ≡ Some n → place_in classes b ≡ Some n → a ≡ b
+PlacesAreNames = (classes : List ClassFact) (a b : List ℕ) (n : ℕ) → place_in classes a ≡ Some n
+    → place_in classes b ≡ Some n → a ≡ b

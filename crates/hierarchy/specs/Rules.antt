@@ -1,4 +1,5 @@
--- The rules that make a list of classes a hierarchy (JVMS 4.1, 4.10.1.2): each as the fault that breaks it, of one class or of the list as a whole.
+-- The rules that make a list of classes a hierarchy (JVMS 4.1, 4.10.1.2): each as the fault that breaks it, of one
+-- class or of the list as a whole.
 use Rattle.std.specs.Prelude.{◌≡◌, ◌≢◌, ◌⊎◌, ℕ, ◌≤◌, ◌<◌, true, false, List, Some, None, MatchOption, length, slice_get}
 use Rattle.names.specs.StandardNames.{object_name, cloneable_name, serializable_name}
 use Rattle.hierarchy.specs.Class.{ClassFact, class_of, IsAbsent, IsSubclass}

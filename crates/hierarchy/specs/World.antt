@@ -1,4 +1,5 @@
--- Worlds of classes (JVMS 4.10.1.2): what each name stands for, and the chain of superclasses that leads up from a class.
+-- Worlds of classes (JVMS 4.10.1.2): what each name stands for, and the chain of superclasses that leads up from a
+-- class.
 use Rattle.std.specs.Prelude.{◌≡◌, ℕ, zero, suc, Bool, List, Option, Some}
 use Rattle.std.specs.Option.{option_and_then}
 

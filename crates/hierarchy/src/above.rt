@@ -1,7 +1,7 @@
 //! The classes above a class.
 ghost use Rattle.std.specs.Prelude.{◌≡◌, IfOk, option_map};
 ghost use Rattle.std.specs.Option.{option_copied};
-ghost use Rattle.hierarchy.specs.Above.{class_above, first_above, names_above, names_of, ArePlaces};
+ghost use Rattle.hierarchy.specs.private.Above.{class_above, first_above, names_above, names_of, ArePlaces};
 ghost use Rattle.hierarchy.specs.Rules.{IsHierarchy};
 ghost use Rattle.hierarchy.specs.Summary.{fact_of};
 

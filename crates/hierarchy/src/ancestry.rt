@@ -1,7 +1,7 @@
 //! Classes with all that stand above them, each behind its superclass.
 ghost use Rattle.std.specs.Prelude.{◌≡◌, ◌<◌, List, [], length, IfOk, OnOk};
-ghost use Rattle.hierarchy.specs.Above.{number_of};
-ghost use Rattle.hierarchy.specs.Ancestry.{Adds, EndsBelow, IsAncestry, IsOwn, facts_at};
+ghost use Rattle.hierarchy.specs.private.Above.{number_of};
+ghost use Rattle.hierarchy.specs.private.Ancestry.{Adds, EndsBelow, IsAncestry, IsOwn, facts_at};
 ghost use Rattle.hierarchy.specs.Class.{ClassFact};
 ghost use Rattle.hierarchy.specs.Rules.{IsHierarchy};
 ghost use Rattle.hierarchy.specs.Summary.{fact_of};

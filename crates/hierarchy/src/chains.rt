@@ -36,8 +36,8 @@ impl<'s, 'a, S: BuildHasher> Model for Chains<'s, 'a, S> {
 }
 
 impl<'s, 'a, S: BuildHasher + Drop> Chains<'s, 'a, S> {
-    /// The classes of a list. Names are found by their hashes: n classes take time n log n, unless the hasher gives most of
-    /// their names one hash, and then n²; which one is handed in is the caller's choice.
+    /// The classes of a list. Names are found by their hashes: n classes take time n log n, unless the hasher gives
+    /// most of their names one hash, and then n²; which one is handed in is the caller's choice.
     ///
     /// Refused by the least number that holds, with the name of the first class in the list's order: 40 `ClassTwice`,
     /// 41 `Cycle`, 42 `SuperMissing`, 43 `NoObject`, 44 `BadArrayInterface`, 45 `TooManyClasses`, 46 `InterfaceSuper`;

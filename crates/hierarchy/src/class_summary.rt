@@ -56,7 +56,8 @@ fn summarise<'a>(
     members: &[Member<'_>],
     out: &mut Vec<MemberSummary<'a>>,
 ) -> Result<(), AllocError>
-    ensures { OnOk result (map member_of out.new.items ≡ map member_of out.old.items ++ member_summaries pool.now kind (map member_view members.now)) }
+    ensures { OnOk result (map member_of out.new.items ≡ map member_of out.old.items
+        ++ member_summaries pool.now kind (map member_view members.now)) }
 {
     for member in members {
         out.push(member_summary(pool, kind, member))?;

@@ -13,7 +13,8 @@ use crate::nearest::MemberRef;
 use crate::summary::Summary;
 use std::alloc::{AllocError, Global};
 
-/// A set of classes without faults. Its content is a list of summaries, one for each name. No question but the last takes memory.
+/// A set of classes without faults. Its content is a list of summaries, one for each name. No question but the last
+/// takes memory.
 pub trait Classes {
     /// The summaries.
     ghost content: { Self → List ClassFact };
@@ -44,5 +45,7 @@ pub trait Classes {
         class: &[u8],
         references: &[MemberRef<'_>],
     ) -> Result<Option<Vec<bool>>, AllocError>
-        ensures { IfOk result (λ found. IfSome found (λ answers. answers.items ≡ map (λ r. is_guarded (content self.now) class.now (reference_of r)) references.now)) };
+        ensures { IfOk result (λ found. IfSome found
+            (λ answers. answers.items ≡ map
+            (λ r. is_guarded (content self.now) class.now (reference_of r)) references.now)) };
 }

@@ -51,8 +51,12 @@ fn place_after(places: &[Option<usize>], place: Option<usize>) -> Option<usize>
     }
 }
 
-// The table for twice as many steps.
-fn doubled(alloc: Global, places: &[Option<usize>]) -> Result<Vec<Option<usize>>, AllocError>
+/// The table for twice as many steps, of a table that leads from each place to the one so many steps on, where there is
+/// one. Want of memory is the only refusal.
+pub fn twice_as_far(
+    alloc: Global,
+    places: &[Option<usize>],
+) -> Result<Vec<Option<usize>>, AllocError>
     ensures { IfOk result (λ twice. twice.items ≡ map (place_after places.now) places.now) }
 {
     places
@@ -79,7 +83,7 @@ pub fn first_on_cycle<'s, 'a, S: BuildHasher>(
     let mut places = superclass_places(alloc, classes, index)?;
     let mut left = classes.len();
     while left > 0 {
-        places = doubled(alloc, &places)?;
+        places = twice_as_far(alloc, &places)?;
         left /= 2;
     }
     match lowest(&places) {

@@ -1,7 +1,7 @@
 //! The declarations of the classes above a class, each with whether it guards its member.
 ghost use Rattle.std.specs.Prelude.{◌≡◌, map, IfOk, OnOk};
-ghost use Rattle.hierarchy.specs.Above.{classes_above, names_above, names_of};
-ghost use Rattle.hierarchy.specs.Flags.{AreNumbers, AreFlags, KeepsClass, first_flag, spot_of};
+ghost use Rattle.hierarchy.specs.private.Above.{classes_above, names_above, names_of};
+ghost use Rattle.hierarchy.specs.private.Flags.{AreNumbers, AreFlags, KeepsClass, first_flag, spot_of};
 ghost use Rattle.hierarchy.specs.Rules.{IsHierarchy};
 ghost use Rattle.hierarchy.specs.Summary.{fact_of, member_of};
 
@@ -34,7 +34,8 @@ fn spot_of(
     })
 }
 
-/// Keeps the members of a class at a place that have numbers. From the last to the first, so the first of several stays.
+/// Keeps the members of a class at a place that have numbers. From the last to the first, so the first of several
+/// stays.
 fn keep_class(
     flags: &mut BTreeMap<Spot, bool>,
     numbers: &BTreeMap<&[u8], usize>,
@@ -56,8 +57,8 @@ fn keep_class(
     Ok(())
 }
 
-/// The flags of the members that have numbers, as the classes of these names, which stand above a class, declare them: whether
-/// protected, and of another package than the class.
+/// The flags of the members that have numbers, as the classes of these names, which stand above a class, declare them:
+/// whether protected, and of another package than the class.
 pub fn flags_of<C: Classes>(
     alloc: Global,
     classes: &C,

@@ -30,7 +30,8 @@ fn repeats<'a, S: BuildHasher>(
     names: &IndexSet<&'a [u8], S>,
     from: usize,
 ) -> Result<Vec<Option<usize>>, AllocError>
-    ensures { IfOk result (λ places. places.items ≡ map (λ c. position (λ k. bytes_eq c.name.now k.now) names.now.keys) (drop from classes.now)) }
+    ensures { IfOk result (λ places. places.items
+        ≡ map (λ c. position (λ k. bytes_eq c.name.now k.now) names.now.keys) (drop from classes.now)) }
 {
     classes
         .iter()
@@ -49,7 +50,8 @@ fn first_twice<'a, S: BuildHasher>(
 ) -> Result<&'a [u8], AllocError>
     requires named { map (λ k. k.now) names.now.keys ≡ take place (map (λ c. c.name) (facts_of classes.now)) }
     requires distinct { IsDistinct (λ a b. bytes_eq a.now b.now) names.now.keys }
-    requires repeated { (c : ClassFact) × (slice_get (facts_of classes.now) place ≡ Some c) × (list_any (λ k. bytes_eq c.name k.now) names.now.keys ≡ true) }
+    requires repeated { (c : ClassFact) × (slice_get (facts_of classes.now) place ≡ Some c)
+        × (list_any (λ k. bytes_eq c.name k.now) names.now.keys ≡ true) }
     ensures { IfOk result (λ name. IsFirst (IsTwice (facts_of classes.now)) (facts_of classes.now) name.now) }
 {
     let places = repeats(alloc, classes, names, place)?;
@@ -88,7 +90,8 @@ impl<'s, 'a, S: BuildHasher> Index<'s, 'a, S> {
     ) -> Result<Self, HierarchyFault<'a>>
     where
         S: Drop,
-        ensures ok { IfOk result (λ t. (t ≡ facts_of classes.now) × NoClass (IsTwice (facts_of classes.now)) (facts_of classes.now)) }
+        ensures ok { IfOk result (λ t. (t ≡ facts_of classes.now)
+            × NoClass (IsTwice (facts_of classes.now)) (facts_of classes.now)) }
         ensures err { IfErr result (FaultOf (facts_of classes.now)) }
     {
         let mut names = IndexSet::with_capacity_and_hasher(alloc, classes.len(), hasher)?;

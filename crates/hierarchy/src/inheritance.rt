@@ -1,15 +1,15 @@
 //! The inheritance of classes, found for many at once.
 ghost use Rattle.std.specs.Prelude.{◌≡◌, ◌<◌, ◌↔◌, ◌+◌, List, [], length, map, slice_get, Some, IfOk, OnOk, IsTrue};
-ghost use Rattle.hierarchy.specs.Above.{class_above, number_of};
-ghost use Rattle.hierarchy.specs.Ancestry.{IsAncestry, facts_at};
+ghost use Rattle.hierarchy.specs.private.Above.{class_above, number_of};
+ghost use Rattle.hierarchy.specs.private.Ancestry.{IsAncestry, facts_at};
 ghost use Rattle.hierarchy.specs.Class.{ClassFact, IsSubclass};
-ghost use Rattle.hierarchy.specs.Inheritance.{Declares, HaveNumbers, InheritSoFar, InheritsAny, IsInheritance, IsProtectedAt, KeepMembers, NumberAll};
-ghost use Rattle.hierarchy.specs.MemberNumbers.{AreMemberNumbers};
+ghost use Rattle.hierarchy.specs.private.Inheritance.{Declares, HaveNumbers, InheritSoFar, InheritsAny, IsInheritance, IsProtectedAt, KeepMembers, NumberAll};
+ghost use Rattle.hierarchy.specs.private.MemberNumbers.{AreMemberNumbers};
 ghost use Rattle.hierarchy.specs.Nearest.{is_guarded};
 ghost use Rattle.hierarchy.specs.declared.member_numbers.MemberNumbers.{MemberNumbers};
 ghost use Rattle.hierarchy.specs.Rules.{IsHierarchy};
 ghost use Rattle.hierarchy.specs.Summary.{fact_of, member_of, reference_of};
-ghost use Rattle.hierarchy.specs.Versions.{AreVersions, IsVersion};
+ghost use Rattle.hierarchy.specs.private.Versions.{AreVersions, IsVersion};
 
 use crate::above::class_above;
 use crate::ancestry::{Ancestry, ancestry_of};
@@ -28,7 +28,8 @@ use std::collections::BTreeMap;
 pub struct Inherited {
     // The version that has 1 at the place of each class that is this one or stands above it.
     ancestors: usize,
-    // The version that has at the number of a member the place, from 1, of the class with the nearest declaration, where that is protected.
+    // The version that has at the number of a member the place, from 1, of the class with the nearest declaration,
+    // where that is protected.
     members: usize,
     // The number of its package.
     package_number: usize,
@@ -36,7 +37,8 @@ pub struct Inherited {
 
 /// The inheritance of classes: which classes stand above each, and the nearest declarations of protected members.
 ///
-/// The time and the memory are those of the classes and their members, times a logarithm, however long the chains of superclasses are.
+/// The time and the memory are those of the classes and their members, times a logarithm, however long the chains of
+/// superclasses are.
 #[derive(Drop)]
 pub struct Inheritance<'k> {
     ancestry: Ancestry<'k>,
@@ -82,7 +84,8 @@ fn numbers_of<'k>(alloc: Global, ancestry: &Ancestry<'k>) -> Result<MemberNumber
     Ok(numbers)
 }
 
-/// The version of the members of a class, over that of its superclass. From the last member to the first, so that the first of several counts.
+/// The version of the members of a class, over that of its superclass. From the last member to the first, so that the
+/// first of several counts.
 fn declare(
     versions: &mut Versions,
     numbers: &MemberNumbers<'_>,
@@ -93,7 +96,8 @@ fn declare(
     requires numbers { AreMemberNumbers numbers.now }
     requires good { AreVersions versions.old }
     requires there { IsVersion versions.old above }
-    ensures { IfOk result (Declares numbers.now versions.old versions.new (map member_of class.now.members.items) own above) }
+    ensures { IfOk result (Declares numbers.now versions.old versions.new
+        (map member_of class.now.members.items) own above) }
 {
     let mut version = above;
     let mut left = class.members.len();
@@ -111,7 +115,8 @@ fn declare(
 impl<'k> InheritanceTable<'k> {
     /// No class.
     fn new(alloc: Global) -> Result<InheritanceTable<'k>, AllocError>
-        ensures begun { IfOk result (λ i. (classes all : List ClassFact) (numbers : MemberNumbers) → InheritSoFar classes all numbers i.versions i.packages i.of.items) }
+        ensures begun { IfOk result (λ i. (classes all : List ClassFact) (numbers : MemberNumbers)
+            → InheritSoFar classes all numbers i.versions i.packages i.of.items) }
         ensures none { IfOk result (λ i. i.of.items ≡ []) }
     {
         Ok(InheritanceTable {
@@ -129,9 +134,14 @@ impl<'k> InheritanceTable<'k> {
         class: &Summary<'k>,
     ) -> Inherited
         requires good { IsAncestry (C.content classes.now) ancestry.now }
-        requires next { slice_get (facts_at ancestry.now.classes.items) (length self.now.of.items) ≡ Some (fact_of class.now) }
-        ensures { (numbers : MemberNumbers) → InheritSoFar (C.content classes.now) (facts_at ancestry.now.classes.items) numbers self.now.versions self.now.packages self.now.of.items
-            → InheritsAny (C.content classes.now) (facts_at ancestry.now.classes.items) numbers self.now.versions self.now.packages (class_above (C.content classes.now) (fact_of class.now)) result }
+        requires next { slice_get (facts_at ancestry.now.classes.items) (length self.now.of.items)
+            ≡ Some (fact_of class.now) }
+        ensures { (numbers : MemberNumbers)
+            → InheritSoFar (C.content classes.now)
+            (facts_at ancestry.now.classes.items) numbers self.now.versions self.now.packages self.now.of.items
+            → InheritsAny (C.content classes.now)
+            (facts_at ancestry.now.classes.items) numbers self.now.versions self.now.packages
+            (class_above (C.content classes.now) (fact_of class.now)) result }
     {
         let nothing = Inherited {
             ancestors: 0,
@@ -158,8 +168,10 @@ impl<'k> InheritanceTable<'k> {
         requires good { IsAncestry (C.content classes.now) ancestry.now }
         requires numbers { AreMemberNumbers numbers.now }
         requires left { length self.old.of.items < length ancestry.now.classes.items }
-        requires begun { InheritSoFar (C.content classes.now) (facts_at ancestry.now.classes.items) numbers.now self.old.versions self.old.packages self.old.of.items }
-        ensures begun { OnOk result (InheritSoFar (C.content classes.now) (facts_at ancestry.now.classes.items) numbers.now self.new.versions self.new.packages self.new.of.items) }
+        requires begun { InheritSoFar (C.content classes.now)
+            (facts_at ancestry.now.classes.items) numbers.now self.old.versions self.old.packages self.old.of.items }
+        ensures begun { OnOk result (InheritSoFar (C.content classes.now)
+            (facts_at ancestry.now.classes.items) numbers.now self.new.versions self.new.packages self.new.of.items) }
         ensures more { OnOk result (length self.new.of.items ≡ length self.old.of.items + 1) }
     {
         let place = self.of.len();
@@ -187,7 +199,8 @@ fn inherited_by<'k, C: Classes>(
     requires formed { 0 < length ancestry.now.classes.items → IsHierarchy (C.content classes.now) }
     requires good { IsAncestry (C.content classes.now) ancestry.now }
     requires numbers { AreMemberNumbers numbers.now }
-    ensures all { IfOk result (λ i. InheritSoFar (C.content classes.now) (facts_at ancestry.now.classes.items) numbers.now i.versions i.packages i.of.items) }
+    ensures all { IfOk result (λ i. InheritSoFar (C.content classes.now)
+        (facts_at ancestry.now.classes.items) numbers.now i.versions i.packages i.of.items) }
     ensures as_many { IfOk result (λ i. length i.of.items ≡ length ancestry.now.classes.items) }
 {
     let mut table = InheritanceTable::new(alloc)?;
@@ -198,7 +211,8 @@ fn inherited_by<'k, C: Classes>(
 }
 
 impl<'k> Inheritance<'k> {
-    /// Finds the inheritance of the classes of these names and of all that stand above them. The only refusal is want of memory.
+    /// Finds the inheritance of the classes of these names and of all that stand above them. The only refusal is want
+    /// of memory.
     pub fn new<C: Classes>(
         alloc: Global,
         classes: &'k C,
@@ -227,8 +241,10 @@ impl<'k> Inheritance<'k> {
     fn is_below(&self, class: usize, other: usize) -> bool
         requires good { (classes : List ClassFact) × IsInheritance classes self.now }
         requires there { class < length self.now.table.of.items }
-        ensures { (classes : List ClassFact) (c d : ClassFact) → IsInheritance classes self.now → slice_get (facts_at self.now.ancestry.classes.items) class ≡ Some c
-            → slice_get (facts_at self.now.ancestry.classes.items) other ≡ Some d → IsTrue result ↔ IsSubclass classes c.name d.name }
+        ensures { (classes : List ClassFact) (c d : ClassFact) → IsInheritance classes self.now
+            → slice_get (facts_at self.now.ancestry.classes.items) class ≡ Some c
+            → slice_get (facts_at self.now.ancestry.classes.items) other ≡ Some d
+            → IsTrue result ↔ IsSubclass classes c.name d.name }
     {
         self.table
             .versions
@@ -240,8 +256,10 @@ impl<'k> Inheritance<'k> {
     fn protected_in(&self, class: usize, reference: &MemberRef<'_>) -> Option<usize>
         requires good { (classes : List ClassFact) × IsInheritance classes self.now }
         requires there { class < length self.now.table.of.items }
-        ensures { (classes : List ClassFact) (c : ClassFact) → IsInheritance classes self.now → slice_get (facts_at self.now.ancestry.classes.items) class ≡ Some c
-            → IsProtectedAt classes (facts_at self.now.ancestry.classes.items) (reference_of reference.now) c.name result }
+        ensures { (classes : List ClassFact) (c : ClassFact) → IsInheritance classes self.now
+            → slice_get (facts_at self.now.ancestry.classes.items) class ≡ Some c
+            → IsProtectedAt classes (facts_at self.now.ancestry.classes.items)
+            (reference_of reference.now) c.name result }
     {
         let number = self
             .numbers
@@ -257,7 +275,8 @@ impl<'k> Inheritance<'k> {
     fn is_guarded(&self, class: usize, reference: &MemberRef<'_>) -> bool
         requires good { (classes : List ClassFact) × IsInheritance classes self.now }
         requires there { class < length self.now.table.of.items }
-        ensures { (classes : List ClassFact) (c : ClassFact) → IsInheritance classes self.now → slice_get (facts_at self.now.ancestry.classes.items) class ≡ Some c
+        ensures { (classes : List ClassFact) (c : ClassFact) → IsInheritance classes self.now
+            → slice_get (facts_at self.now.ancestry.classes.items) class ≡ Some c
             → result ≡ is_guarded classes c.name (reference_of reference.now) }
     {
         let Some(start) = self.place(reference.class) else {
@@ -283,7 +302,8 @@ impl<'k> Inheritance<'k> {
         requires good { (classes : List ClassFact) × IsInheritance classes self.now }
         requires there { class < length self.now.table.of.items }
         ensures { IfOk result (λ answers. (classes : List ClassFact) (c : ClassFact) → IsInheritance classes self.now
-            → slice_get (facts_at self.now.ancestry.classes.items) class ≡ Some c → answers.items ≡ map (λ r. is_guarded classes c.name (reference_of r)) references.now) }
+            → slice_get (facts_at self.now.ancestry.classes.items) class ≡ Some c
+            → answers.items ≡ map (λ r. is_guarded classes c.name (reference_of r)) references.now) }
     {
         let mut answers = Vec::with_capacity(alloc, references.len())?;
         for reference in references {

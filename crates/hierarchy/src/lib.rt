@@ -13,7 +13,7 @@
 //! - `cycles`: the first class that stands on the chain of its own superclasses.
 //! - `checked`: a list of classes that keeps the rules.
 //! - `chains`: classes by a walk along their superclasses.
-//! - `jumps`: jumps up the chain of superclasses, by doubled steps.
+//! - `skips`: skips up the chain of superclasses, by doubled steps.
 //! - `row_table`: rows of ancestors, one behind the other.
 //! - `rows`: classes by rows of ancestors.
 //! - `nearest`: references to members that are protected and of another package.
@@ -43,7 +43,6 @@ mod fault;
 mod flags;
 mod index;
 mod inheritance;
-mod jumps;
 pub mod laws;
 mod member_key;
 mod member_numbers;
@@ -54,6 +53,7 @@ mod prepared;
 mod row_table;
 mod rows;
 mod rules;
+mod skips;
 mod spot;
 mod starts;
 mod summary;
@@ -63,6 +63,7 @@ pub use answer::Answer;
 pub use chains::Chains;
 pub use class_summary::{name_of, summary_of};
 pub use classes::Classes;
+pub use cycles::twice_as_far;
 pub use fault::HierarchyFault;
 pub use nearest::{MemberRef, guarded};
 pub use prepared::Prepared;

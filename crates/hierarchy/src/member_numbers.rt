@@ -1,7 +1,7 @@
 //! Numbers of members, by kind, name and descriptor.
 ghost use Rattle.std.specs.Prelude.{◌≡◌, ℕ, List, None, OnOk};
 ghost use Rattle.hierarchy.specs.declared.summary.Kind.{Kind};
-ghost use Rattle.hierarchy.specs.MemberNumbers.{AddsMember, AreMemberNumbers, key_of, member_number};
+ghost use Rattle.hierarchy.specs.private.MemberNumbers.{AddsMember, AreMemberNumbers, key_of, member_number};
 ghost use Rattle.hierarchy.specs.Summary.{member_of};
 
 use crate::member_key::MemberKey;

@@ -21,14 +21,16 @@ pub struct MemberRef<'a> {
     pub descriptor: &'a [u8],
 }
 
-/// For each reference whether the class of this name may use the member on objects of its own alone, by a walk along its superclasses.
+/// For each reference whether the class of this name may use the member on objects of its own alone, by a walk along
+/// its superclasses.
 fn guarded_by_walk<'a, C: Classes>(
     alloc: Global,
     classes: &C,
     class: &[u8],
     references: &[MemberRef<'a>],
 ) -> Result<Vec<bool>, AllocError>
-    ensures { IfOk result (λ answers. answers.items ≡ map (λ r. is_guarded (C.content classes.now) class.now (reference_of r)) references.now) }
+    ensures { IfOk result (λ answers. answers.items
+        ≡ map (λ r. is_guarded (C.content classes.now) class.now (reference_of r)) references.now) }
 {
     let above = names_above(alloc, classes, class)?;
     let places = places_of(alloc, &above)?;
@@ -38,19 +40,21 @@ fn guarded_by_walk<'a, C: Classes>(
     first_flags(alloc, &flags, &starts, above.len())
 }
 
-/// For each reference whether the class of this name may use the member on objects of its own alone: a class above it is asked, and the
-/// nearest declaration from there upward, static or not, is protected and of a class of another package (JVMS 4.10.1.8).
+/// For each reference whether the class of this name may use the member on objects of its own alone: a class above it
+/// is asked, and the nearest declaration from there upward, static or not, is protected and of a class of another
+/// package (JVMS 4.10.1.8).
 ///
-/// The time is that of the members on the chain of superclasses and of the references, times a logarithm; of a reference its own texts are
-/// compared once. Where what the class inherits was found in advance ([`Prepared`](crate::Prepared)), it is that of the references alone. The
-/// only refusal is want of memory.
+/// The time is that of the members on the chain of superclasses and of the references, times a logarithm; of a
+/// reference its own texts are compared once. Where what the class inherits was found in advance
+/// ([`Prepared`](crate::Prepared)), it is that of the references alone. The only refusal is want of memory.
 pub fn guarded<'a, C: Classes>(
     alloc: Global,
     classes: &C,
     class: &[u8],
     references: &[MemberRef<'a>],
 ) -> Result<Vec<bool>, AllocError>
-    ensures { IfOk result (λ answers. answers.items ≡ map (λ r. is_guarded (C.content classes.now) class.now (reference_of r)) references.now) }
+    ensures { IfOk result (λ answers. answers.items
+        ≡ map (λ r. is_guarded (C.content classes.now) class.now (reference_of r)) references.now) }
 {
     match classes.guarded_in_advance(alloc, class, references)? {
         Some(answers) => Ok(answers),

@@ -7,8 +7,8 @@ use crate::summary::Summary;
 use std::alloc::{AllocError, Global};
 use std::marker::Model;
 
-/// Classes that answer as others do, with what some of them inherit found in advance: [`guarded`](crate::guarded) takes no walk along a chain
-/// of superclasses for these.
+/// Classes that answer as others do, with what some of them inherit found in advance: [`guarded`](crate::guarded) takes
+/// no walk along a chain of superclasses for these.
 #[derive(Drop)]
 pub struct Prepared<'k, C: Classes> {
     classes: &'k C,
@@ -18,7 +18,7 @@ pub struct Prepared<'k, C: Classes> {
 impl<'k, C: Classes> Model for Prepared<'k, C> {
     ghost use Rattle.std.specs.Prelude.{List};
     ghost use Rattle.hierarchy.specs.Class.{ClassFact};
-    ghost use Rattle.hierarchy.specs.Inheritance.{IsInheritance};
+    ghost use Rattle.hierarchy.specs.private.Inheritance.{IsInheritance};
 
     ghost Value = { List ClassFact };
 
@@ -32,8 +32,8 @@ impl<'k, C: Classes> Prepared<'k, C> {
 
     /// Finds what the classes of these names inherit. A name that no class has is passed over.
     ///
-    /// The time and the memory are those of these classes, of all that stand above them, and of their members, times a logarithm, however
-    /// long the chains of superclasses are. The only refusal is want of memory.
+    /// The time and the memory are those of these classes, of all that stand above them, and of their members, times a
+    /// logarithm, however long the chains of superclasses are. The only refusal is want of memory.
     pub fn new(
         alloc: Global,
         classes: &'k C,

@@ -1,11 +1,11 @@
 //! Rows of ancestors, one behind the other.
 ghost use Rattle.std.specs.Prelude.{◌^◌, ◌<◌, ◌≤◌, ◌↔◌, IsTrue, IfOk, OnOk, length, map};
-ghost use Rattle.hierarchy.specs.Jumps.{AreLong, IsRowAdded, FitTogether, HaveRows};
+ghost use Rattle.hierarchy.specs.private.Skips.{AreLong, IsRowAdded, FitTogether, HaveRows};
 
-use crate::jumps::{Jump, Jumps};
+use crate::skips::{Skip, Skips};
 use std::alloc::{AllocError, Global};
 
-/// Of each class of a list its depth, which is how many classes stand above it, and its row: the places of its
+/// The depth of each class of a list, which is how many classes stand above it, and its row: the places of its
 /// ancestors at the distances 1, 2, 4 and so on, as far as its depth reaches.
 #[derive(Drop)]
 pub struct RowTable {
@@ -24,7 +24,7 @@ pub fn has_entry(depth: u16, k: usize) -> bool
 
 // Puts the row of a place behind the entries.
 fn push_row(
-    tables: &[Vec<Jump>],
+    tables: &[Vec<Skip>],
     place: usize,
     depth: u16,
     entries: &mut Vec<u16>,
@@ -33,27 +33,28 @@ fn push_row(
     requires enough { depth < 2 ^ length tables.now }
     ensures { OnOk result (IsRowAdded (map (λ t. t.items) tables.now) place depth entries.old.items entries.new.items) }
 {
-    for (k, jumps) in tables.iter().enumerate() {
+    for (k, skips) in tables.iter().enumerate() {
         if !has_entry(depth, k) {
             return Ok(());
         }
-        entries.push(jumps[place].place)?;
+        entries.push(skips[place].place)?;
     }
     Ok(())
 }
 
 /// The rows of all places.
-pub fn rows_of(alloc: Global, jumps: &Jumps) -> Result<RowTable, AllocError>
-    requires { FitTogether (map (λ t. t.items) jumps.now.tables.items) jumps.now.tops.items }
-    ensures { IfOk result (λ rows. HaveRows (map (λ t. t.items) jumps.now.tables.items) jumps.now.tops.items (length jumps.now.tops.items) rows.depths.items rows.starts.items rows.entries.items) }
+pub fn rows_of(alloc: Global, skips: &Skips) -> Result<RowTable, AllocError>
+    requires { FitTogether (map (λ t. t.items) skips.now.tables.items) skips.now.tops.items }
+    ensures { IfOk result (λ rows. HaveRows (map (λ t. t.items) skips.now.tables.items) skips.now.tops.items
+        (length skips.now.tops.items) rows.depths.items rows.starts.items rows.entries.items) }
 {
-    let mut depths = Vec::with_capacity(alloc, jumps.tops.len())?;
-    let mut starts = Vec::with_capacity(alloc, jumps.tops.len())?;
+    let mut depths = Vec::with_capacity(alloc, skips.tops.len())?;
+    let mut starts = Vec::with_capacity(alloc, skips.tops.len())?;
     let mut entries = Vec::new(alloc);
-    for (place, top) in jumps.tops.iter().enumerate() {
+    for (place, top) in skips.tops.iter().enumerate() {
         depths.push(top.steps)?;
         starts.push(entries.len() as u32)?;
-        push_row(&jumps.tables, place, top.steps, &mut entries)?;
+        push_row(&skips.tables, place, top.steps, &mut entries)?;
     }
     entries.shrink_to_fit();
     Ok(RowTable {

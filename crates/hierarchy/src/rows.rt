@@ -1,6 +1,6 @@
 //! Classes by rows of ancestors.
 ghost use Rattle.std.specs.Prelude.{◌≡◌, ℕ, ◌+◌, ◌^◌, ◌<◌, ◌≤◌, Some, IfOk, IfErr, length, slice_get, count_ones};
-ghost use Rattle.hierarchy.specs.Answer.{SubclassAnswer, outcome_of, yes_if};
+ghost use Rattle.hierarchy.specs.Answer.{SubclassAnswer, outcome_of};
 ghost use Rattle.hierarchy.specs.Class.{ClassFact};
 ghost use Rattle.hierarchy.specs.Summary.{facts_of};
 ghost use Rattle.hierarchy.specs.Faults.{FaultOf};
@@ -13,10 +13,10 @@ use crate::checked::checked_index;
 use crate::classes::Classes;
 use crate::fault::HierarchyFault;
 use crate::index::Index;
-use crate::jumps::jumps_up;
 use crate::nearest::MemberRef;
 use crate::places::short;
 use crate::row_table::{RowTable, has_entry, rows_of};
+use crate::skips::skips_up;
 use crate::summary::Summary;
 use std::alloc::{AllocError, Global};
 use std::hash::BuildHasher;
@@ -40,14 +40,8 @@ impl<'s, 'a, S: BuildHasher> Model for Rows<'s, 'a, S> {
 
     ghost view = { λ r. r.index };
 
-    ghost invariant = { λ r. IsHierarchy r.index × AreRows r.index r.rows.depths.items r.rows.starts.items r.rows.entries.items };
-}
-
-// Yes where it holds, and no where it does not.
-fn yes_if<'n>(holds: bool) -> Answer<'n>
-    ensures { outcome_of result ≡ yes_if holds }
-{
-    if holds { Answer::Yes } else { Answer::No }
+    ghost invariant = { λ r. IsHierarchy r.index
+        × AreRows r.index r.rows.depths.items r.rows.starts.items r.rows.entries.items };
 }
 
 // The rows of the classes of a list.
@@ -60,16 +54,17 @@ fn rows_in<'s, 'a, S: BuildHasher>(
     requires formed { IsHierarchy index.now }
     ensures { IfOk result (λ rows. AreRows index.now rows.depths.items rows.starts.items rows.entries.items) }
 {
-    let jumps = jumps_up(alloc, classes, index)?;
-    rows_of(alloc, &jumps)
+    let skips = skips_up(alloc, classes, index)?;
+    rows_of(alloc, &skips)
 }
 
 impl<'s, 'a, S: BuildHasher + Drop> Rows<'s, 'a, S> {
-    /// The classes of a list. A class of depth d has a row of as many entries as d has binary digits, which are 16 at most.
+    /// The classes of a list. A class of depth d has a row of as many entries as d has binary digits, which are 16 at
+    /// most.
     ///
-    /// Names are found by their hashes: n classes take time n log n, unless the hasher gives most of their names one hash,
-    /// as each hasher does for some names that are known beforehand, and then n². Which one is handed in is the caller's
-    /// choice; `RandomState` keeps its hashes from those who make class files.
+    /// Names are found by their hashes: n classes take time n log n, unless the hasher gives most of their names one
+    /// hash, as each hasher does for some names that are known beforehand, and then n². Which one is handed in is the
+    /// caller's choice; `RandomState` keeps its hashes from those who make class files.
     ///
     /// Refused as by [`Chains::new`](crate::Chains::new): 40 to 46, and 1 where there was no memory left.
     pub fn new(
@@ -88,8 +83,8 @@ impl<'s, 'a, S: BuildHasher + Drop> Rows<'s, 'a, S> {
 }
 
 impl<'s, 'a, S: BuildHasher> Rows<'s, 'a, S> {
-    /// The place in the list, from 0, of the ancestor at the distance 2 to the power of `k` from the class at a place, or
-    /// `None` where fewer classes stand above it. Looks at one entry of a row, and counts it.
+    /// The place in the list, from 0, of the ancestor at the distance 2 to the power of `k` from the class at a place,
+    /// or `None` where fewer classes stand above it. Looks at one entry of a row, and counts it.
     pub fn ancestor(&self, place: u16, k: u8, looks: &mut u32) -> Option<u16>
         requires place { place < length self.now }
         requires looks { looks.old < 16 }
@@ -109,7 +104,8 @@ impl<'s, 'a, S: BuildHasher> Rows<'s, 'a, S> {
     // The place of the class so many steps above one, and how many entries of rows were looked at.
     fn above(&self, place: u16, steps: u16) -> (u16, u32)
         requires formed { IsHierarchy self.now }
-        requires deep { (c : ClassFact) × (d : ℕ) × (slice_get self.now place ≡ Some c) × IsDepth self.now c.name d × (steps ≤ d) }
+        requires deep { (c : ClassFact) × (d : ℕ) × (slice_get self.now place ≡ Some c) × IsDepth self.now c.name d
+            × (steps ≤ d) }
         ensures there { IsAncestor self.now steps place result.0 }
         ensures looked { result.1 ≡ count_ones steps }
         ensures few { result.1 ≤ 16 }
@@ -154,7 +150,7 @@ impl<'s, 'a, S: BuildHasher> Rows<'s, 'a, S> {
             return (Answer::No, 0);
         }
         let (above, looks) = self.above(from as u16, low - high);
-        (yes_if(usize::from(above) == to), looks)
+        (Answer::yes_if(usize::from(above) == to), looks)
     }
 }
 

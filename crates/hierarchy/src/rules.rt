@@ -19,7 +19,8 @@ pub trait Rule {
 
 // The name of the first class that breaks a rule.
 pub fn first_breaking<'a, R: Rule>(classes: &[Summary<'a>], rule: &R) -> Option<&'a [u8]>
-    ensures { MatchOption result (NoClass (R.Breaks rule.now) (facts_of classes.now)) (λ n. IsFirst (R.Breaks rule.now) (facts_of classes.now) n.now) }
+    ensures { MatchOption result (NoClass (R.Breaks rule.now) (facts_of classes.now))
+        (λ n. IsFirst (R.Breaks rule.now) (facts_of classes.now) n.now) }
 {
     for class in classes {
         if rule.breaks(class) {

@@ -1,6 +1,6 @@
 //! Where references begin to look for the declarations of their members.
 ghost use Rattle.std.specs.Prelude.{◌≡◌, map, IfOk, OnOk};
-ghost use Rattle.hierarchy.specs.Flags.{AreNumbers, GetsNumber, KeepNumbers, IsStart, AreStarts};
+ghost use Rattle.hierarchy.specs.private.Flags.{AreNumbers, GetsNumber, KeepNumbers, IsStart, AreStarts};
 ghost use Rattle.hierarchy.specs.Summary.{reference_of};
 
 use crate::nearest::MemberRef;
@@ -53,8 +53,8 @@ fn start_of<'a>(
     }))
 }
 
-/// For each reference of a class the spot from which it looks upward, if it asks a class above. The texts of the members that are so
-/// asked for have numbers then.
+/// For each reference of a class the spot from which it looks upward, if it asks a class above. The texts of the
+/// members that are so asked for have numbers then.
 pub fn starts_of<'a>(
     alloc: Global,
     class: &[u8],
@@ -63,7 +63,8 @@ pub fn starts_of<'a>(
     numbers: &mut BTreeMap<&'a [u8], usize>,
 ) -> Result<Vec<Option<Spot>>, AllocError>
     requires { AreNumbers numbers.old }
-    ensures starts { IfOk result (λ s. AreStarts places.now numbers.new class.now (map reference_of references.now) s.items) }
+    ensures starts { IfOk result (λ s. AreStarts places.now numbers.new class.now
+        (map reference_of references.now) s.items) }
     ensures good { OnOk result (AreNumbers numbers.new) }
 {
     let mut starts = Vec::with_capacity(alloc, references.len())?;

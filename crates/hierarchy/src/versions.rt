@@ -1,10 +1,11 @@
 //! Versions of an array of numbers, which share nodes.
 ghost use Rattle.std.specs.Prelude.{◌≡◌, ℕ, List, [], ◌∷◌, ◌++◌, length, Ok, IfOk};
-ghost use Rattle.hierarchy.specs.Versions.{AreVersions, IsVersion, Puts, value_at};
+ghost use Rattle.hierarchy.specs.private.Versions.{AreVersions, IsVersion, Puts, value_at};
 
 use std::alloc::{AllocError, Global};
 
-/// A node of a version: its value at index 0, and the nodes that have its values at odd indices, and at even ones above 0.
+/// A node of a version: its value at index 0, and the nodes that have its values at odd indices, and at even ones above
+/// 0.
 #[derive(Clone, Copy)]
 pub struct Node {
     value: usize,
@@ -12,9 +13,9 @@ pub struct Node {
     even: usize,
 }
 
-/// Versions of an array of numbers, each named by its node at the top. Version 0 has zeros alone, and each other one was made of one before
-/// by a value at one index: the nodes on the way to that index are new, and all others are shared. Index 2i + 1 of a version is index i of its
-/// node `odd`, and index 2i + 2 is index i of its node `even`.
+/// Versions of an array of numbers, each named by its node at the top. Version 0 has zeros alone, and each other one
+/// was made of one before by a value at one index: the nodes on the way to that index are new, and all others are
+/// shared. Index 2i + 1 of a version is index i of its node `odd`, and index 2i + 2 is index i of its node `even`.
 #[derive(Drop)]
 pub struct Versions {
     nodes: Vec<Node>,
@@ -52,14 +53,16 @@ impl Versions {
 
     // A new version, which has this node at the top.
     fn push(&mut self, node: Node) -> Result<usize, AllocError>
-        ensures { IfOk result (λ made. (made ≡ length self.old.nodes.items) × (self.new.nodes.items ≡ self.old.nodes.items ++ node ∷ [])) }
+        ensures { IfOk result (λ made. (made ≡ length self.old.nodes.items)
+            × (self.new.nodes.items ≡ self.old.nodes.items ++ node ∷ [])) }
     {
         let made = self.nodes.len();
         self.nodes.push(node)?;
         Ok(made)
     }
 
-    // A new version that has this value at the index, and otherwise what another has. Copies the nodes on the way to the index.
+    // A new version that has this value at the index, and otherwise what another has. Copies the nodes on the way to
+    // the index.
     fn put_new(&mut self, version: usize, index: usize, value: usize) -> Result<usize, AllocError>
         requires good { AreVersions self.old }
         requires there { IsVersion self.old version }
@@ -78,7 +81,8 @@ impl Versions {
         self.push(Node { even, ..node })
     }
 
-    /// The version that has this value at an index, and otherwise what another version has. Takes no memory where that one has the value.
+    /// The version that has this value at an index, and otherwise what another version has. Takes no memory where that
+    /// one has the value.
     pub fn put(&mut self, version: usize, index: usize, value: usize) -> Result<usize, AllocError>
         requires good { AreVersions self.old }
         requires there { IsVersion self.old version }

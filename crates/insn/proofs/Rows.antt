@@ -5,7 +5,7 @@ use Rattle.std.proofs.lemmas.List.{length-map}
 use Rattle.std.proofs.lemmas.Option.{slice_get-map, slice_get_past, slice_get_read, slice_get_within, unwrap_or-slice_get}
 use Rattle.insn.specs.declared.opcode.Opcode.{Opcode}
 use Rattle.insn.specs.Opcodes.{row, number, opcodes, opcode_of}
-use Rattle.insn.specs.Table.{TableRow, table_row, table_opcode}
+use Rattle.insn.specs.private.Table.{TableRow, table_row, table_opcode}
 use Rattle.insn.proofs.Numbers.{by_number}
 
 some_of : {A B : Type 0} (f : A → B) (x : Option A) (d : A) (y : B) → option_map f x ≡ Some y → f (unwrap_or x d) ≡ y

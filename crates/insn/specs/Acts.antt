@@ -122,9 +122,11 @@ stack_forms Pop = stack_form (Narrow ∷ []) [] ∷ []
 stack_forms Pop2 = stack_form (Narrow ∷ Narrow ∷ []) [] ∷ stack_form (Wide ∷ []) [] ∷ []
 stack_forms Dup = stack_form (Narrow ∷ []) (0 ∷ 0 ∷ []) ∷ []
 stack_forms DupX1 = stack_form (Narrow ∷ Narrow ∷ []) (0 ∷ 1 ∷ 0 ∷ []) ∷ []
-stack_forms DupX2 = stack_form (Narrow ∷ Narrow ∷ Narrow ∷ []) (0 ∷ 1 ∷ 2 ∷ 0 ∷ []) ∷ stack_form (Narrow ∷ Wide ∷ []) (0 ∷ 1 ∷ 0 ∷ []) ∷ []
+stack_forms DupX2 = stack_form (Narrow ∷ Narrow ∷ Narrow ∷ []) (0 ∷ 1 ∷ 2 ∷ 0 ∷ [])
+    ∷ stack_form (Narrow ∷ Wide ∷ []) (0 ∷ 1 ∷ 0 ∷ []) ∷ []
 stack_forms Dup2 = stack_form (Narrow ∷ Narrow ∷ []) (0 ∷ 1 ∷ 0 ∷ 1 ∷ []) ∷ stack_form (Wide ∷ []) (0 ∷ 0 ∷ []) ∷ []
-stack_forms Dup2X1 = stack_form (Narrow ∷ Narrow ∷ Narrow ∷ []) (0 ∷ 1 ∷ 2 ∷ 0 ∷ 1 ∷ []) ∷ stack_form (Wide ∷ Narrow ∷ []) (0 ∷ 1 ∷ 0 ∷ []) ∷ []
+stack_forms Dup2X1 = stack_form (Narrow ∷ Narrow ∷ Narrow ∷ []) (0 ∷ 1 ∷ 2 ∷ 0 ∷ 1 ∷ [])
+    ∷ stack_form (Wide ∷ Narrow ∷ []) (0 ∷ 1 ∷ 0 ∷ []) ∷ []
 stack_forms Dup2X2 =
     stack_form (Narrow ∷ Narrow ∷ Narrow ∷ Narrow ∷ []) (0 ∷ 1 ∷ 2 ∷ 3 ∷ 0 ∷ 1 ∷ [])
     ∷ stack_form (Wide ∷ Narrow ∷ Narrow ∷ []) (0 ∷ 1 ∷ 2 ∷ 0 ∷ [])

@@ -1,5 +1,6 @@
--- Laws of the tables that rules and machine share, in other words than the tables have: kinds by their rows, arrays by what an element instruction
--- is for, and the instructions for the stack by the units that they move (JVMS 2.6.2, 2.11.1, 2.11.6, 6.5).
+-- Laws of the tables that rules and machine share, in other words than the tables have: kinds by their rows, arrays by
+-- what an element instruction is for, and the instructions for the stack by the units that they move (JVMS 2.6.2,
+-- 2.11.1, 2.11.6, 6.5).
 use Rattle.std.specs.Prelude.{◌≡◌, ◌≢◌, ℕ, ◌+◌, true, List, [], ◌∷◌, ◌++◌, length, ◌⊎◌, ◌↔◌}
 use Rattle.names.specs.declared.base.Primitive.{Primitive}
 use Rattle.names.specs.declared.base.Primitive.TheVariants as primitives
@@ -26,10 +27,12 @@ KindsAreRows = (type : Primitive) (kind : Kind) → (computed_as type ≡ kind) 
 
 -- ---- arrays
 
--- No element instruction is for booleans. Each takes arrays of its own type, and those for bytes take arrays of booleans too.
+-- No element instruction is for booleans. Each takes arrays of its own type, and those for bytes take arrays of
+-- booleans too.
 abbrev pub TakesArray : Primitive → Primitive → Type 0
 TakesArray element component =
-    ((element ≢ primitives.Boolean) × (element ≡ component)) ⊎ ((element ≡ primitives.Byte) × (component ≡ primitives.Boolean))
+    ((element ≢ primitives.Boolean) × (element ≡ component))
+    ⊎ ((element ≡ primitives.Byte) × (component ≡ primitives.Boolean))
 
 abbrev pub ArraysAreTaken : Type 0
 ArraysAreTaken = (element component : Primitive) → (takes_array element component ≡ true) ↔ TakesArray element component
@@ -66,8 +69,8 @@ passed_units Dup2X1 = 1
 passed_units Dup2X2 = 2
 passed_units Swap = 1
 
--- The items that then stand where those on top and those passed over stood: nothing in the place of those on top, a copy of them beneath those passed
--- over, or both in the other order.
+-- The items that then stand where those on top and those passed over stood: nothing in the place of those on top, a
+-- copy of them beneath those passed over, or both in the other order.
 abbrev pub moved_by : {A : Type 0} → StackOperator → List A → List A → List A
 moved_by Pop top passed = passed
 moved_by Pop2 top passed = passed

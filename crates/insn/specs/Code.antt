@@ -14,7 +14,8 @@ use Rattle.insn.specs.Instructions.{Instruction, Operands, nothing, wide_local, 
 abbrev pub SpellsInstruction : ℕ → List ℕ → Instruction → Type 0
 SpellsInstruction at bytes i = Spells (instruction_at at) bytes (Ok i)
 
--- No instruction is in front of these bytes, which begin at this offset: they end inside it, or bytes in front show the fault.
+-- No instruction is in front of these bytes, which begin at this offset: they end inside it, or bytes in front show the
+-- fault.
 abbrev pub FaultyInstruction : ℕ → List ℕ → CodeFault → Type 0
 FaultyInstruction at bytes e =
     ((e ≡ CutInstruction at) × (d : ReadFault) × FirstFault (instruction_at at) at bytes d)
@@ -24,7 +25,8 @@ FaultyInstruction at bytes e =
 abbrev pub SpellsCode : ℕ → List ℕ → List (ℕ × Instruction) → Type 0
 SpellsCode at bytes [] = bytes ≡ []
 SpellsCode at bytes (x ∷ xs) =
-    (first : List ℕ) × (others : List ℕ) × (bytes ≡ first ++ others) × (x.0 ≡ at) × SpellsInstruction at first x.1 × SpellsCode (at + length first) others xs
+    (first : List ℕ) × (others : List ℕ) × (bytes ≡ first ++ others) × (x.0 ≡ at) × SpellsInstruction at first x.1
+    × SpellsCode (at + length first) others xs
 
 -- The bytes are no code: behind instructions stands one at fault.
 pub record FaultyCode (bytes : List ℕ) (e : CodeFault) : Type 0 where
@@ -41,31 +43,37 @@ abbrev pub UnlessMemory : CodeFault → Type 0 → Type 0
 UnlessMemory OutOfMemory p = Unit {0}
 UnlessMemory e p = p
 
--- One instruction was read: bytes in front are it, and the cursor is behind them; or none is in front, and the cursor is where it was.
+-- One instruction was read: bytes in front are it, and the cursor is behind them; or none is in front, and the cursor
+-- is where it was.
 abbrev pub ReadsInstruction : {X : Type 0} → (X → Instruction) → Place → Place → Result X CodeFault → Type 0
 ReadsInstruction view old new (Ok x) = (first : List ℕ) × SpellsInstruction old.at first (view x) × Took first old new
 ReadsInstruction view old new (Err e) = FaultyInstruction old.at old.rest e × (new ≡ old)
 
--- A step through code: the instruction in front with its offset, and the place is behind it; or the fault of the one in front, and nothing is left;
--- or nothing, since nothing was left.
+-- A step through code: the instruction in front with its offset, and the place is behind it; or the fault of the one in
+-- front, and nothing is left; or nothing, since nothing was left.
 abbrev pub StepsThrough : {X : Type 0} → (X → ℕ × Instruction) → Place → Option (Result X CodeFault) → Place → Type 0
 StepsThrough view old None new = (old.rest ≡ []) × (new ≡ old)
-StepsThrough view old (Some (Ok x)) new = ((view x).0 ≡ old.at) × (first : List ℕ) × SpellsInstruction old.at first (view x).1 × Took first old new
+StepsThrough view old (Some (Ok x)) new = ((view x).0 ≡ old.at) × (first : List ℕ)
+    × SpellsInstruction old.at first (view x).1 × Took first old new
 StepsThrough view old (Some (Err e)) new = (0 < length old.rest) × FaultyInstruction old.at old.rest e × (new.rest ≡ [])
 
 -- A step through code that tells something of the instruction in front, as `told` has it; and otherwise as above.
-abbrev pub StepsBy : {X Y : Type 0} → (X → Y) → (ℕ × Instruction → Y) → Place → Option (Result X CodeFault) → Place → Type 0
+abbrev pub StepsBy : {X Y : Type 0} → (X → Y) → (ℕ × Instruction → Y) → Place → Option (Result X CodeFault) → Place
+    → Type 0
 StepsBy view told old None new = (old.rest ≡ []) × (new ≡ old)
-StepsBy view told old (Some (Ok x)) new = (i : Instruction) × (view x ≡ told (old.at, i)) × (first : List ℕ) × SpellsInstruction old.at first i × Took first old new
+StepsBy view told old (Some (Ok x)) new = (i : Instruction) × (view x ≡ told (old.at, i)) × (first : List ℕ)
+    × SpellsInstruction old.at first i × Took first old new
 StepsBy view told old (Some (Err e)) new = (0 < length old.rest) × FaultyInstruction old.at old.rest e × (new.rest ≡ [])
 
 -- an instruction is in front of the place
 abbrev pub HasInstruction : Place → Type 0
-HasInstruction p = (i : Instruction) × (first : List ℕ) × (others : List ℕ) × (p.rest ≡ first ++ others) × SpellsInstruction p.at first i
+HasInstruction p = (i : Instruction) × (first : List ℕ) × (others : List ℕ) × (p.rest ≡ first ++ others)
+    × SpellsInstruction p.at first i
 
 -- An instruction without operands was taken, and the place is behind it; or nothing was, and the place is where it was.
 abbrev pub TakesAlone : Place → Place → Option Opcode → Type 0
-TakesAlone old new (Some o) = (form o ≡ forms.Nothing) × (first : List ℕ) × SpellsInstruction old.at first (record { opcode = o; operands = nothing }) × Took first old new
+TakesAlone old new (Some o) = (form o ≡ forms.Nothing) × (first : List ℕ)
+    × SpellsInstruction old.at first (record { opcode = o; operands = nothing }) × Took first old new
 TakesAlone old new None = new ≡ old
 
 -- The opcode that says what is done: behind `wide` the one that is modified (JVMS 6.5, wide).

@@ -53,7 +53,8 @@ HasNone at i = (bytes : List ℕ) → AreBytes bytes → SpellsInstruction at by
 
 -- The instruction's bytes were appended at this offset, or it has none.
 abbrev pub AppendsInstruction : ℕ → Instruction → List ℕ → List ℕ → Result (Unit {0}) WriteFault → Type 0
-AppendsInstruction at i old new (Ok x) = SpellsInstruction at (instruction_bytes i) i × (new ≡ old ++ instruction_bytes i)
+AppendsInstruction at i old new (Ok x) = SpellsInstruction at (instruction_bytes i) i
+    × (new ≡ old ++ instruction_bytes i)
 AppendsInstruction at i old new (Err OutOfMemory) = Unit {0}
 AppendsInstruction at i old new (Err DoesNotFit) = ⊥
 AppendsInstruction at i old new (Err HasNoSpelling) = HasNone at i

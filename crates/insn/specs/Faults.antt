@@ -30,6 +30,7 @@ judged at (Ok x) = beside x.1 x.0
 judged at (Err e) = Err (CutInstruction at)
 
 -- A step inside the instruction at an offset read by the format. After a refusal nobody looks at the cursor.
-abbrev pub Decodes : {X V : Type 0} → ℕ → Format (Result V CodeFault) → (X → V) → Place → Place → Result X CodeFault → Type 0
+abbrev pub Decodes : {X V : Type 0} → ℕ → Format (Result V CodeFault) → (X → V) → Place → Place → Result X CodeFault
+    → Type 0
 Decodes at f view old new (Ok x) = judged at (reads f old.at old.rest) ≡ Ok (view x, new)
 Decodes at f view old new (Err e) = judged at (reads f old.at old.rest) ≡ Err e

@@ -1,6 +1,7 @@
--- Instructions, and which bytes spell them (JVMS 6.5). An instruction is an opcode and what stands behind it. The bytes of
--- one are a format of parts in their order; where a part shows that no instruction stands there, the format ends with the
--- fault in place of an instruction. All depends on the offset of the instruction, since a switch is padded by it.
+-- Instructions, and which bytes spell them (JVMS 6.5). An instruction is an opcode and what stands behind it. The bytes
+-- of one are a format of parts in their order; where a part shows that no instruction stands there, the format ends
+-- with the fault in place of an instruction. All depends on the offset of the instruction, since a switch is padded by
+-- it.
 use Rattle.std.specs.Prelude.{ℕ, ℤ, pos, ◌+◌, ◌-◌, ◌*◌, ◌%◌, ◌-ℤ◌, Bool, true, ◌&&◌, List, [], ◌∷◌, map, Option, Some, None, Result, Ok, Err, nat_eq, int_lt, if◌then◌else◌}
 use Rattle.std.specs.Int.{cast_signed, w8, w16, w32}
 use Rattle.std.specs.Int.RustNames.{unsigned_abs}
@@ -61,7 +62,8 @@ table_length low high = unsigned_abs (high -ℤ low) + 1
 -- pairs of a key and an offset, of four bytes each
 abbrev pub pairs : List ℕ → List (ℤ × ℤ)
 pairs (a ∷ b ∷ c ∷ d ∷ e ∷ f ∷ g ∷ h ∷ others) =
-    (cast_signed w32 (big_number 4 (a ∷ b ∷ c ∷ d ∷ [])), cast_signed w32 (big_number 4 (e ∷ f ∷ g ∷ h ∷ []))) ∷ pairs others
+    (cast_signed w32 (big_number 4 (a ∷ b ∷ c ∷ d ∷ [])), cast_signed w32 (big_number 4 (e ∷ f ∷ g ∷ h ∷ [])))
+    ∷ pairs others
 pairs _ = []
 
 abbrev pub keys : List ℕ → List ℤ
@@ -88,7 +90,9 @@ table_behind at padding default low high =
 abbrev pub pairs_behind : ℕ → List ℕ → ℤ → ℤ → Format Outcome
 pairs_behind at padding default count =
     if int_lt count (pos 0) then faulty (BadSwitch at)
-    else part (8 * unsigned_abs count) (λ pairs. if rising (keys pairs) then spelled (lookup_switch padding default count pairs) else faulty (BadSwitch at))
+    else part (8 * unsigned_abs count)
+    (λ pairs. if rising (keys pairs) then spelled (lookup_switch padding default count pairs)
+    else faulty (BadSwitch at))
 
 unfoldable pub table_switch_at : ℕ → Format Outcome
 table_switch_at at = part (padding_at at) (λ padding.
@@ -104,7 +108,8 @@ lookup_switch_at at = part (padding_at at) (λ padding.
 
 abbrev pub widened : ℕ → Opcode → Form → Format Outcome
 widened at o forms.Local = andthen (number 2) (λ local. spelled (wide_local o local))
-widened at o forms.Increment = andthen (number 2) (λ local. andthen (number 2) (λ by. spelled (wide_increment o local (cast_signed w16 by))))
+widened at o forms.Increment =
+    andthen (number 2) (λ local. andthen (number 2) (λ by. spelled (wide_increment o local (cast_signed w16 by))))
 widened at o form = faulty (BadWide at)
 
 abbrev pub widened_opcode : ℕ → Option Opcode → Format Outcome
@@ -133,13 +138,15 @@ operands_at at forms.Short = andthen (number 2) (λ n. spelled (short (cast_sign
 operands_at at forms.Constant = andthen (number 1) (λ n. spelled (constant n))
 operands_at at forms.Index = andthen (number 2) (λ n. spelled (index n))
 operands_at at forms.Local = andthen (number 1) (λ n. spelled (local n))
-operands_at at forms.Increment = andthen (number 1) (λ n. andthen (number 1) (λ by. spelled (increment n (cast_signed w8 by))))
+operands_at at forms.Increment =
+    andthen (number 1) (λ n. andthen (number 1) (λ by. spelled (increment n (cast_signed w8 by))))
 operands_at at forms.Branch = andthen (number 2) (λ n. spelled (branch (cast_signed w16 n)))
 operands_at at forms.WideBranch = andthen (number 4) (λ n. spelled (wide_branch (cast_signed w32 n)))
 operands_at at forms.InvokeInterface = invoke_interface_at at
 operands_at at forms.InvokeDynamic = invoke_dynamic_at at
 operands_at at forms.NewArray = andthen (number 1) (λ n. spelled (new_array n))
-operands_at at forms.MultiNewArray = andthen (number 2) (λ n. andthen (number 1) (λ dimensions. spelled (multi_new_array n dimensions)))
+operands_at at forms.MultiNewArray =
+    andthen (number 2) (λ n. andthen (number 1) (λ dimensions. spelled (multi_new_array n dimensions)))
 operands_at at forms.TableSwitch = table_switch_at at
 operands_at at forms.LookupSwitch = lookup_switch_at at
 operands_at at forms.Wide = wide_at at

@@ -6,14 +6,13 @@ pub mod Instructions
 pub mod Laws
 pub mod Meanings
 pub mod Opcodes
-pub mod Parts
 pub mod Readings
 pub mod Sizes
 pub mod Spellings
-pub mod Table
 pub mod Views
 pub mod Offsets
 pub mod Stacks
 pub mod Switches
 pub mod Branching
 pub mod ByUnits
+pub mod private

@@ -1,4 +1,5 @@
--- The instruction set (JVMS 6.5, 7): each opcode's number, the standard's name for it, what stands behind it, and what it means.
+-- The instruction set (JVMS 6.5, 7): each opcode's number, the standard's name for it, what stands behind it, and what
+-- it means.
 use Rattle.std.specs.Prelude.{ℕ, List, [], ◌∷◌, Option, slice_get, codes}
 use Rattle.names.specs.declared.base.Primitive.TheVariants as primitives
 use Rattle.insn.specs.declared.operation.Kind.TheVariants as kinds

@@ -1,4 +1,5 @@
--- Code as its instructions, or as the fault of the first that is none: words that compute what the spelling of code says (JVMS 4.7.3).
+-- Code as its instructions, or as the fault of the first that is none: words that compute what the spelling of code
+-- says (JVMS 4.7.3).
 use Rattle.std.specs.Prelude.{◌≡◌, ℕ, zero, suc, List, [], ◌∷◌, length, Result, Ok, Err}
 use Rattle.layout.specs.Place.{Place}
 use Rattle.layout.specs.Format.{reads}
@@ -28,7 +29,8 @@ reading_behind f at (Err fault) = Err fault
 unfoldable pub reading_from : ℕ → ℕ → List ℕ → Reading
 reading_from n at [] = Ok []
 reading_from zero at (b ∷ bytes) = Ok []
-reading_from (suc n) at (b ∷ bytes) = reading_behind (reading_from n) at (judged at (reads (instruction_at at) at (b ∷ bytes)))
+reading_from (suc n) at (b ∷ bytes) =
+    reading_behind (reading_from n) at (judged at (reads (instruction_at at) at (b ∷ bytes)))
 
 -- each instruction has a byte at least
 unfoldable pub reading_of : List ℕ → Reading

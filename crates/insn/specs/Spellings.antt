@@ -44,10 +44,12 @@ fills low high offsets = not (int_lt high low) && nat_eq (length offsets) (4 * t
 
 -- the table has as many pairs as are counted, and their keys rise
 abbrev pub pairs_up : ℤ → List ℕ → Bool
-pairs_up count pairs = not (int_lt count (pos 0)) && (nat_eq (length pairs) (8 * unsigned_abs count) && rising (keys pairs))
+pairs_up count pairs = not (int_lt count (pos 0))
+    && (nat_eq (length pairs) (8 * unsigned_abs count) && rising (keys pairs))
 
 abbrev pub agrees : ℕ → Operands → Bool
-agrees at (table_switch padding default low high offsets) = nat_eq (length padding) (padding_at at) && fills low high offsets
+agrees at (table_switch padding default low high offsets) =
+    nat_eq (length padding) (padding_at at) && fills low high offsets
 agrees at (lookup_switch padding default count pairs) = nat_eq (length padding) (padding_at at) && pairs_up count pairs
 agrees at (wide_local opcode n) = takes_local (form opcode)
 agrees at (wide_increment opcode n by) = takes_increment (form opcode)
@@ -73,7 +75,8 @@ AreInRange (invoke_interface i count) = (i < 65536) × (count < 256)
 AreInRange (invoke_dynamic i) = i < 65536
 AreInRange (new_array element) = element < 256
 AreInRange (multi_new_array i dimensions) = (i < 65536) × (dimensions < 256)
-AreInRange (table_switch padding default low high offsets) = FitsSigned w32 default × FitsSigned w32 low × FitsSigned w32 high
+AreInRange (table_switch padding default low high offsets) = FitsSigned w32 default × FitsSigned w32 low
+    × FitsSigned w32 high
 AreInRange (lookup_switch padding default count pairs) = FitsSigned w32 default × FitsSigned w32 count
 AreInRange (wide_local opcode n) = n < 65536
 AreInRange (wide_increment opcode n by) = (n < 65536) × FitsSigned w16 by
@@ -82,7 +85,8 @@ AreInRange (wide_increment opcode n by) = (n < 65536) × FitsSigned w16 by
 
 -- what both switches begin with: the second number is the low bound, or how many pairs there are
 unfoldable pub switch_head : List ℕ → ℤ → ℤ → List ℕ
-switch_head padding default second = padding ++ (big_bytes 4 (cast_unsigned w32 default) ++ big_bytes 4 (cast_unsigned w32 second))
+switch_head padding default second =
+    padding ++ (big_bytes 4 (cast_unsigned w32 default) ++ big_bytes 4 (cast_unsigned w32 second))
 
 unfoldable pub operands_bytes : Operands → List ℕ
 operands_bytes nothing = []
@@ -102,7 +106,8 @@ operands_bytes (table_switch padding default low high offsets) =
     switch_head padding default low ++ (big_bytes 4 (cast_unsigned w32 high) ++ offsets)
 operands_bytes (lookup_switch padding default count pairs) = switch_head padding default count ++ pairs
 operands_bytes (wide_local opcode n) = big_bytes 1 (number opcode) ++ big_bytes 2 n
-operands_bytes (wide_increment opcode n by) = big_bytes 1 (number opcode) ++ (big_bytes 2 n ++ big_bytes 2 (cast_unsigned w16 by))
+operands_bytes (wide_increment opcode n by) =
+    big_bytes 1 (number opcode) ++ (big_bytes 2 n ++ big_bytes 2 (cast_unsigned w16 by))
 
 unfoldable pub instruction_bytes : Instruction → List ℕ
 instruction_bytes i = big_bytes 1 (number i.opcode) ++ operands_bytes i.operands

@@ -1,5 +1,5 @@
--- The parts of a switch by all bytes behind its opcode, as an instruction keeps them (JVMS 6.5, tableswitch and lookupswitch).
--- All but the padding are fours of bytes, so the padding is what is left of the length.
+-- The parts of a switch by all bytes behind its opcode, as an instruction keeps them (JVMS 6.5, tableswitch and
+-- lookupswitch). All but the padding are fours of bytes, so the padding is what is left of the length.
 use Rattle.std.specs.Prelude.{ℕ, ℤ, negsuc, ◌%◌, List, [], ◌∷◌, length, take, drop}
 use Rattle.std.specs.Int.{cast_signed, w32}
 use Rattle.byteorder.specs.Endian.{big_number}
@@ -12,8 +12,8 @@ padding_of bytes = take (length bytes % 4) bytes
 abbrev pub fours : List ℕ → List ℕ
 fours bytes = drop (length bytes % 4) bytes
 
--- The number in front of fours. One whose bytes are missing counts as -1: so a switch that lacks bytes has no spelling, since
--- less than no pairs are counted, or offsets of at least one key are missing.
+-- The number in front of fours. One whose bytes are missing counts as -1: so a switch that lacks bytes has no spelling,
+-- since less than no pairs are counted, or offsets of at least one key are missing.
 abbrev pub number_of : List ℕ → ℤ
 number_of (a ∷ b ∷ c ∷ d ∷ others) = cast_signed w32 (big_number 4 (a ∷ b ∷ c ∷ d ∷ []))
 number_of _ = negsuc 0
@@ -38,7 +38,8 @@ abbrev pub table_of : List ℕ → List ℕ
 table_of bytes = behind (behind (behind (fours bytes)))
 
 abbrev pub table_switch_of : List ℕ → Operands
-table_switch_of bytes = table_switch (padding_of bytes) (default_of bytes) (low_of bytes) (high_of bytes) (table_of bytes)
+table_switch_of bytes = table_switch (padding_of bytes) (default_of bytes) (low_of bytes) (high_of bytes)
+    (table_of bytes)
 
 -- ---- lookupswitch
 

@@ -59,7 +59,8 @@ impl<'a> Instructions<'a> {
         self.cursor.at()
     }
 
-    /// Goes behind the instruction in front and tells what it means, as [`act`](crate::act) does. One has to stand there.
+    /// Goes behind the instruction in front and tells what it means, as [`act`](crate::act) does. One has to stand
+    /// there.
     pub fn take_act(&mut self) -> Act<'a>
         requires { HasInstruction self.old }
         ensures { StepsBy act_located by_act self.old (Some (Ok (self.old.at, result))) self.new }
@@ -81,8 +82,8 @@ impl<'a> Instructions<'a> {
         }
     }
 
-    /// Goes on as `next` does, and tells of an instruction where it begins and, if it is a `new`, the index of the class of
-    /// which it makes an object (JVMS 6.5, new).
+    /// Goes on as `next` does, and tells of an instruction where it begins and, if it is a `new`, the index of the
+    /// class of which it makes an object (JVMS 6.5, new).
     #[tactic(auto, using(crate::proofs::Alone::makes_none))]
     pub fn next_start(&mut self) -> Option<Result<(usize, Option<u16>), CodeFault>>
         ensures { StepsBy (λ x. x) by_made self.old result self.new }

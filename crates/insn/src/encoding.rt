@@ -16,7 +16,8 @@ use std::alloc::Global;
 /// How many bytes of the room are left behind a switch: none where it does not hold them.
 fn behind_switch(room: usize, numbers: usize, padding: &[u8], table: &[u8]) -> Option<usize>
     requires { numbers ≤ 12 }
-    ensures { SomeIff result (numbers + (length padding.now + length table.now) ≤ room) (room - (numbers + (length padding.now + length table.now))) }
+    ensures { SomeIff result (numbers + (length padding.now + length table.now) ≤ room)
+        (room - (numbers + (length padding.now + length table.now))) }
 {
     room.checked_sub(numbers)?
         .checked_sub(padding.len())?
@@ -25,7 +26,8 @@ fn behind_switch(room: usize, numbers: usize, padding: &[u8], table: &[u8]) -> O
 
 /// How many bytes of the room are left behind the operands: none where it does not hold them.
 fn behind_operands(room: usize, operands: Operands<'_>) -> Option<usize>
-    ensures { SomeIff result (operands_size (operands_view operands.entry) ≤ room) (room - operands_size (operands_view operands.entry)) }
+    ensures { SomeIff result (operands_size (operands_view operands.entry) ≤ room)
+        (room - operands_size (operands_view operands.entry)) }
 {
     match operands {
         Operands::Nothing => Some(room),
@@ -83,7 +85,8 @@ pub fn encode_code(alloc: Global, list: &[Insn<'_>]) -> Result<Vec<u8>, WriteFau
     // The bytes that are returned are the code of the instructions; a refusal is theirs.
     ensures exact { Encodes (map view list.now) (λ v. v.items) result }
     // Instructions that are a code are written, unless memory runs out.
-    ensures only { (bytes : List ℕ) → AreBytes bytes → IsCode bytes (map view list.now) → IfErr result (λ e. e ≡ OutOfMemory) }
+    ensures only { (bytes : List ℕ) → AreBytes bytes → IsCode bytes (map view list.now)
+        → IfErr result (λ e. e ≡ OutOfMemory) }
 {
     if is_too_large(list) {
         return Err(WriteFault::DoesNotFit);

@@ -23,7 +23,8 @@ fn start_at(list: &[(u16, Insn<'_>)], number: usize) -> Option<u16>
 pub fn found_at<'a>(list: &[(u16, Insn<'a>)], at: u16) -> Option<(Act<'a>, Option<u16>)>
     requires { StartsRise 0 (views list.now) }
     ensures { MatchOption result (at_offset (acts (views list.now)) at ≡ None)
-        (λ x. (at_offset (acts (views list.now)) at ≡ Some (act_view x.0)) × (next_offset (acts (views list.now)) at ≡ x.1)) }
+        (λ x. (at_offset (acts (views list.now)) at ≡ Some (act_view x.0))
+        × (next_offset (acts (views list.now)) at ≡ x.1)) }
 {
     match list.binary_search_by_key(&at, |(start, _)| *start) {
         Err(_) => None,

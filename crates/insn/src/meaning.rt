@@ -3,7 +3,7 @@ ghost use Rattle.std.specs.Prelude.{◌≡◌};
 ghost use Rattle.insn.specs.Code.{modified};
 ghost use Rattle.insn.specs.Instructions.{nothing};
 ghost use Rattle.insn.specs.Meanings.{act, made_index, element_of};
-ghost use Rattle.insn.specs.Parts.{AreParts, IsActOf};
+ghost use Rattle.insn.specs.private.Parts.{AreParts, IsActOf};
 ghost use Rattle.insn.specs.Views.{view, operands_view, act_view};
 
 use crate::instruction::{Insn, Operands, modified};
@@ -28,7 +28,8 @@ pub(crate) fn act_alone<'a>(opcode: Opcode) -> Act<'a>
     act_of(opcode.meaning(), &Parts::none())
 }
 
-/// The index of the class of which an instruction makes an object, where it is a `new` (JVMS 6.5, new). Takes no memory.
+/// The index of the class of which an instruction makes an object, where it is a `new` (JVMS 6.5, new). Takes no
+/// memory.
 pub fn made_index(insn: &Insn<'_>) -> Option<u16>
     ensures { result ≡ made_index (act (view insn.now)) }
 {
@@ -118,7 +119,7 @@ struct Parts<'a> {
 
 impl<'a> Parts<'a> {
     ghost use Rattle.insn.specs.Instructions.{nothing};
-    ghost use Rattle.insn.specs.Parts.{AreParts};
+    ghost use Rattle.insn.specs.private.Parts.{AreParts};
 
     /// The parts of an instruction without operands.
     fn none() -> Parts<'a>

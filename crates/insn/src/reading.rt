@@ -301,8 +301,8 @@ pub fn read_insn<'a>(cursor: &mut Cursor<'a>) -> Result<Insn<'a>, CodeFault>
     Ok(insn)
 }
 
-/// Goes behind the instruction in front and answers its opcode, where it has no operands; otherwise the cursor stays where it
-/// is.
+/// Goes behind the instruction in front and answers its opcode, where it has no operands; otherwise the cursor stays
+/// where it is.
 pub(crate) fn take_alone(cursor: &mut Cursor<'_>) -> Option<Opcode>
     ensures { TakesAlone cursor.old cursor.new result }
 {

@@ -3,7 +3,7 @@
 ghost use Rattle.std.specs.Prelude.{◌≡◌, Some, map, slice_get};
 ghost use Rattle.insn.specs.Acts.{numeric_row, numeric_operators, stack_forms, stack_operators};
 ghost use Rattle.insn.specs.Opcodes.{row, mnemonic, form, meaning, opcodes, opcode_of};
-ghost use Rattle.insn.specs.Table.{table_row, table_opcode, numeric_table_row, numeric_table_operator, stack_table_row, stack_table_operator};
+ghost use Rattle.insn.specs.private.Table.{table_row, table_opcode, numeric_table_row, numeric_table_operator, stack_table_row, stack_table_operator};
 ghost use Rattle.insn.specs.Views.{stack_form_view};
 
 use crate::opcode::Opcode;

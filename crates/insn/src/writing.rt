@@ -163,7 +163,8 @@ fn put_multi_new_array(out: &mut Vec<u8>, index: u16, dimensions: u8) -> Result<
 
 /// Appends two signed numbers of four bytes.
 fn put_ints(out: &mut Vec<u8>, first: i32, second: i32) -> Result<(), WriteFault>
-    ensures { Appends (big_bytes 4 (cast_unsigned w32 first) ++ big_bytes 4 (cast_unsigned w32 second)) out.old.items out.new.items result }
+    ensures { Appends (big_bytes 4 (cast_unsigned w32 first)
+        ++ big_bytes 4 (cast_unsigned w32 second)) out.old.items out.new.items result }
 {
     put_i4(out, first)?;
     put_i4(out, second)
@@ -216,7 +217,8 @@ fn put_wide_increment(
     local: u16,
     by: i16,
 ) -> Result<(), WriteFault>
-    ensures { Appends (big_bytes 1 (number opcode) ++ (big_bytes 2 local ++ big_bytes 2 (cast_unsigned w16 by))) out.old.items out.new.items result }
+    ensures { Appends (big_bytes 1 (number opcode)
+        ++ (big_bytes 2 local ++ big_bytes 2 (cast_unsigned w16 by))) out.old.items out.new.items result }
 {
     put_u1(out, opcode.number())?;
     put_two(out, local, by.cast_unsigned())

@@ -1,5 +1,5 @@
--- The answer of a call that reads, by a format. A call that takes memory may answer want of memory (1) in place of any other
--- answer; a word with `Unless` in its name says so.
+-- The answer of a call that reads, by a format. A call that takes memory may answer want of memory (1) in place of any
+-- other answer; a word with `Unless` in its name says so.
 use Rattle.std.specs.Prelude.{refl, ◌≡◌, ℕ, Result, Ok, Err, length, nat_eq, if◌then◌else◌, List}
 use Rattle.layout.specs.Place.{Place}
 use Rattle.layout.specs.Format.{Format, reads, confined, settled}
@@ -51,7 +51,8 @@ UnlessWriteMemory-map e f p = f p
 -- what reading all of the body of the attribute at q answers, which begins at `start`
 abbrev pub Settles : {X V : Type 0} → Format V → (X → V) → ℕ → ℕ → List ℕ → Result X ReadFault → Type 0
 Settles f view q start body (Ok x) = (last : Place) × (reads f start body ≡ Ok (view x, last)) × (length last.rest ≡ 0)
-Settles f view q start body (Err e) = UnlessMemory e (settled q (λ v. v) (record { at = start; rest = body }) (reads f start body) ≡ Err e)
+Settles f view q start body (Err e) =
+    UnlessMemory e (settled q (λ v. v) (record { at = start; rest = body }) (reads f start body) ≡ Err e)
 
 -- where the claim is false, memory ran out
 pub UnlessMemory-only : {P : Type 0} (e : ReadFault) → (P → ⊥) → UnlessMemory e P → e ≡ OutOfMemory

@@ -1,7 +1,7 @@
--- Formats: which bytes spell which values, as the structures of JVMS 4 are laid out.
--- A format is a chain of parts, each of so many bytes; what comes behind a part may hang on its bytes. It is read in three
--- ways: `Spells` (the bytes are the value's parts one behind the other), `FirstFault` (the first part in order that is not
--- whole or breaks a rule) and `reads` (what a program answers). The laws in `FormatLaws` say that the third is the other two.
+-- Formats: which bytes spell which values, as the structures of JVMS 4 are laid out. A format is a chain of parts, each
+-- of so many bytes; what comes behind a part may hang on its bytes. It is read in three ways: `Spells` (the bytes are
+-- the value's parts one behind the other), `FirstFault` (the first part in order that is not whole or breaks a rule)
+-- and `reads` (what a program answers). The laws in `FormatLaws` say that the third is the other two.
 use Rattle.std.specs.Prelude.{◌≡◌, ℕ, ◌+◌, ◌<◌, List, [], ◌++◌, length, take, drop, nat_lt, if◌then◌else◌, Result, Ok, Err, ◌⊎◌, zero, suc, ◌∷◌, ◌-◌, nat_eq}
 use Rattle.byteorder.specs.Endian.{big_number}
 use Rattle.layout.specs.Place.{Place}
@@ -19,7 +19,8 @@ pub data Format (V : Type 0) : Type 0 where
 -- The bytes spell the value: they are its parts one behind the other.
 abbrev pub Spells : {V : Type 0} → Format V → List ℕ → V → Type 0
 Spells (done w) bytes v = (bytes ≡ []) × (w ≡ v)
-Spells (part n next) bytes v = (first : List ℕ) × (others : List ℕ) × (length first ≡ n) × (bytes ≡ first ++ others) × Spells (next first) others v
+Spells (part n next) bytes v = (first : List ℕ) × (others : List ℕ) × (length first ≡ n) × (bytes ≡ first ++ others)
+    × Spells (next first) others v
 Spells (refuse fault) bytes v = ⊥
 
 -- The parts in order, up to the first that is not whole or breaks its rule, and the fault for that.
@@ -27,7 +28,8 @@ abbrev pub FirstFault : {V : Type 0} → Format V → ℕ → List ℕ → ReadF
 FirstFault (done w) at bytes e = ⊥
 FirstFault (part n next) at bytes e =
     ((length bytes < n) × (e ≡ EndsEarly at))
-    ⊎ ((first : List ℕ) × (others : List ℕ) × (length first ≡ n) × (bytes ≡ first ++ others) × FirstFault (next first) (at + n) others e)
+    ⊎ ((first : List ℕ) × (others : List ℕ) × (length first ≡ n) × (bytes ≡ first ++ others)
+    × FirstFault (next first) (at + n) others e)
 FirstFault (refuse fault) at bytes e = e ≡ fault at
 
 -- The answer of reading by the format, from a place on: the value and the place behind it, or the fault.
@@ -67,7 +69,8 @@ confined q e = e
 abbrev pub inside : {A V : Type 0} → ℕ → List ℕ → Format A → (A → Format V) → Format V
 inside n body (done v) next = if nat_eq (length body) 0 then next v else refuse (λ at. AttributeLength (at - n - 6))
 inside n body (part k after) next =
-    if nat_lt (length body) k then refuse (λ at. AttributeLength (at - n - 6)) else inside n (drop k body) (after (take k body)) next
+    if nat_lt (length body) k then refuse (λ at. AttributeLength (at - n - 6))
+    else inside n (drop k body) (after (take k body)) next
 inside n body (refuse fault) next = refuse (λ at. confined (at - n - 6) (fault (at - length body)))
 
 -- what is made of reading a body

@@ -1,5 +1,6 @@
--- Words of the code's own steps: of them a reader must believe `Writes` with `Made`, `counted`, and `Either` with `name_of`; the others are
--- lemmas. `Writes f pieces` says that f spells exactly the values whose pieces are plain, each by its pieces, part by part as the format is.
+-- Words of the code's own steps: of them a reader must believe `Writes` with `Made`, `counted`, and `Either` with
+-- `name_of`; the others are lemmas. `Writes f pieces` says that f spells exactly the values whose pieces are plain,
+-- each by its pieces, part by part as the format is.
 use Rattle.std.proofs.Common.{get_or, map, ◌≡◌, ℕ, ◌+◌, ◌-◌, ◌^◌, ◌<◌, ◌≤◌, Bool, true, false, cond, ◌||◌, Option, Some, None, ltb, eqb, zero, suc, List, [], ◌∷◌, ◌++◌, length, take, drop, Result, Ok, Err, refl, sym, ap, subst, ◌∙◌, append_assoc, arith}
 use Rattle.std.specs.List.{flat_map}
 use Rattle.std.specs.Prelude.{MatchResult}
@@ -21,7 +22,8 @@ use Rattle.layout.specs.Pieces.{has_over, has_unspelled, too_large, cannot, blan
 
 pub text_append : (a b : List Piece) → text (a ++ b) ≡ text a ++ text b
 text_append [] b = refl
-text_append (plain bytes ∷ a) b = ap (λ (t : List ℕ). bytes ++ t) (text_append a b) ∙ sym (append_assoc bytes (text a) (text b))
+text_append (plain bytes ∷ a) b =
+    ap (λ (t : List ℕ). bytes ++ t) (text_append a b) ∙ sym (append_assoc bytes (text a) (text b))
 text_append (over ∷ a) b = text_append a b
 text_append (unspelled ∷ a) b = text_append a b
 
@@ -39,9 +41,12 @@ plain_append (unspelled ∷ a) b h k = absurd h
 
 pub writes_append : (a b : List Piece) (w : Written) → writes (a ++ b) w ≡ then_writes (writes a w) b
 writes_append [] b w = refl
-writes_append (plain bytes ∷ a) b w = by_test (ltb w.room (length bytes)) _ _ (writes_append a b (record { bytes = w.bytes ++ bytes; room = w.room - length bytes; wrong = w.wrong }))
+writes_append (plain bytes ∷ a) b w =
+    by_test (ltb w.room (length bytes)) _ _
+    (writes_append a b (record { bytes = w.bytes ++ bytes; room = w.room - length bytes; wrong = w.wrong }))
   where
-    by_test : (t : Bool) (r s : Result Written WriteFault) → r ≡ then_writes s b → cond t (Err DoesNotFit) r ≡ then_writes (cond t (Err DoesNotFit) s) b
+    by_test : (t : Bool) (r s : Result Written WriteFault) → r ≡ then_writes s b
+        → cond t (Err DoesNotFit) r ≡ then_writes (cond t (Err DoesNotFit) s) b
     by_test true r s h = refl
     by_test false r s h = h
 writes_append (over ∷ a) b w = refl
@@ -51,7 +56,8 @@ writes_append (unspelled ∷ a) b w = writes_append a b (record { bytes = w.byte
 
 pub record Made {A V : Type 0} (f : Format V) (make : A → V) (pieces : A → List Piece) : Type 0 where
   pub has : (a : A) → ArePlain (pieces a) → Spells f (text (pieces a)) (make a)
-  pub only : (v : V) (bytes : List ℕ) → AreBytes bytes → Spells f bytes v → (a : A) × (make a ≡ v) × (bytes ≡ text (pieces a)) × ArePlain (pieces a)
+  pub only : (v : V) (bytes : List ℕ) → AreBytes bytes → Spells f bytes v → (a : A) × (make a ≡ v)
+      × (bytes ≡ text (pieces a)) × ArePlain (pieces a)
 
 abbrev pub Writes : {V : Type 0} → Format V → (V → List Piece) → Type 0
 Writes f pieces = Made f (λ v. v) pieces
@@ -62,13 +68,16 @@ made_done v = record { has = λ a h. (refl, refl); only = λ w bytes fit s. (tt,
 pub made_refuse : {V : Type 0} (fault : _) → Made {A = ⊥} {V = V} (refuse fault) (λ x. absurd x) (λ x. [])
 made_refuse fault = record { has = λ a h. absurd a; only = λ w bytes fit s. absurd s }
 
-pub made_then : {A B U V : Type 0} {f : Format U} (next : U → Format V) {first : A → U} {p : A → List Piece} {make : A → B → V} {q : A → B → List Piece}
-    → Made f first p → ((a : A) → Made (next (first a)) (make a) (q a)) → Made {A = A × B} (andthen f next) (λ x. make x.0 x.1) (λ x. p x.0 ++ q x.0 x.1)
+pub made_then : {A B U V : Type 0} {f : Format U}
+    (next : U → Format V) {first : A → U} {p : A → List Piece} {make : A → B → V} {q : A → B → List Piece}
+    → Made f first p → ((a : A) → Made (next (first a)) (make a) (q a))
+    → Made {A = A × B} (andthen f next) (λ x. make x.0 x.1) (λ x. p x.0 ++ q x.0 x.1)
 made_then {A = A} {B = B} {U = U} {V = V} {f = f} next {first = first} {p = p} {make = make} {q = q} one two = record {
   has = λ x h.
       let parts = plain_parts (p x.0) (q x.0 x.1) h in
       subst (λ (t : List ℕ). Spells (andthen f next) t (make x.0 x.1)) (sym (text_append (p x.0) (q x.0 x.1)))
-      (andthen_spelled f next (text (p x.0)) (text (q x.0 x.1)) (first x.0) (make x.0 x.1) (one.has x.0 parts.0) ((two x.0).has x.1 parts.1));
+      (andthen_spelled f next (text (p x.0)) (text (q x.0 x.1)) (first x.0) (make x.0 x.1) (one.has x.0 parts.0)
+      ((two x.0).has x.1 parts.1));
   only = only;
 }
   where
@@ -79,11 +88,17 @@ made_then {A = A} {B = B} {U = U} {V = V} {f = f} next {first = first} {p = p} {
         let bs = AreBytes-parts i.0 i.1 (subst AreBytes i.3 fit) in
         let x = one.only i.2 i.0 bs.0 i.4 in
         let rest : Spells (next (first x.0)) i.1 v = subst (λ (u : U). Spells (next u) i.1 v) (sym x.1) i.5 in
-        let y = (two x.0).only v i.1 bs.1 rest in
-        ((x.0, y.0), y.1, i.3 ∙ ap (λ (t : List ℕ). t ++ i.1) x.2 ∙ ap (λ (t : List ℕ). text (p x.0) ++ t) y.2 ∙ sym (text_append (p x.0) (q x.0 y.0)), plain_append (p x.0) (q x.0 y.0) x.3 y.3)
+        let y = (two x.0).only v i.1 bs.1 rest in (
+          (x.0, y.0),
+          y.1,
+          i.3 ∙ ap (λ (t : List ℕ). t ++ i.1) x.2 ∙ ap (λ (t : List ℕ). text (p x.0) ++ t) y.2
+              ∙ sym (text_append (p x.0) (q x.0 y.0)),
+          plain_append (p x.0) (q x.0 y.0) x.3 y.3,
+        )
 
 -- a number
-sized_fits : (n v : ℕ) (b : Bool) → ltb v (256 ^ n) ≡ b → ArePlain (cond b (plain (big_bytes n v)) over ∷ []) → v < 256 ^ n
+sized_fits : (n v : ℕ) (b : Bool) → ltb v (256 ^ n) ≡ b → ArePlain (cond b (plain (big_bytes n v)) over ∷ [])
+    → v < 256 ^ n
 sized_fits n v true e h = ltb-true _ _ e
 sized_fits n v false e h = absurd h
 
@@ -97,15 +112,20 @@ made_number n law = record {
       let lt = sized_fits n v (ltb v (256 ^ n)) refl h in
       subst (λ (t : List ℕ). Spells (number n) t v) (sym (is v lt)) (number_spelled n law v lt);
   only = λ v bytes fit s.
-      let lt = number_below n bytes v fit s in
-      (v, refl, number_is n law bytes v fit s ∙ sym (is v lt), subst (λ (x : Piece). ArePlain (x ∷ [])) (sym (sized_plain n v lt)) tt);
+      let lt = number_below n bytes v fit s in (
+        v,
+        refl,
+        number_is n law bytes v fit s ∙ sym (is v lt),
+        subst (λ (x : Piece). ArePlain (x ∷ [])) (sym (sized_plain n v lt)) tt,
+      );
 }
   where
     is : (v : ℕ) → v < 256 ^ n → text (field n v) ≡ big_bytes n v
     is v lt = ap (λ (x : Piece). text (x ∷ [])) (sized_plain n v lt) ∙ append-nil (big_bytes n v)
 
 -- values that are put together from their parts
-pub made_whole : {A V : Type 0} {f : Format V} {make : A → V} {p : A → List Piece} (parts : V → A) → ((v : V) → make (parts v) ≡ v) → ((a : A) → parts (make a) ≡ a)
+pub made_whole : {A V : Type 0} {f : Format V} {make : A → V} {p : A → List Piece} (parts : V → A)
+    → ((v : V) → make (parts v) ≡ v) → ((a : A) → parts (make a) ≡ a)
     → Made f make p → Writes f (λ v. p (parts v))
 made_whole {A = A} {f = f} {make = make} {p = p} parts back forth m = record {
   has = λ v h. subst (λ (w : _). Spells f (text (p (parts v))) w) (back v) (m.has (parts v) h);
@@ -116,22 +136,30 @@ made_whole {A = A} {f = f} {make = make} {p = p} parts back forth m = record {
 }
 
 -- so many of the same
-times_has : {V : Type 0} {f : Format V} {p : V → List Piece} → Writes f p → (vs : List V) → ArePlain (flat_map p vs) → Spells (times (length vs) f) (text (flat_map p vs)) vs
+times_has : {V : Type 0} {f : Format V} {p : V → List Piece} → Writes f p → (vs : List V) → ArePlain (flat_map p vs)
+    → Spells (times (length vs) f) (text (flat_map p vs)) vs
 unfolding times
 times_has m [] h = (refl, refl)
 times_has {V = V} {f = f} {p = p} m (v ∷ vs) h =
     let parts = plain_parts (p v) (flat_map p vs) h in
     let n = length vs in
-    let last = andthen_spelled (times n f) (λ others. done (v ∷ others)) (text (flat_map p vs)) [] vs (v ∷ vs) (times_has m vs parts.1) (refl, refl) in
-    let plainly = subst (λ (t : List ℕ). Spells (andthen (times n f) (λ others. done (v ∷ others))) t (v ∷ vs)) (append-nil (text (flat_map p vs))) last in
+    let last = andthen_spelled (times n f) (λ others. done (v ∷ others)) (text (flat_map p vs)) [] vs (v ∷ vs)
+    (times_has m vs parts.1) (refl, refl) in
+    let plainly = subst (λ (t : List ℕ). Spells (andthen (times n f) (λ others. done (v ∷ others))) t (v ∷ vs))
+    (append-nil (text (flat_map p vs))) last in
     subst (λ (t : List ℕ). Spells (times (suc n) f) t (v ∷ vs)) (sym (text_append (p v) (flat_map p vs)))
-    (andthen_spelled f (λ u. andthen (times n f) (λ others. done (u ∷ others))) (text (p v)) (text (flat_map p vs)) v (v ∷ vs) (m.has v parts.0) plainly)
+    (andthen_spelled f (λ u. andthen (times n f) (λ others. done (u ∷ others))) (text (p v)) (text (flat_map p vs)) v
+    (v ∷ vs) (m.has v parts.0) plainly)
 
-times_only : {V : Type 0} {f : Format V} {p : V → List Piece} → Writes f p → (n : ℕ) (vs : List V) (bytes : List ℕ) → AreBytes bytes → Spells (times n f) bytes vs
+times_only : {V : Type 0} {f : Format V} {p : V → List Piece} → Writes f p → (n : ℕ) (vs : List V) (bytes : List ℕ)
+    → AreBytes bytes → Spells (times n f) bytes vs
     → (length vs ≡ n) × (bytes ≡ text (flat_map p vs)) × ArePlain (flat_map p vs)
 unfolding times
-times_only {V = V} {f = f} {p = p} m zero vs bytes fit s =
-    (sym (ap length s.1), s.0 ∙ ap (λ (t : List V). text (flat_map p t)) s.1, subst (λ (t : List V). ArePlain (flat_map p t)) s.1 tt)
+times_only {V = V} {f = f} {p = p} m zero vs bytes fit s = (
+  sym (ap length s.1),
+  s.0 ∙ ap (λ (t : List V). text (flat_map p t)) s.1,
+  subst (λ (t : List V). ArePlain (flat_map p t)) s.1 tt,
+)
 times_only {V = V} {f = f} {p = p} m (suc n) vs bytes fit s =
     let i = andthen_parts f (λ v. andthen (times n f) (λ others. done (v ∷ others))) bytes vs s in
     let bs = AreBytes-parts i.0 i.1 (subst AreBytes i.3 fit) in
@@ -144,7 +172,8 @@ times_only {V = V} {f = f} {p = p} m (suc n) vs bytes fit s =
     let rest : i.1 ≡ text (flat_map p j.2) = j.3 ∙ ap (λ (t : List ℕ). j.0 ++ t) j.5.0 ∙ append-nil j.0 ∙ y.1 in
     let whole : i.2 ∷ j.2 ≡ vs = j.5.1 in (
       sym (ap length whole) ∙ ap suc y.0,
-      i.3 ∙ ap (λ (t : List ℕ). t ++ i.1) one ∙ ap (λ (t : List ℕ). text (p i.2) ++ t) rest ∙ sym (text_append (p i.2) (flat_map p j.2)) ∙ ap (λ (t : List V). text (flat_map p t)) whole,
+      i.3 ∙ ap (λ (t : List ℕ). t ++ i.1) one ∙ ap (λ (t : List ℕ). text (p i.2) ++ t) rest
+          ∙ sym (text_append (p i.2) (flat_map p j.2)) ∙ ap (λ (t : List V). text (flat_map p t)) whole,
       subst (λ (t : List V). ArePlain (flat_map p t)) whole (plain_append (p i.2) (flat_map p j.2) one_plain y.2),
     )
 
@@ -152,16 +181,20 @@ times_only {V = V} {f = f} {p = p} m (suc n) vs bytes fit s =
 abbrev pub counted : {V : Type 0} → (V → List Piece) → List V → List Piece
 counted p vs = field 2 (length vs) ++ flat_map p vs
 
-pub made_counted : {V : Type 0} {f : Format V} {p : V → List Piece} → NumberLaw 2 → Writes f p → Writes (andthen (number 2) (λ n. times n f)) (counted p)
+pub made_counted : {V : Type 0} {f : Format V} {p : V → List Piece} → NumberLaw 2 → Writes f p
+    → Writes (andthen (number 2) (λ n. times n f)) (counted p)
 made_counted {V = V} {f = f} {p = p} law m = record {
   has = λ vs h.
       let parts = plain_parts (field 2 (length vs)) (flat_map p vs) h in
-      subst (λ (t : List ℕ). Spells (andthen (number 2) (λ n. times n f)) t vs) (sym (text_append (field 2 (length vs)) (flat_map p vs)))
-      (andthen_spelled (number 2) (λ n. times n f) (text (field 2 (length vs))) (text (flat_map p vs)) (length vs) vs ((made_number 2 law).has (length vs) parts.0) (times_has m vs parts.1));
+      subst (λ (t : List ℕ). Spells (andthen (number 2) (λ n. times n f)) t vs)
+      (sym (text_append (field 2 (length vs)) (flat_map p vs)))
+      (andthen_spelled (number 2) (λ n. times n f) (text (field 2 (length vs))) (text (flat_map p vs)) (length vs) vs
+      ((made_number 2 law).has (length vs) parts.0) (times_has m vs parts.1));
   only = only;
 }
   where
-    only : (vs : List V) (bytes : List ℕ) → AreBytes bytes → Spells (andthen (number 2) (λ n. times n f)) bytes vs → (x : List V) × (x ≡ vs) × (bytes ≡ text (counted p x)) × ArePlain (counted p x)
+    only : (vs : List V) (bytes : List ℕ) → AreBytes bytes → Spells (andthen (number 2) (λ n. times n f)) bytes vs
+        → (x : List V) × (x ≡ vs) × (bytes ≡ text (counted p x)) × ArePlain (counted p x)
     only vs bytes fit s =
         let i = andthen_parts (number 2) (λ n. times n f) bytes vs s in
         let bs = AreBytes-parts i.0 i.1 (subst AreBytes i.3 fit) in
@@ -170,39 +203,51 @@ made_counted {V = V} {f = f} {p = p} law m = record {
         let n : x.0 ≡ length vs = x.1 ∙ sym y.0 in (
           vs,
           refl,
-          i.3 ∙ ap (λ (t : List ℕ). t ++ i.1) (x.2 ∙ ap (λ (k : ℕ). text (field 2 k)) n) ∙ ap (λ (t : List ℕ). text (field 2 (length vs)) ++ t) y.1 ∙ sym (text_append (field 2 (length vs)) (flat_map p vs)),
+          i.3 ∙ ap (λ (t : List ℕ). t ++ i.1) (x.2 ∙ ap (λ (k : ℕ). text (field 2 k)) n)
+              ∙ ap (λ (t : List ℕ). text (field 2 (length vs)) ++ t) y.1
+              ∙ sym (text_append (field 2 (length vs)) (flat_map p vs)),
           plain_append (field 2 (length vs)) (flat_map p vs) (subst (λ (k : ℕ). ArePlain (field 2 k)) n x.3) y.2,
         )
 
 -- ---- attributes: a name index, a length of four bytes and a body
 
 -- Which body a name index has, and the value that it makes: the rest of the format takes no bytes.
-pub record Bodies {A V : Type 0} (pick : ℕ → ℕ → List ℕ → Format V) (name_of : A → ℕ) (make : A → V) (pieces : A → List Piece) : Type 0 where
-  pub has : (a : A) → ArePlain (pieces a) → Spells (pick (name_of a) (length (text (pieces a))) (text (pieces a))) [] (make a)
+pub record Bodies {A V : Type 0} (pick : ℕ → ℕ → List ℕ → Format V) (name_of : A → ℕ) (make : A → V)
+    (pieces : A → List Piece) : Type 0 where
+  pub has : (a : A) → ArePlain (pieces a)
+      → Spells (pick (name_of a) (length (text (pieces a))) (text (pieces a))) [] (make a)
   pub only : (name : ℕ) (body bytes : List ℕ) (v : V) → AreBytes body → Spells (pick name (length body) body) bytes v
       → (bytes ≡ []) × (a : A) × (make a ≡ v) × (name_of a ≡ name) × (body ≡ text (pieces a)) × ArePlain (pieces a)
 
-pub made_headed : {A V : Type 0} {pick : ℕ → ℕ → List ℕ → Format V} {name_of : A → ℕ} {make : A → V} {pieces : A → List Piece} → NumberLaw 2 → NumberLaw 4
+pub made_headed : {A V : Type 0} {pick : ℕ → ℕ → List ℕ → Format V} {name_of : A → ℕ} {make : A → V} {pieces : A
+    → List Piece} → NumberLaw 2 → NumberLaw 4
     → Bodies pick name_of make pieces → Made (headed pick) make (λ a. field 2 (name_of a) ++ lengthened (pieces a))
-made_headed {A = A} {V = V} {pick = pick} {name_of = name_of} {make = make} {pieces = p} law2 law4 m = record { has = has; only = only }
+made_headed {A = A} {V = V} {pick = pick} {name_of = name_of} {make = make} {pieces = p} law2 law4 m =
+    record { has = has; only = only }
   where
     body_of : ℕ → ℕ → Format V
     body_of name n = part n (λ body. pick name n body)
 
-    has : (a : A) → ArePlain (field 2 (name_of a) ++ lengthened (p a)) → Spells (headed pick) (text (field 2 (name_of a) ++ lengthened (p a))) (make a)
+    has : (a : A) → ArePlain (field 2 (name_of a) ++ lengthened (p a))
+        → Spells (headed pick) (text (field 2 (name_of a) ++ lengthened (p a))) (make a)
     has a h =
         let n = length (text (p a)) in
         let name = name_of a in
         let one = plain_parts (field 2 name) (lengthened (p a)) h in
         let two = plain_parts (field 4 n) (p a) one.1 in
-        let body : Spells (body_of name n) (text (p a)) (make a) = (text (p a), [], refl, sym (append-nil (text (p a))), m.has a two.1) in
-        let long = andthen_spelled (number 4) (body_of name) (text (field 4 n)) (text (p a)) n (make a) ((made_number 4 law4).has n two.0) body in
-        let all = andthen_spelled (number 2) (λ name. andthen (number 4) (body_of name)) (text (field 2 name)) (text (field 4 n) ++ text (p a)) name (make a) ((made_number 2 law2).has name one.0) long in
+        let body : Spells (body_of name n) (text (p a)) (make a) =
+        (text (p a), [], refl, sym (append-nil (text (p a))), m.has a two.1) in
+        let long = andthen_spelled (number 4) (body_of name) (text (field 4 n)) (text (p a)) n (make a)
+        ((made_number 4 law4).has n two.0) body in
+        let all = andthen_spelled (number 2) (λ name. andthen (number 4) (body_of name)) (text (field 2 name))
+        (text (field 4 n) ++ text (p a)) name (make a) ((made_number 2 law2).has name one.0) long in
         subst (λ (t : List ℕ). Spells (headed pick) t (make a))
-        (ap (λ (t : List ℕ). text (field 2 name) ++ t) (sym (text_append (field 4 n) (p a))) ∙ sym (text_append (field 2 name) (lengthened (p a)))) all
+        (ap (λ (t : List ℕ). text (field 2 name) ++ t) (sym (text_append (field 4 n) (p a)))
+        ∙ sym (text_append (field 2 name) (lengthened (p a)))) all
 
     only : (v : V) (bytes : List ℕ) → AreBytes bytes → Spells (headed pick) bytes v
-        → (a : A) × (make a ≡ v) × (bytes ≡ text (field 2 (name_of a) ++ lengthened (p a))) × ArePlain (field 2 (name_of a) ++ lengthened (p a))
+        → (a : A) × (make a ≡ v) × (bytes ≡ text (field 2 (name_of a) ++ lengthened (p a)))
+        × ArePlain (field 2 (name_of a) ++ lengthened (p a))
     only v bytes fit s =
         let i = andthen_parts (number 2) (λ name. andthen (number 4) (body_of name)) bytes v s in
         let bs = AreBytes-parts i.0 i.1 (subst AreBytes i.3 fit) in
@@ -212,7 +257,8 @@ made_headed {A = A} {V = V} {pick = pick} {name_of = name_of} {make = make} {pie
         let y = (made_number 4 law4).only j.2 j.0 cs.0 j.4 in
         let t = j.5 in
         let ds = AreBytes-parts t.0 t.1 (subst AreBytes t.3 cs.1) in
-        let picked : Spells (pick i.2 (length t.0) t.0) t.1 v = subst (λ (k : ℕ). Spells (pick i.2 k t.0) t.1 v) (sym t.2) t.4 in
+        let picked : Spells (pick i.2 (length t.0) t.0) t.1 v =
+        subst (λ (k : ℕ). Spells (pick i.2 k t.0) t.1 v) (sym t.2) t.4 in
         let z = m.only i.2 t.0 t.1 v ds.0 picked in
         let a = z.1 in
         let name : x.0 ≡ name_of a = x.1 ∙ sym z.3 in
@@ -222,10 +268,13 @@ made_headed {A = A} {V = V} {pick = pick} {name_of = name_of} {make = make} {pie
           z.2,
           i.3 ∙ ap (λ (r : List ℕ). r ++ i.1) (x.2 ∙ ap (λ (k : ℕ). text (field 2 k)) name)
               ∙ ap (λ (r : List ℕ). text (field 2 (name_of a)) ++ r)
-              (j.3 ∙ ap (λ (r : List ℕ). r ++ j.1) (y.2 ∙ ap (λ (k : ℕ). text (field 4 k)) len) ∙ ap (λ (r : List ℕ). text (field 4 (length (text (p a)))) ++ r) body ∙ sym (text_append (field 4 (length (text (p a)))) (p a)))
+              (j.3 ∙ ap (λ (r : List ℕ). r ++ j.1) (y.2 ∙ ap (λ (k : ℕ). text (field 4 k)) len)
+              ∙ ap (λ (r : List ℕ). text (field 4 (length (text (p a)))) ++ r) body
+              ∙ sym (text_append (field 4 (length (text (p a)))) (p a)))
               ∙ sym (text_append (field 2 (name_of a)) (lengthened (p a))),
           plain_append (field 2 (name_of a)) (lengthened (p a)) (subst (λ (k : ℕ). ArePlain (field 2 k)) name x.3)
-              (plain_append (field 4 (length (text (p a)))) (p a) (subst (λ (k : ℕ). ArePlain (field 4 k)) len y.3) z.5),
+              (plain_append (field 4 (length (text (p a)))) (p a)
+              (subst (λ (k : ℕ). ArePlain (field 4 k)) len y.3) z.5),
         )
 
 -- ---- a length that is filled in once its body is written
@@ -247,37 +296,66 @@ abbrev good : Written → Result Written WriteFault
 good w = Ok w
 
 -- the same pieces behind other bytes
-pub writes_behind : (p : List Piece) (x y : List ℕ) (room : ℕ) (wrong : Bool) (b : Written) → writes p (record { bytes = x; room = room; wrong = wrong }) ≡ Ok b
-    → (b.bytes ≡ x ++ text p) × (writes p (record { bytes = y; room = room; wrong = wrong }) ≡ Ok (record { bytes = y ++ text p; room = b.room; wrong = b.wrong }))
+pub writes_behind : (p : List Piece) (x y : List ℕ) (room : ℕ) (wrong : Bool) (b : Written)
+    → writes p (record { bytes = x; room = room; wrong = wrong }) ≡ Ok b
+    → (b.bytes ≡ x ++ text p) × (writes p (record { bytes = y; room = room; wrong = wrong })
+    ≡ Ok (record { bytes = y ++ text p; room = b.room; wrong = b.wrong }))
 writes_behind [] x y room wrong b e =
     let made : Written = record { bytes = x; room = room; wrong = wrong } in
     let same : made ≡ b = cc in
-    subst (λ (b : Written). (b.bytes ≡ x ++ []) × (writes [] (record { bytes = y; room = room; wrong = wrong }) ≡ Ok (record { bytes = y ++ []; room = b.room; wrong = b.wrong }))) same
-    (sym (append-nil x), ap (λ (t : List ℕ). good (record { bytes = t; room = room; wrong = wrong })) (sym (append-nil y)))
-writes_behind (plain bytes ∷ p) x y room wrong b e = by_test (ltb room (length bytes)) e (writes_behind p (x ++ bytes) (y ++ bytes) (room - length bytes) wrong b)
+    subst (λ (b : Written). (b.bytes ≡ x ++ [])
+    × (writes [] (record { bytes = y; room = room; wrong = wrong })
+    ≡ Ok (record { bytes = y ++ []; room = b.room; wrong = b.wrong }))) same (
+      sym (append-nil x),
+      ap (λ (t : List ℕ). good (record { bytes = t; room = room; wrong = wrong }))
+          (sym (append-nil y)),
+    )
+writes_behind (plain bytes ∷ p) x y room wrong b e =
+    by_test (ltb room (length bytes)) e (writes_behind p (x ++ bytes) (y ++ bytes) (room - length bytes) wrong b)
   where
-    by_test : (t : Bool) → cond t (Err DoesNotFit) (writes p (record { bytes = x ++ bytes; room = room - length bytes; wrong = wrong })) ≡ Ok b
-        → (writes p (record { bytes = x ++ bytes; room = room - length bytes; wrong = wrong }) ≡ Ok b → (b.bytes ≡ (x ++ bytes) ++ text p) × (writes p (record { bytes = y ++ bytes; room = room - length bytes; wrong = wrong }) ≡ Ok (record { bytes = (y ++ bytes) ++ text p; room = b.room; wrong = b.wrong })))
-        → (b.bytes ≡ x ++ (bytes ++ text p)) × (cond t (Err DoesNotFit) (writes p (record { bytes = y ++ bytes; room = room - length bytes; wrong = wrong })) ≡ Ok (record { bytes = y ++ (bytes ++ text p); room = b.room; wrong = b.wrong }))
+    by_test : (t : Bool) → cond t (Err DoesNotFit)
+        (writes p (record { bytes = x ++ bytes; room = room - length bytes; wrong = wrong })) ≡ Ok b
+        → (writes p (record { bytes = x ++ bytes; room = room - length bytes; wrong = wrong }) ≡ Ok b
+        → (b.bytes ≡ (x ++ bytes) ++ text p)
+        × (writes p (record { bytes = y ++ bytes; room = room - length bytes; wrong = wrong })
+        ≡ Ok (record { bytes = (y ++ bytes) ++ text p; room = b.room; wrong = b.wrong })))
+        → (b.bytes ≡ x ++ (bytes ++ text p))
+        × (cond t (Err DoesNotFit) (writes p
+        (record { bytes = y ++ bytes; room = room - length bytes; wrong = wrong }))
+        ≡ Ok (record { bytes = y ++ (bytes ++ text p); room = b.room; wrong = b.wrong }))
     by_test true h again = absurd cc
     by_test false h again =
-        let r = again h in
-        (r.0 ∙ append_assoc x bytes (text p), r.1 ∙ ap (λ (t : List ℕ). good (record { bytes = t; room = b.room; wrong = b.wrong })) (append_assoc y bytes (text p)))
+        let r = again h in (
+          r.0 ∙ append_assoc x bytes (text p),
+          r.1
+              ∙ ap (λ (t : List ℕ). good (record { bytes = t; room = b.room; wrong = b.wrong }))
+              (append_assoc y bytes (text p)),
+        )
 writes_behind (over ∷ p) x y room wrong b e = absurd cc
 writes_behind (unspelled ∷ p) x y room wrong b e = writes_behind p x y room true b e
 
-pub refused_behind : (p : List Piece) (x y : List ℕ) (room more : ℕ) (wrong other : Bool) (e : WriteFault) → more ≤ room → writes p (record { bytes = x; room = room; wrong = wrong }) ≡ Err e
+pub refused_behind : (p : List Piece) (x y : List ℕ) (room more : ℕ) (wrong other : Bool) (e : WriteFault) → more ≤ room
+    → writes p (record { bytes = x; room = room; wrong = wrong }) ≡ Err e
     → (e ≡ DoesNotFit) × (writes p (record { bytes = y; room = more; wrong = other }) ≡ Err DoesNotFit)
 refused_behind [] x y room more wrong other e le h = absurd cc
-refused_behind (plain bytes ∷ p) x y room more wrong other e le h = by_test (ltb room (length bytes)) (ltb more (length bytes)) refl refl h
+refused_behind (plain bytes ∷ p) x y room more wrong other e le h =
+    by_test (ltb room (length bytes)) (ltb more (length bytes)) refl refl h
     (λ lt. refused_behind p (x ++ bytes) (y ++ bytes) (room - length bytes) (more - length bytes) wrong other e lt)
   where
-    by_test : (t u : Bool) → ltb room (length bytes) ≡ t → ltb more (length bytes) ≡ u → cond t (Err DoesNotFit) (writes p (record { bytes = x ++ bytes; room = room - length bytes; wrong = wrong })) ≡ Err e
-        → (more - length bytes ≤ room - length bytes → writes p (record { bytes = x ++ bytes; room = room - length bytes; wrong = wrong }) ≡ Err e → (e ≡ DoesNotFit) × (writes p (record { bytes = y ++ bytes; room = more - length bytes; wrong = other }) ≡ Err DoesNotFit))
-        → (e ≡ DoesNotFit) × (cond u (Err DoesNotFit) (writes p (record { bytes = y ++ bytes; room = more - length bytes; wrong = other })) ≡ Err DoesNotFit)
+    by_test : (t u : Bool) → ltb room (length bytes) ≡ t → ltb more (length bytes) ≡ u
+        → cond t (Err DoesNotFit) (writes p (record { bytes = x ++ bytes; room = room - length bytes; wrong = wrong }))
+        ≡ Err e
+        → (more - length bytes ≤ room - length bytes
+        → writes p (record { bytes = x ++ bytes; room = room - length bytes; wrong = wrong }) ≡ Err e
+        → (e ≡ DoesNotFit) × (writes p (record { bytes = y ++ bytes; room = more - length bytes; wrong = other })
+        ≡ Err DoesNotFit))
+        → (e ≡ DoesNotFit) × (cond u (Err DoesNotFit)
+        (writes p (record { bytes = y ++ bytes; room = more - length bytes; wrong = other })) ≡ Err DoesNotFit)
     by_test t true et eu h again = (is t h, refl)
       where
-        is : (t : Bool) → cond t (Err DoesNotFit) (writes p (record { bytes = x ++ bytes; room = room - length bytes; wrong = wrong })) ≡ Err e → e ≡ DoesNotFit
+        is : (t : Bool) → cond t (Err DoesNotFit)
+            (writes p (record { bytes = x ++ bytes; room = room - length bytes; wrong = wrong })) ≡ Err e
+            → e ≡ DoesNotFit
         is true h = cc
         is false h = let k : more - length bytes ≤ room - length bytes = omega (arith, le) in (again k h).0
     by_test true false et eu h again = absurd (omega (arith, ltb-true _ _ et, ltb-false _ _ eu, le))
@@ -286,7 +364,9 @@ refused_behind (over ∷ p) x y room more wrong other e le h = (cc, refl)
 refused_behind (unspelled ∷ p) x y room more wrong other e le h = refused_behind p x y room more true true e le h
 
 -- what filling in four bytes behind the first `mark` makes
-pub filled : (items a back f rest w : List ℕ) (mark n : ℕ) → a ≡ take mark items → back ≡ drop mark items → f ≡ take 4 back → rest ≡ drop 4 back → w ≡ big_bytes 4 n ++ drop 4 f → n ≡ length back - 4 → mark + 4 ≤ length items
+pub filled : (items a back f rest w : List ℕ) (mark n : ℕ) → a ≡ take mark items → back ≡ drop mark items
+    → f ≡ take 4 back → rest ≡ drop 4 back → w ≡ big_bytes 4 n ++ drop 4 f → n ≡ length back - 4
+    → mark + 4 ≤ length items
     → a ++ (w ++ rest) ≡ take mark items ++ (big_bytes 4 (length items - mark - 4) ++ drop (mark + 4) items)
 filled items a back f rest w mark n ha hb hf hr hw hn le =
     let len : length back ≡ length items - mark = ap length hb ∙ length-drop mark items in
@@ -294,8 +374,10 @@ filled items a back f rest w mark n ha hb hf hr hw hn le =
     let none : drop 4 f ≡ [] = nil_from_length (drop 4 f) (omega (arith, length-drop 4 f, four)) in
     let size : n ≡ length items - mark - 4 = omega (arith, hn, len) in
     let behind : rest ≡ drop (mark + 4) items = hr ∙ ap (drop 4) hb ∙ drop-drop 4 mark items in
-    let middle : w ≡ big_bytes 4 (length items - mark - 4) = hw ∙ ap (λ (t : List ℕ). big_bytes 4 n ++ t) none ∙ ap (big_bytes 4) size in
-    ap (λ (t : List ℕ). t ++ (w ++ rest)) ha ∙ ap (λ (t : List ℕ). take mark items ++ (t ++ rest)) middle ∙ ap (λ (t : List ℕ). take mark items ++ (big_bytes 4 (length items - mark - 4) ++ t)) behind
+    let middle : w ≡ big_bytes 4 (length items - mark - 4) =
+    hw ∙ ap (λ (t : List ℕ). big_bytes 4 n ++ t) none ∙ ap (big_bytes 4) size in
+    ap (λ (t : List ℕ). t ++ (w ++ rest)) ha ∙ ap (λ (t : List ℕ). take mark items ++ (t ++ rest)) middle
+    ∙ ap (λ (t : List ℕ). take mark items ++ (big_bytes 4 (length items - mark - 4) ++ t)) behind
 
 abbrev refused : Result Written WriteFault
 refused = Err DoesNotFit
@@ -304,26 +386,36 @@ abbrev made_of : List ℕ → ℕ → Bool → Written
 made_of bytes room wrong = record { bytes = bytes; room = room; wrong = wrong }
 
 -- the length stands before its body
-headed_writes : (p : List Piece) (w : Written) → length (text p) < 256 ^ 4 → 4 ≤ w.room → writes (lengthened p) w ≡ writes p (made_of (w.bytes ++ big_bytes 4 (length (text p))) (w.room - 4) w.wrong)
+headed_writes : (p : List Piece) (w : Written) → length (text p) < 256 ^ 4 → 4 ≤ w.room
+    → writes (lengthened p) w ≡ writes p (made_of (w.bytes ++ big_bytes 4 (length (text p))) (w.room - 4) w.wrong)
 unfolding field
 headed_writes p w lt le =
     let n = length (text p) in
     let more : Written = made_of (w.bytes ++ big_bytes 4 n) (w.room - 4) w.wrong in
-    ap (λ (x : Piece). writes (x ∷ p) w) (sized_plain 4 n lt) ∙ ap (λ (t : Bool). cond t refused (writes p more)) (le-ltb _ _ le)
+    ap (λ (x : Piece). writes (x ∷ p) w) (sized_plain 4 n lt)
+    ∙ ap (λ (t : Bool). cond t refused (writes p more)) (le-ltb _ _ le)
 
-pub lengthened_ok : (p : List Piece) (w a b c : Written) (mark : ℕ) → Begun w a mark → writes p a ≡ Ok b → Ended mark b c → writes (lengthened p) w ≡ Ok c
+pub lengthened_ok : (p : List Piece) (w a b c : Written) (mark : ℕ) → Begun w a mark → writes p a ≡ Ok b
+    → Ended mark b c → writes (lengthened p) w ≡ Ok c
 lengthened_ok p w a b c mark begun body ended =
     let n = length (text p) in
     let zeros : List ℕ = 0 ∷ 0 ∷ 0 ∷ 0 ∷ [] in
     let moved = writes_behind p a.bytes (w.bytes ++ big_bytes 4 n) a.room a.wrong b body in
     let whole : b.bytes ≡ (w.bytes ++ zeros) ++ text p = moved.0 ∙ ap (λ (t : List ℕ). t ++ text p) begun.bytes_are in
     let sizes : length (w.bytes ++ zeros) ≡ mark + 4 = omega (arith, length-append w.bytes zeros, begun.mark_is) in
-    let size : length b.bytes - mark - 4 ≡ n = omega (arith, ap length whole, length-append (w.bytes ++ zeros) (text p), sizes) in
-    let front : take mark b.bytes ≡ w.bytes = ap (take mark) (whole ∙ append_assoc w.bytes zeros (text p)) ∙ take_at w.bytes (zeros ++ text p) mark (sym begun.mark_is) in
-    let back : drop (mark + 4) b.bytes ≡ text p = ap (drop (mark + 4)) whole ∙ drop_at (w.bytes ++ zeros) (text p) (mark + 4) sizes in
+    let size : length b.bytes - mark - 4 ≡ n =
+    omega (arith, ap length whole, length-append (w.bytes ++ zeros) (text p), sizes) in
+    let front : take mark b.bytes ≡ w.bytes =
+    ap (take mark) (whole ∙ append_assoc w.bytes zeros (text p))
+    ∙ take_at w.bytes (zeros ++ text p) mark (sym begun.mark_is) in
+    let back : drop (mark + 4) b.bytes ≡ text p =
+    ap (drop (mark + 4)) whole ∙ drop_at (w.bytes ++ zeros) (text p) (mark + 4) sizes in
     let bytes : c.bytes ≡ (w.bytes ++ big_bytes 4 n) ++ text p =
-    ended.bytes_are ∙ ap (λ (t : List ℕ). t ++ (big_bytes 4 (length b.bytes - mark - 4) ++ drop (mark + 4) b.bytes)) front
-    ∙ ap (λ (k : ℕ). w.bytes ++ (big_bytes 4 k ++ drop (mark + 4) b.bytes)) size ∙ ap (λ (t : List ℕ). w.bytes ++ (big_bytes 4 n ++ t)) back ∙ sym (append_assoc w.bytes (big_bytes 4 n) (text p)) in
+    ended.bytes_are ∙ ap (λ (t : List ℕ). t
+    ++ (big_bytes 4 (length b.bytes - mark - 4) ++ drop (mark + 4) b.bytes)) front
+    ∙ ap (λ (k : ℕ). w.bytes ++ (big_bytes 4 k ++ drop (mark + 4) b.bytes)) size
+    ∙ ap (λ (t : List ℕ). w.bytes ++ (big_bytes 4 n ++ t)) back
+    ∙ sym (append_assoc w.bytes (big_bytes 4 n) (text p)) in
     let fits : n < 256 ^ 4 = omega (arith, ended.fits, size) in
     headed_writes p w fits begun.enough
     ∙ ap (λ (k : ℕ). writes p (made_of (w.bytes ++ big_bytes 4 n) k w.wrong)) (sym begun.room_is)
@@ -333,14 +425,23 @@ lengthened_ok p w a b c mark begun body ended =
     ∙ ap (λ (k : ℕ). good (made_of c.bytes k b.wrong)) (sym ended.room_is)
     ∙ ap (λ (t : Bool). good (made_of c.bytes c.room t)) (sym ended.wrong_is)
 
-pub lengthened_over : (p : List Piece) (w a b : Written) (mark : ℕ) → Begun w a mark → writes p a ≡ Ok b → 256 ^ 4 ≤ length b.bytes - mark - 4 → writes (lengthened p) w ≡ Err DoesNotFit
+pub lengthened_over : (p : List Piece) (w a b : Written) (mark : ℕ) → Begun w a mark → writes p a ≡ Ok b
+    → 256 ^ 4 ≤ length b.bytes - mark - 4 → writes (lengthened p) w ≡ Err DoesNotFit
 unfolding field
 lengthened_over p w a b mark begun body large =
     let n = length (text p) in
     let zeros : List ℕ = 0 ∷ 0 ∷ 0 ∷ 0 ∷ [] in
     let moved = writes_behind p a.bytes [] a.room a.wrong b body in
     let whole : b.bytes ≡ (w.bytes ++ zeros) ++ text p = moved.0 ∙ ap (λ (t : List ℕ). t ++ text p) begun.bytes_are in
-    let past : ltb n (256 ^ 4) ≡ false = le-ltb _ _ (omega (arith, large, ap length whole, length-append (w.bytes ++ zeros) (text p), length-append w.bytes zeros, begun.mark_is)) in
+    let past : ltb n (256 ^ 4) ≡ false =
+    le-ltb _ _ (omega (
+      arith,
+      large,
+      ap length whole,
+      length-append (w.bytes ++ zeros) (text p),
+      length-append w.bytes zeros,
+      begun.mark_is,
+    )) in
     ap (λ (t : Bool). writes (cond t (plain (big_bytes 4 n)) over ∷ p) w) past
 
 pub lengthened_none : (p : List Piece) (w : Written) → w.room < 4 → writes (lengthened p) w ≡ Err DoesNotFit
@@ -348,20 +449,26 @@ unfolding field
 lengthened_none p w lt = by_test (ltb (length (text p)) (256 ^ 4))
   where
     by_test : (t : Bool) → writes (cond t (plain (big_bytes 4 (length (text p)))) over ∷ p) w ≡ Err DoesNotFit
-    by_test true = ap (λ (t : Bool). cond t refused (writes p (made_of (w.bytes ++ big_bytes 4 (length (text p))) (w.room - 4) w.wrong))) (lt-ltb _ _ lt)
+    by_test true = ap (λ (t : Bool). cond t refused
+        (writes p (made_of (w.bytes ++ big_bytes 4 (length (text p))) (w.room - 4) w.wrong))) (lt-ltb _ _ lt)
     by_test false = refl
 
-pub lengthened_err : (p : List Piece) (w a : Written) (mark : ℕ) (e : WriteFault) → Begun w a mark → writes p a ≡ Err e → (e ≡ DoesNotFit) × (writes (lengthened p) w ≡ Err DoesNotFit)
+pub lengthened_err : (p : List Piece) (w a : Written) (mark : ℕ) (e : WriteFault) → Begun w a mark → writes p a ≡ Err e
+    → (e ≡ DoesNotFit) × (writes (lengthened p) w ≡ Err DoesNotFit)
 unfolding field
 lengthened_err p w a mark e begun body =
     let n = length (text p) in
-    let moved = refused_behind p a.bytes (w.bytes ++ big_bytes 4 n) a.room (w.room - 4) a.wrong w.wrong e (omega (arith, begun.room_is)) body in
+    let moved = refused_behind p a.bytes (w.bytes ++ big_bytes 4 n) a.room (w.room - 4) a.wrong w.wrong e
+    (omega (arith, begun.room_is)) body in
     (moved.0, by_test (ltb n (256 ^ 4)) moved.1)
   where
-    by_test : (t : Bool) → writes p (made_of (w.bytes ++ big_bytes 4 (length (text p))) (w.room - 4) w.wrong) ≡ Err DoesNotFit → writes (cond t (plain (big_bytes 4 (length (text p)))) over ∷ p) w ≡ Err DoesNotFit
+    by_test : (t : Bool) → writes p (made_of (w.bytes ++ big_bytes 4 (length (text p))) (w.room - 4) w.wrong)
+        ≡ Err DoesNotFit → writes (cond t (plain (big_bytes 4 (length (text p)))) over ∷ p) w ≡ Err DoesNotFit
     by_test true h = by_room (ltb w.room 4) h
       where
-        by_room : (t : Bool) → writes p (made_of (w.bytes ++ big_bytes 4 (length (text p))) (w.room - 4) w.wrong) ≡ Err DoesNotFit → cond t refused (writes p (made_of (w.bytes ++ big_bytes 4 (length (text p))) (w.room - 4) w.wrong)) ≡ Err DoesNotFit
+        by_room : (t : Bool) → writes p (made_of (w.bytes ++ big_bytes 4 (length (text p))) (w.room - 4) w.wrong)
+            ≡ Err DoesNotFit → cond t refused
+            (writes p (made_of (w.bytes ++ big_bytes 4 (length (text p))) (w.room - 4) w.wrong)) ≡ Err DoesNotFit
         by_room true h = refl
         by_room false h = h
     by_test false h = refl
@@ -385,28 +492,57 @@ or_false false = refl
 written_all : (p : List Piece) (w b : Written) → writes p w ≡ Ok b → WrittenAll p w b
 written_all [] w b e =
     let same : w ≡ b = cc in
-    record { none_over = refl; within = omega arith; bytes_are = ap (λ (x : Written). x.bytes) (sym same) ∙ sym (append-nil w.bytes); wrong_is = ap (λ (x : Written). x.wrong) (sym same) ∙ sym (or_false w.wrong) }
-written_all (plain bytes ∷ p) w b e = by_test (ltb w.room (length bytes)) refl e (λ h. written_all p (made_of (w.bytes ++ bytes) (w.room - length bytes) w.wrong) b h)
+    record {
+      none_over = refl;
+      within = omega arith;
+      bytes_are =
+          ap (λ (x : Written). x.bytes) (sym same) ∙ sym (append-nil w.bytes);
+      wrong_is =
+          ap (λ (x : Written). x.wrong) (sym same) ∙ sym (or_false w.wrong);
+    }
+written_all (plain bytes ∷ p) w b e =
+    by_test (ltb w.room (length bytes)) refl e
+    (λ h. written_all p (made_of (w.bytes ++ bytes) (w.room - length bytes) w.wrong) b h)
   where
     more : Written
     more = made_of (w.bytes ++ bytes) (w.room - length bytes) w.wrong
 
-    by_test : (t : Bool) → ltb w.room (length bytes) ≡ t → cond t (Err DoesNotFit) (writes p (made_of (w.bytes ++ bytes) (w.room - length bytes) w.wrong)) ≡ Ok b
-        → (writes p (made_of (w.bytes ++ bytes) (w.room - length bytes) w.wrong) ≡ Ok b → WrittenAll p (made_of (w.bytes ++ bytes) (w.room - length bytes) w.wrong) b) → WrittenAll (plain bytes ∷ p) w b
+    by_test : (t : Bool) → ltb w.room (length bytes) ≡ t
+        → cond t (Err DoesNotFit) (writes p (made_of (w.bytes ++ bytes) (w.room - length bytes) w.wrong)) ≡ Ok b
+        → (writes p (made_of (w.bytes ++ bytes) (w.room - length bytes) w.wrong) ≡ Ok b
+        → WrittenAll p (made_of (w.bytes ++ bytes) (w.room - length bytes) w.wrong) b)
+        → WrittenAll (plain bytes ∷ p) w b
     by_test true g h again = absurd cc
     by_test false g h again =
         let r = again h in
-        record { none_over = r.none_over; within = omega (arith, r.within, ltb-false _ _ g, length-append bytes (text p)); bytes_are = r.bytes_are ∙ append_assoc w.bytes bytes (text p); wrong_is = r.wrong_is }
+        record {
+          none_over = r.none_over;
+          within =
+              omega (arith, r.within, ltb-false _ _ g, length-append bytes (text p));
+          bytes_are =
+              r.bytes_are ∙ append_assoc w.bytes bytes (text p);
+          wrong_is = r.wrong_is;
+        }
 written_all (over ∷ p) w b e = absurd cc
 written_all (unspelled ∷ p) w b e =
     let r = written_all p (record { bytes = w.bytes; room = w.room; wrong = true }) b e in
-    record { none_over = r.none_over; within = r.within; bytes_are = r.bytes_are; wrong_is = r.wrong_is ∙ sym (or_true w.wrong) }
+    record {
+      none_over = r.none_over;
+      within = r.within;
+      bytes_are = r.bytes_are;
+      wrong_is =
+          r.wrong_is ∙ sym (or_true w.wrong);
+    }
 
-too_much : (p : List Piece) (w : Written) (e : WriteFault) → writes p w ≡ Err e → (e ≡ DoesNotFit) × ((has_over p || ltb w.room (length (text p))) ≡ true)
+too_much : (p : List Piece) (w : Written) (e : WriteFault) → writes p w ≡ Err e → (e ≡ DoesNotFit)
+    × ((has_over p || ltb w.room (length (text p))) ≡ true)
 too_much [] w e h = absurd cc
-too_much (plain bytes ∷ p) w e h = by_test (ltb w.room (length bytes)) refl h (λ k. too_much p (made_of (w.bytes ++ bytes) (w.room - length bytes) w.wrong) e k)
+too_much (plain bytes ∷ p) w e h =
+    by_test (ltb w.room (length bytes)) refl h
+    (λ k. too_much p (made_of (w.bytes ++ bytes) (w.room - length bytes) w.wrong) e k)
   where
-    by_over : (o : Bool) → (o || ltb (w.room - length bytes) (length (text p))) ≡ true → (o || ltb w.room (length (bytes ++ text p))) ≡ true
+    by_over : (o : Bool) → (o || ltb (w.room - length bytes) (length (text p))) ≡ true
+        → (o || ltb w.room (length (bytes ++ text p))) ≡ true
     by_over true k = refl
     by_over false k = lt-ltb _ _ (omega (arith, ltb-true _ _ k, length-append bytes (text p)))
 
@@ -414,8 +550,11 @@ too_much (plain bytes ∷ p) w e h = by_test (ltb w.room (length bytes)) refl h 
     first true k = refl
     first false k = lt-ltb _ _ (omega (arith, k, length-append bytes (text p)))
 
-    by_test : (t : Bool) → ltb w.room (length bytes) ≡ t → cond t (Err DoesNotFit) (writes p (record { bytes = w.bytes ++ bytes; room = w.room - length bytes; wrong = w.wrong })) ≡ Err e
-        → (writes p (made_of (w.bytes ++ bytes) (w.room - length bytes) w.wrong) ≡ Err e → (e ≡ DoesNotFit) × ((has_over p || ltb (w.room - length bytes) (length (text p))) ≡ true))
+    by_test : (t : Bool) → ltb w.room (length bytes) ≡ t
+        → cond t (Err DoesNotFit) (writes p
+        (record { bytes = w.bytes ++ bytes; room = w.room - length bytes; wrong = w.wrong })) ≡ Err e
+        → (writes p (made_of (w.bytes ++ bytes) (w.room - length bytes) w.wrong) ≡ Err e → (e ≡ DoesNotFit)
+        × ((has_over p || ltb (w.room - length bytes) (length (text p))) ≡ true))
         → (e ≡ DoesNotFit) × ((has_over p || ltb w.room (length (bytes ++ text p))) ≡ true)
     by_test true g k again = (cc, first (has_over p) (ltb-true _ _ g))
     by_test false g k again = let r = again k in (r.0, by_over (has_over p) r.1)
@@ -429,13 +568,16 @@ none = None
 abbrev why : (over large wrong : Bool) → Option WriteFault
 why o l w = cond (o || l) (Some DoesNotFit) (cond w (Some HasNoSpelling) None)
 
-pub cannot_is : (p : List Piece) (o l w : Bool) → has_over p ≡ o → ltb MAX_CLASS_BYTES (length (text p)) ≡ l → has_unspelled p ≡ w → cannot p ≡ why o l w
+pub cannot_is : (p : List Piece) (o l w : Bool) → has_over p ≡ o → ltb MAX_CLASS_BYTES (length (text p)) ≡ l
+    → has_unspelled p ≡ w → cannot p ≡ why o l w
 unfolding cannot
 cannot_is p o l w ho hl hw =
-    ap (λ (t : Bool). why t (ltb MAX_CLASS_BYTES (length (text p))) (has_unspelled p)) ho ∙ ap (λ (t : Bool). why o t (has_unspelled p)) hl ∙ ap (λ (t : Bool). why o l t) hw
+    ap (λ (t : Bool). why t (ltb MAX_CLASS_BYTES (length (text p))) (has_unspelled p)) ho
+    ∙ ap (λ (t : Bool). why o t (has_unspelled p)) hl ∙ ap (λ (t : Bool). why o l t) hw
 
 -- what a program tells that wrote the pieces into nothing
-pub told_ok : (p : List Piece) (b : Written) → writes p blank ≡ Ok b → b.wrong ≡ false → (cannot p ≡ None) × (b.bytes ≡ text p)
+pub told_ok : (p : List Piece) (b : Written) → writes p blank ≡ Ok b → b.wrong ≡ false → (cannot p ≡ None)
+    × (b.bytes ≡ text p)
 told_ok p b e right =
     let r = written_all p blank b e in
     (cannot_is p false false false r.none_over (le-ltb _ _ r.within) (sym r.wrong_is ∙ right), r.bytes_are)
@@ -471,119 +613,158 @@ can_plain (unspelled ∷ p) h k = absurd cc
 pub can : (p : List Piece) → cannot p ≡ None → ArePlain p × (length (text p) ≤ MAX_CLASS_BYTES)
 can p h = by_tests (has_over p) (ltb MAX_CLASS_BYTES (length (text p))) (has_unspelled p) refl refl refl
   where
-    by_tests : (o l w : Bool) → has_over p ≡ o → ltb MAX_CLASS_BYTES (length (text p)) ≡ l → has_unspelled p ≡ w → ArePlain p × (length (text p) ≤ MAX_CLASS_BYTES)
+    by_tests : (o l w : Bool) → has_over p ≡ o → ltb MAX_CLASS_BYTES (length (text p)) ≡ l → has_unspelled p ≡ w
+        → ArePlain p × (length (text p) ≤ MAX_CLASS_BYTES)
     by_tests false false false ho hl hw = (can_plain p ho hw, ltb-false _ _ hl)
     by_tests false false true ho hl hw = absurd (let e = cannot_is p false false true ho hl hw in cc)
     by_tests false true w ho hl hw = absurd (let e = cannot_is p false true w ho hl hw in cc)
     by_tests true l w ho hl hw = absurd (let e = cannot_is p true l w ho hl hw in cc)
 
 -- where nothing is said against a value it has a spelling, and no other
-pub spells_if : {V : Type 0} {f : Format V} {p : V → List Piece} → Writes f p → (v : V) → cannot (p v) ≡ None → Spells f (text (p v)) v × (length (text (p v)) ≤ MAX_CLASS_BYTES)
+pub spells_if : {V : Type 0} {f : Format V} {p : V → List Piece} → Writes f p → (v : V) → cannot (p v) ≡ None
+    → Spells f (text (p v)) v × (length (text (p v)) ≤ MAX_CLASS_BYTES)
 spells_if {p = p} m v h = let c = can (p v) h in (m.has v c.0, c.1)
 
-pub no_other : {V : Type 0} {f : Format V} {p : V → List Piece} → Writes f p → (v : V) (a b : List ℕ) → AreBytes a → AreBytes b → Spells f a v → Spells f b v → a ≡ b
+pub no_other : {V : Type 0} {f : Format V} {p : V → List Piece} → Writes f p → (v : V) (a b : List ℕ) → AreBytes a
+    → AreBytes b → Spells f a v → Spells f b v → a ≡ b
 no_other {V = V} {p = p} m v a b fit gif s t =
     let x = m.only v a fit s in
     let y = m.only v b gif t in
     x.2 ∙ ap (λ (w : V). text (p w)) (x.1 ∙ sym y.1) ∙ sym y.2
 
 -- a value that cannot be written has no spelling but one of too many bytes
-pub spells_none : {V : Type 0} {f : Format V} {p : V → List Piece} → Writes f p → (v : V) (e : WriteFault) (bytes : List ℕ) → cannot (p v) ≡ Some e → AreBytes bytes → Spells f bytes v → (e ≡ DoesNotFit) × (MAX_CLASS_BYTES < length bytes)
+pub spells_none : {V : Type 0} {f : Format V} {p : V → List Piece} → Writes f p
+    → (v : V) (e : WriteFault) (bytes : List ℕ) → cannot (p v) ≡ Some e → AreBytes bytes → Spells f bytes v
+    → (e ≡ DoesNotFit) × (MAX_CLASS_BYTES < length bytes)
 spells_none {V = V} {p = p} m v e bytes h fit s =
     let x = m.only v bytes fit s in
     let same : bytes ≡ text (p v) = x.2 ∙ ap (λ (w : V). text (p w)) x.1 in
     let c = plain_cannot (p v) (subst (λ (w : V). ArePlain (p w)) x.1 x.3) in
     by_length (ltb MAX_CLASS_BYTES (length (text (p v)))) refl c.0 c.1 same
   where
-    by_length : (l : Bool) → ltb MAX_CLASS_BYTES (length (text (p v))) ≡ l → has_over (p v) ≡ false → has_unspelled (p v) ≡ false → bytes ≡ text (p v) → (e ≡ DoesNotFit) × (MAX_CLASS_BYTES < length bytes)
-    by_length true hl ho hw same = let k = cannot_is (p v) false true false ho hl hw in (cc, omega (arith, ltb-true _ _ hl, ap length same))
+    by_length : (l : Bool) → ltb MAX_CLASS_BYTES (length (text (p v))) ≡ l → has_over (p v) ≡ false
+        → has_unspelled (p v) ≡ false → bytes ≡ text (p v) → (e ≡ DoesNotFit) × (MAX_CLASS_BYTES < length bytes)
+    by_length true hl ho hw same = let k = cannot_is (p v) false true false ho hl hw in
+        (cc, omega (arith, ltb-true _ _ hl, ap length same))
     by_length false hl ho hw same = absurd (let k = cannot_is (p v) false false false ho hl hw in cc)
 
 -- what was read is written as it was
-pub reads_back : {V : Type 0} {f : Format V} {p : V → List Piece} → Writes f p → (v : V) (bytes : List ℕ) → AreBytes bytes → length bytes ≤ MAX_CLASS_BYTES → Spells f bytes v → (cannot (p v) ≡ None) × (text (p v) ≡ bytes)
+pub reads_back : {V : Type 0} {f : Format V} {p : V → List Piece} → Writes f p → (v : V) (bytes : List ℕ)
+    → AreBytes bytes → length bytes ≤ MAX_CLASS_BYTES → Spells f bytes v → (cannot (p v) ≡ None) × (text (p v) ≡ bytes)
 reads_back {V = V} {p = p} m v bytes fit le s =
     let x = m.only v bytes fit s in
     let same : bytes ≡ text (p v) = x.2 ∙ ap (λ (w : V). text (p w)) x.1 in
     let c = plain_cannot (p v) (subst (λ (w : V). ArePlain (p w)) x.1 x.3) in
     (cannot_is (p v) false false false c.0 (le-ltb _ _ (omega (arith, le, ap length same))) c.1, sym same)
 
-pub delivers_err : {X : Type 0} (p : List Piece) (bytes : X → List ℕ) (e : WriteFault) → UnlessWriteMemory e (writes p blank ≡ Err e) → Delivers p bytes (Err e)
+pub delivers_err : {X : Type 0} (p : List Piece) (bytes : X → List ℕ) (e : WriteFault)
+    → UnlessWriteMemory e (writes p blank ≡ Err e) → Delivers p bytes (Err e)
 delivers_err p bytes OutOfMemory h = tt
 delivers_err p bytes DoesNotFit h = told_err p DoesNotFit h
 delivers_err p bytes HasNoSpelling h = told_err p HasNoSpelling h
 
-pub told : (p : List Piece) (w : Written) (r : Result (Unit {0}) WriteFault) (e : WriteFault) → r ≡ Err e → Goes p blank w r → UnlessWriteMemory e (cannot p ≡ Some e)
-told p w r e is g = delivers_err {X = ℕ} p (λ n. []) e (subst (λ (r : Result (Unit {0}) WriteFault). Goes p blank w r) is g)
+pub told : (p : List Piece) (w : Written) (r : Result (Unit {0}) WriteFault) (e : WriteFault) → r ≡ Err e
+    → Goes p blank w r → UnlessWriteMemory e (cannot p ≡ Some e)
+told p w r e is g = delivers_err {X = ℕ} p (λ n. []) e
+    (subst (λ (r : Result (Unit {0}) WriteFault). Goes p blank w r) is g)
 
-pub wrote : (p : List Piece) (w : Written) (r : Result (Unit {0}) WriteFault) (x : Unit {0}) → r ≡ Ok x → Goes p blank w r → writes p blank ≡ Ok w
+pub wrote : (p : List Piece) (w : Written) (r : Result (Unit {0}) WriteFault) (x : Unit {0}) → r ≡ Ok x
+    → Goes p blank w r → writes p blank ≡ Ok w
 wrote p w r x is g = subst (λ (r : Result (Unit {0}) WriteFault). Goes p blank w r) is g
 
 -- a number alone
 pub number_put : (n v : ℕ) → v < 256 ^ 2 → (cannot (field 2 v) ≡ None) × (text (field 2 v) ≡ big_bytes 2 v)
 unfolding cannot field
-number_put n v lt =
-    (ap (λ (x : Piece). cond (has_over (x ∷ []) || ltb MAX_CLASS_BYTES (length (text (x ∷ [])))) (Some DoesNotFit) (cond (has_unspelled (x ∷ [])) (Some HasNoSpelling) None)) (sized_plain 2 v lt), ap (λ (x : Piece). text (x ∷ [])) (sized_plain 2 v lt))
+number_put n v lt = (
+  ap (λ (x : Piece). cond (has_over (x ∷ []) || ltb MAX_CLASS_BYTES (length (text (x ∷ [])))) (Some DoesNotFit)
+      (cond (has_unspelled (x ∷ [])) (Some HasNoSpelling) None)) (sized_plain 2 v lt),
+  ap (λ (x : Piece). text (x ∷ [])) (sized_plain 2 v lt),
+)
 
-pub puts_number : (v : ℕ) (old new : List ℕ) (r : Result (Unit {0}) WriteFault) → v < 256 ^ 2 → MatchResult r (λ _. new ≡ old ++ big_bytes 2 v) (λ e. (e ≡ OutOfMemory) × (new ≡ old)) → Puts (field 2 v) old new r
+pub puts_number : (v : ℕ) (old new : List ℕ) (r : Result (Unit {0}) WriteFault) → v < 256 ^ 2
+    → MatchResult r (λ _. new ≡ old ++ big_bytes 2 v) (λ e. (e ≡ OutOfMemory) × (new ≡ old))
+    → Puts (field 2 v) old new r
 puts_number v old new (Ok x) lt m = let t = number_put 2 v lt in (t.0, m ∙ ap (λ (b : List ℕ). old ++ b) (sym t.1))
-puts_number v old new (Err e) lt m = (subst (λ (d : WriteFault). UnlessWriteMemory d (cannot (field 2 v) ≡ Some d)) (sym m.0) tt, m.1)
+puts_number v old new (Err e) lt m =
+    (subst (λ (d : WriteFault). UnlessWriteMemory d (cannot (field 2 v) ≡ Some d)) (sym m.0) tt, m.1)
 
 -- ---- bodies that are read by field
 
-pub inside_spells : {A V : Type 0} (n : ℕ) (body : List ℕ) (f : Format A) (make : A → V) (bytes : List ℕ) (w : V) → Spells (inside n body f (λ v. done (make v))) bytes w
+pub inside_spells : {A V : Type 0} (n : ℕ) (body : List ℕ) (f : Format A) (make : A → V) (bytes : List ℕ) (w : V)
+    → Spells (inside n body f (λ v. done (make v))) bytes w
     → (v : A) × Spells f body v × (bytes ≡ []) × (make v ≡ w)
 inside_spells {A = A} {V = V} n body (done v) make bytes w s = by_test (eqb (length body) 0) refl s
   where
-    by_test : (b : Bool) → eqb (length body) 0 ≡ b → Spells (cond b (done (make v)) (refuse (λ at. AttributeLength (at - n - 6)))) bytes w → (u : A) × Spells (done v) body u × (bytes ≡ []) × (make u ≡ w)
+    by_test : (b : Bool) → eqb (length body) 0 ≡ b
+        → Spells (cond b (done (make v)) (refuse (λ at. AttributeLength (at - n - 6)))) bytes w → (u : A)
+        × Spells (done v) body u × (bytes ≡ []) × (make u ≡ w)
     by_test true e s = (v, (nil_from_length body (eqb-true _ _ e), refl), s.0, s.1)
     by_test false e s = absurd s
-inside_spells {A = A} {V = V} n body (part k after) make bytes w s = by_test (ltb (length body) k) refl s (λ t. inside_spells n (drop k body) (after (take k body)) make bytes w t)
+inside_spells {A = A} {V = V} n body (part k after) make bytes w s =
+    by_test (ltb (length body) k) refl s (λ t. inside_spells n (drop k body) (after (take k body)) make bytes w t)
   where
-    by_test : (b : Bool) → ltb (length body) k ≡ b → Spells (cond b (refuse (λ at. AttributeLength (at - n - 6))) (inside n (drop k body) (after (take k body)) (λ v. done (make v)))) bytes w
-        → (Spells (inside n (drop k body) (after (take k body)) (λ v. done (make v))) bytes w → (v : A) × Spells (after (take k body)) (drop k body) v × (bytes ≡ []) × (make v ≡ w))
+    by_test : (b : Bool) → ltb (length body) k ≡ b
+        → Spells (cond b (refuse (λ at. AttributeLength (at - n - 6)))
+        (inside n (drop k body) (after (take k body)) (λ v. done (make v)))) bytes w
+        → (Spells (inside n (drop k body) (after (take k body)) (λ v. done (make v))) bytes w → (v : A)
+        × Spells (after (take k body)) (drop k body) v × (bytes ≡ []) × (make v ≡ w))
         → (u : A) × Spells (part k after) body u × (bytes ≡ []) × (make u ≡ w)
     by_test true e s again = absurd s
     by_test false e s again =
         let r = again s in
-        let long : k ≤ length body = ltb-false _ _ e in
-        (r.0, (take k body, drop k body, omega (arith, length-take k body), sym (take-append-drop k body), r.1), r.2, r.3)
+        let long : k ≤ length body = ltb-false _ _ e in (
+          r.0,
+          (take k body, drop k body, omega (arith, length-take k body), sym (take-append-drop k body), r.1),
+          r.2,
+          r.3,
+        )
 inside_spells n body (refuse fault) make bytes w s = absurd s
 
-pub spells_inside : {A V : Type 0} (n : ℕ) (body : List ℕ) (f : Format A) (make : A → V) (v : A) → Spells f body v → Spells (inside n body f (λ v. done (make v))) [] (make v)
+pub spells_inside : {A V : Type 0} (n : ℕ) (body : List ℕ) (f : Format A) (make : A → V) (v : A) → Spells f body v
+    → Spells (inside n body f (λ v. done (make v))) [] (make v)
 spells_inside {V = V} n body (done u) make v s =
     let none : eqb (length body) 0 ≡ true = eq-eqb _ _ (ap length s.0) in
-    subst (λ (t : Bool). Spells (cond t (done (make u)) (refuse (λ at. AttributeLength (at - n - 6)))) [] (make v)) (sym none) (refl, ap make s.1)
+    subst (λ (t : Bool). Spells (cond t (done (make u)) (refuse (λ at. AttributeLength (at - n - 6)))) [] (make v))
+    (sym none) (refl, ap make s.1)
 spells_inside {V = V} n body (part k after) make v s =
     let first = s.0 in
     let others = s.1 in
     let whole : body ≡ first ++ others = s.3 in
-    let long : ltb (length body) k ≡ false = le-ltb _ _ (omega (arith, ap length whole, length-append first others, s.2)) in
+    let long : ltb (length body) k ≡ false =
+    le-ltb _ _ (omega (arith, ap length whole, length-append first others, s.2)) in
     let front : take k body ≡ first = ap (take k) whole ∙ take_at first others k s.2 in
     let back : drop k body ≡ others = ap (drop k) whole ∙ drop_at first others k s.2 in
     let inner = spells_inside n others (after first) make v s.4 in
     let one : Spells (inside n (drop k body) (after (take k body)) (λ v. done (make v))) [] (make v) =
     subst (λ (t : List ℕ). Spells (inside n t (after (take k body)) (λ v. done (make v))) [] (make v)) (sym back)
     (subst (λ (t : List ℕ). Spells (inside n others (after t) (λ v. done (make v))) [] (make v)) (sym front) inner) in
-    subst (λ (t : Bool). Spells (cond t (refuse (λ at. AttributeLength (at - n - 6))) (inside n (drop k body) (after (take k body)) (λ v. done (make v)))) [] (make v)) (sym long) one
+    subst (λ (t : Bool). Spells (cond t (refuse (λ at. AttributeLength (at - n - 6)))
+    (inside n (drop k body) (after (take k body)) (λ v. done (make v)))) [] (make v)) (sym long) one
 spells_inside n body (refuse fault) make v s = absurd s
 
 -- bytes behind a length of four bytes
-pub made_held : {V : Type 0} (make : List ℕ → V) → NumberLaw 4 → Made (andthen (number 4) (λ n. part n (λ bytes. done (make bytes)))) make (λ bytes. lengthened (plain bytes ∷ []))
+pub made_held : {V : Type 0} (make : List ℕ → V) → NumberLaw 4
+    → Made (andthen (number 4) (λ n. part n (λ bytes. done (make bytes)))) make (λ bytes. lengthened (plain bytes ∷ []))
 made_held {V = V} make law4 = record { has = has; only = only }
   where
     held : ℕ → Format V
     held n = part n (λ bytes. done (make bytes))
 
-    has : (bytes : List ℕ) → ArePlain (lengthened (plain bytes ∷ [])) → Spells (andthen (number 4) held) (text (lengthened (plain bytes ∷ []))) (make bytes)
+    has : (bytes : List ℕ) → ArePlain (lengthened (plain bytes ∷ []))
+        → Spells (andthen (number 4) held) (text (lengthened (plain bytes ∷ []))) (make bytes)
     has bytes h =
         let n = length (bytes ++ []) in
         let p = plain_parts (field 4 n) (plain bytes ∷ []) h in
         let same : bytes ++ [] ≡ bytes = append-nil bytes in
-        let body : Spells (held n) (bytes ++ []) (make bytes) = (bytes ++ [], [], refl, sym (append-nil (bytes ++ [])), (refl, ap make same)) in
-        subst (λ (t : List ℕ). Spells (andthen (number 4) held) t (make bytes)) (sym (text_append (field 4 n) (plain bytes ∷ [])))
-        (andthen_spelled (number 4) held (text (field 4 n)) (bytes ++ []) n (make bytes) ((made_number 4 law4).has n p.0) body)
+        let body : Spells (held n) (bytes ++ []) (make bytes) =
+        (bytes ++ [], [], refl, sym (append-nil (bytes ++ [])), (refl, ap make same)) in
+        subst (λ (t : List ℕ). Spells (andthen (number 4) held) t (make bytes))
+        (sym (text_append (field 4 n) (plain bytes ∷ [])))
+        (andthen_spelled (number 4) held (text (field 4 n)) (bytes ++ []) n (make bytes)
+        ((made_number 4 law4).has n p.0) body)
 
-    only : (v : V) (bytes : List ℕ) → AreBytes bytes → Spells (andthen (number 4) held) bytes v → (b : List ℕ) × (make b ≡ v) × (bytes ≡ text (lengthened (plain b ∷ []))) × ArePlain (lengthened (plain b ∷ []))
+    only : (v : V) (bytes : List ℕ) → AreBytes bytes → Spells (andthen (number 4) held) bytes v → (b : List ℕ)
+        × (make b ≡ v) × (bytes ≡ text (lengthened (plain b ∷ []))) × ArePlain (lengthened (plain b ∷ []))
     only v bytes fit s =
         let i = andthen_parts (number 4) held bytes v s in
         let bs = AreBytes-parts i.0 i.1 (subst AreBytes i.3 fit) in
@@ -594,7 +775,9 @@ made_held {V = V} make law4 = record { has = has; only = only }
         let rest : i.1 ≡ b ++ [] = t.3 ∙ ap (λ (r : List ℕ). b ++ r) t.4.0 in (
           b,
           t.4.1,
-          i.3 ∙ ap (λ (r : List ℕ). r ++ i.1) (x.2 ∙ ap (λ (k : ℕ). text (field 4 k)) n) ∙ ap (λ (r : List ℕ). text (field 4 (length (b ++ []))) ++ r) rest ∙ sym (text_append (field 4 (length (b ++ []))) (plain b ∷ [])),
+          i.3 ∙ ap (λ (r : List ℕ). r ++ i.1) (x.2 ∙ ap (λ (k : ℕ). text (field 4 k)) n)
+              ∙ ap (λ (r : List ℕ). text (field 4 (length (b ++ []))) ++ r) rest
+              ∙ sym (text_append (field 4 (length (b ++ []))) (plain b ∷ [])),
           plain_append (field 4 (length (b ++ []))) (plain b ∷ []) (subst (λ (k : ℕ). ArePlain (field 4 k)) n x.3) tt,
         )
 
@@ -614,49 +797,67 @@ body_pieces test p (raw name body) = marked (not (test name)) (plain body ∷ []
 abbrev pub pick : {A : Type 0} → (ℕ → Bool) → Format A → ℕ → ℕ → List ℕ → Format (Either A)
 pick test f name n body = cond (test name) (inside n body f (λ v. done (fields name v))) (done (raw name body))
 
-pub bodies : {A : Type 0} (test : ℕ → Bool) {f : Format A} {p : A → List Piece} → Writes f p → Bodies (pick test f) name_of (λ x. x) (body_pieces test p)
-bodies {A = A} test {f = f} {p = p} m = record { has = has; only = λ name body bytes v fit s. only name body bytes v (test name) refl fit s }
+pub bodies : {A : Type 0} (test : ℕ → Bool) {f : Format A} {p : A → List Piece} → Writes f p
+    → Bodies (pick test f) name_of (λ x. x) (body_pieces test p)
+bodies {A = A} test {f = f} {p = p} m =
+    record { has = has; only = λ name body bytes v fit s. only name body bytes v (test name) refl fit s }
   where
-    by_field : (name : ℕ) (value : A) (b : Bool) → ArePlain (marked b (p value)) → (b ≡ true) × (text (marked b (p value)) ≡ text (p value)) × ArePlain (p value)
+    by_field : (name : ℕ) (value : A) (b : Bool) → ArePlain (marked b (p value)) → (b ≡ true)
+        × (text (marked b (p value)) ≡ text (p value)) × ArePlain (p value)
     by_field name value true h = (refl, refl, h)
     by_field name value false h = absurd h
 
-    by_raw : (body : List ℕ) (b : Bool) → ArePlain (marked (not b) (plain body ∷ [])) → (b ≡ false) × (text (marked (not b) (plain body ∷ [])) ≡ body)
+    by_raw : (body : List ℕ) (b : Bool) → ArePlain (marked (not b) (plain body ∷ [])) → (b ≡ false)
+        × (text (marked (not b) (plain body ∷ [])) ≡ body)
     by_raw body true h = absurd h
     by_raw body false h = (refl, append-nil body)
 
-    has : (x : Either A) → ArePlain (body_pieces test p x) → Spells (pick test f (name_of x) (length (text (body_pieces test p x))) (text (body_pieces test p x))) [] x
+    has : (x : Either A) → ArePlain (body_pieces test p x)
+        → Spells (pick test f (name_of x) (length (text (body_pieces test p x))) (text (body_pieces test p x))) [] x
     has (fields name value) h =
         let t = text (marked (test name) (p value)) in
         let r = by_field name value (test name) h in
         let s : Spells f t value = subst (λ (b : List ℕ). Spells f b value) (sym r.1) (m.has value r.2) in
-        subst (λ (b : Bool). Spells (cond b (inside (length t) t f (λ v. done (fields name v))) (done (raw name t))) [] (fields name value)) (sym r.0)
+        subst (λ (b : Bool). Spells (cond b (inside (length t) t f (λ v. done (fields name v))) (done (raw name t))) []
+        (fields name value)) (sym r.0)
         (spells_inside (length t) t f (λ v. fields name v) value s)
     has (raw name body) h =
         let t = text (marked (not (test name)) (plain body ∷ [])) in
         let r = by_raw body (test name) h in
-        subst (λ (b : Bool). Spells (cond b (inside (length t) t f (λ v. done (fields name v))) (done (raw name t))) [] (raw name body)) (sym r.0) (refl, ap (λ (b : List ℕ). raw name b) r.1)
+        subst (λ (b : Bool). Spells (cond b (inside (length t) t f (λ v. done (fields name v))) (done (raw name t))) []
+        (raw name body)) (sym r.0) (refl, ap (λ (b : List ℕ). raw name b) r.1)
 
-    only : (name : ℕ) (body bytes : List ℕ) (v : Either A) (b : Bool) → test name ≡ b → AreBytes body → Spells (cond b (inside (length body) body f (λ v. done (fields name v))) (done (raw name body))) bytes v
-        → (bytes ≡ []) × (x : Either A) × (x ≡ v) × (name_of x ≡ name) × (body ≡ text (body_pieces test p x)) × ArePlain (body_pieces test p x)
+    only : (name : ℕ) (body bytes : List ℕ) (v : Either A) (b : Bool) → test name ≡ b → AreBytes body
+        → Spells (cond b (inside (length body) body f (λ v. done (fields name v))) (done (raw name body))) bytes v
+        → (bytes ≡ []) × (x : Either A) × (x ≡ v) × (name_of x ≡ name) × (body ≡ text (body_pieces test p x))
+        × ArePlain (body_pieces test p x)
     only name body bytes v true e fit s =
         let i = inside_spells (length body) body f (λ v. fields name v) bytes v s in
         let x = m.only i.0 body fit i.1 in
-        let same : p i.0 ≡ marked (test name) (p i.0) = ap (λ (b : Bool). marked b (p i.0)) (sym e) in
-        (i.2, fields name i.0, i.3, refl, x.2 ∙ ap (λ (w : A). text (p w)) x.1 ∙ ap text same, subst ArePlain same (subst (λ (w : A). ArePlain (p w)) x.1 x.3))
+        let same : p i.0 ≡ marked (test name) (p i.0) = ap (λ (b : Bool). marked b (p i.0)) (sym e) in (
+          i.2,
+          fields name i.0,
+          i.3,
+          refl,
+          x.2 ∙ ap (λ (w : A). text (p w)) x.1 ∙ ap text same,
+          subst ArePlain same (subst (λ (w : A). ArePlain (p w)) x.1 x.3),
+        )
     only name body bytes v false e fit s =
-        let same : plain body ∷ [] ≡ marked (not (test name)) (plain body ∷ []) = ap (λ (b : Bool). marked (not b) (plain body ∷ [])) (sym e) in
+        let same : plain body ∷ [] ≡ marked (not (test name)) (plain body ∷ []) =
+        ap (λ (b : Bool). marked (not b) (plain body ∷ [])) (sym e) in
         (s.0, raw name body, s.1, refl, sym (append-nil body) ∙ ap text same, subst ArePlain same tt)
 
 -- an attribute is written as its name index, and its body behind a length
 abbrev pub attribute_pieces : {A : Type 0} → (ℕ → Bool) → (A → List Piece) → Either A → List Piece
 attribute_pieces test p x = field 2 (name_of x) ++ lengthened (body_pieces test p x)
 
-pub writes_attribute : {A : Type 0} (test : ℕ → Bool) {f : Format A} {p : A → List Piece} → NumberLaw 2 → NumberLaw 4 → Writes f p → Writes (headed (pick test f)) (attribute_pieces test p)
+pub writes_attribute : {A : Type 0} (test : ℕ → Bool) {f : Format A} {p : A → List Piece} → NumberLaw 2 → NumberLaw 4
+    → Writes f p → Writes (headed (pick test f)) (attribute_pieces test p)
 writes_attribute test law2 law4 m = made_headed law2 law4 (bodies test m)
 
 -- a value that is made of one part
-pub made_last : {A U V : Type 0} {f : Format U} (mk : U → V) {first : A → U} {p : A → List Piece} → Made f first p → Made (andthen f (λ u. done (mk u))) (λ a. mk (first a)) p
+pub made_last : {A U V : Type 0} {f : Format U} (mk : U → V) {first : A → U} {p : A → List Piece} → Made f first p
+    → Made (andthen f (λ u. done (mk u))) (λ a. mk (first a)) p
 made_last {V = V} {f = f} mk {first = first} {p = p} m = record {
   has = λ a h. subst (λ (t : List ℕ). Spells (andthen f (λ u. done (mk u))) t (mk (first a))) (append-nil (text (p a)))
       (andthen_spelled f (λ u. done (mk u)) (text (p a)) [] (first a) (mk (first a)) (m.has a h) (refl, refl));
@@ -669,27 +870,44 @@ made_last {V = V} {f = f} mk {first = first} {p = p} m = record {
 
 -- ---- an attribute, as a program writes it
 
-pub still : (p : List Piece) (w a b : Written) (mark : ℕ) → Begun w a mark → writes p a ≡ Ok b → mark + 4 ≤ length b.bytes
+pub still : (p : List Piece) (w a b : Written) (mark : ℕ) → Begun w a mark → writes p a ≡ Ok b
+    → mark + 4 ≤ length b.bytes
 still p w a b mark begun body =
     let moved = writes_behind p a.bytes [] a.room a.wrong b body in
-    omega (arith, ap length moved.0, length-append a.bytes (text p), ap length begun.bytes_are, length-append w.bytes (0 ∷ 0 ∷ 0 ∷ 0 ∷ []), begun.mark_is)
+    omega (
+      arith,
+      ap length moved.0,
+      length-append a.bytes (text p),
+      ap length begun.bytes_are,
+      length-append w.bytes (0 ∷ 0 ∷ 0 ∷ 0 ∷ []),
+      begun.mark_is,
+    )
 
-named : (name : ℕ) (p : List Piece) (s w : Written) → writes (field 2 name) s ≡ Ok w → writes (field 2 name ++ lengthened p) s ≡ writes (lengthened p) w
-named name p s w h = writes_append (field 2 name) (lengthened p) s ∙ ap (λ (r : Result Written WriteFault). then_writes r (lengthened p)) h
+named : (name : ℕ) (p : List Piece) (s w : Written) → writes (field 2 name) s ≡ Ok w
+    → writes (field 2 name ++ lengthened p) s ≡ writes (lengthened p) w
+named name p s w h = writes_append (field 2 name) (lengthened p) s
+    ∙ ap (λ (r : Result Written WriteFault). then_writes r (lengthened p)) h
 
-pub goes_end : (name : ℕ) (p : List Piece) (s w a b c : Written) (mark : ℕ) (r : Result (Unit {0}) WriteFault) → writes (field 2 name) s ≡ Ok w → Begun w a mark → writes p a ≡ Ok b
-    → MatchResult r (λ _. Ended mark b c) (λ e. (e ≡ DoesNotFit) × (256 ^ 4 ≤ length b.bytes - mark - 4)) → Goes (field 2 name ++ lengthened p) s c r
+pub goes_end : (name : ℕ) (p : List Piece) (s w a b c : Written) (mark : ℕ) (r : Result (Unit {0}) WriteFault)
+    → writes (field 2 name) s ≡ Ok w → Begun w a mark → writes p a ≡ Ok b
+    → MatchResult r (λ _. Ended mark b c) (λ e. (e ≡ DoesNotFit) × (256 ^ 4 ≤ length b.bytes - mark - 4))
+    → Goes (field 2 name ++ lengthened p) s c r
 goes_end name p s w a b c mark (Ok x) h begun body m = named name p s w h ∙ lengthened_ok p w a b c mark begun body m
 goes_end name p s w a b c mark (Err e) h begun body m =
-    subst (λ (d : WriteFault). UnlessWriteMemory d (writes (field 2 name ++ lengthened p) s ≡ Err d)) (sym m.0) (named name p s w h ∙ lengthened_over p w a b mark begun body m.1)
+    subst (λ (d : WriteFault). UnlessWriteMemory d (writes (field 2 name ++ lengthened p) s ≡ Err d)) (sym m.0)
+    (named name p s w h ∙ lengthened_over p w a b mark begun body m.1)
 
-pub goes_body : (name : ℕ) (p : List Piece) (s w a : Written) (mark : ℕ) (e : WriteFault) → writes (field 2 name) s ≡ Ok w → Begun w a mark → writes p a ≡ Err e → writes (field 2 name ++ lengthened p) s ≡ Err e
+pub goes_body : (name : ℕ) (p : List Piece) (s w a : Written) (mark : ℕ) (e : WriteFault)
+    → writes (field 2 name) s ≡ Ok w → Begun w a mark → writes p a ≡ Err e
+    → writes (field 2 name ++ lengthened p) s ≡ Err e
 goes_body name p s w a mark e h begun body =
     let r = lengthened_err p w a mark e begun body in
     named name p s w h ∙ subst (λ (d : WriteFault). writes (lengthened p) w ≡ Err d) (sym r.0) r.1
 
-pub goes_begin : (name : ℕ) (p : List Piece) (s w : Written) (e : WriteFault) → writes (field 2 name) s ≡ Ok w → (e ≡ DoesNotFit) × (w.room < 4) → writes (field 2 name ++ lengthened p) s ≡ Err e
-goes_begin name p s w e h k = named name p s w h ∙ subst (λ (d : WriteFault). writes (lengthened p) w ≡ Err d) (sym k.0) (lengthened_none p w k.1)
+pub goes_begin : (name : ℕ) (p : List Piece) (s w : Written) (e : WriteFault) → writes (field 2 name) s ≡ Ok w
+    → (e ≡ DoesNotFit) × (w.room < 4) → writes (field 2 name ++ lengthened p) s ≡ Err e
+goes_begin name p s w e h k =
+    named name p s w h ∙ subst (λ (d : WriteFault). writes (lengthened p) w ≡ Err d) (sym k.0) (lengthened_none p w k.1)
 
 -- ---- a list, as a program writes it, one behind the other
 
@@ -701,19 +919,32 @@ pub split : {X : Type 0} (all : List X) (x : X) → 1 ≤ length all → x ≡ g
 split [] x le is = absurd (omega (arith, le))
 split {X = X} (y ∷ ys) x le is =
     let n : length (y ∷ ys) - 1 ≡ length ys = omega arith in
-    ap (λ (z : X). z ∷ ys) (sym is) ∙ ap (λ (t : List X). x ∷ t) (sym (ap (λ (k : ℕ). take k ys) n ∙ take_all (length ys) ys (omega arith)))
+    ap (λ (z : X). z ∷ ys) (sym is)
+    ∙ ap (λ (t : List X). x ∷ t) (sym (ap (λ (k : ℕ). take k ys) n ∙ take_all (length ys) ys (omega arith)))
 
-one_of : {X V : Type 0} (view : X → V) (p : V → List Piece) (all : List X) (x : X) (w : Written) → 1 ≤ length all → x ≡ get_or all 0 x
+one_of : {X V : Type 0} (view : X → V) (p : V → List Piece) (all : List X) (x : X) (w : Written) → 1 ≤ length all
+    → x ≡ get_or all 0 x
     → writes (flat_map p (map view all)) w ≡ then_writes (writes (p (view x)) w) (flat_map p (map view (others all)))
-one_of {X = X} view p all x w le is = ap (λ (t : List X). writes (flat_map p (map view t)) w) (split all x le is) ∙ writes_append (p (view x)) (flat_map p (map view (others all))) w
+one_of {X = X} view p all x w le is =
+    ap (λ (t : List X). writes (flat_map p (map view t)) w) (split all x le is)
+    ∙ writes_append (p (view x)) (flat_map p (map view (others all))) w
 
-pub rest_ok : {X V : Type 0} (view : X → V) (p : V → List Piece) (all : List X) (x : X) (w m : Written) (total : Result Written WriteFault) → 1 ≤ length all → x ≡ get_or all 0 x
-    → writes (p (view x)) w ≡ Ok m → writes (flat_map p (map view all)) w ≡ total → writes (flat_map p (map view (others all))) m ≡ total
-rest_ok view p all x w m total le is h so_far = sym (one_of view p all x w le is ∙ ap (λ (r : Result Written WriteFault). then_writes r (flat_map p (map view (others all)))) h) ∙ so_far
+pub rest_ok : {X V : Type 0} (view : X → V) (p : V → List Piece) (all : List X) (x : X) (w m : Written)
+    (total : Result Written WriteFault) → 1 ≤ length all → x ≡ get_or all 0 x
+    → writes (p (view x)) w ≡ Ok m → writes (flat_map p (map view all)) w ≡ total
+    → writes (flat_map p (map view (others all))) m ≡ total
+rest_ok view p all x w m total le is h so_far =
+    sym (one_of view p all x w le is
+    ∙ ap (λ (r : Result Written WriteFault). then_writes r (flat_map p (map view (others all)))) h) ∙ so_far
 
-pub rest_err : {X V : Type 0} (view : X → V) (p : V → List Piece) (all : List X) (x : X) (w : Written) (total : Result Written WriteFault) (e : WriteFault) → 1 ≤ length all → x ≡ get_or all 0 x
+pub rest_err : {X V : Type 0} (view : X → V) (p : V → List Piece) (all : List X) (x : X) (w : Written)
+    (total : Result Written WriteFault) (e : WriteFault) → 1 ≤ length all → x ≡ get_or all 0 x
     → writes (flat_map p (map view all)) w ≡ total → writes (p (view x)) w ≡ Err e → total ≡ Err e
-rest_err view p all x w total e le is so_far h = sym so_far ∙ one_of view p all x w le is ∙ ap (λ (r : Result Written WriteFault). then_writes r (flat_map p (map view (others all)))) h
+rest_err view p all x w total e le is so_far h =
+    sym so_far ∙ one_of view p all x w le is
+    ∙ ap (λ (r : Result Written WriteFault). then_writes r (flat_map p (map view (others all)))) h
 
-pub rest_end : {X V : Type 0} (view : X → V) (p : V → List Piece) (all : List X) (w : Written) (total : Result Written WriteFault) → length all < 1 → writes (flat_map p (map view all)) w ≡ total → total ≡ Ok w
-rest_end {X = X} view p all w total lt so_far = sym so_far ∙ ap (λ (t : List X). writes (flat_map p (map view t)) w) (nil_from_length all (omega (arith, lt)))
+pub rest_end : {X V : Type 0} (view : X → V) (p : V → List Piece) (all : List X) (w : Written)
+    (total : Result Written WriteFault) → length all < 1 → writes (flat_map p (map view all)) w ≡ total → total ≡ Ok w
+rest_end {X = X} view p all w total lt so_far =
+    sym so_far ∙ ap (λ (t : List X). writes (flat_map p (map view t)) w) (nil_from_length all (omega (arith, lt)))

@@ -1,6 +1,6 @@
 -- A value as it is written: a list of pieces, one behind the other. The pieces say both what the bytes are (`text`) and
--- why there are none (`cannot`): a count or a length that passes its field, or more bytes than a class file may have (17),
--- and otherwise something that no bytes spell (18).
+-- why there are none (`cannot`): a count or a length that passes its field, or more bytes than a class file may have
+-- (17), and otherwise something that no bytes spell (18).
 use Rattle.std.specs.Prelude.{◌≡◌, ℕ, ◌-◌, ◌^◌, Bool, true, false, ◌||◌, Option, Some, None, List, [], ◌∷◌, ◌++◌, length, nat_lt, if◌then◌else◌, Result, Ok, Err}
 use Rattle.byteorder.specs.Endian.{big_bytes}
 use Rattle.layout.specs.declared.fault.WriteFault.{WriteFault}
@@ -41,7 +41,8 @@ ArePlain (unspelled ∷ pieces) = ⊥
 abbrev pub lengthened : List Piece → List Piece
 lengthened pieces = field 4 (length (text pieces)) ++ pieces
 
--- The state of writing: the bytes so far, how many more there may be, and whether something was met that no bytes spell.
+-- The state of writing: the bytes so far, how many more there may be, and whether something was met that no bytes
+-- spell.
 pub record Written : Type 0 where
   pub bytes : List ℕ
   pub room : ℕ

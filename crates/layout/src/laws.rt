@@ -45,8 +45,8 @@ pub fn body_is_whole<A, V>()
         ≡ settled (at - n - 6) make (record { at = at; rest = bytes }) (reads f (at - length body) body) }
 {}
 
-/// Bytes that are to be one spelling, all of them, are one or have a first fault: never both, and one fault alone. Bytes that are
-/// left over are a fault as `behind` tells it.
+/// Bytes that are to be one spelling, all of them, are one or have a first fault: never both, and one fault alone.
+/// Bytes that are left over are a fault as `behind` tells it.
 pub fn whole_is_spelling<V>()
     ensures either { (f : Format V) (behind : ℕ → ReadFault) (bytes : List ℕ)
         → ((v : V) × Spells f bytes v) ⊎ ((e : ReadFault) × WholeFault f behind bytes e) }
@@ -73,8 +73,8 @@ pub fn writing_is_spelling<V>()
         → Writes f pieces → AreBytes a → AreBytes b → Spells f a v → Spells f b v → a ≡ b }
 {}
 
-/// Bytes that are read from a stream, part by part, lead to the end of a format exactly where they spell a value within the limit; and of
-/// each stream exactly one front decides, where any does.
+/// Bytes that are read from a stream, part by part, lead to the end of a format exactly where they spell a value within
+/// the limit; and of each stream exactly one front decides, where any does.
 pub fn streams_are_decided<V>()
     ensures spelled { (f : Format V) (given : List ℕ) (v : V)
         → Leads f 0 given (whole v) → Spells f given v × (length given ≤ MAX_CLASS_BYTES) }
@@ -83,6 +83,7 @@ pub fn streams_are_decided<V>()
     ensures one { (f : Format V) (a b x y : List ℕ) (p q : Progress V)
         → IsDecided p → IsDecided q → a ++ x ≡ b ++ y → Leads f 0 a p → Leads f 0 b q → (a ≡ b) × (p ≡ q) }
     ensures either { (f : Format V) (stream : List ℕ)
-        → ((front : List ℕ) × (rest : List ℕ) × (p : Progress V) × (stream ≡ front ++ rest) × IsDecided p × Leads f 0 front p)
+        → ((front : List ℕ) × (rest : List ℕ) × (p : Progress V) × (stream ≡ front ++ rest) × IsDecided p
+        × Leads f 0 front p)
         ⊎ ((at : ℕ) × Leads f 0 stream (partial at)) }
 {}

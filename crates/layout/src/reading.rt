@@ -19,8 +19,8 @@ const PIECE: usize = 8_192;
 
 /// The bytes that a reader has given so far, at most [`MAX_CLASS_BYTES`].
 ///
-/// It never has memory for more than 8,192 bytes beyond those that it holds, and asks the reader for no byte that its caller does
-/// not want.
+/// It never has memory for more than 8,192 bytes beyond those that it holds, and asks the reader for no byte that its
+/// caller does not want.
 #[derive(Drop)]
 pub struct Reading {
     bytes: Vec<u8>,
@@ -35,7 +35,8 @@ impl Model for Reading {
 
     ghost view = { λ r. record { bytes = r.bytes.items; capacity = vec_capacity r.bytes } };
 
-    ghost invariant = { λ r. (vec_capacity r.bytes ≤ length r.bytes.items + 8192) × (length r.bytes.items ≤ MAX_CLASS_BYTES) };
+    ghost invariant = { λ r. (vec_capacity r.bytes ≤ length r.bytes.items + 8192)
+        × (length r.bytes.items ≤ MAX_CLASS_BYTES) };
 }
 
 impl Reading {
@@ -67,8 +68,8 @@ impl Reading {
 
     /// Reads `n` bytes behind those that are held, and returns how many there were: fewer only where the reader ended.
     ///
-    /// 1 where there is no memory for them, before anything is read; 15 where the reader fails, however it does: what it gave before
-    /// stays, and it is not asked again.
+    /// 1 where there is no memory for them, before anything is read; 15 where the reader fails, however it does: what
+    /// it gave before stays, and it is not asked again.
     pub fn more<R: Read>(&mut self, reader: &mut R, n: usize) -> Result<usize, StreamFault>
         requires piece { n ≤ 8192 }
         requires within { length self.old.bytes + n ≤ MAX_CLASS_BYTES }
@@ -102,8 +103,8 @@ impl Reading {
 
     /// Reads a part of `n` bytes.
     ///
-    /// 14 where it would pass [`MAX_CLASS_BYTES`], before anything of it is read; 2 where the reader ends within it; 15 where the reader
-    /// fails; 1 where memory runs out. Memory is asked for as the bytes come, and not for `n` of them.
+    /// 14 where it would pass [`MAX_CLASS_BYTES`], before anything of it is read; 2 where the reader ends within it; 15
+    /// where the reader fails; 1 where memory runs out. Memory is asked for as the bytes come, and not for `n` of them.
     pub fn part<R: Read>(&mut self, reader: &mut R, n: usize) -> Result<(), StreamFault>
         ensures { Streams (part n done) (λ _. drop (length self.old.bytes) self.new.bytes)
             self.old.bytes self.new.bytes (R.remaining reader.old) (R.remaining reader.new) result }
@@ -131,7 +132,8 @@ impl Reading {
 
     /// Reads a number of one byte; errors as [`part`](Reading::part).
     pub fn u1<R: Read>(&mut self, reader: &mut R) -> Result<u8, StreamFault>
-        ensures { Streams (number 1) (λ n. n) self.old.bytes self.new.bytes (R.remaining reader.old) (R.remaining reader.new) result }
+        ensures { Streams (number 1) (λ n. n) self.old.bytes self.new.bytes (R.remaining reader.old)
+            (R.remaining reader.new) result }
     {
         let at = self.bytes.len();
         self.part(reader, 1)?;
@@ -140,7 +142,8 @@ impl Reading {
 
     /// Reads a number of two bytes, the high byte first; errors as [`part`](Reading::part).
     pub fn u2<R: Read>(&mut self, reader: &mut R) -> Result<u16, StreamFault>
-        ensures { Streams (number 2) (λ n. n) self.old.bytes self.new.bytes (R.remaining reader.old) (R.remaining reader.new) result }
+        ensures { Streams (number 2) (λ n. n) self.old.bytes self.new.bytes (R.remaining reader.old)
+            (R.remaining reader.new) result }
     {
         let at = self.bytes.len();
         self.part(reader, 2)?;
@@ -150,7 +153,8 @@ impl Reading {
 
     /// Reads a number of four bytes, the highest byte first; errors as [`part`](Reading::part).
     pub fn u4<R: Read>(&mut self, reader: &mut R) -> Result<u32, StreamFault>
-        ensures { Streams (number 4) (λ n. n) self.old.bytes self.new.bytes (R.remaining reader.old) (R.remaining reader.new) result }
+        ensures { Streams (number 4) (λ n. n) self.old.bytes self.new.bytes (R.remaining reader.old)
+            (R.remaining reader.new) result }
     {
         let at = self.bytes.len();
         self.part(reader, 4)?;
@@ -177,7 +181,8 @@ fn make_room(bytes: &mut Vec<u8>, n: usize) -> Result<(), AllocError>
     Ok(())
 }
 
-/// Reads until the piece is full, the reader ends or it fails, and returns how many bytes were read: as an error where it failed.
+/// Reads until the piece is full, the reader ends or it fails, and returns how many bytes were read: as an error where
+/// it failed.
 fn fill<R: Read>(reader: &mut R, piece: &mut [u8]) -> Result<usize, usize>
     ensures len { length piece.new ≡ length piece.old }
     ensures some { MatchResult result (λ n. n ≤ length piece.new) (λ n. n < length piece.new) }

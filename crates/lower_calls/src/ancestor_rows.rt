@@ -43,7 +43,7 @@ fn check_climbs<'s, 'a, S: BuildHasher>(rt: &impl Abort, rows: &Rows<'s, 'a, S>)
     }
 }
 
-/// Of seven classes.
+/// Checks the ancestors of seven classes.
 fn check_ancestors<'s, 'a, S: BuildHasher>(rt: &impl Abort, rows: &Rows<'s, 'a, S>)
     requires { 6 < length rows.now }
 {
@@ -152,7 +152,7 @@ fn many<'a>(
     Ok(list)
 }
 
-/// Of so many classes below `java/lang/Object`: whether the first is below the last, and how many entries of rows are
+/// Whether the first of so many classes below `java/lang/Object` is below the last, and how many entries of rows are
 /// looked at; or none where they are refused.
 fn first_and_last<S: BuildHasher + Drop>(
     alloc: Global,

@@ -1,11 +1,11 @@
-use crate::making::K;
 use classfile::{ClassFile, decode};
+use format_calls::making::K;
 use frames::{
     CodeStarts, Declared, Frame, FrameFault, Limits, Locals, MapEntry, StackMap, TypeInfo, VType,
     declare, declared,
 };
 use insn::decode_code;
-use pool::Descriptors;
+use pool::ConstantTypes;
 use std::alloc::{AllocError, Global};
 use std::test::*;
 
@@ -48,7 +48,7 @@ fn are_found(alloc: Global, class: &ClassFile<'_>) -> Result<bool, AllocError> {
     };
     let map = stack_map(alloc)?;
     let pool = &class.constant_pool;
-    let mut constants = Descriptors::new(alloc, pool);
+    let mut constants = ConstantTypes::new(alloc, pool);
     let limits = Limits {
         pool,
         starts: &starts,

@@ -156,7 +156,7 @@ fn are_guarded(
     }
 }
 
-/// Of one class: a declaration two classes up, and one that is public in between; a static one; a method; other
+/// One class refers to a declaration two classes up, and one that is public in between; a static one; a method; other
 /// descriptors and kinds; its own class, one below it and one beside it; and a class above that declares nothing.
 fn all_kinds(alloc: Global, may_fail: bool) -> bool {
     let references = [

@@ -1,6 +1,7 @@
 //! Single instructions of an instance initialization method.
-use crate::making::{OUT_OF_MEMORY, frame, hasher, object, object_with_clone, summary};
+use crate::making::{frame, hasher, object, object_with_clone, summary};
 use classfile::{ClassFile, Formed, decode, form_check};
+use format_calls::making::OUT_OF_MEMORY;
 use frames::{Frame, VType};
 use hierarchy::{Classes, Rows};
 use insn::{Act, Branches, Insn, Kind, decode_code};

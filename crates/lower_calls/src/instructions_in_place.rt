@@ -1,7 +1,8 @@
 //! Instructions on a frame in place, the members that they name, and reasons taken together.
 use crate::instruction_rules::{CLONING, CONSTRUCTING};
-use crate::making::{OUT_OF_MEMORY, hasher, object_with_clone, summary};
+use crate::making::{hasher, object_with_clone, summary};
 use classfile::{ClassFile, Formed, decode, form_check};
+use format_calls::making::OUT_OF_MEMORY;
 use frames::VType;
 use hierarchy::{Classes, Rows};
 use insn::{Act, Branches, Kind, decode_code};

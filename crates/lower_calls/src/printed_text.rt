@@ -1,6 +1,6 @@
 //! Texts of class files, of names and of faults.
-use crate::making::K;
 use classfile::{Place, decode};
+use format_calls::making::K;
 use layout::ReadFault;
 use names::check_text;
 use printing::{Listing, Name, Print, Quoted, QuotedName, Then, Word};

@@ -1,8 +1,9 @@
-use crate::making::{K, hasher, object, setting, summary};
+use crate::making::{hasher, object, setting, summary};
 use classfile::{ClassFile, decode, form_check};
+use format_calls::making::K;
 use hierarchy::{
     Answer, Chains, Classes, HierarchyFault, Kind, MemberSummary, Summary, laws, name_of,
-    summary_of,
+    summary_of, twice_as_far,
 };
 use names::OBJECT;
 use std::alloc::Global;
@@ -48,6 +49,21 @@ fn is_hierarchy(alloc: Global) -> bool {
 #[test]
 fn answers(rt: HostRuntime) {
     assert!(rt; is_hierarchy(rt.alloc()));
+    assert!(rt; matches!(Answer::yes_if(true), Answer::Yes));
+    assert!(rt; matches!(Answer::yes_if(false), Answer::No));
+}
+
+/// Whether a table that leads one step on leads two steps on then; or memory ran out.
+fn leads_twice_as_far(alloc: Global) -> bool {
+    match twice_as_far(alloc, &[Some(1), Some(2), None, Some(0)]) {
+        Ok(table) => table.as_slice() == [Some(2), None, None, Some(1)].as_slice(),
+        Err(_) => false,
+    }
+}
+
+#[test]
+fn steps_are_doubled(rt: HostRuntime) {
+    assert!(rt; leads_twice_as_far(rt.alloc()));
 }
 
 /// Why a list is refused, or none.

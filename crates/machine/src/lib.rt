@@ -9,7 +9,7 @@
 //! - `constants`, `own_class`: what constants name, and what the class file says of the method's class.
 //! - `effect`, `effects`, `fields`, `calls`, `creations`: what an instruction does.
 //! - `fitting`, `operands`, `demands`: which values fit which types, and when a state is no fault.
-//! - `stacking`, `storing`, `doing`, `going`: what comes of an instruction.
+//! - `stacking`, `storing`, `execution`, `completion`: what comes of an instruction.
 //! - `below`, `heaps`, `raising`: run-time types, objects by their addresses, and what is raised.
 //! - `stepping`: a step.
 //! - `beginnings`, `held`: states in which a method may begin, and values read back from local variables.
@@ -39,15 +39,15 @@ mod below;
 mod body;
 mod calls;
 mod choosing;
+mod completion;
 mod constants;
 mod creations;
 mod demands;
-mod doing;
 mod effect;
 mod effects;
+mod execution;
 mod fields;
 mod fitting;
-mod going;
 mod heaps;
 mod held;
 mod items;

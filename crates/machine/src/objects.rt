@@ -4,7 +4,7 @@ use names::{Base, OBJECT};
 /// The kind of an object: of a class, or an array.
 #[derive(Clone, Copy, Debug, PartialEq, Eq)]
 pub enum RunType<'a> {
-    /// Of the class of this internal name.
+    /// An instance of the class of this internal name.
     Class(&'a [u8]),
     /// An array of 1 to 255 dimensions. One of 0 stands for one of 1.
     Array { dims: u8, base: Base<'a> },

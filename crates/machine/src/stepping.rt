@@ -7,9 +7,9 @@ ghost use Rattle.machine.specs.Views.{state_view, choice_view};
 
 use crate::body::Method;
 use crate::choosing::{Choice, Outcome, StepFault};
+use crate::completion::go;
 use crate::demands::meets;
 use crate::effects::effect_of;
-use crate::going::go;
 use crate::raising::raise;
 use crate::snapshot::{State, copy_of_state};
 use hierarchy::Classes;

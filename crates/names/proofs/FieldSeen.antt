@@ -8,7 +8,7 @@ use Rattle.names.specs.declared.descriptor.FieldType.{FieldType}
 use Rattle.names.specs.Answers.{IsFieldAnswer}
 use Rattle.names.specs.Descriptors.{FieldDescriptor, SpellsField, dimensions}
 use Rattle.names.specs.Reading.{Reading, found, whole, is_deep, limited_field, field_answer}
-use Rattle.names.specs.TypeEnds.{ReadsType}
+use Rattle.names.specs.private.TypeEnds.{ReadsType}
 use Rattle.names.proofs.AnswerLaws.{field_answered, field_spelled}
 use Rattle.names.proofs.ShapeSeen.{nothing_over}
 

@@ -11,7 +11,7 @@ use native.Mathlib.Nat.{one-le-pow}
 use lib.Lanes.{chunk, zip2, mask_l, top}
 use Rattle.names.specs.Names.{slash}
 use Rattle.names.specs.Reading.{goes_on}
-use Rattle.names.specs.TypeEnds.{goes_on_at, AreStops, AreStopsUpTo, GoesOnUpTo}
+use Rattle.names.specs.private.TypeEnds.{goes_on_at, AreStops, AreStopsUpTo, GoesOnUpTo}
 
 -- an operation on a vector that was computed lane by lane from xs, and on two of which one was from ys
 paired : (f h : ℕ → ℕ → ℕ) (g k l : ℕ → ℕ) (xs ys : List ℕ) → zip2 f (map g xs) (zip2 h (map k xs) (map l ys)) ≡ zip2 (λ x y. f (g x) (h (k x) (l y))) xs ys

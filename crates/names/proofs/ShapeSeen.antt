@@ -11,7 +11,7 @@ use Rattle.names.specs.Reading.{is_deep, method_type}
 use Rattle.names.specs.Shapes.{HasShape, Sums}
 use Rattle.names.specs.declared.shape.Measured.{Measured}
 use Rattle.names.specs.declared.shape.MethodShape.{MethodShape}
-use Rattle.names.specs.TypeEnds.{units_of, ReadsType, SeesParams, SeesResult}
+use Rattle.names.specs.private.TypeEnds.{units_of, ReadsType, SeesParams, SeesResult}
 use Rattle.names.proofs.Kept.{SoFar, at_first, one_type_more, params_end, result_is_void, method_is_read}
 use Rattle.names.proofs.Judged.{method_answer_limited}
 use Rattle.names.proofs.MethodReader.{result_by_type}

@@ -10,7 +10,7 @@ use Rattle.names.specs.declared.base.Primitive.{Primitive}
 use Rattle.names.specs.declared.base.Primitive.TheVariants.{Byte, Char, Double, Float, Int, Long, Short, Boolean}
 use Rattle.names.specs.Descriptors.{FieldDescriptor, primitive, class, letter, class_letter, dimensioned, dimensions, field_width}
 use Rattle.names.specs.Reading.{found, mapped, goes_on, read_class, read_base, read_field, primitive_of}
-use Rattle.names.specs.TypeEnds.{goes_on_at, GoesOnUpTo, is_letter, units_of, ReadsBase, ReadsType}
+use Rattle.names.specs.private.TypeEnds.{goes_on_at, GoesOnUpTo, is_letter, units_of, ReadsBase, ReadsType}
 use Rattle.names.proofs.FieldReader.{class_on, class_end, field_base, primitive_has_letter}
 use Rattle.names.proofs.Steps.{brackets, base_is_class, base_is_primitive, field_is_read}
 

@@ -12,4 +12,6 @@ IsFieldAnswer bytes r = MatchResult r (λ f. field_answer bytes ≡ Ok (type_of 
 
 -- memory may have run out in place of any answer
 abbrev pub IsMethodAnswer : Bool → List ℕ → Result MethodType NameFault → Type 0
-IsMethodAnswer receiver bytes r = MatchResult r (λ m. method_answer receiver bytes ≡ Ok (method_of m)) (λ e. (e ≡ OutOfMemory) ⊎ (method_answer receiver bytes ≡ Err e))
+IsMethodAnswer receiver bytes r =
+    MatchResult r (λ m. method_answer receiver bytes ≡ Ok (method_of m))
+    (λ e. (e ≡ OutOfMemory) ⊎ (method_answer receiver bytes ≡ Err e))

@@ -64,7 +64,8 @@ result_spelling None = void_letter ∷ []
 result_spelling (Some t) = field_spelling t
 
 abbrev pub method_spelling : MethodDescriptor → List ℕ
-method_spelling m = left_parenthesis ∷ (flat_map field_spelling m.params ++ right_parenthesis ∷ result_spelling m.result)
+method_spelling m = left_parenthesis
+    ∷ (flat_map field_spelling m.params ++ right_parenthesis ∷ result_spelling m.result)
 
 -- each class in the type goes by a class name
 abbrev pub IsWellNamed : FieldDescriptor → Type 0

@@ -1,4 +1,4 @@
--- Of which forms of names a text is (JVMS 4.2). Words of the code's own steps.
+-- The forms of names that a text has (JVMS 4.2). Words of the code's own steps.
 use Rattle.std.specs.Prelude.{◌≡◌, ◌↔◌, ◌≤◌, ◌<◌, ◌+◌, ℕ, Bool, true, not, ◌&&◌, ◌||◌, nat_eq, if◌then◌else◌, IsTrue, List, length, slice_index}
 use Rattle.std.specs.Int.{w64, trailing_zeros}
 use Rattle.names.specs.Names.{slash, is_name_unit, is_angle, IsUnqualifiedName, IsMethodName, IsClassName}
@@ -36,10 +36,12 @@ pub record IsPlainUpTo (bytes : List ℕ) (at end : ℕ) : Type 0 where
 abbrev pub first_set : ℕ → ℕ → ℕ
 first_set mask n = if nat_eq mask 0 then n else trailing_zeros w64 mask
 
--- a byte of a class name that the next may follow: no other than those of unqualified names and the slash, and not two slashes
+-- a byte of a class name that the next may follow: no other than those of unqualified names and the slash, and not two
+-- slashes
 abbrev pub joins : ℕ → ℕ → Bool
 joins b next = (is_name_unit b || nat_eq b slash) && not (nat_eq b slash && nat_eq next slash)
 
 -- each byte from one place up to another, and the one behind it
 abbrev pub AreJoinedBetween : List ℕ → ℕ → ℕ → Type 0
-AreJoinedBetween bytes at end = (k : ℕ) → at ≤ k → k < end → joins (slice_index bytes k) (slice_index bytes (k + 1)) ≡ true
+AreJoinedBetween bytes at end = (k : ℕ) → at ≤ k → k < end
+    → joins (slice_index bytes k) (slice_index bytes (k + 1)) ≡ true

@@ -12,7 +12,7 @@ pub mod References
 pub mod Shapes
 pub mod StandardNames
 pub mod Texts
-pub mod TypeEnds
 pub mod Types
 pub mod Units
 pub mod UnitsLeft
+pub mod private

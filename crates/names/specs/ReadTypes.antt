@@ -61,8 +61,10 @@ pub record PassesMethod (bytes : List ℕ) (result : Option FieldRead) (rest : L
 
 -- what the limits leave of a method's types
 abbrev pub IsLimited : Bool → MethodDescriptor → Result MethodType NameFault → Type 0
-IsLimited receiver m r = MatchResult r (λ v. limited_method receiver (Ok m) ≡ Ok (method_of v)) (λ e. limited_method receiver (Ok m) ≡ Err e)
+IsLimited receiver m r = MatchResult r (λ v. limited_method receiver (Ok m) ≡ Ok (method_of v))
+    (λ e. limited_method receiver (Ok m) ≡ Err e)
 
 -- the same of types that are within their dimensions
 abbrev pub IsFitting : Bool → MethodDescriptor → Result MethodType NameFault → Type 0
-IsFitting receiver m r = MatchResult r (λ v. (method_of v ≡ m) × (method_width m receiver ≤ 255)) (λ e. (e ≡ TooWide) × (255 < method_width m receiver))
+IsFitting receiver m r = MatchResult r (λ v. (method_of v ≡ m) × (method_width m receiver ≤ 255))
+    (λ e. (e ≡ TooWide) × (255 < method_width m receiver))

@@ -63,7 +63,8 @@ primitive_before (Some p) b bytes = found (primitive p) bytes
 -- a type that is no array
 unfoldable pub read_base : List ℕ → Reading FieldDescriptor
 read_base [] = outside []
-read_base (b ∷ bytes) = if nat_eq b class_letter then mapped class (read_class true bytes) else primitive_before (primitive_of b) b bytes
+read_base (b ∷ bytes) = if nat_eq b class_letter then mapped class (read_class true bytes)
+    else primitive_before (primitive_of b) b bytes
 
 unfoldable pub read_field : List ℕ → Reading FieldDescriptor
 read_field [] = outside []

@@ -1,4 +1,5 @@
--- Reference types (JVMS 2.4): a class or an interface by the bytes of its name, or an array by the type of its components.
+-- Reference types (JVMS 2.4): a class or an interface by the bytes of its name, or an array by the type of its
+-- components.
 use Rattle.std.specs.Prelude.{ℕ, ◌+◌, Bool, true, false, if◌then◌else◌, nat_eq, List, [], ◌∷◌, Option, Some, None, Result, Ok}
 use Rattle.names.specs.declared.fault.NameFault.{NameFault}
 use Rattle.names.specs.Names.{bracket}

@@ -52,4 +52,5 @@ pub record SumsMethod (bytes : List ℕ) (m : Measured) (result : Option FieldRe
 -- what the limits leave of a method's types
 abbrev pub IsShapeWithin : Bool → MethodDescriptor → Result MethodShape NameFault → Type 0
 IsShapeWithin receiver m r =
-    MatchResult r (λ s. (limited_method receiver (Ok m) ≡ Ok m) × IsShapeOf receiver m s) (λ e. limited_method receiver (Ok m) ≡ Err e)
+    MatchResult r (λ s. (limited_method receiver (Ok m) ≡ Ok m) × IsShapeOf receiver m s)
+    (λ e. limited_method receiver (Ok m) ≡ Err e)

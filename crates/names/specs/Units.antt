@@ -15,7 +15,8 @@ two a (b ∷ bs) = if nat_le 128 b && nat_lt b 192 then shortest ((a - 192) * 64
 abbrev pub three : ℕ → List ℕ → Option (ℕ × ℕ)
 three a [] = None
 three a (b ∷ []) = None
-three a (b ∷ c ∷ bs) = if nat_le 128 b && nat_lt b 192 && nat_le 128 c && nat_lt c 192 then shortest (((a - 224) * 64 + (b - 128)) * 64 + (c - 128)) 2048 3 else None
+three a (b ∷ c ∷ bs) = if nat_le 128 b && nat_lt b 192 && nat_le 128 c && nat_lt c 192
+    then shortest (((a - 224) * 64 + (b - 128)) * 64 + (c - 128)) 2048 3 else None
 
 -- the unit and how many bytes it takes
 abbrev pub unit_at : List ℕ → Option (ℕ × ℕ)

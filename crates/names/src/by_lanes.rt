@@ -47,7 +47,8 @@ fn are_all_singly<K: ByLanes>(bytes: &[u8]) -> bool
     true
 }
 
-/// Whether sixteen bytes or more are seen to be of the kind, sixteen at a time. The last sixteen may begin before the others end.
+/// Whether sixteen bytes or more are seen to be of the kind, sixteen at a time. The last sixteen may begin before the
+/// others end.
 fn are_all_by_sixteen<K: ByLanes>(bytes: &[u8]) -> bool
     requires { 16 ≤ length bytes.now }
     ensures { result ≡ true → AreBetween K.is bytes.now 0 (length bytes.now) }

@@ -1,4 +1,4 @@
-//! Of which forms of names a text is, found in one pass over its bytes (JVMS 4.2).
+//! The forms of names that a text has, found in one pass over its bytes (JVMS 4.2).
 
 ghost use Rattle.std.specs.Prelude.{◌≡◌, ◌↔◌, IsTrue};
 ghost use Rattle.names.specs.Names.{IsUnqualifiedName, IsMethodName, IsClassName};

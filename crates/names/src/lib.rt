@@ -9,9 +9,9 @@
 //! - `text`: texts, and the units that they spell.
 //! - `name`: whether a text is a class name, a field's name or a method's name.
 //! - `forms`: the three of them in one pass.
-//! - `joined`: most class names, told by lanes.
+//! - `class_names`: most class names, told by lanes.
 //! - `by_lanes`: bytes of one kind, sixteen or eight at a time.
-//! - `single`: bytes that spell a unit each.
+//! - `one_byte_units`: bytes that spell a unit each.
 //! - `plain`: where bytes end with which each name goes on, as most do.
 //! - `base`, `descriptor`: the types that descriptors name, their widths, and their texts.
 //! - `reading`: the types of a descriptor's text.
@@ -26,19 +26,19 @@
 
 mod base;
 mod by_lanes;
+mod class_names;
 mod descriptor;
 mod fault;
 mod field_descriptor;
 mod forms;
-mod joined;
 mod name;
 mod name_run;
+mod one_byte_units;
 mod parameters;
 mod plain;
 mod reading;
 mod references;
 mod shape;
-mod single;
 mod standard;
 mod text;
 mod type_end;

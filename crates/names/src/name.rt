@@ -5,7 +5,7 @@ ghost use Rattle.names.specs.Names.{is_name_unit, is_angle, IsUnqualifiedName, I
 ghost use Rattle.names.specs.Reading.{mapped, goes_on, ends_class_name, read_class};
 ghost use Rattle.names.specs.Texts.{spelling};
 
-use crate::joined::is_seen_as_class_name;
+use crate::class_names::is_seen_as_class_name;
 use crate::plain::plain_end;
 use crate::text::Text;
 
@@ -65,7 +65,8 @@ fn is_class_name_by_front(name: &[u8]) -> bool
 pub(crate) fn class_name_front(bytes: &[u8]) -> (usize, bool)
     ensures within { result.0 ≤ length bytes.now }
     ensures ends { ends_class_name true bytes.now ≡ ends_class_name result.1 (drop result.0 bytes.now) }
-    ensures reads { read_class true bytes.now ≡ mapped (λ name. take result.0 bytes.now ++ name) (read_class result.1 (drop result.0 bytes.now)) }
+    ensures reads { read_class true bytes.now
+        ≡ mapped (λ name. take result.0 bytes.now ++ name) (read_class result.1 (drop result.0 bytes.now)) }
     ensures stops { (b : ℕ) (rest : List ℕ) → drop result.0 bytes.now ≡ b ∷ rest → goes_on result.1 b ≡ false }
 {
     let mut start = 0;

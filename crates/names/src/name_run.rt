@@ -3,7 +3,7 @@
 ghost use Rattle.std.specs.Prelude.{◌≡◌, ◌+◌, ◌≤◌, ◌<◌, ◌^◌, nat_eq, length};
 ghost use Rattle.names.specs.Names.{slash};
 ghost use Rattle.names.specs.Reading.{goes_on};
-ghost use Rattle.names.specs.TypeEnds.{AreStops, AreStopsUpTo, GoesOnUpTo};
+ghost use Rattle.names.specs.private.TypeEnds.{AreStops, AreStopsUpTo, GoesOnUpTo};
 
 use crate::name::is_name_byte;
 use std::simd::prelude::*;
@@ -46,8 +46,8 @@ fn run_end_of_few(bytes: &[u8], start: usize) -> usize
     at
 }
 
-/// For the first 64 bytes a bit each behind the first, where there are more than sixteen: set where no class name goes on
-/// with it, behind the byte before it.
+/// For the first 64 bytes a bit each behind the first, where there are more than sixteen: set where no class name goes
+/// on with it, behind the byte before it.
 pub(crate) fn stops_in_front(bytes: &[u8]) -> u64
     ensures { 16 < length bytes.now → AreStopsUpTo bytes.now (length bytes.now) result }
 {
@@ -64,8 +64,8 @@ pub(crate) fn stops_in_front(bytes: &[u8]) -> u64
     stops
 }
 
-/// The first place from one on where no class name goes on, behind the byte before it, or the end of the bytes. The bytes'
-/// `stops` are those of [`stops_in_front`].
+/// The first place from one on where no class name goes on, behind the byte before it, or the end of the bytes. The
+/// bytes' `stops` are those of [`stops_in_front`].
 #[inline(always)]
 pub(crate) fn name_end(bytes: &[u8], start: usize, stops: u64) -> usize
     requires behind { 1 ≤ start }

@@ -17,14 +17,16 @@ pub struct Parameters<'a> {
 
 /// The parameters that a method descriptor names, forwards and without a list of them (JVMS 4.3.3). Takes no memory.
 ///
-/// Of a text that is no method descriptor they end where no type of at most 255 dimensions stands:
+/// If the text is no method descriptor, they end where no type of at most 255 dimensions stands:
 /// [`method_type`](crate::method_type) tells whether it is one.
 pub fn parameter_types(text: Text<'_>) -> Parameters<'_>
-    // Of a text that is a descriptor, all its parameters in their order.
-    ensures named { (m : MethodDescriptor) → SpellsMethod text.entry.bytes.now m → AreWithinDimensions m → types_left result ≡ m.params }
+    // If the text is a descriptor: all its parameters in their order.
+    ensures named { (m : MethodDescriptor) → SpellsMethod text.entry.bytes.now m → AreWithinDimensions m
+        → types_left result ≡ m.params }
 
     // So says the word that computes, with or without a receiver.
-    ensures computed { (receiver : Bool) (m : MethodDescriptor) → method_answer receiver text.entry.bytes.now ≡ Ok m → types_left result ≡ m.params }
+    ensures computed { (receiver : Bool) (m : MethodDescriptor) → method_answer receiver text.entry.bytes.now ≡ Ok m
+        → types_left result ≡ m.params }
 {
     let bytes = text.bytes();
     if !is_first(bytes, b'(') {

@@ -40,7 +40,8 @@ pub(crate) fn is_first(bytes: &[u8], b: u8) -> bool
 
 /// A class name up to its `;`, and the bytes behind that.
 fn read_class(bytes: &[u8]) -> Result<(&[u8], &[u8]), Outside<'_>>
-    ensures { MatchResult result (λ x. read_class true bytes.now ≡ found x.0.now x.1.now) (λ e. read_class true bytes.now ≡ outside e.rest.now) }
+    ensures { MatchResult result (λ x. read_class true bytes.now ≡ found x.0.now x.1.now)
+        (λ e. read_class true bytes.now ≡ outside e.rest.now) }
 {
     let (front, fresh) = class_name_front(bytes);
     let (name, rest) = bytes.split_at(front);
@@ -74,7 +75,8 @@ fn primitive_of(letter: u8) -> Option<Primitive>
 
 /// A primitive type or a class, and the bytes behind it.
 fn read_base(bytes: &[u8]) -> Result<(Base<'_>, &[u8]), Outside<'_>>
-    ensures { MatchResult result (λ x. read_base bytes.now ≡ found (base_of x.0) x.1.now) (λ e. read_base bytes.now ≡ outside e.rest.now) }
+    ensures { MatchResult result (λ x. read_base bytes.now ≡ found (base_of x.0) x.1.now)
+        (λ e. read_base bytes.now ≡ outside e.rest.now) }
 {
     match bytes.split_first() {
         None => Err(Outside { rest: bytes }),
@@ -122,7 +124,8 @@ pub(crate) fn brackets(bytes: &[u8]) -> usize
 
 /// A field type, and the bytes behind it.
 pub(crate) fn read_field(bytes: &[u8]) -> Result<(FieldRead<'_>, &[u8]), Outside<'_>>
-    ensures { MatchResult result (λ x. read_field bytes.now ≡ found (type_read x.0) x.1.now) (λ e. read_field bytes.now ≡ outside e.rest.now) }
+    ensures { MatchResult result (λ x. read_field bytes.now ≡ found (type_read x.0) x.1.now)
+        (λ e. read_field bytes.now ≡ outside e.rest.now) }
 {
     let dims = brackets(bytes);
     let (_, rest) = bytes.split_at(dims);
@@ -162,7 +165,8 @@ fn judge_field(bytes: &[u8]) -> Result<FieldType<'_>, NameFault>
 pub fn field_type(text: Text<'_>) -> Result<FieldType<'_>, NameFault>
     // A type exactly where the text is its descriptor, and its dimensions are at most 255.
     ensures found { IfOk result (λ f. SpellsField text.entry.bytes.now (type_of f)) }
-    ensures accepted { (t : FieldDescriptor) → SpellsField text.entry.bytes.now t → dimensions t ≤ 255 → IsOkAnd result (λ f. type_of f ≡ t) }
+    ensures accepted { (t : FieldDescriptor) → SpellsField text.entry.bytes.now t → dimensions t ≤ 255
+        → IsOkAnd result (λ f. type_of f ≡ t) }
 
     // A refusal exactly where it holds of the text; it is never 1.
     ensures fault { IfErr result (λ e. IsFieldFault text.entry.bytes.now e) }
@@ -187,7 +191,8 @@ struct Params<'a> {
 
 impl<'a> Params<'a> {
     fn add(&mut self, field: FieldRead<'a>) -> Result<(), AllocError>
-        ensures { OnOk result ((types : List FieldDescriptor) → KeepsTypes self.old types → KeepsTypes self.new (types ++ type_read field.entry ∷ [])) }
+        ensures { OnOk result ((types : List FieldDescriptor) → KeepsTypes self.old types
+            → KeepsTypes self.new (types ++ type_read field.entry ∷ [])) }
     {
         match field.limited() {
             Err(_) => self.deep = true,
@@ -239,7 +244,8 @@ fn read_params<'a>(
 
 /// A field type or a `V`, and what stands behind it.
 pub(crate) fn read_result(bytes: &[u8]) -> Result<(Option<FieldRead<'_>>, &[u8]), Outside<'_>>
-    ensures { MatchResult result (λ x. read_result bytes.now ≡ found (option_map type_read x.0) x.1.now) (λ e. read_result bytes.now ≡ outside e.rest.now) }
+    ensures { MatchResult result (λ x. read_result bytes.now ≡ found (option_map type_read x.0) x.1.now)
+        (λ e. read_result bytes.now ≡ outside e.rest.now) }
 {
     if is_first(bytes, b'V') {
         let (_, after) = bytes.split_at(1);
@@ -277,7 +283,8 @@ fn limited<'a>(
     receiver: bool,
 ) -> Result<MethodType<'a>, NameFault>
     requires { length params.types.items ≤ 255 }
-    ensures { (types : List FieldDescriptor) → KeepsTypes params.entry types → IsLimited receiver (method_type types (option_map type_read returned.entry)) result }
+    ensures { (types : List FieldDescriptor) → KeepsTypes params.entry types
+        → IsLimited receiver (method_type types (option_map type_read returned.entry)) result }
 {
     if params.deep {
         return Err(NameFault::TooManyDimensions);
@@ -299,7 +306,8 @@ fn fitting<'a>(
 ) -> Result<MethodType<'a>, NameFault>
     requires few { length params.types.items ≤ 255 }
     requires shallow { params.deep ≡ false }
-    ensures { (types : List FieldDescriptor) → KeepsTypes params.entry types → IsFitting receiver (method_type types (option_map type_of returned.entry)) result }
+    ensures { (types : List FieldDescriptor) → KeepsTypes params.entry types
+        → IsFitting receiver (method_type types (option_map type_of returned.entry)) result }
 {
     if params.wide {
         return Err(NameFault::TooWide);
@@ -341,13 +349,16 @@ pub fn method_type(
 ) -> Result<MethodType<'_>, NameFault>
     // Types exactly where the text is their descriptor, and they are within the limits.
     ensures found { IfOk result (λ m. SpellsMethod text.entry.bytes.now (method_of m)) }
-    ensures within { IfOk result (λ m. AreWithinDimensions (method_of m) × (method_width (method_of m) receiver ≤ 255)) }
+    ensures within { IfOk result (λ m. AreWithinDimensions (method_of m)
+        × (method_width (method_of m) receiver ≤ 255)) }
     ensures few { IfOk result (λ m. vec_len m.params ≤ 255) }
-    ensures accepted { (m : MethodDescriptor) → SpellsMethod text.entry.bytes.now m → AreWithinDimensions m → method_width m receiver ≤ 255 → MatchResult result (λ v. method_of v ≡ m) (λ e. e ≡ OutOfMemory) }
+    ensures accepted { (m : MethodDescriptor) → SpellsMethod text.entry.bytes.now m → AreWithinDimensions m
+        → method_width m receiver ≤ 255 → MatchResult result (λ v. method_of v ≡ m) (λ e. e ≡ OutOfMemory) }
 
     // A refusal exactly where it holds of the text, or memory runs out.
     ensures fault { IfErr result (λ e. (e ≡ OutOfMemory) ⊎ IsMethodFault receiver text.entry.bytes.now e) }
-    ensures refused { (e : NameFault) → IsMethodFault receiver text.entry.bytes.now e → IsErrAnd result (λ d. (d ≡ OutOfMemory) ⊎ (d ≡ e)) }
+    ensures refused { (e : NameFault) → IsMethodFault receiver text.entry.bytes.now e
+        → IsErrAnd result (λ d. (d ≡ OutOfMemory) ⊎ (d ≡ e)) }
 
     // So says the word that computes.
     ensures computed { IsMethodAnswer receiver text.entry.bytes.now result }
@@ -357,7 +368,8 @@ pub fn method_type(
 
 /// Field types up to a `)`, of which none is kept, and what stands behind that.
 fn behind_params(bytes: &[u8]) -> Result<&[u8], Outside<'_>>
-    ensures { MatchResult result (λ rest. PassesParams bytes.now rest.now) (λ e. read_params (length bytes.now) bytes.now ≡ outside e.rest.now) }
+    ensures { MatchResult result (λ rest. PassesParams bytes.now rest.now)
+        (λ e. read_params (length bytes.now) bytes.now ≡ outside e.rest.now) }
 {
     let mut rest = bytes;
     'types: loop {
@@ -374,7 +386,8 @@ fn behind_params(bytes: &[u8]) -> Result<&[u8], Outside<'_>>
 
 /// The result behind parameters of which none is kept, and what stands behind it.
 fn read_returned(bytes: &[u8]) -> Result<(Option<FieldRead<'_>>, &[u8]), Outside<'_>>
-    ensures { MatchResult result (λ x. PassesMethod bytes.now x.0 x.1.now) (λ e. read_method bytes.now ≡ outside e.rest.now) }
+    ensures { MatchResult result (λ x. PassesMethod bytes.now x.0 x.1.now)
+        (λ e. read_method bytes.now ≡ outside e.rest.now) }
 {
     if !is_first(bytes, b'(') {
         return Err(Outside { rest: bytes });
@@ -408,14 +421,17 @@ fn judge_result(bytes: &[u8]) -> Option<FieldType<'_>>
 /// `None` stands as well for a text that is no method descriptor, and for a result of more than 255 dimensions:
 /// [`method_type`] tells these apart.
 pub fn result_type(text: Text<'_>) -> Option<FieldType<'_>>
-    // Of a text that is a descriptor, the result.
-    ensures named { (m : MethodDescriptor) → SpellsMethod text.entry.bytes.now m → AreWithinDimensions m → option_map type_of result ≡ m.result }
+    // If the text is a descriptor: the result.
+    ensures named { (m : MethodDescriptor) → SpellsMethod text.entry.bytes.now m → AreWithinDimensions m
+        → option_map type_of result ≡ m.result }
 
     // A type only where the text is a descriptor with this result.
-    ensures only { IfSome result (λ t. (m : MethodDescriptor) × SpellsMethod text.entry.bytes.now m × (m.result ≡ Some (type_of t))) }
+    ensures only { IfSome result (λ t. (m : MethodDescriptor) × SpellsMethod text.entry.bytes.now m
+        × (m.result ≡ Some (type_of t))) }
 
     // So says the word that computes, with or without a receiver.
-    ensures computed { (receiver : Bool) (m : MethodDescriptor) → method_answer receiver text.entry.bytes.now ≡ Ok m → option_map type_of result ≡ m.result }
+    ensures computed { (receiver : Bool) (m : MethodDescriptor) → method_answer receiver text.entry.bytes.now ≡ Ok m
+        → option_map type_of result ≡ m.result }
 {
     judge_result(text.bytes())
 }
@@ -432,12 +448,16 @@ pub fn one_method_type()
 
 /// The words that compute say of a field's descriptor what the grammar and the limits say.
 pub fn field_answers()
-    ensures named { (bytes : List ℕ) (t : FieldDescriptor) → (field_answer bytes ≡ Ok t) ↔ (SpellsField bytes t × (dimensions t ≤ 255)) }
+    ensures named { (bytes : List ℕ) (t : FieldDescriptor)
+        → (field_answer bytes ≡ Ok t) ↔ (SpellsField bytes t × (dimensions t ≤ 255)) }
     ensures refused { (bytes : List ℕ) (e : NameFault) → (field_answer bytes ≡ Err e) ↔ IsFieldFault bytes e }
 {}
 
 /// The words that compute say of a method's descriptor what the grammar and the limits say.
 pub fn method_answers()
-    ensures named { (receiver : Bool) (bytes : List ℕ) (m : MethodDescriptor) → (method_answer receiver bytes ≡ Ok m) ↔ (SpellsMethod bytes m × AreWithinDimensions m × (method_width m receiver ≤ 255)) }
-    ensures refused { (receiver : Bool) (bytes : List ℕ) (e : NameFault) → (method_answer receiver bytes ≡ Err e) ↔ IsMethodFault receiver bytes e }
+    ensures named { (receiver : Bool) (bytes : List ℕ) (m : MethodDescriptor)
+        → (method_answer receiver bytes ≡ Ok m)
+        ↔ (SpellsMethod bytes m × AreWithinDimensions m × (method_width m receiver ≤ 255)) }
+    ensures refused { (receiver : Bool) (bytes : List ℕ) (e : NameFault)
+        → (method_answer receiver bytes ≡ Err e) ↔ IsMethodFault receiver bytes e }
 {}

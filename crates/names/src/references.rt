@@ -29,8 +29,8 @@ fn array_of(t: FieldType<'_>) -> Option<RefType<'_>>
     }
 }
 
-/// The type that the text of a Class constant names (JVMS 4.4.1): an array's by its descriptor, any other by the name of
-/// a class. None where a text that begins like an array's is no descriptor of one. Takes no memory.
+/// The type that the text of a Class constant names (JVMS 4.4.1): an array's by its descriptor, any other by the name
+/// of a class. None where a text that begins like an array's is no descriptor of one. Takes no memory.
 pub fn reference_type(text: Text<'_>) -> Option<RefType<'_>>
     ensures { option_map reference_view result ≡ reference_type text.entry.bytes.now }
 {

@@ -7,7 +7,7 @@ ghost use Rattle.names.specs.Descriptors.{FieldDescriptor, field_width, result_t
 ghost use Rattle.names.specs.Reading.{outside, is_deep, read_params, read_method, method_type};
 ghost use Rattle.names.specs.ReadTypes.{type_read};
 ghost use Rattle.names.specs.Shapes.{Sums, OneMore, SumsParams, SumsMethod, IsShapeWithin, HasShape, IsShapeAnswer};
-ghost use Rattle.names.specs.TypeEnds.{AreStopsUpTo, SeesParams, SeesResult};
+ghost use Rattle.names.specs.private.TypeEnds.{AreStopsUpTo, SeesParams, SeesResult};
 
 use crate::base::{Base, Primitive};
 use crate::fault::NameFault;
@@ -150,7 +150,8 @@ impl Measured {
 
 /// Field types up to a `)`, which are measured, and what stands behind that.
 fn measure_params(bytes: &[u8]) -> Result<(Measured, &[u8]), Outside<'_>>
-    ensures { MatchResult result (λ x. SumsParams bytes.now x.0 x.1.now) (λ e. read_params (length bytes.now) bytes.now ≡ outside e.rest.now) }
+    ensures { MatchResult result (λ x. SumsParams bytes.now x.0 x.1.now)
+        (λ e. read_params (length bytes.now) bytes.now ≡ outside e.rest.now) }
 {
     let mut measured = Measured {
         units: 0,
@@ -174,7 +175,8 @@ fn measure_params(bytes: &[u8]) -> Result<(Measured, &[u8]), Outside<'_>>
 
 /// Parameters, which are measured, and a result, and what stands behind them.
 fn measure_method(bytes: &[u8]) -> Result<(Measured, Option<FieldRead<'_>>, &[u8]), Outside<'_>>
-    ensures { MatchResult result (λ x. SumsMethod bytes.now x.0 x.1 x.2.now) (λ e. read_method bytes.now ≡ outside e.rest.now) }
+    ensures { MatchResult result (λ x. SumsMethod bytes.now x.0 x.1 x.2.now)
+        (λ e. read_method bytes.now ≡ outside e.rest.now) }
 {
     if !is_first(bytes, b'(') {
         return Err(Outside { rest: bytes });
@@ -206,7 +208,8 @@ fn shape_within(
     receiver: bool,
 ) -> Result<MethodShape, NameFault>
     requires { measured.units ≤ 257 }
-    ensures { (types : List FieldDescriptor) → Sums measured types → IsShapeWithin receiver (method_type types (option_map type_read returned.entry)) result }
+    ensures { (types : List FieldDescriptor) → Sums measured types
+        → IsShapeWithin receiver (method_type types (option_map type_read returned.entry)) result }
 {
     let deep = measured.deep | is_deep(returned);
     if deep {

@@ -9,7 +9,7 @@ ghost use Rattle.names.specs.declared.fault.NameFault.TheVariants.{BadText, OutO
 
 use crate::by_lanes::are_few;
 use crate::fault::NameFault;
-use crate::single::{Single, is_single, single_in_block};
+use crate::one_byte_units::{Single, is_single, single_in_block};
 use std::alloc::{AllocError, Global};
 
 /// Bytes that are well-spelled modified UTF-8: each 16-bit unit in its shortest spelling, where 0 takes
@@ -113,13 +113,14 @@ pub fn unit_at(bytes: &[u8]) -> Option<(u16, usize)>
     }
 }
 
-/// Passes the unit at a place, which takes more bytes than one, and those behind it that do. `Err` has the place of the first unit
-/// without a right spelling.
+/// Passes the unit at a place, which takes more bytes than one, and those behind it that do. `Err` has the place of the
+/// first unit without a right spelling.
 fn past_longer(bytes: &[u8], from: usize) -> Result<usize, usize>
     requires within { from < length bytes.now }
     requires longer { is_single (slice_index bytes.now from) ≡ false }
     requires text { IsText (take from bytes.now) }
-    ensures { MatchResult result (λ at. (from < at) × (at ≤ length bytes.now) × IsText (take at bytes.now)) (λ at. bad_text bytes.now ≡ Some at) }
+    ensures { MatchResult result (λ at. (from < at) × (at ≤ length bytes.now) × IsText (take at bytes.now))
+        (λ at. bad_text bytes.now ≡ Some at) }
 {
     let mut at = from;
     'units: loop {
@@ -146,8 +147,8 @@ fn single_in_front(bytes: &[u8], at: usize) -> usize
     single_in_block(std::simd::u8x32::from_slice(&bytes[at..]))
 }
 
-/// Where the first unit without a right spelling begins, if the bytes in front of a place are a text. Lanes are asked where eight
-/// bytes in a row have spelled a unit each.
+/// Where the first unit without a right spelling begins, if the bytes in front of a place are a text. Lanes are asked
+/// where eight bytes in a row have spelled a unit each.
 fn first_bad(bytes: &[u8], from: usize) -> Option<usize>
     requires within { from ≤ length bytes.now }
     requires text { IsText (take from bytes.now) }
@@ -180,7 +181,8 @@ fn text_of(bytes: &[u8], bad: Option<usize>) -> Result<Text<'_>, NameFault>
     ensures accepted { IsText bytes.now → IsOk result }
     ensures fault { IfErr result (λ e. (at : ℕ) × (e ≡ BadText at) × FirstBad bytes.now at) }
     ensures refused { (at : ℕ) → FirstBad bytes.now at → result ≡ Err (BadText at) }
-    ensures exact { MatchResult result (λ _. bad_text bytes.now ≡ None) (λ e. (k : ℕ) × (e ≡ BadText k) × (bad_text bytes.now ≡ Some k)) }
+    ensures exact { MatchResult result (λ _. bad_text bytes.now ≡ None)
+        (λ e. (k : ℕ) × (e ≡ BadText k) × (bad_text bytes.now ≡ Some k)) }
 {
     match bad {
         None => Ok(Text { bytes }),
@@ -190,8 +192,8 @@ fn text_of(bytes: &[u8], bad: Option<usize>) -> Result<Text<'_>, NameFault>
 
 /// The bytes as a text (JVMS 4.4.7). Takes no memory.
 ///
-/// Refuses by 3 at the first byte of the first unit that has no right spelling there. Thirty-two bytes that spell a unit each are
-/// passed by one comparison of lanes; the last thirty-two may begin before the others end.
+/// Refuses by 3 at the first byte of the first unit that has no right spelling there. Thirty-two bytes that spell a
+/// unit each are passed by one comparison of lanes; the last thirty-two may begin before the others end.
 pub fn check_text(bytes: &[u8]) -> Result<Text<'_>, NameFault>
     // A text exactly where the bytes are the spelling of units.
     ensures text { IfOk result (λ t. (t.bytes.now ≡ bytes.now) × IsText bytes.now) }
@@ -202,7 +204,8 @@ pub fn check_text(bytes: &[u8]) -> Result<Text<'_>, NameFault>
     ensures refused { (at : ℕ) → FirstBad bytes.now at → result ≡ Err (BadText at) }
 
     // So says the word that computes.
-    ensures exact { MatchResult result (λ _. bad_text bytes.now ≡ None) (λ e. (k : ℕ) × (e ≡ BadText k) × (bad_text bytes.now ≡ Some k)) }
+    ensures exact { MatchResult result (λ _. bad_text bytes.now ≡ None)
+        (λ e. (k : ℕ) × (e ≡ BadText k) × (bad_text bytes.now ≡ Some k)) }
 {
     if are_few::<Single>(bytes) {
         return text_of(bytes, None);

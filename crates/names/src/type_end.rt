@@ -2,7 +2,7 @@
 
 ghost use Rattle.std.specs.Prelude.{◌≡◌, ◌≤◌, ◌<◌, length, slice_index};
 ghost use Rattle.names.specs.Descriptors.{class_letter};
-ghost use Rattle.names.specs.TypeEnds.{units_of, is_letter, AreStopsUpTo, ReadsBase, ReadsType};
+ghost use Rattle.names.specs.private.TypeEnds.{units_of, is_letter, AreStopsUpTo, ReadsBase, ReadsType};
 
 use crate::name_run::name_end;
 use crate::reading::brackets;

@@ -95,11 +95,13 @@ indexed false last = entry last
 -- the entries of so many indices; `second` says that the first is the second index of a Long or Double
 unfoldable pub entries : ℕ → Bool → Format (List Entry)
 entries zero second = done []
-entries (suc n) second = andthen (indexed second (nat_eq n 0)) (λ e. andthen (entries n (is_wide e)) (λ others. done (e ∷ others)))
+entries (suc n) second = andthen (indexed second (nat_eq n 0))
+    (λ e. andthen (entries n (is_wide e)) (λ others. done (e ∷ others)))
 
 -- constant_pool_count, which is one more than the number of indices, and the entries (JVMS 4.1)
 unfoldable pub pool : Format (List Entry)
-pool = andthen (number 2) (λ count. if nat_eq count 0 then refuse (λ at. BadPoolCount (at - 2)) else entries (count - 1) false)
+pool = andthen (number 2) (λ count. if nat_eq count 0 then refuse (λ at. BadPoolCount (at - 2))
+    else entries (count - 1) false)
 
 -- ---- what an entry is written as: what may not stand where it does has no spelling, but counts with all its parts
 

@@ -8,4 +8,4 @@ pub mod Members
 pub mod Missing
 pub mod MemberViews
 pub mod TextPlaces
-pub mod KeptTexts
+pub mod private

@@ -1,5 +1,5 @@
--- Looking up in the constant pool by its list of entries (JVMS 4.1, 4.4): what stands at an index, and to what it leads.
--- A look-up follows its indices one after the other, and tells the first that is at fault.
+-- Looking up in the constant pool by its list of entries (JVMS 4.1, 4.4): what stands at an index, and to what it
+-- leads. A look-up follows its indices one after the other, and tells the first that is at fault.
 use Rattle.std.specs.Prelude.{◌≡◌, ◌≢◌, ℕ, ◌+◌, ◌-◌, Bool, true, false, List, nat_eq, if◌then◌else◌, Option, Some, None, Result, Ok, Err, slice_get}
 use Rattle.pool.specs.declared.fault.PoolFault.{PoolFault}
 use Rattle.pool.specs.declared.fault.PoolFault.TheVariants.{BadIndex, WrongKind}
@@ -71,7 +71,9 @@ pub record FieldOf : Type 0 where
 
 unfoldable pub member : List Entry → ℕ → ℕ → Result FieldOf PoolFault
 member es class name_and_type =
-    and_then (class_name_at es class) (λ c. and_then (name_and_type_at es name_and_type) (λ n. Ok (record { class = c; name = n.name; descriptor = n.descriptor })))
+    and_then (class_name_at es class)
+    (λ c. and_then (name_and_type_at es name_and_type)
+    (λ n. Ok (record { class = c; name = n.name; descriptor = n.descriptor })))
 
 abbrev pub field_ref_in : List Entry → ℕ → Entry → Result FieldOf PoolFault
 field_ref_in es index (Fieldref class name_and_type) = member es class name_and_type
@@ -89,7 +91,8 @@ pub record MethodOf : Type 0 where
 
 unfoldable pub method : List Entry → Bool → ℕ → ℕ → Result MethodOf PoolFault
 method es interface class name_and_type =
-    and_then (member es class name_and_type) (λ m. Ok (record { interface = interface; class = m.class; name = m.name; descriptor = m.descriptor }))
+    and_then (member es class name_and_type)
+    (λ m. Ok (record { interface = interface; class = m.class; name = m.name; descriptor = m.descriptor }))
 
 abbrev pub method_ref_in : List Entry → ℕ → Entry → Result MethodOf PoolFault
 method_ref_in es index (Methodref class name_and_type) = method es false class name_and_type
@@ -99,7 +102,8 @@ method_ref_in es index e = Err (WrongKind index)
 unfoldable pub method_ref_at : List Entry → ℕ → Result MethodOf PoolFault
 method_ref_at es index = and_then (entry_at es index) (method_ref_in es index)
 
--- ---- a constant that is computed, and a call that is bound when it is first made, each by its name and descriptor (JVMS 4.4.10)
+-- ---- a constant that is computed, and a call that is bound when it is first made, each by its name and descriptor
+-- (JVMS 4.4.10)
 
 abbrev pub dynamic_in : List Entry → ℕ → Entry → Result Named PoolFault
 dynamic_in es index (Dynamic bootstrap name_and_type) = name_and_type_at es name_and_type

@@ -7,10 +7,23 @@ use Rattle.pool.specs.declared.reference.CallSite.{CallSite as RawSite}
 use Rattle.pool.specs.Members.{FieldConstant, MethodConstant, CallSite}
 
 abbrev pub field_constant_view : RawField → FieldConstant
-field_constant_view f = record { class = f.class.now; name = f.name.now; descriptor = f.descriptor.now; type = type_of f.field_type }
+field_constant_view f = record {
+  class = f.class.now;
+  name = f.name.now;
+  descriptor = f.descriptor.now;
+  type =
+      type_of f.field_type;
+}
 
 abbrev pub method_constant_view : RawMethod → MethodConstant
-method_constant_view m = record { interface = m.interface; class = reference_view m.class; name = m.name.now; descriptor = m.descriptor.now; type = method_of m.method_type }
+method_constant_view m = record {
+  interface = m.interface;
+  class = reference_view m.class;
+  name =
+      m.name.now;
+  descriptor = m.descriptor.now;
+  type = method_of m.method_type;
+}
 
 abbrev pub call_site_view : RawSite → CallSite
 call_site_view s = record { name = s.name.now; type = method_of s.method_type }

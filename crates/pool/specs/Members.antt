@@ -1,5 +1,6 @@
--- The meaning of constants to an instruction that names them (JVMS 4.4.1, 4.4.2, 4.4.10): a reference type, a field or a method with its
--- types, a constant that is computed, or a call site. None where the constant is of another kind, or its texts are not of their forms.
+-- The meaning of constants to an instruction that names them (JVMS 4.4.1, 4.4.2, 4.4.10): a reference type, a field or
+-- a method with its types, a constant that is computed, or a call site. None where the constant is of another kind, or
+-- its texts are not of their forms.
 use Rattle.std.specs.Prelude.{ℕ, Bool, false, List, Option, Some, None, Result, Ok, Err}
 use Rattle.std.specs.Option.{option_and_then}
 use Rattle.names.specs.Descriptors.{FieldDescriptor, MethodDescriptor}
@@ -31,7 +32,8 @@ pub record FieldConstant : Type 0 where
 
 -- a field of a class, and of no array
 abbrev pub field_of_class : FieldOf → Option ReferenceType → Option FieldDescriptor → Option FieldConstant
-field_of_class f (Some (class_type name)) (Some type) = Some (record { class = name; name = f.name; descriptor = f.descriptor; type = type })
+field_of_class f (Some (class_type name)) (Some type) =
+    Some (record { class = name; name = f.name; descriptor = f.descriptor; type = type })
 field_of_class f _ _ = None
 
 abbrev pub field_constant : FieldOf → Option FieldConstant
@@ -51,7 +53,8 @@ pub record MethodConstant : Type 0 where
   pub type : MethodDescriptor
 
 abbrev pub method_of_class : MethodOf → Option ReferenceType → Option MethodDescriptor → Option MethodConstant
-method_of_class m (Some class) (Some type) = Some (record { interface = m.interface; class = class; name = m.name; descriptor = m.descriptor; type = type })
+method_of_class m (Some class) (Some type) =
+    Some (record { interface = m.interface; class = class; name = m.name; descriptor = m.descriptor; type = type })
 method_of_class m _ _ = None
 
 -- the descriptor is measured without a receiver

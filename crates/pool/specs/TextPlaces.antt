@@ -19,7 +19,18 @@ abbrev pub named_view : Text × TextAt → Named
 named_view x = record { name = x.0.bytes.now; descriptor = x.1.text.bytes.now }
 
 abbrev pub member_view : Member → FieldOf
-member_view m = record { class = m.class.text.bytes.now; name = m.name.bytes.now; descriptor = m.descriptor.text.bytes.now }
+member_view m = record {
+  class = m.class.text.bytes.now;
+  name = m.name.bytes.now;
+  descriptor =
+      m.descriptor.text.bytes.now;
+}
 
 abbrev pub method_view : Bool → Member → MethodOf
-method_view interface m = record { interface = interface; class = m.class.text.bytes.now; name = m.name.bytes.now; descriptor = m.descriptor.text.bytes.now }
+method_view interface m = record {
+  interface = interface;
+  class = m.class.text.bytes.now;
+  name =
+      m.name.bytes.now;
+  descriptor = m.descriptor.text.bytes.now;
+}

@@ -38,4 +38,10 @@ abbrev pub field_ref_view : FieldRef → FieldOf
 field_ref_view x = record { class = x.class.bytes.now; name = x.name.bytes.now; descriptor = x.descriptor.bytes.now }
 
 abbrev pub method_ref_view : MethodRef → MethodOf
-method_ref_view x = record { interface = x.interface; class = x.class.bytes.now; name = x.name.bytes.now; descriptor = x.descriptor.bytes.now }
+method_ref_view x = record {
+  interface = x.interface;
+  class = x.class.bytes.now;
+  name = x.name.bytes.now;
+  descriptor =
+      x.descriptor.bytes.now;
+}

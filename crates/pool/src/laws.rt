@@ -26,7 +26,8 @@ pub fn found_where_it_stands()
         → (invoke_dynamic_at es index ≡ Ok x) ↔ HasInvokeDynamic es index x }
 {}
 
-/// A refused look-up names the first index on its path at which nothing may be looked up, with 8, or nothing fitting stands, with 9.
+/// A refused look-up names the first index on its path at which nothing may be looked up, with 8, or nothing fitting
+/// stands, with 9.
 pub fn refused_where_nothing_fits()
     ensures refused { RefusedAreMissing }
     ensures one { OneIsMissing }

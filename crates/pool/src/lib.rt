@@ -6,7 +6,7 @@
 //!
 //! - `constant`: what stands at an index
 //! - `constant_pool`: the pool as one value, and as a part
-//! - `descriptors`: what a class, a field, a method, a computed constant or a call site is to the instructions that name it
+//! - `constant_types`: what a class, a field, a method, a computed constant or a call site is to the instructions that name it
 //! - `fault`: why a look-up fails
 //! - `kind`: the kinds of a method handle's reference
 //! - `laws`: what the look-ups find, by what stands where, without code
@@ -19,7 +19,7 @@
 
 mod constant;
 mod constant_pool;
-mod descriptors;
+mod constant_types;
 mod fault;
 mod kind;
 mod laws;
@@ -31,7 +31,7 @@ mod writing;
 
 pub use constant::Constant;
 pub use constant_pool::Pool;
-pub use descriptors::Descriptors;
+pub use constant_types::ConstantTypes;
 pub use fault::PoolFault;
 pub use kind::ReferenceKind;
 pub use laws::{found_where_it_stands, refused_where_nothing_fits};

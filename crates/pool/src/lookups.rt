@@ -95,7 +95,8 @@ impl<'a> Pool<'a> {
         Ok(name.text)
     }
 
-    /// The texts of the NameAndType at this index, the descriptor with its own; or 8 or 9 as [`name_and_type`](Pool::name_and_type).
+    /// The texts of the NameAndType at this index, the descriptor with its own; or 8 or 9 as
+    /// [`name_and_type`](Pool::name_and_type).
     #[tactic(auto, unfolding(crate::specs::Lookups::name_and_type_at))]
     fn name_and_descriptor(&self, index: u16) -> Result<(Text<'a>, TextAt<'a>), PoolFault>
         ensures found { Answers named_view (name_and_type_at self.now index) result }
@@ -119,7 +120,8 @@ impl<'a> Pool<'a> {
         })
     }
 
-    /// The texts that the Fieldref at this index leads to, with their own indices; or 8 or 9 as [`field_ref`](Pool::field_ref).
+    /// The texts that the Fieldref at this index leads to, with their own indices; or 8 or 9 as
+    /// [`field_ref`](Pool::field_ref).
     #[tactic(auto, unfolding(crate::specs::Lookups::field_ref_at))]
     pub(crate) fn field_member(&self, index: u16) -> Result<Member<'a>, PoolFault>
         ensures found { Answers member_view (field_ref_at self.now index) result }
@@ -148,8 +150,8 @@ impl<'a> Pool<'a> {
         })
     }
 
-    /// The texts that the Methodref or InterfaceMethodref at this index leads to, with their own indices, and which of the two it is; or 8 or 9 as
-    /// [`method_ref`](Pool::method_ref).
+    /// The texts that the Methodref or InterfaceMethodref at this index leads to, with their own indices, and which of
+    /// the two it is; or 8 or 9 as [`method_ref`](Pool::method_ref).
     #[tactic(auto, unfolding(crate::specs::Lookups::method_ref_at))]
     pub(crate) fn method_member(&self, index: u16) -> Result<(bool, Member<'a>), PoolFault>
         ensures found { Answers (λ x. method_view x.0 x.1) (method_ref_at self.now index) result }
@@ -182,7 +184,8 @@ impl<'a> Pool<'a> {
         })
     }
 
-    /// The texts that the Dynamic at this index leads to, the descriptor with its own; or 8 or 9 as [`dynamic`](Pool::dynamic).
+    /// The texts that the Dynamic at this index leads to, the descriptor with its own; or 8 or 9 as
+    /// [`dynamic`](Pool::dynamic).
     #[tactic(auto, unfolding(crate::specs::Lookups::dynamic_at))]
     pub(crate) fn dynamic_texts(&self, index: u16) -> Result<(Text<'a>, TextAt<'a>), PoolFault>
         ensures found { Answers named_view (dynamic_at self.now index) result }
@@ -194,8 +197,8 @@ impl<'a> Pool<'a> {
         }
     }
 
-    /// The texts of the Dynamic at this index (JVMS 4.4.10); or 8 or 9, with the first index at fault: this one, then those of the NameAndType, its
-    /// name and its descriptor.
+    /// The texts of the Dynamic at this index (JVMS 4.4.10); or 8 or 9, with the first index at fault: this one, then
+    /// those of the NameAndType, its name and its descriptor.
     pub fn dynamic(&self, index: u16) -> Result<NameAndType<'a>, PoolFault>
         ensures { Answers name_and_type_view (dynamic_at self.now index) result }
     {
@@ -206,7 +209,8 @@ impl<'a> Pool<'a> {
         })
     }
 
-    /// The texts that the InvokeDynamic at this index leads to, the descriptor with its own; or 8 or 9 as [`invoke_dynamic`](Pool::invoke_dynamic).
+    /// The texts that the InvokeDynamic at this index leads to, the descriptor with its own; or 8 or 9 as
+    /// [`invoke_dynamic`](Pool::invoke_dynamic).
     #[tactic(auto, unfolding(crate::specs::Lookups::invoke_dynamic_at))]
     pub(crate) fn invoke_dynamic_texts(
         &self,

@@ -8,7 +8,7 @@ use Rattle.names.specs.Forms.{AreIn}
 use Rattle.names.proofs.UnitLaws.{again_one, units_on_from, no_units}
 use Rattle.printing.specs.Names.{is_plain, unit_text}
 use Rattle.printing.specs.Json.{is_unescaped, character_text}
-use Rattle.printing.specs.Runs.{StandsAlone, StandIn, StandInFront}
+use Rattle.printing.specs.private.Runs.{StandsAlone, StandIn, StandInFront}
 use Rattle.printing.specs.Writing.{AppendsFront}
 use Rattle.printing.proofs.Writings.{SoFar, with_left, one_more, stops_inside, all_written}
 

@@ -13,7 +13,7 @@ Appends_kept (Some x) None c bs p q = absurd p
 Appends_kept (Some x) (Some y) None bs p q = absurd q
 Appends_kept (Some x) (Some y) (Some z) bs p q = q ∙ p
 
--- a beginning of what stands behind a text
+-- a text and a prefix of the text behind it are a prefix of both
 pub front_behind : (a b c : Option (List ℕ)) (xs ys : List ℕ) → Appends a b xs → AppendsFront b c ys → AppendsFront a c (xs ++ ys)
 front_behind a b c xs ys p q =
     let (front, rest, split, more) = q in
@@ -25,7 +25,7 @@ pub then_writes : (a b c : Option (List ℕ)) (xs ys : List ℕ) (r : Result (Un
 then_writes a b c xs ys (Ok u) p q = Appends-trans a b c xs ys p q
 then_writes a b c xs ys (Err e) p q = front_behind a b c xs ys p q
 
--- a beginning of the front is one of the whole
+-- a prefix of the front is a prefix of the whole
 pub front_of_more : (a b : Option (List ℕ)) (xs ys : List ℕ) → AppendsFront a b xs → AppendsFront a b (xs ++ ys)
 front_of_more a b xs ys p =
     let (front, rest, split, more) = p in

@@ -41,11 +41,11 @@ abbrev pub named_at : List Entry → Reading → ℕ → List ℕ
 named_at pool (Ok instructions) at = option_map_or (named_line pool) (at_offset instructions at) []
 named_at pool (Err fault) at = []
 
--- 0 stands for all classes
+-- the class that is caught; 0 stands for all classes
 abbrev pub caught_text : Within → List Entry → ℕ → List ℕ
 caught_text within pool index = if nat_eq index 0 then codes "any" else class_in within pool index
 
--- what is covered, from its start up to its end, and where it is handled
+-- the range that an entry covers, from its start up to its end, and its handler
 abbrev pub range_text : Handler → List ℕ
 range_text h = decimal h.start_pc ++ (codes " " ++ (decimal h.end_pc ++ (codes " " ++ decimal h.handler_pc)))
 

@@ -1,4 +1,4 @@
--- The line that tells the first difference of a frame that comes from the declared one (JVMS 4.10.1.4), and its fields.
+-- The line of the first difference of a frame that comes from the declared one (JVMS 4.10.1.4), and its fields.
 use Rattle.std.specs.Prelude.{ℕ, List, [], ◌∷◌, ◌++◌, codes, decimal}
 use Rattle.frames.specs.Differences.{MismatchFact, DifferenceFact, flag, local, sizes, item}
 use Rattle.printing.specs.Frames.{type_text}

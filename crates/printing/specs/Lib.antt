@@ -1,7 +1,6 @@
 pub mod Writing
 pub mod Faults
 pub mod Names
-pub mod Runs
 pub mod Instructions
 pub mod Frames
 pub mod Classes
@@ -11,3 +10,4 @@ pub mod NamesIn
 pub mod FaultFields
 pub mod Constants
 pub mod Parts
+pub mod private

@@ -14,12 +14,12 @@ abbrev pub name_in : Within → List ℕ → List ℕ
 name_in Words bytes = name_text bytes
 name_in Json bytes = flat_map character_text (units_of bytes)
 
--- of bytes that spell no text nothing
+-- the name in bytes that spell a text; nothing for other bytes
 abbrev pub spelled_in : Within → List ℕ → List ℕ
 spelled_in Words bytes = spelled_text bytes
 spelled_in Json bytes = flat_map character_text (spelled_units bytes)
 
--- of a constant that is not there nothing
+-- the name that was looked up in the constant pool; nothing where there is none
 abbrev pub looked_up_in : Within → Result (List ℕ) PoolFault → List ℕ
 looked_up_in within (Ok bytes) = name_in within bytes
 looked_up_in within (Err fault) = []

@@ -35,7 +35,7 @@ impl Print for Brackets {
     }
 }
 
-/// The descriptor of what the elements of an array are, below all dimensions.
+/// The descriptor of the type that the elements of an array have, below all dimensions.
 #[derive(Clone, Copy)]
 struct Elements<'a>(Within, Base<'a>);
 

@@ -10,7 +10,7 @@ use pool::Pool;
 use std::io::Write;
 use std::simd::prelude::*;
 
-/// A number in four small hexadecimal digits, as flags are written.
+/// A number in four lowercase hexadecimal digits, as flags are written.
 #[derive(Clone, Copy)]
 pub struct Hexadecimal(pub u16);
 

@@ -6,7 +6,7 @@ ghost use Rattle.printing.specs.Writing.{Writes};
 use itoa::{Buffer, Integer};
 use std::io::Write;
 
-/// A write failed or took nothing. What went out until then is a beginning of the text.
+/// A write failed or took nothing. A prefix of the text was written until then.
 #[derive(Debug, Clone, Copy)]
 pub struct WriteFailed;
 
@@ -37,7 +37,7 @@ pub fn put_bytes<W: Write>(out: &mut W, bytes: &[u8]) -> Result<(), WriteFailed>
     Ok(())
 }
 
-/// These characters, as they stand.
+/// A text that consists of these characters.
 #[derive(Clone, Copy)]
 pub struct Word<'a>(pub &'a str);
 

@@ -2,7 +2,7 @@
 ghost use Rattle.std.specs.Prelude.{◌≡◌, ◌+◌, ◌≤◌, ℕ, List, true, length};
 ghost use Rattle.std.specs.List.{flat_map};
 ghost use Rattle.names.specs.Units.{units_of};
-ghost use Rattle.printing.specs.Runs.{StandsAlone, StandIn, StandInFront};
+ghost use Rattle.printing.specs.private.Runs.{StandsAlone, StandIn, StandInFront};
 ghost use Rattle.printing.specs.Writing.{Writes};
 
 use crate::print::{WriteFailed, put_bytes};

@@ -1,7 +1,8 @@
 //! Reports on classes in play that no program shows.
 use classfile::{ClassFile, Formed, decode, form_check};
+use format_calls::making::K;
 use hierarchy::{Rows, summary_of};
-use lower_calls::making::{K, hasher, object};
+use lower_calls::making::{hasher, object};
 use std::alloc::Global;
 use std::test::*;
 use verify::{PlayFault, PlayRule, class_run_breadth, verified_is_playable, verify_play};

@@ -1,12 +1,13 @@
 //! Dynamic calls and constants: looked up, and judged and run where a profile asks for it.
 use crate::walks::{Stop, Walk, on, stop_of};
 use classfile::{Bootstraps, ClassFile, Formed, Profile, decode, form_check};
+use format_calls::making::{K, O, OUT_OF_MEMORY};
 use hierarchy::{Classes, Rows, summary_of};
 use insn::Act;
-use lower_calls::making::{K, O, OUT_OF_MEMORY, hasher, object};
+use lower_calls::making::{hasher, object};
 use machine::{Choice, State, Value};
 use names::{Base, FieldType, Primitive};
-use pool::{CallSite, Descriptors, Pool};
+use pool::{CallSite, ConstantTypes, Pool};
 use rules::Members;
 use std::alloc::{AllocError, Global};
 use std::collections::BTreeMap;
@@ -67,7 +68,7 @@ fn is_g(site: Option<&CallSite<'_>>) -> bool {
     }
 }
 
-fn has_constants(constants: &mut Descriptors<'_, '_>) -> Result<bool, AllocError> {
+fn has_constants(constants: &mut ConstantTypes<'_, '_>) -> Result<bool, AllocError> {
     let computed = is_int(constants.dynamic_type(11)?);
     let site = is_g(constants.call_site(15)?.as_ref());
     let none = constants.dynamic_type(15)?.is_none() && constants.call_site(11)?.is_none();
@@ -93,7 +94,7 @@ fn are_named<'a, C: Classes>(
     let Some(method) = formed.under(Profile::Dynamic).method(0) else {
         return Ok(false);
     };
-    let mut constants = Descriptors::new(alloc, &method.class.constant_pool);
+    let mut constants = ConstantTypes::new(alloc, &method.class.constant_pool);
     let mut members = Members::new(alloc, method.class, classes);
     let load = members.named(&mut constants, &method, &Act::LoadConstant { index: 11 })?;
     let call = members.named(&mut constants, &method, &Act::InvokeDynamic { index: 15 })?;
@@ -104,7 +105,7 @@ fn are_named<'a, C: Classes>(
 
 fn are_found<'a>(alloc: Global, formed: &Formed<'_, 'a>) -> Result<bool, AllocError> {
     let pool = &formed.class().constant_pool;
-    let found = has_texts(pool) && has_constants(&mut Descriptors::new(alloc, pool))?;
+    let found = has_texts(pool) && has_constants(&mut ConstantTypes::new(alloc, pool))?;
     let list = [object(alloc), summary_of(alloc, formed)?];
     match Rows::new(alloc, &list, hasher()) {
         Ok(classes) => {

@@ -1,11 +1,11 @@
 use answers::AnswerFault;
 use classfile::{FormFault, FormRule, Place};
 use command_line::{LineFault, MainFault};
+use format_calls::making::is_shown;
 use frames::FrameFault;
 use hierarchy::HierarchyFault;
 use insn::CodeFault;
 use layout::{ReadFault, StreamFault, WriteFault};
-use lower_calls::making::is_shown;
 use machine::StepFault;
 use names::NameFault;
 use pool::PoolFault;

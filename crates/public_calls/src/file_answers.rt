@@ -1,8 +1,9 @@
 //! The answer of each command on files, read or not, and how much of it a writer takes that fails.
 use answers::{AnswerFault, Command, Form, answer, one_answer};
 use classfile::Profile;
+use format_calls::making::{K, O};
 use layout::{ReadFault, StreamFault};
-use lower_calls::making::{K, O, hasher};
+use lower_calls::making::hasher;
 use std::alloc::{AllocError, Global};
 use std::io::{self, Write};
 use std::test::*;

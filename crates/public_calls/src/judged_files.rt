@@ -1,7 +1,8 @@
 //! Verdicts on the classes that many files are, each judged among all of them and known ones.
 use crate::verified_files::{UNREAD, falling, final_object, malformed, number_of};
 use classfile::Profile;
-use lower_calls::making::{K, O, OUT_OF_MEMORY, hasher};
+use format_calls::making::{K, O, OUT_OF_MEMORY};
+use lower_calls::making::hasher;
 use std::alloc::Global;
 use std::test::*;
 use verify::{EachFault, FileRead, Judgement, verify_each};

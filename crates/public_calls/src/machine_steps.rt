@@ -1,7 +1,8 @@
 //! Steps of methods of two bytes of code.
 use classfile::{ClassFile, Formed, decode, form_check};
+use format_calls::making::{CATCHING, OUT_OF_MEMORY, catching};
 use hierarchy::Rows;
-use lower_calls::making::{CATCHING, OUT_OF_MEMORY, catching, hasher, object, summary};
+use lower_calls::making::{hasher, object, summary};
 use machine::{Choice, Method, Outcome, RunType, Slot, State, Value, laws, step};
 use names::{OBJECT, THROWABLE};
 use std::alloc::{AllocError, Global};

@@ -1,6 +1,6 @@
 //! Steps of instructions that name constants or use objects, in a method of six bytes of code.
 use crate::machine_steps::step_of;
-use lower_calls::making::OUT_OF_MEMORY;
+use format_calls::making::OUT_OF_MEMORY;
 use machine::{Choice, Object, Outcome, RunType, Slot, State, Status, Value};
 use names::{Base, OBJECT};
 use std::alloc::{AllocFailed, Global};

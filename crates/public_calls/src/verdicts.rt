@@ -1,7 +1,8 @@
 //! Verdicts on methods and classes that no program shows.
 use classfile::{ClassFile, Formed, decode, encode, form_check};
+use format_calls::making::{K, catching};
 use hierarchy::{Rows, summary_of};
-use lower_calls::making::{K, catching, hasher, object};
+use lower_calls::making::{hasher, object};
 use std::alloc::{AllocError, Global};
 use std::test::*;
 use verify::{

@@ -1,6 +1,7 @@
 //! Verdicts on the classes that files are: alone, among known classes, and in play together.
+use format_calls::making::{K, O, OUT_OF_MEMORY};
 use layout::ReadFault;
-use lower_calls::making::{K, O, OUT_OF_MEMORY, hasher};
+use lower_calls::making::hasher;
 use std::alloc::Global;
 use std::test::*;
 use verify::{

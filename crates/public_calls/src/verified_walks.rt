@@ -2,8 +2,9 @@
 use crate::machine_steps::machine_method;
 use crate::walks::{Stop, Walk, on, stop_of, walk_from};
 use classfile::{ClassFile, Formed, decode, form_check};
+use format_calls::making::{K, OUT_OF_MEMORY};
 use hierarchy::{Rows, summary_of};
-use lower_calls::making::{K, OUT_OF_MEMORY, hasher, object};
+use lower_calls::making::{hasher, object};
 use machine::{Choice, State, Value};
 use std::alloc::{AllocError, Global};
 use std::collections::BTreeMap;

@@ -3,8 +3,9 @@
 use crate::machine_steps::machine_method;
 use crate::walks::on;
 use classfile::{Formed, decode, form_check};
+use format_calls::making::OUT_OF_MEMORY;
 use hierarchy::{Classes, Rows, Summary};
-use lower_calls::making::{OUT_OF_MEMORY, hasher, object, summary};
+use lower_calls::making::{hasher, object, summary};
 use machine::{Choice, Last, Method, Object, RunType, Status, Value, initial, walk};
 use names::{Base, OBJECT, Primitive, THROWABLE};
 use std::alloc::{AllocError, Global};

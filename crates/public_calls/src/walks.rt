@@ -1,8 +1,9 @@
 //! Walks of the machine, from states in which a method begins.
 use crate::machine_steps::machine_method;
 use classfile::{ClassFile, Formed, decode, form_check};
+use format_calls::making::{CATCHING, K, OUT_OF_MEMORY, catching};
 use hierarchy::{Classes, Rows};
-use lower_calls::making::{CATCHING, K, OUT_OF_MEMORY, catching, hasher, object, summary};
+use lower_calls::making::{hasher, object, summary};
 use machine::{Choice, Last, Method, RunType, StepFault, Value, Walked, initial, is_initial, walk};
 use names::{OBJECT, THROWABLE};
 use std::alloc::{AllocError, Global};

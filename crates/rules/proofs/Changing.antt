@@ -19,7 +19,7 @@ use Rattle.rules.specs.Ways.{keeps_locals, stored_to, special_index, is_plain}
 use Rattle.rules.specs.Naming.{method_index}
 use Rattle.rules.specs.Replacing.{ChangesOnly}
 
--- what becomes another wherever it is the object
+-- each type that is not the object's stays, where the object's is replaced
 each_other : (r : VerificationType → VerificationType) (object : VerificationType) → ((t : VerificationType) → is_initialized object t ≡ false → r t ≡ t) → r top ≡ top → (ts : List VerificationType) (i : ℕ)
     → is_initialized object (get_or ts i top) ≡ false → get_or (map r ts) i top ≡ get_or ts i top
 each_other r object keep same [] i e = refl

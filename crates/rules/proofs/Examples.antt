@@ -66,7 +66,7 @@ frame locals stack flag = record { locals = locals; stack = stack; flag = flag }
 abbrev judged : Act → FrameFact → Option Reason
 judged act f = least (conditions classes (method None false) 0 (typing_rule (method None false) act) f)
 
--- of two bootstrap methods the second one's handle is a Class
+-- two bootstrap methods; the handle of the second is a Class
 abbrev bootstraps : List BootstrapMethod
 bootstraps = record { handle = 18; arguments = 17 ∷ [] } ∷ record { handle = 1; arguments = [] } ∷ []
 

@@ -36,7 +36,7 @@ with_depth wide family = (reason 65, gives_frame family && wide) ∷ family
 redone_err : (a b : Option Refusing) (P : Type 0) (n : Refusing) → a ≡ b → P ⊎ (b ≡ Some n) → P ⊎ (a ≡ Some n)
 redone_err a b P n e o = elim o [ inl p ↦ inl p | inr q ↦ inr (e ∙ q) ]
 
--- the same outcome, for other conditions with the same least reason
+-- two lists of conditions with one least reason have one outcome
 pub redone : (cs ds : Conditions) (wanted other now : FrameFact) (r : Result Unit Reason) → least cs ≡ least ds → wanted ≡ other → Done ds other now r → Done cs wanted now r
 redone cs ds wanted other now (Ok u) e q d = record { outcome = (e ∙ d.outcome.0, d.outcome.1 ∙ sym q) }
 redone cs ds wanted other now (Err x) e q d = record { outcome = redone_err (least cs) (least ds) (x ≡ OutOfMemory) (reason_view x) e d.outcome }

@@ -1,4 +1,4 @@
--- What an instruction takes of the stack, and that the items beneath stay.
+-- An instruction takes items off the stack, and the items beneath stay.
 use Rattle.std.proofs.Common.{◌≡◌, ◌∙◌, ℕ, zero, suc, ◌+◌, ◌-◌, ◌<◌, ◌≤◌, Bool, true, false, ◌&&◌, not, nat_lt, nat_eq, List, [], ◌∷◌, ◌++◌, map, length, take, drop, reverse, get_or, max, Option, Some, None, IfSome, if◌then◌else◌, refl, sym, ap, subst, arith}
 use Rattle.std.proofs.lemmas.List.{reverse-append, take-append-drop, length-drop, length-reverse, get_or_append_left, get_or-map}
 use Rattle.names.specs.declared.base.Primitive.{Primitive}
@@ -37,12 +37,12 @@ use Rattle.rules.proofs.Made.{beneath_drops, count_on}
 
 -- ---- items from the bottom
 
--- what is pushed leaves those beneath
+-- a push leaves the items beneath
 pub pushed_on : (ys s : List VerificationType) (i : ℕ) → i < length s → item (ys ++ s) i ≡ item s i
 pushed_on ys s i lt =
     ap (λ l. get_or l i top) (reverse-append ys s) ∙ get_or_append_left (reverse s) (reverse ys) top i (omega (arith, lt, length-reverse s))
 
--- what is taken leaves those beneath
+-- taking items leaves the items beneath
 pub dropped : (n : ℕ) (s : List VerificationType) (i : ℕ) → i + n < length s → item (drop n s) i ≡ item s i
 dropped n s i lt =
     sym (pushed_on (take n s) (drop n s) i (omega (arith, lt, length-drop n s))) ∙ ap (λ l. item l i) (take-append-drop n s)
@@ -317,7 +317,7 @@ pub takes_at_most : (m : Method Act) (a : Act) → taken (typing_rule m a) ≤ m
 takes_at_most m (acts.InvokeSpecial i) = called_specially m.major_version m.class (method_at m.constant_pool i)
 takes_at_most m a = (takes m a refl).0
 
--- what calls no constructor leaves all items beneath
+-- an instruction that calls no `<init>` leaves all items beneath
 pub others : (m : Method Act) (a : Act) (f : FrameFact) (i : ℕ) → special_index a ≡ None → IsOther (typing_rule m a) f i
 others m a f i e = is_other (typing_rule m a) f i (takes m a e).1
 

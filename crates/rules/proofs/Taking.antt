@@ -28,7 +28,7 @@ both_yes yes = refl
 both_yes no = refl
 both_yes (missing n) = refl
 
--- what is still to be taken: `ws` from `us`
+-- the operands that are still to be taken: `ws` from `us`
 pub record Rest (cs : List ClassFact) (expected_types : List ExpectedType) (ts : List VerificationType) (a : Outcome) (ws : List ExpectedType) (us : List VerificationType) : Type 0 where
   pub short_is : is_short expected_types ts ≡ is_short ws us
   pub left_is : beneath expected_types ts ≡ beneath ws us

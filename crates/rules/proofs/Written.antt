@@ -26,14 +26,14 @@ freed_wide n [] e = refl
 freed_wide zero (x ∷ xs) e = ap (λ b. (if b then top else x) ∷ xs) e
 freed_wide (suc n) (x ∷ xs) e = ap (λ ys. x ∷ ys) (freed_wide n xs e)
 
--- what stands there before the store
+-- the local at the place before the store
 pub freed_same : (n : ℕ) (xs : List VerificationType) → get_or (with_half_free n xs) n top ≡ get_or xs n top
 freed_same n [] = refl
 freed_same zero (x ∷ xs) = refl
 freed_same (suc zero) (x ∷ xs) = refl
 freed_same (suc (suc n)) (x ∷ xs) = freed_same (suc n) xs
 
--- and behind it
+-- the local behind the place before the store
 pub freed_behind : (n : ℕ) (xs : List VerificationType) → get_or (with_half_free n xs) (suc n) top ≡ get_or xs (suc n) top
 freed_behind n [] = refl
 freed_behind zero (x ∷ xs) = refl

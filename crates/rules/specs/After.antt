@@ -102,15 +102,15 @@ element_of _ = top
 
 -- ---- objects that are not initialized
 
--- what a `new` at this offset leaves of what an earlier pass over it has made
+-- a `new` at this offset forgets the object that an earlier pass over it made
 abbrev pub forgotten : ℕ → VerificationType → VerificationType
 forgotten at t = if is_made_at at t then top else t
 
--- an object of which a constructor has returned is of its class from then on
+-- once an `<init>` of the receiver has returned, the receiver has the type of its class
 abbrev pub initialized : VerificationType → List ℕ → VerificationType → VerificationType
 initialized receiver name t = if is_initialized receiver t then class name else t
 
--- the own object becomes one of the current class, any other one of the class that was made
+-- the own object becomes one of the current class, any other object one of the class that `new` names
 abbrev pub class_after : Method Act → List ℕ → VerificationType → List ℕ
 class_after m name uninit_this = m.class
 class_after m name _ = name

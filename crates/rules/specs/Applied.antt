@@ -16,14 +16,14 @@ use Rattle.rules.specs.Rules.{conditions, constructs_own}
 use Rattle.rules.specs.Protected.{member_conditions}
 use Rattle.rules.specs.Reasons.{reason_view}
 
--- what is left where no condition holds
+-- the answer where no condition holds: the frame after, and where the instruction leads
 pub record Leaves (m : Method Act) (at : ℕ) (p : TypingRule) (f : FrameFact) (a : After) : Type 0 where
   pub frame_is : frame_of a.frame ≡ after m at p f
   pub targets_are : targets_of a.targets ≡ targets at p
   pub falls_is : a.falls ≡ falls p
   pub own_is : a.own ≡ constructs_own p f
 
--- of a missing class it is said whether the own object is constructed
+-- a refusal for a missing class says whether an `<init>` is called on the own object
 abbrev pub TellsOwn : TypingRule → FrameFact → Reason → Bool → Type 0
 TellsOwn p f (ClassMissing name) own = own ≡ constructs_own p f
 TellsOwn p f _ own = Unit {0}
@@ -32,7 +32,7 @@ TellsOwn p f _ own = Unit {0}
 abbrev pub all_conditions : List ClassFact → Method Act → ℕ → Act → TypingRule → FrameFact → Conditions
 all_conditions classes m at act p f = conditions classes m at p f ++ member_conditions classes m act f
 
--- After exactly where no condition holds; otherwise the least reason, or want of memory.
+-- The frame after exactly where no condition holds; otherwise the least reason, or that memory ran out.
 pub record Applied (classes : List ClassFact) (m : Method Act) (at : ℕ) (act : Act) (p : TypingRule) (f : FrameFact)
     (r : Result After Refusal) : Type 0 where
   pub outcome : MatchResult r

@@ -1,4 +1,4 @@
--- Which constants of a class name members that are guarded, as the program finds them. Words of the code's own steps.
+-- Which constants of a class name guarded members, as the program finds it out. Words of the code's own steps.
 use Rattle.std.specs.Prelude.{◌≡◌, ℕ, nat_eq, Bool, false, if◌then◌else◌, List, slice_get, length, map, Option, Some, None, Result, Ok, MatchOption}
 use Rattle.std.specs.Option.{option_and_then}
 use Rattle.names.specs.ReferenceTypes.{class_type}
@@ -51,7 +51,7 @@ key_by kind (Some (Class class)) (Some (NameAndType name descriptor)) =
     Some (record { kind = kind; class = class; name = name; descriptor = descriptor })
 key_by kind _ _ = None
 
--- of another class than the class itself
+-- the key of a member of another class; none for the class itself
 abbrev pub other_key : ClassFile → Kind → ℕ → ℕ → Option Key
 other_key c kind class name_and_type =
     if nat_eq class c.this_class then None
@@ -81,7 +81,7 @@ IsKeyed pool k r = read_key pool k ≡ Some (reference_of r)
 
 -- ---- answers
 
--- by the places of entries
+-- the thing that is kept for a place: the place has a number, and the thing has this number
 pub record IsPlaced {A : Type 0} (places : List ℕ) (kept : List A) (place : ℕ) (x : A) : Type 0 where
   pub number : ℕ
   pub placed : slice_get places place ≡ Some number
@@ -94,14 +94,15 @@ pub record AreKeyed (pool : List Entry) (rs : References) : Type 0 where
       → (r : MemberReference) × (read_key pool k ≡ Some r)
       × (slice_get (map reference_of rs.references.items) number ≡ Some r)
 
--- a reference is among them at this number, and those that were there are so at theirs
+-- the reference has this number now, and each that was there before has the number that it had
 pub record Numbers (pool : List Entry) (old now : References) (r : MemberReference) (number : ℕ) : Type 0 where
   pub here : slice_get (map reference_of now.references.items) number ≡ Some r
   pub kept : (n : ℕ) (x : MemberReference) → slice_get (map reference_of old.references.items) n ≡ Some x
       → slice_get (map reference_of now.references.items) n ≡ Some x
   pub keyed : AreKeyed pool now
 
--- the same of the reference to which an entry leads, if it leads to one
+-- the reference to which an entry leads, if it leads to one, has this number now, and each before has the number that
+-- it had
 pub record Reads (c : ClassFile) (e : Entry) (old now : References) (number : ℕ) : Type 0 where
   pub here : (r : MemberReference) → read_entry c e ≡ Some r
       → slice_get (map reference_of now.references.items) number ≡ Some r
@@ -128,7 +129,7 @@ pub record Surroundings : Type 0 where
 
 -- ---- what an instruction uses
 
--- the constant of this index, beneath so many operands
+-- the instruction uses the member that the constant of this index names, on an object beneath so many operands
 pub record IsUse (m : Method Act) (act : Act) (index above : ℕ) : Type 0 where
   pub member : Use
   pub used : used_by m act ≡ Some member

@@ -1,4 +1,4 @@
--- The frame that is meant by one that instructions are run on.
+-- The frame that a running frame stands for.
 use Rattle.std.specs.Prelude.{ℕ}
 use Rattle.frames.specs.FrameFact.{FrameFact}
 use Rattle.frames.specs.Locals as frames
@@ -9,6 +9,6 @@ use Rattle.rules.specs.declared.working.Working.{Working}
 abbrev pub held : Working → FrameFact
 held w = record { locals = locals_in w.locals w.max_locals; stack = stack_in w.stack; flag = w.flag }
 
--- the local is among those that came to hold an object which is not initialized, from a place on
+-- the local is one of the holders of an uninitialized object, from a place in their list on
 unfoldable pub IsHolder : Working → ℕ → ℕ → Type 0
 IsHolder w at i = frames.IsHolder w.locals at i

@@ -1,4 +1,4 @@
--- The answers of the calls of this crate.
+-- Words of the contracts of this crate's calls: what an answer says.
 use Rattle.std.specs.Prelude.{◌≡◌, ◌⊎◌, List, [], ◌∷◌, ◌++◌, false, Option, Some, None, Result, MatchResult}
 use Rattle.classfile.specs.Methods.{Method}
 use Rattle.hierarchy.specs.Class.{ClassFact}
@@ -19,23 +19,23 @@ use Rattle.rules.specs.Rules.{is_short, operands, is_too_wide}
 use Rattle.rules.specs.Reasons.{reason_view}
 
 -- Done exactly where no condition holds, and then the frame is the one that is wanted; otherwise the least reason, or
--- want of memory.
+-- that memory ran out.
 pub record Done (cs : Conditions) (wanted now : FrameFact) (r : Result Unit Reason) : Type 0 where
   pub outcome : MatchResult r (λ _. (least cs ≡ None) × (now ≡ wanted))
       (λ e. (e ≡ OutOfMemory) ⊎ (least cs ≡ Some (reason_view e)))
 
--- none of the conditions holds; or this is the least reason, or want of memory
+-- none of the conditions holds; or this is the least reason, or memory ran out
 pub record Judges (cs : Conditions) (r : Result Unit Reason) : Type 0 where
   pub outcome : MatchResult r (λ _. least cs ≡ None) (λ e. (e ≡ OutOfMemory) ⊎ (least cs ≡ Some (reason_view e)))
 
--- operands were there, with this answer, and this is left
+-- the stack has enough operands, this is the answer about their types, and this is the stack beneath them
 pub record Took (classes : List ClassFact) (expected_types : List ExpectedType) (stack : List VerificationType)
     (answer : Outcome) (left : List VerificationType) : Type 0 where
   pub enough : is_short expected_types stack ≡ false
   pub answer_is : operands classes expected_types stack ≡ answer
   pub left_is : left ≡ beneath expected_types stack
 
--- the same of a frame, which keeps all else
+-- a frame has enough operands on its stack, with this answer, and is left without them
 pub record TookOff (classes : List ClassFact) (expected_types : List ExpectedType) (f : FrameFact) (answer : Outcome)
     (left : FrameFact) : Type 0 where
   pub enough : is_short expected_types f.stack ≡ false
@@ -45,7 +45,7 @@ pub record TookOff (classes : List ClassFact) (expected_types : List ExpectedTyp
 abbrev pub pushed : List VerificationType → FrameFact → FrameFact
 pushed types f = with_stack f (types ++ f.stack)
 
--- what is left to judge of a frame: its depth, and a class that is missing
+-- the conditions on the frame after: its stack is too wide, or a class is missing
 abbrev pub settled : Method Act → Outcome → FrameFact → Conditions
 settled m answer f = (reason stack_over, is_too_wide m f) ∷ missing_if answer ∷ []
 

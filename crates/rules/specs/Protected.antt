@@ -36,7 +36,7 @@ method_reference owner c = record { class = owner; kind = kinds.Method; name = c
 abbrev pub field_use : List FieldDescriptor → FieldConstant → Use
 field_use above f = record { reference = field_reference f; above = above }
 
--- of an interface's method, and of one that an array is asked for, nothing is asked
+-- no condition is asked for a method of an interface, nor for one that is named by an array type
 abbrev pub method_use : MethodConstant → (interface : Bool) → ReferenceType → Option Use
 method_use c false (class_type name) = Some (record { reference = method_reference name c; above = c.type.params })
 method_use c _ _ = None
@@ -49,7 +49,7 @@ used_by m _ = None
 
 -- ---- the conditions on it
 
--- Whether an object may be one of a class. No array is, also where arrays are assignable to the class.
+-- Whether an object may be one of a class. No array is one, even if arrays are assignable to the class.
 abbrev pub object_answer : List ClassFact → List ℕ → VerificationType → Outcome
 object_answer classes name (array component) = no
 object_answer classes name t = type_answer classes t (class name)

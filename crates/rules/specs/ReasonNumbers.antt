@@ -1,5 +1,4 @@
--- The reasons by which an instruction, or with it its method, is refused (JVMS 4.10.1): each name stands for the number
--- by which the reason is told.
+-- The numbers with which an instruction, and with it its method, is refused (JVMS 4.10.1), by their names.
 use Rattle.std.specs.Prelude.{ℕ}
 
 -- memory ran out

@@ -1,4 +1,4 @@
--- The program's reasons, and their numbers.
+-- The reasons of the program by their numbers.
 use Rattle.std.specs.Prelude.{ℕ}
 use Rattle.frames.specs.Conditions.{Reason as Refusing, reason, class_missing, with_fault}
 use Rattle.rules.specs.declared.reason.Reason.{Reason}
@@ -30,7 +30,7 @@ reason_number (BadCode fault) = bad_code
 reason_number ProtectedMember = protected_member
 reason_number BadBootstrap = bad_bootstrap
 
--- what a reason says: the missing class by its name, and the fault of a stack map or of code by its number
+-- the meaning of a reason: the missing class by its name, and the fault of a stack map or of code by its number
 abbrev pub reason_view : Reason → Refusing
 reason_view (ClassMissing name) = class_missing name.now
 reason_view (BadStackMap fault) = with_fault 78 fault

@@ -51,7 +51,7 @@ abbrev pub own_or_answer : List ClassFact → List ℕ → VerificationType → 
 own_or_answer classes name uninit_this = yes
 own_or_answer classes name t = type_answer classes t (class name)
 
--- whether a type meets what is asked
+-- whether a type meets an expected type
 abbrev pub accepts : List ClassFact → ExpectedType → VerificationType → Outcome
 accepts classes (number kind) t = type_answer classes t (number_type kind)
 accepts classes (assignable_to type) t = type_answer classes t (to_reference type)
@@ -84,7 +84,7 @@ operand_conditions classes expected_types ts =
 abbrev pub is_outside : Method Act → ℕ → ℕ → Bool
 is_outside m n width = nat_lt m.max_locals (n + width)
 
--- of a local that is outside nothing is asked
+-- a local that is outside is not compared
 abbrev pub local_answer : List ClassFact → Method Act → ExpectedType → ℕ → ℕ → FrameFact → Outcome
 local_answer classes m expected n width f = if is_outside m n width then yes
     else accepts classes expected (local_of n f)

@@ -20,7 +20,7 @@ use Rattle.rules.specs.Constants.{is_bootstrapped, load_constant, load_wide_cons
 
 -- ---- returns: an instruction of another kind than the method's result is refused by wrong_return (76)
 
--- it takes an operand, and nothing comes behind it
+-- it takes an operand, and does not go on
 abbrev pub leaves_with : ExpectedType → TypingRule
 leaves_with expected = pops (expected ∷ []) [] [] false
 
@@ -140,7 +140,7 @@ typing_rule m acts.Monitor = takes (any_reference ∷ [])
 -- jsr, jsr_w, ret
 typing_rule m acts.Unsupported = refuses not_supported
 
--- what gives an instruction's typing rule, in a method
+-- a table of typing rules: for a method and an act the typing rule
 abbrev pub TypingRules : Type 0
 TypingRules = Method Act → Act → TypingRule
 

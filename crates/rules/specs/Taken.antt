@@ -53,12 +53,12 @@ at_most _ called site = 4
 
 -- ---- the items beneath
 
--- where a typing rule calls a constructor on an object, an item is of another one
+-- where a typing rule calls an `<init>` on an object, the item does not have the type of this object
 abbrev pub IsOther : TypingRule → FrameFact → ℕ → Type 0
 IsOther (constructs name expected_types) f i =
     is_initialized (top_of (beneath expected_types f.stack)) (item f.stack i) ≡ false
 IsOther _ f i = Unit {0}
 
--- so many items, from the bottom up, are those of another frame
+-- two frames have so many items in common, from the bottom up
 abbrev pub KeepsItems : ℕ → FrameFact → FrameFact → Type 0
 KeepsItems count f g = (i : ℕ) → i < count → item g.stack i ≡ item f.stack i

@@ -13,7 +13,7 @@ use Rattle.frames.specs.VerificationType.{VerificationType}
 use Rattle.frames.specs.Slots.{descriptor_type}
 use Rattle.rules.specs.ReasonNumbers.{not_supported, wrong_constant, wrong_return, bad_bootstrap}
 
--- what is asked of the type of an operand or local variable
+-- the expected type of an operand or a local variable
 pub data ExpectedType : Type 0 where
   number : (kind : Kind) → ExpectedType
   assignable_to : (type : ReferenceType) → ExpectedType
@@ -65,13 +65,13 @@ abbrev pub sizes : ℕ → List ExpectedType
 sizes zero = []
 sizes (suc n) = number kinds.Int ∷ sizes n
 
--- what a field or a parameter of a type takes
+-- the expected type of a value for a field or a parameter
 abbrev pub expected_of : FieldDescriptor → ExpectedType
 expected_of (primitive p) = number (computed_as p)
 expected_of (class_descriptor name) = assignable_to (class_type name)
 expected_of (array_descriptor component) = assignable_to (array_type component)
 
--- arguments on what stands beneath them, the last one on top
+-- the expected types of arguments, the last one first, and then those of the operands beneath them
 abbrev pub arguments_on : List FieldDescriptor → List ExpectedType → List ExpectedType
 arguments_on [] beneath = beneath
 arguments_on (t ∷ ts) beneath = arguments_on ts (expected_of t ∷ beneath)
@@ -84,15 +84,15 @@ result_types (Some t) = descriptor_type t ∷ []
 abbrev pub call_of : MethodDescriptor → TypingRule
 call_of type = pops (arguments_on type.params []) (result_types type.result) [] true
 
--- a typing rule where an instruction is judged, which is refused otherwise
+-- the typing rule where the instruction is judged; otherwise it is refused with 60
 abbrev pub where_judged : Bool → TypingRule → TypingRule
 where_judged judged typing_rule = if judged then typing_rule else refuses not_supported
 
--- a typing rule where a test holds, and otherwise the constant is refused
+-- the typing rule where a test holds; otherwise the constant is refused with 66
 abbrev pub where_allowed : Bool → TypingRule → TypingRule
 where_allowed allowed typing_rule = if allowed then typing_rule else refuses wrong_constant
 
--- a typing rule where the constant has a bootstrap method that may be used
+-- the typing rule where the constant has a bootstrap method that may be used; otherwise it is refused with 90
 abbrev pub where_bootstrapped : Bool → TypingRule → TypingRule
 where_bootstrapped bootstrapped typing_rule = if bootstrapped then typing_rule else refuses bad_bootstrap
 
@@ -101,7 +101,7 @@ where_bootstrapped bootstrapped typing_rule = if bootstrapped then typing_rule e
 abbrev pub falls : TypingRule → Bool
 falls (pops expected_types types offsets on) = on
 falls returns = false
--- of those that are refused, a return of another kind than the method's result would not go on
+-- a return of another kind than the method's result is refused, and would not go on
 falls (refuses n) = not (nat_eq n wrong_return)
 falls _ = true
 

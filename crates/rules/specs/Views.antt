@@ -1,4 +1,4 @@
--- The meaning of the program's values.
+-- The values of the definitions that the program's values stand for.
 use Rattle.std.specs.Prelude.{ℕ, zero, suc, if◌then◌else◌, List, [], ◌∷◌, map, reverse, Option, Some, None}
 use Rattle.frames.specs.declared.vtype.VType.{VType}
 use Rattle.frames.specs.VerificationType.{VerificationType, type_of, top}
@@ -15,7 +15,7 @@ stack_of types = reverse (map type_of types)
 abbrev pub locals_of : List VType → List VerificationType
 locals_of types = map type_of types
 
--- what is pushed
+-- the types that are pushed
 abbrev pub pushed_types : Option VType → List VerificationType
 pushed_types None = []
 pushed_types (Some t) = type_of t ∷ []

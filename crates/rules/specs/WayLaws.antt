@@ -1,5 +1,5 @@
--- Where an instruction goes is told by its act alone: so says its typing rule, in each method and for each constant
--- that it names.
+-- Where an instruction goes depends on its act alone: its typing rule goes on and branches as the act does, in each
+-- method and for each constant that it names.
 use Rattle.std.specs.Prelude.{◌≡◌}
 use Rattle.classfile.specs.Methods.{Method}
 use Rattle.insn.specs.Meanings.{Act}

@@ -1,4 +1,4 @@
--- The frame that instructions are run on: frames that it is or becomes.
+-- Frames that the running frame is or becomes.
 use Rattle.std.specs.Prelude.{ℕ, Bool, List, [], replicate}
 use Rattle.frames.specs.VerificationType.{VerificationType, top}
 use Rattle.frames.specs.FrameFact.{FrameFact}

@@ -24,7 +24,7 @@ use hierarchy::Classes;
 use insn::{BranchTargets, Insn, act};
 use std::alloc::Global;
 
-/// The frame and the ways that an instruction leaves that is not refused.
+/// The frame after an instruction that is not refused, and where the instruction leads.
 #[derive(Debug, Drop)]
 pub struct After<'a> {
     /// The frame after it.
@@ -42,8 +42,8 @@ pub struct After<'a> {
 pub struct Refusal<'a> {
     /// The least reason.
     pub reason: Reason<'a>,
-    /// Of a reason 77: whether it is an instance initialization method's call on the own object. It says nothing of
-    /// others.
+    /// Whether the instruction calls an `<init>` on the own object, where the reason is 77. It says nothing for other
+    /// reasons.
     pub own: bool,
 }
 
@@ -60,8 +60,8 @@ fn out_of_memory<'a>() -> Result<After<'a>, Refusal<'a>>
 
 /// Judges the instruction at an offset by its rule (JVMS 4.10.1.9). The frame before it has max_locals locals.
 ///
-/// Refused is, by the least number that holds, what the rule refuses (60 to 66, 74, 76, 77), or 77 or 82 for the
-/// protected member that it uses; or 1 where memory ran out.
+/// The instruction is refused with the least number that holds: one of its rule (60 to 66, 74, 76, 77, 90), or 77 or 82
+/// for the protected member that it uses; or with 1 where memory ran out.
 pub fn apply<'a, C: Classes>(
     alloc: Global,
     env: &Env<'_, '_, 'a, C>,

@@ -59,7 +59,7 @@ fn element_of<'a>(t: VType<'a>) -> VType<'a>
     }
 }
 
-/// The type of an element of the array that stands beneath an index; top where no two items are there.
+/// The type of an element of the array beneath an index; top where the stack has fewer than two items.
 fn element_beneath<'a>(stack: &[VType<'a>]) -> VType<'a>
     ensures { type_of result ≡ element_of (top_of (rest_of (stack_of stack.now))) }
 {
@@ -202,7 +202,7 @@ pub fn new_reference_array<'a, C: Classes>(
     }
 }
 
-/// So many sizes of dimensions.
+/// The expected types of so many sizes of dimensions.
 fn sizes<'a>(alloc: Global, count: u8) -> Result<Vec<ExpectedType<'a>>, AllocError>
     ensures { IfOk result (λ v. map expected_view v.items ≡ sizes count) }
 {

@@ -58,7 +58,7 @@ pub fn arguments_on<'a>(
     }
 }
 
-/// The type of what a method gives, if it gives something.
+/// The type of the result of a method, if it has one.
 pub fn result_of<'a>(result_type: Option<FieldType<'a>>) -> Option<VType<'a>>
     ensures { pushed_types result ≡ result_types (option_map type_of result_type.entry) }
 {
@@ -98,7 +98,7 @@ pub fn is_init(called: &MethodConstant<'_>) -> bool
     called.name == INIT
 }
 
-/// Whether `invokestatic` and `invokespecial` may name the method: an interface's from version 52 on (JVMS 4.9.1).
+/// Whether `invokestatic` and `invokespecial` may name the method: one of an interface from version 52 on (JVMS 4.9.1).
 pub fn may_name(major: u16, called: &MethodConstant<'_>) -> bool
     ensures { result ≡ may_name major (method_constant_view called.now).interface }
 {
@@ -230,7 +230,7 @@ fn may_be_called(site: &CallSite<'_>) -> bool
     }
 }
 
-/// A call of the call site that is named, where the class has a bootstrap method for it, which may be used.
+/// A call of the call site that is named, if the class has a bootstrap method for it that may be used.
 fn dynamic_call<'a, C: Classes>(
     method: &CodeMethod<'_, 'a>,
     named: Option<&CallSite<'a>>,

@@ -1,4 +1,4 @@
-//! The constants of a class, as its instructions name them.
+//! The constants of a class, and the types and members that its instructions name by them.
 ghost use Rattle.std.specs.Prelude.{◌≡◌, IfOk};
 ghost use Rattle.insn.specs.Views.{act_view};
 ghost use Rattle.rules.specs.Bodies.{method_view};
@@ -9,15 +9,16 @@ use crate::naming::Named;
 use classfile::{ClassFile, CodeMethod};
 use hierarchy::Classes;
 use insn::Act;
-use pool::Descriptors;
+use pool::ConstantTypes;
 use std::alloc::{AllocError, Global};
 
-/// The constants of a class, and what its instructions name by them, as far as it was looked up.
+/// The constants of a class, and the types and members that its instructions name by them. Part of what was looked up
+/// is kept.
 #[derive(Drop)]
 pub struct ClassConstants<'k, 'c, 'a, C: Classes> {
-    /// The types that they spell.
-    pub types: Descriptors<'c, 'a>,
-    /// The members that they name.
+    /// The types that the constants name.
+    pub types: ConstantTypes<'c, 'a>,
+    /// The members that the constants name.
     pub members: Members<'k, 'c, 'a, C>,
     ghost one: { types ≡ members.class.constant_pool },
 }
@@ -34,12 +35,12 @@ impl<'k, 'c, 'a, C: Classes> ClassConstants<'k, 'c, 'a, C> {
         ensures { result.members ≡ record { class = class.now; classes = C.content classes.now } }
     {
         ClassConstants {
-            types: Descriptors::new(alloc, &class.constant_pool),
+            types: ConstantTypes::new(alloc, &class.constant_pool),
             members: Members::new(alloc, class, classes),
         }
     }
 
-    /// Looks up what an instruction of the class that means this names. The only refusal is want of memory.
+    /// Looks up the constant that an instruction of the class with this act names. The only refusal: memory ran out.
     pub fn named(
         &mut self,
         method: &CodeMethod<'_, 'a>,

@@ -1,5 +1,5 @@
-//! Instructions that take operands off the stack and push a result: the rule of each in a function of its own, so that
-//! what one is given is not made for the others.
+//! Instructions that take operands off the stack and push a result. Each has a function of its own, so that the
+//! arguments of one are not built for the others.
 ghost use Rattle.std.specs.Prelude.{◌≡◌, [], ◌∷◌, true, false};
 ghost use Rattle.insn.specs.Acts.{numeric_row};
 ghost use Rattle.insn.specs.declared.operation.Kind.TheVariants.{Int};
@@ -37,7 +37,7 @@ pub fn takes_nothing<'a, C: Classes>(
     judge_left(method, Answer::Yes, frame)
 }
 
-/// A number of a kind onto the stack: `iconst_0` and its like
+/// Pushes a number of a kind: `iconst_0` and its like
 #[inline(never)]
 pub fn gives_number<'a, C: Classes>(
     method: &CodeMethod<'_, 'a>,
@@ -66,7 +66,7 @@ pub fn gives_null<'a, C: Classes>(
     gives(method, VType::Null, frame, classes)
 }
 
-/// Numbers to a number: `iadd` and its like
+/// Takes numbers and pushes a number: `iadd` and its like
 #[inline(never)]
 pub fn computes<'a, C: Classes>(
     method: &CodeMethod<'_, 'a>,
@@ -82,7 +82,7 @@ pub fn computes<'a, C: Classes>(
     pops(method, taken, Some(number_type(given)), frame, classes)
 }
 
-/// An `int` is compared with 0, or is the key of a switch.
+/// Takes an `int` that is compared with 0, or is the key of a switch.
 #[inline(never)]
 pub fn takes_int<'a, C: Classes>(
     method: &CodeMethod<'_, 'a>,
@@ -96,7 +96,7 @@ pub fn takes_int<'a, C: Classes>(
     pops(method, &[Kind::Int], None, frame, classes)
 }
 
-/// Two of `int` are compared.
+/// Takes two values of type `int`, which are compared.
 #[inline(never)]
 pub fn takes_ints<'a, C: Classes>(
     method: &CodeMethod<'_, 'a>,
@@ -110,7 +110,7 @@ pub fn takes_ints<'a, C: Classes>(
     pops(method, &[Kind::Int, Kind::Int], None, frame, classes)
 }
 
-/// A reference is compared with `null`, or its monitor is entered or left.
+/// Takes a reference that is compared with `null`, or whose monitor is entered or left.
 #[inline(never)]
 pub fn takes_reference<'a, C: Classes>(
     method: &CodeMethod<'_, 'a>,
@@ -124,7 +124,7 @@ pub fn takes_reference<'a, C: Classes>(
     pops(method, &[ExpectedType::Reference], None, frame, classes)
 }
 
-/// Two references are compared.
+/// Takes two references, which are compared.
 #[inline(never)]
 pub fn takes_references<'a, C: Classes>(
     method: &CodeMethod<'_, 'a>,

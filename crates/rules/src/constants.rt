@@ -19,8 +19,8 @@ use hierarchy::Classes;
 use names::{CLASS, FieldType, METHOD_HANDLE, METHOD_TYPE, STRING};
 use pool::Constant;
 
-/// A value of this type, which is to take so many units, where the class has a bootstrap method for the constant, which
-/// may be used.
+/// Pushes the value of a Dynamic constant of this type: 66 where there is no type or it takes another number of units,
+/// and 90 where the class has no bootstrap method for the constant that may be used.
 fn gives_computed<'a, C: Classes>(
     method: &CodeMethod<'_, 'a>,
     units: u8,
@@ -46,7 +46,7 @@ fn gives_computed<'a, C: Classes>(
     }
 }
 
-/// The load of a Dynamic constant of this type, which is to take so many units, where such constants are judged.
+/// Loads a Dynamic constant of this type, which has to take so many units: 60 where such constants are not judged.
 fn load_dynamic<'a, C: Classes>(
     method: &CodeMethod<'_, 'a>,
     units: u8,

@@ -37,7 +37,7 @@ fn class_made_at<'a, S: Starts>(
     }
 }
 
-/// Whether a class that may be known is the one of this name.
+/// Whether there is a class, and it has this name.
 fn is_name(known: Option<&[u8]>, name: &[u8]) -> bool
     ensures { result ≡ is_name (option_map (λ n. n.now) known.entry) name.now }
 {
@@ -47,8 +47,8 @@ fn is_name(known: Option<&[u8]>, name: &[u8]) -> bool
     }
 }
 
-/// Whether a constructor of the class may be called on the object: the own one takes those of its class and of the
-/// direct superclass, another one those of the class that was made.
+/// Whether a constructor of the class may be called on the object: on the own object, one of the current class or of
+/// its direct superclass; on another object, one of the class of which `new` made it.
 fn may_construct<S: Starts>(
     method: &CodeMethod<'_, '_>,
     starts: &S,

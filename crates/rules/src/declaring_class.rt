@@ -1,4 +1,4 @@
-//! The class that declares the method, and its superclass.
+//! The class that declares the method (the current class), and its superclass.
 ghost use Rattle.std.specs.Prelude.{◌≡◌, [], option_map};
 ghost use Rattle.classfile.specs.Methods.{class_named};
 ghost use Rattle.pool.specs.Members.{class_at};

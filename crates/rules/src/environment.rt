@@ -30,8 +30,8 @@ pub struct Env<'e, 'c, 'a, C: Classes> {
 }
 
 impl<'e, 'c, 'a, C: Classes> Env<'e, 'c, 'a, C> {
-    /// The environment of the method of this number, whose code this list is, as [`decode_code`](insn::decode_code)
-    /// answers it. The number, which counts from 0, is that of a method with a Code attribute. Takes no memory.
+    /// The environment of the method of this number, which counts from 0. The method has a Code attribute, and the list
+    /// is the answer of [`decode_code`](insn::decode_code) for its code. Takes no memory.
     pub fn new(
         formed: &Formed<'c, 'a>,
         number: usize,
@@ -41,10 +41,10 @@ impl<'e, 'c, 'a, C: Classes> Env<'e, 'c, 'a, C> {
         requires coded { IsSome (code_at (class_view formed.now.class.now) number) }
         requires listed { (body : CodeBody) → code_at (class_view formed.now.class.now) number ≡ Some body
             → SpellsCode 0 body.code (views list.now) }
-        // It judges by what the class file says of that method, with the instructions of the list.
+        // Its method is the one of this number in the class file, with the instructions of the list.
         ensures method { method_of (judged_class formed.now) number (acts (views list.now))
             ≡ Some (method_view result.method) }
-        // It holds what it was made of.
+        // It holds the list and the classes from which it was made.
         ensures here { IsAt formed.now number result.method }
         ensures list { result.list.now ≡ list.now }
         ensures classes { result.classes.now ≡ classes.now }

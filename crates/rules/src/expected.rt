@@ -8,7 +8,7 @@ ghost use Rattle.rules.specs.Rules.{accepts};
 ghost use Rattle.rules.specs.TypingRules.{ExpectedType, expected_class, number, expected_of};
 ghost use Rattle.rules.specs.Views.{expected_view};
 
-use crate::operands::{accepts, is_number, yes_if};
+use crate::operands::{accepts, is_number};
 use frames::VType;
 use hierarchy::{Answer, Classes};
 use insn::{Kind, computed_as};
@@ -51,7 +51,7 @@ pub fn throwable<'a>() -> ExpectedType<'a>
     ExpectedType::Assignable(RefType::Class(THROWABLE))
 }
 
-/// Something that stands for an expected type.
+/// A type whose values stand for expected types.
 pub trait Expected<'a>: Copy {
     ghost asked: { Self → ExpectedType };
 
@@ -68,11 +68,11 @@ impl<'a> Expected<'a> for ExpectedType<'a> {
     }
 }
 
-/// A number of the kind is asked.
+/// A kind stands for a number of this kind.
 impl<'a> Expected<'a> for Kind {
     ghost asked = { number };
 
     fn meets<C: Classes>(&self, t: &VType<'a>, classes: &C) -> Answer<'a> {
-        yes_if(is_number(*self, t))
+        Answer::yes_if(is_number(*self, t))
     }
 }

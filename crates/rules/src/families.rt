@@ -26,7 +26,8 @@ use hierarchy::{Answer, Classes};
 use insn::{Kind, computed_as};
 use names::{Base, FieldType, RefType};
 
-/// Judges what is left: 65, or 77 by the answer for what was taken, which is not no.
+/// Judges the frame after an instruction: 65 where its stack is wider than max_stack, and 77 where the answer about the
+/// operands is a missing class. The answer is not no.
 pub fn judge_left<'a>(
     method: &CodeMethod<'_, 'a>,
     answer: Answer<'a>,
@@ -44,7 +45,7 @@ pub fn judge_left<'a>(
     }
 }
 
-/// Pushes what an instruction gives, and judges what is left.
+/// Pushes the result of an instruction, and judges the frame after it.
 pub fn give<'a>(
     method: &CodeMethod<'_, 'a>,
     answer: Answer<'a>,
@@ -58,7 +59,7 @@ pub fn give<'a>(
     judge_left(method, answer, frame)
 }
 
-/// Pushes what an instruction gives, if it gives something, and judges what is left.
+/// Pushes the result of an instruction, if it has one, and judges the frame after it.
 pub fn settle<'a>(
     method: &CodeMethod<'_, 'a>,
     answer: Answer<'a>,
@@ -74,7 +75,7 @@ pub fn settle<'a>(
     }
 }
 
-/// Nothing to a result.
+/// Takes nothing and pushes a result.
 pub fn gives<'a, C: Classes>(
     method: &CodeMethod<'_, 'a>,
     t: VType<'a>,
@@ -88,7 +89,7 @@ pub fn gives<'a, C: Classes>(
     give(method, Answer::Yes, t, frame)
 }
 
-/// Pops the operands that are asked, the top first, and pushes a result.
+/// Pops operands of the expected types, the top one first, and pushes a result.
 pub fn pops<'a, A: Expected<'a>, C: Classes>(
     method: &CodeMethod<'_, 'a>,
     asked: &[A],
@@ -109,7 +110,7 @@ pub fn pops<'a, A: Expected<'a>, C: Classes>(
     }
 }
 
-/// A local variable onto the stack.
+/// Pushes a local variable.
 pub fn loads<'a, A: Expected<'a>, C: Classes>(
     method: &CodeMethod<'_, 'a>,
     ask: A,
@@ -137,7 +138,7 @@ pub fn loads<'a, A: Expected<'a>, C: Classes>(
     }
 }
 
-/// A number in a local variable onto the stack.
+/// Pushes the number in a local variable.
 #[inline(never)]
 pub fn loads_number<'a, C: Classes>(
     method: &CodeMethod<'_, 'a>,
@@ -154,7 +155,7 @@ pub fn loads_number<'a, C: Classes>(
     loads(method, kind, local, kind.units(), frame, classes)
 }
 
-/// A reference in a local variable onto the stack.
+/// Pushes the reference in a local variable.
 #[inline(never)]
 pub fn loads_reference<'a, C: Classes>(
     method: &CodeMethod<'_, 'a>,
@@ -170,7 +171,7 @@ pub fn loads_reference<'a, C: Classes>(
     loads(method, ExpectedType::Reference, local, 1, frame, classes)
 }
 
-/// An int in a local variable that is changed.
+/// Changes the `int` in a local variable: `iinc`
 #[inline(never)]
 pub fn counts<'a, C: Classes>(
     method: &CodeMethod<'_, 'a>,
@@ -260,7 +261,7 @@ pub fn return_reference<'a, C: Classes>(
     }
 }
 
-/// The type of the references that a method gives, if it gives references.
+/// The reference type that is the result of a method, if its result is one.
 fn reference_of_result<'a>(result_type: Option<FieldType<'a>>) -> Option<RefType<'a>>
     ensures { option_map reference_view result ≡ option_and_then referred_by (option_map type_of result_type.entry) }
 {
@@ -270,7 +271,7 @@ fn reference_of_result<'a>(result_type: Option<FieldType<'a>>) -> Option<RefType
     }
 }
 
-/// The kind of number that a method gives, if its result is a number.
+/// The kind of number that is the result of a method, if its result is a number.
 fn number_of_result(result_type: Option<FieldType<'_>>) -> Option<Kind>
     ensures { result ≡ result_kind (option_map type_of result_type.entry) }
 {

@@ -86,8 +86,8 @@ pub fn get_field<'a, C: Classes>(
     }
 }
 
-/// The expected type of `putfield` for the object: in an instance initialization method it may be the own one, where
-/// its class declares the field.
+/// The expected type of the object of a `putfield`: in an `<init>` it may be the own object, if the current class
+/// declares the field.
 fn target_of<'a>(
     _method: &CodeMethod<'_, 'a>,
     field: &FieldConstant<'a>,
@@ -103,8 +103,7 @@ fn target_of<'a>(
     }
 }
 
-/// `putfield` of the field that it names; `own` tells whether an instance initialization method sets a field of its own
-/// class.
+/// `putfield` of the field that it names; `own` says that an `<init>` sets a field of the current class.
 #[inline(never)]
 pub fn put_field<'a, C: Classes>(
     method: &CodeMethod<'_, 'a>,

@@ -1,5 +1,5 @@
-//! Which constants of a class name members that are guarded: protected ones, which it may use on objects of its own
-//! alone (JVMS 4.10.1.8).
+//! Which constants of a class name guarded members: protected members of superclasses in other packages, which the
+//! class may use only on objects of its own (JVMS 4.10.1.8).
 ghost use Rattle.std.specs.Prelude.{◌≡◌, true, false, [], List, option_map, slice_get, Some, IfOk, IfSome};
 ghost use Rattle.names.specs.References.{reference_view};
 ghost use Rattle.pool.specs.Entries.{Entry};
@@ -18,7 +18,7 @@ use pool::{Constant, Pool};
 use std::alloc::{AllocError, Global};
 use std::collections::BTreeMap;
 
-/// Texts of up to so many bytes are short: to read them takes little, however often it is done.
+/// Texts of up to so many bytes are short: a reference with short texts is put in again each time it is met.
 const SHORT: usize = 256;
 
 /// A reference to a member by the indices of its texts.
@@ -30,17 +30,17 @@ pub struct Key {
     descriptor: u16,
 }
 
-/// References to members, those of long texts once each.
+/// References to members. One with a long text is there only once.
 #[derive(Drop)]
 pub struct References<'a> {
     keys: Vec<Key>,
     references: Vec<MemberRef<'a>>,
-    // The numbers of those of long texts.
+    // The numbers of the references with a long text.
     long: BTreeMap<(u16, u16, u16), usize>,
 }
 
-/// Of each constant of a pool in turn a number, and answers by these numbers: of a Fieldref and a Methodref of another
-/// class than the class itself, whether the member that it names is guarded.
+/// For each constant of a pool in turn a number, and for each number an answer: whether the member is guarded that the
+/// constant names, if it is a Fieldref or a Methodref of a class other than the class itself.
 #[derive(Drop)]
 pub struct Guards {
     places: Vec<usize>,
@@ -129,7 +129,7 @@ fn read_key<'a>(pool: &Pool<'a>, key: Key) -> Option<MemberRef<'a>>
     })
 }
 
-/// The reference to which a constant leads, but for one of the class itself, with the indices of its texts.
+/// The reference to which a constant leads, with the indices of its texts; none for a member of the class itself.
 fn read_constant<'a>(class: &ClassFile<'a>, constant: Constant<'a>) -> Option<(Key, MemberRef<'a>)>
     ensures read { option_map (λ x. reference_of x.1) result ≡ read_entry class.now (view constant.entry) }
     ensures keyed { IfSome result (λ x. IsKeyed class.now.constant_pool x.0 x.1) }
@@ -157,7 +157,7 @@ fn is_same(one: Key, other: Key) -> bool
 }
 
 impl<'a> References<'a> {
-    /// None.
+    /// No reference.
     fn new(alloc: Global) -> References<'a>
         ensures none { result.references.items ≡ [] }
         ensures keyed { (pool : List Entry) → AreKeyed pool result }
@@ -186,7 +186,7 @@ impl<'a> References<'a> {
         Ok(number)
     }
 
-    // The number of a reference that is among these, if it was of long texts.
+    // The number of a reference that is there already, if it has a long text.
     fn find(&self, key: Key) -> Option<usize>
         ensures { IfSome result (λ n. slice_get self.now.keys.items n ≡ Some key) }
     {
@@ -198,7 +198,7 @@ impl<'a> References<'a> {
         }
     }
 
-    // The number of a reference.
+    // The number of a reference, which is put in unless it has a long text and is there already.
     fn number(
         &mut self,
         pool: &Pool<'_>,
@@ -237,7 +237,7 @@ fn number_of<'a>(
     }
 }
 
-/// The references to which the constants of a class lead, and for each constant in turn the number of its own.
+/// The references to which the constants of a class lead, and for each constant in turn the number of its reference.
 fn read_all<'a>(
     alloc: Global,
     class: &ClassFile<'a>,
@@ -254,7 +254,7 @@ fn read_all<'a>(
 }
 
 impl Guards {
-    /// The guards of a class among classes. The only refusal is want of memory.
+    /// The guards of a class among classes. The only refusal: memory ran out.
     pub fn new<'a, C: Classes>(
         alloc: Global,
         class: &ClassFile<'a>,
@@ -267,8 +267,8 @@ impl Guards {
         Ok(Guards { places, answers })
     }
 
-    /// Whether the member is guarded that the constant at an index names, which is a field or a method of another class
-    /// than the class itself.
+    /// Whether the member that the constant at an index names is guarded. The member is a field or a method of a class
+    /// other than the class itself.
     pub fn get(&self, index: u16) -> bool
         ensures { (classes : List ClassFact) (class : ClassFile) (r : MemberReference)
             → AreGuards classes class self.now → names_own class index ≡ false

@@ -44,7 +44,8 @@ fn without_receiver(site: Option<&CallSite<'_>>) -> usize
     }
 }
 
-/// How many items an instruction takes at most, where a call of its method takes so many, and one by its call site.
+/// How many items an instruction takes at most, where a call of its method takes `called` items, and a call of its call
+/// site `site`.
 fn at_most(act: &Act<'_>, called: usize, site: usize) -> usize
     ensures { result ≡ at_most (act_view act.now) called site }
 {
@@ -69,8 +70,8 @@ fn taken_by(method: &CodeMethod<'_, '_>, act: &Act<'_>, named: &Named<'_>) -> us
     at_most(act, called, site)
 }
 
-/// How many items from the bottom up, at most so many, stand in front of the first one that is of the object beneath
-/// the arguments of a call, where that is not initialized.
+/// How many items, from the bottom up and at most `limit`, stand in front of the first one that is the receiver of a
+/// call, where the receiver is not initialized.
 fn first_of_receiver(called: &MethodConstant<'_>, frame: &Working<'_>, limit: usize) -> usize
     ensures few { result ≤ limit }
     ensures other { let stack = (held frame.now).stack in

@@ -1,46 +1,58 @@
-//! The rules by which an instruction is verified (JVMS 4.10.1.9), family by family. Proved against the conditions in
-//! specs/Rules.antt and the frame after in specs/After.antt. The calls to know are [`Env::new`] and [`apply`], and
-//! [`run`], which changes the frame in place.
+//! The rules by which an instruction is verified (JVMS 4.10.1.9). Proved against the conditions in specs/Rules.antt and
+//! the frame after in specs/After.antt. The calls to know are [`run`], which changes the running frame in place, and
+//! [`apply`], which judges an instruction of an [`Env`] on a copy of a frame.
 //!
-//! - `reason`: why an instruction is refused.
-//! - `environment`: what an instruction is judged in.
-//! - `operands`: what is asked of operands, and how deep the stack is.
-//! - `families`: operands to results, loads, increments and returns.
-//! - `computing`: operands to a result, an instruction a function.
+//! The calls, and the frame:
+//!
+//! - `running`: the rule of an instruction, on the running frame: `run` calls the function of its family.
+//! - `applying`: the rule of an instruction, on a copy of a frame.
+//! - `working`: the running frame; `slots`: stores to its local variables.
+//! - `environment`: the method, its instructions, and the classes around it.
+//! - `reason`: why an instruction is refused; `merging`: the reasons of two judgements taken together.
+//! - `ways`: where an instruction goes, whether it is plain, and whether it leaves the locals as they are.
+//! - `kept_items`: how many items of the stack an instruction leaves as they are.
+//! - `replacing`: the uninitialized object whose type an instruction replaces in the locals.
+//!
+//! Instructions, family by family:
+//!
+//! - `expected`: the expected types of operands; `operands`: whether a type meets one, and how operands are taken.
+//! - `families`: what several families share; loads, increments and returns.
+//! - `computing`: instructions that take operands and push a result, each with a function of its own.
 //! - `stores`: stores to local variables.
-//! - `stacks`: instructions that move what is on the stack.
+//! - `stacks`: instructions that move items of the stack, such as `dup` and `swap`.
 //! - `constants`: instructions that load constants.
 //! - `fields`: instructions that read and write fields.
-//! - `calls`: instructions that call methods.
-//! - `special`: `invokespecial`.
-//! - `constructing`: calls of constructors.
-//! - `own_object`: whether a constructor is called on the own object.
+//! - `calls`: instructions that call methods, all but `invokespecial`.
+//! - `special`: `invokespecial`; `constructing`: its calls of `<init>`.
+//! - `own_object`: whether an `<init>` is called on the own object.
 //! - `making`: `new`.
-//! - `replacing`: objects that are not initialized, and the types that take their place.
-//! - `kept_items`: the items of the stack that an instruction leaves as they are.
-//! - `arrays`: instructions that make arrays and read their elements, and casts.
-//! - `naming`: what the constant is that an instruction names.
-//! - `declaring_class`: the class that declares the method, and its superclass.
-//! - `guards`: which constants name members that are guarded.
-//! - `members`: the members that the instructions of a class name; `class_constants`: its constants, as they name them.
-//! - `protected`: on which objects protected members may be used.
-//! - `merging`: the reasons of two judgements taken together.
-//! - `expected`: what is asked of an operand.
-//! - `running`: the rule of an instruction, on a frame in place.
-//! - `ways`: where an instruction goes, and whether it leaves the locals as they are.
-//! - `applying`: the rule of an instruction, on a copy of the frame.
+//! - `arrays`: instructions that make arrays and read and write their elements; `checkcast` and `instanceof`.
+//!
+//! The constants that instructions name:
+//!
+//! - `naming`: the constant that an instruction names, looked up.
+//! - `class_constants`: the constants of a class, with the types and members that its instructions name by them.
+//! - `members`: the members among these.
+//! - `guards`: which constants name guarded members.
+//! - `protected`: on which objects guarded members may be used.
+//! - `declaring_class`: the class that declares the method (the current class), and its superclass.
 //!
 //! Definitions:
 //!
 //! - `specs/TypingRules.antt`: what rules ask and do, family by family.
-//! - `specs/Constants.antt`: rules of instructions that name constants.
-//! - `specs/Table.antt`: the rule of each instruction.
+//! - `specs/Table.antt`: the typing rule of each instruction; `specs/Constants.antt`: of each that names a constant.
 //! - `specs/Naming.antt`: which constant an instruction names.
-//! - `specs/After.antt`: the frame after.
-//! - `specs/Rules.antt`: the conditions that refuse an instruction, with their numbers.
-//! - `specs/Protected.antt`: those on protected members.
-//! - `specs/Ways.antt`: where instructions go.
+//! - `specs/Rules.antt`: the conditions that refuse an instruction; `specs/Protected.antt`: the conditions on protected
+//!   members.
+//! - `specs/ReasonNumbers.antt`: the numbers of refusals by their names; `specs/Reasons.antt`: those of the code's
+//!   `Reason`.
+//! - `specs/After.antt`: the frame after; `specs/Replacing.antt`: an object whose type is replaced in it.
+//! - `specs/Ways.antt`: where instructions go; `specs/WayLaws.antt`: that their acts alone decide it.
 //! - `specs/Taken.antt`: how many items instructions take, and which stay.
+//! - `specs/Applied.antt`, `specs/Outcomes.antt`: the answers of `apply`, and of the other calls.
+//! - `specs/Views.antt`, `specs/Bodies.antt`, `specs/Held.antt`: the meaning of the code's values, of a method, and of
+//!   the running frame.
+//! - `specs/Working.antt`, `specs/Guards.antt`: words of the contracts of `working`, and of `guards` and `members`.
 #![tactic(auto)]
 
 mod applying;

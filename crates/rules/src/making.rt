@@ -18,8 +18,8 @@ use classfile::CodeMethod;
 use frames::VType;
 use hierarchy::Answer;
 
-/// An object of a class, made at an offset. What was made there before is forgotten in the locals, and must not be on
-/// the stack.
+/// Makes an object of a class at an offset. An object that was made there before is forgotten in the locals, and must
+/// not be on the stack.
 fn makes<'a>(
     method: &CodeMethod<'_, 'a>,
     at: u16,

@@ -1,5 +1,5 @@
-//! The members that the instructions of a class name: its own fields, its bootstrap methods, and which members of other
-//! classes are guarded.
+//! The fields and bootstrap methods of a class that its instructions name, and which members of other classes are
+//! guarded.
 ghost use Rattle.std.specs.Prelude.{◌≡◌};
 
 use crate::guards::{Guards, names_own};
@@ -7,12 +7,12 @@ use crate::naming::{Named, named_by};
 use classfile::{Bootstraps, ClassFile, CodeMethod, OwnFields};
 use hierarchy::Classes;
 use insn::Act;
-use pool::Descriptors;
+use pool::ConstantTypes;
 use std::alloc::{AllocError, Global};
 use std::marker::Model;
 
 /// The members that the instructions of a class name, among classes. Which of them are guarded is found for all at
-/// once, when it is first asked of a constant that does not name the class itself.
+/// once, at the first question about a constant that does not name the class itself.
 #[derive(Drop)]
 pub struct Members<'k, 'c, 'a, C: Classes> {
     alloc: Global,
@@ -57,11 +57,11 @@ impl<'k, 'c, 'a, C: Classes> Members<'k, 'c, 'a, C> {
         }
     }
 
-    /// Looks up what an instruction that means this names, by the constants, the fields and the bootstrap methods of
-    /// the class. The only refusal is want of memory.
+    /// Looks up the constant that an instruction with this act names, by the constants, the fields and the bootstrap
+    /// methods of the class. The only refusal: memory ran out.
     pub fn named(
         &mut self,
-        constants: &mut Descriptors<'_, 'a>,
+        constants: &mut ConstantTypes<'_, 'a>,
         method: &CodeMethod<'_, 'a>,
         act: &Act<'a>,
     ) -> Result<Named<'a>, AllocError>
@@ -80,7 +80,7 @@ impl<'k, 'c, 'a, C: Classes> Members<'k, 'c, 'a, C> {
         )
     }
 
-    // The guards, which are taken out.
+    // The guards, which are taken out of here, or made where they are not there.
     fn take_guards(&mut self) -> Result<Guards, AllocError>
         ensures same { self.new ≡ self.old }
         ensures guards { IfOk result (AreGuards self.old.classes self.old.class) }
@@ -91,8 +91,8 @@ impl<'k, 'c, 'a, C: Classes> Members<'k, 'c, 'a, C> {
         }
     }
 
-    /// Whether the constant at an index names a member that is guarded, where it is a field or a method of a class: one
-    /// that the class may use on objects of its own alone (JVMS 4.10.1.8). The only refusal is want of memory.
+    /// Whether the constant at an index names a guarded member, if it is a field or a method of a class: a member that
+    /// the class may use only on objects of its own (JVMS 4.10.1.8). The only refusal: memory ran out.
     pub fn is_guarded(&mut self, index: u16) -> Result<bool, AllocError>
         ensures same { self.new ≡ self.old }
         ensures found { IfOk result (λ b. (r : MemberReference) → IsReference self.old.class.constant_pool index r

@@ -5,7 +5,7 @@ ghost use Rattle.rules.specs.Outcomes.{Judges};
 
 use crate::reason::Reason;
 
-/// The lesser of two reasons, if there is another.
+/// The lesser of a reason and of another one, if there is another.
 pub fn first_reason<'a>(one: Reason<'a>, other: Result<(), Reason<'a>>) -> Reason<'a>
     ensures { (cs ds : Conditions) → Judges cs (Err one.entry) → Judges ds other.entry
         → Judges (cs ++ ds) (Err result) }

@@ -13,7 +13,7 @@ use crate::declaring_class::own_class;
 use classfile::{Bootstraps, CodeMethod, OwnFields};
 use insn::Act;
 use names::{FieldType, RefType};
-use pool::{CallSite, Constant, Descriptors, FieldConstant, MethodConstant, Pool};
+use pool::{CallSite, Constant, ConstantTypes, FieldConstant, MethodConstant, Pool};
 use std::alloc::AllocError;
 
 /// The thing that an instruction names, where the constant is one that it may name.
@@ -26,7 +26,7 @@ pub enum Named<'a> {
     /// Its field.
     Field {
         field: Option<FieldConstant<'a>>,
-        /// Whether it is `putfield` of a field of the class itself, in an instance initialization method.
+        /// Whether it is `putfield` of a field of the class itself, in an `<init>`.
         own: bool,
     },
     /// Its method.
@@ -34,13 +34,13 @@ pub enum Named<'a> {
     /// The type of the constant that it loads, where that is a Dynamic.
     Computed {
         computed: Option<FieldType<'a>>,
-        /// Whether the class has a bootstrap method for the constant, which may be used.
+        /// Whether the class has a bootstrap method for the constant that may be used.
         bootstrapped: bool,
     },
     /// Its call site.
     Site {
         site: Option<CallSite<'a>>,
-        /// Whether the class has a bootstrap method for the call site, which may be used.
+        /// Whether the class has a bootstrap method for the call site that may be used.
         bootstrapped: bool,
     },
 }
@@ -68,7 +68,7 @@ impl<'a> Named<'a> {
         }
     }
 
-    /// Whether it is a field of the class itself that an instance initialization method sets.
+    /// Whether it is a field of the class itself that an `<init>` sets.
     pub fn is_own(&self) -> bool
         ensures { result ≡ kept_own self.now }
     {
@@ -112,8 +112,8 @@ impl<'a> Named<'a> {
         }
     }
 
-    /// Whether the class has a bootstrap method for the constant that the instruction names, which may be used. Of a
-    /// constant that is no Dynamic and no InvokeDynamic nothing is asked.
+    /// Whether the class has a bootstrap method that may be used for the constant that the instruction names; true for
+    /// a constant that is neither a Dynamic nor an InvokeDynamic.
     pub fn is_bootstrapped(&self) -> bool
         ensures { result ≡ kept_bootstrapped self.now }
     {
@@ -126,8 +126,7 @@ impl<'a> Named<'a> {
     }
 }
 
-/// Whether the field that the Fieldref at an index names is one of the method's class, and the method an instance
-/// initialization method.
+/// Whether the method is an `<init>`, and its class declares the field that the Fieldref at an index names.
 fn is_own<'a>(
     fields: &mut OwnFields<'_, 'a>,
     method: &CodeMethod<'_, 'a>,
@@ -159,8 +158,8 @@ fn bootstrap_of(pool: &Pool<'_>, index: u16) -> Option<u16>
     }
 }
 
-/// Whether the class has a bootstrap method for the constant at an index, which may be used. Where such constants are
-/// refused, none is looked at.
+/// Whether the class has a bootstrap method for the constant at an index that may be used. Where such constants are
+/// refused, no bootstrap method is looked at.
 fn is_bootstrapped(
     bootstraps: &mut Bootstraps<'_, '_>,
     method: &CodeMethod<'_, '_>,
@@ -180,10 +179,10 @@ fn is_bootstrapped(
     bootstraps.has(number)
 }
 
-/// Looks up what an instruction that means this names, by the constants, the fields and the bootstrap methods of its
-/// class. The only refusal is want of memory.
+/// Looks up the constant that an instruction with this act names, by the constants, the fields and the bootstrap
+/// methods of its class. The only refusal: memory ran out.
 pub fn named_by<'a>(
-    constants: &mut Descriptors<'_, 'a>,
+    constants: &mut ConstantTypes<'_, 'a>,
     fields: &mut OwnFields<'_, 'a>,
     bootstraps: &mut Bootstraps<'_, 'a>,
     method: &CodeMethod<'_, 'a>,

@@ -1,4 +1,4 @@
-//! The expected types of operands.
+//! Whether a type meets an expected type, and how operands are taken off the stack.
 ghost use Rattle.std.specs.Prelude.{◌≡◌, List, true, map, MatchOption};
 ghost use Rattle.hierarchy.specs.Class.{ClassFact};
 ghost use Rattle.hierarchy.specs.Answer.{outcome_of, yes_if};
@@ -87,13 +87,6 @@ pub fn is_number(kind: Kind, t: &VType<'_>) -> bool
     }
 }
 
-/// Yes where it holds, and otherwise no.
-pub fn yes_if<'a>(holds: bool) -> Answer<'a>
-    ensures { outcome_of result ≡ yes_if holds }
-{
-    if holds { Answer::Yes } else { Answer::No }
-}
-
 /// Whether a type is that of the own object that is not initialized, or is assignable to a class.
 fn own_or_answer<'a, C: Classes>(name: &'a [u8], t: &VType<'a>, classes: &C) -> Answer<'a>
     ensures { outcome_of result ≡ own_or_answer (C.content classes.now) name.now (type_of t.now) }
@@ -104,22 +97,22 @@ fn own_or_answer<'a, C: Classes>(name: &'a [u8], t: &VType<'a>, classes: &C) -> 
     }
 }
 
-/// Whether a type meets what is asked.
+/// Whether a type meets an expected type.
 pub fn accepts<'a, C: Classes>(expected: ExpectedType<'a>, t: &VType<'a>, classes: &C) -> Answer<'a>
     ensures { outcome_of result ≡ accepts (C.content classes.now) (expected_view expected.entry) (type_of t.now) }
 {
     match expected {
         ExpectedType::Number(kind) => assignable(t, &number_type(kind), classes),
         ExpectedType::Assignable(to) => assignable(t, &reference_to(to), classes),
-        ExpectedType::Reference => yes_if(is_reference(t)),
-        ExpectedType::Array => yes_if(is_array(t)),
-        ExpectedType::ArrayFor(primitive) => yes_if(is_array_for(primitive, t)),
+        ExpectedType::Reference => Answer::yes_if(is_reference(t)),
+        ExpectedType::Array => Answer::yes_if(is_array(t)),
+        ExpectedType::ArrayFor(primitive) => Answer::yes_if(is_array_for(primitive, t)),
         ExpectedType::OwnOr(name) => own_or_answer(name, t, classes),
     }
 }
 
-/// Takes what is asked off the stack, the top first. None where there are too few items, and then nothing is said of
-/// those that are left.
+/// Takes operands of the expected types off the stack, the top one first. None where there are too few items; then
+/// nothing is said of the items that are left.
 pub fn take<'a, A: Expected<'a>, C: Classes>(
     asked: &[A],
     frame: &mut Working<'a>,

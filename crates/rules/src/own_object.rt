@@ -37,7 +37,7 @@ pub fn item_beneath<'a>(count: usize, stack: &[VType<'a>]) -> VType<'a>
     }
 }
 
-/// Whether `invokespecial` calls it as a constructor.
+/// Whether an `invokespecial` of this method calls an `<init>`.
 fn is_constructor(called: &MethodConstant<'_>) -> bool
     ensures { let c = method_constant_view called.now in
         result ≡ (is_init_name c && (is_class_type c.class && (not c.interface && has_room_for_receiver c))) }
@@ -75,8 +75,8 @@ pub fn special_index(act: &Act<'_>) -> Option<u16>
     }
 }
 
-/// Whether the instruction that means this calls a constructor on the own object, which is not initialized (JVMS
-/// 4.10.1.9, invokespecial).
+/// Whether an instruction with this act calls a constructor on the own object, which is not initialized (JVMS 4.10.1.9,
+/// invokespecial).
 pub fn constructs_own<'a>(
     method: &CodeMethod<'_, 'a>,
     act: &Act<'a>,

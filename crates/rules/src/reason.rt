@@ -57,7 +57,7 @@ pub enum Reason<'a> {
 }
 
 impl Reason<'_> {
-    /// The number by which this reason is told.
+    /// The number of this reason.
     pub fn number(&self) -> u8
         ensures { result ≡ reason_number self.now }
     {

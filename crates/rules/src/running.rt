@@ -39,9 +39,9 @@ use insn::Act;
 /// Runs the instruction at an offset on a frame, in place, by its rule (JVMS 4.10.1.9). The frame has max_locals
 /// locals, the starts are those of the method's code, and what the instruction names was looked up.
 ///
-/// Refused is, by the least number that holds, what the rule refuses (60 to 66, 74, 76, 77, 90); or 1 where memory ran
-/// out. Nothing is said of the frame then. Of the protected member that it uses [`check_member`](crate::check_member)
-/// judges, in the frame before it.
+/// The instruction is refused with the least number of its rule that holds (60 to 66, 74, 76, 77, 90), or with 1 where
+/// memory ran out; then nothing is said of the frame. The protected member that it uses is judged by
+/// [`check_member`](crate::check_member), in the frame before it.
 pub fn run<'a, S: Starts, C: Classes>(
     method: &CodeMethod<'_, 'a>,
     starts: &S,

@@ -16,7 +16,7 @@ pub fn falls(insn: &Insn<'_>) -> bool
     goes_on(&act(insn))
 }
 
-/// Whether an instruction that means this goes on to the next one, as [`falls`] says it of an instruction.
+/// Whether an instruction with this act goes on to the next one, as [`falls`] says it of an instruction.
 pub fn goes_on(act: &Act<'_>) -> bool
     ensures { result ≡ goes_on (act_view act.now) }
 {
@@ -31,8 +31,8 @@ pub fn goes_on(act: &Act<'_>) -> bool
     )
 }
 
-/// Whether an instruction that means this leaves all locals as they are: those that store do not, nor those by which
-/// objects that are not initialized are made or become initialized.
+/// Whether an instruction with this act leaves all locals as they are. Stores do not, nor do `new` and the calls of
+/// constructors.
 pub fn keeps_locals(act: &Act<'_>) -> bool
     ensures { result ≡ keeps_locals (act_view act.now) }
 {
@@ -42,7 +42,7 @@ pub fn keeps_locals(act: &Act<'_>) -> bool
     )
 }
 
-/// The local variable that an instruction that means this stores to, if it does.
+/// The local variable to which an instruction with this act stores, if it stores.
 pub fn stored_to(act: &Act<'_>) -> Option<u16>
     ensures { result ≡ stored_to (act_view act.now) }
 {
@@ -52,8 +52,8 @@ pub fn stored_to(act: &Act<'_>) -> Option<u16>
     }
 }
 
-/// Whether an instruction that means this goes on to the next one and nowhere else, is no `new`, and names no class,
-/// field, method, dynamic constant or call site that is looked up.
+/// Whether an instruction with this act is plain: it goes on to the next one and nowhere else, is no `new`, and names
+/// no class, field, method, dynamic constant or call site that is looked up.
 pub fn is_plain(act: &Act<'_>) -> bool
     ensures { result ≡ is_plain (act_view act.now) }
 {
@@ -87,7 +87,7 @@ pub fn branches<'a>(insn: &Insn<'a>) -> Branches<'a>
     branches_by(&act(insn))
 }
 
-/// Where an instruction that means this branches to.
+/// Where an instruction with this act branches to.
 pub fn branches_by<'a>(act: &Act<'a>) -> Branches<'a>
     ensures { branches_view result ≡ branch_offsets (act_view act.now) }
 {
@@ -102,8 +102,8 @@ pub fn branches_by<'a>(act: &Act<'a>) -> Branches<'a>
     }
 }
 
-/// A law: where an instruction goes hangs on its act alone. Its typing rule goes on and branches so in each method,
-/// whatever constant it names.
+/// A law: where an instruction goes depends on its act alone. Its typing rule goes on and branches as the act does, in
+/// each method and whatever constant it names.
 pub fn typing_rules_go_as_acts()
     ensures { TypingRulesGoAsActs }
 {}

@@ -1,4 +1,4 @@
-//! The frame that instructions are run on.
+//! The running frame, which instructions change in place.
 ghost use Rattle.std.specs.Prelude.{◌≡◌, ℕ, map, get_or, length, OnOk, IfSome};
 ghost use Rattle.frames.specs.DeclaredTables.{declared_view, AreKept};
 ghost use Rattle.frames.specs.Locals.{local, locals_in};
@@ -46,7 +46,7 @@ impl<'a> Working<'a> {
     ghost use Rattle.frames.specs.StackFitting.{AreStackFitting, AreStackFittingFor};
     ghost use Rattle.frames.specs.declared.declared_frames.DeclaredFrames.{DeclaredFrames};
 
-    /// With all locals top, and nothing on the stack.
+    /// A frame with all locals top and nothing on the stack.
     pub fn new(alloc: Global, max_locals: u16, flag: bool) -> Working<'a>
         ensures { held result ≡ empty_frame max_locals flag }
     {
@@ -138,7 +138,8 @@ impl<'a> Working<'a> {
         self.locals.below(usize::from(self.max_locals))
     }
 
-    /// Where the locals begin that came to hold an object which is not initialized.
+    /// The place in the list of holders from which the holders of an uninitialized object are found (see
+    /// [`holder`](Working::holder)): the locals that came to hold it.
     pub fn first_holder(&self, object: &VType<'_>) -> usize
         ensures { (i : ℕ) → get_or (held self.now).locals i top ≡ type_of object.now
             → IsSome (number_of (type_of object.now)) → IsHolder self.now result i }
@@ -146,7 +147,7 @@ impl<'a> Working<'a> {
         self.locals.first_holder(object)
     }
 
-    /// One of these, and where the others begin.
+    /// The holder at a place in the list, and the place of the next one; none where there are no more.
     pub fn holder(&self, at: usize) -> Option<Holder>
         ensures down { IfSome result (λ h. h.next < at) }
         ensures some { IfSome result (λ h. (i : ℕ) → i ≢ h.place → IsHolder self.now at i
@@ -163,8 +164,8 @@ impl<'a> Working<'a> {
         self.stack.types()
     }
 
-    /// How many items of the stack from the bottom up, at most so many, are of other types than this object, which is
-    /// not initialized: all in front of the first one that is of it.
+    /// How many items of the stack, from the bottom up and at most `limit`, stand in front of the first one that has
+    /// the type of this uninitialized object.
     pub fn items_before(&self, object: &VType<'_>, limit: usize) -> usize
         ensures few { result ≤ limit }
         ensures other { (i : ℕ) → i < result
@@ -192,9 +193,9 @@ impl<'a> Working<'a> {
         set_all(locals, &mut self.locals)
     }
 
-    /// Whether this frame may stand where one is declared (JVMS 4.10.1.4). Where its locals are known to fit another
-    /// frame of the same stack map, only those are compared that the two declared frames do not share, and of its items
-    /// those that are not known to fit.
+    /// Whether this frame is assignable to a declared one (JVMS 4.10.1.4). Where its locals are known to fit another
+    /// frame of the same stack map, only the locals are compared that the two declared frames do not share; of its
+    /// items, only the items are compared that are not known to fit.
     pub fn answer_for<C: Classes>(
         &self,
         declared: &Declared<'_, 'a>,
@@ -222,8 +223,8 @@ impl<'a> Working<'a> {
     }
 
     /// Becomes a declared frame, in the memory that it has. Where it has the locals of another frame of the same stack
-    /// map, this one may be `kept`: then only the locals are written that the two do not share. Nothing is said of the
-    /// locals and the stack where memory ran out.
+    /// map, that one may be `kept`: then only the locals are written that the two frames do not share. Nothing is said
+    /// of the locals and the stack where memory ran out.
     pub fn take_on(
         &mut self,
         declared: &Declared<'_, 'a>,

@@ -80,7 +80,7 @@ module _ (classes : List ClassFact) (c : JudgedClass) (number : ℕ) where
   given body xs method (Err OutOfMemory) has spelled says g = tt
   given body xs method (Err NotInHierarchy) has spelled says g = g
 
-  -- what is verified is type-safe
+  -- a method that is verified is type-safe
   pub type_safe_in : WellFormed c.file → HasVerdict classes c number verified → IsTypeSafeIn classes c number
   type_safe_in formed v =
       let code : v.method.code ≡ acts v.instructions =

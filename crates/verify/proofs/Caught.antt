@@ -10,7 +10,7 @@ use Rattle.frames.specs.FrameAssignable.{frame_answer}
 use Rattle.frames.specs.Conditions.{Reason, reason, class_missing, number_of, lesser, least}
 use Rattle.verify.specs.TypeSafety.{Frames, caught_frame}
 use Rattle.verify.specs.Verdict.{answer_conditions, one_handler, handler_conditions}
-use Rattle.verify.specs.Catching.{answer_at, caught_answer, caught_reason}
+use Rattle.verify.specs.private.Catching.{answer_at, caught_answer, caught_reason}
 use Rattle.rules.proofs.Lesser.{merge, least_append}
 
 least_answer : (a : Outcome) → least (answer_conditions 73 a) ≡ caught_reason a

@@ -21,11 +21,13 @@ use Rattle.verify.specs.declared.exceptions.Entry.{Entry}
 use Rattle.verify.specs.declared.handlers.Change.{Change}
 use Rattle.verify.specs.declared.handlers.Handlers.{Handlers}
 use Rattle.verify.specs.TypeSafety.{Frames, caught_frame}
-use Rattle.verify.specs.ExceptionTables.{entry_view}
-use Rattle.verify.specs.Catching.{answer_at}
-use Rattle.verify.specs.Keeping.{Keeps, IsSameBeneath}
-use Rattle.verify.specs.declared.keeping.Replaced.{Replaced}
-use Rattle.verify.specs.Handling.{Tracks, Takes, TakesAt, IsAmong, IsSettled, Follows, AreRepresented, HasBegun}
+use Rattle.verify.specs.private.ExceptionTables.{entry_view}
+use Rattle.verify.specs.private.Catching.{answer_at}
+use Rattle.verify.specs.private.Keeping.{Keeps, IsSameBeneath}
+use Rattle.verify.specs.declared.local_facts.Replaced.{Replaced}
+use Rattle.verify.specs.declared.representatives.Representative.{Representative}
+use Rattle.verify.specs.private.Handling.{Tracks, Takes, IsAmong, IsSettled, Follows, HasBegun}
+use Rattle.verify.specs.private.Representatives.{TakesAt, AreRepresented}
 use Rattle.verify.proofs.InTurn.{same_settled}
 use Rattle.verify.proofs.Tracking.{tracked_again, tracked_later, tracked_settled, tracked_moved, tracked_so}
 
@@ -116,12 +118,12 @@ same_locals_take classes n t (Some d) (Some k) e takes =
     let same : d.locals ≡ k.locals = cc in
     subst (λ (ls : List VerificationType). type_answer classes t (get_or ls n top) ≡ yes) (sym same) takes
 
-pub represented_take : (classes : List ClassFact) (frames : Frames) (n : ℕ) (t : VerificationType) (representatives : List ℕ) (settled : List Entry)
-    → All (λ (h : ℕ). TakesAt classes frames h n t) representatives → AreRepresented frames representatives settled → All (λ (e : Entry). Takes classes frames e n t) settled
+pub represented_take : (classes : List ClassFact) (frames : Frames) (n : ℕ) (t : VerificationType) (representatives : List Representative) (settled : List Entry)
+    → All (λ (r : Representative). TakesAt classes frames r.handler n t) representatives → AreRepresented frames representatives settled → All (λ (e : Entry). Takes classes frames e n t) settled
 represented_take classes frames n t representatives settled take represented = λ k d lt.
-    let (one, among, same) = represented k d lt in
-    same_locals_take classes n t (at_offset frames (get_or settled k d).handler) (at_offset frames one) same
-    (All-contains (λ (h : ℕ). TakesAt classes frames h n t) representatives one take among)
+    let (one, among, same) = represented.each k d lt in
+    same_locals_take classes n t (at_offset frames (get_or settled k d).handler) (at_offset frames one.handler) same
+    (All-contains (λ (r : Representative). TakesAt classes frames r.handler n t) representatives one take among)
 
 pub follows_taken : (classes : List ClassFact) (frames : Frames) (es : List ExceptionEntry) (at n : ℕ) (t : VerificationType) (f g : FrameFact) (h : Handlers) → g.flag ≡ f.flag → g.locals ≡ set f.locals n t
     → All (λ (e : Entry). Takes classes frames e n t) h.settled.items → Follows classes frames es at f h → Follows classes frames es at g h
@@ -130,10 +132,6 @@ follows_taken classes frames es at n t f g h b l take follows = (
       (λ k d lt. settled_stays classes frames h.taken.items at f g n t b l (get_or h.settled.items k d) (take k d lt) (follows.0.so k d lt)) follows.0,
   follows.1,
 )
-
--- more of them stand for no fewer
-pub represented_more : (frames : Frames) (old new : List ℕ) → ((h : ℕ) → Contains old h → Contains new h) → (settled : List Entry) → AreRepresented frames old settled → AreRepresented frames new settled
-represented_more frames old new more settled represented = λ k d lt. let (one, among, same) = represented k d lt in (one, more one among, same)
 
 -- ---- entries that are gone through
 
@@ -220,7 +218,7 @@ taken_none classes frames es taken at g by_start begun fresh settled t =
 -- all entries that were compared take one more change
 pub follows_more : (classes : List ClassFact) (frames : Frames) (es : List ExceptionEntry) (at : ℕ) (g : FrameFact) (h : Handlers) (x : Change) (pushed : List Change) → pushed ≡ h.taken.items ++ x ∷ []
     → Follows classes frames es at g h × All (λ e. Takes classes frames e x.local (type_of x.vtype)) h.settled.items
-    → Tracks es at (IsSettled classes frames pushed at g) h.by_start.items h.begun h.fresh.items h.settled.items × AreRepresented frames h.representatives.items h.settled.items
+    → Tracks es at (IsSettled classes frames pushed at g) h.by_start.items h.begun h.fresh.items h.settled.items × AreRepresented frames h.representatives.list.items h.settled.items
 follows_more classes frames es at g h x pushed e p = (
   subst (λ ts. Tracks es at (IsSettled classes frames ts at g) h.by_start.items h.begun h.fresh.items h.settled.items) (sym e)
       (taken_more classes frames es h.taken.items at g x h.by_start.items h.begun h.fresh.items h.settled.items p.1 p.0.0),

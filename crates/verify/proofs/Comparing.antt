@@ -42,7 +42,7 @@ module _ (fits : VerificationType → VerificationType → Outcome) where
     abbrev beyond : List VerificationType
     beyond = replicate (length f.locals - length locals) top
 
-    -- those from one place on
+    -- the answer for the locals from one place on
     abbrev pub from : ℕ → Outcome
     from i = list_answer fits (drop i f.locals) (map type_of (drop i locals) ++ beyond)
 

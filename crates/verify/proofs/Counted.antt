@@ -28,7 +28,7 @@ none_some a e = cc
 some_same : {A : Type 0} (a b : A) → Some a ≡ Some b → a ≡ b
 some_same a b e = cc
 
--- what holds of each item and the size in front of it, and of one more item
+-- a property of each item with the size in front of it, and of one more item, is one of all
 pub one_more_behind : (xs : List FramesAt) (x : FramesAt) (P : ℕ → ℕ → FramesAt → Type 0)
     → ((n : ℕ) (y : FramesAt) → slice_get xs n ≡ Some y → P n (size_before xs n) y) → P (length xs) (size_before xs (length xs)) x
     → (n : ℕ) (y : FramesAt) → slice_get (xs ++ x ∷ []) n ≡ Some y → P n (size_before (xs ++ x ∷ []) n) y
@@ -38,7 +38,7 @@ one_more_behind (z ∷ xs) x P all last zero y e = all zero y e
 one_more_behind (z ∷ xs) x P all last (suc n) y e =
     one_more_behind xs x (λ k size. P (suc k) (frames_size (frames_view z) + size)) (λ k. all (suc k)) last n y e
 
--- of two lists with one size in front of each place, where what holds of both at a place leaves no choice
+-- two lists with one size in front of each place are equal, where the properties of both at a place leave no choice
 pub same_in_turn : (xs ys : List FramesAt) (P : ℕ → ℕ → FramesFact → Type 0) (Q : ℕ → ℕ → FramesFact → Type 0)
     → ((n size : ℕ) (x y : FramesFact) → P n size x → Q n size y → x ≡ y)
     → ((n : ℕ) (x : FramesAt) → slice_get xs n ≡ Some x → P n (size_before xs n) (frames_view x))

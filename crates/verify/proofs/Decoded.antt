@@ -16,6 +16,6 @@ pub decoded_begins : (bytes : List ℕ) (xs : List (ℕ × Instruction)) → Spe
 decoded_begins bytes [] s lt = let e : length bytes ≡ 0 = ap length s in absurd (omega (arith, e, lt))
 decoded_begins bytes (x ∷ xs) s lt = record { what = act x.1; here = rw (eq-eqb x.0 0 s.3) refl }
 
--- what is read of code without a fault spells it
+-- the instructions that are read from code without a fault spell it
 pub read_spelled : (code : List ℕ) (xs : List (ℕ × Instruction)) → SpellsCode 0 code xs → SpellsCode 0 code (instructions_in code)
 read_spelled code xs s = subst (SpellsCode 0 code) (sym (ap or_none (only_reading code (Ok xs) s))) s

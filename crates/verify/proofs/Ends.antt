@@ -124,7 +124,7 @@ module _ (classes : List ClassFact) (m : Method Act) (frames : Frames) (at : ℕ
   abbrev before : Conditions
   before = before_conditions classes m frames at a f
 
-  -- what is asked besides the rule and the targets
+  -- the conditions besides those of the rule and of the targets
   abbrev end : TypingRule → Bool → Conditions
   end p b = before ++ ((reason 71, b) ∷ (reason 75, constructs_own p f && is_covered m.exceptions at) ∷ [])
 

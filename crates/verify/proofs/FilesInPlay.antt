@@ -23,7 +23,7 @@ use Rattle.verify.specs.declared.together.TogetherFault.TheVariants.{OutOfMemory
 use Rattle.verify.specs.Files.{Read, IsDecoded, IsRefused, AreFormed, IsFirstRefused}
 use Rattle.verify.specs.Plays.{IsStopped}
 use Rattle.verify.specs.Together.{facts_in, HaveReports, HaveNone, ReportsTogether, NotTogether, ArePlayableFiles}
-use Rattle.verify.specs.TogetherSteps.{AreDecoded, AreWellFormed, DecodesAll, views, IsWithin}
+use Rattle.verify.specs.private.TogetherSteps.{AreDecoded, AreWellFormed, DecodesAll, views, IsWithin}
 use Rattle.verify.specs.ClassRunSafety.{ArePlayable}
 use Rattle.verify.proofs.Formed.{decoded_formed, earlier_formed}
 

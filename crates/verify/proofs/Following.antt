@@ -30,7 +30,7 @@ module _ (typing_rule : TypingRules) (classes : List ClassFact) (m : Method Act)
   assignable_at : (f k : FrameFact) → frame_answer classes f k ≡ yes → entry classes true f (Some k) ≡ None
   assignable_at f k e = none_told (answer_conditions 69 (frame_answer classes f k)) (yes_none 69 (frame_answer classes f k) e)
 
-  -- what comes to a start, by what is declared there
+  -- a frame that comes to a start, by the frame that is declared there, if one is
   pub comes_none : (q : ℕ) (f : FrameFact) (o : Option FrameFact) → at_offset frames q ≡ o → ((k : FrameFact) → at_offset frames q ≡ Some k → table q ≡ k)
       → Comes classes frames table f q → (entry classes true f o ≡ None) × (table q ≡ entered f o)
   comes_none q f None i own (inl e) = (refl, e)
@@ -50,7 +50,7 @@ module _ (typing_rule : TypingRules) (classes : List ClassFact) (m : Method Act)
   abbrev pub AreFine : List (ℕ × Act) → Type 0
   AreFine cs = (at : ℕ) (act : Act) → at_offset cs at ≡ Some act → IsFineIn typing_rule classes m frames table cs at act
 
-  -- what is fine behind an instruction is so in the rest of the code
+  -- an instruction behind the first that is fine is so in the rest of the code
   pub fine_behind : (c : ℕ × Act) (cs : List (ℕ × Act)) (p : ℕ) (act : Act) → at_offset cs c.0 ≡ None → at_offset cs p ≡ Some act
       → (at_offset (c ∷ cs) p ≡ Some act) × (next_offset (c ∷ cs) p ≡ next_offset cs p) × (IsFineIn typing_rule classes m frames table (c ∷ cs) p act → IsFineIn typing_rule classes m frames table cs p act)
   fine_behind c cs p act apart e =

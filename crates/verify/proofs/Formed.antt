@@ -11,7 +11,7 @@ use Rattle.classfile.specs.Views.{class_view}
 use Rattle.verify.specs.declared.files.FileFault.{FileFault}
 use Rattle.verify.specs.declared.files.FileFault.TheVariants.{OutOfMemory, Unread, NoClass, Malformed}
 use Rattle.verify.specs.Files.{Read, IsDecoded, IsFormed, OrMemory, AreFormed}
-use Rattle.verify.specs.FileSteps.{Forms}
+use Rattle.verify.specs.private.FileSteps.{Forms}
 use Rattle.hierarchy.specs.Class.{ClassFact}
 use Rattle.hierarchy.specs.Rules.{IsHierarchy}
 use Rattle.hierarchy.specs.Faults.{FaultOf}
@@ -22,7 +22,7 @@ use Rattle.verify.specs.declared.among.AmongFault.TheVariants as amongs
 use Rattle.verify.specs.FinalSuper.{has_final_super}
 use Rattle.verify.specs.Explaining.{IsExplained}
 use Rattle.verify.specs.Among.{AnswersAmong, ReportsAmong}
-use Rattle.verify.specs.AmongSteps.{ExplainsSummaries, ExplainsFormed}
+use Rattle.verify.specs.private.AmongSteps.{ExplainsSummaries, ExplainsFormed}
 
 some_same : {A : Type 0} (a b : A) → Some a ≡ Some b → a ≡ b
 some_same a b e = cc

@@ -21,7 +21,7 @@ use Rattle.rules.specs.Ways.{goes_on, branch_offsets}
 abbrev pub IsEarly : Option Reason → Type 0
 IsEarly o = (o ≡ None) ⊎ ((n : ℕ) × (o ≡ Some (reason n)) × (n < 67))
 
--- what a typing rule asks needs no class
+-- no condition of a typing rule needs a class
 abbrev pub IsCalm : TypingRule → Type 0
 IsCalm p = (classes : List ClassFact) (m : Method Act) (at : ℕ) (f : FrameFact) → IsEarly (least (conditions classes m at p f))
 

@@ -17,10 +17,11 @@ use Rattle.verify.specs.declared.handlers.Handlers.{Handlers}
 use Rattle.verify.specs.declared.handlers.Missing.{Missing}
 use Rattle.verify.specs.TypeSafety.{Frames}
 use Rattle.verify.specs.Verdict.{handler_conditions}
-use Rattle.verify.specs.Keeping.{IsSameBeneath}
-use Rattle.verify.specs.ExceptionTables.{entry_view}
-use Rattle.verify.specs.Catching.{caught_answer}
-use Rattle.verify.specs.Handling.{Tracks, Takes, MayCome, IsSettled, Follows, AreAhead, IsEarlier, IsLater, IsJudged, IsMissing, IsRepresented, AreRepresented, Settles, Catches}
+use Rattle.verify.specs.private.Keeping.{IsSameBeneath}
+use Rattle.verify.specs.private.ExceptionTables.{entry_view}
+use Rattle.verify.specs.private.Catching.{caught_answer}
+use Rattle.verify.specs.private.Handling.{Tracks, Takes, MayCome, IsSettled, Follows, AreAhead, IsEarlier, IsLater, IsJudged, IsMissing, Settles, Catches}
+use Rattle.verify.specs.private.Representatives.{AreRepresented}
 use Rattle.verify.proofs.Caught.{none_against, one_against, first_missing, AreLacking}
 use Rattle.verify.proofs.Tracking.{tracked_again, tracked_later, tracked_without, tracked_settled, taken_begun, covered_compared, covered_ends, begun_covers}
 
@@ -29,7 +30,7 @@ pub record InTurn (classes : List ClassFact) (frames : Frames) (es : List Except
   pub tracks : Tracks es at (IsJudged classes frames at f so_far) h.by_start.items h.begun h.fresh.items h.settled.items
   pub ahead : AreAhead at h
   pub lacks : IfSome so_far (IsMissing classes frames es at f)
-  pub represented : AreRepresented frames h.representatives.items h.settled.items
+  pub represented : AreRepresented frames h.representatives.list.items h.settled.items
 
 module _ (classes : List ClassFact) (frames : Frames) (es : List ExceptionEntry) (at : ℕ) (f : FrameFact) where
   abbrev answer : ExceptionEntry → Outcome
@@ -175,21 +176,11 @@ again_by es at was_so now_so by_start begun fresh settled now left (Ok u) p q t 
     (subst (λ xs. Tracks es at now_so by_start begun (fresh ++ settled) xs) (sym q) (tracked_again es at was_so by_start begun fresh settled t now_so))
 again_by es at was_so now_so by_start begun fresh settled now left (Err e) p q t = tt
 
-pub represented_none : (frames : Frames) (representatives : List ℕ) (settled : List Entry) → settled ≡ [] → AreRepresented frames representatives settled
-represented_none frames representatives settled none = subst (AreRepresented frames representatives) (sym none) (All-nil (λ (e : Entry). IsRepresented frames representatives e.handler))
-
--- none is left, and a handler stands for each
-pub with_none : {E : Type 0} (P : Type 0) (frames : Frames) (representatives : List ℕ) (settled left : List Entry) (r : Result Unit E) → left ≡ (if is_ok r then [] else settled)
-    → OnOk r P → OnOk r (P × AreRepresented frames representatives left)
-with_none P frames representatives settled left (Ok u) q p =
-    (p, represented_none frames representatives left q)
-with_none P frames representatives settled left (Err e) q p = tt
-
 pub none_left : (xs : List Entry) (n : ℕ) → n ≡ length xs → n ≡ 0 → xs ≡ []
 none_left [] n e z = refl
 none_left (x ∷ xs) n e z = absurd (omega (arith, e, z))
 
--- the same at a later offset
+-- the table is followed at a later offset, too
 pub follows_later : (classes : List ClassFact) (frames : Frames) (es : List ExceptionEntry) (at to : ℕ) (f : FrameFact) (h : Handlers) → at ≤ to
     → Follows classes frames es at f h → Follows classes frames es to f h
 follows_later classes frames es at to f h le t = (
@@ -206,7 +197,7 @@ pub on_more : {T E : Type 0} (r : Result T E) (P Q : Type 0) → OnOk r P → (P
 on_more (Ok x) P Q p f = f p
 on_more (Err e) P Q p f = p
 
--- what follows from an answer that is one
+-- a property that follows from each answer that is no refusal
 pub on_ok : {T E : Type 0} {P : Type 0} (r : Result T E) → ((x : T) → r ≡ Ok x → P) → OnOk r P
 on_ok (Ok x) p = p x refl
 on_ok (Err e) p = tt

@@ -30,7 +30,7 @@ module _ (m : Method Act) where
           → told_of (verdict typing_rule classes m) ≡ Some (0, with_fault bad_stack_map (map_fault_number why))
       map_told why d = let e : verdict typing_rule classes m ≡ map_refused why = rw wide (ap (with_frames typing_rule classes m) d) in ap told_of e
 
-  -- what is answered of the locals, by the types with which the method begins
+  -- whether the locals have room for the types with which the method begins
   pub room_as : (types : List VerificationType) → types ≡ initial_types m → (b : Bool) → nat_lt m.max_locals (length (in_locals types)) ≡ b
       → nat_lt m.max_locals (length (in_locals (initial_types m))) ≡ b
   room_as types same b e = ap (λ (ts : List VerificationType). nat_lt m.max_locals (length (in_locals ts))) (sym same) ∙ e

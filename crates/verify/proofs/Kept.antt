@@ -10,9 +10,9 @@ use Rattle.frames.specs.declared.declared_frames.DeclaredFrames.{DeclaredFrames}
 use Rattle.frames.specs.declared.declared_frames.Declared.{Declared}
 use Rattle.frames.proofs.Sharing.{are_of_one}
 use Rattle.rules.specs.Views.{with_half_free}
-use Rattle.verify.specs.declared.keeping.KnownLocals.{KnownLocals}
-use Rattle.verify.specs.declared.keeping.Replaced.{Replaced}
-use Rattle.verify.specs.Keeping.{Keeps, IsKept, AreKnown, restored}
+use Rattle.verify.specs.declared.local_facts.KnownLocals.{KnownLocals}
+use Rattle.verify.specs.declared.local_facts.Replaced.{Replaced}
+use Rattle.verify.specs.private.Keeping.{Keeps, IsKept, AreKnown, restored}
 
 pub free_length : (n : ℕ) (xs : List VerificationType) → length (with_half_free n xs) ≡ length xs
 free_length n [] = refl
@@ -42,7 +42,7 @@ pub same_but : (old new : List VerificationType) (p : ℕ) (x : VerificationType
 same_but old new p x e i ne = ap (λ (l : List VerificationType). get_or l i top) e ∙ get_or-set_other old p i x top ne
 
 module _ (t : DeclaredFrames) where
-  -- what is known of locals is known of the same ones
+  -- facts about locals are facts about equal locals
   kept_by : (f g : FrameFact) (rs : List Replaced) (kept : Option Declared) → f.locals ≡ g.locals → IfSome kept (Keeps t f rs) → IfSome kept (Keeps t g rs)
   kept_by f g rs None e k = k
   kept_by f g rs (Some d) e k = (k.0, ap (restored rs) (sym e) ∙ k.1)
@@ -69,7 +69,7 @@ module _ (t : DeclaredFrames) where
     fitting = subst (λ ls. AreFitting cs t ls known.fitting) (sym (ap (λ (z : FrameFact). z.locals) e)) a;
   }
 
-  -- what calls may be told
+  -- the fact about the kept frame, where there is one
   pub kept_at : (f : FrameFact) (known : KnownLocals) (d : Declared) → known.kept ≡ Some d → IsKept t f known → Keeps t f known.replaced.items d
   kept_at f known d e k = subst (λ o. IfSome o (Keeps t f known.replaced.items)) e k
 

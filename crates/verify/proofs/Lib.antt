@@ -19,6 +19,7 @@ pub mod Caught
 pub mod Tracking
 pub mod InTurn
 pub mod Changes
+pub mod Representing
 pub mod TableEntries
 pub mod Comparing
 pub mod Going

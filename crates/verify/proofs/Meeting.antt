@@ -40,7 +40,7 @@ start_in : {A : Type 0} (y : ℕ × A) (ys : List (ℕ × A)) (at : ℕ) (b : Bo
 start_in y ys at true q s = record { what = y.1; here = rw q refl }
 start_in y ys at false q s = record { what = s.what; here = rw q s.here }
 
--- what stands at a place of a list stands at its offset, or another in front of it does
+-- an item at a place of a list stands at its offset, or another item in front of it does
 pub offset_there : {A : Type 0} (xs : List (ℕ × A)) (i : ℕ) (x : ℕ × A) → slice_get xs i ≡ Some x → IsStart xs x.0
 offset_there [] i x e = cc
 offset_there {A = A} (y ∷ ys) zero x e =
@@ -85,7 +85,7 @@ module _ (classes : List ClassFact) (m : Method Act) (frames : Frames) (at : ℕ
         let here : met_at (c ∷ cs) coming ≡ frames_with classes coming (at_offset frames c.0) = rw e refl in
         same ∙ here ∙ ap (frames_with classes coming) (sym d)
 
-  -- what comes to a declared frame in front of the offset does not matter
+  -- the frame that comes to a declared one in front of the offset does not matter
   module _ (last : ℕ) (lt : last < at) (declared : IsStart frames last) where
     pub independent : (cs : List (ℕ × Act)) (low : ℕ) → StartsRise low cs → IsStart cs last → (f g : Option FrameFact) → met_at cs f ≡ met_at cs g
     independent [] low rise s f g = let none : None ≡ Some s.what = s.here in cc

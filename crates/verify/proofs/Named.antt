@@ -33,7 +33,7 @@ texts_there pool name descriptor x e = by_name (text_at pool name) refl e
 no_error : (bytes : List ℕ) (f : PoolFault) → (let o : Result (List ℕ) PoolFault = Ok bytes in o) ≡ Err f → ⊥
 no_error bytes f e = cc
 
--- what was looked up is there
+-- a look-up that should find something finds it
 pub is_found : (found : Result (List ℕ) PoolFault) (bytes : List ℕ) (r : Result Text PoolFault) → found ≡ Ok bytes → Answers (λ t. t.bytes.now) found r → IsOk r
 is_found found bytes (Ok t) e a = refl
 is_found found bytes (Err f) e a = absurd (no_error bytes f (sym e ∙ a))
@@ -51,7 +51,7 @@ some_same a b e = cc
 none_some : {A : Type 0} (a : A) → None ≡ Some a → ⊥
 none_some a e = cc
 
--- what holds of all items and of one more
+-- a property of all items and of one more is a property of all items of the longer list
 pub one_more_item : {A : Type 0} (xs : List A) (x : A) (P : ℕ → A → Type 0) → ((n : ℕ) (y : A) → slice_get xs n ≡ Some y → P n y) → P (length xs) x
     → (n : ℕ) (y : A) → slice_get (xs ++ x ∷ []) n ≡ Some y → P n y
 one_more_item [] x P all last zero y e = subst (P 0) (some_same x y e) last

@@ -110,7 +110,7 @@ module _ (classes : List ClassFact) (m : Method Act) (frames : Frames) where
           by (inl p) = inl p
           by (inr p) = inr (ap told_of (opened ∙ ap (λ z. refused_or z c.0 on) p))
 
-      -- what was not refused goes on with the frame after
+      -- an instruction that was not refused goes on with the frame after
       pub goes_done : (now : FrameFact) (r : Result Unit RuleReason) (u : Unit {0}) (goes : Bool) → r ≡ Ok u
           → Done at_here after_here now r → goes ≡ act_goes_on c.1 → v ≡ left cs goes now
       goes_done now r u goes q x k =

@@ -40,7 +40,7 @@ at_next (c ∷ cs) p q e = by (λ k. at_next cs p q k) (nat_eq c.0 p) e
     by rec false k = later c cs q (rec k)
 
 module _ (typing_rule : TypingRules) (classes : List ClassFact) (m : Method Act) (frames : Frames) where
-  -- what comes to a start, where the table has what goes on there
+  -- a frame that comes to a start, where the table has the frame that goes on there
   pub comes_in : (table : ℕ → FrameFact) (q : ℕ) (f : FrameFact) (o : Option FrameFact) → at_offset frames q ≡ o → entry classes true f o ≡ None → table q ≡ entered f o → Comes classes frames table f q
   comes_in table q f None i e t = inl t
   comes_in table q f (Some g) i e t = inr (record { declared = g; here = i; assignable = answer_yes 69 (frame_answer classes f g) (none_least (answer_conditions 69 (frame_answer classes f g)) e) })
@@ -86,7 +86,7 @@ module _ (typing_rule : TypingRules) (classes : List ClassFact) (m : Method Act)
   comes_same s t q g e (inl i) = inl (e ∙ i)
   comes_same s t q g e (inr i) = inr i
 
-  -- what comes to the first of these instructions is right
+  -- the frame that comes to the first of these instructions is right
   abbrev pub IsEntered : List (ℕ × Act) → Bool → FrameFact → Type 0
   IsEntered cs b g = (q : ℕ) → first_offset cs ≡ Some q → (entry classes b g (at_offset frames q) ≡ None) × (came cs g ≡ entered g (at_offset frames q))
 

@@ -26,9 +26,9 @@ use Rattle.verify.specs.declared.met_names.MetNames.{MetNames}
 use Rattle.verify.specs.declared.play.PlayFault.TheVariants.{NotAllVerified}
 use Rattle.verify.specs.declared.play.PlayStop.{PlayStop}
 use Rattle.verify.specs.declared.play.PlayStop.TheVariants as stops
-use Rattle.verify.specs.MetNames.{is_met, Meets}
+use Rattle.verify.specs.private.MetNames.{is_met, Meets}
 use Rattle.verify.specs.Plays.{IsFineVerdict, AreFineBelow, HasEarlier, IsFirstOfName, IsFine, Breaks, HasRefused, AreFine, ArePlayed, BreaksFirst, IsNotPlayed, IsStopped}
-use Rattle.verify.specs.PlaySteps.{AreMet, Judges}
+use Rattle.verify.specs.private.PlaySteps.{AreMet, Judges}
 use Rattle.verify.proofs.safety.Worlds.{name_same}
 use Rattle.verify.proofs.safety.OneMethod.{one_method}
 use Rattle.verify.proofs.safety.ClassRuns.{verified_is_playable}

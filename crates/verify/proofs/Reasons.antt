@@ -50,7 +50,7 @@ both_not true b f = f refl
 both_not false b f = refl
 
 module _ (classes : List ClassFact) (m : Method Act) (frames : Frames) where
-  -- what is asked of an instruction in a frame, the next start aside
+  -- the conditions on an instruction in a frame, except those on the frame at the next start
   pub record IsFine (at : ℕ) (act : Act) (p : TypingRule) (f : FrameFact) : Type 0 where
     pub rule : NoneHolds (conditions classes m at p f)
     pub protected : NoneHolds (member_conditions classes m act f)

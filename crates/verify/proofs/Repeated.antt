@@ -9,11 +9,11 @@ use Rattle.rules.specs.declared.reason.Reason.{Reason}
 use Rattle.rules.specs.declared.reason.Reason.TheVariants.{OutOfMemory}
 use Rattle.rules.specs.Reasons.{reason_view}
 use Rattle.verify.specs.declared.place_set.PlaceSet.{PlaceSet}
-use Rattle.verify.specs.PlaceSets.{has}
+use Rattle.verify.specs.private.PlaceSets.{has}
 use Rattle.verify.specs.TypeSafety.{Frames}
 use Rattle.verify.specs.Verdict.{declared_at, one_target, target_conditions}
 use Rattle.rules.specs.Outcomes.{Judges}
-use Rattle.verify.specs.Targets.{IsPlace, Compares}
+use Rattle.verify.specs.private.Targets.{IsPlace, Compares}
 use Rattle.std.specs.Prelude.{int_lt}
 use Rattle.insn.specs.Offsets.{StartsRise}
 use Rattle.insn.proofs.Places.{past_last}
@@ -37,7 +37,7 @@ keeps x z q = rw q refl
 some_is : (x y : Refusing) → Some x ≡ Some y → x ≡ y
 some_is x y e = cc
 
--- what is put behind leaves it so
+-- a list of conditions that holds a reason holds it with another reason behind
 pub holds_more : (a b c : Option Refusing) → Holds a b → Holds (merge a c) b
 holds_more None None None h = refl
 holds_more None None (Some z) h = refl
@@ -53,7 +53,7 @@ holds_more (Some x) (Some y) (Some z) h = by (nat_lt (number_of z) (number_of x)
     by true e = let more : nat_lt (number_of y) (number_of z) ≡ false = grind (arith, nat_tests, e, q) in ap (λ (r : Refusing). Some r) (keeps z y more)
     by false e = ap (λ (r : Refusing). Some r) (keeps x y q)
 
--- what was put behind is held
+-- the reason that was put behind is held
 pub holds_last : (a b : Option Refusing) → Holds (merge a b) b
 holds_last None None = refl
 holds_last None (Some y) = ap (λ (r : Refusing). Some r) (keeps y y (let e : nat_lt (number_of y) (number_of y) ≡ false = grind (arith, nat_tests) in e))
@@ -68,11 +68,11 @@ module _ (classes : List ClassFact) (frames : Frames) (f : FrameFact) where
   abbrev of_frame : FrameFact → Conditions
   of_frame g = one_target classes (Some g) f
 
-  -- what is seen is held by what was judged
+  -- the conditions of a frame that was seen are held by those that were judged
   pub record Seen (done : Conditions) (seen : PlaceSet) : Type 0 where
     pub held : (place at : ℕ) (g : FrameFact) → has seen place ≡ true → slice_get frames place ≡ Some (at, g) → Holds (least done) (least (of_frame g))
 
-  -- of the targets some are judged, and these are left
+  -- some of the targets are judged, and these are left
   pub record Judged (all left : List ℤ) (seen : PlaceSet) (r : Result Unit Reason) : Type 0 where
     pub done : Conditions
     pub parts : done ++ target_conditions classes frames f left ≡ target_conditions classes frames f all

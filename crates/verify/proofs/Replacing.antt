@@ -12,8 +12,8 @@ use Rattle.frames.specs.declared.declared_frames.DeclaredFrames.{DeclaredFrames}
 use Rattle.frames.proofs.LocalTypes.{same_object, has_number}
 use Rattle.rules.specs.Replacing.{ChangesOnly}
 use Rattle.rules.specs.Working.{with_locals}
-use Rattle.verify.specs.Keeping.{AreKnown}
-use Rattle.verify.specs.declared.keeping.KnownLocals.{KnownLocals}
+use Rattle.verify.specs.private.Keeping.{AreKnown}
+use Rattle.verify.specs.declared.local_facts.KnownLocals.{KnownLocals}
 use Rattle.verify.proofs.Kept.{known_by}
 
 -- the local is not the object, or is still to be written

@@ -17,7 +17,7 @@ use Rattle.hierarchy.proofs.Doubling.{appended}
 use Rattle.hierarchy.proofs.Names.{found_class, found_some, slice_none, some_same, none_some, same_some}
 use Rattle.verify.specs.Standing.{is_root, onward, next, ahead, stands}
 use Rattle.verify.specs.Each.{with_class}
-use Rattle.verify.specs.EachSteps.{place_kept, ArePlaced, next_place, class_at, LeadsAhead}
+use Rattle.verify.specs.private.EachSteps.{place_kept, ArePlaced, next_place, class_at, LeadsAhead}
 
 abbrev Places : Type 0
 Places = BTreeMap (Bor (List ℕ)) ℕ

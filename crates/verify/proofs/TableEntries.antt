@@ -25,7 +25,7 @@ use Rattle.verify.specs.declared.exceptions.Entry.{Entry}
 use Rattle.verify.specs.TypeSafety.{Frames}
 use Rattle.verify.specs.Verdict.{Verdict, refused, refused_or, answer_conditions, is_end, table_conditions, table_judged}
 use Rattle.rules.specs.Outcomes.{Judges}
-use Rattle.verify.specs.ExceptionTables.{entry_view, IsEntry, AreNumbered, has_places, JudgesTable}
+use Rattle.verify.specs.private.ExceptionTables.{entry_view, IsEntry, AreNumbered, has_places, JudgesTable}
 
 -- ---- as they are made
 
@@ -44,7 +44,7 @@ none_numbered : AreNumbered []
 none_numbered place e i = cc
 
 module _ (pool : List entries.Entry) (table : List ExceptionHandler) (i : ℕ) where
-  -- what is made of the table, of which these were made
+  -- the entries that are made from the table; these were made so far
   pub record Made (was : List Entry) : Type 0 where
     pub all : exception_entries pool (map handler_view table) ≡ onto (map entry_view was) (exception_entries pool (map handler_view (drop i table)))
     pub numbered : AreNumbered was

@@ -9,9 +9,9 @@ use Rattle.std.proofs.lemmas.List.Elements.{All-nil, All-push, All-append, All-p
 use Rattle.std.proofs.lemmas.List.Sorted.{All-permutation, Contains-permutation}
 use Rattle.classfile.specs.Methods.{ExceptionEntry, covers}
 use Rattle.verify.specs.declared.exceptions.Entry.{Entry}
-use Rattle.verify.specs.ExceptionTables.{entry_view, AreNumbered}
+use Rattle.verify.specs.private.ExceptionTables.{entry_view, AreNumbered}
 use Rattle.verify.specs.Verdict.{is_covered}
-use Rattle.verify.specs.Handling.{IsOwn, HasBegun, Holds, IsToCome, Tracks}
+use Rattle.verify.specs.private.Handling.{IsOwn, HasBegun, Holds, IsToCome, Tracks}
 
 some_same : {A : Type 0} (a b : A) → Some a ≡ Some b → a ≡ b
 some_same a b e = cc
@@ -122,7 +122,7 @@ module _ (es : List ExceptionEntry) (at : ℕ) (is_so : Entry → Type 0) (by_st
       every = λ place e i lt. again_on place (t.every place e i lt);
     }
 
-  -- those that are to be compared stand in another order
+  -- the entries that are to be compared stand in another order
   pub tracked_moved : (fresh other settled : List Entry) → All (HasBegun es at) other → ((e : Entry) → Contains fresh e → Contains other e)
       → Tracks es at is_so by_start begun fresh settled → Tracks es at is_so by_start begun other settled
   tracked_moved fresh other settled starts moved t = record {

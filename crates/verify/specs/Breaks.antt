@@ -1,6 +1,6 @@
--- The conditions of a method that is type-safe, each with the number by which a refusal tells that it is broken (JVMS
--- 4.10.1.6): in words of the fields of that definition, and not of the verdict. A verdict that tells another number
--- then breaks a law.
+-- The conditions of a method that is type-safe, each with the number of the refusal which says that it is broken (JVMS
+-- 4.10.1.6): in words of the fields of that definition, and not of the verdict. So a verdict with another number would
+-- break a law.
 use Rattle.std.specs.Prelude.{◌≡◌, ℕ, ℤ, pos, ◌<◌, ◌≤◌, Bool, true, false, List, ◌∷◌, ◌++◌, length, Option, Some, None, ◌⊎◌, ◌↔◌}
 use Rattle.names.specs.StandardNames.{throwable_name}
 use Rattle.classfile.specs.Methods.{Method, ExceptionEntry, covers}
@@ -71,14 +71,14 @@ pub data Breaks (classes : List ClassFact) (m : Method Act) (frames : Frames) (a
   not_assignable_at_target : why ≡ reason 68 → (t : Target at p) → (to : ℕ) → t.target ≡ pos to
       → Meets classes frames (after m at p f) to no
       → Breaks classes m frames at act p next f why
-  -- 77, that hangs on a class which is missing
+  -- 77, the answer needs a class which is missing
   missing_at_target : (name : List ℕ) → why ≡ class_missing name → (t : Target at p) → (to : ℕ) → t.target ≡ pos to
       → Meets classes frames (after m at p f) to (missing name) → Breaks classes m frames at act p next f why
   -- `protected`: 82, the object on which a member is used that is guarded is none of the current class
   protected_member : why ≡ reason 82 → (g : Guarded classes m act)
       → object_answer classes m.class (object_beneath g.member f) ≡ no
       → Breaks classes m frames at act p next f why
-  -- 77, that hangs on a class which is missing
+  -- 77, the answer needs a class which is missing
   missing_object : (name : List ℕ) → why ≡ class_missing name → (g : Guarded classes m act)
       → object_answer classes m.class (object_beneath g.member f) ≡ missing name
       → Breaks classes m frames at act p next f why
@@ -143,7 +143,7 @@ pub record AreFields (classes : List ClassFact) (m : Method Act) (frames : Frame
 abbrev pub ConditionsAreFields : Type 0
 ConditionsAreFields = (classes : List ClassFact) (m : Method Act) (frames : Frames) → AreFields classes m frames
 
--- ---- a refusal tells a condition that is broken, and none with a lesser number is
+-- ---- a refusal names a condition that is broken, and no condition with a lesser number is broken
 
 abbrev pub IsLeast : (Reason → Type 0) → Reason → Type 0
 IsLeast broken why = broken why × ((other : Reason) → broken other → number_of why ≤ number_of other)

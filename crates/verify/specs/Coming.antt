@@ -27,7 +27,7 @@ use Rattle.verify.specs.declared.verdict.Verdict.{Verdict}
 use Rattle.verify.specs.declared.verdict.Verdict.TheVariants.{Verified, NoCode, Refused}
 use Rattle.verify.specs.declared.report.MethodVerdict.{MethodVerdict}
 
--- at an offset: the frame that comes there, if any, the one that is declared, if any, and their difference
+-- the frames at an offset: the frame that comes there, if any, the declared frame, if any, and their first difference
 pub record FramesFact : Type 0 where
   pub coming : Option FrameFact
   pub declared : Option FrameFact
@@ -36,7 +36,7 @@ pub record FramesFact : Type 0 where
 abbrev pub no_frames : FramesFact
 no_frames = record { coming = None; declared = None; difference = None }
 
--- the first one, where there are both frames
+-- the first difference, where there are both frames
 abbrev pub difference_if : List ClassFact → Option FrameFact → Option FrameFact → Option DifferenceFact
 difference_if classes (Some coming) (Some declared) = first_difference classes coming declared
 difference_if classes _ _ = None
@@ -53,8 +53,8 @@ before coming (Some declared) = Some declared
 abbrev pub frame_if : Bool → FrameFact → Option FrameFact
 frame_if comes f = if comes then Some f else None
 
--- From an instruction with this frame before it there goes on the frame after, where its rule does not refuse it and it
--- falls through.
+-- The frame that goes on from an instruction with this frame before it: the frame after, where its rule does not refuse
+-- the instruction and it falls through.
 abbrev pub going : List ClassFact → Method Act → ℕ → TypingRule → Option FrameFact → Option FrameFact
 going classes m at p None = None
 going classes m at p (Some f) = frame_if (falls p && is_none (least (conditions classes m at p f))) (after m at p f)
@@ -72,13 +72,14 @@ abbrev pub met_under : TypingRules → List ClassFact → Method Act → Result 
 met_under typing_rule classes m (Ok frames) at = met typing_rule classes m frames m.code (Some (initial_frame m)) at
 met_under typing_rule classes m (Err why) at = no_frames
 
--- of a method; none where the receiver and the parameters do not fit, or the stack map is refused
+-- the frames at an offset of a method; none where the receiver and the parameters do not fit, or the stack map is
+-- refused
 abbrev pub frames_at : TypingRules → List ClassFact → Method Act → ℕ → FramesFact
 frames_at typing_rule classes m at =
     if nat_lt m.max_locals (length (in_locals (initial_types m))) then no_frames
     else met_under typing_rule classes m (frames_declared m) at
 
--- ---- what is answered
+-- ---- the answer
 
 abbrev pub frames_view : FramesAt → FramesFact
 frames_view x =
@@ -108,15 +109,15 @@ HasNoInstructions c number =
 abbrev pub AreFramesOf : List ClassFact → JudgedClass → ℕ → ℕ → FramesFact → Type 0
 AreFramesOf classes c number at x = HasFrames classes c number at x ⊎ (HasNoInstructions c number × (x ≡ no_frames))
 
--- those at the instruction at which a method is refused
+-- these are the frames at the instruction at which a method is refused; none where it is not refused
 abbrev pub IsFramed : List ClassFact → JudgedClass → ℕ → Verdict → FramesFact → Type 0
 IsFramed classes c number Verified x = x ≡ no_frames
 IsFramed classes c number NoCode x = x ≡ no_frames
 IsFramed classes c number (Refused at why) x = AreFramesOf classes c number at x
 
--- ---- how many are told
+-- ---- how many frames are kept
 
--- of a frame's locals and of the items of its stack
+-- the number of a frame's locals and of the items of its stack
 abbrev pub frame_size : Option FrameFact → ℕ
 frame_size None = 0
 frame_size (Some f) = length f.locals + length f.stack
@@ -124,19 +125,20 @@ frame_size (Some f) = length f.locals + length f.stack
 abbrev pub frames_size : FramesFact → ℕ
 frames_size x = frame_size x.coming + frame_size x.declared
 
--- in the frames of so many methods from the front
+-- the number of these in the frames of the first so many methods
 abbrev pub size_before : List FramesAt → ℕ → ℕ
 size_before xs zero = 0
 size_before [] (suc n) = 0
 size_before (x ∷ xs) (suc n) = frames_size (frames_view x) + size_before xs n
 
--- those at the instruction at which a method is refused, where frames are told of it; otherwise none
+-- these are the frames at the instruction at which a method is refused, if its frames are kept; otherwise there are
+-- none
 abbrev pub IsFramedIf : Bool → List ClassFact → JudgedClass → ℕ → Verdict → FramesFact → Type 0
 IsFramedIf true classes c number v x = IsFramed classes c number v x
 IsFramedIf false classes c number v x = x ≡ no_frames
 
--- Frames are told of each method of a class, with these verdicts, where those of the methods in front have fewer types
--- than MOST_KEPT.
+-- These are the frames of each method of a class, with these verdicts. The frames of a method are kept where those of
+-- the methods before it have fewer types than MOST_KEPT.
 pub record AreFramed (classes : List ClassFact) (c : JudgedClass) (rs : List MethodVerdict)
     (xs : List FramesAt) : Type 0 where
   pub all : length xs ≡ length rs

@@ -1,5 +1,4 @@
--- The answers about many files, under the one hierarchy of the classes that these files and the known ones are (JVMS
--- 4.10.1).
+-- The answers about many files, under one hierarchy of the classes in these files and the known ones (JVMS 4.10.1).
 use Rattle.std.specs.Prelude.{◌≡◌, ◌≢◌, ◌⊎◌, ℕ, List, [], ◌∷◌, ◌++◌, is_some, if◌then◌else◌, Result, Ok, Err}
 use Rattle.classfile.specs.Values.{Class}
 use Rattle.classfile.specs.CodeMethods.{judged}
@@ -33,24 +32,24 @@ AddsFile read old new =
     ((r : FileFault) × IsRefused read r × (new ≡ old))
     ⊎ ((c : Class) × IsFormed read c × (new ≡ with_class old (summary_of c)))
 
--- with those of all these files
+-- the classes with those of all these files
 abbrev pub AddsFiles : List Read → List ClassFact → List ClassFact → Type 0
 AddsFiles [] old new = new ≡ old
 AddsFiles (read ∷ reads) old new = (some : List ClassFact) × AddsFile read old some × AddsFiles reads some new
 
--- The classes that files are, and then those that the known files are. Of those with one name the first counts.
+-- The classes in files, and then those in the known files. Of classes with one name the first counts.
 abbrev pub AreClasses : List Read → List Read → List ClassFact → Type 0
 AreClasses reads known all = (own : List ClassFact) × AddsFiles reads [] own × AddsFiles known own all
 
 -- ---- answers
 
--- by a profile of the class of this name that a file is, in a hierarchy
+-- the answer about the class of this name in a file, by a profile and in a hierarchy
 abbrev pub IsAnswered : Profile → List ClassFact → Read → List ℕ → Result Report ClassFault → Type 0
 IsAnswered profile hierarchy read name answer = (c : Class) × IsFormed read c × ((summary_of c).name ≡ name)
     × Reports hierarchy (judged profile c) answer
 
--- of one file: it is refused; or its class is not one of the hierarchy (80), or has a final superclass there (81); or
--- the verdicts on its methods
+-- the answer about one file: the file is refused; or the hierarchy does not have its class (80), or has it with a final
+-- superclass (81); or there are verdicts on its methods
 abbrev pub IsJudged : Profile → List ClassFact → Read → Judgement → Type 0
 IsJudged profile hierarchy read (Refused fault) = IsRefused read fault
 IsJudged profile hierarchy read (NotInHierarchy name) =
@@ -58,7 +57,7 @@ IsJudged profile hierarchy read (NotInHierarchy name) =
 IsJudged profile hierarchy read (FinalSuper name) = IsAnswered profile hierarchy read name.now (Err classes.FinalSuper)
 IsJudged profile hierarchy read (Reported name report) = IsAnswered profile hierarchy read name.now (Ok report)
 
--- of each of these files
+-- the answers about these files
 abbrev pub AreJudged : Profile → List ClassFact → List Read → List Judgement → Type 0
 AreJudged profile hierarchy [] [] = Unit {0}
 AreJudged profile hierarchy (read ∷ reads) (j ∷ js) = IsJudged profile hierarchy read j
@@ -71,7 +70,7 @@ JudgesEach profile reads known judgements =
     (all : List ClassFact) × AreClasses reads known all × IsHierarchy (standing all)
     × AreJudged profile (standing all) reads judgements
 
--- why the classes that stand are none
+-- why the classes that stand are no hierarchy
 abbrev pub JudgesNone : List Read → List Read → EachFault → Type 0
 JudgesNone reads known OutOfMemory = Unit {0}
 JudgesNone reads known (NoHierarchy fault) =

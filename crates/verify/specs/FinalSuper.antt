@@ -10,6 +10,6 @@ abbrev pub is_final_super : List ClassFact → Option (List ℕ) → Bool
 is_final_super classes None = false
 is_final_super classes (Some name) = is_known_final (class_of classes name)
 
--- what the hierarchy says of the superclass that a summary names
+-- the class of the hierarchy that is the superclass which a summary names
 abbrev pub has_final_super : List ClassFact → ClassFact → Bool
 has_final_super classes fact = is_final_super classes fact.superclass

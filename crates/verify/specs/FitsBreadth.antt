@@ -26,7 +26,7 @@ pub record HasFits (classes : List ClassFact) (world : World) (heap : Heap) : Ty
   pub objects : (a : ℕ) (type above : ReferenceType) → heap a ≡ Some (object type ready)
       → IsAssignableTo classes type above
       → FitsReference world heap above (reference a)
-  -- what fits a type fits each that it is assignable to
+  -- a value that fits a type fits each type to which that is assignable
   pub values : (v : Value) (type above : ReferenceType) → FitsReference world heap type v
       → IsAssignableTo classes type above
       → FitsReference world heap above v

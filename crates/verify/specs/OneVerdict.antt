@@ -43,7 +43,7 @@ OneReport =
     → IsReport classes c others
     → IsSameReport rs others
 
--- of the methods in turn the frames are the same
+-- two lists of frames are the same, method by method
 pub record AreSameFrames (xs others : List FramesAt) : Type 0 where
   pub all : length xs ≡ length others
   pub each : (number : ℕ) (x other : FramesAt) → slice_get xs number ≡ Some x → slice_get others number ≡ Some other

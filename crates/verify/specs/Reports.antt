@@ -21,7 +21,7 @@ use Rattle.verify.specs.Listed.{IsListed}
 use Rattle.verify.specs.FinalSuper.{has_final_super}
 use Rattle.verify.specs.Answers.{Answers, VerifiesTypeSafe}
 
--- what is answered of the method of this number
+-- this is the method of this number, with the verdict on it
 pub record IsReported (classes : List ClassFact) (c : JudgedClass) (number : ℕ) (r : MethodVerdict) : Type 0 where
   pub member : Member
   pub numbered : slice_get c.file.methods number ≡ Some member
@@ -32,14 +32,14 @@ pub record IsReported (classes : List ClassFact) (c : JudgedClass) (number : ℕ
   -- a method that is verified is safe, in all five parts of that and in every world that extends the hierarchy
   pub safe : r.verdict ≡ Verified → IsSafeIn classes c number
 
--- of a class that the hierarchy has as it is, also where it has no methods
+-- this is the report on a class that the hierarchy has as it is, even if the class has no methods
 pub record IsReport (classes : List ClassFact) (c : JudgedClass) (rs : List MethodVerdict) : Type 0 where
   pub listed : IsListed classes c.file
   pub all : length rs ≡ length c.file.methods
   pub each : (number : ℕ) (r : MethodVerdict) → slice_get rs number ≡ Some r → IsReported classes c number r
 
--- Of a class that is well formed: the first of these that holds. The hierarchy has it not as it is (80); its superclass
--- is final there (81); and otherwise the verdicts on its methods.
+-- The answer about a class that is well formed, by the first of these that holds: the hierarchy does not have it as it
+-- is (80); its superclass is final there (81); and otherwise there is a report.
 abbrev pub Reports : List ClassFact → JudgedClass → Result Report ClassFault → Type 0
 Reports classes c (Ok report) = (has_final_super classes (summary_of c.file) ≡ false)
     × IsReport classes c report.methods.items
@@ -49,8 +49,8 @@ Reports classes c (Err FinalSuper) = IsListed classes c.file × (has_final_super
 Reports classes c (Err (NoClass fault)) = ⊥
 Reports classes c (Err (Malformed rule place)) = ⊥
 
--- by a profile, of bytes: their fault as a class file, or the rule that the class breaks first, or what is answered of
--- a class that is well formed
+-- the answer about bytes, by a profile: their fault as a class file, or the rule that the class breaks first, or the
+-- answer about a class that is well formed
 abbrev pub ReportsBytes : Profile → List ClassFact → List ℕ → Result Report ClassFault → Type 0
 ReportsBytes profile classes bytes (Err OutOfMemory) = Unit {0}
 ReportsBytes profile classes bytes (Err (NoClass fault)) = class_files.ClassFault bytes fault

@@ -29,8 +29,8 @@ abbrev pub verify_fault_number : VerifyFault → ℕ
 verify_fault_number faults.OutOfMemory = 1
 verify_fault_number faults.NotInHierarchy = 80
 
--- a frame comes to a start, where this one is declared, and this one goes on; or this is the reason against it, or want
--- of memory
+-- a frame comes to a start, where this one is declared, and this one goes on; or this is the reason against it, or
+-- memory ran out
 pub record Enters (classes : List ClassFact) (falls : Bool) (f : FrameFact) (declared : Option FrameFact)
     (now : FrameFact)
     (r : Result Unit Reason) : Type 0 where
@@ -52,13 +52,13 @@ place_of (codes.BadSwitch at) = at
 place_of (codes.BadWide at) = at
 place_of (codes.NonZeroByte at) = at
 
--- 79 there, with the fault's number; or want of memory
+-- 79 there, with the fault's number; or memory ran out
 pub record RefusesCode (fault : CodeFault) (r : Result Verdict VerifyFault) : Type 0 where
   pub outcome : MatchResult r
       (λ v. (fault ≢ codes.OutOfMemory) × (v ≡ Refused (place_of fault) (BadCode (code_fault_number fault))))
       (λ e. (fault ≡ codes.OutOfMemory) × (e ≡ faults.OutOfMemory))
 
--- the verdict on code, or want of memory
+-- the verdict on code, or memory ran out
 abbrev pub Gives : verdicts.Verdict → Result Verdict VerifyFault → Type 0
 Gives v (Ok Verified) = v ≡ verified
 Gives v (Ok NoCode) = ⊥
@@ -66,8 +66,8 @@ Gives v (Ok (Refused at why)) = told_of v ≡ Some (at, reason_view why)
 Gives v (Err faults.OutOfMemory) = Unit {0}
 Gives v (Err faults.NotInHierarchy) = ⊥
 
--- what is asked of an instruction besides its rule and its targets: of the frame before it, that it does not go on
--- where it is the last one, and that no entry of the exception table covers it where it calls a constructor on the own
+-- the conditions on an instruction besides its rule and its targets: those on the frame before it; that it does not go
+-- on where it is the last one; and that no entry of the exception table covers it where it calls an `<init>` on the own
 -- object
 abbrev pub aside_conditions : List ClassFact → Method Act → Frames → ℕ → Act → Bool → FrameFact → Conditions
 aside_conditions classes m frames at a last f =

@@ -1,4 +1,4 @@
--- The reports on the classes that files are, which are in play together; or why there are none.
+-- The reports on the classes in files, which are in play together; or why there are none.
 use Rattle.std.specs.Prelude.{◌≡◌, ◌≢◌, ℕ, ◌+◌, List, map}
 use Rattle.classfile.specs.Values.{Class}
 use Rattle.classfile.specs.Methods.{JudgedClass}
@@ -24,7 +24,7 @@ facts_in cs = map (λ c. summary_of c.file) cs
 abbrev pub HaveReports : List JudgedClass → List Report → Type 0
 HaveReports cs reports = IsHierarchy (facts_in cs) × ArePlayed (facts_in cs) cs reports
 
--- by a profile
+-- the files are classes that are well formed, and have these reports by a profile
 abbrev pub ReportsTogether : Profile → List Read → List Report → Type 0
 ReportsTogether profile reads reports = (cs : List Class) × AreFormed reads cs
     × HaveReports (map (judged profile) cs) reports

@@ -48,7 +48,7 @@ pub record LeadsTo (classes : List ClassFact) (frames : Frames) (f : FrameFact) 
   pub here : at_offset frames at ≡ Some declared
   pub assignable : frame_answer classes f declared ≡ yes
 
--- the same at the target of a branch
+-- a frame is declared at the target of a branch to which this one is assignable
 abbrev pub LeadsToTarget : List ClassFact → Frames → FrameFact → ℤ → Type 0
 LeadsToTarget classes frames f target = (at : ℕ) × (target ≡ pos at) × LeadsTo classes frames f at
 
@@ -76,8 +76,8 @@ pub record IsSoundEntry (classes : List ClassFact) (m : Method Act) (frames : Fr
 pub record IsTypeSafeAt (classes : List ClassFact) (m : Method Act) (frames : Frames) (table : ℕ → FrameFact) (at : ℕ)
     (act : Act) (p : TypingRule) : Type 0 where
   pub rule : NoneHolds (conditions classes m at p (table at))
-  -- a member that is protected, of another package and of a class above the current one, is used on objects of the
-  -- current class (4.10.1.8)
+  -- a protected member of another package and of a class above the current one is used only on objects of the current
+  -- class (4.10.1.8)
   pub protected : NoneHolds (member_conditions classes m act (table at))
   pub leads : (target : ℤ) → IsAmong target (targets at p)
       → LeadsToTarget classes frames (after m at p (table at)) target
@@ -88,7 +88,8 @@ pub record IsTypeSafeAt (classes : List ClassFact) (m : Method Act) (frames : Fr
       × (at_offset frames to ≡ Some f)
   pub handled : (e : ExceptionEntry) → IsAmong e m.exceptions → covers e at ≡ true
       → LeadsTo classes frames (caught_frame e (table at)) e.handler
-  -- no entry covers an `<init>` on the own object that is not initialized (this product's own rule)
+  -- no entry covers a call of an `<init>` on the own object, which is not initialized (a rule of this project, stricter
+  -- than 4.10.1.6)
   pub uncovered : constructs_own p (table at) ≡ true → (e : ExceptionEntry) → IsAmong e m.exceptions
       → covers e at ≡ false
 

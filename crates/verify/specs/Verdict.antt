@@ -47,7 +47,7 @@ abbrev pub map_fault_number : MapRefusal → ℕ
 map_fault_number (unreadable fault) = read_fault_number fault
 map_fault_number (undeclared why) = number_of why
 
--- the offset and the reason that are told of a refusal
+-- the offset and the reason of a refusal
 abbrev pub told_of : Verdict → Option (ℕ × Reason)
 told_of verified = None
 told_of (refused at why) = Some (at, why)
@@ -105,7 +105,7 @@ table_judged classes m frames [] rest = rest
 table_judged classes m frames (e ∷ es) rest =
     refused_or (least (table_conditions classes m frames e)) 0 (table_judged classes m frames es rest)
 
--- ---- what is asked of an instruction in the frame before it, the frame at the next start aside (4.10.1.6)
+-- ---- the conditions on an instruction in the frame before it, except those on the frame at the next start (4.10.1.6)
 
 -- no frame is declared at a negative offset
 abbrev pub declared_at : Frames → ℤ → Option FrameFact
@@ -137,14 +137,14 @@ abbrev pub is_covered : List ExceptionEntry → ℕ → Bool
 is_covered [] at = false
 is_covered (e ∷ es) at = covers e at || is_covered es at
 
--- what is asked of the frame before besides the typing rule: of the object on which a protected member is used, and of
--- the handlers
+-- the conditions on the frame before besides those of the typing rule: on the object on which a protected member is
+-- used, and on the frames at handlers
 abbrev pub before_conditions : List ClassFact → Method Act → Frames → ℕ → Act → FrameFact → Conditions
 before_conditions classes m frames at act f =
     member_conditions classes m act f ++ handler_conditions classes frames at f m.exceptions
 
--- by its act and its typing rule, with the next start if there is one. No act both branches and uses a member of an
--- object.
+-- all conditions on an instruction, by its act and its typing rule, with the next start if there is one. No act both
+-- branches and uses a member of an object.
 abbrev pub at_conditions : List ClassFact → Method Act → Frames → ℕ → Act → TypingRule → Option ℕ → FrameFact
     → Conditions
 at_conditions classes m frames at act p next f =

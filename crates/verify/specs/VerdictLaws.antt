@@ -8,7 +8,7 @@ use Rattle.rules.specs.Table.{TypingRules}
 use Rattle.verify.specs.TypeSafety.{IsTypeSafeBy}
 use Rattle.verify.specs.Verdict.{verified, verdict}
 
--- of code that begins at 0 (4.7.3)
+-- a method that is verified is type-safe, if its code begins at 0 (4.7.3)
 abbrev pub VerifiedIsTypeSafe : Type 0
 VerifiedIsTypeSafe =
     (typing_rule : TypingRules) (classes : List ClassFact) (m : Method Act) → StartsRise 0 m.code → IsStart m.code 0

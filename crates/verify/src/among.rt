@@ -1,4 +1,4 @@
-//! A class among the classes that it may refer to.
+//! A class among its known classes.
 ghost use Rattle.std.specs.Prelude.{◌≡◌, ℕ, Bool, ◌+◌, List, Err, map};
 ghost use Rattle.classfile.specs.CodeMethods.{judged_class};
 ghost use Rattle.classfile.specs.declared.profile.Profile.{Profile as ProfileFact};
@@ -8,7 +8,7 @@ ghost use Rattle.hierarchy.specs.Summary.{facts_of};
 ghost use Rattle.verify.specs.Files.{Read, read_of, OrMemory, IsRefused, IsFirstRefused};
 ghost use Rattle.verify.specs.Among.{AnswersAmong, ReportsAmong, ExplainsAmong};
 ghost use Rattle.verify.specs.Explaining.{IsExplained};
-ghost use Rattle.verify.specs.AmongSteps.{Adds, BeginWith, ExplainsSummaries, ExplainsFormed};
+ghost use Rattle.verify.specs.private.AmongSteps.{Adds, BeginWith, ExplainsSummaries, ExplainsFormed};
 ghost use Rattle.verify.specs.declared.among.AmongFault.TheVariants.{OutOfMemory};
 
 use crate::explained::{Explained, explain_listed};
@@ -21,16 +21,17 @@ use std::alloc::{AllocError, AllocFailed, Global};
 use std::hash::BuildHasher;
 use thiserror::Error;
 
-/// Why there are no verdicts on the methods of a class among the classes that it may refer to.
+/// Why there are no verdicts on the methods of a class among its known classes.
 #[derive(Clone, Copy, Debug, Error)]
 pub enum AmongFault<'a> {
     /// 1: memory ran out.
     #[error("refused 1")]
     OutOfMemory,
-    /// The class is none that is well formed.
+    /// The file is no class that is well formed.
     #[error("class {0}")]
     Refused(FileFault),
-    /// The known class of this number, which counts from 1, is none that is well formed; those before it are.
+    /// The known file of this number, which counts from 1, is no class that is well formed; the known files before it
+    /// are.
     #[error("known {number} {fault}")]
     KnownRefused { number: usize, fault: FileFault },
     /// The class and the known ones are no hierarchy: 40 to 46.
@@ -55,8 +56,8 @@ fn known_refused<'a>(number: usize, fault: FileFault) -> AmongFault<'a>
     }
 }
 
-/// Puts the summaries of the classes that these files are behind those that are there; or tells the first file that is
-/// refused.
+/// Puts the summaries of the classes in these files behind the summaries that are there; or returns the first file that
+/// is refused.
 fn add_known<'a>(
     alloc: Global,
     known: &[FileRead<'a>],
@@ -73,8 +74,8 @@ fn add_known<'a>(
     Ok(())
 }
 
-/// The verdicts on the methods of the class whose summary is the first of these, and where they are asked for the
-/// frames; or why they are no hierarchy; or 81.
+/// The verdicts on the methods of the class whose summary is the first of these, and the frames where they are asked
+/// for; or why the classes are no hierarchy; or 81.
 fn explain_in<'a, S: BuildHasher + Drop>(
     alloc: Global,
     formed: &Formed<'_, 'a>,
@@ -99,8 +100,8 @@ fn explain_in<'a, S: BuildHasher + Drop>(
     }
 }
 
-/// The verdicts on the methods of a class that is well formed, and where they are asked for the frames, among the
-/// classes that the known files are.
+/// The verdicts on the methods of a class that is well formed, among the classes in the known files; and the frames
+/// where they are asked for.
 fn explain_formed<'a, S: BuildHasher + Drop>(
     alloc: Global,
     formed: &Formed<'_, 'a>,
@@ -117,12 +118,12 @@ fn explain_formed<'a, S: BuildHasher + Drop>(
 }
 
 /// The verdicts on the methods of a class, in the order of the file (JVMS 4.10.1), under the hierarchy of this class
-/// and the known ones. Each file was read so; a class that was not read is refused as one that is no class.
+/// and the known ones. A file that could not be read is refused like one that is no class.
 ///
-/// Refused is, by the first of these that holds: the class, for what its reading, [`decode`](classfile::decode) or
-/// [`form_check`](classfile::form_check) refuses; the first of the known ones that is refused for the same; what
-/// [`Rows::new`] refuses of their summaries, the class's own first (40 to 46); 81, where the superclass of the class is
-/// final. 1 where memory ran out.
+/// The first of these refusals that holds is returned: the class is refused by its reading, by
+/// [`decode`](classfile::decode) or by [`form_check`](classfile::form_check); one of the known files is refused in this
+/// way, the first that is; [`Rows::new`] refuses their summaries, of which the class's own is the first (40 to 46); the
+/// superclass of the class is final (81). 1 where memory ran out.
 pub fn verify_among<'a, S: BuildHasher + Drop>(
     alloc: Global,
     class: FileRead<'a>,
@@ -134,7 +135,7 @@ pub fn verify_among<'a, S: BuildHasher + Drop>(
     verify_among_under(alloc, Profile::Default, class, known, hasher)
 }
 
-/// The verdicts on the methods of a class, by a profile, and where they are asked for the frames.
+/// The verdicts on the methods of a class, by a profile, and the frames where they are asked for.
 fn explain_if<'a, S: BuildHasher + Drop>(
     alloc: Global,
     profile: Profile,
@@ -171,11 +172,11 @@ pub fn verify_among_under<'a, S: BuildHasher + Drop>(
     }
 }
 
-/// The verdicts on the methods of a class, by a profile, as [`verify_among_under`] gives them, and of each method that
-/// is refused the frames at the instruction at which it is (JVMS 4.10.1.6): the one that comes to it, and the one that
-/// is declared there. No frame where the refusal is at no instruction: where the receiver and the parameters do not
-/// fit, where the stack map is refused, or where the bytes are no code. The code of each such method is walked over
-/// once more.
+/// The verdicts on the methods of a class, by a profile, as [`verify_among_under`] gives them; and, for each method
+/// that is refused, the frames at the instruction at which it is (JVMS 4.10.1.6): the frame that comes to it, and the
+/// declared frame there. There is no frame where the refusal is at no instruction: where the receiver and the
+/// parameters do not fit, where the stack map is refused, or where the bytes are no code. The code of each method that
+/// is refused is walked over once more.
 pub fn explain_among_under<'a, S: BuildHasher + Drop>(
     alloc: Global,
     profile: Profile,

@@ -1,4 +1,4 @@
-//! A method's code, and all by which its instructions are judged.
+//! A method's code, its instructions, its declared frames, and the classes that it may name.
 ghost use Rattle.std.specs.Prelude.{◌≡◌};
 ghost use Rattle.frames.specs.DeclaredTables.{locals_in};
 ghost use Rattle.frames.specs.MarkedCode.{code_in};
@@ -8,10 +8,10 @@ use frames::{CodeStarts, DeclaredFrames};
 use hierarchy::Classes;
 use std::alloc::Global;
 
-/// The code of a method, and all by which its instructions are judged (JVMS 4.10.1.6).
+/// The code of a method, with everything that is needed to judge its instructions (JVMS 4.10.1.6).
 #[derive(Drop)]
 pub struct Body<'n, 'a, C: Classes> {
-    /// Where memory comes from.
+    /// The allocator.
     pub alloc: Global,
     /// The method, with its Code attribute.
     pub method: &'n CodeMethod<'n, 'a>,

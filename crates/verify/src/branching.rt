@@ -6,8 +6,8 @@ ghost use Rattle.frames.specs.DeclaredTables.{frames_in, locals_in, declared_vie
 ghost use Rattle.rules.specs.Held.{held};
 ghost use Rattle.verify.specs.Verdict.{declared_at, target_conditions};
 ghost use Rattle.rules.specs.Outcomes.{Judges};
-ghost use Rattle.verify.specs.Targets.{IsPlace, Compares};
-ghost use Rattle.verify.specs.Known.{IsKnown};
+ghost use Rattle.verify.specs.private.Targets.{IsPlace, Compares};
+ghost use Rattle.verify.specs.private.Known.{IsKnown};
 
 use crate::flow::check_answer;
 use crate::known::Known;

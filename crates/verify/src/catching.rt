@@ -10,12 +10,12 @@ ghost use Rattle.frames.specs.DeclaredTables.{frames_in, locals_in, declared_vie
 ghost use Rattle.frames.specs.HeldFrames.{held_locals};
 ghost use Rattle.rules.specs.After.{with_stack};
 ghost use Rattle.rules.specs.Held.{held};
-ghost use Rattle.verify.specs.ExceptionTables.{entry_view};
-ghost use Rattle.verify.specs.Catching.{caught_answer};
-ghost use Rattle.verify.specs.Keeping.{AreKnown};
+ghost use Rattle.verify.specs.private.ExceptionTables.{entry_view};
+ghost use Rattle.verify.specs.private.Catching.{caught_answer};
+ghost use Rattle.verify.specs.private.Keeping.{AreKnown};
 
 use crate::exceptions::Entry;
-use crate::keeping::KnownLocals;
+use crate::local_facts::KnownLocals;
 use frames::{Declared, DeclaredFrames, VType, assignable, both, reference_to, width};
 use hierarchy::{Answer, Classes};
 use names::RefType;

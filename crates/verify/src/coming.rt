@@ -36,8 +36,8 @@ use names::FieldType;
 use rules::{ClassConstants, Reason, Working, goes_on, run};
 use std::alloc::{AllocError, Global};
 
-/// Frames are told of a method where those of the methods in front of it have fewer types than this, so that all of
-/// them take memory that is linear in the class.
+/// The frames of a method are kept where those of the methods before it have fewer types than this, so that all of them
+/// take memory that is linear in the class.
 pub const MOST_KEPT: usize = 65_536;
 
 /// The frames at an instruction of a method (JVMS 4.10.1.6).
@@ -64,7 +64,7 @@ impl<'a> FramesAt<'a> {
         }
     }
 
-    /// How many are left of a number of types behind these frames; 0 where they have more.
+    /// A number less the types of these frames; 0 where they have more.
     pub fn taken_off(&self, left: usize) -> usize
         ensures { result ≡ left - frames_size (frames_view self.now) }
     {
@@ -120,8 +120,8 @@ fn stopped(reason: Reason<'_>) -> Result<bool, VerifyFault>
     }
 }
 
-/// Runs an instruction that means this by its rule, on the frame before it, which becomes the frame after; whether that
-/// goes on. Nothing is said of the frame where it does not.
+/// Runs an instruction with this act on the frame before it, which becomes the frame after. Returns whether the frame
+/// goes on to the next instruction; where it does not, nothing is said of the frame.
 fn go_on<'a, C: Classes>(
     body: &Body<'_, 'a, C>,
     at: u16,
@@ -158,7 +158,7 @@ fn go_on<'a, C: Classes>(
 }
 
 /// Goes from an instruction to the next: the frame that is declared there, or otherwise the one that comes, becomes the
-/// one after; whether that goes on.
+/// frame after. Returns whether the frame goes on.
 fn step<'a, C: Classes>(
     body: &Body<'_, 'a, C>,
     at: u16,
@@ -225,7 +225,7 @@ fn difference_if<'a, C: Classes>(
     }
 }
 
-/// The frame that comes, if it does, the one that is declared, and their difference.
+/// The frame that comes, if one does, the declared frame, if there is one, and their first difference.
 fn meet<'a, C: Classes>(
     alloc: Global,
     comes: bool,

@@ -7,7 +7,7 @@ ghost use Rattle.hierarchy.specs.Rules.{IsHierarchy};
 ghost use Rattle.verify.specs.Files.{Read, read_of, OrMemory};
 ghost use Rattle.verify.specs.Standing.{standing};
 ghost use Rattle.verify.specs.Each.{AreClasses, IsJudged, AreJudged, JudgesEach, JudgesNone};
-ghost use Rattle.verify.specs.EachSteps.{IsNone};
+ghost use Rattle.verify.specs.private.EachSteps.{IsNone};
 ghost use Rattle.verify.specs.declared.each.EachFault.TheVariants.{OutOfMemory};
 
 use crate::files::{FileFault, FileRead, class_in, formed};
@@ -123,8 +123,8 @@ fn judge_all<'a, C: Classes>(
     Ok(judgements)
 }
 
-/// The answers about these files by a profile, in the hierarchy that classes are. What the classes of these names
-/// inherit is found before.
+/// The answers about these files by a profile, in the hierarchy of these classes. The members that the classes of these
+/// names inherit are found first.
 fn judge_among<'a, S: BuildHasher + Drop>(
     alloc: Global,
     profile: Profile,
@@ -150,13 +150,12 @@ fn names_of<'a>(alloc: Global, classes: &[Summary<'a>]) -> Result<Vec<&'a [u8]>,
     classes.iter().map(|class| class.name).collect(alloc)
 }
 
-/// The answers about these files by a profile, in their order: of each the verdicts on the methods of its class (JVMS
-/// 4.10.1), or why there are none. The hierarchy is made once. It has the classes that all files are, these and the
-/// known ones; of those with one name the first. A file that is refused is left out, and so is each class that does not
-/// stand: it, or a class above it, breaks a rule of hierarchies (40 to 46), or has a superclass that is not there. Each
-/// file was read so.
+/// The answers about these files by a profile, in their order: for each the verdicts on the methods of its class (JVMS
+/// 4.10.1), or why there are none. The hierarchy is made once. It has the classes of all files, these and the known
+/// ones; of classes with one name it has the first. A file that is refused is left out, and so is each class that does
+/// not stand: it, or a class above it, breaks a rule of hierarchies (40 to 46), or has a superclass that is not there.
 ///
-/// Refused is what [`Rows::new`] refuses of the classes that stand (43, 45). 1 where memory ran out.
+/// It is refused where [`Rows::new`] refuses the classes that stand (43, 45). 1 where memory ran out.
 pub fn verify_each<'a, S: BuildHasher + Drop>(
     alloc: Global,
     profile: Profile,

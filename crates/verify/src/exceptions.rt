@@ -9,7 +9,7 @@ ghost use Rattle.frames.specs.MarkedCode.{code_in};
 ghost use Rattle.rules.specs.Bodies.{method_view};
 ghost use Rattle.verify.specs.Verdict.{is_end, table_conditions};
 ghost use Rattle.rules.specs.Outcomes.{Judges};
-ghost use Rattle.verify.specs.ExceptionTables.{entry_view, IsEntry, AreNumbered, has_places, JudgesTable};
+ghost use Rattle.verify.specs.private.ExceptionTables.{entry_view, IsEntry, AreNumbered, has_places, JudgesTable};
 
 use crate::flow::check_answer;
 use classfile::{CodeMethod, ExceptionHandler};

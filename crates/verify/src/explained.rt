@@ -22,7 +22,7 @@ use std::alloc::Global;
 pub struct Explained<'a> {
     /// The verdicts.
     pub report: Report<'a>,
-    /// The frames of each method, in the order of the file; no frame of a method that is not refused, and none of one
+    /// The frames of each method, in the order of the file. A method that is not refused has none, and neither has one
     /// behind frames of 65,536 types.
     pub frames: Vec<FramesAt<'a>>,
 }
@@ -51,7 +51,7 @@ fn frames_at<'a, C: Classes>(
     }
 }
 
-/// The frames of the method of a number, on which this is the verdict, where frames are told of it.
+/// The frames of the method of a number, on which this is the verdict, if its frames are kept.
 fn frames_on<'a, C: Classes>(
     alloc: Global,
     formed: &Formed<'_, 'a>,

@@ -2,7 +2,7 @@
 ghost use Rattle.std.specs.Prelude.{◌≡◌, Ok, MatchResult};
 ghost use Rattle.classfile.specs.Views.{class_view};
 ghost use Rattle.verify.specs.Files.{read_of, IsDecoded, IsFormed, OrMemory};
-ghost use Rattle.verify.specs.FileSteps.{Forms, Summarises};
+ghost use Rattle.verify.specs.private.FileSteps.{Forms, Summarises};
 
 use classfile::{ClassFile, FormFault, FormRule, Formed, Place, decode, form_check};
 use hierarchy::{Summary, summary_of};
@@ -25,7 +25,7 @@ pub enum FileFault {
     /// 1: memory ran out.
     #[error("refused 1")]
     OutOfMemory,
-    /// The file could not be read: 15, or what else is said of its reading.
+    /// The file could not be read: 15, or another fault of its reading.
     #[error(transparent)]
     Unread(ReadFault),
     /// The bytes are no class file: 2, 3, 7, 10 to 14 or 16.
@@ -47,7 +47,7 @@ fn decoded<'a>(alloc: Global, bytes: &'a [u8]) -> Result<ClassFile<'a>, FileFaul
     }
 }
 
-/// The class file that a file is, which was read so.
+/// The class file in a file, by its bytes or by why it could not be read.
 pub fn class_in<'a>(alloc: Global, read: FileRead<'a>) -> Result<ClassFile<'a>, FileFault>
     ensures { MatchResult result (λ c. IsDecoded (read_of read.entry) (class_view c)) (OrMemory (read_of read.entry)) }
 {
@@ -68,9 +68,8 @@ pub fn formed<'c, 'a>(alloc: Global, class: &'c ClassFile<'a>) -> Result<Formed<
     }
 }
 
-/// The class file that a file is, which was read so and is well formed; or why it is none, by the first of these: it
-/// could not be read; what [`decode`] refuses (2, 3, 7, 10 to 14, 16); what [`form_check`] refuses (20 to 30). 1 where
-/// memory ran out.
+/// The class file in a file, which is well formed; or why there is none, by the first of these: the file could not be
+/// read; [`decode`] refuses it (2, 3, 7, 10 to 14, 16); [`form_check`] refuses it (20 to 30). 1 where memory ran out.
 pub fn class_file<'a>(alloc: Global, read: FileRead<'a>) -> Result<ClassFile<'a>, FileFault>
     ensures { MatchResult result (λ c. IsFormed (read_of read.entry) (class_view c)) (OrMemory (read_of read.entry)) }
 {
@@ -79,7 +78,7 @@ pub fn class_file<'a>(alloc: Global, read: FileRead<'a>) -> Result<ClassFile<'a>
     Ok(class)
 }
 
-/// The summary of the class that a file is, which was read so; or why it is no class that is well formed.
+/// The summary of the class in a file; or why the file is no class that is well formed.
 pub fn summary_in<'a>(alloc: Global, read: FileRead<'a>) -> Result<Summary<'a>, FileFault>
     ensures { Summarises (read_of read.entry) result }
 {

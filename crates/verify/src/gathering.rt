@@ -1,9 +1,9 @@
-//! The classes that files are, of one name the first, with the place of each.
+//! The classes in files, the first of each name, with the place of each.
 ghost use Rattle.std.specs.Prelude.{◌≡◌, [], map, OnOk};
 ghost use Rattle.hierarchy.specs.Summary.{fact_of, facts_of};
 ghost use Rattle.verify.specs.Files.{Read, read_of, OrMemory, IsRefused};
 ghost use Rattle.verify.specs.Each.{with_class, AddsFile, AddsFiles};
-ghost use Rattle.verify.specs.EachSteps.{ArePlaced};
+ghost use Rattle.verify.specs.private.EachSteps.{ArePlaced};
 
 use crate::files::{FileFault, FileRead, summary_in};
 use hierarchy::Summary;
@@ -44,7 +44,7 @@ impl<'a> Gathered<'a> {
         Ok(())
     }
 
-    /// Adds the class that a file is, which is passed over where it is refused.
+    /// Adds the class in a file. A file that is refused is passed over.
     fn add_file(&mut self, alloc: Global, file: FileRead<'a>) -> Result<(), AllocError>
         requires placed { ArePlaced (facts_of self.old.classes.items) self.old.places }
         ensures added { OnOk result (AddsFile (read_of file.entry) (facts_of self.old.classes.items)
@@ -57,7 +57,7 @@ impl<'a> Gathered<'a> {
         }
     }
 
-    /// Adds the classes that these files are, in their order. The only refusal is want of memory.
+    /// Adds the classes in these files, in their order. The only refusal: memory ran out.
     pub fn add_files(&mut self, alloc: Global, files: &[FileRead<'a>]) -> Result<(), AllocError>
         requires placed { ArePlaced (facts_of self.old.classes.items) self.old.places }
         ensures added { OnOk result (AddsFiles (map read_of files.now) (facts_of self.old.classes.items)
@@ -71,7 +71,7 @@ impl<'a> Gathered<'a> {
     }
 }
 
-/// Passes over a file that is refused, unless that is for want of memory.
+/// Passes over a file that is refused, unless memory ran out.
 fn passed_over(fault: FileFault) -> Result<(), AllocError>
     ensures { (read : Read) → OrMemory read fault → OnOk result (IsRefused read fault) }
 {

@@ -6,23 +6,21 @@ ghost use Rattle.frames.specs.VerificationType.{type_of};
 ghost use Rattle.rules.specs.After.{top_of};
 ghost use Rattle.rules.specs.Held.{held};
 ghost use Rattle.rules.specs.Replacing.{ChangesOnly};
-ghost use Rattle.verify.specs.Handling.{IsEarlier, IsAmong, Takes, TakesAt, HaveSameLocals, IsRepresented, AreRepresented};
-ghost use Rattle.verify.specs.Asking.{IsAsked};
+ghost use Rattle.verify.specs.private.Handling.{IsEarlier, IsAmong, Takes};
+ghost use Rattle.verify.specs.private.Asking.{IsAsked};
 
 use crate::catching::{caught_answer, takes};
 use crate::exceptions::Entry;
-use crate::keeping::{KnownLocals, Replaced};
+use crate::local_facts::{KnownLocals, Replaced};
+use crate::representatives::Representatives;
 use frames::{Declared, DeclaredFrames, VType, is_object};
 use hierarchy::{Answer, Classes};
 use insn::Act;
 use rules::{Reason, Working, stored_to};
 use std::alloc::{AllocError, Global};
 
-// So many changes are kept that all settled entries took.
+// The most changes that are kept in `taken`.
 const MOST_TAKEN: usize = 256;
-
-// With so many representatives, the latest ones, the frame of a handler is compared.
-const LATEST: usize = 8;
 
 /// The class that is missing for the entry that stands first in the table, of those whose comparison needs one.
 #[derive(Clone, Copy)]
@@ -46,25 +44,25 @@ pub struct Change<'a> {
 /// given a type that its handler's frame does not take, as long as its range has not ended.
 #[derive(Drop)]
 pub struct Handlers<'a> {
-    // By where their ranges begin.
+    // All entries, in the order in which their ranges begin.
     by_start: Vec<Entry<'a>>,
-    // How many of them have begun.
+    // How many of these ranges have begun.
     begun: usize,
     // Entries that are to be compared with the frame.
     fresh: Vec<Entry<'a>>,
     // Entries already checked against the current locals.
     settled: Vec<Entry<'a>>,
-    // Handlers, by their offsets: the frame of each settled entry's handler has the locals of the frame of one of them.
-    representatives: Vec<u16>,
-    // Changes that the frames of their handlers take, so that another one of these is not compared.
+    // Handlers; the frame of each settled entry's handler has the locals of the frame of one of them.
+    representatives: Representatives,
+    // Changes that the frames of all settled entries' handlers take, so that they need not be compared again.
     taken: Vec<Change<'a>>,
-    // Entries that are gone through.
+    // Room for the settled entries while they are gone through.
     moved: Vec<Entry<'a>>,
-    // Where the frame of a handler is written.
+    // Room for the frame of a handler.
     room: Vec<VType<'a>>,
 }
 
-/// Whether a change is one of these.
+/// Whether a change is among these.
 fn is_among(change: &Change<'_>, taken: &[Change<'_>]) -> bool
     ensures { result ≡ true → IsAmong taken.now change.now.local (type_of change.now.vtype) }
 {
@@ -76,7 +74,7 @@ fn is_among(change: &Change<'_>, taken: &[Change<'_>]) -> bool
     false
 }
 
-/// The first of these, by their places.
+/// The one of these that has the first place in the table.
 fn earlier<'a>(one: Option<Missing<'a>>, place: usize, name: &'a [u8]) -> Missing<'a>
     ensures { IsEarlier one.entry place name.now result }
 {
@@ -164,101 +162,6 @@ fn ask<'n, 'a, C: Classes>(
     Some(Asked { declared, takes })
 }
 
-/// Whether the frame of a handler takes a change.
-fn takes_at<'a, C: Classes>(
-    handler: u16,
-    change: &Change<'a>,
-    frames: &DeclaredFrames<'a>,
-    classes: &C,
-) -> bool
-    ensures { result ≡ true → TakesAt (C.content classes.now) (frames_in frames.now) handler change.now.local
-        (type_of change.now.vtype) }
-{
-    match frames.find(u32::from(handler)) {
-        None => false,
-        Some(declared) => takes(&declared, change.local, &change.vtype, classes),
-    }
-}
-
-/// Whether the frame of each of these handlers takes a change.
-fn all_take<'a, C: Classes>(
-    handlers: &[u16],
-    change: &Change<'a>,
-    frames: &DeclaredFrames<'a>,
-    classes: &C,
-) -> bool
-    ensures { result ≡ true → All
-        (λ h. TakesAt (C.content classes.now) (frames_in frames.now) h change.now.local
-        (type_of change.now.vtype)) handlers.now }
-{
-    for handler in handlers {
-        if !takes_at(*handler, change, frames, classes) {
-            return false;
-        }
-    }
-    true
-}
-
-/// Whether the frame of a handler is known to have the locals of that of another one.
-fn has_locals_of(handler: u16, other: u16, frames: &DeclaredFrames<'_>) -> bool
-    ensures { result ≡ true → HaveSameLocals (frames_in frames.now) handler other }
-{
-    if handler == other {
-        return true;
-    }
-    let Some(one) = frames.find(u32::from(handler)) else {
-        return false;
-    };
-    match frames.find(u32::from(other)) {
-        None => false,
-        Some(two) => one.keeps_locals_of(&two),
-    }
-}
-
-/// Whether the frame of a handler is known to have the locals of that of one of the last of these handlers.
-fn is_represented(handler: u16, representatives: &[u16], frames: &DeclaredFrames<'_>) -> bool
-    ensures { result ≡ true → IsRepresented (frames_in frames.now) representatives.now handler }
-{
-    let first = representatives.len().saturating_sub(LATEST);
-    for place in first..representatives.len() {
-        if has_locals_of(handler, representatives[place], frames) {
-            return true;
-        }
-    }
-    false
-}
-
-/// Makes the handler one of these representatives, unless one of them is known to stand for it.
-fn represent(
-    representatives: &mut Vec<u16>,
-    handler: u16,
-    frames: &DeclaredFrames<'_>,
-) -> Result<(), AllocError>
-    ensures now { OnOk result (IsRepresented (frames_in frames.now) representatives.new.items handler) }
-    ensures more { OnOk result ((h : ℕ) → Contains representatives.old.items h → Contains representatives.new.items h) }
-{
-    if is_represented(handler, representatives, frames) {
-        return Ok(());
-    }
-    representatives.push(handler)?;
-    Ok(())
-}
-
-/// Gives the handlers of these entries representatives, in the place of others.
-fn represent_all(
-    representatives: &mut Vec<u16>,
-    entries: &[Entry<'_>],
-    frames: &DeclaredFrames<'_>,
-) -> Result<(), AllocError>
-    ensures { OnOk result (AreRepresented (frames_in frames.now) representatives.new.items entries.now) }
-{
-    representatives.clear();
-    for entry in entries {
-        represent(representatives, entry.handler, frames)?;
-    }
-    Ok(())
-}
-
 impl<'a> Handlers<'a> {
     ghost use Rattle.std.specs.Prelude.{◌<◌, ◌≤◌, List, length, map, set, slice_index_or, None, IfOk};
     ghost use Rattle.std.specs.List.Sorted.{IsNonDecreasingBy};
@@ -273,9 +176,9 @@ impl<'a> Handlers<'a> {
     ghost use Rattle.rules.specs.Ways.{stored_to};
     ghost use Rattle.rules.specs.Working.{with_locals};
     ghost use Rattle.verify.specs.TypeSafety.{Frames};
-    ghost use Rattle.verify.specs.Keeping.{AreKnown, IsKept, restored};
-    ghost use Rattle.verify.specs.ExceptionTables.{entry_view, AreNumbered};
-    ghost use Rattle.verify.specs.Handling.{AreCompared, Follows, AreAhead, Settles, Catches};
+    ghost use Rattle.verify.specs.private.Keeping.{AreKnown, IsKept, restored};
+    ghost use Rattle.verify.specs.private.ExceptionTables.{entry_view, AreNumbered};
+    ghost use Rattle.verify.specs.private.Handling.{AreCompared, Follows, AreAhead, Settles, Catches};
     ghost use Rattle.frames.specs.Conditions.{least};
     ghost use Rattle.verify.specs.Verdict.{entered, is_covered, handler_conditions};
     ghost use Rattle.verify.specs.declared.exceptions.Entry as entries;
@@ -293,14 +196,14 @@ impl<'a> Handlers<'a> {
             begun: 0,
             fresh: Vec::new(alloc),
             settled: Vec::new(alloc),
-            representatives: Vec::new(alloc),
+            representatives: Representatives::new(alloc),
             taken: Vec::new(alloc),
             moved: Vec::new(alloc),
             room: Vec::new(alloc),
         })
     }
 
-    // The next one whose range has begun at an offset.
+    // The next entry whose range has begun at an offset.
     fn next(&self, at: u16) -> Option<Entry<'a>>
         ensures some { IfSome result (λ e. (self.now.begun < length self.now.by_start.items) × (e.from ≤ at)
             × ((d : entries.Entry) → slice_index_or self.now.by_start.items self.now.begun d ≡ e)) }
@@ -317,7 +220,7 @@ impl<'a> Handlers<'a> {
         Some(entry)
     }
 
-    /// Comes to an offset: those whose ranges have begun there are to be compared.
+    /// Comes to an offset: the entries whose ranges have begun there are to be compared.
     pub fn come_to(&mut self, at: u16) -> Result<(), AllocError>
         ensures { (cs : List ClassFact) (frames : Frames) (es : List ExceptionEntry) (f : FrameFact)
             → Follows cs frames es at f self.old
@@ -340,7 +243,7 @@ impl<'a> Handlers<'a> {
         self.fresh.is_empty() && self.next(at).is_none()
     }
 
-    // The frame becomes another one, with which all are to be compared.
+    // The frame becomes another one, with which all entries are to be compared.
     fn compare_again(&mut self) -> Result<(), AllocError>
         ensures { (cs : List ClassFact) (frames : Frames) (es : List ExceptionEntry) (at : ℕ) (f g : FrameFact)
             → Follows cs frames es at f self.old → OnOk result (Follows cs frames es at g self.new) }
@@ -391,14 +294,14 @@ impl<'a> Handlers<'a> {
             → OnOk result (Follows cs t es at g self.new
             × All (λ e. Takes cs t e change.now.local (type_of change.now.vtype)) self.new.settled.items) }
     {
-        if all_take(&self.representatives, change, frames, classes) {
+        if self.representatives.all_take(change, frames, classes) {
             return Ok(());
         }
         self.part(change, frames, classes)?;
-        represent_all(&mut self.representatives, &self.settled, frames)
+        self.representatives.become_those_of(&self.settled, frames)
     }
 
-    // A local is given a type. Where it was given that before, nothing is compared.
+    // A local is given a type. Where it was given this type before, nothing is compared.
     fn change<C: Classes>(
         &mut self,
         local: u16,
@@ -487,9 +390,9 @@ impl<'a> Handlers<'a> {
         self.fill_half(local, frame, frames, classes)
     }
 
-    /// The frame becomes the one after an instruction that means this. Behind a store, entries whose handlers' frames
-    /// take the type are not compared again. Another instruction changes no other locals than those that hold an
-    /// object, and the flag where it is a constructor's call on the own one.
+    /// The frame becomes the one after an instruction with this act. Behind a store, entries whose handlers' frames
+    /// take the type are not compared again. Another instruction changes no locals but those that hold an object, and
+    /// the flag where it calls an `<init>` on the own object.
     pub fn behind<C: Classes>(
         &mut self,
         act: &Act<'_>,
@@ -561,8 +464,8 @@ impl<'a> Handlers<'a> {
         Ok(())
     }
 
-    /// The frame, of which this is known, becomes a declared one, if one is. Where few locals become others, entries
-    /// whose handlers' frames take them are not compared again.
+    /// The frame, about which these facts are known, becomes the declared one, if there is one. Where few locals
+    /// change, entries whose handlers' frames take the changes are not compared again.
     pub fn enter<'n, C: Classes>(
         &mut self,
         known: &KnownLocals<'n, 'a>,
@@ -591,7 +494,7 @@ impl<'a> Handlers<'a> {
         self.pass(&from, &to, frames, classes)
     }
 
-    // Compares those that are to be compared, but for one against which there is a reason.
+    // Compares the entries that are to be compared, up to one against which there is a reason.
     fn settle<'n, C: Classes>(
         &mut self,
         at: u16,
@@ -621,13 +524,13 @@ impl<'a> Handlers<'a> {
                 Answer::No => return Err(Reason::HandlerNotAssignable),
                 Answer::Missing(name) => missing = Some(earlier(missing, entry.place, name)),
             }
-            represent(&mut self.representatives, entry.handler, frames)?;
+            self.representatives.add(entry.handler, frames)?;
             self.settled.push(entry)?;
         }
         Ok(missing)
     }
 
-    /// Whether an entry covers an offset that it came to. Those whose ranges have ended are dropped.
+    /// Whether an entry covers the offset to which the pass has come. Entries whose ranges have ended are dropped.
     pub fn covers(&mut self, at: u16) -> Result<bool, AllocError>
         ensures { (cs : List ClassFact) (frames : Frames) (es : List ExceptionEntry) (f : FrameFact)
             → Follows cs frames es at f self.old → AreAhead at self.old
@@ -644,8 +547,8 @@ impl<'a> Handlers<'a> {
         Ok(false)
     }
 
-    /// The frame before an instruction comes to the handler of each entry that covers it, what is caught being alone on
-    /// its stack: 73 and 77 by their comparison, 77 by the first of them.
+    /// The frame before an instruction, with the caught exception alone on its stack, comes to the handler of each
+    /// entry that covers the instruction: 73 and 77 by their comparison, 77 by the first of these entries.
     pub fn catch<'n, C: Classes>(
         &mut self,
         at: u16,

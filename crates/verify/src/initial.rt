@@ -13,8 +13,8 @@ use names::{FieldType, OBJECT};
 use rules::own_class;
 use std::alloc::{AllocError, Global};
 
-/// The type of the receiver when the method begins (JVMS 4.10.1.6), which a static method has not. That of a
-/// constructor is not initialized, but for Object's.
+/// The type of the receiver when the method begins (JVMS 4.10.1.6); a static method has none. The receiver of an
+/// `<init>` is not initialized, unless it is Object's `<init>`.
 fn receiver<'a>(method: &CodeMethod<'_, 'a>) -> Option<VType<'a>>
     ensures { let m = method_view method.now in
         option_to_list (option_map type_of result) ≡ receiver_types m (receiver_of m) }
@@ -30,7 +30,7 @@ fn receiver<'a>(method: &CodeMethod<'_, 'a>) -> Option<VType<'a>>
     }
 }
 
-/// Whether the own object is uninitialized when the method begins: that of a constructor, but for Object's.
+/// Whether the own object is uninitialized when the method begins: in each `<init>`, except Object's.
 pub fn begins_uninitialized(method: &CodeMethod<'_, '_>) -> bool
     ensures { result ≡ is_uninitialized (receiver_of (method_view method.now)) }
 {
@@ -40,7 +40,7 @@ pub fn begins_uninitialized(method: &CodeMethod<'_, '_>) -> bool
     method.is_init && own_class(method) != OBJECT
 }
 
-/// Puts the types of what parameters hold behind the others.
+/// Puts the types of the parameters' values behind the others.
 fn put_parameters<'a>(
     parameters: &[FieldType<'a>],
     types: &mut Vec<VType<'a>>,
@@ -71,7 +71,7 @@ pub fn initial_types<'a>(
     Ok(types)
 }
 
-/// A type as a local, a long or double being followed by top.
+/// A type as a local; a long or double is followed by top.
 fn put_local<'a>(t: VType<'a>, locals: &mut Vec<VType<'a>>) -> Result<(), AllocError>
     ensures { OnOk result (map type_of locals.new.items ≡ map type_of locals.old.items
         ++ in_locals (type_of t.entry ∷ [])) }

@@ -18,8 +18,8 @@ ghost use Rattle.rules.specs.Naming.{IsNamed};
 ghost use Rattle.verify.specs.InitialFrames.{initial_frame};
 ghost use Rattle.verify.specs.Verdict.{at_conditions, code_judged, is_covered};
 ghost use Rattle.verify.specs.Steps.{Enters, Gives, aside_conditions};
-ghost use Rattle.verify.specs.Known.{IsKnown};
-ghost use Rattle.verify.specs.Handling.{AreAhead, Follows};
+ghost use Rattle.verify.specs.private.Known.{IsKnown};
+ghost use Rattle.verify.specs.private.Handling.{AreAhead, Follows};
 ghost use Rattle.verify.specs.TypeSafety.{Frames};
 
 use crate::body::Body;
@@ -38,9 +38,9 @@ use rules::{
 };
 use std::alloc::AllocError;
 
-/// Judges an instruction that names this, in the frame before it, which becomes the frame after: by its rule, by its
-/// targets, and by what was judged aside. Does not check the next instruction's frame. What is known is known of the
-/// frame after.
+/// Judges an instruction with this act and the constant that it names, in the frame before it, which becomes the frame
+/// after: by its rule and its targets, with the reason that `aside` may hold. It does not judge the frame at the next
+/// instruction. The facts are about the frame after.
 fn judge_named<'n, 'a, C: Classes>(
     body: &Body<'n, 'a, C>,
     at: u16,
@@ -93,7 +93,7 @@ fn judge_named<'n, 'a, C: Classes>(
 }
 
 /// The frame that goes on, if one does, comes to a start, and becomes the one that is declared there, if one is: 69, 70
-/// and 77 as [`enter`] refuses. What is known, and the handlers that were compared, stay so of the frame that it
+/// and 77 as [`enter`] refuses. The facts, and the handlers that were compared, are then about the frame that it
 /// becomes.
 #[inline(never)]
 fn take_up<'n, 'a, C: Classes>(
@@ -177,8 +177,8 @@ fn covers_constructor(own: bool, at: u16, handlers: &mut Handlers<'_>) -> Result
 }
 
 /// Judges an instruction in the frame before it, which becomes the frame after: by its rule, the protected member that
-/// it uses, its targets, and the handlers of the entries that cover it. What is known, and the handlers that were
-/// compared, are so of the frame after.
+/// it uses, its targets, and the handlers of the entries that cover it. The facts, and the handlers that were compared,
+/// are then about the frame after.
 #[inline(never)]
 fn judge_wholly<'n, 'a, C: Classes>(
     body: &Body<'n, 'a, C>,

@@ -4,7 +4,7 @@ ghost use Rattle.hierarchy.specs.Class.{ClassFact};
 ghost use Rattle.frames.specs.FrameFact.{FrameFact};
 ghost use Rattle.frames.specs.declared.declared_frames.DeclaredFrames.{DeclaredFrames};
 
-use crate::keeping::KnownLocals;
+use crate::local_facts::KnownLocals;
 use frames::{Declared, DeclaredFrames, StackFitting, VType};
 use hierarchy::{Answer, Classes};
 use insn::Act;
@@ -14,7 +14,7 @@ use std::alloc::{AllocError, Global};
 /// Facts about the running frame.
 #[derive(Drop)]
 pub struct Known<'n, 'a> {
-    /// Of its locals.
+    /// Facts about its locals.
     pub locals: KnownLocals<'n, 'a>,
     /// Which stacks of declared frames its items fit.
     pub items: StackFitting,
@@ -35,8 +35,8 @@ impl<'n, 'a> Known<'n, 'a> {
     ghost use Rattle.rules.specs.Table.{typing_rule};
     ghost use Rattle.rules.specs.Taken.{KeepsItems};
     ghost use Rattle.rules.specs.Ways.{stored_to};
-    ghost use Rattle.verify.specs.Keeping.{IsKept};
-    ghost use Rattle.verify.specs.Known.{IsKnown};
+    ghost use Rattle.verify.specs.private.Keeping.{IsKept};
+    ghost use Rattle.verify.specs.private.Known.{IsKnown};
 
     /// Nothing is known yet of a frame and the frames of a table, under this limit of the stack in units.
     pub fn new(
@@ -52,7 +52,7 @@ impl<'n, 'a> Known<'n, 'a> {
         })
     }
 
-    /// Whether a frame may stand where one is declared (JVMS 4.10.1.4).
+    /// Whether a frame is assignable to a declared one (JVMS 4.10.1.4).
     pub fn answer<C: Classes>(
         &mut self,
         declared: &Declared<'n, 'a>,
@@ -91,8 +91,8 @@ impl<'n, 'a> Known<'n, 'a> {
         self.items.changed_from(0)
     }
 
-    /// The facts about a frame become those about the one after an instruction that means this. So many items of the
-    /// stack stay, and unless it is a store, it changes no other locals than those that hold an object.
+    /// The facts about a frame become those about the frame after an instruction with this act. So many items of the
+    /// stack stay, and unless the instruction is a store, it changes no locals but those that hold an object.
     pub fn behind(
         &mut self,
         act: &Act<'_>,

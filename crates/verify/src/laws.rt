@@ -20,10 +20,10 @@ pub fn type_safe_is_verified()
     ensures { TypeSafeIsVerified }
 {}
 
-/// A refusal says this, both ways. Receiver and parameters do not fit. Or they do, and an entry of the exception table
-/// is refused, and those in front of it are sound; or the initial frame does not fit the one declared at 0; or the
-/// method is type-safe up to an instruction, and either the reason is the least that holds there, or it is against the
-/// frame at the next start alone.
+/// The meaning of a refusal: it is given exactly where one of these holds. Receiver and parameters do not fit. Or they
+/// do, and an entry of the exception table is refused, and those in front of it are sound; or the initial frame does
+/// not fit the one declared at 0; or the method is type-safe up to an instruction, and either the reason is the least
+/// that holds there, or it is against the frame at the next start alone.
 pub fn refused_where()
     ensures { RefusedWhere }
 {}
@@ -33,10 +33,10 @@ pub fn map_refused_where()
     ensures { MapRefusedWhere }
 {}
 
-/// Each condition that the verdict asks is a field of the definition of type-safe that is broken, with its number, both
-/// ways: 67 and 68 at targets, 73 at handlers, 71, 75, 69 and 70 at the next start, 72 of an entry of the exception
-/// table, 77 of a class that is missing, and the reasons of the rule. So a refusal tells by its number which field is
-/// broken, 64 and 78 at 0 among them, and none with a lesser one is.
+/// Each condition of the verdict holds exactly where a field of the definition of type-safe is broken, and has the
+/// number of this field: 67 and 68 at targets, 73 at handlers, 71, 75, 69 and 70 at the next start, 72 for an entry of
+/// the exception table, 77 for a class that is missing, and the reasons of the rule. So the number of a refusal says
+/// which field is broken, 64 and 78 at 0 among them, and no field with a lesser number is broken.
 pub fn refused_breaks()
     ensures fields { ConditionsAreFields }
     ensures refusal { RefusedBreaks }

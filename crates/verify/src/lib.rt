@@ -1,32 +1,45 @@
-//! Whether methods are type-safe (JVMS 4.10.1), and what is proved of those that are. The call to know is
-//! [`verify_method`]: its answers, case by case, are in specs/Answers.antt.
+//! The verdict on a method: whether it is type-safe (JVMS 4.10.1); and the theorem that a type-safe method is safe. The
+//! call to know is [`verify_method`]: its answers, case by case, are in specs/Answers.antt.
 //!
-//! - `method`: the verdict on a method.
-//! - `verdict`: what is answered.
+//! Methods and classes:
+//!
+//! - `method`: the verdict on a method, step by step; `verdict`: its type; `refusal`: verdicts that refuse.
 //! - `report`: the verdicts on the methods of a class.
+//! - `final_super`: whether the superclass of a class is final; `listing`: whether a hierarchy has a class as it is.
+//! - `play`: the reports on classes whose methods may call each other; `met_names`: the names of the classes before
+//!   one.
+//! - `explained`: a report, with the frames at the instructions at which methods are refused; `coming`: the frames at
+//!   an instruction.
+//!
+//! Files:
+//!
 //! - `files`: from a file as it was read to a class that is well formed.
-//! - `among`: a class among the classes that it may refer to; `together`: the classes of files in play together.
-//! - `each`: the classes of many files, each judged among all; `gathering`: the classes that files are; `standing`: those of them that stand.
-//! - `listing`: whether a hierarchy has a class as it is.
-//! - `final_super`: whether the superclass of a class is final.
-//! - `refusal`: verdicts that refuse.
-//! - `initial`: the frame with which a method begins.
-//! - `judging`: one pass over a method's code, against the verdict in specs/Verdict.antt.
-//! - `body`: a method's code, and all by which its instructions are judged.
-//! - `coming`: the frames at an instruction; `explained`: those at the instructions at which methods are refused.
-//! - `flow`, `branching`: from one instruction to the next, and to its targets.
+//! - `among`: a class among its known classes; `together`: classes in play.
+//! - `each`: the classes of many files, each judged among all; `gathering`: the classes in files, the first of each
+//!   name; `standing`: which of these stand.
+//!
+//! The pass over a method's code:
+//!
+//! - `judging`: one pass, against the verdict in specs/Verdict.antt.
+//! - `body`: a method's code, its instructions, its declared frames, and the classes that it may name.
+//! - `initial`: the frame with which a method begins; `stack_maps`: the frames that a stack map declares.
 //! - `exceptions`: the exception table, which is judged before the code.
-//! - `handlers`, `catching`: the exception handlers while the pass goes on, and the frame that comes to one.
-//! - `keeping`: facts about the locals of the running frame.
-//! - `known`: facts about the running frame.
-//! - `comparisons`: what is known of the running frame, and with which declared frames it was compared.
-//! - `place_set`: which declared frames were compared.
-//! - `stack_maps`: the frames that a stack map declares.
+//! - `flow`, `branching`: from one instruction to the next, and to its targets.
+//! - `handlers`, `catching`: the exception handlers during the pass, and the frame that comes to one.
+//!
+//! The pass compares the running frame with a declared one only where they may differ since the last comparison:
+//!
+//! - `known`: facts about the running frame; `local_facts`: facts about its locals.
+//! - `comparisons`: these facts, and the declared frames with which the running frame was compared; `place_set`: sets
+//!   of declared frames.
+//! - `representatives`: handlers that stand for others, since their frames have the same locals.
+//!
+//! Theorems:
+//!
 //! - `theorem`: type-safe methods are safe, one by one and where calls enter them.
-//! - `play`: the reports on classes whose methods may call each other; `met_names`: the names of those that were met.
-//! - `verified_walk`: walks of the machine through methods that are verified.
-//! - `laws`: the verdict on a method is verified exactly where it is type-safe, there is one, what a refusal says and which
-//!   condition its number stands for, that in the machine a type takes what the verifier lets it take, and that walks are runs.
+//! - `laws`: a method is verified exactly where it is type-safe; it has one verdict; the meaning of each refusal and of
+//!   its number; a type of the machine takes what the verifier lets it take; walks are runs.
+//! - `verified_walk`: walks of the machine through verified methods.
 #![tactic(auto)]
 
 mod among;
@@ -45,16 +58,17 @@ mod gathering;
 mod handlers;
 mod initial;
 mod judging;
-mod keeping;
 mod known;
 mod laws;
 mod listing;
+mod local_facts;
 mod met_names;
 mod method;
 mod place_set;
 mod play;
 mod refusal;
 mod report;
+mod representatives;
 mod stack_maps;
 mod standing;
 mod theorem;

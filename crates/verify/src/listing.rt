@@ -75,7 +75,7 @@ pub fn has_summary<C: Classes>(summary: &Summary<'_>, classes: &C) -> bool
     }
 }
 
-/// Whether the hierarchy has a class with exactly the summary of this one. The only refusal is want of memory.
+/// Whether the hierarchy has a class with exactly the summary of this one. The only refusal: memory ran out.
 pub fn is_listed<C: Classes>(
     alloc: Global,
     formed: &Formed<'_, '_>,

@@ -39,7 +39,7 @@ use names::{FieldType, MethodType, method_type};
 use rules::{ClassConstants, Reason, Working};
 use std::alloc::Global;
 
-/// The types that a method's descriptor names. The only refusal is want of memory.
+/// The types that a method's descriptor names. The only refusal: memory ran out.
 pub fn types_of<'a>(
     alloc: Global,
     method: &CodeMethod<'_, 'a>,
@@ -189,12 +189,15 @@ pub fn verify_listed<'a, C: Classes>(
 ///
 /// - 79 where the first instruction at fault begins, with the number of its fault (31 to 35);
 /// - 64 at 0: the receiver and the parameters do not fit into max_locals;
-/// - 78 at 0, with the number of its fault: the stack map is refused, by its bytes (2, 12, 47, 48) or by an entry (8, 9, 49 to 53);
-/// - 72 or 77 at 0: an entry of the exception table is refused, the first one by the frames that are declared and by what it catches;
-/// - at the first instruction that is refused: 69 or 77 where the frame that comes in is not assignable to the one that is declared
-///   there, 70 where none comes and none is declared; then the least number that holds of what its rule refuses (60 to 66, 74, 76, 77), 67,
-///   68 and 77 for its targets, 77 and 82 for the protected member that it uses, 73 and 77 for the handlers of the entries that cover it, and 71
-///   where the last one goes on.
+/// - 78 at 0, with the number of its fault: the stack map is refused, by its bytes (2, 12, 47, 48) or by an entry (8,
+///   9, 49 to 53);
+/// - 72 or 77 at 0: an entry of the exception table is refused, the first that is, by the declared frames and by the
+///   type that it catches;
+/// - at the first instruction that is refused: 69 or 77 where the frame that comes in is not assignable to the one that
+///   is declared there, 70 where none comes and none is declared; then the least number that holds of those of its rule
+///   (60 to 66, 74, 76, 77, 90), 67, 68 and 77 for its targets, 77 and 82 for the protected member that it uses, 73 and
+///   77 for the handlers of the entries that cover it, 75 where such an entry covers its call of an `<init>` on the own
+///   object, and 71 where the last instruction goes on.
 ///
 /// Before all that, 80 where the hierarchy has no class with exactly this class's summary; and 1 where memory ran out.
 pub fn verify_method<'a, C: Classes>(

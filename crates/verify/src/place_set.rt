@@ -1,5 +1,5 @@
 //! A set of places in a list.
-ghost use Rattle.verify.specs.Turns.{ArePast};
+ghost use Rattle.verify.specs.private.Turns.{ArePast};
 
 use std::alloc::{AllocError, Global};
 
@@ -15,7 +15,7 @@ pub struct PlaceSet {
 
 impl PlaceSet {
     ghost use Rattle.std.specs.Prelude.{◌≡◌, ◌||◌, ℕ, not, true, false, nat_eq, IsTrue, OnOk};
-    ghost use Rattle.verify.specs.PlaceSets.{has};
+    ghost use Rattle.verify.specs.private.PlaceSets.{has};
 
     /// The empty one, of a list without places.
     pub fn new(alloc: Global) -> PlaceSet
@@ -49,7 +49,7 @@ impl PlaceSet {
         }
     }
 
-    /// Puts a place in, and tells whether it was not in yet. A place outside the list is never in.
+    /// Puts a place in, and returns whether it was not in yet. A place outside the list is never in.
     pub fn put(&mut self, place: usize) -> bool
         ensures new { result ≡ not (has self.old place) }
         ensures only { (other : ℕ) → has self.new other ≡ true → IsTrue (nat_eq other place || has self.old other) }

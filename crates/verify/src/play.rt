@@ -5,7 +5,7 @@ ghost use Rattle.classfile.specs.Methods.{JudgedClass};
 ghost use Rattle.hierarchy.specs.Class.{ClassFact};
 ghost use Rattle.hierarchy.specs.Rules.{IsHierarchy};
 ghost use Rattle.verify.specs.Plays.{IsFineVerdict, IsFirstRefused, AreFineBelow, ArePlayed, IsNotPlayed, IsStopped, rule_number, play_fault_number};
-ghost use Rattle.verify.specs.PlaySteps.{AreMet, Judges};
+ghost use Rattle.verify.specs.private.PlaySteps.{AreMet, Judges};
 ghost use Rattle.verify.specs.ClassRunSafety.{ArePlayable};
 
 use crate::final_super::has_final_super;
@@ -45,7 +45,7 @@ pub enum PlayFault {
     NotAllVerified { class: usize, method: usize },
 }
 
-/// Why there are no reports, with the verdict on the method that is refused.
+/// Why there are no reports on classes in play, with the verdict on the method that is refused.
 #[derive(Clone, Copy)]
 pub enum PlayStop<'a> {
     /// Memory ran out.
@@ -64,7 +64,7 @@ pub enum PlayStop<'a> {
 }
 
 impl PlayRule {
-    /// The number by which this rule is told.
+    /// The number of this rule.
     pub fn number(&self) -> u8
         ensures { result ≡ rule_number self.now }
     {
@@ -77,7 +77,7 @@ impl PlayRule {
 }
 
 impl PlayFault {
-    /// The number by which this fault is told.
+    /// The number of this fault.
     pub fn number(&self) -> u8
         ensures { result ≡ play_fault_number self.now }
     {
@@ -234,7 +234,7 @@ fn fault_of(stop: PlayStop<'_>) -> PlayFault
 /// are in the order of the list, and each method that has code is verified, by the profile of its class (see
 /// [`Formed::under`]).
 ///
-/// Refused is the first class that breaks a rule, for the least number: 80 and 81 as by
+/// The first class that breaks a rule is refused, with the least number: 80 and 81 as by
 /// [`verify_methods`](crate::verify_methods), 83 where an earlier class has its name, 84 where one of its methods is
 /// refused. 1 where memory ran out.
 ///

@@ -13,7 +13,7 @@ use classfile::{CodeAttr, NestedAttribute};
 use insn::CodeFault;
 use rules::Reason;
 
-/// The verdict that a reason gives.
+/// The verdict that refuses a method for a reason.
 pub fn refuse<'a>(at: u16, reason: Reason<'a>) -> Result<Verdict<'a>, VerifyFault>
     ensures { (v : verdicts.Verdict) → (reason.entry ≡ OutOfMemory) ⊎ (told_of v ≡ Some (at, reason_view reason.entry))
         → Gives v result }
@@ -27,7 +27,7 @@ pub fn refuse<'a>(at: u16, reason: Reason<'a>) -> Result<Verdict<'a>, VerifyFaul
     }
 }
 
-/// The verdict that a fault of the code gives: 79 where the instruction begins.
+/// The verdict that refuses a method for a fault of its code: 79 where the instruction begins.
 pub fn refuse_code<'a>(fault: CodeFault) -> Result<Verdict<'a>, VerifyFault>
     ensures { RefusesCode fault result }
 {

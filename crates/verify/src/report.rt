@@ -35,7 +35,7 @@ pub struct MethodVerdict<'a> {
 /// The verdicts on the methods of a class.
 #[derive(Debug, Drop)]
 pub struct Report<'a> {
-    /// Of each method, in the order of the file.
+    /// The verdict on each method, in the order of the file.
     pub methods: Vec<MethodVerdict<'a>>,
 }
 
@@ -127,8 +127,8 @@ pub fn report_listed<'a, C: Classes>(
 
 /// The verdicts on the methods of a class that is well formed, by its profile (see [`Formed::under`]), in a hierarchy
 /// and in the order of the file (JVMS 4.10.1), each as [`verify_method`](crate::verify_method) answers it. 80 where the
-/// hierarchy has not this class as it is, which is looked up once; otherwise 81 where the superclass is final there; or
-/// 1, where memory ran out.
+/// hierarchy does not have this class as it is, which is looked up once; otherwise 81 where the superclass is final
+/// there; or 1, where memory ran out.
 pub fn verify_methods<'a, C: Classes>(
     alloc: Global,
     formed: &Formed<'_, 'a>,
@@ -149,8 +149,8 @@ pub fn verify_methods<'a, C: Classes>(
     }
 }
 
-/// The verdicts on the methods of the class that these bytes are, in a hierarchy (JVMS 4.10.1). Refused is, by the
-/// first that holds, what [`decode`] refuses, what [`form_check`] refuses, 80, or 81; or 1, where memory ran out.
+/// The verdicts on the methods of the class in these bytes, in a hierarchy (JVMS 4.10.1). The first of these refusals
+/// that holds is returned: that of [`decode`], that of [`form_check`], 80, or 81; or 1, where memory ran out.
 pub fn verify_class<'a, C: Classes>(
     alloc: Global,
     bytes: &'a [u8],
@@ -161,7 +161,7 @@ pub fn verify_class<'a, C: Classes>(
     verify_class_under(alloc, bytes, Profile::Default, classes)
 }
 
-/// The verdicts on the methods of the class that these bytes are, by a profile, as [`verify_class`] gives them.
+/// The verdicts on the methods of the class in these bytes, by a profile, as [`verify_class`] gives them.
 pub fn verify_class_under<'a, C: Classes>(
     alloc: Global,
     bytes: &'a [u8],

@@ -16,7 +16,7 @@ use crate::verdict::VerifyFault;
 use classfile::CodeMethod;
 use frames::{CodeStarts, DeclaredFrames, Limits, VType, declare, read_map};
 use layout::ReadFault;
-use pool::Descriptors;
+use pool::ConstantTypes;
 use std::alloc::Global;
 
 /// The number of a fault in a stack map's bytes.
@@ -37,7 +37,7 @@ pub fn declared_frames<'a>(
     method: &CodeMethod<'_, 'a>,
     types: &[VType<'a>],
     starts: &CodeStarts<'_>,
-    constants: &mut Descriptors<'_, 'a>,
+    constants: &mut ConstantTypes<'_, 'a>,
 ) -> Result<Result<DeclaredFrames<'a>, u8>, VerifyFault>
     requires constants { constants.old ≡ method.now.class.now.constant_pool }
     requires types { map type_of types.now ≡ initial_types (method_view method.now) }

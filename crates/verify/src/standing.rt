@@ -1,13 +1,12 @@
 //! The classes that stand: those whose chain of superclasses leads to Object, and which break no rule on the way.
 ghost use Rattle.std.specs.Prelude.{◌≡◌, ◌^◌, false, map, option_map, IfOk};
 ghost use Rattle.std.specs.Option.{option_map_or};
-ghost use Rattle.hierarchy.specs.Ancestors.{place_after};
 ghost use Rattle.hierarchy.specs.Summary.{fact_of, facts_of};
 ghost use Rattle.verify.specs.Standing.{is_root, is_array_class, has_other_super, super_of, onward, stands, standing};
-ghost use Rattle.verify.specs.EachSteps.{ArePlaced, next_place, class_at, LeadsAhead};
+ghost use Rattle.verify.specs.private.EachSteps.{ArePlaced, next_place, class_at, LeadsAhead};
 
 use crate::gathering::Gathered;
-use hierarchy::Summary;
+use hierarchy::{Summary, twice_as_far};
 use names::{CLONEABLE, OBJECT, SERIALIZABLE};
 use std::alloc::{AllocError, Global};
 use std::collections::BTreeMap;
@@ -77,29 +76,6 @@ fn next_places<'a>(
         .collect(alloc)
 }
 
-/// The place to which a table leads from a place.
-fn place_after(places: &[Option<usize>], place: Option<usize>) -> Option<usize>
-    ensures { result ≡ place_after places.now place }
-{
-    match place {
-        None => None,
-        Some(k) => match places.get(k) {
-            None => None,
-            Some(next) => *next,
-        },
-    }
-}
-
-/// The table for twice as many steps.
-fn doubled(alloc: Global, places: &[Option<usize>]) -> Result<Vec<Option<usize>>, AllocError>
-    ensures { IfOk result (λ twice. twice.items ≡ map (place_after places.now) places.now) }
-{
-    places
-        .iter()
-        .map(|place| place_after(places, *place))
-        .collect(alloc)
-}
-
 /// From each class the place of the class 65,536 steps on, which is Object where it stands. The steps are doubled, so n
 /// classes take time n.
 fn far_places(alloc: Global, gathered: &Gathered<'_>) -> Result<Vec<Option<usize>>, AllocError>
@@ -108,7 +84,7 @@ fn far_places(alloc: Global, gathered: &Gathered<'_>) -> Result<Vec<Option<usize
 {
     let mut places = next_places(alloc, &gathered.classes, &gathered.places)?;
     for _ in 0..16usize {
-        places = doubled(alloc, &places)?;
+        places = twice_as_far(alloc, &places)?;
     }
     Ok(places)
 }

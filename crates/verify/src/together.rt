@@ -1,4 +1,4 @@
-//! The classes that files are, in play together.
+//! The classes in files, in play together.
 ghost use Rattle.std.specs.Prelude.{◌≡◌, ℕ, ◌+◌, ◌<◌, List, length, map, take, IfOk, IfErr, MatchResult};
 ghost use Rattle.classfile.specs.CodeMethods.{judged, judged_class};
 ghost use Rattle.classfile.specs.Methods.{JudgedClass};
@@ -9,7 +9,7 @@ ghost use Rattle.hierarchy.specs.Summary.{facts_of};
 ghost use Rattle.verify.specs.Files.{Read, read_of, OrMemory, IsRefused, IsFirstRefused};
 ghost use Rattle.verify.specs.Plays.{IsStopped};
 ghost use Rattle.verify.specs.Together.{facts_in, HaveReports, HaveNone, ReportsTogether, NotTogether, ArePlayableFiles};
-ghost use Rattle.verify.specs.TogetherSteps.{AreDecoded, AreWellFormed, DecodesAll, views, IsWithin};
+ghost use Rattle.verify.specs.private.TogetherSteps.{AreDecoded, AreWellFormed, DecodesAll, views, IsWithin};
 ghost use Rattle.verify.specs.ClassRunSafety.{ArePlayable};
 
 use crate::files::{FileFault, FileRead, class_in, formed};
@@ -21,7 +21,7 @@ use std::alloc::{AllocError, AllocFailed, Global};
 use std::hash::BuildHasher;
 use thiserror::Error;
 
-/// Why there are no reports on the classes that files are. Classes count from 1.
+/// Why there are no reports on the classes in files. Classes count from 1.
 #[derive(Clone, Copy, Debug, Error)]
 pub enum TogetherFault<'a> {
     /// 1: memory ran out.
@@ -111,7 +111,7 @@ fn decode_all<'a>(alloc: Global, files: &[FileRead<'a>]) -> Result<Decoded<'a>, 
     })
 }
 
-/// The classes as such that are well formed, which are judged by a profile; or the first that breaks a rule.
+/// The classes as well-formed ones, which are judged by a profile; or the first that breaks a rule.
 fn form_all<'c, 'a>(
     alloc: Global,
     profile: Profile,
@@ -214,7 +214,7 @@ fn reports_on<'a, S: BuildHasher + Drop>(
     reports_among(alloc, play, &summaries, hasher)
 }
 
-/// The reports on the classes of files, which were decoded so, by a profile.
+/// The reports on the classes of files, which were decoded, by a profile.
 fn reports_decoded<'a, S: BuildHasher + Drop>(
     alloc: Global,
     profile: Profile,
@@ -237,14 +237,14 @@ fn reports_decoded<'a, S: BuildHasher + Drop>(
     }
 }
 
-/// The reports on the classes that these files are, in the order of the files, where all of them are in play together:
-/// under the hierarchy of these classes, as [`verify_play`](crate::verify_play) answers. Each file was read so; one
-/// that was not read is refused as one that is no class.
+/// The reports on the classes in these files, in the order of the files, where all of them are in play together: under
+/// the hierarchy of these classes, as [`verify_play`](crate::verify_play) answers. A file that could not be read is
+/// refused like one that is no class.
 ///
-/// Refused is, by the first of these that holds: the first file that is refused for what its reading,
-/// [`decode`](classfile::decode) or [`form_check`](classfile::form_check) refuses; what [`Rows::new`] refuses of the
-/// summaries (40 to 46); the first class whose superclass is final (81) or of which a method is refused, with the
-/// verdict on the first such method. 1 where memory ran out.
+/// The first of these refusals that holds is returned: a file is refused by its reading, by
+/// [`decode`](classfile::decode) or by [`form_check`](classfile::form_check), the first that is; [`Rows::new`] refuses
+/// the summaries (40 to 46); the superclass of a class is final (81) or one of its methods is refused, the first such
+/// class, with the verdict on its first such method. 1 where memory ran out.
 pub fn verify_together<'a, S: BuildHasher + Drop>(
     alloc: Global,
     files: &[FileRead<'a>],
@@ -257,7 +257,7 @@ pub fn verify_together<'a, S: BuildHasher + Drop>(
     verify_together_under(alloc, Profile::Default, files, hasher)
 }
 
-/// The reports on the classes that these files are, by a profile, as [`verify_together`] gives them.
+/// The reports on the classes in these files, by a profile, as [`verify_together`] gives them.
 pub fn verify_together_under<'a, S: BuildHasher + Drop>(
     alloc: Global,
     profile: Profile,

@@ -29,7 +29,7 @@ pub enum VerifyFault {
 }
 
 impl VerifyFault {
-    /// The number by which this fault is told.
+    /// The number of this fault.
     pub fn number(&self) -> u8
         ensures { result ≡ verify_fault_number self.now }
     {

@@ -42,7 +42,7 @@ pub enum WalkFault {
 }
 
 impl WalkFault {
-    /// The number by which this fault is told.
+    /// The number of this fault.
     pub fn number(&self) -> u8
         ensures { result ≡ walk_fault_number self.now }
     {
@@ -78,7 +78,7 @@ impl From<VerifyFault> for WalkFault {
     }
 }
 
-/// Whether the method has code and begins in the state. The only refusal is want of memory.
+/// Whether the method has code and begins in the state. The only refusal: memory ran out.
 fn begins_in<'a, C: Classes>(
     alloc: Global,
     formed: &Formed<'_, 'a>,
@@ -108,8 +108,8 @@ fn is_verified(verdict: &Verdict<'_>) -> bool
     }
 }
 
-/// Refuses a method that is not verified, by 80 where the hierarchy has not its class as it is, and otherwise by 56; or
-/// by 1.
+/// Refuses a method that is not verified, with 80 where the hierarchy does not have its class as it is, and otherwise
+/// with 56; or with 1 where memory ran out.
 fn check_verified<C: Classes>(
     alloc: Global,
     formed: &Formed<'_, '_>,
@@ -130,7 +130,7 @@ fn check_verified<C: Classes>(
     Ok(())
 }
 
-/// The walk of a method whose code is instructions. The only refusal is want of memory.
+/// The walk of a method whose code is instructions. The only refusal: memory ran out.
 fn walk_method<'a, C: Classes>(
     alloc: Global,
     formed: &Formed<'_, 'a>,
@@ -165,9 +165,9 @@ fn walk_method<'a, C: Classes>(
 /// No such walk meets a fault, whatever the choices: neither where it stops nor in a state on the way (JVMS 2.6, 2.10,
 /// 4.10.1).
 ///
-/// Refused is, by the least number that holds, a state in which the method does not begin (55), so each one where it
-/// has no code; a method that is not verified (56); a class that the hierarchy has not with exactly its summary (80).
-/// Or 1.
+/// It is refused with the least number that holds: the method does not begin in the state, or has no code (55); the
+/// method is not verified (56); the hierarchy does not have its class with exactly its summary (80). Or with 1 where
+/// memory ran out.
 pub fn walk_verified<'a, C: Classes>(
     alloc: Global,
     formed: &Formed<'_, 'a>,

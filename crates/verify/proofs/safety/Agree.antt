@@ -24,7 +24,7 @@ use Rattle.machine.specs.Effects as effects
 use Rattle.machine.specs.Effects.{Demand, Reply, Effect}
 use Rattle.machine.proofs.Apart.{AllApart, table_apart}
 
--- what a rule asks of an operand, and what the machine demands of it
+-- an expected type of the rules and a demand of the machine say the same of an operand
 abbrev pub IsDemanded : ExpectedType → Demand → Type 0
 IsDemanded (rules.number k) (effects.of_kind l) = k ≡ l
 IsDemanded (rules.assignable_to r) (effects.of_type t) = r ≡ t

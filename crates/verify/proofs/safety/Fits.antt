@@ -270,7 +270,7 @@ slots_map e d h k g w c (s ∷ ss) [] f = elim f [ ]
 
 -- ---- states
 
--- the same view with another map
+-- a view with other maps
 abbrev pub With : View → (ℕ → ℕ) → (ℕ → ℕ) → View
 With e s h = record { world = e.world; method = e.method; own = e.own; site = s; home = h }
 

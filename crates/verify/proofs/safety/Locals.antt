@@ -76,7 +76,7 @@ local_at e h (s ∷ ss) (t ∷ ts) (suc n) k f = local_at e h ss ts n k f.1
 local_at e h [] (t ∷ ts) n k f = elim f [ ]
 local_at e h (s ∷ ss) [] n k f = elim f [ ]
 
--- what the conditions of a local variable say
+-- the meaning of the conditions on a local variable
 pub record Local (e : View) (y : Demand) (n : ℕ) (s : State) (f : FrameFact) : Type 0 where
   pub value : Value
   pub here : slice_get s.locals n ≡ Some (holds value)

@@ -49,7 +49,7 @@ abbrev type_in : Option Object → ReferenceType
 type_in None = class_type []
 type_in (Some o) = o.type
 
--- what fits a component fits what is above it
+-- a value that fits a component fits each class above it
 class_item : (e : View) (h : Heap) (y : FieldDescriptor) (n : List ℕ) (v : Value) → IsWorld e.world → IsBelowType e.world y (class_descriptor n) → FitsField e.world h y v → Item e h v (class n)
 class_item e h (primitive p) n v iw b g = elim b.0 [ ]
 class_item e h (class_descriptor m) n v iw b g = reference_item e h (class_type n) v (fits_up e.world h (class_type m) (class_type n) v iw g b)

@@ -90,7 +90,7 @@ abbrev type_in : Option Object → ReferenceType
 type_in None = class_type []
 type_in (Some o) = o.type
 
--- what of a beginning keeps a state fitting
+-- the part of a beginning that keeps a state fitting
 pub record MayStart (w : World) (m : Method Act) (s : State) : Type 0 where
   pub stack : s.stack ≡ []
   pub own : ℕ

@@ -21,7 +21,7 @@ use Rattle.machine.specs.Heap.{IsInterface, IsNoPrimitive, IsBelowByName, IsBelo
 pub name_same : (a b : List ℕ) → bytes_eq a b ≡ true → a ≡ b
 name_same a b = (bytes_eq-Decides a b).0
 
--- what a hierarchy without faults and every world that extends it keep
+-- the rules that a hierarchy without faults and every world that extends it keep
 pub record IsWorld (w : World) : Type 0 where
   pub root : superclass_in w object_name ≡ None
   pub interface_super : (n : List ℕ) (e : Entry) → w n ≡ Some e → e.interface ≡ true → e.superclass ≡ Some object_name

@@ -1,4 +1,4 @@
-use Rattle.classfile.specs.Pieces.{class_pieces}
+use Rattle.classfile.specs.private.Pieces.{class_pieces}
 use Rattle.classfile.specs.Views.{class_view}
 use Rattle.classfile.proofs.encoding.written.Goals as goal
 

@@ -2,7 +2,7 @@ use Rattle.std.proofs.Common.{◌≡◌, ◌∙◌, ◌≤◌, refl, sym, ap, su
 use Rattle.std.specs.Prelude.{slice_get}
 use Rattle.std.proofs.lemmas.List.{length-map, take-map}
 use Rattle.classfile.specs.declared.form_fault.Place.TheVariants as places
-use Rattle.classfile.specs.Earlier.{WereMet}
+use Rattle.classfile.specs.private.DuplicateFinder.{WereMet}
 use Rattle.classfile.specs.MemberForm.{is_repeated}
 use Rattle.classfile.specs.Values.{Member}
 use Rattle.classfile.specs.Views.{class_view, member_view}

@@ -1,6 +1,6 @@
 use Rattle.std.proofs.Common.{◌≡◌, ◌<◌, ◌+◌, ℕ, None}
 use Rattle.classfile.specs.declared.form_fault.Place.TheVariants as places
-use Rattle.classfile.specs.TextForms.{AreForms}
+use Rattle.classfile.specs.private.TextForms.{AreForms}
 use Rattle.classfile.specs.Views.{class_view}
 use Rattle.classfile.specs.WellFormed.{fault_at}
 use Rattle.classfile.proofs.form.pool_form.Given as goal

@@ -1,7 +1,7 @@
 use Rattle.std.proofs.Common.{◌≡◌, ◌∙◌, ◌-◌, ◌+◌, ℕ, suc, ap, arith}
 use Rattle.std.specs.List.{list_any}
 use Rattle.classfile.specs.declared.number_form.IndexRule.TheVariants.{Both}
-use Rattle.classfile.specs.IndexColumns.{variable}
+use Rattle.classfile.specs.private.IndexColumns.{variable}
 use Rattle.classfile.specs.Numbers.{rows_in}
 use Rattle.classfile.specs.NumberForm.{breaks, row_breaks}
 use Rattle.classfile.proofs.Rows.{one_row}

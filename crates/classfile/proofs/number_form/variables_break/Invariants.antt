@@ -2,7 +2,7 @@
 use Rattle.std.proofs.Common.{◌≡◌, ◌-◌}
 use Rattle.std.specs.List.{list_any}
 use Rattle.classfile.specs.declared.number_form.IndexRule.TheVariants.{Both}
-use Rattle.classfile.specs.IndexColumns.{variable}
+use Rattle.classfile.specs.private.IndexColumns.{variable}
 use Rattle.classfile.specs.Numbers.{rows_in}
 use Rattle.classfile.specs.NumberForm.{breaks, row_breaks}
 use Rattle.classfile.proofs.number_form.variables_break.Given as goal

@@ -1,5 +1,5 @@
 use Rattle.std.proofs.Common.{◌∙◌, sym}
-use Rattle.frames.specs.Judging.{is_wrong}
+use Rattle.frames.specs.private.Judging.{is_wrong}
 use Rattle.frames.proofs.Judging.{any_at, any_none}
 use Rattle.frames.proofs.refusing.any_wrong.Goals as goal
 

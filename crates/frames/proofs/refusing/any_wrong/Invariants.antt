@@ -1,7 +1,7 @@
 use Rattle.std.proofs.Common.{◌≡◌, map, take, false}
 use Rattle.frames.specs.MapViews.{info_of}
 use Rattle.frames.specs.DeclaredFrames.{any_info}
-use Rattle.frames.specs.Judging.{is_wrong}
+use Rattle.frames.specs.private.Judging.{is_wrong}
 use Rattle.frames.proofs.refusing.any_wrong.Given as goal
 
 abbrev pub invariant-loop-info : goal.invariant-loop-info

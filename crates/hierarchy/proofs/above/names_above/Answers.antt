@@ -1,6 +1,6 @@
 use Rattle.std.proofs.Common.{◌≡◌, ◌++◌, ◌-◌, suc, length, map, option_map, refl, subst}
 use Rattle.std.specs.Option.{option_copied}
-use Rattle.hierarchy.specs.Above.{upward, names_above, names_of}
+use Rattle.hierarchy.specs.private.Above.{upward, names_above, names_of}
 use Rattle.hierarchy.specs.Class.{ClassFact}
 use Rattle.hierarchy.specs.Summary.{fact_of}
 use Rattle.hierarchy.proofs.Guarding.{one_up}

@@ -1,5 +1,5 @@
 use Rattle.std.proofs.Common.{take}
-use Rattle.hierarchy.specs.Above.{names_of, ArePlaces}
+use Rattle.hierarchy.specs.private.Above.{names_of, ArePlaces}
 use Rattle.hierarchy.proofs.above.places_of.Given as goal
 
 abbrev pub invariant-loop-place : goal.invariant-loop-place

@@ -1,5 +1,5 @@
 use Rattle.std.proofs.Common.{◌<◌, length}
-use Rattle.hierarchy.specs.Ancestry.{IsAncestry}
+use Rattle.hierarchy.specs.private.Ancestry.{IsAncestry}
 use Rattle.hierarchy.specs.Rules.{IsHierarchy}
 use Rattle.hierarchy.proofs.ancestry.ancestry_of.Given as goal
 

@@ -1,5 +1,5 @@
 use Rattle.std.proofs.Common.{◌∙◌, ap, sym}
-use Rattle.hierarchy.specs.Flags.{first_flag}
+use Rattle.hierarchy.specs.private.Flags.{first_flag}
 use Rattle.hierarchy.proofs.Guards.{none_in_range, first_in_range}
 use Rattle.hierarchy.proofs.flags.first_flag.Goals as goal
 

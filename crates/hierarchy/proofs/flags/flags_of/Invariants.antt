@@ -1,6 +1,6 @@
 use Rattle.std.proofs.Common.{take}
-use Rattle.hierarchy.specs.Above.{classes_above}
-use Rattle.hierarchy.specs.Flags.{AreFlags}
+use Rattle.hierarchy.specs.private.Above.{classes_above}
+use Rattle.hierarchy.specs.private.Flags.{AreFlags}
 use Rattle.hierarchy.proofs.flags.flags_of.Given as goal
 
 abbrev pub invariant-loop-place : goal.invariant-loop-place

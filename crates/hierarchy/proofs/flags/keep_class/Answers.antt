@@ -1,5 +1,5 @@
 use Rattle.std.proofs.Common.{◌≡◌, ◌∙◌, ◌+◌, ◌-◌, ◌&&◌, ◌++◌, ◌∷◌, [], ap, sym, subst, arith, map, drop}
-use Rattle.hierarchy.specs.Flags.{AreFlags, spot_of}
+use Rattle.hierarchy.specs.private.Flags.{AreFlags, spot_of}
 use Rattle.hierarchy.specs.Nearest.{is_elsewhere}
 use Rattle.hierarchy.specs.Summary.{member_of, fact_of}
 use Rattle.hierarchy.proofs.Guards.{with_members, no_members_kept, without_spot, with_spot}

@@ -1,6 +1,6 @@
 use Rattle.std.proofs.Common.{◌≡◌, ◌≤◌, ℕ, List, [], ◌∷◌, ◌++◌, drop, length, map}
 use Rattle.hierarchy.specs.Class.{ClassFact}
-use Rattle.hierarchy.specs.Flags.{AreFlags}
+use Rattle.hierarchy.specs.private.Flags.{AreFlags}
 use Rattle.hierarchy.specs.Nearest.{is_elsewhere}
 use Rattle.hierarchy.specs.Summary.{member_of, fact_of}
 use Rattle.hierarchy.proofs.Guards.{with_members}

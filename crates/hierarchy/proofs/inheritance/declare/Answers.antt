@@ -1,5 +1,5 @@
 use Rattle.std.proofs.Common.{◌≡◌, ◌∙◌, ◌+◌, ◌-◌, cond, drop, map, ap, sym, subst, arith}
-use Rattle.hierarchy.specs.Inheritance.{Declares}
+use Rattle.hierarchy.specs.private.Inheritance.{Declares}
 use Rattle.hierarchy.specs.Summary.{member_of}
 use Rattle.hierarchy.proofs.Numbered.{declares_more, declares_over, from_left}
 use Rattle.hierarchy.proofs.inheritance.declare.Goals.{then-member, else-member}

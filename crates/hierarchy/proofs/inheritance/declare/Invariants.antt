@@ -1,5 +1,5 @@
 use Rattle.std.proofs.Common.{◌≤◌, drop, length, map}
-use Rattle.hierarchy.specs.Inheritance.{Declares}
+use Rattle.hierarchy.specs.private.Inheritance.{Declares}
 use Rattle.hierarchy.specs.Summary.{member_of}
 use Rattle.hierarchy.proofs.inheritance.declare.Given as goal
 

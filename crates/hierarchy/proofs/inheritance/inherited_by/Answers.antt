@@ -1,5 +1,5 @@
 use Rattle.std.proofs.Common.{ap, arith, length}
-use Rattle.hierarchy.specs.Ancestry.{facts_at}
+use Rattle.hierarchy.specs.private.Ancestry.{facts_at}
 use Rattle.hierarchy.proofs.inheritance.inherited_by.Goals as goal
 
 pub loop-table-init : goal.loop-table-init

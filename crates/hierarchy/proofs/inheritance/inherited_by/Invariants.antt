@@ -1,6 +1,6 @@
 use Rattle.std.proofs.Common.{◌≤◌, ◌-◌, length}
-use Rattle.hierarchy.specs.Ancestry.{facts_at}
-use Rattle.hierarchy.specs.Inheritance.{InheritSoFar}
+use Rattle.hierarchy.specs.private.Ancestry.{facts_at}
+use Rattle.hierarchy.specs.private.Inheritance.{InheritSoFar}
 use Rattle.hierarchy.proofs.inheritance.inherited_by.Given as goal
 
 abbrev pub invariant-loop-table : goal.invariant-loop-table

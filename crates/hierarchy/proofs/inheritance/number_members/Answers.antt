@@ -1,7 +1,7 @@
 use Rattle.std.proofs.Common.{◌∙◌, ◌+◌, ap, map, subst, sym, take}
 use Rattle.std.proofs.lemmas.Bool.{false≢true}
-use Rattle.hierarchy.specs.Inheritance.{HaveNumbers}
-use Rattle.hierarchy.specs.MemberNumbers.{AreMemberNumbers, member_number}
+use Rattle.hierarchy.specs.private.Inheritance.{HaveNumbers}
+use Rattle.hierarchy.specs.private.MemberNumbers.{AreMemberNumbers, member_number}
 use Rattle.hierarchy.specs.Summary.{member_of}
 use Rattle.hierarchy.proofs.Numbered.{members_next}
 use Rattle.hierarchy.proofs.inheritance.number_members.Goals.{then-member+in_ok-add, else-member}

@@ -1,6 +1,6 @@
 use Rattle.std.proofs.Common.{map, take}
-use Rattle.hierarchy.specs.Inheritance.{HaveNumbers, KeepMembers}
-use Rattle.hierarchy.specs.MemberNumbers.{AreMemberNumbers}
+use Rattle.hierarchy.specs.private.Inheritance.{HaveNumbers, KeepMembers}
+use Rattle.hierarchy.specs.private.MemberNumbers.{AreMemberNumbers}
 use Rattle.hierarchy.specs.Summary.{member_of}
 use Rattle.hierarchy.proofs.inheritance.number_members.Given as goal
 

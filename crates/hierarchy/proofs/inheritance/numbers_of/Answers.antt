@@ -1,7 +1,7 @@
 use Rattle.std.proofs.Common.{arith, map, subst}
 use Rattle.std.specs.Borrow.{Bor}
 use Rattle.hierarchy.specs.declared.summary.Summary.{Summary}
-use Rattle.hierarchy.specs.Inheritance.{HaveNumbers}
+use Rattle.hierarchy.specs.private.Inheritance.{HaveNumbers}
 use Rattle.hierarchy.specs.Summary.{member_of}
 use Rattle.hierarchy.proofs.Numbered.{classes_next}
 use Rattle.hierarchy.proofs.inheritance.numbers_of.Goals as goal

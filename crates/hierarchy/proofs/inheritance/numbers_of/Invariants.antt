@@ -1,7 +1,7 @@
 use Rattle.std.proofs.Common.{take}
-use Rattle.hierarchy.specs.Ancestry.{facts_at}
-use Rattle.hierarchy.specs.Inheritance.{NumberAll}
-use Rattle.hierarchy.specs.MemberNumbers.{AreMemberNumbers}
+use Rattle.hierarchy.specs.private.Ancestry.{facts_at}
+use Rattle.hierarchy.specs.private.Inheritance.{NumberAll}
+use Rattle.hierarchy.specs.private.MemberNumbers.{AreMemberNumbers}
 use Rattle.hierarchy.proofs.inheritance.numbers_of.Given as goal
 
 abbrev pub invariant-loop-place : goal.invariant-loop-place

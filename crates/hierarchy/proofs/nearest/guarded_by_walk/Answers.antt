@@ -1,6 +1,6 @@
 use Rattle.std.proofs.Common.{◌≡◌, ◌∙◌, ap, subst, length, map, arith}
-use Rattle.hierarchy.specs.Above.{classes_above, names_of, ArePlaces}
-use Rattle.hierarchy.specs.Flags.{first_flag}
+use Rattle.hierarchy.specs.private.Above.{classes_above, names_of, ArePlaces}
+use Rattle.hierarchy.specs.private.Flags.{first_flag}
 use Rattle.hierarchy.specs.Nearest.{is_guarded}
 use Rattle.hierarchy.specs.Summary.{reference_of}
 use Rattle.hierarchy.proofs.Guarding.{all_guards, all_told, as_many}

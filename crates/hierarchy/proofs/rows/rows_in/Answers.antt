@@ -1,5 +1,5 @@
 use Rattle.std.proofs.Common.{Vec, Global, Result, Ok, Err, IfOk, map}
-use Rattle.hierarchy.specs.declared.jumps.Jump.{Jump}
+use Rattle.hierarchy.specs.declared.skips.Skip.{Skip}
 use Rattle.hierarchy.proofs.RowsKept.{fit_together, are_rows}
 use Rattle.hierarchy.proofs.rows.rows_in.Goals as goal
 
@@ -8,10 +8,10 @@ ok_too (Ok x) P Q f p = f x p
 ok_too (Err e) P Q f p = p
 
 pub rows_of-requires : goal.rows_of-requires
-rows_of-requires g c = fit_together c.args.index.now c.requires.formed (map (λ (t : Vec Jump Global). t.items) c.in_ok-jumps.jumps.tables.items) c.in_ok-jumps.jumps.tops.items c.in_ok-jumps.ensures
+rows_of-requires g c = fit_together c.args.index.now c.requires.formed (map (λ (t : Vec Skip Global). t.items) c.in_ok-skips.skips.tables.items) c.in_ok-skips.skips.tops.items c.in_ok-skips.ensures
 
 pub returns : goal.returns
 returns g c =
-    let tables = map (λ (t : Vec Jump Global). t.items) c.in_ok-jumps.jumps.tables.items in
-    let tops = c.in_ok-jumps.jumps.tops.items in
-    ok_too c.rows_of.result _ _ (λ rows r. are_rows c.args.index.now c.requires.formed tables tops c.in_ok-jumps.ensures rows.depths.items rows.starts.items rows.entries.items r) c.rows_of.ensures
+    let tables = map (λ (t : Vec Skip Global). t.items) c.in_ok-skips.skips.tables.items in
+    let tops = c.in_ok-skips.skips.tops.items in
+    ok_too c.rows_of.result _ _ (λ rows r. are_rows c.args.index.now c.requires.formed tables tops c.in_ok-skips.ensures rows.depths.items rows.starts.items rows.entries.items r) c.rows_of.ensures

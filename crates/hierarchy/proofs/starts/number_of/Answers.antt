@@ -1,7 +1,7 @@
 use Rattle.std.proofs.Common.{◌≡◌, ◌∙◌, ◌+◌, None, cond, is_some, sym, ap}
 use Rattle.std.specs.BTreeMap.{btree_map_len}
 use Rattle.std.proofs.lemmas.Map.Text.{btree_map_updates_str}
-use Rattle.hierarchy.specs.Above.{number_of}
+use Rattle.hierarchy.specs.private.Above.{number_of}
 use Rattle.hierarchy.proofs.Guarding.{next_number}
 use Rattle.hierarchy.proofs.starts.number_of.Goals as goal
 

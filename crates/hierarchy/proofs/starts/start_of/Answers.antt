@@ -1,6 +1,6 @@
 use Rattle.std.proofs.Common.{sym, refl}
 use Rattle.std.specs.Cmp.Lexicographic.{same_text, other_text}
-use Rattle.hierarchy.specs.Flags.{own, outside, begins}
+use Rattle.hierarchy.specs.private.Flags.{own, outside, begins}
 use Rattle.hierarchy.proofs.starts.start_of.Goals as goal
 
 pub returns-then-eq-clause-start : goal.returns-then-eq-clause-start

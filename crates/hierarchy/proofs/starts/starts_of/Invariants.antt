@@ -1,5 +1,5 @@
 use Rattle.std.proofs.Common.{map, take}
-use Rattle.hierarchy.specs.Flags.{AreNumbers, AreStarts}
+use Rattle.hierarchy.specs.private.Flags.{AreNumbers, AreStarts}
 use Rattle.hierarchy.specs.Summary.{reference_of}
 use Rattle.hierarchy.proofs.starts.starts_of.Given as goal
 

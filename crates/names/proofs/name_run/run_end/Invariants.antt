@@ -1,5 +1,5 @@
 use Rattle.std.proofs.Common.{length, ◌-◌}
-use Rattle.names.specs.TypeEnds.{GoesOnUpTo}
+use Rattle.names.specs.private.TypeEnds.{GoesOnUpTo}
 use Rattle.names.proofs.name_run.run_end.Given as goal
 
 abbrev pub invariant-loop-at : goal.invariant-loop-at

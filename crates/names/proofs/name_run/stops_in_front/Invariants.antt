@@ -1,5 +1,5 @@
 use Rattle.std.proofs.Common.{length, ◌-◌, ◌≤◌}
-use Rattle.names.specs.TypeEnds.{AreStopsUpTo}
+use Rattle.names.specs.private.TypeEnds.{AreStopsUpTo}
 use Rattle.names.proofs.name_run.stops_in_front.Given as goal
 
 abbrev pub invariant-loop-at : goal.invariant-loop-at

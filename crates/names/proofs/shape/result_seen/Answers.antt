@@ -1,6 +1,6 @@
 use Rattle.std.proofs.Common.{◌∙◌, sym, arith, subst, not, get_or, eq-eqb, ne_eqb}
 use Rattle.std.specs.Prelude.{Bool}
-use Rattle.names.specs.TypeEnds.{SeesResult}
+use Rattle.names.specs.private.TypeEnds.{SeesResult}
 use Rattle.names.proofs.ShapeSeen.{type_seen, void_seen}
 use Rattle.names.proofs.shape.result_seen.Goals.{then-has_result, else-has_result}
 use Rattle.names.proofs.shape.result_seen.Goals as goal

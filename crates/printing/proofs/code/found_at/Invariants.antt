@@ -1,4 +1,4 @@
--- Of code that is not refused, what is left is read, and the instruction is not among those that are gone.
+-- Where code is not refused, what is left is read, and the instruction is not among those that are gone.
 use Rattle.std.proofs.Common.{◌≡◌, ℕ, List, Ok}
 use Rattle.insn.specs.Instructions.{Instruction}
 use Rattle.insn.specs.Offsets.{at_offset}

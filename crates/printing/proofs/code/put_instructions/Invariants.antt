@@ -1,4 +1,4 @@
--- Of code that is not refused, what is left is read, and what is gone was written.
+-- Where code is not refused, what is left is read, and what is gone was written.
 use Rattle.std.proofs.Common.{◌≡◌, ℕ, List, Ok}
 use Rattle.std.specs.List.{flat_map}
 use Rattle.insn.specs.Instructions.{Instruction}

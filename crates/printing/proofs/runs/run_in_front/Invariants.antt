@@ -1,5 +1,5 @@
 use Rattle.std.proofs.Common.{length, ◌-◌}
-use Rattle.printing.specs.Runs.{StandInFront}
+use Rattle.printing.specs.private.Runs.{StandInFront}
 use Rattle.printing.proofs.runs.run_in_front.Given as goal
 
 abbrev pub invariant-loop-at : goal.invariant-loop-at

@@ -16,7 +16,7 @@ use Rattle.rules.specs.Views.{stack_of}
 use Rattle.rules.proofs.Taken.{keeps_item, others, other_by}
 use Rattle.rules.proofs.kept_items.items_kept.Goals as goal
 
--- as many types as items
+-- there are as many types as items
 as_many : (xs : List VType) (stack : List VerificationType) → stack_of xs ≡ stack → length stack ≡ length xs
 as_many xs stack e = ap (λ (l : List VerificationType). length l) (sym e) ∙ length-reverse (map type_of xs) ∙ length-map xs type_of
 

@@ -51,55 +51,55 @@ bootstrapped_is m act other n b k h e = k ∙ h.bootstrapped ∙ ap (λ a. names
 pub returns-in-ReturnReference : goal.returns-in-ReturnReference
 returns-in-ReturnReference g c =
     let m = method_view c.args.method.now in
-    by_typing_rule m c.args.at (typing_rule m (act_view c.args.act)) _ (g.C.Classes.content c.args.classes.now) (held c.args.frame.now) (held c.return_reference.new.frame) c.return_reference.result
+    by_typing_rule m c.args.at _ _ _ _ _ _
     (ap (λ a. typing_rule m (act_view a)) c.in-ReturnReference.is) (c.return_reference.ensures c.args.at)
 
 pub returns-in-GetStatic : goal.returns-in-GetStatic
 returns-in-GetStatic g c =
     let m = method_view c.args.method.now in
-    by_typing_rule m c.args.at (typing_rule m (act_view c.args.act)) _ (g.C.Classes.content c.args.classes.now) (held c.args.frame.now) (held c.get_static.new.frame) c.get_static.result
+    by_typing_rule m c.args.at _ _ _ _ _ _
     (ap (λ a. typing_rule m (act_view a)) c.in-GetStatic.is ∙ sym (ap (get_static) (field_is m c.args.act _ c.args.named.now c.field.result c.field.ensures c.requires.named c.in-GetStatic.is))) (c.get_static.ensures c.args.at)
 
 pub returns-in-PutStatic : goal.returns-in-PutStatic
 returns-in-PutStatic g c =
     let m = method_view c.args.method.now in
-    by_typing_rule m c.args.at (typing_rule m (act_view c.args.act)) _ (g.C.Classes.content c.args.classes.now) (held c.args.frame.now) (held c.put_static.new.frame) c.put_static.result
+    by_typing_rule m c.args.at _ _ _ _ _ _
     (ap (λ a. typing_rule m (act_view a)) c.in-PutStatic.is ∙ sym (ap (put_static) (field_is m c.args.act _ c.args.named.now c.field-in-PutStatic.result c.field-in-PutStatic.ensures c.requires.named c.in-PutStatic.is))) (c.put_static.ensures c.args.at)
 
 pub returns-in-GetField : goal.returns-in-GetField
 returns-in-GetField g c =
     let m = method_view c.args.method.now in
-    by_typing_rule m c.args.at (typing_rule m (act_view c.args.act)) _ (g.C.Classes.content c.args.classes.now) (held c.args.frame.now) (held c.get_field.new.frame) c.get_field.result
+    by_typing_rule m c.args.at _ _ _ _ _ _
     (ap (λ a. typing_rule m (act_view a)) c.in-GetField.is ∙ sym (ap (get_field) (field_is m c.args.act _ c.args.named.now c.field-in-GetField.result c.field-in-GetField.ensures c.requires.named c.in-GetField.is))) (c.get_field.ensures c.args.at)
 
 pub returns-in-PutField : goal.returns-in-PutField
 returns-in-PutField g c =
     let m = method_view c.args.method.now in
-    by_typing_rule m c.args.at (typing_rule m (act_view c.args.act)) _ (g.C.Classes.content c.args.classes.now) (held c.args.frame.now) (held c.put_field.new.frame) c.put_field.result
+    by_typing_rule m c.args.at _ _ _ _ _ _
     (ap (λ a. typing_rule m (act_view a)) c.in-PutField.is ∙ sym (ap (put_field m) (field_is m c.args.act _ c.args.named.now c.field-in-PutField.result c.field-in-PutField.ensures c.requires.named c.in-PutField.is))) (c.put_field.ensures c.args.at)
 
 pub returns-in-InvokeVirtual : goal.returns-in-InvokeVirtual
 returns-in-InvokeVirtual g c =
     let m = method_view c.args.method.now in
-    by_typing_rule m c.args.at (typing_rule m (act_view c.args.act)) _ (g.C.Classes.content c.args.classes.now) (held c.args.frame.now) (held c.invoke_virtual.new.frame) c.invoke_virtual.result
+    by_typing_rule m c.args.at _ _ _ _ _ _
     (ap (λ a. typing_rule m (act_view a)) c.in-InvokeVirtual.is ∙ sym (ap (invoke_virtual) (c.method.ensures ∙ method_is m c.args.act _ c.args.named.now c.requires.named c.in-InvokeVirtual.is))) (c.invoke_virtual.ensures c.args.at)
 
 pub returns-in-InvokeStatic : goal.returns-in-InvokeStatic
 returns-in-InvokeStatic g c =
     let m = method_view c.args.method.now in
-    by_typing_rule m c.args.at (typing_rule m (act_view c.args.act)) _ (g.C.Classes.content c.args.classes.now) (held c.args.frame.now) (held c.invoke_static.new.frame) c.invoke_static.result
+    by_typing_rule m c.args.at _ _ _ _ _ _
     (ap (λ a. typing_rule m (act_view a)) c.in-InvokeStatic.is ∙ sym (ap (invoke_static m.major_version) (c.method-in-InvokeStatic.ensures ∙ method_is m c.args.act _ c.args.named.now c.requires.named c.in-InvokeStatic.is))) (c.invoke_static.ensures c.args.at)
 
 pub returns-in-InvokeInterface : goal.returns-in-InvokeInterface
 returns-in-InvokeInterface g c =
     let m = method_view c.args.method.now in
-    by_typing_rule m c.args.at (typing_rule m (act_view c.args.act)) _ (g.C.Classes.content c.args.classes.now) (held c.args.frame.now) (held c.invoke_interface.new.frame) c.invoke_interface.result
+    by_typing_rule m c.args.at _ _ _ _ _ _
     (ap (λ a. typing_rule m (act_view a)) c.in-InvokeInterface.is ∙ sym (ap (invoke_interface c.in-InvokeInterface.count) (c.method-in-InvokeInterface.ensures ∙ method_is m c.args.act _ c.args.named.now c.requires.named c.in-InvokeInterface.is))) (c.invoke_interface.ensures c.args.at)
 
 pub returns-in-InvokeDynamic : goal.returns-in-InvokeDynamic
 returns-in-InvokeDynamic g c =
     let m = method_view c.args.method.now in
-    by_typing_rule m c.args.at (typing_rule m (act_view c.args.act)) _ (g.C.Classes.content c.args.classes.now) (held c.args.frame.now) (held c.invoke_dynamic.new.frame) c.invoke_dynamic.result
+    by_typing_rule m c.args.at _ _ _ _ _ _
     (ap (λ a. typing_rule m (act_view a)) c.in-InvokeDynamic.is
     ∙ sym (ap (λ (b : Bool). invoke_dynamic m b (call_site_at m.constant_pool c.in-InvokeDynamic.index)) (bootstrapped_is m c.args.act _ c.args.named.now c.is_bootstrapped.result c.is_bootstrapped.ensures c.requires.named c.in-InvokeDynamic.is))
     ∙ sym (ap (invoke_dynamic m c.is_bootstrapped.result) (c.site.ensures ∙ site_is m c.args.act _ c.args.named.now c.requires.named c.in-InvokeDynamic.is))) (c.invoke_dynamic.ensures c.args.at)
@@ -107,37 +107,37 @@ returns-in-InvokeDynamic g c =
 pub returns-in-LoadConstant : goal.returns-in-LoadConstant
 returns-in-LoadConstant g c =
     let m = method_view c.args.method.now in
-    by_typing_rule m c.args.at (typing_rule m (act_view c.args.act)) _ (g.C.Classes.content c.args.classes.now) (held c.args.frame.now) (held c.load_constant.new.frame) c.load_constant.result
+    by_typing_rule m c.args.at _ _ _ _ _ _
     (ap (λ a. typing_rule m (act_view a)) c.in-LoadConstant.is ∙ sym (ap (λ t. load_constant m t (constant_at m.constant_pool c.in-LoadConstant.index)) (computed_is m c.args.act _ c.args.named.now c.computed.result c.computed.ensures c.requires.named c.in-LoadConstant.is))) (c.load_constant.ensures c.args.at)
 
 pub returns-in-LoadWideConstant : goal.returns-in-LoadWideConstant
 returns-in-LoadWideConstant g c =
     let m = method_view c.args.method.now in
-    by_typing_rule m c.args.at (typing_rule m (act_view c.args.act)) _ (g.C.Classes.content c.args.classes.now) (held c.args.frame.now) (held c.load_wide_constant.new.frame) c.load_wide_constant.result
+    by_typing_rule m c.args.at _ _ _ _ _ _
     (ap (λ a. typing_rule m (act_view a)) c.in-LoadWideConstant.is ∙ sym (ap (λ t. load_wide_constant m t (constant_at m.constant_pool c.in-LoadWideConstant.index)) (computed_is m c.args.act _ c.args.named.now c.computed-in-LoadWideConstant.result c.computed-in-LoadWideConstant.ensures c.requires.named c.in-LoadWideConstant.is))) (c.load_wide_constant.ensures c.args.at)
 
 pub returns-in-NewReferenceArray : goal.returns-in-NewReferenceArray
 returns-in-NewReferenceArray g c =
     let m = method_view c.args.method.now in
-    by_typing_rule m c.args.at (typing_rule m (act_view c.args.act)) _ (g.C.Classes.content c.args.classes.now) (held c.args.frame.now) (held c.new_reference_array.new.frame) c.new_reference_array.result
+    by_typing_rule m c.args.at _ _ _ _ _ _
     (ap (λ a. typing_rule m (act_view a)) c.in-NewReferenceArray.is ∙ sym (ap (new_reference_array) (class_is m c.args.act _ c.args.named.now c.class.result c.class.ensures c.requires.named c.in-NewReferenceArray.is))) (c.new_reference_array.ensures c.args.at)
 
 pub returns-in-NewMultiArray : goal.returns-in-NewMultiArray
 returns-in-NewMultiArray g c =
     let m = method_view c.args.method.now in
-    by_typing_rule m c.args.at (typing_rule m (act_view c.args.act)) _ (g.C.Classes.content c.args.classes.now) (held c.args.frame.now) (held c.new_multi_array.new.frame) c.new_multi_array.result
+    by_typing_rule m c.args.at _ _ _ _ _ _
     (ap (λ a. typing_rule m (act_view a)) c.in-NewMultiArray.is ∙ sym (ap (new_multi_array c.in-NewMultiArray.dimensions) (class_is m c.args.act _ c.args.named.now c.class-in-NewMultiArray.result c.class-in-NewMultiArray.ensures c.requires.named c.in-NewMultiArray.is))) (c.new_multi_array.ensures c.args.at)
 
 pub returns-in-CheckCast : goal.returns-in-CheckCast
 returns-in-CheckCast g c =
     let m = method_view c.args.method.now in
-    by_typing_rule m c.args.at (typing_rule m (act_view c.args.act)) _ (g.C.Classes.content c.args.classes.now) (held c.args.frame.now) (held c.check_cast.new.frame) c.check_cast.result
+    by_typing_rule m c.args.at _ _ _ _ _ _
     (ap (λ a. typing_rule m (act_view a)) c.in-CheckCast.is ∙ sym (ap (check_cast) (class_is m c.args.act _ c.args.named.now c.class-in-CheckCast.result c.class-in-CheckCast.ensures c.requires.named c.in-CheckCast.is))) (c.check_cast.ensures c.args.at)
 
 pub returns-in-InstanceOf : goal.returns-in-InstanceOf
 returns-in-InstanceOf g c =
     let m = method_view c.args.method.now in
-    by_typing_rule m c.args.at (typing_rule m (act_view c.args.act)) _ (g.C.Classes.content c.args.classes.now) (held c.args.frame.now) (held c.instance_of.new.frame) c.instance_of.result
+    by_typing_rule m c.args.at _ _ _ _ _ _
     (ap (λ a. typing_rule m (act_view a)) c.in-InstanceOf.is ∙ sym (ap (instance_of) (class_is m c.args.act _ c.args.named.now c.class-in-InstanceOf.result c.class-in-InstanceOf.ensures c.requires.named c.in-InstanceOf.is))) (c.instance_of.ensures c.args.at)
 
 pub returns-in-ReturnVoid : goal.returns-in-ReturnVoid
@@ -151,13 +151,13 @@ returns-in-ReturnVoid g c =
 pub returns-in-InvokeSpecial : goal.returns-in-InvokeSpecial
 returns-in-InvokeSpecial g c =
     let m = method_view c.args.method.now in
-    by_typing_rule m c.args.at (typing_rule m (act_view c.args.act)) _ (g.C.Classes.content c.args.classes.now) (held c.args.frame.now) (held c.invoke_special.new.frame) c.invoke_special.result
+    by_typing_rule m c.args.at _ _ _ _ _ _
     (ap (λ a. typing_rule m (act_view a)) c.in-InvokeSpecial.is ∙ sym (ap (invoke_special m.major_version m.class) (c.method-in-InvokeSpecial.ensures ∙ method_is m c.args.act _ c.args.named.now c.requires.named c.in-InvokeSpecial.is))) (c.invoke_special.ensures c.args.at)
 
 pub returns-in-New : goal.returns-in-New
 returns-in-New g c =
     let m = method_view c.args.method.now in
-    by_typing_rule m c.args.at (typing_rule m (act_view c.args.act)) _ (g.C.Classes.content c.args.classes.now) (held c.args.frame.now) (held c.new_object.new.frame) c.new_object.result
+    by_typing_rule m c.args.at _ _ _ _ _ _
     (ap (λ a. typing_rule m (act_view a)) c.in-New.is) (c.new_object.ensures (g.C.Classes.content c.args.classes.now))
 
 pub run_plain-requires-clause-plain : goal.run_plain-requires-clause-plain

@@ -2,7 +2,7 @@ use Rattle.std.proofs.Common.{map, ap, ◌∙◌, subst}
 use Rattle.classfile.specs.CodeMethods.{judged}
 use Rattle.classfile.specs.Views.{class_view}
 use Rattle.verify.specs.Files.{read_of}
-use Rattle.verify.specs.AmongSteps.{ExplainsFormed}
+use Rattle.verify.specs.private.AmongSteps.{ExplainsFormed}
 use Rattle.verify.proofs.Formed.{decoded_formed, refused_by, among_formed}
 use Rattle.verify.proofs.among.explain_if.Goals as goal
 

@@ -3,7 +3,7 @@ use Rattle.std.proofs.lemmas.Int.{to_z-of_z}
 use Rattle.insn.specs.Branching.{targets_of}
 use Rattle.frames.specs.DeclaredTables.{frames_in}
 use Rattle.rules.specs.Held.{held}
-use Rattle.verify.specs.Targets.{Compares}
+use Rattle.verify.specs.private.Targets.{Compares}
 use Rattle.verify.proofs.Repeated.{Judged, judged_first, judged_next, judged_again, judged_all}
 use Rattle.verify.proofs.branching.check_all.Goals as goal
 

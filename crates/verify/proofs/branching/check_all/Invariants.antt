@@ -1,7 +1,7 @@
 use Rattle.insn.specs.Branching.{targets_of}
 use Rattle.frames.specs.DeclaredTables.{frames_in}
 use Rattle.rules.specs.Held.{held}
-use Rattle.verify.specs.Known.{IsKnown}
+use Rattle.verify.specs.private.Known.{IsKnown}
 use Rattle.verify.proofs.Repeated.{Judged}
 use Rattle.verify.proofs.branching.check_all.Given as goal
 

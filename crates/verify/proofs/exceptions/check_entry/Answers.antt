@@ -4,7 +4,7 @@ use Rattle.frames.specs.VerificationType.{class}
 use Rattle.frames.specs.Assignable.{type_answer}
 use Rattle.frames.specs.DeclaredTables.{frames_in}
 use Rattle.rules.specs.Bodies.{method_view}
-use Rattle.verify.specs.ExceptionTables.{entry_view}
+use Rattle.verify.specs.private.ExceptionTables.{entry_view}
 use Rattle.verify.specs.Verdict.{answer_conditions}
 use Rattle.rules.specs.Outcomes.{Judges}
 use Rattle.verify.proofs.TableEntries.{refuses_misplaced, judges_placed}

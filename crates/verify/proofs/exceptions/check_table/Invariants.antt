@@ -1,7 +1,7 @@
 use Rattle.std.proofs.Common.{◌≡◌, map, drop}
 use Rattle.frames.specs.DeclaredTables.{frames_in}
 use Rattle.rules.specs.Bodies.{method_view}
-use Rattle.verify.specs.ExceptionTables.{entry_view}
+use Rattle.verify.specs.private.ExceptionTables.{entry_view}
 use Rattle.verify.specs.Verdict.{Verdict, table_judged}
 use Rattle.verify.proofs.exceptions.check_table.Given as goal
 

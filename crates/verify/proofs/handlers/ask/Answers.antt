@@ -6,7 +6,7 @@ use Rattle.frames.specs.Assignable.{type_answer}
 use Rattle.frames.specs.DeclaredTables.{frames_in}
 use Rattle.frames.specs.FrameFact.{FrameFact}
 use Rattle.frames.specs.VerificationType.{VerificationType, type_of, top}
-use Rattle.verify.specs.Asking.{IsAsked}
+use Rattle.verify.specs.private.Asking.{IsAsked}
 use Rattle.verify.proofs.Changes.{of_one}
 use Rattle.verify.proofs.handlers.ask.Goals as goal
 

@@ -1,5 +1,5 @@
 use Rattle.std.proofs.Common.{◌≡◌, ◌&&◌, Bool, true, Result, Ok, Err, IfOk, sym, ap, ◌∙◌}
-use Rattle.verify.specs.Handling.{Follows, AreAhead}
+use Rattle.verify.specs.private.Handling.{Follows, AreAhead}
 use Rattle.verify.specs.Verdict.{is_covered}
 use Rattle.verify.proofs.judging.covers_constructor.Goals as goal
 

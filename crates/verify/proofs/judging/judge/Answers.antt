@@ -9,8 +9,8 @@ use Rattle.rules.specs.Rules.{conditions}
 use Rattle.rules.specs.Table.{typing_rule}
 use Rattle.rules.proofs.Changing.{plain_keeps}
 use Rattle.rules.proofs.Keeping.{locals_kept}
-use Rattle.verify.specs.Known.{IsKnown}
-use Rattle.verify.specs.Handling.{Follows}
+use Rattle.verify.specs.private.Known.{IsKnown}
+use Rattle.verify.specs.private.Handling.{Follows}
 use Rattle.verify.proofs.InTurn.{on_ok}
 use Rattle.verify.proofs.Comparing.{flag_kept}
 use Rattle.verify.proofs.Plain.{plain_done, constructs_none}

@@ -13,7 +13,7 @@ use Rattle.rules.specs.Held.{held}
 use Rattle.rules.specs.Outcomes.{Done}
 use Rattle.rules.specs.Table.{typing_rule}
 use Rattle.frames.specs.DeclaredTables.{frames_in}
-use Rattle.verify.specs.Handling.{Follows}
+use Rattle.verify.specs.private.Handling.{Follows}
 use Rattle.verify.specs.Verdict.{at_conditions, code_judged}
 use Rattle.verify.proofs.Onward.{left, steps, taken_at, at_end, step_within, last_is, keeps_length, stops_in, stops_at, goes_done}
 use Rattle.verify.proofs.InTurn.{follows_later}

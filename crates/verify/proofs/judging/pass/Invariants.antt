@@ -3,8 +3,8 @@ use Rattle.frames.specs.DeclaredTables.{frames_in}
 use Rattle.rules.specs.Held.{held}
 use Rattle.rules.specs.Table.{typing_rule}
 use Rattle.rules.specs.Bodies.{method_view}
-use Rattle.verify.specs.Known.{IsKnown}
-use Rattle.verify.specs.Handling.{Follows}
+use Rattle.verify.specs.private.Known.{IsKnown}
+use Rattle.verify.specs.private.Handling.{Follows}
 use Rattle.verify.specs.Verdict.{code_judged}
 use Rattle.verify.proofs.Onward.{Remains}
 use Rattle.verify.proofs.judging.pass.Given as goal

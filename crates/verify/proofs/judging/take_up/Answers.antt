@@ -1,6 +1,6 @@
 use Rattle.std.proofs.Common.{sym, subst}
 use Rattle.frames.specs.DeclaredTables.{frames_in}
-use Rattle.verify.specs.Handling.{Follows}
+use Rattle.verify.specs.private.Handling.{Follows}
 use Rattle.verify.proofs.judging.take_up.Goals as goal
 
 pub returns-clause-handlers : goal.returns-clause-handlers

@@ -4,8 +4,8 @@ use Rattle.frames.specs.DeclaredTables.{frames_in}
 use Rattle.rules.specs.Held.{held}
 use Rattle.rules.specs.Bodies.{method_view}
 use Rattle.rules.specs.Table.{typing_rule}
-use Rattle.verify.specs.ExceptionTables.{entry_view, JudgesTable}
-use Rattle.verify.specs.Handling.{Follows}
+use Rattle.verify.specs.private.ExceptionTables.{entry_view, JudgesTable}
+use Rattle.verify.specs.private.Handling.{Follows}
 use Rattle.verify.specs.Verdict.{told_of, table_judged, code_judged}
 use Rattle.verify.specs.Steps.{Gives}
 use Rattle.verify.proofs.method.judge_code.Goals as goal

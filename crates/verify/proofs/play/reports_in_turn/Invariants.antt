@@ -3,7 +3,7 @@ use Rattle.std.proofs.Common.{◌≡◌, ◌<◌, length, map}
 use Rattle.classfile.specs.CodeMethods.{judged_class}
 use Rattle.hierarchy.specs.Rules.{IsHierarchy}
 use Rattle.verify.specs.Plays.{AreFine}
-use Rattle.verify.specs.PlaySteps.{AreMet}
+use Rattle.verify.specs.private.PlaySteps.{AreMet}
 use Rattle.verify.proofs.play.reports_in_turn.Given as goal
 
 abbrev pub invariant-loop-class : goal.invariant-loop-class

@@ -2,7 +2,7 @@ use Rattle.std.proofs.Common.{◌≡◌, ◌∙◌, ◌+◌, ◌^◌, map, ap, s
 use Rattle.hierarchy.specs.Ancestors.{place_after}
 use Rattle.hierarchy.specs.Summary.{fact_of, facts_of}
 use Rattle.hierarchy.proofs.Ancestors.{table_of}
-use Rattle.verify.specs.EachSteps.{next_place, LeadsAhead}
+use Rattle.verify.specs.private.EachSteps.{next_place, LeadsAhead}
 use Rattle.verify.proofs.Standings.{leads_once, leads_twice}
 use Rattle.verify.proofs.standing.far_places.Goals as goal
 

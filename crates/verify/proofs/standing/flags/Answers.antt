@@ -3,7 +3,7 @@ use Rattle.std.specs.Prelude.{IfOk}
 use Rattle.std.specs.Option.{option_map_or}
 use Rattle.hierarchy.specs.Summary.{facts_of}
 use Rattle.verify.specs.Standing.{is_root}
-use Rattle.verify.specs.EachSteps.{class_at}
+use Rattle.verify.specs.private.EachSteps.{class_at}
 use Rattle.verify.proofs.Standings.{which_stand}
 use Rattle.verify.proofs.standing.flags.Goals as goal
 

@@ -1,4 +1,4 @@
--- Of the classes so far those that stand are kept.
+-- The classes so far that stand are kept.
 use Rattle.std.proofs.Common.{◌≡◌, length, take, filter}
 use Rattle.hierarchy.specs.Summary.{facts_of}
 use Rattle.verify.specs.Standing.{stands}

@@ -8,7 +8,7 @@ use Rattle.classfile.proofs.Places.{take_one_more}
 use Rattle.verify.specs.declared.files.FileRead.{FileRead}
 use Rattle.verify.specs.declared.files.FileRead.TheVariants.{Bytes}
 use Rattle.verify.specs.Files.{read_of}
-use Rattle.verify.specs.TogetherSteps.{AreDecoded, views}
+use Rattle.verify.specs.private.TogetherSteps.{AreDecoded, views}
 use Rattle.verify.proofs.FilesInPlay.{one_more_decoded, more_views, first_behind}
 use Rattle.verify.proofs.together.decode_all.Goals as goal
 

@@ -1,7 +1,7 @@
 -- The files so far are classes.
 use Rattle.std.proofs.Common.{◌≡◌, map, take, length}
 use Rattle.verify.specs.Files.{read_of}
-use Rattle.verify.specs.TogetherSteps.{AreDecoded, views}
+use Rattle.verify.specs.private.TogetherSteps.{AreDecoded, views}
 use Rattle.verify.proofs.together.decode_all.Given as goal
 
 abbrev pub invariant-loop-i : goal.invariant-loop-i

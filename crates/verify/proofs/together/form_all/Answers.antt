@@ -4,7 +4,7 @@ use Rattle.std.specs.Prelude.{slice_get}
 use Rattle.std.proofs.lemmas.List.{map-append, length-map}
 use Rattle.classfile.specs.Views.{class_view}
 use Rattle.classfile.proofs.Places.{viewed_at, take_one_more}
-use Rattle.verify.specs.TogetherSteps.{AreWellFormed, views}
+use Rattle.verify.specs.private.TogetherSteps.{AreWellFormed, views}
 use Rattle.verify.proofs.Formed.{refused_by}
 use Rattle.verify.proofs.FilesInPlay.{decoded_at, one_more_well_formed, first_refused, more_judged}
 use Rattle.verify.proofs.together.form_all.Goals as goal

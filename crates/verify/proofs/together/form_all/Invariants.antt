@@ -1,7 +1,7 @@
 -- The classes so far are well formed.
 use Rattle.std.proofs.Common.{◌≡◌, map, take}
 use Rattle.classfile.specs.CodeMethods.{judged, judged_class}
-use Rattle.verify.specs.TogetherSteps.{AreWellFormed, views}
+use Rattle.verify.specs.private.TogetherSteps.{AreWellFormed, views}
 use Rattle.verify.proofs.together.form_all.Given as goal
 
 abbrev pub invariant-loop-i : goal.invariant-loop-i

@@ -1,6 +1,6 @@
 use Rattle.std.proofs.Common.{◌∙◌, map, ap, subst}
 use Rattle.classfile.specs.CodeMethods.{judged_class}
-use Rattle.verify.specs.TogetherSteps.{DecodesAll, views}
+use Rattle.verify.specs.private.TogetherSteps.{DecodesAll, views}
 use Rattle.verify.proofs.FilesInPlay.{front_of_all, all_formed, told, playable}
 use Rattle.verify.proofs.together.reports_decoded.Goals as goal
 

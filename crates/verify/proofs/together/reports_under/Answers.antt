@@ -3,7 +3,7 @@ use Rattle.std.proofs.lemmas.List.{length-map}
 use Rattle.classfile.specs.CodeMethods.{judged_class}
 use Rattle.hierarchy.specs.Rules.{IsHierarchy}
 use Rattle.verify.specs.Plays.{ArePlayed, IsStopped}
-use Rattle.verify.specs.TogetherSteps.{IsWithin}
+use Rattle.verify.specs.private.TogetherSteps.{IsWithin}
 use Rattle.verify.specs.ClassRunSafety.{ArePlayable}
 use Rattle.verify.proofs.Playing.{are_playable}
 use Rattle.verify.proofs.FilesInPlay.{stops_within}

@@ -1,6 +1,6 @@
 use Rattle.std.proofs.Common.{map, sym, subst, ap}
 use Rattle.verify.specs.Files.{read_of}
-use Rattle.verify.specs.TogetherSteps.{DecodesAll, views}
+use Rattle.verify.specs.private.TogetherSteps.{DecodesAll, views}
 use Rattle.verify.proofs.together.verify_together_under.Goals as goal
 
 pub returns-clause-exactly : goal.returns-clause-exactly

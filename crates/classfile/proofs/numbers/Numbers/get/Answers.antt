@@ -1,6 +1,6 @@
 use Rattle.std.proofs.Common.{◌∙◌, ◌<◌, ◌*◌, ℕ, List, length, drop, sym, ap, arith}
 use Rattle.classfile.specs.LayoutViews.{numbers_view}
-use Rattle.classfile.specs.IndexColumns.{first_number, behind_count}
+use Rattle.classfile.specs.private.IndexColumns.{first_number, behind_count}
 use Rattle.classfile.specs.Numbers.{rows_of}
 use Rattle.classfile.proofs.NumberRows.{past_rows, past_columns, number_found}
 use Rattle.classfile.proofs.numbers.Numbers.get.Goals as goal

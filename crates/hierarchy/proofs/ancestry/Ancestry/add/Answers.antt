@@ -1,5 +1,5 @@
 use Rattle.std.proofs.Common.{◌∙◌, Some, ap, sym, subst}
-use Rattle.hierarchy.specs.Ancestry.{AreInTurn, HasAny, facts_at}
+use Rattle.hierarchy.specs.private.Ancestry.{AreInTurn, HasAny, facts_at}
 use Rattle.hierarchy.specs.Summary.{fact_of}
 use Rattle.hierarchy.proofs.InOrder.{facts_more, turn_less}
 use Rattle.hierarchy.proofs.ancestry.Ancestry.add.Goals as goal

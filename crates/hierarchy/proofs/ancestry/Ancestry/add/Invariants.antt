@@ -1,5 +1,5 @@
 use Rattle.std.proofs.Common.{length}
-use Rattle.hierarchy.specs.Ancestry.{EndsBelow, IsAncestry, facts_at}
+use Rattle.hierarchy.specs.private.Ancestry.{EndsBelow, IsAncestry, facts_at}
 use Rattle.hierarchy.proofs.ancestry.Ancestry.add.Given as goal
 
 abbrev pub invariant-loop-class : goal.invariant-loop-class

@@ -1,7 +1,7 @@
 use Rattle.std.proofs.Common.{◌≡◌, ◌∙◌, ℕ, List, Some, cond, length, ap, sym, arith}
 use Rattle.std.specs.Str.{bytes_eq}
 use Rattle.std.proofs.lemmas.Map.Text.{btree_map_updates_str}
-use Rattle.hierarchy.specs.Above.{number_of}
+use Rattle.hierarchy.specs.private.Above.{number_of}
 use Rattle.hierarchy.proofs.InOrder.{none_of, put_behind}
 use Rattle.hierarchy.proofs.ancestry.Ancestry.push.Goals as goal
 

@@ -1,7 +1,7 @@
 use Rattle.std.proofs.Common.{◌≡◌, ◌∙◌, ◌++◌, ◌-◌, suc, length, Some, MatchOption, option_map, ap, sym, subst, arith}
 use Rattle.std.specs.Option.{option_copied}
-use Rattle.hierarchy.specs.Above.{upward}
-use Rattle.hierarchy.specs.Ancestry.{AreInTurn, IsOwn, facts_at}
+use Rattle.hierarchy.specs.private.Above.{upward}
+use Rattle.hierarchy.specs.private.Ancestry.{AreInTurn, IsOwn, facts_at}
 use Rattle.hierarchy.specs.Summary.{fact_of}
 use Rattle.hierarchy.proofs.InOrder.{facts_more, own_or_none, step_up, turn_more}
 use Rattle.hierarchy.proofs.ancestry.Ancestry.way.Goals as goal

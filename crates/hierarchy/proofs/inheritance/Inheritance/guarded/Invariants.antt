@@ -1,7 +1,7 @@
 use Rattle.std.proofs.Common.{◌≡◌, List, Some, map, slice_get, take}
-use Rattle.hierarchy.specs.Ancestry.{facts_at}
+use Rattle.hierarchy.specs.private.Ancestry.{facts_at}
 use Rattle.hierarchy.specs.Class.{ClassFact}
-use Rattle.hierarchy.specs.Inheritance.{IsInheritance}
+use Rattle.hierarchy.specs.private.Inheritance.{IsInheritance}
 use Rattle.hierarchy.specs.Nearest.{is_guarded}
 use Rattle.hierarchy.specs.Summary.{reference_of}
 use Rattle.hierarchy.proofs.inheritance.Inheritance.guarded.Given as goal

@@ -1,5 +1,5 @@
 use Rattle.hierarchy.specs.Class.{IsSubclass}
-use Rattle.hierarchy.specs.Versions.{value_at}
+use Rattle.hierarchy.specs.private.Versions.{value_at}
 use Rattle.hierarchy.proofs.Lookups.{inherits_at, inherits_of, tells_is}
 use Rattle.hierarchy.proofs.inheritance.Inheritance.is_below.Goals as goal
 

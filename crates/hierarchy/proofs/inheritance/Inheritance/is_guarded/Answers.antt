@@ -1,7 +1,7 @@
 use Rattle.std.proofs.Common.{◌∙◌, arith, sym, subst}
 use Rattle.std.proofs.lemmas.Bool.{false≢true}
-use Rattle.hierarchy.specs.Ancestry.{facts_at}
-use Rattle.hierarchy.specs.Inheritance.{IsProtectedAt}
+use Rattle.hierarchy.specs.private.Ancestry.{facts_at}
+use Rattle.hierarchy.specs.private.Inheritance.{IsProtectedAt}
 use Rattle.hierarchy.specs.Summary.{reference_of}
 use Rattle.hierarchy.proofs.Lookups.{no_place, protected_some, start_apart, start_at, start_free, start_guarded, start_itself, within}
 use Rattle.hierarchy.proofs.inheritance.Inheritance.is_guarded.Goals.{then-start-class-via-then-start-class, then-start-class-via-else-start-class+then-not-is_below}

@@ -1,8 +1,8 @@
 use Rattle.std.proofs.Common.{◌∙◌, ◌-◌, Some, refl, sym, subst}
-use Rattle.hierarchy.specs.Ancestry.{facts_at}
-use Rattle.hierarchy.specs.Inheritance.{IsProtectedAt}
+use Rattle.hierarchy.specs.private.Ancestry.{facts_at}
+use Rattle.hierarchy.specs.private.Inheritance.{IsProtectedAt}
 use Rattle.hierarchy.specs.Summary.{reference_of}
-use Rattle.hierarchy.specs.Versions.{value_at}
+use Rattle.hierarchy.specs.private.Versions.{value_at}
 use Rattle.hierarchy.proofs.Lookups.{coded_none, coded_some, inherits_at, inherits_of}
 use Rattle.hierarchy.proofs.Descent.{no_number}
 use Rattle.hierarchy.proofs.inheritance.Inheritance.protected_in.Goals as goal

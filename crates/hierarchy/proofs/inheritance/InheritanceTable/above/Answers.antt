@@ -1,6 +1,6 @@
 use Rattle.std.proofs.Common.{◌∙◌, ap, sym, subst, arith, length, slice_get}
-use Rattle.hierarchy.specs.Ancestry.{facts_at}
-use Rattle.hierarchy.specs.Inheritance.{InheritsAny}
+use Rattle.hierarchy.specs.private.Ancestry.{facts_at}
+use Rattle.hierarchy.specs.private.Inheritance.{InheritsAny}
 use Rattle.hierarchy.specs.Summary.{fact_of}
 use Rattle.hierarchy.proofs.InOrder.{place_above, read_at}
 use Rattle.hierarchy.proofs.Names.{none_some, some_same}

@@ -1,7 +1,7 @@
 use Rattle.std.proofs.Common.{◌≡◌, ◌∙◌, ◌+◌, suc, map, ap, refl, sym, subst, arith}
-use Rattle.hierarchy.specs.Ancestry.{facts_at}
-use Rattle.hierarchy.specs.Above.{number_of}
-use Rattle.hierarchy.specs.Inheritance.{Declares}
+use Rattle.hierarchy.specs.private.Ancestry.{facts_at}
+use Rattle.hierarchy.specs.private.Above.{number_of}
+use Rattle.hierarchy.specs.private.Inheritance.{Declares}
 use Rattle.hierarchy.specs.Summary.{fact_of, member_of}
 use Rattle.hierarchy.proofs.Descent.{chain_there, inherit_next, members_there}
 use Rattle.hierarchy.proofs.InOrder.{class_read}

@@ -1,6 +1,6 @@
 use Rattle.std.proofs.Common.{◌≡◌, ◌∙◌, ◌+◌, None, cond, is_some, sym, ap, refl}
 use Rattle.std.specs.BTreeMap.{btree_map_len}
-use Rattle.hierarchy.specs.MemberNumbers.{number_at}
+use Rattle.hierarchy.specs.private.MemberNumbers.{number_at}
 use Rattle.hierarchy.specs.Summary.{member_of}
 use Rattle.hierarchy.proofs.Numbering.{absent, had_number, gets_number}
 use Rattle.hierarchy.proofs.member_numbers.MemberNumbers.add.Goals as goal

@@ -1,5 +1,5 @@
 use Rattle.std.proofs.Common.{◌≡◌}
-use Rattle.hierarchy.specs.Versions.{value_at, IsVersion}
+use Rattle.hierarchy.specs.private.Versions.{value_at, IsVersion}
 use Rattle.hierarchy.proofs.versions.Versions.get.Given as goal
 
 abbrev pub invariant-loop-left : goal.invariant-loop-left

@@ -1,7 +1,7 @@
 use Rattle.std.proofs.Common.{sym, ap, subst, ◌∙◌}
 use Rattle.std.specs.List.{flat_map}
 use Rattle.printing.specs.Json.{character_text}
-use Rattle.printing.specs.Runs.{StandInFront}
+use Rattle.printing.specs.private.Runs.{StandInFront}
 use Rattle.printing.specs.Writing.{Writes}
 use Rattle.printing.proofs.RunLaws.{bytes_text}
 use Rattle.printing.proofs.json.WordCharactersPrint.put.Goals as goal

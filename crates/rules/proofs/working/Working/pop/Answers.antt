@@ -9,7 +9,7 @@ use Rattle.rules.specs.Held.{held}
 use Rattle.rules.specs.Outcomes.{pushed}
 use Rattle.rules.proofs.working.Working.pop.Goals as goal
 
--- the same of the frame as of its stack
+-- the frame without its top, by its stack without its top
 in_frame : (f : FrameFact) (old new : List VerificationType) (o : Option VType) → MatchOption o ((old ≡ []) × (new ≡ old)) (λ t. old ≡ type_of t ∷ new)
     → MatchOption o ((old ≡ []) × (with_stack f new ≡ with_stack f old)) (λ t. with_stack f old ≡ pushed (type_of t ∷ []) (with_stack f new))
 in_frame f old new None e = (e.0, ap (with_stack f) e.1)

@@ -3,7 +3,7 @@ use Rattle.std.specs.Str.{bytes_eq}
 use Rattle.std.proofs.lemmas.List.{map-append, length-map}
 use Rattle.std.proofs.lemmas.Map.Text.{btree_map_updates_str}
 use Rattle.hierarchy.specs.Summary.{fact_of, facts_of}
-use Rattle.verify.specs.EachSteps.{ArePlaced, place_kept}
+use Rattle.verify.specs.private.EachSteps.{ArePlaced, place_kept}
 use Rattle.verify.proofs.Standings.{with_same, with_more, placed_more}
 use Rattle.verify.proofs.gathering.Gathered.add.Goals as goal
 

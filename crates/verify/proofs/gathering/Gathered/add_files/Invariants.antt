@@ -3,7 +3,7 @@ use Rattle.std.proofs.Common.{map, take}
 use Rattle.hierarchy.specs.Summary.{facts_of}
 use Rattle.verify.specs.Files.{read_of}
 use Rattle.verify.specs.Each.{AddsFiles}
-use Rattle.verify.specs.EachSteps.{ArePlaced}
+use Rattle.verify.specs.private.EachSteps.{ArePlaced}
 use Rattle.verify.proofs.gathering.Gathered.add_files.Given as goal
 
 abbrev pub invariant-loop-file : goal.invariant-loop-file

@@ -9,7 +9,7 @@ use Rattle.rules.specs.Table.{typing_rule}
 use Rattle.rules.proofs.Keeping.{stored_by}
 use Rattle.verify.proofs.Changes.{follows_alone, follows_same}
 use Rattle.verify.proofs.InTurn.{none_left}
-use Rattle.verify.specs.Handling.{Follows}
+use Rattle.verify.specs.private.Handling.{Follows}
 use Rattle.verify.proofs.handlers.Handlers.behind.Goals as goal
 
 pub returns-then-is_empty : goal.returns-then-is_empty

@@ -5,7 +5,7 @@ use Rattle.frames.specs.VerificationType.{type_of}
 use Rattle.verify.specs.declared.exceptions.Entry.{Entry}
 use Rattle.verify.specs.declared.handlers.Change.{Change}
 use Rattle.verify.specs.declared.handlers.Handlers.{Handlers}
-use Rattle.verify.specs.Handling.{Tracks, Takes, IsAmong, IsSettled, Follows}
+use Rattle.verify.specs.private.Handling.{Tracks, Takes, IsAmong, IsSettled, Follows}
 use Rattle.verify.proofs.Changes.{follows_among, follows_more, taken_none}
 use Rattle.verify.proofs.handlers.Handlers.change.Goals as goal
 use Rattle.verify.proofs.handlers.Handlers.change.Goals.{then-len-eq-MOST_TAKEN, else-len-eq-MOST_TAKEN}

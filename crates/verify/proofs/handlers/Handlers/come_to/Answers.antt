@@ -1,6 +1,6 @@
 use Rattle.std.proofs.Common.{◌+◌, List, refl, sym, subst}
 use Rattle.verify.specs.declared.exceptions.Entry.{Entry}
-use Rattle.verify.specs.Handling.{Tracks, IsSettled}
+use Rattle.verify.specs.private.Handling.{Tracks, IsSettled}
 use Rattle.verify.proofs.Tracking.{tracked_next}
 use Rattle.verify.proofs.handlers.Handlers.come_to.Goals as goal
 

@@ -3,7 +3,7 @@ use Rattle.classfile.specs.Methods.{ExceptionEntry}
 use Rattle.hierarchy.specs.Class.{ClassFact}
 use Rattle.frames.specs.FrameFact.{FrameFact}
 use Rattle.verify.specs.TypeSafety.{Frames}
-use Rattle.verify.specs.Handling.{Follows}
+use Rattle.verify.specs.private.Handling.{Follows}
 use Rattle.verify.proofs.handlers.Handlers.come_to.Given as goal
 
 abbrev pub invariant-loop-entry : goal.invariant-loop-entry

@@ -4,9 +4,9 @@ use Rattle.std.proofs.lemmas.Bool.Decides.{nat_tests}
 use Rattle.frames.specs.DeclaredTables.{frames_in, declared_view, IsOf, AreOfOne}
 use Rattle.rules.specs.Held.{held}
 use Rattle.rules.specs.Working.{with_locals}
-use Rattle.verify.specs.Handling.{Follows}
-use Rattle.verify.specs.declared.keeping.Replaced.{Replaced}
-use Rattle.verify.specs.Keeping.{restored}
+use Rattle.verify.specs.private.Handling.{Follows}
+use Rattle.verify.specs.declared.local_facts.Replaced.{Replaced}
+use Rattle.verify.specs.private.Keeping.{restored}
 use Rattle.verify.specs.Verdict.{entered}
 use Rattle.verify.proofs.Changes.{follows_alone, follows_same, all_of_one, kept_is}
 use Rattle.verify.proofs.InTurn.{on_ok, none_left}

@@ -1,9 +1,9 @@
 use Rattle.std.proofs.Common.{[], List, map, rules, sym, subst}
 use Rattle.std.proofs.lemmas.List.Sorted.{IsNonDecreasingBy-from_sort_by_key}
 use Rattle.verify.specs.declared.exceptions.Entry.{Entry}
-use Rattle.verify.specs.ExceptionTables.{entry_view}
-use Rattle.verify.specs.Handling.{Tracks, IsSettled}
-use Rattle.verify.proofs.InTurn.{represented_none}
+use Rattle.verify.specs.private.ExceptionTables.{entry_view}
+use Rattle.verify.specs.private.Handling.{Tracks, IsSettled}
+use Rattle.verify.proofs.Representing.{represented_none}
 use Rattle.verify.proofs.Tracking.{tracked_first}
 use Rattle.verify.proofs.handlers.Handlers.new.Goals as goal
 
@@ -17,5 +17,5 @@ returns c = λ cs frames f.
       subst (λ (xs : List Entry). Tracks (map entry_view table) 0 so sorted 0 xs c.new-2.result.items) (sym c.new.ensures.items)
           (subst (λ (xs : List Entry). Tracks (map entry_view table) 0 so sorted 0 [] xs) none
           (tracked_first table sorted c.requires c.in_ok-sort_by_key.ensures.permutation so rises)),
-      represented_none frames c.new-3.result.items c.new-2.result.items c.new-2.ensures.items,
+      represented_none frames c.new-3.result.list.items c.new-2.result.items c.new-3.ensures c.new-2.ensures.items,
     )

@@ -5,7 +5,7 @@ use Rattle.frames.specs.DeclaredTables.{frames_in}
 use Rattle.frames.specs.VerificationType.{type_of}
 use Rattle.verify.specs.declared.exceptions.Entry.{Entry}
 use Rattle.verify.specs.declared.handlers.Asked.{Asked}
-use Rattle.verify.specs.Handling.{Tracks, IsSettled}
+use Rattle.verify.specs.private.Handling.{Tracks, IsSettled}
 use Rattle.verify.proofs.Changes.{AreParted, parted_first, parted_takes, parted_again}
 use Rattle.verify.proofs.InTurn.{none_left}
 use Rattle.verify.proofs.handlers.Handlers.part.Goals as goal

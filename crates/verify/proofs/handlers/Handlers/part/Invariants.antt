@@ -1,11 +1,11 @@
 use Rattle.std.proofs.Common.{◌≡◌, ℕ, List, length, set}
 use Rattle.std.specs.Prelude.{IfSome}
-use Rattle.verify.specs.Asking.{IsAsked}
+use Rattle.verify.specs.private.Asking.{IsAsked}
 use Rattle.classfile.specs.Methods.{ExceptionEntry}
 use Rattle.frames.specs.DeclaredTables.{frames_in}
 use Rattle.frames.specs.FrameFact.{FrameFact}
 use Rattle.frames.specs.VerificationType.{type_of}
-use Rattle.verify.specs.Handling.{AreCompared}
+use Rattle.verify.specs.private.Handling.{AreCompared}
 use Rattle.verify.proofs.Changes.{AreParted}
 use Rattle.verify.proofs.handlers.Handlers.part.Given as goal
 

@@ -3,7 +3,7 @@ use Rattle.frames.specs.VerificationType.{top}
 use Rattle.frames.specs.DeclaredTables.{frames_in, declared_view}
 use Rattle.frames.proofs.Passing.{joined, joined_first, joined_last, as_many}
 use Rattle.rules.specs.Working.{with_locals}
-use Rattle.verify.specs.Handling.{Follows}
+use Rattle.verify.specs.private.Handling.{Follows}
 use Rattle.verify.proofs.Changes.{follows_same, joined_set}
 use Rattle.verify.proofs.handlers.Handlers.pass.Goals as goal
 

@@ -4,7 +4,7 @@ use Rattle.frames.specs.DeclaredTables.{frames_in, declared_view}
 use Rattle.frames.specs.FrameFact.{FrameFact}
 use Rattle.frames.proofs.Passing.{joined}
 use Rattle.rules.specs.Working.{with_locals}
-use Rattle.verify.specs.Handling.{Follows}
+use Rattle.verify.specs.private.Handling.{Follows}
 use Rattle.verify.proofs.handlers.Handlers.pass.Given as goal
 
 abbrev pub invariant-loop-place : goal.invariant-loop-place

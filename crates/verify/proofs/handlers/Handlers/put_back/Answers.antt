@@ -3,9 +3,9 @@ use Rattle.std.proofs.lemmas.List.{drop_all, drop_more}
 use Rattle.frames.specs.DeclaredTables.{frames_in}
 use Rattle.frames.specs.declared.vtype.VType.TheVariants.{Top}
 use Rattle.rules.specs.Working.{with_locals}
-use Rattle.verify.specs.declared.keeping.Replaced.{Replaced}
-use Rattle.verify.specs.Handling.{Follows}
-use Rattle.verify.specs.Keeping.{restored}
+use Rattle.verify.specs.declared.local_facts.Replaced.{Replaced}
+use Rattle.verify.specs.private.Handling.{Follows}
+use Rattle.verify.specs.private.Keeping.{restored}
 use Rattle.verify.proofs.handlers.Handlers.put_back.Goals as goal
 
 pub loop-left-init : goal.loop-left-init

@@ -3,8 +3,8 @@ use Rattle.classfile.specs.Methods.{ExceptionEntry}
 use Rattle.frames.specs.DeclaredTables.{frames_in}
 use Rattle.frames.specs.FrameFact.{FrameFact}
 use Rattle.rules.specs.Working.{with_locals}
-use Rattle.verify.specs.Handling.{Follows}
-use Rattle.verify.specs.Keeping.{restored}
+use Rattle.verify.specs.private.Handling.{Follows}
+use Rattle.verify.specs.private.Keeping.{restored}
 use Rattle.verify.proofs.handlers.Handlers.put_back.Given as goal
 
 abbrev pub invariant-loop-left : goal.invariant-loop-left

@@ -2,14 +2,14 @@ use Rattle.std.proofs.Common.{◌<◌, List, [], ◌∷◌, ◌++◌, Option, So
 use Rattle.std.specs.Prelude.{IfSome}
 use Rattle.std.proofs.lemmas.Bool.Decides.{nat_tests}
 use Rattle.std.proofs.lemmas.List.{append-nil}
-use Rattle.std.proofs.lemmas.List.Elements.{All-push}
 use Rattle.hierarchy.specs.Answer.{outcome_of}
 use Rattle.frames.specs.DeclaredTables.{frames_in}
 use Rattle.rules.specs.Held.{held}
 use Rattle.verify.specs.declared.exceptions.Entry.{Entry}
 use Rattle.verify.specs.declared.handlers.Missing.{Missing}
-use Rattle.verify.specs.Handling.{Tracks, IsJudged, IsMissing, IsRepresented, AreRepresented}
-use Rattle.verify.proofs.Changes.{represented_more}
+use Rattle.verify.specs.private.Handling.{Tracks, IsJudged, IsMissing}
+use Rattle.verify.specs.private.Representatives.{AreRepresented}
+use Rattle.verify.proofs.Representing.{represented_entry}
 use Rattle.verify.proofs.InTurn.{turn_ended, turn_no, turn_yes, turn_missing, lacks_now, turn_none, turn_done, none_left}
 use Rattle.verify.proofs.handlers.Handlers.settle.Goals as goal
 use Rattle.verify.proofs.handlers.Handlers.settle.Goals.{in-Yes, in-Missing}
@@ -67,7 +67,7 @@ loop-entry-preserved g c =
     let x = c.in-Some.entry in
     let popped = c.pop.new.self.items in
     let lt : c.args.at < x.to = omega (arith, c.if-entry-at.false) in
-    let standing = c.represent.new.representatives.items in
+    let standing = c.add.new.self.list.items in
     let pushed = c.in_ok-push.ensures.items in
     record {
       known = c.in_ok-caught_answer.ensures.known;
@@ -79,8 +79,8 @@ loop-entry-preserved g c =
           let was = c.loop-entry.invariant.turn es t ahead in
           let taken = subst (λ (xs : List Entry). Tracks es c.args.at (IsJudged classes frames c.args.at f so_far) h.by_start.items h.begun xs h.settled.items) c.in-Some.ensures.items was.tracks in
           let told = sym c.in_ok-caught_answer.ensures.told in
-          let represented = subst (AreRepresented frames standing) (sym pushed) (All-push (λ (e : Entry). IsRepresented frames standing e.handler) h.settled.items x
-          (represented_more frames h.representatives.items standing c.in_ok-represent.ensures.more h.settled.items was.represented) c.in_ok-represent.ensures.now) in
+          let kept = c.in_ok-add.ensures h.settled.items was.represented in
+          let represented = subst (AreRepresented frames standing) (sym pushed) (represented_entry frames standing h.settled.items x kept.1 kept.0) in
           elim c.match-branch-2.branch [
             | in-Yes w ↦ record {
               tracks =

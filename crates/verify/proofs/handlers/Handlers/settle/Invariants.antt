@@ -2,8 +2,8 @@ use Rattle.std.proofs.Common.{◌≡◌, [], List, length}
 use Rattle.classfile.specs.Methods.{ExceptionEntry}
 use Rattle.frames.specs.DeclaredTables.{frames_in}
 use Rattle.rules.specs.Held.{held}
-use Rattle.verify.specs.Handling.{Follows, AreAhead}
-use Rattle.verify.specs.Keeping.{AreKnown}
+use Rattle.verify.specs.private.Handling.{Follows, AreAhead}
+use Rattle.verify.specs.private.Keeping.{AreKnown}
 use Rattle.verify.proofs.InTurn.{InTurn}
 use Rattle.verify.proofs.handlers.Handlers.settle.Given as goal
 

@@ -1,0 +1,11 @@
+use Rattle.std.proofs.Common.{length, subst, sym, rules}
+use Rattle.blocks.specs.private.Arenas.{IsArena}
+use Rattle.blocks.proofs.Arenas.{declared_arena}
+use Rattle.blocks.proofs.arena.Arena.declare.Goals as goal
+
+pub invariant_of-self-2 : goal.invariant_of-self-2
+invariant_of-self-2 c =
+    let a = c.self.inside in
+    subst (λ n. IsArena a.nodes.items n a.root a.count c.push.new.self.items) (search rules)
+    (subst (IsArena a.nodes.items (length a.nodes.items) a.root a.count) (sym c.in_ok-push.ensures.items)
+    (declared_arena a.nodes.items a.own a.root a.count a.declared.items c.self.invariant))

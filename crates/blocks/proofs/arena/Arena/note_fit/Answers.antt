@@ -1,0 +1,36 @@
+use Rattle.std.proofs.Common.{◌≡◌, ◌∙◌, ◌<◌, inl, inr, ◌++◌, length, take, drop, get_or, sym, ap, subst, arith, rules}
+use Rattle.std.proofs.lemmas.List.{take_at}
+use Rattle.blocks.specs.Rows.{IsSaidToFit}
+use Rattle.blocks.specs.private.Trees.{level_of, IsNoted}
+use Rattle.blocks.specs.private.Arenas.{rows_of, IsArena}
+use Rattle.blocks.proofs.Arenas.{declared_length, noted_arena, noted_said}
+use Rattle.blocks.proofs.arena.Arena.note_fit.Goals as goal
+
+pub invariant_of-self : goal.invariant_of-self
+invariant_of-self c =
+    let a = c.self.inside in
+    let wanted = c.root_of-wanted.result in
+    let told : IsNoted a.nodes.items c.note.new.nodes (level_of a.nodes.items a.root) a.root wanted =
+    subst (λ ns. IsNoted ns c.note.new.nodes (level_of ns a.root) a.root wanted) c.deref_mut.ensures.value c.note.ensures in
+    let long : length c.note.new.nodes ≡ a.nodes.len = told.only.long ∙ search rules in
+    let kept = take a.nodes.len (c.note.new.nodes ++ drop (length c.note.new.nodes) a.nodes.items) in
+    subst (λ n. IsArena kept n a.root a.count a.declared.items) (search rules)
+    (subst (λ ns. IsArena ns (length a.nodes.items) a.root a.count a.declared.items) (sym (take_at c.note.new.nodes _ a.nodes.len long))
+    (noted_arena a.nodes.items c.note.new.nodes a.own a.root wanted a.count a.declared.items c.self.invariant told.only))
+
+pub returns : goal.returns
+returns c =
+    let a = c.self.inside in
+    let wanted = c.root_of-wanted.result in
+    let told : IsNoted a.nodes.items c.note.new.nodes (level_of a.nodes.items a.root) a.root wanted =
+    subst (λ ns. IsNoted ns c.note.new.nodes (level_of ns a.root) a.root wanted) c.deref_mut.ensures.value c.note.ensures in
+    let long : length c.note.new.nodes ≡ a.nodes.len = told.only.long ∙ search rules in
+    let few = declared_length a.nodes.items a.root a.count a.declared.items c.args.self.now c.self.view_is in
+    let less = c.requires in
+    let row : c.args.row < length a.declared.items = omega (arith, few, less) in
+    let root : wanted ≡ get_or a.declared.items c.args.row 0 =
+    c.root_of-wanted.ensures ∙ ap (λ ids. get_or ids c.args.row 0) c.deref.ensures.value in
+    subst (λ ns. IsSaidToFit c.args.self.now (rows_of ns a.root a.count a.declared.items) c.args.row)
+    (sym (take_at c.note.new.nodes _ a.nodes.len long))
+    (noted_said a.nodes.items c.note.new.nodes a.own a.root wanted a.count a.declared.items c.self.invariant told.only
+    c.args.row row root c.args.self.now c.self.view_is (elim (told.done) [ inl k ↦ inl (sym k) | inr k ↦ inr k ]))

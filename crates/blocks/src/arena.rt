@@ -1,0 +1,218 @@
+//! The rows of a method.
+ghost use Rattle.std.specs.Prelude.{◌≡◌, ◌<◌, ◌≤◌, ◌^◌, ◌++◌, ◌∷◌, [], length, replicate, slice_index, slice_index_or, slice_set, IfOk, OnOk, OnErr};
+ghost use Rattle.blocks.specs.Rows.{declared_row, IsFirstUndecided, IsSaidToFit};
+ghost use Rattle.blocks.specs.private.Trees.{width};
+ghost use Rattle.blocks.specs.private.Arenas.{empty_node, AreEmpty};
+
+use crate::comparison::first_undecided_below;
+use crate::fitting::note;
+use crate::node::{LEVELS, Node};
+use crate::tree::{number, put};
+use std::alloc::{AllocError, Global};
+use std::marker::Model;
+
+/// A declared row, by its place among those of its arena.
+#[derive(Clone, Copy, Debug, PartialEq, Eq)]
+pub struct Row {
+    place: usize,
+}
+
+impl Model for Row {
+    ghost use Rattle.std.specs.Prelude.{ℕ};
+
+    ghost Value = { ℕ };
+
+    ghost view = { λ r. r.place };
+
+    ghost inverse = { λ n. record { place = n } };
+}
+
+/// The rows of a method: that of the running frame, and those of the declared frames.
+///
+/// A slot holds the number of a type, at first 0, which is Top. Where memory runs out, a call leaves all rows as they
+/// were.
+#[derive(Drop)]
+pub struct Arena {
+    nodes: Vec<Node>,
+    /// Nodes from here on belong to the running row alone.
+    own: u32,
+    root: u32,
+    count: usize,
+    declared: Vec<u32>,
+}
+
+impl Model for Arena {
+    ghost use Rattle.blocks.specs.Rows.{Rows};
+
+    ghost Value = { Rows };
+
+    ghost use Rattle.blocks.specs.private.Arenas.{rows_of, IsArena};
+
+    ghost view = { λ a. rows_of a.nodes.items a.root a.count a.declared.items };
+
+    ghost invariant = { λ a. IsArena a.nodes.items a.own a.root a.count a.declared.items };
+}
+
+/// The lowest level of a node that is above as many slots as a method has.
+fn top_of(count: u16) -> u32
+    ensures low { result < 4 }
+    ensures wide { count ≤ width result }
+{
+    match count {
+        0..=16 => 0,
+        17..=256 => 1,
+        257..=4096 => 2,
+        _ => 3,
+    }
+}
+
+/// A node of a level that holds nothing but Top: a block of zeros, or sixteen times the one below, by its place.
+fn empty_node(level: u32) -> Node
+    ensures { result ≡ empty_node level }
+{
+    Node {
+        numbers: [level.saturating_sub(1); 16],
+        level,
+        seen: None,
+    }
+}
+
+/// A node of each level that holds nothing but Top.
+fn empty_nodes(alloc: Global) -> Result<Vec<Node>, AllocError>
+    ensures { IfOk result (λ nodes. AreEmpty nodes.items) }
+{
+    let mut nodes = Vec::new(alloc);
+    for level in 0..LEVELS {
+        nodes.push(empty_node(level))?;
+    }
+    Ok(nodes)
+}
+
+/// Leaves a node of each level, and each holds nothing but Top.
+fn clear(nodes: &mut Vec<Node>)
+    requires { LEVELS ≤ length nodes.old.items }
+    ensures { AreEmpty nodes.new.items }
+{
+    nodes.truncate(LEVELS as usize);
+    for level in 0..LEVELS {
+        nodes[level as usize] = empty_node(level);
+    }
+}
+
+/// The root of a declared row.
+fn root_of(declared: &[u32], row: Row) -> u32
+    requires { row < length declared.now }
+    ensures { result ≡ slice_index declared.now row }
+{
+    declared[row.place]
+}
+
+impl Arena {
+    /// The rows of a method with so many local variables: the running one, which holds Top throughout.
+    pub fn new(alloc: Global, count: u16) -> Result<Arena, AllocError>
+        ensures { IfOk result (λ arena. arena ≡ record { running = replicate count 0; declared = []; known = [] }) }
+    {
+        Ok(Arena {
+            nodes: empty_nodes(alloc)?,
+            own: LEVELS,
+            root: top_of(count),
+            count: count as usize,
+            declared: Vec::new(alloc),
+        })
+    }
+
+    /// Begins anew, for another method: keeps the memory, and takes none.
+    pub fn restart(&mut self, count: u16)
+        ensures { self.new ≡ record { running = replicate count 0; declared = []; known = [] } }
+    {
+        let top = top_of(count);
+        clear(&mut self.nodes);
+        self.declared.clear();
+        self.own = LEVELS;
+        self.root = top;
+        self.count = count as usize;
+    }
+
+    /// How many slots a row has.
+    pub fn slots(&self) -> usize
+        ensures count { result ≡ length self.now.running }
+        ensures few { result < 2 ^ 16 }
+    {
+        self.count
+    }
+
+    /// The number in a slot of the running row.
+    pub fn get(&self, slot: usize) -> u32
+        requires { slot < length self.now.running }
+        ensures { result ≡ slice_index self.now.running slot }
+    {
+        number(&self.nodes, self.root, slot)
+    }
+
+    /// The number in a slot of a declared row.
+    pub fn get_declared(&self, row: Row, slot: usize) -> u32
+        requires row { row < length self.now.declared }
+        requires slot { slot < length self.now.running }
+        ensures { result ≡ slice_index (declared_row self.now row) slot }
+    {
+        let root = root_of(&self.declared, row);
+        number(&self.nodes, root, slot)
+    }
+
+    /// Puts a number into a slot of the running row. A number that is there already takes no memory.
+    pub fn set(&mut self, slot: usize, number: u32) -> Result<(), AllocError>
+        requires { slot < length self.old.running }
+        ensures ok { OnOk result (self.new ≡ record self.old { running = slice_set self.old.running slot number }) }
+        ensures err { OnErr result (self.new ≡ self.old) }
+    {
+        if self.get(slot) != number {
+            self.root = put(&mut self.nodes, self.own, self.root, slot, number)?;
+        }
+        Ok(())
+    }
+
+    /// Declares a row that holds what the running one does.
+    pub fn declare(&mut self) -> Result<Row, AllocError>
+        ensures place { IfOk result (λ row. row ≡ length self.old.declared) }
+        ensures ok { OnOk result (self.new
+            ≡ record self.old { declared = self.old.declared ++ self.old.running ∷ [] }) }
+        ensures err { OnErr result (self.new ≡ self.old) }
+    {
+        let place = self.declared.len();
+        self.declared.push(self.root)?;
+        self.own = self.nodes.len() as u32;
+        Ok(Row { place })
+    }
+
+    /// The running row becomes a declared one. Takes no memory, and no more time for a long row.
+    pub fn take(&mut self, row: Row)
+        requires { row < length self.old.declared }
+        ensures { self.new ≡ record self.old { running = declared_row self.old row } }
+    {
+        self.root = root_of(&self.declared, row);
+    }
+
+    /// The first slot from one on at which neither numbers nor what was said before show that the running row fits a
+    /// declared one. Numbers that are equal fit, and so does each where Top is wanted.
+    pub fn first_undecided(&self, row: Row, from: usize) -> Option<usize>
+        requires { row < length self.now.declared }
+        ensures first { IsFirstUndecided self.now row from result }
+        // a slot has one behind it that is counted too
+        ensures few { length self.now.running < 2 ^ 16 }
+    {
+        let wanted = root_of(&self.declared, row);
+        first_undecided_below(&self.nodes, self.root, wanted, from, self.count)
+    }
+
+    /// Notes that the running row fits a declared one, so that the two are not compared again until the running row
+    /// changes, and then only where it changed. Takes no memory, but the running row shares all of its blocks
+    /// afterwards: for rows of one block a comparison costs less than the copy that the next change then takes.
+    pub fn note_fit(&mut self, row: Row)
+        requires { row < length self.old.declared }
+        ensures { IsSaidToFit self.old self.new row }
+    {
+        let wanted = root_of(&self.declared, row);
+        self.own = self.nodes.len() as u32;
+        note(&mut self.nodes, self.root, wanted);
+    }
+}

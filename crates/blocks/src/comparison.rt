@@ -1,0 +1,73 @@
+//! Two trees compared slot by slot, as far as numbers and what was said before decide.
+ghost use Rattle.std.specs.Prelude.{◌≡◌, ◌≤◌, ◌<◌, ◌+◌, ◌*◌, ◌/◌, ◌^◌, ◌↔◌, length, IsTrue, Some};
+ghost use Rattle.blocks.specs.private.Trees.{IsForest, IsSettledUpTo, IsFirstUndecidedBelow, level_of, width};
+
+use crate::block::{first_lane, place_in};
+use crate::node::Node;
+
+/// The slot behind the node of a level in which a slot stands.
+fn end_of(slot: usize, level: u32) -> usize
+    requires level { level < 4 }
+    requires slot { slot < 2 ^ 32 }
+    ensures { result ≡ (slot / width level + 1) * width level }
+{
+    let bits = 4 + 4 * level;
+    ((slot >> bits) + 1) << bits
+}
+
+/// Whether a node was the last that was said to fit another.
+pub(crate) fn is_seen(node: &Node, id: u32) -> bool
+    ensures { IsTrue result ↔ (node.now.seen ≡ Some id) }
+{
+    match node.seen {
+        Some(seen) => seen == id,
+        None => false,
+    }
+}
+
+/// How far the slots from one on are decided below two nodes, or known to fit; at most to the end of a node.
+fn settled_end(nodes: &[Node], id: u32, wanted: u32, slot: usize) -> usize
+    requires forest { IsForest nodes.now }
+    requires node { id < length nodes.now }
+    requires wanted { wanted < length nodes.now }
+    requires level { level_of nodes.now wanted ≡ level_of nodes.now id }
+    requires slot { slot < 2 ^ 32 }
+    ensures { IsSettledUpTo nodes.now (level_of nodes.now id) id wanted slot result }
+{
+    let node = &nodes[id as usize];
+    let other = &nodes[wanted as usize];
+    if id == wanted || is_seen(other, id) {
+        return end_of(slot, node.level);
+    }
+    if node.level == 0 {
+        return slot / 16 * 16 + first_lane(&node.numbers, &other.numbers, slot % 16);
+    }
+    let place = place_in(slot, node.level);
+    settled_end(nodes, node.numbers[place], other.numbers[place], slot)
+}
+
+/// The first slot from one up to an end at which neither numbers nor what was said before decide.
+pub(crate) fn first_undecided_below(
+    nodes: &[Node],
+    id: u32,
+    wanted: u32,
+    from: usize,
+    to: usize,
+) -> Option<usize>
+    requires forest { IsForest nodes.now }
+    requires node { id < length nodes.now }
+    requires wanted { wanted < length nodes.now }
+    requires level { level_of nodes.now wanted ≡ level_of nodes.now id }
+    requires few { to < 2 ^ 32 }
+    ensures { IsFirstUndecidedBelow nodes.now (level_of nodes.now id) id wanted from to result }
+{
+    let mut at = from;
+    while at < to {
+        let end = settled_end(nodes, id, wanted, at);
+        if end == at {
+            return Some(at);
+        }
+        at = end;
+    }
+    None
+}

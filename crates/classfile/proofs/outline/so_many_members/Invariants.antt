@@ -1,8 +1,0 @@
-use Rattle.std.proofs.Common.{◌-◌}
-use Rattle.classfile.specs.Outline.{member}
-use Rattle.classfile.specs.Outline.{repeated}
-use Rattle.classfile.proofs.Outlines.{Continues}
-use Rattle.classfile.proofs.outline.so_many_members.Given as goal
-
-abbrev pub invariant-loop : goal.invariant-loop
-invariant-loop g l = Continues (repeated (l.count - l.counter) member) (repeated l.count member) l.reading.bytes l.initial.reading.bytes (g.R.Read.remaining l.reader) (g.R.Read.remaining l.initial.reader)

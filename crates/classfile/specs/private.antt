@@ -1,0 +1,8 @@
+-- Words of the code's own steps, which its private contracts use: nothing that a reader must believe rests on them.
+pub mod DuplicateFinder
+pub mod IndexColumns
+pub mod MemberTexts
+pub mod NamedAt
+pub mod NumbersLaws
+pub mod Pieces
+pub mod TextForms

@@ -1,0 +1,8 @@
+-- Words of the code's own steps, which its private contracts use: nothing that a reader must believe rests on them.
+pub mod Above
+pub mod Ancestry
+pub mod Flags
+pub mod Inheritance
+pub mod MemberNumbers
+pub mod Skips
+pub mod Versions

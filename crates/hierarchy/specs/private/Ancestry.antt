@@ -1,0 +1,58 @@
+-- Classes with all that stand above them, each behind its superclass. Words of the code's own steps.
+use Rattle.std.specs.Prelude.{◌≡◌, ℕ, ◌<◌, List, [], ◌∷◌, map, slice_get, Option, Some, MatchOption}
+use Rattle.std.specs.BTreeMap.{BTreeMap}
+use Rattle.std.specs.Borrow.{Bor}
+use Rattle.hierarchy.specs.declared.ancestry.Ancestry.{Ancestry}
+use Rattle.hierarchy.specs.declared.summary.Summary.{Summary}
+use Rattle.hierarchy.specs.private.Above.{class_above, number_of}
+use Rattle.hierarchy.specs.Class.{ClassFact, class_of}
+use Rattle.hierarchy.specs.Summary.{fact_of}
+
+-- classes as they are kept
+abbrev pub facts_at : List (Bor Summary) → List ClassFact
+facts_at kept = map (λ (s : Bor Summary). fact_of s.now) kept
+
+-- the class is the one of the list that has its name
+abbrev pub IsOwn : List ClassFact → ClassFact → Type 0
+IsOwn classes c = class_of classes c.name ≡ Some c
+
+-- the first of some classes, or else another
+abbrev pub first_or : Option ClassFact → List ClassFact → Option ClassFact
+first_or o [] = o
+first_or o (c ∷ cs) = Some c
+
+-- each class stands directly below the next one, and the last one below another, if there is one
+abbrev pub AreInTurn : List ClassFact → List ClassFact → Option ClassFact → Type 0
+AreInTurn classes [] o = Unit {0}
+AreInTurn classes (c ∷ cs) o = IsOwn classes c × (class_above classes c ≡ first_or o cs) × AreInTurn classes cs o
+
+-- each class, and no other, has a place, at which it stands
+pub record HavePlaces (all : List ClassFact) (places : BTreeMap (Bor (List ℕ)) ℕ) : Type 0 where
+  pub leads : (name : List ℕ) (p : ℕ) → number_of places name ≡ Some p → (c : ClassFact) × (slice_get all p ≡ Some c)
+      × (c.name ≡ name)
+  pub exact : (p : ℕ) (c : ClassFact) → slice_get all p ≡ Some c → number_of places c.name ≡ Some p
+
+-- classes of a list, each behind the one that stands directly above it
+pub record IsAncestry (classes : List ClassFact) (a : Ancestry) : Type 0 where
+  pub places : HavePlaces (facts_at a.classes.items) a.places
+  pub own : (p : ℕ) (c : ClassFact) → slice_get (facts_at a.classes.items) p ≡ Some c → IsOwn classes c
+  pub order : (p : ℕ) (c d : ClassFact) → slice_get (facts_at a.classes.items) p ≡ Some c
+      → class_above classes c ≡ Some d
+      → (q : ℕ) × (q < p) × (slice_get (facts_at a.classes.items) q ≡ Some d)
+
+-- the class stands among these
+abbrev pub Has : Ancestry → ClassFact → Type 0
+Has a c = (p : ℕ) × (slice_get (facts_at a.classes.items) p ≡ Some c)
+
+-- so does the class, if it is one
+abbrev pub HasAny : Ancestry → Option ClassFact → Type 0
+HasAny a o = MatchOption o (Unit {0}) (Has a)
+
+-- classes in turn, of which the last stands directly below one of these, or below none
+abbrev pub EndsBelow : List ClassFact → Ancestry → List ClassFact → Type 0
+EndsBelow classes a cs = (o : Option ClassFact) × AreInTurn classes cs o × HasAny a o
+
+-- one more class is put behind the one that stands directly above it
+abbrev pub Adds : Ancestry → Ancestry → ClassFact → Type 0
+Adds old new c = (classes : List ClassFact) → IsAncestry classes old → IsOwn classes c
+    → HasAny old (class_above classes c) → IsAncestry classes new × Has new c

@@ -1,0 +1,114 @@
+-- The inheritance of classes, as it is kept: which classes stand above each, and which protected members each has, by
+-- versions of arrays. Words of the code's own steps.
+use Rattle.std.specs.Prelude.{◌≡◌, ◌⊎◌, ℕ, ◌<◌, suc, true, false, List, length, slice_get, Option, Some, None, IsSome, find, if◌then◌else◌, MatchOption}
+use Rattle.std.specs.BTreeMap.{BTreeMap}
+use Rattle.std.specs.Borrow.{Bor}
+use Rattle.std.specs.Option.{option_map_or}
+use Rattle.hierarchy.specs.declared.inheritance.Inherited.{Inherited}
+use Rattle.hierarchy.specs.declared.inheritance.Inheritance.{Inheritance}
+use Rattle.hierarchy.specs.declared.member_numbers.MemberNumbers.{MemberNumbers}
+use Rattle.hierarchy.specs.declared.summary.Kind.{Kind}
+use Rattle.hierarchy.specs.declared.versions.Versions.{Versions}
+use Rattle.hierarchy.specs.private.Above.{number_of}
+use Rattle.hierarchy.specs.private.Ancestry.{IsAncestry, facts_at}
+use Rattle.hierarchy.specs.Class.{MemberFact, ClassFact, IsSubclass}
+use Rattle.hierarchy.specs.private.Flags.{AreNumbers}
+use Rattle.hierarchy.specs.private.MemberNumbers.{AreMemberNumbers, member_number}
+use Rattle.hierarchy.specs.Nearest.{MemberReference, Declaration, IsNearest, is_named, package_of}
+use Rattle.hierarchy.specs.Rules.{IsHierarchy}
+use Rattle.hierarchy.specs.private.Versions.{AreVersions, IsVersion, value_at}
+
+-- the number of a member that a reference asks for
+abbrev pub asked_number : MemberNumbers → MemberReference → Option ℕ
+asked_number numbers r = member_number numbers r.kind r.name r.descriptor
+
+-- each of these members has a number where it is protected
+abbrev pub HaveNumbers : MemberNumbers → List MemberFact → Type 0
+HaveNumbers numbers ms = (i : ℕ) (m : MemberFact) → slice_get ms i ≡ Some m → m.is_protected ≡ true
+    → IsSome (member_number numbers m.kind m.name m.descriptor)
+
+-- so has each of these classes
+abbrev pub NumberAll : MemberNumbers → List ClassFact → Type 0
+NumberAll numbers all = (p : ℕ) (c : ClassFact) → slice_get all p ≡ Some c → HaveNumbers numbers c.members
+
+-- all members that had a number keep it
+abbrev pub KeepMembers : MemberNumbers → MemberNumbers → Type 0
+KeepMembers old new = (k : Kind) (a d : List ℕ) (i : ℕ) → member_number old k a d ≡ Some i
+    → member_number new k a d ≡ Some i
+
+-- ---- versions
+
+-- all versions stay, with all values
+pub record KeepVersions (old new : Versions) : Type 0 where
+  pub good : AreVersions new
+  pub stays : (v : ℕ) → IsVersion old v → IsVersion new v
+  pub same : (v : ℕ) → IsVersion old v → (j : ℕ) → value_at new v j ≡ value_at old v j
+
+-- in the place of a value stands the class's own where its member is protected, and 0 where it is not
+abbrev pub declared_value : ℕ → Option MemberFact → ℕ → ℕ
+declared_value own None v = v
+declared_value own (Some m) v = if m.is_protected then own else 0
+
+-- a version has the values of another, with those of these members in their place
+pub record Declares (numbers : MemberNumbers) (old new : Versions) (ms : List MemberFact)
+    (own above version : ℕ) : Type 0 where
+  pub keeps : KeepVersions old new
+  pub there : IsVersion new version
+  pub values : (r : MemberReference) (k : ℕ) → asked_number numbers r ≡ Some k
+      → value_at new version k ≡ declared_value own (find (is_named r) ms) (value_at old above k)
+
+-- ---- values
+
+-- a value is 0 where it does not hold, and another where it does
+abbrev pub Tells : Type 0 → ℕ → Type 0
+Tells P v = ((v ≡ 0) × (P → ⊥)) ⊎ ((v ≡ 0 → ⊥) × P)
+
+-- the place of the class with the nearest declaration from a class upward, where that is protected
+pub data IsProtectedAt (classes all : List ClassFact) (r : MemberReference) (name : List ℕ) : Option ℕ → Type 0 where
+  free : ((d : Declaration) → IsNearest classes r name d → d.member.is_protected ≡ false)
+      → IsProtectedAt classes all r name None
+  kept : {p : ℕ} (d : Declaration) → slice_get all p ≡ Some d.class → IsNearest classes r name d
+      → d.member.is_protected ≡ true → IsProtectedAt classes all r name (Some p)
+
+-- the value of a member in a class: the place, from 1, of the class with the nearest declaration, where that is
+-- protected, and otherwise 0
+abbrev pub IsCoded : List ClassFact → List ClassFact → MemberReference → List ℕ → ℕ → Type 0
+IsCoded classes all r name v = (o : Option ℕ) × (v ≡ option_map_or suc o 0) × IsProtectedAt classes all r name o
+
+-- ---- classes
+
+module _ (classes all : List ClassFact) (numbers : MemberNumbers) (versions : Versions)
+    (packages : BTreeMap (Bor (List ℕ)) ℕ) where
+  -- a class has a version that tells of each class whether it is this one or stands above it, one with the values of
+  -- the members, and the number of its package
+  pub record Inherits (c : ClassFact) (i : Inherited) : Type 0 where
+    pub is_chain : IsVersion versions i.ancestors
+    pub is_members : IsVersion versions i.members
+    pub chain : (p : ℕ) (d : ClassFact) → slice_get all p ≡ Some d
+        → Tells (IsSubclass classes c.name d.name) (value_at versions i.ancestors p)
+    pub members : (r : MemberReference) (k : ℕ) → asked_number numbers r ≡ Some k
+        → IsCoded classes all r c.name (value_at versions i.members k)
+    pub in_package : number_of packages (package_of c.name) ≡ Some i.package_number
+
+  -- where there is no class nothing is inherited
+  abbrev pub InheritsAny : Option ClassFact → Inherited → Type 0
+  InheritsAny o i = MatchOption o ((i.ancestors ≡ 0) × (i.members ≡ 0)) (λ c. Inherits c i)
+
+  -- the first of these classes, as many as there are answers
+  pub record InheritSoFar (of : List Inherited) : Type 0 where
+    pub good : AreVersions versions
+    pub zero_there : IsVersion versions 0
+    pub zeros : (j : ℕ) → value_at versions 0 j ≡ 0
+    pub named : AreNumbers packages
+    pub each : (p : ℕ) (c : ClassFact) (i : Inherited) → slice_get all p ≡ Some c → slice_get of p ≡ Some i
+        → Inherits c i
+
+-- all classes of an ancestry have their entries
+pub record IsInheritance (classes : List ClassFact) (h : Inheritance) : Type 0 where
+  pub formed : 0 < length h.ancestry.classes.items → IsHierarchy classes
+  pub ancestry : IsAncestry classes h.ancestry
+  pub numbers : AreMemberNumbers h.numbers
+  pub numbered : NumberAll h.numbers (facts_at h.ancestry.classes.items)
+  pub inherit : InheritSoFar classes
+      (facts_at h.ancestry.classes.items) h.numbers h.table.versions h.table.packages h.table.of.items
+  pub as_many : length h.table.of.items ≡ length h.ancestry.classes.items

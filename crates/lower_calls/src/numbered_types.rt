@@ -1,0 +1,186 @@
+use crate::making::{hasher, object, summary};
+use frames::VType;
+use hierarchy::{Answer, Classes, Rows, Summary};
+use layout::{Cursor, Part};
+use names::{Base, OBJECT, Primitive};
+use pool::Pool;
+use std::alloc::{AllocError, Global};
+use std::hash::BuildHasher;
+use std::test::*;
+use type_numbers::{ConstantTable, DescriptorNumbers, NamedConstant, TypeNumbers, laws};
+
+const A: VType<'static> = VType::Class(b"A");
+
+const B: VType<'static> = VType::Class(b"B");
+
+const D: VType<'static> = VType::Class(b"D");
+
+/// Classes of which A has place 3, and none is B, D or java/lang/String.
+fn setting<'a>(alloc: Global) -> [Summary<'a>; 4] {
+    [
+        object(alloc),
+        summary(alloc, b"I", Some(OBJECT), true),
+        summary(alloc, b"C", Some(b"A"), false),
+        summary(alloc, b"A", Some(OBJECT), false),
+    ]
+}
+
+#[test]
+fn laws_are_called() {
+    laws::equal_numbers_are_equal_types();
+    laws::types_have_one_number();
+    laws::numbers_are_below_absent();
+    laws::numbers_are_slots();
+    laws::numbers_stay();
+    laws::tables_stay();
+}
+
+fn array<'a>(dims: u8, base: Base<'a>) -> VType<'a> {
+    VType::Array { dims, base }
+}
+
+/// Types with the numbers that they get one after the other.
+fn numbered<'a>() -> [(VType<'a>, u32); 20] {
+    [
+        (VType::Top, 0),
+        (VType::Int, 0x0100_0000),
+        (VType::Float, 0x0200_0000),
+        (VType::Double, 0x0300_0000),
+        (VType::Long, 0x0400_0000),
+        (VType::Null, 0x0500_0000),
+        (VType::UninitThis, 0x0600_0000),
+        (VType::Class(OBJECT), 0x0700_0000),
+        (A, 0x0700_0003),
+        (VType::Class(b"C"), 0x0700_0002),
+        (array(1, Base::Class(b"A")), 0x0701_0003),
+        (array(2, Base::Class(b"C")), 0x0702_0002),
+        (VType::Uninit(65534), 0x0800_FFFE),
+        (array(2, Base::Primitive(Primitive::Int)), 0x0902_000A),
+        (array(255, Base::Primitive(Primitive::Boolean)), 0x09FF_0004),
+        (B, 0x0A00_0000),
+        (array(255, Base::Class(b"D")), 0x0AFF_0001),
+        (D, 0x0A00_0001),
+        (array(1, Base::Class(b"B")), 0x0A01_0000),
+        (B, 0x0A00_0000),
+    ]
+}
+
+/// Whether a type gets this number, which stands for the type.
+fn is_numbered<'n, C: Classes, S: BuildHasher + Drop>(
+    numbers: &mut TypeNumbers<'_, 'n, C, S>,
+    vtype: &VType<'n>,
+    expected: u32,
+) -> Result<bool, AllocError> {
+    let number = numbers.number(vtype)?;
+    Ok(number == expected && numbers.vtype(number) == *vtype)
+}
+
+/// Whether a type compared with itself by its number is assignable.
+fn is_its_own<'n, C: Classes, S: BuildHasher + Drop>(
+    numbers: &mut TypeNumbers<'_, 'n, C, S>,
+    vtype: &VType<'n>,
+) -> Result<bool, AllocError> {
+    let number = numbers.number(vtype)?;
+    Ok(numbers.assignable(number, number) == Answer::Yes)
+}
+
+/// Whether types get their numbers, each of which stands for its type.
+fn agree<C: Classes>(alloc: Global, classes: &C) -> Result<bool, AllocError> {
+    let mut numbers = TypeNumbers::new(alloc, classes, hasher());
+    let mut fine = true;
+    for (vtype, number) in &numbered() {
+        fine &= is_numbered(&mut numbers, vtype, *number)? && is_its_own(&mut numbers, vtype)?;
+    }
+    Ok(fine)
+}
+
+/// At 2 a Class of A, at 6 a Fieldref of a field f of A that holds a java/lang/String, at 9 a Methodref, and at 11 a
+/// Class of an array of java/lang/String.
+const NAMED: [u8; 104] = [
+    0, 12, 1, 0, 1, 65, 7, 0, 1, 1, 0, 1, 102, 1, 0, 18, 76, 106, 97, 118, 97, 47, 108, 97, 110,
+    103, 47, 83, 116, 114, 105, 110, 103, 59, 12, 0, 3, 0, 4, 9, 0, 2, 0, 5, 1, 0, 22, 40, 76, 106,
+    97, 118, 97, 47, 108, 97, 110, 103, 47, 83, 116, 114, 105, 110, 103, 59, 73, 41, 86, 12, 0, 3,
+    0, 7, 10, 0, 2, 0, 8, 1, 0, 19, 91, 76, 106, 97, 118, 97, 47, 108, 97, 110, 103, 47, 83, 116,
+    114, 105, 110, 103, 59, 7, 0, 10,
+];
+
+/// The constants of that pool, by their indices from 0 on.
+const CONSTANTS: [NamedConstant; 13] = [
+    NamedConstant::Other,
+    NamedConstant::Other,
+    NamedConstant::Class { class: 0x0700_0003 },
+    NamedConstant::Other,
+    NamedConstant::Other,
+    NamedConstant::Other,
+    NamedConstant::Field {
+        class: 0x0700_0003,
+        held: 0x0A00_0000,
+    },
+    NamedConstant::Other,
+    NamedConstant::Other,
+    NamedConstant::Other,
+    NamedConstant::Other,
+    NamedConstant::Class { class: 0x0A01_0000 },
+    NamedConstant::Other,
+];
+
+/// Whether the table of that pool has these constants, or the bytes are no pool, where that may be.
+fn are_tabled<C: Classes>(alloc: Global, classes: &C, may_fail: bool) -> Result<bool, AllocError> {
+    let Ok(pool) = Pool::take(alloc, &mut Cursor::new(&NAMED)) else {
+        return Ok(may_fail);
+    };
+    let mut numbers = TypeNumbers::new(alloc, classes, hasher());
+    let table = ConstantTable::new(alloc, &pool, &mut numbers)?;
+    let mut fine = true;
+    for (index, constant) in CONSTANTS.iter().enumerate() {
+        fine &= table.get(index as u16) == *constant;
+    }
+    Ok(fine)
+}
+
+/// Whether the text at 7 of that pool is the descriptor of a method that takes a java/lang/String and an int, however
+/// often it is asked, and those at 4 and 5 are none; or the bytes are no pool, where that may be.
+fn are_methods<C: Classes>(alloc: Global, classes: &C, may_fail: bool) -> Result<bool, AllocError> {
+    let Ok(pool) = Pool::take(alloc, &mut Cursor::new(&NAMED)) else {
+        return Ok(may_fail);
+    };
+    let mut numbers = TypeNumbers::new(alloc, classes, hasher());
+    let mut descriptors = DescriptorNumbers::new(alloc, &pool)?;
+    let first = descriptors.types(&pool, 7, &mut numbers)?;
+    let again = descriptors.types(&pool, 7, &mut numbers)?;
+    let text = descriptors.types(&pool, 4, &mut numbers)?;
+    let constant = descriptors.types(&pool, 5, &mut numbers)?;
+    let Some(types) = again else {
+        return Ok(false);
+    };
+    let fits = descriptors.arguments(types) == [0x0A00_0000, 0x0100_0000].as_slice();
+    Ok(fits && types.result.is_none() && first == again && text.is_none() && constant.is_none())
+}
+
+/// Whether all that is said of numbers holds; or memory ran out, where it may.
+fn holds(alloc: Global, may_fail: bool) -> bool {
+    let list = setting(alloc);
+    let Ok(classes) = Rows::new(alloc, &list, hasher()) else {
+        return may_fail;
+    };
+    let Ok(types) = agree(alloc, &classes) else {
+        return may_fail;
+    };
+    let Ok(constants) = are_tabled(alloc, &classes, may_fail) else {
+        return may_fail;
+    };
+    let Ok(methods) = are_methods(alloc, &classes, may_fail) else {
+        return may_fail;
+    };
+    types && constants && methods
+}
+
+#[test]
+fn types_and_constants_by_number(rt: HostRuntime) {
+    assert!(rt; holds(rt.alloc(), false));
+}
+
+#[test]
+fn memory_runs_out_for_numbers(rt: HostRuntime) {
+    assert!(rt; holds(rt.alloc(), true));
+}

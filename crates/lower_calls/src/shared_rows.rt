@@ -1,0 +1,176 @@
+ghost use Rattle.std.specs.Prelude.{◌≡◌, ◌<◌, length};
+
+use blocks::{Arena, Row, laws};
+use std::alloc::{AllocError, Global};
+use std::test::*;
+
+/// Puts a number into a slot of the running row, if it has that slot.
+fn put(arena: &mut Arena, slot: usize, number: u32) -> Result<(), AllocError>
+    ensures slots { length arena.new.running ≡ length arena.old.running }
+    ensures declared { arena.new.declared ≡ arena.old.declared }
+{
+    if slot < arena.slots() {
+        arena.set(slot, number)?;
+    }
+    Ok(())
+}
+
+/// The number of a slot of the running row, if it has that slot.
+fn running(arena: &Arena, slot: usize) -> Option<u32> {
+    if slot < arena.slots() {
+        Some(arena.get(slot))
+    } else {
+        None
+    }
+}
+
+/// The number of a slot of a declared row, if it has that slot.
+fn declared(arena: &Arena, row: Row, slot: usize) -> Option<u32>
+    requires { row < length arena.now.declared }
+{
+    if slot < arena.slots() {
+        Some(arena.get_declared(row, slot))
+    } else {
+        None
+    }
+}
+
+/// Puts a number into each slot of the running row.
+fn fill(arena: &mut Arena, number: u32) -> Result<(), AllocError>
+    ensures { arena.new.declared ≡ arena.old.declared }
+{
+    for slot in 0..arena.slots() {
+        put(arena, slot, number)?;
+    }
+    Ok(())
+}
+
+/// Rows of so many slots, of which the running one has a number throughout.
+fn filled(alloc: Global, count: u16, number: u32) -> Result<Arena, AllocError> {
+    let mut arena = Arena::new(alloc, count)?;
+    fill(&mut arena, number)?;
+    Ok(arena)
+}
+
+/// Whether a row is found to differ at a place from one declared before, and there alone.
+fn differs_at(alloc: Global, count: u16, place: u16) -> Result<bool, AllocError> {
+    let slot = place as usize;
+    let mut arena = filled(alloc, count, 5)?;
+    let row = arena.declare()?;
+    put(&mut arena, slot, 7)?;
+    let first = arena.first_undecided(row, 0);
+    let at = arena.first_undecided(row, slot);
+    let behind = arena.first_undecided(row, slot + 1);
+    let expected = if place < count { Some(slot) } else { None };
+    Ok(first == expected && at == expected && behind.is_none())
+}
+
+fn one_slot_differs(alloc: Global) -> Result<bool, AllocError> {
+    for count in [0, 1, 7, 8, 9, 15, 16, 17, 33, 257] {
+        for place in 0..count + 1 {
+            if !differs_at(alloc, count, place)? {
+                return Ok(false);
+            }
+        }
+    }
+    for place in [0, 15, 16, 255, 256, 4095, 4096, 65534] {
+        if !differs_at(alloc, u16::MAX, place)? {
+            return Ok(false);
+        }
+    }
+    Ok(true)
+}
+
+/// Whether declared rows keep what they hold, whatever the running row holds afterwards.
+fn are_kept(alloc: Global) -> Result<bool, AllocError> {
+    let mut arena = filled(alloc, 40, 1)?;
+    let first = arena.declare()?;
+    put(&mut arena, 20, 2)?;
+    let second = arena.declare()?;
+    put(&mut arena, 20, 3)?;
+    put(&mut arena, 39, 4)?;
+    let both = [declared(&arena, first, 20), declared(&arena, second, 20)] == [Some(1), Some(2)];
+    let last = [declared(&arena, second, 39), running(&arena, 39)] == [Some(1), Some(4)];
+    arena.take(first);
+    put(&mut arena, 0, 6)?;
+    let taken = [running(&arena, 20), running(&arena, 0)] == [Some(1), Some(6)];
+    let stays = [declared(&arena, first, 0), declared(&arena, second, 0)] == [Some(1), Some(1)];
+    Ok(both && last && taken && stays)
+}
+
+/// Whether Top fits, and is fitted, as the standard has it.
+fn top_is_wanted(alloc: Global) -> Result<bool, AllocError> {
+    let mut arena = Arena::new(alloc, 20)?;
+    let top = arena.declare()?;
+    put(&mut arena, 18, 1)?;
+    let any = arena.first_undecided(top, 0).is_none();
+    let int = arena.declare()?;
+    arena.take(top);
+    Ok(any && arena.first_undecided(int, 0) == Some(18))
+}
+
+/// Whether a row that was said to fit is compared again where it changed, and only in that block.
+fn is_noted(alloc: Global, count: u16, place: usize) -> Result<bool, AllocError> {
+    let mut arena = filled(alloc, count, 6)?;
+    let row = arena.declare()?;
+    fill(&mut arena, 5)?;
+    let before = arena.first_undecided(row, 0);
+    arena.note_fit(row);
+    let noted = arena.first_undecided(row, 0);
+    put(&mut arena, place, 7)?;
+    let changed = arena.first_undecided(row, 0);
+    arena.note_fit(row);
+    let again = arena.first_undecided(row, 0);
+    Ok(before == Some(0) && noted.is_none() && changed == Some(place / 16 * 16) && again.is_none())
+}
+
+fn what_was_said_is_kept(alloc: Global) -> Result<bool, AllocError> {
+    let short = is_noted(alloc, 9, 8)?;
+    let long = is_noted(alloc, 300, 299)?;
+    Ok(short && long && is_noted(alloc, 5000, 4100)?)
+}
+
+/// Whether an arena begins anew.
+fn begins_anew(alloc: Global) -> Result<bool, AllocError> {
+    let mut arena = filled(alloc, 300, 5)?;
+    arena.declare()?;
+    arena.restart(17);
+    put(&mut arena, 16, 2)?;
+    let row = arena.declare()?;
+    let are_few = arena.slots() == 17 && running(&arena, 0) == Some(0);
+    Ok(are_few && declared(&arena, row, 16) == Some(2))
+}
+
+fn all_hold(alloc: Global) -> Result<bool, AllocError> {
+    let rows = are_kept(alloc)? && top_is_wanted(alloc)?;
+    Ok(rows && what_was_said_is_kept(alloc)? && begins_anew(alloc)?)
+}
+
+#[test]
+fn rows_that_differ_at_one_slot(rt: HostRuntime) {
+    match one_slot_differs(rt.alloc()) {
+        Ok(holds) => assert!(rt; holds),
+        Err(_) => panic!(rt; "memory"),
+    }
+}
+
+#[test]
+fn rows_are_shared(rt: HostRuntime) {
+    match all_hold(rt.alloc()) {
+        Ok(holds) => assert!(rt; holds),
+        Err(_) => panic!(rt; "memory"),
+    }
+}
+
+#[test]
+fn memory_runs_out_for_shared_rows(rt: HostRuntime) {
+    if let Ok(holds) = all_hold(rt.alloc()) {
+        assert!(rt; holds);
+    }
+}
+
+#[test]
+fn laws_are_called() {
+    laws::settled_slots_fit();
+    laws::truths_stay();
+}

@@ -1,0 +1,12 @@
+pub mod Growing
+pub mod NumberParts
+pub mod Decoded
+pub mod Noted
+pub mod Given
+pub mod LawsOfNumbers
+pub mod Readings
+pub mod Dimensions
+pub mod FieldEntries
+pub mod Tables
+pub mod DecidedTypes
+pub mod MethodReadings

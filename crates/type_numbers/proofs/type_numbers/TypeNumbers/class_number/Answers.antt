@@ -1,0 +1,28 @@
+use Rattle.std.proofs.Common.{◌∙◌, ap, sym, refl, List, ℕ}
+use Rattle.std.specs.Borrow.{Bor}
+use Rattle.std.specs.Option.{option_map}
+use Rattle.hierarchy.proofs.Names.{some_same}
+use Rattle.type_numbers.proofs.Given.{absent_given}
+use Rattle.type_numbers.proofs.Growing.{put_at}
+use Rattle.type_numbers.proofs.Noted.{kept_there, pair_at, still_kept}
+use Rattle.type_numbers.proofs.type_numbers.TypeNumbers.class_number.Goals as goal
+
+pub returns-in_ok-insert-in-Some-clause-noted : goal.returns-in_ok-insert-in-Some-clause-noted
+returns-in_ok-insert-in-Some-clause-noted g c = λ place e. kept_there c.insert.new.self c.in-Some.place place c.args.name (some_same (sym c.in-Some.is ∙ c.place.ensures ∙ e)) c.in_ok-insert-in-Some.ensures.updates.1
+
+pub returns-in_ok-insert-in-Some-clause-kept : goal.returns-in_ok-insert-in-Some-clause-kept
+returns-in_ok-insert-in-Some-clause-kept g c =
+    let old = c.self.inside.present in
+    let new = c.insert.new.self in
+    let there = sym c.place.ensures ∙ c.in-Some.is in
+    rw (← c.self.view_is) (record {
+      classes = refl;
+      absent = λ name k e. e;
+      present = λ q n e. pair_at new q ∙ still_kept (g.C.Classes.content c.self.inside.classes.now) old new c.in-Some.place c.args.name there c.in_ok-insert-in-Some.ensures.updates.0 c.self.invariant q n (sym (pair_at old q) ∙ e);
+    })
+
+pub returns-in_ok-place-in-None-clause-number : goal.returns-in_ok-place-in-None-clause-number
+returns-in_ok-place-in-None-clause-number g c =
+    let put = c.in_ok-place-in-None.ensures in
+    let at = put_at c.args.name.now c.self.inside.absent.keys c.insert_full.new.self.keys c.args.name c.in_ok-place-in-None.place refl put.keys put.index in
+    absent_given (g.C.Classes.content c.self.inside.classes.now) c.insert_full.new.self.keys c.args.name.now c.args.dims c.in_ok-place-in-None.place c.ok_or.result (sym c.place.ensures ∙ c.in-None.is) at (sym c.ok_or.ensures.ok_part ∙ c.absent_number.ensures)

@@ -1,0 +1,23 @@
+use Rattle.std.proofs.Common.{◌≡◌, ◌∙◌, ◌+◌, ◌*◌, ◌-◌, ap, sym, List, ℕ, arith, slice_get}
+use Rattle.std.specs.Borrow.{Bor}
+use Rattle.std.specs.Option.{option_map}
+use Rattle.std.proofs.lemmas.Option.{slice_get-map}
+use Rattle.type_numbers.specs.Numbers.{Numbering, present_at}
+use Rattle.type_numbers.proofs.Decoded.{present_name, absent_name}
+use Rattle.type_numbers.proofs.Noted.{pair_at}
+use Rattle.type_numbers.proofs.type_numbers.TypeNumbers.name_at.Goals as goal
+
+pub returns-then-tag-eq7 : goal.returns-then-tag-eq7
+returns-then-tag-eq7 g c =
+    ap (option_map (λ (n : Bor (List ℕ)). n.now)) (c.copied.ensures ∙ c.get.ensures.value) ∙ sym (pair_at c.self.inside.present c.args.rest)
+    ∙ ap (λ (s : Numbering). present_at s c.args.rest) c.self.view_is
+    ∙ sym (present_name c.args.self.now c.args.tag c.args.rest c.if-tag-eq7.true)
+
+pub returns : goal.returns
+returns g c =
+    let keys = c.self.inside.absent.keys in
+    let at : c.from.result * 65536 + c.from-2.result ≡ (c.args.tag - 10) * 65536 + c.args.rest = omega (arith, c.from.ensures, c.from-2.ensures, c.saturating_sub.ensures) in
+    ap (option_map (λ (n : Bor (List ℕ)). n.now)) (c.copied-2.ensures ∙ c.get_index.ensures.key ∙ ap (slice_get keys) at)
+    ∙ sym (slice_get-map (λ (n : Bor (List ℕ)). n.now) keys ((c.args.tag - 10) * 65536 + c.args.rest))
+    ∙ ap (λ (s : Numbering). slice_get s.absent ((c.args.tag - 10) * 65536 + c.args.rest)) c.self.view_is
+    ∙ sym (absent_name c.args.self.now c.args.tag c.args.rest c.if-tag-eq7.false)

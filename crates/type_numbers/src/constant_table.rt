@@ -1,0 +1,54 @@
+//! The constants of a class as its instructions name them.
+ghost use Rattle.std.specs.Prelude.{◌≡◌, IfOk};
+ghost use Rattle.type_numbers.specs.Constants.{IsTable, constant_in, constants_of};
+ghost use Rattle.type_numbers.specs.Numbers.{Extends};
+
+use crate::named_constant::NamedConstant;
+use crate::texts::Texts;
+use crate::type_numbers::TypeNumbers;
+use hierarchy::Classes;
+use pool::Pool;
+use std::alloc::{AllocError, Global};
+use std::hash::BuildHasher;
+
+/// The constants of a class as its instructions name them, made once before the class's methods.
+#[derive(Drop)]
+pub struct ConstantTable {
+    /// By the indices of the constants; at 0, which no constant has, stands [`NamedConstant::Other`].
+    constants: Vec<NamedConstant>,
+}
+
+impl ConstantTable {
+    /// The table of the constants of a pool, whose types get numbers. Each text is read once, however many constants
+    /// lead to it. The only refusal is want of memory.
+    pub fn new<'a, C: Classes, S: BuildHasher>(
+        alloc: Global,
+        pool: &Pool<'a>,
+        numbers: &mut TypeNumbers<'_, 'a, C, S>,
+    ) -> Result<ConstantTable, AllocError>
+        ensures kept { Extends numbers.old numbers.new }
+        ensures described { IfOk result (IsTable numbers.new pool.now) }
+    {
+        let mut texts = Texts::new(alloc, pool)?;
+        let entries = pool.constants();
+        let mut constants = Vec::with_capacity(alloc, entries.len() + 1)?;
+        constants.push(NamedConstant::Other)?;
+        for constant in entries {
+            let named = texts.constant(pool, *constant, numbers)?;
+            constants.push(named)?;
+        }
+        Ok(ConstantTable { constants })
+    }
+
+    /// The constant at an index as instructions name it.
+    pub fn get(&self, index: u16) -> NamedConstant
+        ensures { result ≡ constant_in (constants_of self.now) index }
+    {
+        let index = usize::from(index);
+        if index < self.constants.len() {
+            self.constants[index]
+        } else {
+            NamedConstant::Other
+        }
+    }
+}

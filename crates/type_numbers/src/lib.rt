@@ -1,0 +1,29 @@
+//! Verification types as numbers of four bytes, for one class at hand: equal types are equal numbers, absent classes
+//! included. Proved against the numbers in specs/Numbers.antt. The calls to know are [`TypeNumbers::number`] and
+//! [`TypeNumbers::assignable`].
+//!
+//! - `constant_table`: what the constants of a class are to its instructions.
+//! - `deciding`: comparisons of types by the parts of their numbers.
+//! - `laws`: what holds of numbers and tables.
+//! - `method_numbers`: the types that descriptors of methods name, each text read once.
+//! - `named_constant`: what a constant is to the instructions that name it.
+//! - `parts`: the parts of a number.
+//! - `text_numbers`: the types that texts name, each text read once.
+//! - `texts`: the constants that lead to texts.
+//! - `type_numbers`: the numbers that the types of one class have.
+#![tactic(auto)]
+
+mod constant_table;
+mod deciding;
+pub mod laws;
+mod method_numbers;
+mod named_constant;
+mod parts;
+mod text_numbers;
+mod texts;
+mod type_numbers;
+
+pub use constant_table::ConstantTable;
+pub use method_numbers::{DescriptorNumbers, MethodNumbers};
+pub use named_constant::NamedConstant;
+pub use type_numbers::TypeNumbers;

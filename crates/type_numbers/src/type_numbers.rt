@@ -1,0 +1,215 @@
+//! The numbers that the types of one class have.
+ghost use Rattle.std.specs.Prelude.{◌≡◌};
+ghost use Rattle.hierarchy.specs.Answer.{outcome_of, yes_if};
+
+use crate::deciding::decided;
+use crate::parts::{Parts, absent_number, element_at, present_number, uninit_number};
+use frames::{VType, assignable, pack};
+use hierarchy::{Answer, Classes};
+use indexmap::IndexSet;
+use names::Base;
+use std::alloc::{AllocError, Global};
+use std::collections::BTreeMap;
+use std::hash::BuildHasher;
+use std::marker::Model;
+
+// Yes or no.
+fn yes_if<'n>(holds: bool) -> Answer<'n>
+    ensures { outcome_of result ≡ yes_if holds }
+{
+    if holds { Answer::Yes } else { Answer::No }
+}
+
+/// The numbers of the types that one class at hand names, among the classes of a hierarchy. A number has four bytes,
+/// and equal types are equal numbers.
+///
+/// A type whose class is in the hierarchy has the number that [`pack`](frames::pack) gives it. An absent class has a
+/// number behind those, by the order in which names are first met, and so have the arrays of it. There are numbers for
+/// 16,056,320 absent classes; past these, memory is said to run out. Constants cannot name so many: the text of a
+/// descriptor and the constant that leads to it are two of at most 65,534, and it names 256 classes at most.
+#[derive(Drop)]
+pub struct TypeNumbers<'c, 'n, C: Classes, S: BuildHasher> {
+    classes: &'c C,
+    /// The absent names that have numbers.
+    absent: IndexSet<&'n [u8], S>,
+    /// The names in the hierarchy that have numbers, by their places.
+    present: BTreeMap<u16, &'n [u8]>,
+}
+
+impl<'c, 'n, C: Classes, S: BuildHasher> Model for TypeNumbers<'c, 'n, C, S> {
+    ghost use Rattle.std.specs.Prelude.{◌≡◌, ℕ, List, Some, map, option_map};
+    ghost use Rattle.std.specs.BTreeMap.{get};
+    ghost use Rattle.std.specs.Ordering.{nat_cmp};
+    ghost use Rattle.hierarchy.specs.Places.{place_in};
+    ghost use Rattle.type_numbers.specs.Numbers.{Numbering};
+
+    ghost Value = { Numbering };
+
+    ghost view = { λ t. record {
+      classes = C.content t.classes.now;
+      absent = map (λ k. k.now) t.absent.keys;
+      present = map (λ e. (e.0, e.1.now)) t.present.entries;
+    } };
+
+    ghost invariant = { λ t. (place : ℕ) (name : List ℕ)
+        → option_map (λ n. n.now) (get nat_cmp t.present place) ≡ Some name
+        → place_in (C.content t.classes.now) name ≡ Some place };
+}
+
+impl<'c, 'n, C: Classes, S: BuildHasher + Drop> TypeNumbers<'c, 'n, C, S> {
+    ghost use Rattle.std.specs.Prelude.{◌≡◌, ℕ, None, [], IfOk};
+    ghost use Rattle.type_numbers.specs.Numbers.{IsNumber, Extends};
+    ghost use Rattle.frames.specs.VerificationType.{type_of};
+
+    /// No absent class has a number. Names are found by the hashes of this hasher.
+    pub fn new(alloc: Global, classes: &'c C, hasher: S) -> Self
+        ensures classes { result.classes ≡ C.content classes.now }
+        ensures absent { result.absent ≡ [] }
+        ensures present { result.present ≡ [] }
+    {
+        TypeNumbers {
+            classes,
+            absent: IndexSet::with_hasher(alloc, hasher),
+            present: BTreeMap::new(alloc),
+        }
+    }
+}
+
+impl<'c, 'n, C: Classes, S: BuildHasher> TypeNumbers<'c, 'n, C, S> {
+    ghost use Rattle.std.specs.Prelude.{◌≡◌, ◌-◌, ◌≤◌, ℕ, Some, IfOk, option_map};
+    ghost use Rattle.names.specs.Descriptors.{base_of, dimensioned};
+    ghost use Rattle.hierarchy.specs.Answer.{outcome_of};
+    ghost use Rattle.frames.specs.Assignable.{type_answer};
+    ghost use Rattle.frames.specs.VerificationType.{VerificationType, array, type_of};
+    ghost use Rattle.type_numbers.specs.Numbers.{class_number, IsNoted, IsNumber, IsGiven, Extends};
+    ghost use Rattle.type_numbers.specs.private.Decoding.{name_at, type_with, type_at};
+
+    /// The number of a type. The only refusal is want of memory.
+    pub fn number(&mut self, vtype: &VType<'n>) -> Result<u32, AllocError>
+        ensures given { IfOk result (λ n. IsNumber self.new n (type_of vtype.now)) }
+        ensures kept { Extends self.old self.new }
+    {
+        match *vtype {
+            VType::Class(name) => self.class_number(0, name),
+            VType::Array { dims, base } => self.array_number(dims.max(1), base),
+            VType::Uninit(offset) => Ok(uninit_number(offset)),
+            _ => Ok(pack(vtype, self.classes)),
+        }
+    }
+
+    /// The number of an array of so many dimensions, 1 or more.
+    fn array_number(&mut self, dims: u8, base: Base<'n>) -> Result<u32, AllocError>
+        requires { 1 ≤ dims }
+        ensures given { IfOk result (λ n. IsNumber self.new n (array (dimensioned (dims - 1) (base_of base.entry)))) }
+        ensures kept { Extends self.old self.new }
+    {
+        match base {
+            Base::Primitive(_) => Ok(pack(&VType::Array { dims, base }, self.classes)),
+            Base::Class(name) => self.class_number(dims, name),
+        }
+    }
+
+    /// The number of a class, or of an array of so many dimensions of one.
+    fn class_number(&mut self, dims: u8, name: &'n [u8]) -> Result<u32, AllocError>
+        ensures number { IfOk result (λ n. class_number self.new.classes self.new.absent dims name.entry.now ≡ Some n) }
+        ensures noted { IfOk result (λ _. IsNoted self.new name.entry.now) }
+        ensures kept { Extends self.old self.new }
+    {
+        match self.classes.place(name) {
+            Some(place) => {
+                self.present.insert(place, name)?;
+                Ok(present_number(dims, place))
+            }
+            None => {
+                let (place, _) = self.absent.insert_full(name)?;
+                absent_number(dims, place).ok_or(AllocError)
+            }
+        }
+    }
+
+    /// The name of a class by the tag and the two bytes of its number.
+    fn name_at(&self, tag: u8, rest: u16) -> Option<&'n [u8]>
+        ensures { option_map (λ n. n.now) result ≡ name_at self.now tag rest }
+    {
+        if tag == 7 {
+            return self.present.get(&rest).copied();
+        }
+        let place = usize::from(tag.saturating_sub(10)) * 0x1_0000 + usize::from(rest);
+        self.absent.get_index(place).copied()
+    }
+
+    /// The class of a name, or an array of so many dimensions of one.
+    fn type_with(dims: u8, name: Option<&'n [u8]>) -> Option<VType<'n>>
+        ensures { option_map type_of result ≡ type_with dims (option_map (λ n. n.now) name.entry) }
+    {
+        match name {
+            None => None,
+            Some(name) if dims == 0 => Some(VType::Class(name)),
+            Some(name) => Some(VType::Array {
+                dims,
+                base: Base::Class(name),
+            }),
+        }
+    }
+
+    /// The type that a number of these parts stands for.
+    fn type_at(&self, parts: Parts) -> Option<VType<'n>>
+        ensures { option_map type_of result ≡ type_at self.now parts.tag parts.dims parts.rest }
+    {
+        match parts.tag {
+            0 => Some(VType::Top),
+            1 => Some(VType::Int),
+            2 => Some(VType::Float),
+            3 => Some(VType::Double),
+            4 => Some(VType::Long),
+            5 => Some(VType::Null),
+            6 => Some(VType::UninitThis),
+            8 => Some(VType::Uninit(parts.rest)),
+            9 => Some(VType::Array {
+                dims: parts.dims,
+                base: Base::Primitive(element_at(parts.rest)),
+            }),
+            tag => Self::type_with(parts.dims, self.name_at(tag, parts.rest)),
+        }
+    }
+
+    /// The type that has a number.
+    pub fn vtype(&self, number: u32) -> VType<'n>
+        requires { IsGiven self.now number }
+        ensures { IsNumber self.now number (type_of result) }
+    {
+        match self.type_at(Parts::of(number)) {
+            Some(vtype) => vtype,
+            None => unreachable!(),
+        }
+    }
+
+    /// Whether a value of the type of one number may stand where one of the type of another is wanted: the answer of
+    /// [`assignable`](frames::assignable) for the types. Takes no memory.
+    ///
+    /// The names of two classes are looked at only where the numbers differ and leave the answer to the classes.
+    pub fn assignable(&self, from: u32, to: u32) -> Answer<'n>
+        requires from { IsGiven self.now from }
+        requires to { IsGiven self.now to }
+        ensures { (s t : VerificationType) → IsNumber self.now from s → IsNumber self.now to t
+            → outcome_of result ≡ type_answer self.now.classes s t }
+    {
+        if from == to {
+            return Answer::Yes;
+        }
+        match decided(Parts::of(from), Parts::of(to)) {
+            Some(holds) => yes_if(holds),
+            None => self.types_assignable(from, to),
+        }
+    }
+
+    /// The answer for the types of two numbers.
+    fn types_assignable(&self, from: u32, to: u32) -> Answer<'n>
+        requires from { IsGiven self.now from }
+        requires to { IsGiven self.now to }
+        ensures { (s t : VerificationType) → IsNumber self.now from s → IsNumber self.now to t
+            → outcome_of result ≡ type_answer self.now.classes s t }
+    {
+        assignable(&self.vtype(from), &self.vtype(to), self.classes)
+    }
+}
