@@ -7,7 +7,9 @@ use pool::Pool;
 use std::alloc::{AllocError, Global};
 use std::hash::BuildHasher;
 use std::test::*;
-use type_numbers::{ConstantTable, DescriptorNumbers, NamedConstant, TypeNumbers, laws};
+use type_numbers::{
+    ConstantTable, DescriptorNumbers, MethodNumbers, NamedConstant, TypeNumbers, laws,
+};
 
 const A: VType<'static> = VType::Class(b"A");
 
@@ -94,35 +96,109 @@ fn agree<C: Classes>(alloc: Global, classes: &C) -> Result<bool, AllocError> {
     Ok(fine)
 }
 
-/// At 2 a Class of A, at 6 a Fieldref of a field f of A that holds a java/lang/String, at 9 a Methodref, and at 11 a
-/// Class of an array of java/lang/String.
-const NAMED: [u8; 104] = [
-    0, 12, 1, 0, 1, 65, 7, 0, 1, 1, 0, 1, 102, 1, 0, 18, 76, 106, 97, 118, 97, 47, 108, 97, 110,
+/// At 2 a Class of A, at 6 a Fieldref of a field f of A that holds a java/lang/String, at 9 a Methodref, at 11 a Class
+/// of an array of java/lang/String, at 12 an InterfaceMethodref, at 13 an InvokeDynamic, at 14 a Dynamic, at 15 an
+/// Integer, at 16 a String, at 17 a Long, at 19 a MethodType, and at 20 a Class that leads to no text.
+const NAMED: [u8; 142] = [
+    0, 21, 1, 0, 1, 65, 7, 0, 1, 1, 0, 1, 102, 1, 0, 18, 76, 106, 97, 118, 97, 47, 108, 97, 110,
     103, 47, 83, 116, 114, 105, 110, 103, 59, 12, 0, 3, 0, 4, 9, 0, 2, 0, 5, 1, 0, 22, 40, 76, 106,
     97, 118, 97, 47, 108, 97, 110, 103, 47, 83, 116, 114, 105, 110, 103, 59, 73, 41, 86, 12, 0, 3,
     0, 7, 10, 0, 2, 0, 8, 1, 0, 19, 91, 76, 106, 97, 118, 97, 47, 108, 97, 110, 103, 47, 83, 116,
-    114, 105, 110, 103, 59, 7, 0, 10,
+    114, 105, 110, 103, 59, 7, 0, 10, 11, 0, 2, 0, 8, 18, 0, 0, 0, 8, 17, 0, 0, 0, 5, 3, 0, 0, 0,
+    1, 8, 0, 4, 5, 0, 0, 0, 0, 0, 0, 0, 1, 16, 0, 7, 7, 0, 5,
 ];
 
-/// The constants of that pool, by their indices from 0 on.
-const CONSTANTS: [NamedConstant; 13] = [
-    NamedConstant::Other,
-    NamedConstant::Other,
-    NamedConstant::Class { class: 0x0700_0003 },
-    NamedConstant::Other,
-    NamedConstant::Other,
-    NamedConstant::Other,
-    NamedConstant::Field {
-        class: 0x0700_0003,
-        held: 0x0A00_0000,
-    },
-    NamedConstant::Other,
-    NamedConstant::Other,
-    NamedConstant::Other,
-    NamedConstant::Other,
-    NamedConstant::Class { class: 0x0A01_0000 },
-    NamedConstant::Other,
+/// The types of the descriptor of its methods, which is read once.
+const TYPES: MethodNumbers = MethodNumbers {
+    start: 0,
+    count: 2,
+    result: None,
+};
+
+/// The constants of that pool that are something to instructions, with their indices.
+const CONSTANTS: [(u16, NamedConstant); 12] = [
+    (
+        2,
+        NamedConstant::Class {
+            class: 0x0700_0003,
+            loaded: 0x0A00_0001,
+        },
+    ),
+    (
+        6,
+        NamedConstant::Field {
+            class: 0x0700_0003,
+            held: 0x0A00_0000,
+        },
+    ),
+    (
+        9,
+        NamedConstant::Method {
+            interface: false,
+            class: 0x0700_0003,
+            types: TYPES,
+        },
+    ),
+    (
+        11,
+        NamedConstant::Class {
+            class: 0x0A01_0000,
+            loaded: 0x0A00_0001,
+        },
+    ),
+    (
+        12,
+        NamedConstant::Method {
+            interface: true,
+            class: 0x0700_0003,
+            types: TYPES,
+        },
+    ),
+    (13, NamedConstant::Site { types: TYPES }),
+    (14, NamedConstant::Dynamic { held: 0x0A00_0000 }),
+    (
+        15,
+        NamedConstant::Loaded {
+            loaded: 0x0100_0000,
+        },
+    ),
+    (
+        16,
+        NamedConstant::Loaded {
+            loaded: 0x0A00_0000,
+        },
+    ),
+    (
+        17,
+        NamedConstant::Loaded {
+            loaded: 0x0400_0000,
+        },
+    ),
+    (
+        19,
+        NamedConstant::Loaded {
+            loaded: 0x0A00_0002,
+        },
+    ),
+    (
+        20,
+        NamedConstant::Loaded {
+            loaded: 0x0A00_0001,
+        },
+    ),
 ];
+
+/// Whether a table has these constants of that pool, and no others.
+fn are_constants(table: &ConstantTable) -> bool {
+    let mut fine = true;
+    for (index, constant) in &CONSTANTS {
+        fine &= table.get(*index) == *constant;
+    }
+    for index in [0, 1, 3, 4, 5, 7, 8, 10, 18, 21] {
+        fine &= table.get(index) == NamedConstant::Other;
+    }
+    fine
+}
 
 /// Whether the table of that pool has these constants, or the bytes are no pool, where that may be.
 fn are_tabled<C: Classes>(alloc: Global, classes: &C, may_fail: bool) -> Result<bool, AllocError> {
@@ -131,11 +207,10 @@ fn are_tabled<C: Classes>(alloc: Global, classes: &C, may_fail: bool) -> Result<
     };
     let mut numbers = TypeNumbers::new(alloc, classes, hasher());
     let table = ConstantTable::new(alloc, &pool, &mut numbers)?;
-    let mut fine = true;
-    for (index, constant) in CONSTANTS.iter().enumerate() {
-        fine &= table.get(index as u16) == *constant;
-    }
-    Ok(fine)
+    let NamedConstant::Method { types, .. } = table.get(9) else {
+        return Ok(false);
+    };
+    Ok(are_constants(&table) && table.arguments(types) == [0x0A00_0000, 0x0100_0000].as_slice())
 }
 
 /// Whether the text at 7 of that pool is the descriptor of a method that takes a java/lang/String and an int, however
@@ -154,7 +229,8 @@ fn are_methods<C: Classes>(alloc: Global, classes: &C, may_fail: bool) -> Result
         return Ok(false);
     };
     let fits = descriptors.arguments(types) == [0x0A00_0000, 0x0100_0000].as_slice();
-    Ok(fits && types.result.is_none() && first == again && text.is_none() && constant.is_none())
+    let fine = types.result.is_none() && first == again && text.is_none() && constant.is_none();
+    Ok(fits && fine && descriptors.into_row().len() == types.count)
 }
 
 /// Whether all that is said of numbers holds; or memory ran out, where it may.

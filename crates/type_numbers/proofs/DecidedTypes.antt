@@ -1,13 +1,13 @@
 -- Comparisons that the parts of numbers decide.
-use Rattle.std.proofs.Common.{◌≡◌, ◌∙◌, ℕ, zero, suc, ◌+◌, ◌*◌, ◌/◌, ◌%◌, ◌<◌, ◌≤◌, Bool, true, false, cond, not, ◌&&◌, ◌||◌, nat_eq, nat_lt, List, Option, Some, None, position, refl, sym, ap, subst, arith}
+use Rattle.std.proofs.Common.{◌≡◌, ◌∙◌, ℕ, ◌+◌, ◌/◌, ◌%◌, ◌<◌, ◌≤◌, Bool, true, false, cond, not, ◌&&◌, ◌||◌, nat_eq, nat_lt, List, Option, Some, None, position, refl, sym, ap, subst, arith}
 use Rattle.std.specs.Str.{bytes_eq}
 use Rattle.std.specs.Prelude.{◌==◌}
-use Rattle.std.proofs.lemmas.Bool.{eqb-true, false≢true, true≢false, lt-ltb, ltb-true, ltb-false}
+use Rattle.std.proofs.lemmas.Bool.{eqb-true, false≢true, lt-ltb, ltb-true}
 use Rattle.std.proofs.lemmas.Bool.Decides.{nat_tests}
 use Rattle.names.specs.declared.base.Primitive.{Primitive}
 use Rattle.names.specs.declared.base.Primitive.TheVariants.{Byte, Char, Double, Float, Int, Long, Short, Boolean}
 use Rattle.names.specs.Descriptors.{FieldDescriptor, primitive, class as class_type, array as array_type, dimensions}
-use Rattle.hierarchy.specs.Answer.{yes, no, yes_if}
+use Rattle.hierarchy.specs.Answer.{no, yes_if}
 use Rattle.hierarchy.specs.Class.{ClassFact}
 use Rattle.hierarchy.specs.Places.{place_in}
 use Rattle.hierarchy.proofs.Names.{none_some, some_same}
@@ -16,7 +16,7 @@ use Rattle.frames.specs.Assignable.{same_primitive, component_answer, type_answe
 use Rattle.frames.specs.Packing.{element_code}
 use Rattle.type_numbers.specs.Numbers.{Numbering, IsNumber, absent_limit, number_by, numbered, array_number}
 use Rattle.type_numbers.specs.private.Deciding.{decided, is_reference}
-use Rattle.type_numbers.proofs.NumberParts.{HasParts, parts_of, tag_back, dims_back}
+use Rattle.type_numbers.proofs.NumberParts.{parts_of, tag_back, dims_back}
 
 -- ---- types by their parts
 

@@ -5,6 +5,7 @@ use Rattle.std.proofs.lemmas.Bool.{ltb-true, ltb-false}
 use Rattle.names.specs.Descriptors.{FieldDescriptor}
 use Rattle.names.specs.ReferenceTypes.{ReferenceType, class_type, array_type, reference_type}
 use Rattle.names.specs.Reading.{field_answer}
+use Rattle.names.specs.StandardNames.{class_name}
 use Rattle.pool.specs.declared.constant.Constant.{Constant}
 use Rattle.pool.specs.declared.constant.Constant.TheVariants as constants
 use Rattle.pool.specs.declared.fault.PoolFault.{PoolFault}
@@ -17,12 +18,12 @@ use Rattle.pool.specs.Views.{view}
 use Rattle.hierarchy.proofs.Names.{none_some, some_same}
 use Rattle.frames.specs.VerificationType.{VerificationType, class as of_class}
 use Rattle.frames.specs.Slots.{to_reference, descriptor_type}
-use Rattle.type_numbers.specs.declared.named_constant.NamedConstant.TheVariants.{Other, Class, Field}
+use Rattle.type_numbers.specs.declared.named_constant.NamedConstant.TheVariants.{Other, Field}
 use Rattle.type_numbers.specs.declared.text_numbers.Form.TheVariants.{ClassName, FieldDescriptor as Descriptor}
-use Rattle.type_numbers.specs.Numbers.{Numbering, Extends}
-use Rattle.type_numbers.specs.Constants.{IsNumberOf, field_class, field_held}
+use Rattle.type_numbers.specs.Numbers.{Numbering, IsNumber, IsNumberOf, Extends}
+use Rattle.type_numbers.specs.Constants.{field_class, field_held, loaded_type}
 use Rattle.type_numbers.specs.private.Readings.{text_type, type_in}
-use Rattle.type_numbers.specs.private.Entries.{IsEntryDescribed, class_by, field_by, field_of, texts_by, field_texts}
+use Rattle.type_numbers.specs.private.Entries.{IsEntryDescribed, class_as, loaded_as, class_by, field_by, field_of, texts_by, member_texts}
 use Rattle.type_numbers.proofs.Dimensions.{class_flat, array_dims}
 use Rattle.type_numbers.proofs.LawsOfNumbers.{number_stays}
 
@@ -41,12 +42,10 @@ class_types pool name = by (text_at pool name)
     by (Ok text) = refl
     by (Err e) = refl
 
-module _ (s : Numbering) (pool : List Entry) (name : ℕ) where
-  pub class_described : (n : ℕ) → IsNumberOf s (Some n) (type_in ClassName pool name) → IsEntryDescribed s pool (entries.Class name) (Class n)
-  class_described n h = record { class = subst (IsNumberOf s (Some n)) (class_types pool name) h; field_class = tt; field_held = tt }
-
-  pub class_other : IsNumberOf s None (type_in ClassName pool name) → IsEntryDescribed s pool (entries.Class name) Other
-  class_other h = record { class = subst (IsNumberOf s None) (class_types pool name) h; field_class = tt; field_held = tt }
+module _ (s : Numbering) (row : List ℕ) (pool : List Entry) (name : ℕ) where
+  pub class_described : (n : Option ℕ) (l : ℕ) → IsNumberOf s n (type_in ClassName pool name) → IsNumber s l (of_class class_name) → IsEntryDescribed s row pool (entries.Class name) (class_as n l)
+  class_described None l h k = record { class = subst (IsNumberOf s None) (class_types pool name) h; field_class = tt; field_held = tt; method_interface = refl; method_class = tt; method_types = tt; loaded = k; computed = tt; site = tt }
+  class_described (Some n) l h k = record { class = subst (IsNumberOf s (Some n)) (class_types pool name) h; field_class = tt; field_held = tt; method_interface = refl; method_class = tt; method_types = tt; loaded = k; computed = tt; site = tt }
 
 -- ---- a Fieldref
 
@@ -82,13 +81,13 @@ held_alone (Some (class_type name)) = refl
 held_alone (Some (array_type x)) = refl
 
 -- by the texts of the class, the name and the descriptor
-abbrev named_by : Result (List ℕ) PoolFault → Result (List ℕ) PoolFault → Result Named PoolFault
+abbrev pub named_by : Result (List ℕ) PoolFault → Result (List ℕ) PoolFault → Result Named PoolFault
 named_by n d = and_then n (λ n. and_then d (λ d. Ok (record { name = n; descriptor = d })))
 
-abbrev with_class : List ℕ → Result Named PoolFault → Result FieldOf PoolFault
+abbrev pub with_class : List ℕ → Result Named PoolFault → Result FieldOf PoolFault
 with_class c n = and_then n (λ n. Ok (record { class = c; name = n.name; descriptor = n.descriptor }))
 
-abbrev member_by : Result (List ℕ) PoolFault → Result (List ℕ) PoolFault → Result (List ℕ) PoolFault → Result FieldOf PoolFault
+abbrev pub member_by : Result (List ℕ) PoolFault → Result (List ℕ) PoolFault → Result (List ℕ) PoolFault → Result FieldOf PoolFault
 member_by c n d = and_then c (λ c. with_class c (named_by n d))
 
 classes_by : (c d : Result (List ℕ) PoolFault) (n : List ℕ) → option_map field_class (option_and_then field_constant (found (member_by c (Ok n) d))) ≡ class_part (option_and_then reference_type (found c)) (option_and_then (text_type Descriptor) (found d))
@@ -102,11 +101,11 @@ helds_by (Ok c) (Err e) n = sym (held_alone (reference_type c))
 helds_by (Ok c) (Ok d) n = held_of_field (record { class = c; name = n; descriptor = d }) (reference_type c) (found (field_answer d))
 
 -- a member that has no name
-nameless : (c d : Result (List ℕ) PoolFault) (e : PoolFault) → option_and_then field_constant (found (member_by c (Err e) d)) ≡ None
+nameless : (c d : Result (List ℕ) PoolFault) (e : PoolFault) → found (member_by c (Err e) d) ≡ None
 nameless (Ok c) d e = refl
 nameless (Err x) d e = refl
 
-failing : (c : Result (List ℕ) PoolFault) (e : PoolFault) → option_and_then field_constant (found (and_then c (λ c. with_class c (Err e)))) ≡ None
+failing : (c : Result (List ℕ) PoolFault) (e : PoolFault) → found (and_then c (λ c. with_class c (Err e))) ≡ None
 failing (Ok c) e = refl
 failing (Err x) e = refl
 
@@ -132,7 +131,7 @@ module _ (pool : List Entry) (class name_and_type : ℕ) where
   abbrev texts_of : Result Entry PoolFault → Result Entry PoolFault → Option (ℕ × ℕ)
   texts_of c n = texts_by (found c) (found n) (λ i. found (text_at pool i))
 
-  pub has_texts : (name descriptor : ℕ) → field_texts pool class name_and_type ≡ Some (name, descriptor) → HasTexts name descriptor
+  pub has_texts : (name descriptor : ℕ) → member_texts pool class name_and_type ≡ Some (name, descriptor) → HasTexts name descriptor
   has_texts name descriptor e = by (entry_at pool class) refl (entry_at pool name_and_type) refl e
     where
       by : (c : Result Entry PoolFault) → entry_at pool class ≡ c → (n : Result Entry PoolFault) → entry_at pool name_and_type ≡ n → texts_of c n ≡ Some (name, descriptor) → HasTexts name descriptor
@@ -151,21 +150,20 @@ module _ (pool : List Entry) (class name_and_type : ℕ) where
       by (Ok (entries.Class c)) p _ q e = absurd (none_some e)
       by _ p _ q e = absurd (none_some e)
 
-  pub no_texts : field_texts pool class name_and_type ≡ None → field_by pool (entries.Fieldref class name_and_type) ≡ None
-  no_texts e = ap (λ m. option_and_then field_constant (found m)) (member_is pool class name_and_type) ∙ by (entry_at pool class) (entry_at pool name_and_type) e
+  pub no_member : member_texts pool class name_and_type ≡ None → found (member pool class name_and_type) ≡ None
+  no_member e = ap found (member_is pool class name_and_type) ∙ by (entry_at pool class) (entry_at pool name_and_type) e
     where
-      by : (c n : Result Entry PoolFault) → texts_of c n ≡ None → option_and_then field_constant (found (member_of pool class name_and_type c n)) ≡ None
-      by (Ok (entries.Class c)) (Ok (entries.NameAndType n d)) e =
-          ap (λ m. option_and_then field_constant (found m)) (member_named pool class name_and_type c n d) ∙ at (text_at pool n) e
+      by : (c n : Result Entry PoolFault) → texts_of c n ≡ None → found (member_of pool class name_and_type c n) ≡ None
+      by (Ok (entries.Class c)) (Ok (entries.NameAndType n d)) e = ap found (member_named pool class name_and_type c n d) ∙ at (text_at pool n) e
         where
-          at : (t : Result (List ℕ) PoolFault) → option_and_then {U = ℕ × ℕ} (λ _. Some (c, d)) (found t) ≡ None → option_and_then field_constant (found (member_by (text_at pool c) t (text_at pool d))) ≡ None
+          at : (t : Result (List ℕ) PoolFault) → option_and_then {U = ℕ × ℕ} (λ _. Some (c, d)) (found t) ≡ None → found (member_by (text_at pool c) t (text_at pool d)) ≡ None
           at (Err x) e = nameless (text_at pool c) (text_at pool d) x
           at (Ok t) e = absurd (none_some (sym e))
       by (Ok (entries.Class c)) (Err x) e = failing (text_at pool c) x
       by (Ok (entries.Class c)) (Ok _) e = failing (text_at pool c) (WrongKind name_and_type)
       by _ n e = refl
 
-  module _ (s : Numbering) (name descriptor : ℕ) (texts : HasTexts name descriptor) where
+  module _ (s : Numbering) (row : List ℕ) (name descriptor : ℕ) (texts : HasTexts name descriptor) where
     abbrev named_class : Option ReferenceType
     named_class = class_by pool (entries.Class name)
 
@@ -178,11 +176,17 @@ module _ (pool : List Entry) (class name_and_type : ℕ) where
     held_is : option_map field_held (field_by pool (entries.Fieldref class name_and_type)) ≡ held_part named_class held
     held_is = ap (λ m. option_map field_held (option_and_then field_constant (found m))) texts.is ∙ helds_by (text_at pool name) (text_at pool descriptor) texts.field_name
 
-    other : class_part named_class held ≡ None → held_part named_class held ≡ None → IsEntryDescribed s pool (entries.Fieldref class name_and_type) Other
+    other : class_part named_class held ≡ None → held_part named_class held ≡ None → IsEntryDescribed s row pool (entries.Fieldref class name_and_type) Other
     other c h = record {
       class = tt;
       field_class = subst (IsNumberOf s None) (sym (class_is ∙ c)) tt;
       field_held = subst (IsNumberOf s None) (sym (held_is ∙ h)) tt;
+      method_interface = refl;
+      method_class = tt;
+      method_types = tt;
+      loaded = tt;
+      computed = tt;
+      site = tt;
     }
 
     none_of : (o : Option ReferenceType) → IsNumberOf s None (option_map to_reference o) → o ≡ None
@@ -193,28 +197,28 @@ module _ (pool : List Entry) (class name_and_type : ℕ) where
     no_type None h = refl
     no_type (Some t) h = absurd h
 
-    no_class : IsNumberOf s None (type_in ClassName pool name) → IsEntryDescribed s pool (entries.Fieldref class name_and_type) Other
+    no_class : IsNumberOf s None (type_in ClassName pool name) → IsEntryDescribed s row pool (entries.Fieldref class name_and_type) Other
     no_class h =
         let e = none_of named_class (subst (IsNumberOf s None) (class_types pool name) h) in
         other (ap (λ c. class_part c held) e) (ap (λ c. held_part c held) e)
 
-    no_held : IsNumberOf s None held → IsEntryDescribed s pool (entries.Fieldref class name_and_type) Other
+    no_held : IsNumberOf s None held → IsEntryDescribed s row pool (entries.Fieldref class name_and_type) Other
     no_held h =
         let e = no_type held h in
         other (ap (class_part named_class) e ∙ class_alone named_class) (ap (held_part named_class) e ∙ held_alone named_class)
 
-    of_array : (n : ℕ) → IsNumberOf s (Some n) (type_in ClassName pool name) → nat_lt 0 (n / 65536 % 256) ≡ true → IsEntryDescribed s pool (entries.Fieldref class name_and_type) Other
+    of_array : (n : ℕ) → IsNumberOf s (Some n) (type_in ClassName pool name) → nat_lt 0 (n / 65536 % 256) ≡ true → IsEntryDescribed s row pool (entries.Fieldref class name_and_type) Other
     of_array n h deep = by named_class refl (subst (IsNumberOf s (Some n)) (class_types pool name) h)
       where
-        by : (o : Option ReferenceType) → named_class ≡ o → IsNumberOf s (Some n) (option_map to_reference o) → IsEntryDescribed s pool (entries.Fieldref class name_and_type) Other
+        by : (o : Option ReferenceType) → named_class ≡ o → IsNumberOf s (Some n) (option_map to_reference o) → IsEntryDescribed s row pool (entries.Fieldref class name_and_type) Other
         by None e h = absurd h
         by (Some (class_type x)) e h = let flat = class_flat s n x h in let high = ltb-true 0 (n / 65536 % 256) deep in absurd (omega arith)
         by (Some (array_type x)) e h = other (ap (λ c. class_part c held) e) (ap (λ c. held_part c held) e)
 
-    field_described : (n m : ℕ) → IsNumberOf s (Some n) (type_in ClassName pool name) → IsNumberOf s (Some m) held → nat_lt 0 (n / 65536 % 256) ≡ false → IsEntryDescribed s pool (entries.Fieldref class name_and_type) (Field n m)
+    field_described : (n m : ℕ) → IsNumberOf s (Some n) (type_in ClassName pool name) → IsNumberOf s (Some m) held → nat_lt 0 (n / 65536 % 256) ≡ false → IsEntryDescribed s row pool (entries.Fieldref class name_and_type) (Field n m)
     field_described n m h k flat = by named_class refl held refl (subst (IsNumberOf s (Some n)) (class_types pool name) h) k
       where
-        by : (o : Option ReferenceType) → named_class ≡ o → (t : Option VerificationType) → held ≡ t → IsNumberOf s (Some n) (option_map to_reference o) → IsNumberOf s (Some m) t → IsEntryDescribed s pool (entries.Fieldref class name_and_type) (Field n m)
+        by : (o : Option ReferenceType) → named_class ≡ o → (t : Option VerificationType) → held ≡ t → IsNumberOf s (Some n) (option_map to_reference o) → IsNumberOf s (Some m) t → IsEntryDescribed s row pool (entries.Fieldref class name_and_type) (Field n m)
         by None e t f h k = absurd h
         by (Some (array_type x)) e t f h k = let deep = array_dims s n x h in let low = ltb-false 0 (n / 65536 % 256) flat in absurd (omega arith)
         by (Some (class_type x)) e None f h k = absurd k
@@ -222,27 +226,55 @@ module _ (pool : List Entry) (class name_and_type : ℕ) where
           class = tt;
           field_class = subst (IsNumberOf s (Some n)) (sym (class_is ∙ ap₂ class_part e f)) h;
           field_held = subst (IsNumberOf s (Some m)) (sym (held_is ∙ ap₂ held_part e f)) k;
+          method_interface = refl;
+          method_class = tt;
+          method_types = tt;
+          loaded = tt;
+          computed = tt;
+          site = tt;
         }
 
-    pub described : (n m : Option ℕ) → IsNumberOf s n (type_in ClassName pool name) → IsNumberOf s m held → IsEntryDescribed s pool (entries.Fieldref class name_and_type) (field_of n m)
+    pub described : (n m : Option ℕ) → IsNumberOf s n (type_in ClassName pool name) → IsNumberOf s m held → IsEntryDescribed s row pool (entries.Fieldref class name_and_type) (field_of n m)
     described None m h k = no_class h
     described (Some n) None h k = no_held k
     described (Some n) (Some m) h k = by (nat_lt 0 (n / 65536 % 256)) refl
       where
-        by : (b : Bool) → nat_lt 0 (n / 65536 % 256) ≡ b → IsEntryDescribed s pool (entries.Fieldref class name_and_type) (field_of (Some n) (Some m))
-        by true e = subst (λ b. IsEntryDescribed s pool (entries.Fieldref class name_and_type) (cond b Other (Field n m))) (sym e) (of_array n h e)
-        by false e = subst (λ b. IsEntryDescribed s pool (entries.Fieldref class name_and_type) (cond b Other (Field n m))) (sym e) (field_described n m h k e)
+        by : (b : Bool) → nat_lt 0 (n / 65536 % 256) ≡ b → IsEntryDescribed s row pool (entries.Fieldref class name_and_type) (field_of (Some n) (Some m))
+        by true e = subst (λ b. IsEntryDescribed s row pool (entries.Fieldref class name_and_type) (cond b Other (Field n m))) (sym e) (of_array n h e)
+        by false e = subst (λ b. IsEntryDescribed s row pool (entries.Fieldref class name_and_type) (cond b Other (Field n m))) (sym e) (field_described n m h k e)
 
-pub no_field : (s : Numbering) (pool : List Entry) (class name_and_type : ℕ) → field_by pool (entries.Fieldref class name_and_type) ≡ None → IsEntryDescribed s pool (entries.Fieldref class name_and_type) Other
-no_field s pool class name_and_type e = record {
-  class = tt;
-  field_class = subst (IsNumberOf s None) (sym (ap (option_map field_class) e)) tt;
-  field_held = subst (IsNumberOf s None) (sym (ap (option_map field_held) e)) tt;
-}
+pub no_field : (s : Numbering) (row : List ℕ) (pool : List Entry) (class name_and_type : ℕ) → member_texts pool class name_and_type ≡ None → IsEntryDescribed s row pool (entries.Fieldref class name_and_type) Other
+no_field s row pool class name_and_type none =
+    let e = ap (option_and_then field_constant) (no_member pool class name_and_type none) in
+    record {
+      class = tt;
+      field_class = subst (IsNumberOf s None) (sym (ap (option_map field_class) e)) tt;
+      field_held = subst (IsNumberOf s None) (sym (ap (option_map field_held) e)) tt;
+      method_interface = refl;
+      method_class = tt;
+      method_types = tt;
+      loaded = tt;
+      computed = tt;
+      site = tt;
+    }
 
 -- ---- the others
 
-pub other_described : (s : Numbering) (pool : List Entry) (k : Constant) → ((x : ℕ) → k ≡ constants.Class x → ⊥) → ((x y : ℕ) → k ≡ constants.Fieldref x y → ⊥) → IsEntryDescribed s pool (view k) Other
-other_described s pool (constants.Class x) a b = absurd (a x refl)
-other_described s pool (constants.Fieldref x y) a b = absurd (b x y refl)
-other_described s pool _ a b = record { class = tt; field_class = tt; field_held = tt }
+-- none of the kinds whose texts were read
+pub record IsPlain (k : Constant) : Type 0 where
+  pub no_class : (x : ℕ) → k ≡ constants.Class x → ⊥
+  pub no_field : (x y : ℕ) → k ≡ constants.Fieldref x y → ⊥
+  pub no_method : (x y : ℕ) → k ≡ constants.Methodref x y → ⊥
+  pub no_interface_method : (x y : ℕ) → k ≡ constants.InterfaceMethodref x y → ⊥
+  pub no_dynamic : (x y : ℕ) → k ≡ constants.Dynamic x y → ⊥
+  pub no_site : (x y : ℕ) → k ≡ constants.InvokeDynamic x y → ⊥
+
+pub other_described : (s : Numbering) (row : List ℕ) (pool : List Entry) (k : Constant) (n : Option ℕ) → IsPlain k → IsNumberOf s n (loaded_type (view k)) → IsEntryDescribed s row pool (view k) (loaded_as n)
+other_described s row pool (constants.Class x) n p h = absurd (p.no_class x refl)
+other_described s row pool (constants.Fieldref x y) n p h = absurd (p.no_field x y refl)
+other_described s row pool (constants.Methodref x y) n p h = absurd (p.no_method x y refl)
+other_described s row pool (constants.InterfaceMethodref x y) n p h = absurd (p.no_interface_method x y refl)
+other_described s row pool (constants.Dynamic x y) n p h = absurd (p.no_dynamic x y refl)
+other_described s row pool (constants.InvokeDynamic x y) n p h = absurd (p.no_site x y refl)
+other_described s row pool _ None p h = record { class = tt; field_class = tt; field_held = tt; method_interface = refl; method_class = tt; method_types = tt; loaded = h; computed = tt; site = tt }
+other_described s row pool _ (Some n) p h = record { class = tt; field_class = tt; field_held = tt; method_interface = refl; method_class = tt; method_types = tt; loaded = h; computed = tt; site = tt }

@@ -7,6 +7,9 @@ pub mod LawsOfNumbers
 pub mod Readings
 pub mod Dimensions
 pub mod FieldEntries
+pub mod MethodEntries
+pub mod NamedEntries
+pub mod LoadedTypes
 pub mod Tables
 pub mod DecidedTypes
 pub mod MethodReadings

@@ -1,5 +1,5 @@
 -- Readings of descriptors of methods, and the row of their arguments.
-use Rattle.std.proofs.Common.{◌≡◌, ◌∙◌, ℕ, zero, suc, ◌+◌, ◌-◌, ◌<◌, ◌≤◌, Bool, true, false, nat_eq, eq-eqb, List, [], ◌∷◌, ◌++◌, map, take, drop, length, Option, Some, None, Ok, option_map, slice_set, get_or, refl, sym, ap, ap₂, subst, arith, length-append, append_assoc}
+use Rattle.std.proofs.Common.{◌≡◌, ◌∙◌, ℕ, zero, suc, ◌+◌, ◌-◌, ◌<◌, ◌≤◌, Bool, true, false, nat_eq, eq-eqb, List, [], ◌∷◌, ◌++◌, map, take, drop, length, Option, Some, None, Ok, option_map, slice_set, slice_index_or, get_or, refl, sym, ap, ap₂, subst, arith, length-append, append_assoc}
 use Rattle.std.specs.Option.{option_and_then}
 use Rattle.std.proofs.lemmas.Bool.{eqb-true, true≢false}
 use Rattle.std.proofs.lemmas.Grind.{get_or-set_at}
@@ -14,12 +14,12 @@ use Rattle.pool.specs.Lookups.{text_at}
 use Rattle.pool.specs.Members.{found}
 use Rattle.frames.specs.VerificationType.{VerificationType}
 use Rattle.frames.specs.Slots.{descriptor_type}
+use Rattle.type_numbers.specs.declared.method_numbers.DescriptorNumbers.{DescriptorNumbers}
 use Rattle.type_numbers.specs.declared.method_numbers.MethodNumbers.{MethodNumbers}
 use Rattle.type_numbers.specs.declared.method_numbers.MethodReading.{MethodReading}
 use Rattle.type_numbers.specs.declared.method_numbers.MethodReading.TheVariants.{Unread, Nothing, Types}
-use Rattle.type_numbers.specs.Numbers.{Numbering, IsNumber, Extends}
-use Rattle.type_numbers.specs.Constants.{IsNumberOf}
-use Rattle.type_numbers.specs.MethodNumbers.{AreNumbers, AreTypes, AreTypesOf, GoesOn, IsMethodReading, arguments_in, method_in}
+use Rattle.type_numbers.specs.Numbers.{Numbering, IsNumber, IsNumberOf, Extends}
+use Rattle.type_numbers.specs.MethodNumbers.{AreDescriptors, AreNumbers, AreTypes, AreTypesOf, GoesOn, IsMethodReading, arguments_in, method_in, row_of}
 use Rattle.type_numbers.proofs.FieldEntries.{number_of_stays}
 use Rattle.type_numbers.proofs.LawsOfNumbers.{number_stays}
 
@@ -146,3 +146,15 @@ item_at xs d i j r h e is = get_or_from_slice_get xs i r d (slice_get_read xs (l
 
 pub params_length : (s : Numbering) (ns : List ℕ) (xs : List FieldType) → AreNumbers s ns (map descriptor_type (map type_of xs)) → length ns ≡ length xs
 params_length s ns xs h = numbers_length s ns (map descriptor_type (map type_of xs)) h ∙ length-map (map type_of xs) descriptor_type ∙ length-map xs type_of
+
+pub descriptors_stay : (old new : Numbering) → Extends old new → (pool : List Entry) (d : DescriptorNumbers) → AreDescriptors old pool d → AreDescriptors new pool d
+descriptors_stay old new more pool d h = record {
+  long = h.long;
+  read = λ k. reading_on old new more (row_of d) (row_of d) (goes_nowhere (row_of d)) (method_in pool k) (slice_index_or d.readings.items k Unread) (h.read k);
+}
+
+pub goes_equal : (row later : List ℕ) → later ≡ row → GoesOn row later
+goes_equal row later e = subst (GoesOn row) (sym e) (goes_nowhere row)
+
+pub goes_further : (a b c : List ℕ) → GoesOn a b → GoesOn b c → GoesOn a c
+goes_further a b c f g = (f.0 ++ g.0, g.1 ∙ ap (λ xs. xs ++ g.0) f.1 ∙ append_assoc a f.0 g.0)

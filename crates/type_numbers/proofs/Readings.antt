@@ -11,12 +11,11 @@ use Rattle.pool.specs.Lookups.{text_at, entry_at, and_then, usable, text_in}
 use Rattle.pool.specs.Members.{found}
 use Rattle.type_numbers.specs.declared.text_numbers.Form.{Form}
 use Rattle.type_numbers.specs.declared.text_numbers.TextNumbers.{TextNumbers}
-use Rattle.type_numbers.specs.Constants.{IsNumberOf}
 use Rattle.pool.specs.Entries.{Entry}
 use Rattle.frames.specs.VerificationType.{VerificationType}
 use Rattle.type_numbers.specs.declared.text_numbers.Reading.{Reading}
 use Rattle.type_numbers.specs.declared.text_numbers.Reading.TheVariants.{Unread, Nothing, Named}
-use Rattle.type_numbers.specs.Numbers.{Numbering, Extends}
+use Rattle.type_numbers.specs.Numbers.{Numbering, IsNumberOf, Extends}
 use Rattle.type_numbers.specs.private.Readings.{IsReading, AreReadings, reading_in, text_type, type_in}
 use Rattle.type_numbers.proofs.LawsOfNumbers.{number_stays}
 

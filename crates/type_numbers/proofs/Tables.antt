@@ -12,27 +12,22 @@ use Rattle.pool.specs.declared.fault.PoolFault.TheVariants.{BadIndex}
 use Rattle.pool.specs.Views.{view, views}
 use Rattle.pool.specs.Entries.{Entry}
 use Rattle.pool.specs.Entries as entries
-use Rattle.pool.specs.Lookups.{and_then, usable, entry_at, class_name_in, class_name_at, field_ref_in, field_ref_at}
-use Rattle.pool.specs.Members.{found, class_at, field_constant, field_at}
-use Rattle.frames.specs.Slots.{to_reference}
+use Rattle.pool.specs.Lookups.{and_then, usable, entry_at, class_name_in, class_name_at, field_ref_in, field_ref_at, method_ref_in, method_ref_at, dynamic_in, dynamic_at, invoke_dynamic_in, invoke_dynamic_at}
+use Rattle.pool.specs.Members.{found, field_constant, method_constant, dynamic_type, call_site}
+use Rattle.frames.specs.Slots.{to_reference, descriptor_type}
 use Rattle.hierarchy.proofs.Names.{slice_none, some_same}
 use Rattle.type_numbers.specs.declared.constant_table.ConstantTable.{ConstantTable}
 use Rattle.type_numbers.specs.declared.named_constant.NamedConstant.{NamedConstant}
 use Rattle.type_numbers.specs.declared.named_constant.NamedConstant.TheVariants.{Other}
 use Rattle.type_numbers.specs.Numbers.{Numbering, Extends}
-use Rattle.type_numbers.specs.Constants.{IsNumberOf, IsDescribed, IsTable, class_number_of, field_class_of, field_held_of, field_class, field_held, constant_in, constants_of}
-use Rattle.type_numbers.specs.private.Entries.{IsEntryDescribed, class_by, field_by}
+use Rattle.type_numbers.specs.Constants.{Meaning, IsDescribed, IsTable, meaning_at, class_number_of, field_class_of, field_held_of, method_class_of, method_types_of, field_class, field_held, method_class, method_type, loaded_of, loaded_type, computed_of, site_types_of, site_type, arguments_of, constant_in, constants_of}
+use Rattle.type_numbers.specs.MethodNumbers.{GoesOn}
+use Rattle.type_numbers.specs.private.Entries.{IsEntryDescribed, class_by, field_by, method_by, computed_by, site_by, meaning_by}
 use Rattle.type_numbers.proofs.FieldEntries.{number_of_stays}
+use Rattle.type_numbers.proofs.MethodEntries.{nothing_described}
+use Rattle.type_numbers.proofs.MethodReadings.{goes_nowhere, types_of_on}
 
 -- ---- a constant by its entry
-
-class_entry : (pool : List Entry) (index : ℕ) (e : Entry) → option_and_then reference_type (found (class_name_in pool index e)) ≡ class_by pool e
-class_entry pool index (entries.Class name) = refl
-class_entry pool index _ = refl
-
-field_entry : (pool : List Entry) (index : ℕ) (e : Entry) → option_and_then field_constant (found (field_ref_in pool index e)) ≡ field_by pool e
-field_entry pool index (entries.Fieldref class name_and_type) = refl
-field_entry pool index _ = refl
 
 class_usable : (pool : List Entry) (index : ℕ) (e : Entry) → option_and_then reference_type (found (and_then (usable index (Some e)) (class_name_in pool index))) ≡ class_by pool e
 class_usable pool index entries.Unusable = refl
@@ -44,6 +39,26 @@ field_usable pool index entries.Unusable = refl
 field_usable pool index (entries.Fieldref class name_and_type) = refl
 field_usable pool index _ = refl
 
+method_usable : (pool : List Entry) (index : ℕ) (e : Entry) → option_and_then method_constant (found (and_then (usable index (Some e)) (method_ref_in pool index))) ≡ method_by pool e
+method_usable pool index entries.Unusable = refl
+method_usable pool index (entries.Methodref class name_and_type) = refl
+method_usable pool index (entries.InterfaceMethodref class name_and_type) = refl
+method_usable pool index _ = refl
+
+loaded_usable : (index : ℕ) (e : Entry) → option_and_then loaded_type (found (usable index (Some e))) ≡ loaded_type e
+loaded_usable index entries.Unusable = refl
+loaded_usable index _ = refl
+
+computed_usable : (pool : List Entry) (index : ℕ) (e : Entry) → option_and_then dynamic_type (found (and_then (usable index (Some e)) (dynamic_in pool index))) ≡ computed_by pool e
+computed_usable pool index entries.Unusable = refl
+computed_usable pool index (entries.Dynamic bootstrap name_and_type) = refl
+computed_usable pool index _ = refl
+
+site_usable : (pool : List Entry) (index : ℕ) (e : Entry) → option_and_then call_site (found (and_then (usable index (Some e)) (invoke_dynamic_in pool index))) ≡ site_by pool e
+site_usable pool index entries.Unusable = refl
+site_usable pool index (entries.InvokeDynamic bootstrap name_and_type) = refl
+site_usable pool index _ = refl
+
 -- what stands at an index, from 1 on
 entry_after : (pool : List Entry) (k : ℕ) (o : Option Entry) → slice_get pool k ≡ o → entry_at pool (suc k) ≡ usable (suc k) o
 unfolding entry_at
@@ -52,99 +67,105 @@ entry_after pool k o e =
     let m : suc k - 1 ≡ k = omega arith in
     (λ i. cond (z i) (Err (BadIndex (suc k))) (usable (suc k) (slice_get pool (m i)))) ∙ ap (usable (suc k)) e
 
-class_there : (pool : List Entry) (k : ℕ) (e : Entry) → slice_get pool k ≡ Some e → class_at pool (suc k) ≡ class_by pool e
-unfolding class_name_at
-class_there pool k e is = ap (λ r. option_and_then reference_type (found (and_then r (class_name_in pool (suc k))))) (entry_after pool k (Some e) is) ∙ class_usable pool (suc k) e
+meaning_there : (pool : List Entry) (k : ℕ) (e : Entry) → slice_get pool k ≡ Some e → meaning_at pool (suc k) ≡ meaning_by pool e
+unfolding class_name_at field_ref_at method_ref_at dynamic_at invoke_dynamic_at
+meaning_there pool k e is =
+    let at = entry_after pool k (Some e) is in
+    let class = ap (λ r. option_and_then reference_type (found (and_then r (class_name_in pool (suc k))))) at ∙ class_usable pool (suc k) e in
+    let field = ap (λ r. option_and_then field_constant (found (and_then r (field_ref_in pool (suc k))))) at ∙ field_usable pool (suc k) e in
+    let method = ap (λ r. option_and_then method_constant (found (and_then r (method_ref_in pool (suc k))))) at ∙ method_usable pool (suc k) e in
+    let loaded = ap (λ r. option_and_then loaded_type (found r)) at ∙ loaded_usable (suc k) e in
+    let computed = ap (λ r. option_and_then dynamic_type (found (and_then r (dynamic_in pool (suc k))))) at ∙ computed_usable pool (suc k) e in
+    let site = ap (λ r. option_and_then call_site (found (and_then r (invoke_dynamic_in pool (suc k))))) at ∙ site_usable pool (suc k) e in
+    λ i. record { class = class i; field = field i; method = method i; loaded = loaded i; computed = computed i; site = site i }
 
-field_there : (pool : List Entry) (k : ℕ) (e : Entry) → slice_get pool k ≡ Some e → field_at pool (suc k) ≡ field_by pool e
-unfolding field_ref_at
-field_there pool k e is = ap (λ r. option_and_then field_constant (found (and_then r (field_ref_in pool (suc k))))) (entry_after pool k (Some e) is) ∙ field_usable pool (suc k) e
+-- where no constant stands, nothing is meant
+abbrev no_meaning : Meaning
+no_meaning = record { class = None; field = None; method = None; loaded = None; computed = None; site = None }
 
-class_past : (pool : List Entry) (k : ℕ) → slice_get pool k ≡ None → class_at pool (suc k) ≡ None
-unfolding class_name_at
-class_past pool k is = ap (λ r. option_and_then reference_type (found (and_then r (class_name_in pool (suc k))))) (entry_after pool k None is)
+meaning_past : (pool : List Entry) (k : ℕ) → slice_get pool k ≡ None → meaning_at pool (suc k) ≡ no_meaning
+unfolding class_name_at field_ref_at method_ref_at dynamic_at invoke_dynamic_at
+meaning_past pool k is =
+    let at = entry_after pool k None is in
+    let class = ap (λ r. option_and_then reference_type (found (and_then r (class_name_in pool (suc k))))) at in
+    let field = ap (λ r. option_and_then field_constant (found (and_then r (field_ref_in pool (suc k))))) at in
+    let method = ap (λ r. option_and_then method_constant (found (and_then r (method_ref_in pool (suc k))))) at in
+    let loaded = ap (λ r. option_and_then loaded_type (found r)) at in
+    let computed = ap (λ r. option_and_then dynamic_type (found (and_then r (dynamic_in pool (suc k))))) at in
+    let site = ap (λ r. option_and_then call_site (found (and_then r (invoke_dynamic_in pool (suc k))))) at in
+    λ i. record { class = class i; field = field i; method = method i; loaded = loaded i; computed = computed i; site = site i }
 
-field_past : (pool : List Entry) (k : ℕ) → slice_get pool k ≡ None → field_at pool (suc k) ≡ None
-unfolding field_ref_at
-field_past pool k is = ap (λ r. option_and_then field_constant (found (and_then r (field_ref_in pool (suc k))))) (entry_after pool k None is)
-
-class_zero : (pool : List Entry) → class_at pool 0 ≡ None
-unfolding class_name_at entry_at
-class_zero pool = refl
-
-field_zero : (pool : List Entry) → field_at pool 0 ≡ None
-unfolding field_ref_at entry_at
-field_zero pool = refl
+meaning_zero : (pool : List Entry) → meaning_at pool 0 ≡ no_meaning
+unfolding class_name_at field_ref_at method_ref_at dynamic_at invoke_dynamic_at entry_at
+meaning_zero pool = refl
 
 -- ---- a table that is filled up to a place
 
 -- the first stands for no constant, and each other for the entry before it
-pub record AreFilled (s : Numbering) (pool : List Entry) (items : List NamedConstant) (count : ℕ) : Type 0 where
+pub record AreFilled (s : Numbering) (row : List ℕ) (pool : List Entry) (items : List NamedConstant) (count : ℕ) : Type 0 where
   pub long : length items ≡ count + 1
   pub first : constant_in items 0 ≡ Other
-  pub each : (k : ℕ) (e : Entry) → k < count → slice_get pool k ≡ Some e → IsEntryDescribed s pool e (constant_in items (suc k))
+  pub each : (k : ℕ) (e : Entry) → k < count → slice_get pool k ≡ Some e → IsEntryDescribed s row pool e (constant_in items (suc k))
 
-nothing : (s : Numbering) (pool : List Entry) (index : ℕ) (c : NamedConstant) → c ≡ Other → class_at pool index ≡ None → field_at pool index ≡ None → IsDescribed s pool index c
-nothing s pool index c is no_class no_field = subst (IsDescribed s pool index) (sym is) (record {
-  class = subst (IsNumberOf s None) (sym (ap (option_map to_reference) no_class)) tt;
-  field_class = subst (IsNumberOf s None) (sym (ap (option_map field_class) no_field)) tt;
-  field_held = subst (IsNumberOf s None) (sym (ap (option_map field_held) no_field)) tt;
-})
+nothing : (s : Numbering) (row : List ℕ) (m : Meaning) (c : NamedConstant) → c ≡ Other → m ≡ no_meaning → IsDescribed s row m c
+nothing s row m c is none = subst (IsDescribed s row m) (sym is) (subst (λ x. IsDescribed s row x Other) (sym none) (nothing_described s row))
 
-there : (s : Numbering) (pool : List Entry) (k : ℕ) (e : Entry) (c : NamedConstant) → slice_get pool k ≡ Some e → IsEntryDescribed s pool e c → IsDescribed s pool (suc k) c
-there s pool k e c is h = record {
-  class = subst (IsNumberOf s (class_number_of c)) (sym (ap (option_map to_reference) (class_there pool k e is))) h.class;
-  field_class = subst (IsNumberOf s (field_class_of c)) (sym (ap (option_map field_class) (field_there pool k e is))) h.field_class;
-  field_held = subst (IsNumberOf s (field_held_of c)) (sym (ap (option_map field_held) (field_there pool k e is))) h.field_held;
-}
-
-pub filled_table : (s : Numbering) (pool : List Entry) (t : ConstantTable) → AreFilled s pool (constants_of t) (length pool) → IsTable s pool t
-filled_table s pool t h zero = nothing s pool 0 _ h.first (class_zero pool) (field_zero pool)
+pub filled_table : (s : Numbering) (pool : List Entry) (t : ConstantTable) → AreFilled s (arguments_of t) pool (constants_of t) (length pool) → IsTable s pool t
+filled_table s pool t h zero = nothing s (arguments_of t) (meaning_at pool 0) _ h.first (meaning_zero pool)
 filled_table s pool t h (suc k) = by (slice_get pool k) refl
   where
     missed : (k < length pool) ⊎ (length pool ≤ k) → slice_get pool k ≡ None → length pool ≤ k
     missed (inl low) is = absurd (slice_none pool k low is)
     missed (inr high) is = high
 
-    by : (o : Option Entry) → slice_get pool k ≡ o → IsDescribed s pool (suc k) (constant_in (constants_of t) (suc k))
-    by (Some e) is = let within = slice_get_within pool k e is in there s pool k e (constant_in (constants_of t) (suc k)) is (h.each k e within is)
+    by : (o : Option Entry) → slice_get pool k ≡ o → IsDescribed s (arguments_of t) (meaning_at pool (suc k)) (constant_in (constants_of t) (suc k))
+    by (Some e) is =
+        let within = slice_get_within pool k e is in
+        subst (λ m. IsDescribed s (arguments_of t) m (constant_in (constants_of t) (suc k))) (sym (meaning_there pool k e is)) (h.each k e within is)
     by None is =
         let past : length pool ≤ k = missed (cases_lt k (length pool)) is in
         let long = h.long in
         let out : length (constants_of t) ≤ suc k = omega arith in
-        nothing s pool (suc k) (constant_in (constants_of t) (suc k)) (get_or_past (constants_of t) (suc k) Other out) (class_past pool k is) (field_past pool k is)
+        nothing s (arguments_of t) (meaning_at pool (suc k)) (constant_in (constants_of t) (suc k)) (get_or_past (constants_of t) (suc k) Other out) (meaning_past pool k is)
 
 -- ---- one constant more
 
-module _ (pool : List Entry) (items : List NamedConstant) (count : ℕ) where
-  entry_stays : (old new : Numbering) → Extends old new → (e : Entry) (c : NamedConstant) → IsEntryDescribed old pool e c → IsEntryDescribed new pool e c
-  entry_stays old new more e c h = record {
-    class = number_of_stays old new more (class_number_of c) (option_map to_reference (class_by pool e)) h.class;
-    field_class = number_of_stays old new more (field_class_of c) (option_map field_class (field_by pool e)) h.field_class;
-    field_held = number_of_stays old new more (field_held_of c) (option_map field_held (field_by pool e)) h.field_held;
-  }
+described_stays : (old new : Numbering) → Extends old new → (row later : List ℕ) → GoesOn row later → (m : Meaning) (c : NamedConstant) → IsDescribed old row m c → IsDescribed new later m c
+described_stays old new more row later on m c h = record {
+  class = number_of_stays old new more (class_number_of c) (option_map to_reference m.class) h.class;
+  field_class = number_of_stays old new more (field_class_of c) (option_map field_class m.field) h.field_class;
+  field_held = number_of_stays old new more (field_held_of c) (option_map field_held m.field) h.field_held;
+  method_interface = h.method_interface;
+  method_class = number_of_stays old new more (method_class_of c) (option_map method_class m.method) h.method_class;
+  method_types = types_of_on old new more row later on (method_types_of c) (option_map method_type m.method) h.method_types;
+  loaded = number_of_stays old new more (loaded_of c) m.loaded h.loaded;
+  computed = number_of_stays old new more (computed_of c) (option_map descriptor_type m.computed) h.computed;
+  site = types_of_on old new more row later on (site_types_of c) (option_map site_type m.site) h.site;
+}
 
-  pub fill_one : (old new : Numbering) → Extends old new → AreFilled old pool items count → (all : List NamedConstant) (c : NamedConstant) (e : Entry) → all ≡ items ++ c ∷ [] → slice_get pool count ≡ Some e → IsEntryDescribed new pool e c → AreFilled new pool all (count + 1)
-  fill_one old new more h all c e is here described = subst (λ xs. AreFilled new pool xs (count + 1)) (sym is) (record {
+module _ (pool : List Entry) (items : List NamedConstant) (count : ℕ) (old new : Numbering) (more : Extends old new) (row later : List ℕ) (on : GoesOn row later) where
+  pub fill_one : AreFilled old row pool items count → (all : List NamedConstant) (c : NamedConstant) (e : Entry) → all ≡ items ++ c ∷ [] → slice_get pool count ≡ Some e → IsEntryDescribed new later pool e c → AreFilled new later pool all (count + 1)
+  fill_one h all c e is here described = subst (λ xs. AreFilled new later pool xs (count + 1)) (sym is) (record {
     long = length-append items (c ∷ []) ∙ ap (λ n. n + 1) h.long;
     first = let long = h.long in get_or_append_left items (c ∷ []) Other 0 (omega arith) ∙ h.first;
     each = λ k x lt at. by k x (cases_lt k count) lt at;
   })
     where
-      by : (k : ℕ) (x : Entry) → (k < count) ⊎ (count ≤ k) → k < count + 1 → slice_get pool k ≡ Some x → IsEntryDescribed new pool x (constant_in (items ++ c ∷ []) (suc k))
+      by : (k : ℕ) (x : Entry) → (k < count) ⊎ (count ≤ k) → k < count + 1 → slice_get pool k ≡ Some x → IsEntryDescribed new later pool x (constant_in (items ++ c ∷ []) (suc k))
       by k x (inl low) lt at =
           let long = h.long in
-          subst (IsEntryDescribed new pool x) (sym (get_or_append_left items (c ∷ []) Other (suc k) (omega arith))) (entry_stays old new more x (constant_in items (suc k)) (h.each k x low at))
+          subst (IsEntryDescribed new later pool x) (sym (get_or_append_left items (c ∷ []) Other (suc k) (omega arith)))
+          (described_stays old new more row later on (meaning_by pool x) (constant_in items (suc k)) (h.each k x low at))
       by k x (inr high) lt at =
           let long = h.long in
           let same : k ≡ count = omega arith in
           let place : suc k ≡ length items = omega arith in
           let one : e ≡ x = some_same (sym here ∙ ap (slice_get pool) (sym same) ∙ at) in
-          subst (IsEntryDescribed new pool x) (sym (ap (constant_in (items ++ c ∷ [])) place ∙ get_or-append_seam items c [] Other)) (subst (λ y. IsEntryDescribed new pool y c) one described)
+          subst (IsEntryDescribed new later pool x) (sym (ap (constant_in (items ++ c ∷ [])) place ∙ get_or-append_seam items c [] Other)) (subst (λ y. IsEntryDescribed new later pool y c) one described)
 
 -- the empty table has the first alone
-pub filled_none : (s : Numbering) (pool : List Entry) (items : List NamedConstant) → items ≡ Other ∷ [] → AreFilled s pool items 0
-filled_none s pool items e = subst (λ xs. AreFilled s pool xs 0) (sym e) (record { long = refl; first = refl; each = λ k x lt at. absurd (omega (arith, lt)) })
+pub filled_none : (s : Numbering) (row : List ℕ) (pool : List Entry) (items : List NamedConstant) → items ≡ Other ∷ [] → AreFilled s row pool items 0
+filled_none s row pool items e = subst (λ xs. AreFilled s row pool xs 0) (sym e) (record { long = refl; first = refl; each = λ k x lt at. absurd (omega (arith, lt)) })
 
 -- an entry by its constant
 pub entry_here : (cs : List Constant) (pool : List Entry) (i : ℕ) (c : Constant) → views cs ≡ pool → c ≡ get_or cs i c → i < length cs → slice_get pool i ≡ Some (view c)
@@ -156,10 +177,4 @@ whole_pool cs pool i e is = is ∙ sym (length-map cs view) ∙ ap length e
 
 pub table_stays : (old new : Numbering) (pool : List Entry) (t : ConstantTable) → Extends old new → IsTable old pool t → IsTable new pool t
 table_stays old new pool t more h index =
-    let c = constant_in (constants_of t) index in
-    let d = h index in
-    record {
-      class = number_of_stays old new more (class_number_of c) (option_map to_reference (class_at pool index)) d.class;
-      field_class = number_of_stays old new more (field_class_of c) (option_map field_class (field_at pool index)) d.field_class;
-      field_held = number_of_stays old new more (field_held_of c) (option_map field_held (field_at pool index)) d.field_held;
-    }
+    described_stays old new more (arguments_of t) (arguments_of t) (goes_nowhere (arguments_of t)) (meaning_at pool index) (constant_in (constants_of t) index) (h index)

@@ -1,5 +1,5 @@
 pub mod Numbers
 pub mod NumberLaws
-pub mod Constants
 pub mod MethodNumbers
+pub mod Constants
 pub mod private

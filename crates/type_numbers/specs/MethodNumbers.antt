@@ -13,8 +13,7 @@ use Rattle.type_numbers.specs.declared.method_numbers.MethodNumbers.{MethodNumbe
 use Rattle.type_numbers.specs.declared.method_numbers.MethodReading.{MethodReading}
 use Rattle.type_numbers.specs.declared.method_numbers.MethodReading.TheVariants.{Unread, Nothing, Types}
 use Rattle.type_numbers.specs.declared.method_numbers.DescriptorNumbers.{DescriptorNumbers}
-use Rattle.type_numbers.specs.Numbers.{Numbering, IsNumber}
-use Rattle.type_numbers.specs.Constants.{IsNumberOf}
+use Rattle.type_numbers.specs.Numbers.{Numbering, IsNumber, IsNumberOf}
 
 -- the numbers of types, one for each
 abbrev pub AreNumbers : Numbering → List ℕ → List VerificationType → Type 0

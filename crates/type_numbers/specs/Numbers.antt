@@ -92,6 +92,13 @@ pub record IsNumber (s : Numbering) (n : ℕ) (t : VerificationType) : Type 0 wh
 abbrev pub IsGiven : Numbering → ℕ → Type 0
 IsGiven s n = (t : VerificationType) × IsNumber s n t
 
+-- a number exactly where there is a type, and then the number of that type
+abbrev pub IsNumberOf : Numbering → Option ℕ → Option VerificationType → Type 0
+IsNumberOf s None None = Unit {0}
+IsNumberOf s None (Some t) = ⊥
+IsNumberOf s (Some n) None = ⊥
+IsNumberOf s (Some n) (Some t) = IsNumber s n t
+
 -- no number is taken back
 pub record Extends (old new : Numbering) : Type 0 where
   pub classes : new.classes ≡ old.classes

@@ -1,8 +1,10 @@
 //! The constants of a class as its instructions name them.
-ghost use Rattle.std.specs.Prelude.{◌≡◌, IfOk};
-ghost use Rattle.type_numbers.specs.Constants.{IsTable, constant_in, constants_of};
+ghost use Rattle.std.specs.Prelude.{◌≡◌, ◌+◌, ◌≤◌, length, IfOk};
+ghost use Rattle.type_numbers.specs.Constants.{IsTable, arguments_of, constant_in, constants_of};
+ghost use Rattle.type_numbers.specs.MethodNumbers.{arguments_in};
 ghost use Rattle.type_numbers.specs.Numbers.{Extends};
 
+use crate::method_numbers::MethodNumbers;
 use crate::named_constant::NamedConstant;
 use crate::texts::Texts;
 use crate::type_numbers::TypeNumbers;
@@ -16,11 +18,13 @@ use std::hash::BuildHasher;
 pub struct ConstantTable {
     /// By the indices of the constants; at 0, which no constant has, stands [`NamedConstant::Other`].
     constants: Vec<NamedConstant>,
+    /// The types of the parameters of all methods.
+    arguments: Vec<u32>,
 }
 
 impl ConstantTable {
     /// The table of the constants of a pool, whose types get numbers. Each text is read once, however many constants
-    /// lead to it. The only refusal is want of memory.
+    /// lead to it. The only refusal is 1, where memory runs out.
     pub fn new<'a, C: Classes, S: BuildHasher>(
         alloc: Global,
         pool: &Pool<'a>,
@@ -29,7 +33,7 @@ impl ConstantTable {
         ensures kept { Extends numbers.old numbers.new }
         ensures described { IfOk result (IsTable numbers.new pool.now) }
     {
-        let mut texts = Texts::new(alloc, pool)?;
+        let mut texts = Texts::new(alloc, pool, numbers)?;
         let entries = pool.constants();
         let mut constants = Vec::with_capacity(alloc, entries.len() + 1)?;
         constants.push(NamedConstant::Other)?;
@@ -37,7 +41,10 @@ impl ConstantTable {
             let named = texts.constant(pool, *constant, numbers)?;
             constants.push(named)?;
         }
-        Ok(ConstantTable { constants })
+        Ok(ConstantTable {
+            constants,
+            arguments: texts.into_row(),
+        })
     }
 
     /// The constant at an index as instructions name it.
@@ -50,5 +57,13 @@ impl ConstantTable {
         } else {
             NamedConstant::Other
         }
+    }
+
+    /// The numbers of the types of a method's parameters.
+    pub fn arguments(&self, types: MethodNumbers) -> &[u32]
+        requires { types.start + types.count ≤ length (arguments_of self.now) }
+        ensures { result.now ≡ arguments_in (arguments_of self.now) types }
+    {
+        &self.arguments[types.start..types.start + types.count]
     }
 }

@@ -5,6 +5,7 @@
 //! - `constant_table`: what the constants of a class are to its instructions.
 //! - `deciding`: comparisons of types by the parts of their numbers.
 //! - `laws`: what holds of numbers and tables.
+//! - `loaded_numbers`: the types that constants load by their kinds.
 //! - `method_numbers`: the types that descriptors of methods name, each text read once.
 //! - `named_constant`: what a constant is to the instructions that name it.
 //! - `parts`: the parts of a number.
@@ -16,6 +17,7 @@
 mod constant_table;
 mod deciding;
 pub mod laws;
+mod loaded_numbers;
 mod method_numbers;
 mod named_constant;
 mod parts;

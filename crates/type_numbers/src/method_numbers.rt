@@ -5,8 +5,7 @@ ghost use Rattle.names.specs.Types.{method_of, type_of};
 ghost use Rattle.frames.specs.Slots.{descriptor_type};
 ghost use Rattle.pool.specs.Lookups.{text_at};
 ghost use Rattle.pool.specs.Members.{found};
-ghost use Rattle.type_numbers.specs.Numbers.{Numbering, Extends};
-ghost use Rattle.type_numbers.specs.Constants.{IsNumberOf};
+ghost use Rattle.type_numbers.specs.Numbers.{Numbering, Extends, IsNumberOf};
 ghost use Rattle.type_numbers.specs.MethodNumbers.{AreDescriptors, AreNumbers, AreTypes, AreTypesOf, GoesOn, arguments_in, method_in, row_of};
 
 use crate::type_numbers::TypeNumbers;
@@ -154,7 +153,7 @@ impl DescriptorNumbers {
     }
 
     /// The numbers of the types that the text at an index of a pool names as the descriptor of a method; none where no
-    /// text is there, or it is no such descriptor. The only refusal is want of memory.
+    /// text is there, or it is no such descriptor. The only refusal is 1, where memory runs out.
     pub fn types<'a, C: Classes, S: BuildHasher>(
         &mut self,
         pool: &Pool<'a>,
@@ -183,5 +182,12 @@ impl DescriptorNumbers {
         ensures { result.now ≡ arguments_in (row_of self.now) types }
     {
         &self.arguments[types.start..types.start + types.count]
+    }
+
+    /// The row of the types of all parameters.
+    pub fn into_row(self) -> Vec<u32>
+        ensures { result.items ≡ row_of self }
+    {
+        self.arguments
     }
 }

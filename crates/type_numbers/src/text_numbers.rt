@@ -1,9 +1,8 @@
 //! The numbers of the types that texts of a pool name.
 ghost use Rattle.std.specs.Prelude.{◌≡◌, ◌+◌, ◌<◌, ℕ, length, Ok, option_map, IfOk, OnOk};
 ghost use Rattle.frames.specs.VerificationType.{type_of};
-ghost use Rattle.type_numbers.specs.Constants.{IsNumberOf};
 ghost use Rattle.pool.specs.Lookups.{text_at};
-ghost use Rattle.type_numbers.specs.Numbers.{Numbering, Extends};
+ghost use Rattle.type_numbers.specs.Numbers.{Numbering, Extends, IsNumberOf};
 ghost use Rattle.type_numbers.specs.private.Readings.{AreReadings, IsReading, reading_in, text_type, type_in};
 
 use crate::type_numbers::TypeNumbers;
@@ -97,7 +96,7 @@ impl TextNumbers {
     }
 
     /// The number of the type that the text at an index of a pool names; none where no text is there, or it names no
-    /// type. The only refusal is want of memory.
+    /// type. The only refusal is 1, where memory runs out.
     pub fn number<'a, C: Classes, S: BuildHasher>(
         &mut self,
         pool: &Pool<'a>,

@@ -1,13 +1,16 @@
 //! The constants that lead to texts, each text read once.
 ghost use Rattle.std.specs.Prelude.{◌≡◌, IfOk, OnOk};
-ghost use Rattle.pool.specs.Entries.{Class, Fieldref};
+ghost use Rattle.pool.specs.Entries.{Class, Dynamic, Fieldref, InvokeDynamic};
+ghost use Rattle.pool.specs.Lookups.{methodref};
 ghost use Rattle.pool.specs.Views.{view};
-ghost use Rattle.type_numbers.specs.Constants.{IsNumberOf};
 ghost use Rattle.type_numbers.specs.declared.text_numbers.Form.TheVariants.{ClassName, FieldDescriptor};
-ghost use Rattle.type_numbers.specs.Numbers.{Numbering, Extends};
-ghost use Rattle.type_numbers.specs.private.Entries.{IsEntryDescribed, field_of, field_texts};
-ghost use Rattle.type_numbers.specs.private.Readings.{AreTexts, type_in};
+ghost use Rattle.type_numbers.specs.MethodNumbers.{AreTypesOf, GoesOn, method_in, row_of};
+ghost use Rattle.type_numbers.specs.Numbers.{Numbering, Extends, IsNumberOf};
+ghost use Rattle.type_numbers.specs.private.Entries.{IsEntryDescribed, class_as, descriptor_index, dynamic_of, field_of, loaded_as, member_texts, method_of, site_of};
+ghost use Rattle.type_numbers.specs.private.Readings.{AreTexts, shared_row, type_in};
 
+use crate::loaded_numbers::LoadedNumbers;
+use crate::method_numbers::{DescriptorNumbers, MethodNumbers};
 use crate::named_constant::NamedConstant;
 use crate::parts::is_array;
 use crate::text_numbers::{Form, TextNumbers};
@@ -17,17 +20,20 @@ use pool::{Constant, Pool};
 use std::alloc::{AllocError, Global};
 use std::hash::BuildHasher;
 
-/// The texts of a pool as the names of classes and as the descriptors of fields, as far as they were read.
+/// The texts of a pool as the names of classes and as the descriptors of fields and of methods, as far as they were
+/// read.
 #[derive(Drop)]
 pub struct Texts {
     classes: TextNumbers,
     descriptors: TextNumbers,
+    methods: DescriptorNumbers,
+    loaded: LoadedNumbers,
 }
 
-/// The indices of a class's name, and of the descriptor of a field, where a Class and a NameAndType whose name is a
+/// The indices of a class's name, and of the descriptor of a member, where a Class and a NameAndType whose name is a
 /// text stand at these indices.
-fn field_texts(pool: &Pool<'_>, class: u16, name_and_type: u16) -> Option<(u16, u16)>
-    ensures { result ≡ field_texts pool.now class name_and_type }
+fn member_texts(pool: &Pool<'_>, class: u16, name_and_type: u16) -> Option<(u16, u16)>
+    ensures { result ≡ member_texts pool.now class name_and_type }
 {
     let Ok(Constant::Class { name: class }) = pool.get(class) else {
         return None;
@@ -38,6 +44,59 @@ fn field_texts(pool: &Pool<'_>, class: u16, name_and_type: u16) -> Option<(u16, 
     match pool.text(name) {
         Ok(_) => Some((class, descriptor)),
         Err(_) => None,
+    }
+}
+
+/// The index of the descriptor, where a NameAndType whose name is a text stands at this index.
+fn descriptor_index(pool: &Pool<'_>, name_and_type: u16) -> Option<u16>
+    ensures { result ≡ descriptor_index pool.now name_and_type }
+{
+    let Ok(Constant::NameAndType { name, descriptor }) = pool.get(name_and_type) else {
+        return None;
+    };
+    match pool.text(name) {
+        Ok(_) => Some(descriptor),
+        Err(_) => None,
+    }
+}
+
+/// A Class that names the type of this number, if it names one, and loads an object of the type of that one.
+fn class_as(class: Option<u32>, loaded: u32) -> NamedConstant
+    ensures { result ≡ class_as class loaded }
+{
+    match class {
+        Some(class) => NamedConstant::Class { class, loaded },
+        None => NamedConstant::Loaded { loaded },
+    }
+}
+
+/// A constant that loads a value of the type of this number, if it loads one.
+fn loaded_as(loaded: Option<u32>) -> NamedConstant
+    ensures { result ≡ loaded_as loaded }
+{
+    match loaded {
+        Some(loaded) => NamedConstant::Loaded { loaded },
+        None => NamedConstant::Other,
+    }
+}
+
+/// A Dynamic of the type of this number, if there is one.
+fn dynamic_of(held: Option<u32>) -> NamedConstant
+    ensures { result ≡ dynamic_of held }
+{
+    match held {
+        Some(held) => NamedConstant::Dynamic { held },
+        None => NamedConstant::Other,
+    }
+}
+
+/// An InvokeDynamic whose descriptor names these types, if it is one of a method.
+fn site_of(types: Option<MethodNumbers>) -> NamedConstant
+    ensures { result ≡ site_of types }
+{
+    match types {
+        Some(types) => NamedConstant::Site { types },
+        None => NamedConstant::Other,
     }
 }
 
@@ -59,14 +118,38 @@ fn field_of(class: Option<u32>, held: Option<u32>) -> NamedConstant
     }
 }
 
+/// A method of a class of this number, whose descriptor names these types; none where one of the two is missing.
+fn method_of(interface: bool, class: Option<u32>, types: Option<MethodNumbers>) -> NamedConstant
+    ensures { result ≡ method_of interface class types }
+{
+    let Some(class) = class else {
+        return NamedConstant::Other;
+    };
+    let Some(types) = types else {
+        return NamedConstant::Other;
+    };
+    NamedConstant::Method {
+        interface,
+        class,
+        types,
+    }
+}
+
 impl Texts {
-    /// No text was read yet.
-    pub fn new(alloc: Global, pool: &Pool<'_>) -> Result<Texts, AllocError>
-        ensures { IfOk result (λ t. (s : Numbering) → AreTexts s pool.now t) }
+    /// No text was read yet, but the classes of which constants load objects have numbers.
+    pub fn new<'a, C: Classes, S: BuildHasher>(
+        alloc: Global,
+        pool: &Pool<'a>,
+        numbers: &mut TypeNumbers<'_, 'a, C, S>,
+    ) -> Result<Texts, AllocError>
+        ensures kept { Extends numbers.old numbers.new }
+        ensures texts { IfOk result (AreTexts numbers.new pool.now) }
     {
         Ok(Texts {
             classes: TextNumbers::new(alloc, Form::ClassName, pool)?,
             descriptors: TextNumbers::new(alloc, Form::FieldDescriptor, pool)?,
+            methods: DescriptorNumbers::new(alloc, pool)?,
+            loaded: LoadedNumbers::new(numbers)?,
         })
     }
 
@@ -80,12 +163,11 @@ impl Texts {
         requires { AreTexts numbers.old pool.now self.old }
         ensures kept { Extends numbers.old numbers.new }
         ensures texts { OnOk result (AreTexts numbers.new pool.now self.new) }
-        ensures described { IfOk result (IsEntryDescribed numbers.new pool.now (Class name)) }
+        ensures row { shared_row self.new ≡ shared_row self.old }
+        ensures described { IfOk result (IsEntryDescribed numbers.new (shared_row self.new) pool.now (Class name)) }
     {
-        match self.classes.number(pool, name, numbers)? {
-            Some(class) => Ok(NamedConstant::Class { class }),
-            None => Ok(NamedConstant::Other),
-        }
+        let class = self.classes.number(pool, name, numbers)?;
+        Ok(class_as(class, self.loaded.class))
     }
 
     /// The numbers of the types that the name of a class and the descriptor of a field name.
@@ -99,6 +181,7 @@ impl Texts {
         requires { AreTexts numbers.old pool.now self.old }
         ensures kept { Extends numbers.old numbers.new }
         ensures texts { OnOk result (AreTexts numbers.new pool.now self.new) }
+        ensures row { shared_row self.new ≡ shared_row self.old }
         ensures class { IfOk result (λ x. IsNumberOf numbers.new x.0 (type_in ClassName pool.now name)) }
         ensures held { IfOk result (λ x. IsNumberOf numbers.new x.1 (type_in FieldDescriptor pool.now descriptor)) }
     {
@@ -118,16 +201,104 @@ impl Texts {
         requires { AreTexts numbers.old pool.now self.old }
         ensures kept { Extends numbers.old numbers.new }
         ensures texts { OnOk result (AreTexts numbers.new pool.now self.new) }
-        ensures described { IfOk result (IsEntryDescribed numbers.new pool.now (Fieldref class name_and_type)) }
+        ensures row { shared_row self.new ≡ shared_row self.old }
+        ensures described { IfOk result (IsEntryDescribed numbers.new (shared_row self.new) pool.now
+            (Fieldref class name_and_type)) }
     {
-        let Some((name, descriptor)) = field_texts(pool, class, name_and_type) else {
+        let Some((name, descriptor)) = member_texts(pool, class, name_and_type) else {
             return Ok(NamedConstant::Other);
         };
         let (class, held) = self.field_types(pool, name, descriptor, numbers)?;
         Ok(field_of(class, held))
     }
 
-    /// A constant of the pool as instructions name it. The only refusal is want of memory.
+    /// The numbers of the types that the name of a class and the descriptor of a method name.
+    fn method_types<'a, C: Classes, S: BuildHasher>(
+        &mut self,
+        pool: &Pool<'a>,
+        name: u16,
+        descriptor: u16,
+        numbers: &mut TypeNumbers<'_, 'a, C, S>,
+    ) -> Result<(Option<u32>, Option<MethodNumbers>), AllocError>
+        requires { AreTexts numbers.old pool.now self.old }
+        ensures kept { Extends numbers.old numbers.new }
+        ensures texts { OnOk result (AreTexts numbers.new pool.now self.new) }
+        ensures grown { OnOk result (GoesOn (shared_row self.old) (shared_row self.new)) }
+        ensures class { IfOk result (λ x. IsNumberOf numbers.new x.0 (type_in ClassName pool.now name)) }
+        ensures types { IfOk result (λ x.
+            AreTypesOf numbers.new (shared_row self.new) x.1 (method_in pool.now descriptor)) }
+    {
+        let class = self.classes.number(pool, name, numbers)?;
+        let types = self.methods.types(pool, descriptor, numbers)?;
+        Ok((class, types))
+    }
+
+    /// The Methodref or InterfaceMethodref that leads to a Class and a NameAndType at these indices.
+    fn method<'a, C: Classes, S: BuildHasher>(
+        &mut self,
+        pool: &Pool<'a>,
+        interface: bool,
+        class: u16,
+        name_and_type: u16,
+        numbers: &mut TypeNumbers<'_, 'a, C, S>,
+    ) -> Result<NamedConstant, AllocError>
+        requires { AreTexts numbers.old pool.now self.old }
+        ensures kept { Extends numbers.old numbers.new }
+        ensures texts { OnOk result (AreTexts numbers.new pool.now self.new) }
+        ensures grown { OnOk result (GoesOn (shared_row self.old) (shared_row self.new)) }
+        ensures described { IfOk result (IsEntryDescribed numbers.new (shared_row self.new) pool.now
+            (methodref interface class name_and_type)) }
+    {
+        let Some((name, descriptor)) = member_texts(pool, class, name_and_type) else {
+            return Ok(NamedConstant::Other);
+        };
+        let (class, types) = self.method_types(pool, name, descriptor, numbers)?;
+        Ok(method_of(interface, class, types))
+    }
+
+    /// The Dynamic that leads to a NameAndType at this index, whatever its bootstrap method.
+    fn dynamic<'a, C: Classes, S: BuildHasher>(
+        &mut self,
+        pool: &Pool<'a>,
+        name_and_type: u16,
+        numbers: &mut TypeNumbers<'_, 'a, C, S>,
+    ) -> Result<NamedConstant, AllocError>
+        requires { AreTexts numbers.old pool.now self.old }
+        ensures kept { Extends numbers.old numbers.new }
+        ensures texts { OnOk result (AreTexts numbers.new pool.now self.new) }
+        ensures row { shared_row self.new ≡ shared_row self.old }
+        ensures described { IfOk result (IsEntryDescribed numbers.new (shared_row self.new) pool.now
+            (Dynamic 0 name_and_type)) }
+    {
+        let Some(descriptor) = descriptor_index(pool, name_and_type) else {
+            return Ok(NamedConstant::Other);
+        };
+        let held = self.descriptors.number(pool, descriptor, numbers)?;
+        Ok(dynamic_of(held))
+    }
+
+    /// The InvokeDynamic that leads to a NameAndType at this index, whatever its bootstrap method.
+    fn call_site<'a, C: Classes, S: BuildHasher>(
+        &mut self,
+        pool: &Pool<'a>,
+        name_and_type: u16,
+        numbers: &mut TypeNumbers<'_, 'a, C, S>,
+    ) -> Result<NamedConstant, AllocError>
+        requires { AreTexts numbers.old pool.now self.old }
+        ensures kept { Extends numbers.old numbers.new }
+        ensures texts { OnOk result (AreTexts numbers.new pool.now self.new) }
+        ensures grown { OnOk result (GoesOn (shared_row self.old) (shared_row self.new)) }
+        ensures described { IfOk result (IsEntryDescribed numbers.new (shared_row self.new) pool.now
+            (InvokeDynamic 0 name_and_type)) }
+    {
+        let Some(descriptor) = descriptor_index(pool, name_and_type) else {
+            return Ok(NamedConstant::Other);
+        };
+        let types = self.methods.types(pool, descriptor, numbers)?;
+        Ok(site_of(types))
+    }
+
+    /// A constant of the pool as instructions name it. The only refusal is 1, where memory runs out.
     pub fn constant<'a, C: Classes, S: BuildHasher>(
         &mut self,
         pool: &Pool<'a>,
@@ -137,7 +308,9 @@ impl Texts {
         requires { AreTexts numbers.old pool.now self.old }
         ensures kept { Extends numbers.old numbers.new }
         ensures texts { OnOk result (AreTexts numbers.new pool.now self.new) }
-        ensures described { IfOk result (IsEntryDescribed numbers.new pool.now (view constant.entry)) }
+        ensures grown { OnOk result (GoesOn (shared_row self.old) (shared_row self.new)) }
+        ensures described { IfOk result (IsEntryDescribed numbers.new (shared_row self.new) pool.now
+            (view constant.entry)) }
     {
         match constant {
             Constant::Class { name } => self.class(pool, name, numbers),
@@ -145,7 +318,28 @@ impl Texts {
                 class,
                 name_and_type,
             } => self.field(pool, class, name_and_type, numbers),
-            _ => Ok(NamedConstant::Other),
+            Constant::Methodref {
+                class,
+                name_and_type,
+            } => self.method(pool, false, class, name_and_type, numbers),
+            Constant::InterfaceMethodref {
+                class,
+                name_and_type,
+            } => self.method(pool, true, class, name_and_type, numbers),
+            Constant::Dynamic { name_and_type, .. } => self.dynamic(pool, name_and_type, numbers),
+            Constant::InvokeDynamic { name_and_type, .. } => self.call_site(
+                pool,
+                name_and_type,
+                numbers,
+            ),
+            _ => Ok(loaded_as(self.loaded.of(constant))),
         }
+    }
+
+    /// The row of the types of all methods' parameters.
+    pub fn into_row(self) -> Vec<u32>
+        ensures { result.items ≡ shared_row self }
+    {
+        self.methods.into_row()
     }
 }

@@ -1,6 +1,4 @@
 //! The numbers that the types of one class have.
-ghost use Rattle.std.specs.Prelude.{◌≡◌};
-ghost use Rattle.hierarchy.specs.Answer.{outcome_of, yes_if};
 
 use crate::deciding::decided;
 use crate::parts::{Parts, absent_number, element_at, present_number, uninit_number};
@@ -12,13 +10,6 @@ use std::alloc::{AllocError, Global};
 use std::collections::BTreeMap;
 use std::hash::BuildHasher;
 use std::marker::Model;
-
-// Yes or no.
-fn yes_if<'n>(holds: bool) -> Answer<'n>
-    ensures { outcome_of result ≡ yes_if holds }
-{
-    if holds { Answer::Yes } else { Answer::No }
-}
 
 /// The numbers of the types that one class at hand names, among the classes of a hierarchy. A number has four bytes,
 /// and equal types are equal numbers.
@@ -84,7 +75,7 @@ impl<'c, 'n, C: Classes, S: BuildHasher> TypeNumbers<'c, 'n, C, S> {
     ghost use Rattle.type_numbers.specs.Numbers.{class_number, IsNoted, IsNumber, IsGiven, Extends};
     ghost use Rattle.type_numbers.specs.private.Decoding.{name_at, type_with, type_at};
 
-    /// The number of a type. The only refusal is want of memory.
+    /// The number of a type. The only refusal is 1, where memory runs out.
     pub fn number(&mut self, vtype: &VType<'n>) -> Result<u32, AllocError>
         ensures given { IfOk result (λ n. IsNumber self.new n (type_of vtype.now)) }
         ensures kept { Extends self.old self.new }
@@ -198,7 +189,7 @@ impl<'c, 'n, C: Classes, S: BuildHasher> TypeNumbers<'c, 'n, C, S> {
             return Answer::Yes;
         }
         match decided(Parts::of(from), Parts::of(to)) {
-            Some(holds) => yes_if(holds),
+            Some(holds) => Answer::yes_if(holds),
             None => self.types_assignable(from, to),
         }
     }

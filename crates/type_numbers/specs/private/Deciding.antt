@@ -1,5 +1,5 @@
 -- Which comparisons of two types are decided by the parts of their numbers, where these differ.
-use Rattle.std.specs.Prelude.{ℕ, ◌+◌, Bool, true, false, not, ◌&&◌, ◌||◌, nat_eq, nat_lt, if◌then◌else◌, Option, Some, None}
+use Rattle.std.specs.Prelude.{ℕ, Bool, true, false, not, ◌&&◌, ◌||◌, nat_eq, nat_lt, if◌then◌else◌, Option, Some, None}
 
 -- the tags of classes and of arrays
 abbrev pub is_reference : ℕ → Bool

@@ -1,16 +1,17 @@
--- The entries of a pool as instructions name them: a class, or a field.
-use Rattle.std.specs.Prelude.{ℕ, ◌/◌, ◌%◌, nat_lt, if◌then◌else◌, List, Option, Some, None, option_map}
+-- The entries of a pool as instructions name them.
+use Rattle.std.specs.Prelude.{ℕ, ◌/◌, ◌%◌, nat_lt, if◌then◌else◌, Bool, true, false, List, Option, Some, None}
 use Rattle.std.specs.Option.{option_and_then}
+use Rattle.names.specs.Descriptors.{FieldDescriptor}
 use Rattle.names.specs.ReferenceTypes.{ReferenceType, reference_type}
 use Rattle.pool.specs.Entries.{Entry}
 use Rattle.pool.specs.Entries as entries
-use Rattle.pool.specs.Lookups.{text_at, member}
-use Rattle.pool.specs.Members.{FieldConstant, found, constant_at, field_constant}
-use Rattle.frames.specs.Slots.{to_reference}
+use Rattle.pool.specs.Lookups.{text_at, name_and_type_at, member, method}
+use Rattle.pool.specs.Members.{FieldConstant, MethodConstant, CallSite, found, constant_at, field_constant, method_constant, dynamic_type, call_site}
+use Rattle.type_numbers.specs.declared.method_numbers.MethodNumbers.{MethodNumbers}
 use Rattle.type_numbers.specs.declared.named_constant.NamedConstant.{NamedConstant}
-use Rattle.type_numbers.specs.declared.named_constant.NamedConstant.TheVariants.{Other, Field}
+use Rattle.type_numbers.specs.declared.named_constant.NamedConstant.TheVariants.{Other, Class, Field, Method, Loaded, Dynamic, Site}
 use Rattle.type_numbers.specs.Numbers.{Numbering}
-use Rattle.type_numbers.specs.Constants.{IsNumberOf, class_number_of, field_class_of, field_held_of, field_class, field_held}
+use Rattle.type_numbers.specs.Constants.{Meaning, IsDescribed, loaded_type}
 
 abbrev pub class_by : List Entry → Entry → Option ReferenceType
 class_by pool (entries.Class name) = option_and_then reference_type (found (text_at pool name))
@@ -21,22 +22,81 @@ field_by pool (entries.Fieldref class name_and_type) =
     option_and_then field_constant (found (member pool class name_and_type))
 field_by pool _ = None
 
-pub record IsEntryDescribed (s : Numbering) (pool : List Entry) (e : Entry) (c : NamedConstant) : Type 0 where
-  pub class : IsNumberOf s (class_number_of c) (option_map to_reference (class_by pool e))
-  pub field_class : IsNumberOf s (field_class_of c) (option_map field_class (field_by pool e))
-  pub field_held : IsNumberOf s (field_held_of c) (option_map field_held (field_by pool e))
+abbrev pub method_by : List Entry → Entry → Option MethodConstant
+method_by pool (entries.Methodref class name_and_type) =
+    option_and_then method_constant (found (method pool false class name_and_type))
+method_by pool (entries.InterfaceMethodref class name_and_type) =
+    option_and_then method_constant (found (method pool true class name_and_type))
+method_by pool _ = None
 
--- the indices of the texts of a Fieldref: of the name of its class, and of the descriptor, where its name is a text
+abbrev pub computed_by : List Entry → Entry → Option FieldDescriptor
+computed_by pool (entries.Dynamic bootstrap name_and_type) =
+    option_and_then dynamic_type (found (name_and_type_at pool name_and_type))
+computed_by pool _ = None
+
+abbrev pub site_by : List Entry → Entry → Option CallSite
+site_by pool (entries.InvokeDynamic bootstrap name_and_type) =
+    option_and_then call_site (found (name_and_type_at pool name_and_type))
+site_by pool _ = None
+
+abbrev pub meaning_by : List Entry → Entry → Meaning
+meaning_by pool e = record {
+  class = class_by pool e;
+  field = field_by pool e;
+  method = method_by pool e;
+  loaded = loaded_type e;
+  computed = computed_by pool e;
+  site = site_by pool e;
+}
+
+abbrev pub IsEntryDescribed : Numbering → List ℕ → List Entry → Entry → NamedConstant → Type 0
+IsEntryDescribed s row pool e c = IsDescribed s row (meaning_by pool e) c
+
+-- the indices of the texts of a member: of the name of its class, and of the descriptor, where its name is a text
 abbrev pub texts_by : Option Entry → Option Entry → (ℕ → Option (List ℕ)) → Option (ℕ × ℕ)
 texts_by (Some (entries.Class class)) (Some (entries.NameAndType name descriptor)) text =
     option_and_then (λ _. Some (class, descriptor)) (text name)
 texts_by _ _ text = None
 
-abbrev pub field_texts : List Entry → ℕ → ℕ → Option (ℕ × ℕ)
-field_texts pool class name_and_type =
+abbrev pub member_texts : List Entry → ℕ → ℕ → Option (ℕ × ℕ)
+member_texts pool class name_and_type =
     texts_by (constant_at pool class) (constant_at pool name_and_type) (λ i. found (text_at pool i))
+
+-- the index of the descriptor of a NameAndType whose name is a text
+abbrev pub descriptor_by : Option Entry → (ℕ → Option (List ℕ)) → Option ℕ
+descriptor_by (Some (entries.NameAndType name descriptor)) text = option_and_then (λ _. Some descriptor) (text name)
+descriptor_by _ text = None
+
+abbrev pub descriptor_index : List Entry → ℕ → Option ℕ
+descriptor_index pool name_and_type =
+    descriptor_by (constant_at pool name_and_type) (λ i. found (text_at pool i))
 
 -- a field of a class of this number, and of no array, which holds a type of that one
 abbrev pub field_of : Option ℕ → Option ℕ → NamedConstant
 field_of (Some class) (Some held) = if nat_lt 0 (class / 65536 % 256) then Other else Field class held
 field_of _ _ = Other
+
+-- a method of a class of this number, whose descriptor names these types
+abbrev pub method_of : Bool → Option ℕ → Option MethodNumbers → NamedConstant
+method_of interface (Some class) (Some types) = Method interface class types
+method_of interface _ _ = Other
+
+-- a constant that loads a value of the type of this number
+abbrev pub loaded_as : Option ℕ → NamedConstant
+loaded_as (Some loaded) = Loaded loaded
+loaded_as None = Other
+
+-- a Dynamic of the type of this number
+abbrev pub dynamic_of : Option ℕ → NamedConstant
+dynamic_of (Some held) = Dynamic held
+dynamic_of None = Other
+
+-- an InvokeDynamic whose descriptor names these types
+abbrev pub site_of : Option MethodNumbers → NamedConstant
+site_of (Some types) = Site types
+site_of None = Other
+
+-- a Class that names the type of this number, if it names one; its constant loads a type of the other
+abbrev pub class_as : Option ℕ → ℕ → NamedConstant
+class_as (Some class) loaded = Class class loaded
+class_as None loaded = Loaded loaded

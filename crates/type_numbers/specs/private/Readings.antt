@@ -3,11 +3,13 @@ use Rattle.std.specs.Prelude.{◌≡◌, ℕ, ◌+◌, List, Option, Some, None,
 use Rattle.std.specs.Option.{option_and_then}
 use Rattle.names.specs.Reading.{field_answer}
 use Rattle.names.specs.ReferenceTypes.{reference_type}
+use Rattle.names.specs.StandardNames.{string_name, class_name, method_type_name, method_handle_name}
 use Rattle.pool.specs.Entries.{Entry}
 use Rattle.pool.specs.Lookups.{text_at}
 use Rattle.pool.specs.Members.{found}
-use Rattle.frames.specs.VerificationType.{VerificationType}
+use Rattle.frames.specs.VerificationType.{VerificationType, class}
 use Rattle.frames.specs.Slots.{to_reference, descriptor_type}
+use Rattle.type_numbers.specs.declared.loaded_numbers.LoadedNumbers.{LoadedNumbers}
 use Rattle.type_numbers.specs.declared.text_numbers.Form.{Form}
 use Rattle.type_numbers.specs.declared.text_numbers.Form.TheVariants.{ClassName, FieldDescriptor}
 use Rattle.type_numbers.specs.declared.text_numbers.Reading.{Reading}
@@ -15,6 +17,7 @@ use Rattle.type_numbers.specs.declared.text_numbers.Reading.TheVariants.{Unread,
 use Rattle.type_numbers.specs.declared.text_numbers.TextNumbers.{TextNumbers}
 use Rattle.type_numbers.specs.declared.texts.Texts.{Texts}
 use Rattle.type_numbers.specs.Numbers.{Numbering, IsNumber}
+use Rattle.type_numbers.specs.MethodNumbers.{AreDescriptors, row_of}
 
 -- the type that a text names: as that of a Class constant, or as the descriptor of a field
 abbrev pub text_type : Form → List ℕ → Option VerificationType
@@ -41,9 +44,22 @@ pub record AreReadings (s : Numbering) (pool : List Entry) (t : TextNumbers) : T
   pub long : length t.readings.items ≡ length pool + 1
   pub read : (index : ℕ) → IsReading s (type_in t.form pool index) (reading_in t.readings.items index)
 
--- of the texts of a pool what was read of them, as the names of classes and as the descriptors of fields
+-- the row that the descriptors of methods share
+abbrev pub shared_row : Texts → List ℕ
+shared_row t = row_of t.methods
+
+-- the numbers of the classes of which constants load objects
+pub record AreLoaded (s : Numbering) (l : LoadedNumbers) : Type 0 where
+  pub string : IsNumber s l.string (class string_name)
+  pub class_object : IsNumber s l.class (class class_name)
+  pub method_type : IsNumber s l.method_type (class method_type_name)
+  pub method_handle : IsNumber s l.method_handle (class method_handle_name)
+
+-- the texts of a pool have these readings, as the names of classes and as the descriptors of fields and of methods
 pub record AreTexts (s : Numbering) (pool : List Entry) (t : Texts) : Type 0 where
   pub classes : AreReadings s pool t.classes
   pub class_form : t.classes.form ≡ ClassName
   pub descriptors : AreReadings s pool t.descriptors
   pub descriptor_form : t.descriptors.form ≡ FieldDescriptor
+  pub methods : AreDescriptors s pool t.methods
+  pub loaded : AreLoaded s t.loaded

@@ -1,15 +1,16 @@
-use Rattle.std.proofs.Common.{◌≡◌, subst, arith, length}
+use Rattle.std.proofs.Common.{◌≡◌, sym, subst, arith, length}
 use Rattle.std.proofs.lemmas.Grind.{common_steps}
 use Rattle.pool.specs.Views.{view}
-use Rattle.type_numbers.proofs.LawsOfNumbers.{extends_on, extends_itself}
+use Rattle.type_numbers.specs.private.Readings.{shared_row}
+use Rattle.type_numbers.proofs.LawsOfNumbers.{extends_on}
 use Rattle.type_numbers.proofs.Tables.{AreFilled, entry_here, fill_one, filled_none, filled_table, whole_pool}
 use Rattle.type_numbers.proofs.constant_table.ConstantTable.new.Goals as goal
 
 pub loop-constant-init : goal.loop-constant-init
 loop-constant-init g c = record {
-  filled = filled_none c.args.numbers.now c.args.pool.now c.push.new.self.items (grind (arith, common_steps));
-  texts = c.in_ok-texts.ensures c.args.numbers.now;
-  kept = extends_itself c.args.numbers.now;
+  filled = filled_none c.new.new.numbers (shared_row c.in_ok-texts.texts) c.args.pool.now c.push.new.self.items (grind (arith, common_steps));
+  texts = c.in_ok-texts.ensures.texts;
+  kept = c.new.ensures.kept;
 }
 
 pub returns-in_err-named-clause-kept : goal.returns-in_err-named-clause-kept
@@ -24,7 +25,8 @@ loop-constant-preserved g c =
     let item = c.constant-item.result in
     let at = entry_here c.constants-entries.result.now pool c.loop-constant.constant-index item c.constants-entries.ensures c.constant-item.is c.loop-constant-test.true in
     record {
-      filled = fill_one pool c.loop-constant.constants.items c.loop-constant.constant-index c.loop-constant.numbers c.constant.new.numbers c.constant.ensures.kept c.loop-constant.invariant.filled
+      filled = fill_one pool c.loop-constant.constants.items c.loop-constant.constant-index c.loop-constant.numbers c.constant.new.numbers c.constant.ensures.kept (shared_row c.loop-constant.texts) (shared_row c.constant.new.self)
+          c.in_ok-named.ensures.grown c.loop-constant.invariant.filled
           c.push-in-loop-constant.new.self.items c.in_ok-named.named (view item) c.in_ok-push-2.ensures.items at c.in_ok-named.ensures.described;
       texts = c.in_ok-named.ensures.texts;
       kept = extends_on c.args.numbers.now c.loop-constant.numbers c.constant.new.numbers c.loop-constant.invariant.kept c.constant.ensures.kept;
@@ -35,4 +37,7 @@ returns-clause-described g c =
     let pool = c.args.pool.now in
     let end : c.loop-constant.constant-index ≡ length c.constants-entries.result.now = omega (arith, c.loop-constant.auto.constant-index-end, c.loop-constant-test.false) in
     let all = whole_pool c.constants-entries.result.now pool c.loop-constant.constant-index c.constants-entries.ensures end in
-    filled_table c.loop-constant.numbers pool (record { constants = c.loop-constant.constants }) (subst (AreFilled c.loop-constant.numbers pool c.loop-constant.constants.items) all c.loop-constant.invariant.filled)
+    let items = c.loop-constant.constants.items in
+    filled_table c.loop-constant.numbers pool (record { constants = c.loop-constant.constants; arguments = c.into_row.result })
+    (subst (λ row. AreFilled c.loop-constant.numbers row pool items (length pool)) (sym c.into_row.ensures)
+    (subst (AreFilled c.loop-constant.numbers (shared_row c.loop-constant.texts) pool items) all c.loop-constant.invariant.filled))

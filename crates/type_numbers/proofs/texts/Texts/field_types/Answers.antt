@@ -1,8 +1,10 @@
 use Rattle.std.proofs.Common.{◌∙◌, subst}
-use Rattle.type_numbers.specs.Constants.{IsNumberOf}
+use Rattle.type_numbers.specs.Numbers.{IsNumberOf}
 use Rattle.type_numbers.specs.private.Readings.{type_in}
 use Rattle.type_numbers.proofs.FieldEntries.{number_of_stays}
 use Rattle.type_numbers.proofs.LawsOfNumbers.{extends_on}
+use Rattle.type_numbers.proofs.LoadedTypes.{loaded_stays}
+use Rattle.type_numbers.proofs.MethodReadings.{descriptors_stay}
 use Rattle.type_numbers.proofs.Readings.{readings_stay}
 use Rattle.type_numbers.proofs.texts.Texts.field_types.Goals as goal
 
@@ -21,6 +23,8 @@ returns-clause-texts g c = record {
   class_form = c.number.ensures.form ∙ c.requires.class_form;
   descriptors = c.in_ok-held.ensures.readings;
   descriptor_form = c.number-2.ensures.form ∙ c.requires.descriptor_form;
+  methods = descriptors_stay c.args.numbers.now c.number-2.new.numbers (extends_on c.args.numbers.now c.number.new.numbers c.number-2.new.numbers c.number.ensures.kept c.number-2.ensures.kept) c.args.pool.now c.args.self.now.methods c.requires.methods;
+  loaded = loaded_stays c.args.numbers.now c.number-2.new.numbers (extends_on c.args.numbers.now c.number.new.numbers c.number-2.new.numbers c.number.ensures.kept c.number-2.ensures.kept) c.args.self.now.loaded c.requires.loaded;
 }
 
 pub returns-clause-class : goal.returns-clause-class

@@ -1,6 +1,4 @@
-use Rattle.std.proofs.Common.{◌∙◌, ap, sym, refl, List, ℕ}
-use Rattle.std.specs.Borrow.{Bor}
-use Rattle.std.specs.Option.{option_map}
+use Rattle.std.proofs.Common.{◌∙◌, sym, refl}
 use Rattle.hierarchy.proofs.Names.{some_same}
 use Rattle.type_numbers.proofs.Given.{absent_given}
 use Rattle.type_numbers.proofs.Growing.{put_at}
