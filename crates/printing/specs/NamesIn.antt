@@ -4,7 +4,7 @@ use Rattle.std.specs.List.{flat_map}
 use Rattle.names.specs.Units.{units_of}
 use Rattle.pool.specs.declared.fault.PoolFault.{PoolFault}
 use Rattle.pool.specs.Entries.{Entry}
-use Rattle.pool.specs.Lookups.{class_name_at}
+use Rattle.pool.specs.Lookups.{text_at, class_name_at}
 use Rattle.printing.specs.Names.{name_text, spelled_text}
 use Rattle.printing.specs.Json.{character_text, spelled_units}
 use Rattle.printing.specs.declared.within.Within.{Within}
@@ -23,6 +23,9 @@ spelled_in Json bytes = flat_map character_text (spelled_units bytes)
 abbrev pub looked_up_in : Within → Result (List ℕ) PoolFault → List ℕ
 looked_up_in within (Ok bytes) = name_in within bytes
 looked_up_in within (Err fault) = []
+
+abbrev pub text_in : Within → List Entry → ℕ → List ℕ
+text_in within pool index = looked_up_in within (text_at pool index)
 
 abbrev pub class_in : Within → List Entry → ℕ → List ℕ
 class_in within pool index = looked_up_in within (class_name_at pool index)

@@ -1,14 +1,18 @@
-//! The part of a class file at a place.
+//! The part of a class file at a place, by its lines or by fields of an object of JSON.
 ghost use Rattle.std.specs.Prelude.{◌≡◌, [], map, slice_get};
 ghost use Rattle.std.specs.Option.{option_map_or};
 ghost use Rattle.classfile.specs.Views.{member_view, class_view};
 ghost use Rattle.printing.specs.Classes.{member_line};
-ghost use Rattle.printing.specs.Parts.{part_lines};
+ghost use Rattle.printing.specs.Json.{fields_then};
+ghost use Rattle.printing.specs.Parts.{part_lines, member_fields, super_fields, class_fields, part_fields};
 ghost use Rattle.printing.specs.Writing.{Writes};
 
-use crate::constants::ConstantLine;
+use crate::constants::{ConstantFields, ConstantLine};
+use crate::json::{Enclosed, More};
 use crate::listing::{Above, Head, MemberLine};
-use crate::print::{Print, Then, Word, WriteFailed};
+use crate::name::{ClassName, ConstantText, Hexadecimal};
+use crate::print::{Number, Print, Then, Word, WriteFailed};
+use crate::within::{ClassNameIn, TextIn, Within};
 use classfile::{ClassFile, Member, Place};
 use pool::Pool;
 use std::io::Write;
@@ -52,6 +56,131 @@ impl<'c, 'a> Print for PartLines<'c, 'a> {
             }
             Place::Field(number) => put_member(out, "  field ", pool, &class.fields, number),
             Place::Method(number) => put_member(out, "  method ", pool, &class.methods, number),
+        }
+    }
+}
+
+/// A field or a method as fields of an object of JSON, and then what stands behind them.
+#[derive(Clone, Copy)]
+struct MemberFields<'p, 'a, B> {
+    pool: &'p Pool<'a>,
+    member: &'p Member<'a>,
+    behind: B,
+}
+
+impl<'p, 'a, B: Print + Copy> Print for MemberFields<'p, 'a, B> {
+    ghost text = { λ t. fields_then (member_fields t.pool.now (member_view t.member.now)) (B.text t.behind) };
+
+    fn put<W: Write>(&self, out: &mut W) -> Result<(), WriteFailed> {
+        let name = ConstantText {
+            pool: self.pool,
+            index: self.member.name,
+        };
+        let descriptor = ConstantText {
+            pool: self.pool,
+            index: self.member.descriptor,
+        };
+        let descriptor = Enclosed(TextIn(Within::Json, descriptor));
+        let behind = More("descriptor", descriptor, self.behind);
+        let behind = More("name", Enclosed(TextIn(Within::Json, name)), behind);
+        let flags = Enclosed(Hexadecimal(self.member.access_flags));
+        More("flags", flags, behind).put(out)
+    }
+}
+
+/// Writes the field or method of this number as fields, if there is one, and then what stands behind them.
+fn put_member_fields<'p, 'a, W: Write, B: Print + Copy>(
+    out: &mut W,
+    pool: &'p Pool<'a>,
+    members: &'p [Member<'a>],
+    number: usize,
+    behind: B,
+) -> Result<(), WriteFailed>
+    ensures { Writes (W.contents out.old) (W.contents out.new)
+        (fields_then (option_map_or (member_fields pool.now) (slice_get (map member_view members.now) number) [])
+        (B.text behind)) result }
+{
+    match members.get(number) {
+        Some(member) => MemberFields {
+            pool,
+            member,
+            behind,
+        }
+        .put(out),
+        None => behind.put(out),
+    }
+}
+
+/// The name of the superclass as a field, if there is one, and then what stands behind it.
+#[derive(Clone, Copy)]
+struct SuperFields<'c, 'a, B>(ClassName<'c, 'a>, B);
+
+impl<'c, 'a, B: Print + Copy> Print for SuperFields<'c, 'a, B> {
+    ghost text = { λ t. fields_then (super_fields t.0.pool.now t.0.index) (B.text t.1) };
+
+    fn put<W: Write>(&self, out: &mut W) -> Result<(), WriteFailed> {
+        if self.0.index == 0 {
+            self.1.put(out)
+        } else {
+            let name = Enclosed(ClassNameIn(Within::Json, self.0));
+            More("super", name, self.1).put(out)
+        }
+    }
+}
+
+/// The class itself as fields: its name, its version, its flags and its superclass; and then what stands behind them.
+#[derive(Clone, Copy)]
+struct ClassFields<'c, 'a, B>(&'c ClassFile<'a>, B);
+
+impl<'c, 'a, B: Print + Copy> Print for ClassFields<'c, 'a, B> {
+    ghost text = { λ t. fields_then (class_fields (class_view t.0.now)) (B.text t.1) };
+
+    fn put<W: Write>(&self, out: &mut W) -> Result<(), WriteFailed> {
+        let class = self.0;
+        let pool = &class.constant_pool;
+        let name = ClassName {
+            pool,
+            index: class.this_class,
+        };
+        let above = ClassName {
+            pool,
+            index: class.super_class,
+        };
+        let flags = Enclosed(Hexadecimal(class.access_flags));
+        let behind = More("flags", flags, SuperFields(above, self.1));
+        let behind = More("minor", Number(class.minor_version), behind);
+        let behind = More("major", Number(class.major_version), behind);
+        let name = Enclosed(ClassNameIn(Within::Json, name));
+        More("name", name, behind).put(out)
+    }
+}
+
+/// The part of a class file at a place as fields of an object of JSON, and then what stands behind them. They say what
+/// the [`PartLines`] say.
+#[derive(Clone, Copy)]
+pub struct PartFields<'c, 'a, B> {
+    pub class: &'c ClassFile<'a>,
+    pub place: Place,
+    pub behind: B,
+}
+
+impl<'c, 'a, B: Print + Copy> Print for PartFields<'c, 'a, B> {
+    ghost text = { λ t. fields_then (part_fields (class_view t.class.now) t.place) (B.text t.behind) };
+
+    fn put<W: Write>(&self, out: &mut W) -> Result<(), WriteFailed> {
+        let class = self.class;
+        let pool = &class.constant_pool;
+        let behind = self.behind;
+        match self.place {
+            Place::Pool(index) => ConstantFields {
+                pool,
+                index,
+                behind,
+            }
+            .put(out),
+            Place::Class => ClassFields(class, behind).put(out),
+            Place::Field(number) => put_member_fields(out, pool, &class.fields, number, behind),
+            Place::Method(number) => put_member_fields(out, pool, &class.methods, number, behind),
         }
     }
 }

@@ -1,8 +1,8 @@
 //! Names in a line of words, or in a string of JSON.
-ghost use Rattle.printing.specs.NamesIn.{name_in, spelled_in, class_in};
+ghost use Rattle.printing.specs.NamesIn.{name_in, spelled_in, text_in, class_in};
 
 use crate::json::{NameCharacters, SpelledCharacters};
-use crate::name::{ClassName, Name, Spelled};
+use crate::name::{ClassName, ConstantText, Name, Spelled};
 use crate::print::{Print, Word, WriteFailed};
 use names::Text;
 use std::io::Write;
@@ -42,6 +42,21 @@ impl<'a> Print for SpelledIn<'a> {
         match self.0 {
             Within::Words => Spelled(self.1).put(out),
             Within::Json => SpelledCharacters(self.1).put(out),
+        }
+    }
+}
+
+/// The text at an index of the constant pool (JVMS 4.4.7), as it is written there.
+#[derive(Clone, Copy)]
+pub struct TextIn<'p, 'a>(pub Within, pub ConstantText<'p, 'a>);
+
+impl<'p, 'a> Print for TextIn<'p, 'a> {
+    ghost text = { λ t. text_in t.0 t.1.pool.now t.1.index };
+
+    fn put<W: Write>(&self, out: &mut W) -> Result<(), WriteFailed> {
+        match self.1.pool.text(self.1.index) {
+            Ok(text) => NameIn(self.0, text).put(out),
+            Err(_) => Word("").put(out),
         }
     }
 }
