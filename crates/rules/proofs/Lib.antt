@@ -20,4 +20,7 @@ pub mod Written
 pub mod Lesser
 pub mod Guarding
 pub mod Using
+pub mod TopDown
+pub mod NamedParts
+pub mod Expecting
 pub mod Taken

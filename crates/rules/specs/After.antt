@@ -106,7 +106,7 @@ element_of _ = top
 abbrev pub forgotten : ℕ → VerificationType → VerificationType
 forgotten at t = if is_made_at at t then top else t
 
--- once an `<init>` of the receiver has returned, the receiver has the type of its class
+-- once a constructor of the receiver has returned, the receiver has the type of its class
 abbrev pub initialized : VerificationType → List ℕ → VerificationType → VerificationType
 initialized receiver name t = if is_initialized receiver t then class name else t
 

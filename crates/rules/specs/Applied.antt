@@ -23,7 +23,7 @@ pub record Leaves (m : Method Act) (at : ℕ) (p : TypingRule) (f : FrameFact) (
   pub falls_is : a.falls ≡ falls p
   pub own_is : a.own ≡ constructs_own p f
 
--- a refusal for a missing class says whether an `<init>` is called on the own object
+-- a refusal for a missing class says whether a constructor is called on the own object
 abbrev pub TellsOwn : TypingRule → FrameFact → Reason → Bool → Type 0
 TellsOwn p f (ClassMissing name) own = own ≡ constructs_own p f
 TellsOwn p f _ own = Unit {0}

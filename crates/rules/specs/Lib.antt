@@ -16,5 +16,7 @@ pub mod Views
 pub mod Outcomes
 pub mod Applied
 pub mod Naming
+pub mod ExpectedTypes
+pub mod Unmet
 pub mod Protected
 pub mod Guards

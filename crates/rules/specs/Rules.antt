@@ -109,7 +109,7 @@ may_construct m name uninit_this = bytes_eq m.class name || is_name m.superclass
 may_construct m name (uninit at) = is_name (class_made_at m at) name
 may_construct m name _ = false
 
--- an `<init>` on the own object that is not initialized
+-- a constructor on the own object that is not initialized
 abbrev pub constructs_own : TypingRule → FrameFact → Bool
 constructs_own (constructs name expected_types) f = is_uninit_this (top_of (beneath expected_types f.stack))
 constructs_own _ f = false

@@ -53,7 +53,7 @@ at_most _ called site = 4
 
 -- ---- the items beneath
 
--- where a typing rule calls an `<init>` on an object, the item does not have the type of this object
+-- where a typing rule calls a constructor on an object, the item does not have the type of this object
 abbrev pub IsOther : TypingRule → FrameFact → ℕ → Type 0
 IsOther (constructs name expected_types) f i =
     is_initialized (top_of (beneath expected_types f.stack)) (item f.stack i) ≡ false

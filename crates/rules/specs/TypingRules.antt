@@ -37,7 +37,7 @@ pub data TypingRule : Type 0 where
   loads_element : TypingRule
   -- new
   makes : (class : List ℕ) → TypingRule
-  -- invokespecial of an `<init>`
+  -- invokespecial of a constructor
   constructs : (class : List ℕ) (expected_types : List ExpectedType) → TypingRule
   -- invokespecial of another method
   calls_special : (class : ReferenceType) (expected_types : List ExpectedType) (gives : List VerificationType)

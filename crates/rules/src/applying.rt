@@ -42,7 +42,7 @@ pub struct After<'a> {
 pub struct Refusal<'a> {
     /// The least reason.
     pub reason: Reason<'a>,
-    /// Whether the instruction calls an `<init>` on the own object, where the reason is 77. It says nothing for other
+    /// Whether the instruction calls a constructor on the own object, where the reason is 77. It says nothing for other
     /// reasons.
     pub own: bool,
 }

@@ -25,7 +25,7 @@ use names::{Base, OBJECT, Primitive, RefType};
 use std::alloc::{AllocError, Global};
 
 /// Any array of references.
-fn object_array<'a>() -> ExpectedType<'a>
+pub fn object_array<'a>() -> ExpectedType<'a>
     ensures { expected_view result ≡ object_array }
 {
     ExpectedType::Assignable(RefType::Array {
@@ -203,7 +203,7 @@ pub fn new_reference_array<'a, C: Classes>(
 }
 
 /// The expected types of so many sizes of dimensions.
-fn sizes<'a>(alloc: Global, count: u8) -> Result<Vec<ExpectedType<'a>>, AllocError>
+pub fn sizes<'a>(alloc: Global, count: u8) -> Result<Vec<ExpectedType<'a>>, AllocError>
     ensures { IfOk result (λ v. map expected_view v.items ≡ sizes count) }
 {
     let mut expected_types = Vec::new(alloc);

@@ -123,7 +123,7 @@ pub fn has_room_for_receiver(called: &MethodConstant<'_>) -> bool
 }
 
 /// Whether `invokestatic` may name the method.
-fn may_invoke_static(major: u16, called: &MethodConstant<'_>) -> bool
+pub fn may_invoke_static(major: u16, called: &MethodConstant<'_>) -> bool
     ensures { let c = method_constant_view called.now in
         result ≡ (is_class_type c.class && (not (is_init_name c) && may_name major c.interface)) }
 {
@@ -153,7 +153,7 @@ pub fn invoke_static<'a, C: Classes>(
 }
 
 /// Whether `invokevirtual` may name the method.
-fn may_invoke_virtual(called: &MethodConstant<'_>) -> bool
+pub fn may_invoke_virtual(called: &MethodConstant<'_>) -> bool
     ensures { let c = method_constant_view called.now in
         result ≡ (not c.interface && (not (is_init_name c) && has_room_for_receiver c)) }
 {
@@ -185,7 +185,7 @@ pub fn invoke_virtual<'a, C: Classes>(
 
 /// Whether `invokeinterface` may name the method, with a count that is to be the width of the arguments and the
 /// receiver.
-fn may_invoke_interface(count: u8, called: &MethodConstant<'_>) -> bool
+pub fn may_invoke_interface(count: u8, called: &MethodConstant<'_>) -> bool
     ensures { result ≡ may_invoke_interface count (method_constant_view called.now) }
 {
     is_of_class(called)
@@ -221,7 +221,7 @@ pub fn invoke_interface<'a, C: Classes>(
 
 /// Whether a call site has a name that does not begin with '<', as `<init>` and `<clinit>` do (JVMS 4.10.1.9,
 /// invokedynamic).
-fn may_be_called(site: &CallSite<'_>) -> bool
+pub fn may_be_called(site: &CallSite<'_>) -> bool
     ensures { result ≡ not (is_special_name (call_site_view site.now)) }
 {
     match site.name {

@@ -1,4 +1,4 @@
-//! Calls of instance initialization methods: `invokespecial` of an `<init>`.
+//! Calls of constructors by `invokespecial`.
 ghost use Rattle.std.specs.Prelude.{◌≡◌, ℕ, [], option_map};
 ghost use Rattle.classfile.specs.Methods.{is_name};
 ghost use Rattle.pool.specs.MemberViews.{method_constant_view};
@@ -49,7 +49,7 @@ fn is_name(known: Option<&[u8]>, name: &[u8]) -> bool
 
 /// Whether a constructor of the class may be called on the object: on the own object, one of the current class or of
 /// its direct superclass; on another object, one of the class of which `new` made it.
-fn may_construct<S: Starts>(
+pub fn may_construct<S: Starts>(
     method: &CodeMethod<'_, '_>,
     starts: &S,
     name: &[u8],

@@ -262,7 +262,7 @@ pub fn return_reference<'a, C: Classes>(
 }
 
 /// The reference type that is the result of a method, if its result is one.
-fn reference_of_result<'a>(result_type: Option<FieldType<'a>>) -> Option<RefType<'a>>
+pub fn reference_of_result<'a>(result_type: Option<FieldType<'a>>) -> Option<RefType<'a>>
     ensures { option_map reference_view result ≡ option_and_then referred_by (option_map type_of result_type.entry) }
 {
     match result_type {
@@ -272,7 +272,7 @@ fn reference_of_result<'a>(result_type: Option<FieldType<'a>>) -> Option<RefType
 }
 
 /// The kind of number that is the result of a method, if its result is a number.
-fn number_of_result(result_type: Option<FieldType<'_>>) -> Option<Kind>
+pub fn number_of_result(result_type: Option<FieldType<'_>>) -> Option<Kind>
     ensures { result ≡ result_kind (option_map type_of result_type.entry) }
 {
     match result_type {

@@ -86,9 +86,9 @@ pub fn get_field<'a, C: Classes>(
     }
 }
 
-/// The expected type of the object of a `putfield`: in an `<init>` it may be the own object, if the current class
+/// The expected type of the object of a `putfield`: in a constructor it may be the own object, if the current class
 /// declares the field.
-fn target_of<'a>(
+pub fn target_of<'a>(
     _method: &CodeMethod<'_, 'a>,
     field: &FieldConstant<'a>,
     own: bool,
@@ -103,7 +103,7 @@ fn target_of<'a>(
     }
 }
 
-/// `putfield` of the field that it names; `own` says that an `<init>` sets a field of the current class.
+/// `putfield` of the field that it names; `own` says that a constructor sets a field of the current class.
 #[inline(never)]
 pub fn put_field<'a, C: Classes>(
     method: &CodeMethod<'_, 'a>,

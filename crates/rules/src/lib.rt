@@ -12,6 +12,8 @@
 //! - `ways`: where an instruction goes, whether it is plain, and whether it leaves the locals as they are.
 //! - `kept_items`: how many items of the stack an instruction leaves as they are.
 //! - `replacing`: the uninitialized object whose type an instruction replaces in the locals.
+//! - `expected_types`: the expected types of all that an instruction takes; `unmet`: the first of them that a frame does
+//!   not meet.
 //!
 //! Instructions, family by family:
 //!
@@ -24,7 +26,7 @@
 //! - `fields`: instructions that read and write fields.
 //! - `calls`: instructions that call methods, all but `invokespecial`.
 //! - `special`: `invokespecial`; `constructing`: its calls of `<init>`.
-//! - `own_object`: whether an `<init>` is called on the own object.
+//! - `own_object`: whether a constructor is called on the own object.
 //! - `making`: `new`.
 //! - `arrays`: instructions that make arrays and read and write their elements; `checkcast` and `instanceof`.
 //!
@@ -49,6 +51,8 @@
 //! - `specs/After.antt`: the frame after; `specs/Replacing.antt`: an object whose type is replaced in it.
 //! - `specs/Ways.antt`: where instructions go; `specs/WayLaws.antt`: that their acts alone decide it.
 //! - `specs/Taken.antt`: how many items instructions take, and which stay.
+//! - `specs/ExpectedTypes.antt`: the expected types of all that an instruction takes; `specs/Unmet.antt`: the first of
+//!   them that a frame does not meet.
 //! - `specs/Applied.antt`, `specs/Outcomes.antt`: the answers of `apply`, and of the other calls.
 //! - `specs/Views.antt`, `specs/Bodies.antt`, `specs/Held.antt`: the meaning of the code's values, of a method, and of
 //!   the running frame.
@@ -65,6 +69,7 @@ mod constructing;
 mod declaring_class;
 mod environment;
 mod expected;
+mod expected_types;
 mod families;
 mod fields;
 mod guards;
@@ -83,6 +88,7 @@ mod slots;
 mod special;
 mod stacks;
 mod stores;
+mod unmet;
 mod ways;
 mod working;
 
@@ -90,6 +96,8 @@ pub use applying::{After, Refusal, apply};
 pub use class_constants::ClassConstants;
 pub use declaring_class::own_class;
 pub use environment::Env;
+pub use expected::ExpectedType;
+pub use expected_types::{ExpectedLocal, ExpectedTypes};
 pub use kept_items::{items_kept, items_kept_plainly};
 pub use members::Members;
 pub use merging::{first_reason, together};
@@ -99,6 +107,7 @@ pub use protected::check_member;
 pub use reason::Reason;
 pub use replacing::replaced_object;
 pub use running::{run, run_plain};
+pub use unmet::{Unmet, UnmetOperand, first_unmet};
 pub use ways::{
     branches, branches_by, falls, goes_on, is_plain, keeps_locals, stored_to,
     typing_rules_go_as_acts,

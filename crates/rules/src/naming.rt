@@ -26,7 +26,7 @@ pub enum Named<'a> {
     /// Its field.
     Field {
         field: Option<FieldConstant<'a>>,
-        /// Whether it is `putfield` of a field of the class itself, in an `<init>`.
+        /// Whether it is `putfield` of a field of the class itself, in a constructor.
         own: bool,
     },
     /// Its method.
@@ -68,7 +68,7 @@ impl<'a> Named<'a> {
         }
     }
 
-    /// Whether it is a field of the class itself that an `<init>` sets.
+    /// Whether it is a field of the class itself that a constructor sets.
     pub fn is_own(&self) -> bool
         ensures { result ≡ kept_own self.now }
     {
@@ -126,7 +126,7 @@ impl<'a> Named<'a> {
     }
 }
 
-/// Whether the method is an `<init>`, and its class declares the field that the Fieldref at an index names.
+/// Whether the method is a constructor, and its class declares the field that the Fieldref at an index names.
 fn is_own<'a>(
     fields: &mut OwnFields<'_, 'a>,
     method: &CodeMethod<'_, 'a>,

@@ -63,7 +63,7 @@ fn calls_special<'a, C: Classes>(
 }
 
 /// Whether `invokespecial` may name a method that is no constructor.
-fn may_call_special(major: u16, called: &MethodConstant<'_>) -> bool
+pub fn may_call_special(major: u16, called: &MethodConstant<'_>) -> bool
     ensures { let c = method_constant_view called.now in
         result ≡ (is_class_type c.class && (has_room_for_receiver c && may_name major c.interface)) }
 {

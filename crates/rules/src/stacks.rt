@@ -75,7 +75,7 @@ fn units_of_places(places: &[StackPlace]) -> usize
 }
 
 /// How many units all forms of an instruction take.
-fn units_taken(forms: &[StackForm]) -> usize
+pub fn units_taken(forms: &[StackForm]) -> usize
     requires { units_taken (map stack_form_view forms.now) ≤ 6 }
     ensures { result ≡ units_taken (map stack_form_view forms.now) }
 {

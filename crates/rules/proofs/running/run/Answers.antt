@@ -4,49 +4,12 @@ use Rattle.rules.specs.Held.{held}
 use Rattle.rules.specs.Table.{typing_rule, return_nothing}
 use Rattle.rules.specs.Bodies.{method_view}
 use Rattle.rules.proofs.Settling.{returned, by_typing_rule}
-use Rattle.std.specs.Prelude.{Bool, Option, option_map}
-use Rattle.std.specs.Option.{option_and_then}
-use Rattle.names.specs.References.{reference_view}
-use Rattle.names.specs.declared.references.RefType.{RefType}
-use Rattle.pool.specs.declared.reference.FieldConstant.{FieldConstant}
-use Rattle.names.specs.declared.descriptor.FieldType.{FieldType}
-use Rattle.names.specs.Types.{type_of}
-use Rattle.pool.specs.Members.{constant_at, class_at, field_at, method_at, dynamic_type_at, call_site_at}
-use Rattle.pool.specs.MemberViews.{field_constant_view, method_constant_view, call_site_view}
-use Rattle.classfile.specs.Methods.{Method}
-use Rattle.insn.specs.Meanings as acts
-use Rattle.insn.specs.declared.operation.Act.{Act}
-use Rattle.rules.specs.declared.naming.Named.{Named}
-use Rattle.rules.specs.Naming.{IsNamed, class_index, field_index, method_index, loaded_index, site_index, names_bootstrapped, kept_class, kept_field, kept_method, kept_type, kept_site, kept_bootstrapped}
+use Rattle.std.specs.Prelude.{Bool}
+use Rattle.pool.specs.Members.{constant_at, call_site_at}
 use Rattle.rules.specs.Constants.{get_static, put_static, get_field, put_field, invoke_static, invoke_virtual, invoke_special, invoke_interface, invoke_dynamic, load_constant, load_wide_constant, new_reference_array, new_multi_array, check_cast, instance_of}
+use Rattle.rules.proofs.NamedParts.{class_is, field_is, method_is, computed_is, site_is, bootstrapped_is}
 use Rattle.rules.proofs.Plainly.{plain_else}
 use Rattle.rules.proofs.running.run.Goals as goal
-
-class_is : (m : Method acts.Act) (act other : Act) (n : Named) (r : Option RefType) → r ≡ kept_class n → IsNamed m (act_view act) n → act ≡ other
-    → option_map reference_view r ≡ option_and_then (class_at m.constant_pool) (class_index (act_view other))
-class_is m act other n r k h e = ap (option_map reference_view) k ∙ h.class ∙ ap (λ a. option_and_then (class_at m.constant_pool) (class_index (act_view a))) e
-
-field_is : (m : Method acts.Act) (act other : Act) (n : Named) (r : Option FieldConstant) → r ≡ kept_field n → IsNamed m (act_view act) n → act ≡ other
-    → option_map field_constant_view r ≡ option_and_then (field_at m.constant_pool) (field_index (act_view other))
-field_is m act other n r k h e =
-    ap (option_map field_constant_view) k ∙ h.field ∙ ap (λ a. option_and_then (field_at m.constant_pool) (field_index (act_view a))) e
-
-method_is : (m : Method acts.Act) (act other : Act) (n : Named) → IsNamed m (act_view act) n → act ≡ other
-    → option_map method_constant_view (kept_method n) ≡ option_and_then (method_at m.constant_pool) (method_index (act_view other))
-method_is m act other n h e = h.method ∙ ap (λ a. option_and_then (method_at m.constant_pool) (method_index (act_view a))) e
-
-computed_is : (m : Method acts.Act) (act other : Act) (n : Named) (t : Option FieldType) → t ≡ kept_type n → IsNamed m (act_view act) n → act ≡ other
-    → option_map type_of t ≡ option_and_then (dynamic_type_at m.constant_pool) (loaded_index (act_view other))
-computed_is m act other n t k h e =
-    ap (option_map type_of) k ∙ h.computed ∙ ap (λ a. option_and_then (dynamic_type_at m.constant_pool) (loaded_index (act_view a))) e
-
-site_is : (m : Method acts.Act) (act other : Act) (n : Named) → IsNamed m (act_view act) n → act ≡ other
-    → option_map call_site_view (kept_site n) ≡ option_and_then (call_site_at m.constant_pool) (site_index (act_view other))
-site_is m act other n h e = h.site ∙ ap (λ a. option_and_then (call_site_at m.constant_pool) (site_index (act_view a))) e
-
-bootstrapped_is : (m : Method acts.Act) (act other : Act) (n : Named) (b : Bool) → b ≡ kept_bootstrapped n → IsNamed m (act_view act) n → act ≡ other
-    → b ≡ names_bootstrapped m (act_view other)
-bootstrapped_is m act other n b k h e = k ∙ h.bootstrapped ∙ ap (λ a. names_bootstrapped m (act_view a)) e
 
 pub returns-in-ReturnReference : goal.returns-in-ReturnReference
 returns-in-ReturnReference g c =
