@@ -3,7 +3,7 @@ import json
 import re
 from dataclasses import replace
 
-from tools.assembler import class_info, member, utf8
+from tools.assembler import class_info, member, name_and_type, utf8
 from tools.class_k import K, OBJECT_CLASS, code_f, with_constant
 
 # Behind the number of a refusal: what stands in the line, and the fields that it is.
@@ -69,11 +69,18 @@ EXPLAINED = [
     (r"stack (\d+) locals (\d+)", "sizes"),
     (r"constant (.*)", "constant"),
     (r"catch (.*)", "exception_table"),
+    (r"(target|handler) (\d+)", "place"),
     (r"(local|stack) (\d+): (.*) is not assignable to (.*)", "mismatch"),
+    (r"operand (\d+) of (\d+): expected (.*), found (.*)", "operand"),
+    (r"local (\d+): expected (.*), found (.*)", "local"),
+    (r"stack: expected units (\d+), found (\d+)", "stack_units"),
     (r"stack: items that come (\d+), declared (\d+)", "stack_size"),
     (r"flags: flagThisUninit comes and is not declared", "flags"),
     (r"((?:declared )?(?:locals|stack|flags))((?: .*)?)", "frame"),
     (r"(\d+ [a-z].*)", "instruction"),
+    (r"class (.*) major (\d+) minor (\d+) flags ([0-9a-f]{4})", "class"),
+    (r"super (.*)", "super"),
+    (r"(?:field|method) ([0-9a-f]{4}) (.*) (.*)", "member"),
 ]
 
 
@@ -82,12 +89,27 @@ def explained_line(line):
     found, kind = next((it, kind) for pattern, kind in EXPLAINED if (it := re.fullmatch(pattern, line)))
     if kind == "sizes":
         return [("max_stack", int(found[1])), ("max_locals", int(found[2]))]
+    if kind == "place":
+        return [(found[1], int(found[2]))]
     if kind == "mismatch":
         return [("differs", found[1]), ("index", int(found[2])), ("type", unescaped(found[3])), ("declared_type", unescaped(found[4]))]
+    if kind == "operand":
+        there = [] if found[4] == "none" else [("type", unescaped(found[4]))]
+        return [("differs", kind), ("index", int(found[1])), ("count", int(found[2])), ("expected_type", unescaped(found[3])), *there]
+    if kind == "local":
+        return [("differs", kind), ("index", int(found[1])), ("expected_type", unescaped(found[2])), ("type", unescaped(found[3]))]
+    if kind == "stack_units":
+        return [("differs", kind), ("expected_units", int(found[1])), ("units", int(found[2]))]
     if kind == "stack_size":
         return [("differs", kind), ("size", int(found[1])), ("declared_size", int(found[2]))]
     if kind == "flags":
         return [("differs", kind)]
+    if kind == "class":
+        return [("name", unescaped(found[1])), ("major", int(found[2])), ("minor", int(found[3])), ("flags", found[4])]
+    if kind == "super":
+        return [] if found[1] == "none" else [(kind, unescaped(found[1]))]
+    if kind == "member":
+        return [("flags", found[1]), ("name", unescaped(found[2])), ("descriptor", unescaped(found[3]))]
     if kind == "frame":
         return [(found[1].replace(" ", "_"), [unescaped(it) for it in found[2][1:].split(", ")] if found[2] else [])]
     return [(kind, unescaped(found[1]))]
@@ -114,7 +136,7 @@ def wanted_of_explained(text):
             objects.append((line, []))
         else:
             objects[-1][1].append(line[2:])
-    return [[*fields(line), *explained(below if line.startswith("method ") else below[:1])] for line, below in objects]
+    return [[*fields(line), *explained(below)] for line, below in objects]
 
 
 def wanted(text):
@@ -140,6 +162,29 @@ NAME = b"\"\\\xc0\x80 \xed\xa0\xbd\xed\xb2\xa9\xed\xa0\xbd~\x7f\xc3\xa9"
 ESCAPED = r'"\u0022\u005c\u0000 \ud83d\udca9\ud83d~\u007f\u00e9"'
 
 
+def parts_at_fault():
+    """Parts at fault that have this name: a class, a field and a constant."""
+    named = with_constant(2, utf8(NAME))
+    flagged = replace(named, flags=0x0221).data()
+    yield "a class at fault of this name", ["explain", "--json"], [flagged], (
+        '{"kind":"class","answer":"refused","number":24,"place":"class",'
+        '"sentence":"BadFlags: access flags stand together that may not, or one stands without another that it needs",'
+        f'"name":{ESCAPED},"major":52,"minor":0,"flags":"0221","super":"java/lang/Object"}}\n'
+    )
+    repeated = replace(K, constants=[*K.constants, utf8(NAME), utf8("I")], fields=[member(0x0010, 8, 9)] * 2).data()
+    yield "a field at fault of this name", ["explain", "--json"], [K.data(), OBJECT_CLASS, repeated], (
+        '{"kind":"known","position":2,"answer":"refused","number":25,"place":"field","index":1,'
+        '"sentence":"Twice: an earlier field or method has this name and descriptor",'
+        f'"flags":"0010","name":{ESCAPED},"descriptor":"I"}}\n'
+    )
+    typed = replace(K, constants=[*K.constants, utf8(NAME), name_and_type(5, 8)]).data()
+    yield "a constant at fault with this name", ["explain", "--json"], [typed], (
+        '{"kind":"class","answer":"refused","number":23,"place":"pool","index":9,'
+        '"sentence":"BadDescriptor: a descriptor is not of its form, passes its limits, or is none that the method may have",'
+        f'"constant":"9 NameAndType #5 #8 f {ESCAPED[1:-1]}"}}\n'
+    )
+
+
 def escapes():
     """Names with each kind of escape: the words, the files, and the line as it stands."""
     named = with_constant(2, utf8(NAME)).data()
@@ -156,5 +201,6 @@ def escapes():
         f'"instruction":"0 new #9","constant":"9 Class #8 {called}","locals":["Class {called}"],"stack":[]}}\n'
     )
     yield "a method with a name in its frame", ["explain", "--json"], [makes, OBJECT_CLASS], explained_object
+    yield from parts_at_fault()
     yield "a class", ["check", "--json"], [K.data()], '{"kind":"file","answer":"ok"}\n'
     yield "a method", ["verify", "--json"], [K.data(), OBJECT_CLASS], '{"kind":"method","name":"f","descriptor":"()V","answer":"verified"}\n'

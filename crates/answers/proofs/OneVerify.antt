@@ -32,7 +32,7 @@ use Rattle.answers.specs.declared.command.Form.{Form}
 use Rattle.answers.specs.declared.command.Form.TheVariants.{Plain, Json}
 use Rattle.answers.specs.declared.manner.Manner.{Manner}
 use Rattle.answers.specs.declared.manner.Manner.TheVariants.{Told, Explained}
-use Rattle.printing.specs.Parts.{part_lines}
+use Rattle.printing.specs.Parts.{part_lines, part_fields}
 use Rattle.answers.specs.Sentences.{sentence, fault_sentence, sentence_line, fault_line, reason_lines, sentence_fields, reason_sentence_fields, file_fault_number}
 use Rattle.answers.specs.Explanations.{code_part, code_fields, explanation, explanation_object, explanations}
 use Rattle.verify.specs.declared.files.FileFault.{FileFault}
@@ -40,7 +40,7 @@ use Rattle.verify.specs.declared.files.FileFault.TheVariants as files
 use Rattle.verify.specs.declared.files.FileFault.TheVariants.{Malformed}
 use Rattle.verify.specs.Files.{Read, IsFormed, IsRefused, AreFormed, IsFirstRefused}
 use Rattle.answers.specs.Files.{refusal_status}
-use Rattle.answers.specs.Verdicts.{class_object, class_refusal, known_object, known_refusal, explained, verdict_object, IsPart, IsTold, hierarchy_told, IsReportTold, fault_name, named_field, name_fields, hierarchy_refusal, reason_ending, reason_fields, verdict_text, verdict_fields, verdict_line, is_refusal, ClassSays, HierarchySays, KnownSays, VerifySays}
+use Rattle.answers.specs.Verdicts.{class_object, class_refusal, known_object, known_refusal, explained, verdict_object, IsPart, ArePartFields, IsTold, hierarchy_told, IsReportTold, fault_name, named_field, name_fields, hierarchy_refusal, reason_ending, reason_fields, verdict_text, verdict_fields, verdict_line, is_refusal, ClassSays, HierarchySays, KnownSays, VerifySays}
 use Rattle.answers.proofs.OneFile.{Laws, one_formed, not_refused, one_refusal}
 
 false_true : false ≡ true → ⊥
@@ -301,10 +301,19 @@ module _ (laws : Laws) where
   one_part read (files.Unread fault) text other p q = p ∙ sym q
   one_part read (files.NoClass fault) text other p q = p ∙ sym q
 
+  one_part_fields : (read : Read) (r : FileFault) (fields other : List Field) → ArePartFields read r fields → ArePartFields read r other → fields ≡ other
+  one_part_fields (Ok bytes) (Malformed rule place) fields other (c, p, e) (d, q, f) =
+      e ∙ ap (λ (x : Class). part_fields x place) (laws.one_class bytes c d p q) ∙ sym f
+  one_part_fields (Err fault) (Malformed rule place) fields other (c, p, e) q = absurd p
+  one_part_fields read files.OutOfMemory fields other p q = p ∙ sym q
+  one_part_fields read (files.Unread fault) fields other p q = p ∙ sym q
+  one_part_fields read (files.NoClass fault) fields other p q = p ∙ sym q
+
   one_told : (manner : Manner) (read : Read) (r : FileFault) (line : Form → List ℕ) (object : List ℕ → List ℕ) (text other : List ℕ)
       → IsTold manner read r line object text → IsTold manner read r line object other → text ≡ other
   one_told (Told form) read r line object text other p q = p ∙ sym q
-  one_told (Explained Json) read r line object text other p q = p ∙ sym q
+  one_told (Explained Json) read r line object text other (a, p, e) (b, q, f) =
+      e ∙ ap (λ x. object (fields_then (sentence_fields (file_fault_number r)) (fields_behind x))) (one_part_fields read r a b p q) ∙ sym f
   one_told (Explained Plain) read r line object text other (a, p, e) (b, q, f) =
       e ∙ ap (λ x. line Plain ++ (sentence_line (file_fault_number r) ++ x)) (one_part read r a b p q) ∙ sym f
 

@@ -2,6 +2,8 @@ pub mod Answers
 pub mod Laws
 pub mod Texts
 pub mod Sentences
+pub mod Unmet
+pub mod Details
 pub mod Explanations
 pub mod Files
 pub mod Verdicts

@@ -1,5 +1,5 @@
 -- The answers to `verify` and `explain` about a class among its known classes.
-use Rattle.std.specs.Prelude.{◌≡◌, ◌≢◌, ◌⊎◌, ℕ, ◌+◌, Bool, true, false, if◌then◌else◌, List, [], ◌∷◌, ◌++◌, map, codes, decimal, Option}
+use Rattle.std.specs.Prelude.{◌≡◌, ◌≢◌, ◌⊎◌, ℕ, ◌+◌, Bool, true, false, if◌then◌else◌, List, [], ◌∷◌, ◌++◌, map, codes, decimal, Option, Some, None}
 use Rattle.std.specs.List.{flat_map, list_any}
 use Rattle.pool.specs.Entries.{Entry}
 use Rattle.classfile.specs.Values.{CodeBody, Class}
@@ -24,7 +24,7 @@ use Rattle.verify.specs.Coming.{FramesFact, AreFramed}
 use Rattle.verify.specs.Reports.{IsReport}
 use Rattle.printing.specs.Faults.{at_text}
 use Rattle.printing.specs.Names.{name_text, spelled_text}
-use Rattle.printing.specs.Json.{Field, number, spelled, name, object_then, object_line, fields_behind}
+use Rattle.printing.specs.Json.{Field, number, spelled, name, object_then, object_line, fields_then, fields_behind}
 use Rattle.answers.specs.Texts.{refusal_text, refusal_fields, kind, answer}
 use Rattle.answers.specs.declared.command.Form.{Form}
 use Rattle.answers.specs.declared.command.Form.TheVariants.{Plain, Json}
@@ -32,7 +32,7 @@ use Rattle.answers.specs.declared.manner.Manner.{Manner}
 use Rattle.answers.specs.declared.manner.Manner.TheVariants.{Told, Explained}
 use Rattle.answers.specs.Sentences.{sentence_line, sentence_fields, file_fault_number}
 use Rattle.answers.specs.Explanations.{explanation, explanation_object, explanations}
-use Rattle.printing.specs.Parts.{part_lines}
+use Rattle.printing.specs.Parts.{part_lines, part_fields}
 use Rattle.verify.specs.declared.files.FileFault.{FileFault}
 use Rattle.verify.specs.declared.files.FileFault.TheVariants.{Malformed}
 use Rattle.verify.specs.Files.{Read, IsDecoded, IsFormed, IsRefused, AreFormed, IsFirstRefused}
@@ -52,6 +52,12 @@ abbrev pub known_object : ℕ → FileFault → List ℕ → List ℕ
 known_object position r rest =
     object_then (kind (codes "known"))
     ((codes "position", number position) ∷ answer (codes "refused") ∷ refusal_fields r) rest
+
+-- the object of a file that is refused: as the known class at this position, or, where there is none, as the class to
+-- be verified
+abbrev pub file_object : Option ℕ → FileFault → List ℕ → List ℕ
+file_object None r rest = class_object r rest
+file_object (Some position) r rest = known_object position r rest
 
 -- the refusal of the known class at this position, counted from 1
 abbrev pub known_refusal : Form → ℕ → FileFault → List ℕ
@@ -168,11 +174,21 @@ abbrev pub IsExplained : Read → FileFault → List ℕ → List ℕ → Type 0
 IsExplained read r line text = (part : List ℕ) × IsPart read r part
     × (text ≡ line ++ (sentence_line (file_fault_number r) ++ part))
 
+-- the fields of the part of a class that breaks a rule; none for any other refusal of a file
+abbrev pub ArePartFields : Read → FileFault → List Field → Type 0
+ArePartFields read (Malformed rule place) fields = (c : Class) × IsDecoded read c × (fields ≡ part_fields c place)
+ArePartFields read r fields = fields ≡ []
+
+-- the object of `explain` about a file that is refused, whose first fields are written by `begun`
+abbrev pub IsExplainedObject : Read → FileFault → (List ℕ → List ℕ) → List ℕ → Type 0
+IsExplainedObject read r begun text = (part : List Field) × ArePartFields read r part
+    × (text ≡ begun (fields_then (sentence_fields (file_fault_number r)) (fields_behind part)))
+
 -- the text about a file that is refused, by its line in each form and its object of JSON
 abbrev pub IsTold : Manner → Read → FileFault → (Form → List ℕ) → (List ℕ → List ℕ) → List ℕ → Type 0
 IsTold (Told form) read r line object text = text ≡ line form
 IsTold (Explained Plain) read r line object text = IsExplained read r (line Plain) text
-IsTold (Explained Json) read r line object text = text ≡ object (fields_behind (sentence_fields (file_fault_number r)))
+IsTold (Explained Json) read r line object text = IsExplainedObject read r object text
 
 abbrev pub hierarchy_told : Manner → HierarchyFault → List ℕ
 hierarchy_told (Told form) f = hierarchy_refusal form f

@@ -1,20 +1,22 @@
 //! The lines of `explain` about the methods of a class, or its objects of JSON.
 ghost use Rattle.std.specs.Prelude.{◌≡◌, map, [], codes, option_map};
 ghost use Rattle.classfile.specs.Methods.{code_of};
-ghost use Rattle.classfile.specs.Views.{member_view, code_view};
+ghost use Rattle.classfile.specs.Views.{member_view, code_view, handler_view};
 ghost use Rattle.frames.specs.FrameFact.{frame_of};
 ghost use Rattle.frames.specs.Differences.{difference_of};
 ghost use Rattle.rules.specs.Reasons.{reason_number};
 ghost use Rattle.verify.specs.Coming.{before, frames_view};
-ghost use Rattle.answers.specs.Explanations.{is_of_table, entries_for, lines_if, difference_line_of, is_of_entry, frames_for, code_part, explanation, frame_fields_of, declared_fields_of, difference_fields_of, frame_fields_for, entry_fields_for, code_fields, explanation_object, explanations};
+ghost use Rattle.answers.specs.Details.{detail_for, detail_line_of, detail_fields_of, detail_of};
+ghost use Rattle.answers.specs.Explanations.{is_of_table, entry_for, entry_at, entry_lines, lines_if, difference_line_of, is_of_entry, frames_for, code_part, explanation, frame_fields_of, declared_fields_of, difference_fields_of, frame_fields_for, entry_fields, code_fields, explanation_object, explanations};
 ghost use Rattle.printing.specs.Json.{fields_then, fields_behind};
 ghost use Rattle.answers.specs.Verdicts.{verdict_line, verdict_object, explained};
 ghost use Rattle.answers.specs.declared.command.Form.TheVariants.{Plain};
 
 use crate::command::Form;
+use crate::details::{DetailFieldsIf, DetailIf, detail_for};
 use crate::sentences::{ReasonSentenceFields, ReasonSentences};
 use crate::verdicts::{VerdictLine, VerdictObject};
-use classfile::{CodeAttr, Member};
+use classfile::{CodeAttr, ExceptionHandler, Member};
 use frames::{Difference, Frame};
 use pool::Pool;
 use printing::{
@@ -36,27 +38,52 @@ fn is_of_table(reason: &Reason<'_>) -> bool
     }
 }
 
-/// The lines of the exception table of code, where a reason is about it.
+/// The place of the entry that a reason is about, if it is about one.
+fn entry_for(reason: &Reason<'_>, frames: &FramesAt<'_>) -> Option<usize>
+    ensures { result ≡ entry_for (reason_number reason.now) (frames_view frames.now) }
+{
+    match reason {
+        Reason::BadException => frames.refused_entry,
+        Reason::HandlerNotAssignable => match frames.handler {
+            Some((place, _)) => Some(place),
+            None => None,
+        },
+        Reason::ConstructorCovered => frames.covering_entry,
+        _ => None,
+    }
+}
+
+/// The entry at a place of an exception table, if there is one.
+fn entry_at<'m>(table: &'m [ExceptionHandler], place: Option<usize>) -> &'m [ExceptionHandler]
+    ensures { map handler_view result.now ≡ entry_at (map handler_view table.now) place }
+{
+    let Some(place) = place else {
+        return &table[..0];
+    };
+    if place >= table.len() {
+        return &table[..0];
+    }
+    &table[place..place + 1]
+}
+
+/// The line of the entry of the exception table that a reason is about.
 #[derive(Clone, Copy)]
-struct Entries<'m, 'a> {
+struct EntryLines<'m, 'r, 'a> {
     reason: Reason<'a>,
     pool: &'m Pool<'a>,
     body: &'m CodeAttr<'a>,
+    frames: &'r FramesAt<'a>,
 }
 
-impl<'m, 'a> Print for Entries<'m, 'a> {
-    ghost text = { λ t. entries_for (reason_number t.reason) t.pool.now (code_view t.body.now) };
+impl<'m, 'r, 'a> Print for EntryLines<'m, 'r, 'a> {
+    ghost text = { λ t. entry_lines (reason_number t.reason) t.pool.now (code_view t.body.now)
+        (frames_view t.frames.now) };
 
     fn put<W: Write>(&self, out: &mut W) -> Result<(), WriteFailed> {
-        if is_of_table(&self.reason) {
-            Handlers {
-                pool: self.pool,
-                table: &self.body.exception_table,
-            }
-            .put(out)
-        } else {
-            Word("").put(out)
-        }
+        let place = entry_for(&self.reason, self.frames);
+        let pool = self.pool;
+        let table = entry_at(&self.body.exception_table, place);
+        Handlers { pool, table }.put(out)
     }
 }
 
@@ -148,7 +175,8 @@ impl<'r, 'a> Print for FramesFor<'r, 'a> {
             let declared = Then(Declared(self.frames), Differing(self.frames));
             Then(Coming(self.frames), declared).put(out)
         } else {
-            Before(self.frames).put(out)
+            let detail = DetailIf(detail_for(&self.reason, self.frames));
+            Then(Before(self.frames), detail).put(out)
         }
     }
 }
@@ -179,7 +207,12 @@ impl<'m, 'r, 'a> Print for CodePart<'m, 'r, 'a> {
                     reason,
                     frames: self.frames,
                 };
-                let entries = Entries { reason, pool, body };
+                let entries = EntryLines {
+                    reason,
+                    pool,
+                    body,
+                    frames: self.frames,
+                };
                 let named = NamedAt { pool, code, at };
                 let behind = Then(named, Then(frames, entries));
                 let behind = Then(InstructionAt { code, at }, behind);
@@ -224,23 +257,26 @@ impl<'m, 'r, 'a> Print for Explanation<'m, 'r, 'a> {
     }
 }
 
-/// The exception table of code as the last field of an object, where a reason is about it, and then the end of the
-/// object.
+/// The entry of the exception table that a reason is about as the last field of an object, where it is about one, and
+/// then the end of the object.
 #[derive(Clone, Copy)]
-struct EntryFields<'m, 'a> {
+struct EntryFields<'m, 'r, 'a> {
     reason: Reason<'a>,
     pool: &'m Pool<'a>,
     body: &'m CodeAttr<'a>,
+    frames: &'r FramesAt<'a>,
 }
 
-impl<'m, 'a> Print for EntryFields<'m, 'a> {
-    ghost text = { λ t. fields_behind (entry_fields_for (reason_number t.reason) t.pool.now (code_view t.body.now)) };
+impl<'m, 'r, 'a> Print for EntryFields<'m, 'r, 'a> {
+    ghost text = { λ t. fields_behind (entry_fields (reason_number t.reason) t.pool.now (code_view t.body.now)
+        (frames_view t.frames.now)) };
 
     fn put<W: Write>(&self, out: &mut W) -> Result<(), WriteFailed> {
         if is_of_table(&self.reason) {
+            let place = entry_for(&self.reason, self.frames);
             HandlersField {
                 pool: self.pool,
-                table: &self.body.exception_table,
+                table: entry_at(&self.body.exception_table, place),
                 behind: END,
             }
             .put(out)
@@ -309,7 +345,7 @@ impl<'a, B: Print + Copy> Print for DifferenceIf<'a, B> {
     }
 }
 
-/// The fields of the frames at the instruction at which a method is refused for a reason, and then the text behind
+/// The fields of the frames at the instruction at which a method is refused for a reason, and then what stands behind
 /// them.
 #[derive(Clone, Copy)]
 struct FrameFieldsFor<'r, 'a, B> {
@@ -328,9 +364,11 @@ impl<'r, 'a, B: Print + Copy> Print for FrameFieldsFor<'r, 'a, B> {
             let difference = DifferenceIf(self.frames.difference, self.behind);
             FrameIf(coming, DeclaredIf(declared, difference)).put(out)
         } else {
+            let detail = detail_for(&self.reason, self.frames);
+            let behind = DetailFieldsIf(detail, self.behind);
             match declared {
-                Some(_) => FrameIf(declared, self.behind).put(out),
-                None => FrameIf(coming, self.behind).put(out),
+                Some(_) => FrameIf(declared, behind).put(out),
+                None => FrameIf(coming, behind).put(out),
             }
         }
     }
@@ -361,7 +399,12 @@ impl<'m, 'r, 'a> Print for CodeFields<'m, 'r, 'a> {
                 let frames = FrameFieldsFor {
                     reason,
                     frames: self.frames,
-                    behind: EntryFields { reason, pool, body },
+                    behind: EntryFields {
+                        reason,
+                        pool,
+                        body,
+                        frames: self.frames,
+                    },
                 };
                 let named = NamedFields {
                     pool,

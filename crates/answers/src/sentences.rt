@@ -297,15 +297,15 @@ impl<'a> Print for ReasonSentences<'a> {
     }
 }
 
-/// The sentence on the refusal of a file as the last field of an object.
+/// The sentence on the refusal of a file as a field, and then the text behind it.
 #[derive(Clone, Copy)]
-pub struct FileSentenceField(pub FileFault);
+pub struct FileSentenceFields<B>(pub FileFault, pub B);
 
-impl Print for FileSentenceField {
-    ghost text = { λ t. fields_behind (sentence_fields (file_fault_number t.0)) };
+impl<B: Print + Copy> Print for FileSentenceFields<B> {
+    ghost text = { λ t. fields_then (sentence_fields (file_fault_number t.0)) (B.text t.1) };
 
     fn put<W: Write>(&self, out: &mut W) -> Result<(), WriteFailed> {
-        More("sentence", Quoted(FileSentence(self.0).line().text), END).put(out)
+        More("sentence", Quoted(FileSentence(self.0).line().text), self.1).put(out)
     }
 }
 

@@ -3,7 +3,7 @@ ghost use Rattle.std.specs.Prelude.{◌≡◌};
 ghost use Rattle.std.specs.List.{flat_map};
 ghost use Rattle.printing.specs.Writing.{Writes};
 ghost use Rattle.printing.specs.Json.{fields_then};
-ghost use Rattle.answers.specs.Verdicts.{class_object, class_refusal, known_object, known_refusal, fault_name, named_field, name_fields, hierarchy_object, hierarchy_refusal, final_super_refusal, reason_ending, reason_fields, verdict_text, verdict_fields, verdict_object, verdict_line, is_refusal, report_status};
+ghost use Rattle.answers.specs.Verdicts.{class_object, class_refusal, known_object, file_object, known_refusal, fault_name, named_field, name_fields, hierarchy_object, hierarchy_refusal, final_super_refusal, reason_ending, reason_fields, verdict_text, verdict_fields, verdict_object, verdict_line, is_refusal, report_status};
 
 use crate::command::Form;
 use crate::refusal::{Refusal, RefusalFields};
@@ -18,7 +18,7 @@ use verify::{FileFault, MethodVerdict, Verdict};
 
 /// The refusal of the file that is to be verified, as an object of JSON, and then the text behind its fields.
 #[derive(Clone, Copy)]
-pub struct ClassObject<B>(pub FileFault, pub B);
+struct ClassObject<B>(FileFault, B);
 
 impl<B: Print + Copy> Print for ClassObject<B> {
     ghost text = { λ t. class_object t.0 (B.text t.1) };
@@ -49,11 +49,11 @@ impl Print for ClassRefusal {
 
 /// The refusal of the known class of this number, as an object of JSON, and then the text behind its fields.
 #[derive(Clone, Copy)]
-pub struct KnownObject<B> {
+struct KnownObject<B> {
     /// It counts from 1.
-    pub number: usize,
-    pub fault: FileFault,
-    pub behind: B,
+    number: usize,
+    fault: FileFault,
+    behind: B,
 }
 
 impl<B: Print + Copy> Print for KnownObject<B> {
@@ -64,6 +64,33 @@ impl<B: Print + Copy> Print for KnownObject<B> {
         let refused = More("answer", Quoted("refused"), fields);
         let position = More("position", Number(self.number), refused);
         Object("kind", Quoted("known"), position).put(out)
+    }
+}
+
+/// The refusal of a file as an object of JSON, and then the text behind its fields.
+#[derive(Clone, Copy)]
+pub struct FileObject<B> {
+    /// The number of a known class, from 1; none for the file that is to be verified.
+    pub position: Option<usize>,
+    pub fault: FileFault,
+    pub behind: B,
+}
+
+impl<B: Print + Copy> Print for FileObject<B> {
+    ghost text = { λ t. file_object t.position t.fault (B.text t.behind) };
+
+    fn put<W: Write>(&self, out: &mut W) -> Result<(), WriteFailed> {
+        let fault = self.fault;
+        let behind = self.behind;
+        match self.position {
+            None => ClassObject(fault, behind).put(out),
+            Some(number) => KnownObject {
+                number,
+                fault,
+                behind,
+            }
+            .put(out),
+        }
     }
 }
 

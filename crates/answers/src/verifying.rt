@@ -7,7 +7,7 @@ ghost use Rattle.verify.specs.Files.{IsDecoded, IsFormed};
 ghost use Rattle.verify.specs.Among.{ReportsAmong};
 ghost use Rattle.answers.specs.Files.{read_view, refusal_status, CountsKnown};
 ghost use Rattle.answers.specs.Answers.{Answered};
-ghost use Rattle.answers.specs.Verdicts.{VerifySays, class_object, class_refusal, known_object, known_refusal, IsExplained, IsTold, report_status, explained};
+ghost use Rattle.answers.specs.Verdicts.{VerifySays, class_object, class_refusal, known_object, known_refusal, file_object, IsExplained, IsExplainedObject, IsTold, report_status, explained};
 ghost use Rattle.answers.specs.declared.fault.AnswerFault.TheVariants.{OutOfMemory};
 ghost use Rattle.answers.specs.Explanations.{explanations};
 ghost use Rattle.answers.specs.declared.manner.Manner.TheVariants as manners;
@@ -19,12 +19,12 @@ use crate::manner::Manner;
 use crate::reads::{file_read, file_reads};
 use crate::refusal::Refusal;
 use crate::refusing::{FinalSuperTold, HierarchyTold};
-use crate::sentences::{FileSentence, FileSentenceField};
+use crate::sentences::{FileSentence, FileSentenceFields};
 use crate::telling::tell;
-use crate::verdicts::{ClassObject, ClassRefusal, KnownObject, KnownRefusal, ReportText};
+use crate::verdicts::{ClassRefusal, FileObject, KnownRefusal, ReportText};
 use classfile::{ClassFile, Profile, decode, one_class};
 use layout::StreamFault;
-use printing::{PartLines, Print, Then, Word};
+use printing::{END, PartFields, PartLines, Print, Then, Word};
 use std::alloc::Global;
 use std::hash::BuildHasher;
 use std::io::Write;
@@ -77,6 +77,47 @@ fn explain_file<T: Print + Copy, W: Write>(
     }
 }
 
+/// Writes the object of a file that is refused, and explains the refusal.
+fn explain_object<W: Write>(
+    alloc: Global,
+    position: Option<usize>,
+    read: &Result<Vec<u8>, StreamFault>,
+    fault: FileFault,
+    out: &mut W,
+) -> Result<u8, AnswerFault>
+    ensures { Answered (λ t s. IsExplainedObject (read_view read.now) fault (file_object position fault) t
+        × (s ≡ refusal_status fault)) (W.contents out.old) (W.contents out.new) result }
+{
+    match fault {
+        FileFault::Malformed { place, .. } => match file_class(alloc, read) {
+            Ok(class) => {
+                let part = PartFields {
+                    class: &class,
+                    place,
+                    behind: END,
+                };
+                let behind = FileSentenceFields(fault, part);
+                let text = FileObject {
+                    position,
+                    fault,
+                    behind,
+                };
+                tell(&text, 1, out)
+            }
+            Err(fault) => Err(fault),
+        },
+        FileFault::OutOfMemory | FileFault::Unread(_) | FileFault::NoClass(_) => {
+            let behind = FileSentenceFields(fault, END);
+            let text = FileObject {
+                position,
+                fault,
+                behind,
+            };
+            tell(&text, Refusal(fault).status(), out)
+        }
+    }
+}
+
 /// Writes why the class that is to be verified is refused.
 fn refuse_class<W: Write>(
     alloc: Global,
@@ -93,10 +134,7 @@ fn refuse_class<W: Write>(
         Manner::Told(form) => tell(&ClassRefusal { form, refusal }, refusal.status(), out),
         Manner::Explained(form) => match form {
             Form::Plain => explain_file(alloc, ClassRefusal { form, refusal }, read, fault, out),
-            Form::Json => {
-                let text = ClassObject(fault, FileSentenceField(fault));
-                tell(&text, refusal.status(), out)
-            }
+            Form::Json => explain_object(alloc, None, read, fault, out),
         },
     }
 }
@@ -132,14 +170,7 @@ fn refuse_known<W: Write>(
                 };
                 explain_file(alloc, line, read, fault, out)
             }
-            Form::Json => {
-                let text = KnownObject {
-                    number,
-                    fault,
-                    behind: FileSentenceField(fault),
-                };
-                tell(&text, refusal.status(), out)
-            }
+            Form::Json => explain_object(alloc, Some(number), read, fault, out),
         },
     }
 }

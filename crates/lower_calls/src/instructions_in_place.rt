@@ -1,4 +1,5 @@
-//! Instructions on a frame in place, the members that they name, and reasons taken together.
+//! Instructions on a frame in place, the members that they name, the first thing that they take and a frame lacks, and
+//! reasons taken together.
 use crate::instruction_rules::{CLONING, CONSTRUCTING};
 use crate::making::{hasher, object_with_clone, summary};
 use classfile::{ClassFile, Formed, decode, form_check};
@@ -9,9 +10,9 @@ use insn::{Act, Branches, Kind, decode_code};
 use layout::MAX_CODE_BYTES;
 use names::{Base, OBJECT};
 use rules::{
-    ClassConstants, Env, Reason, Working, branches_by, check_member, constructs_own, first_reason,
-    goes_on, is_plain, keeps_locals, own_class, replaced_object, run, run_plain, stored_to,
-    together, typing_rules_go_as_acts,
+    ClassConstants, Env, ExpectedTypes, Reason, Unmet, Working, branches_by, check_member,
+    constructs_own, first_reason, first_unmet, goes_on, is_plain, keeps_locals, own_class,
+    replaced_object, run, run_plain, stored_to, together, typing_rules_go_as_acts,
 };
 use std::alloc::Global;
 use std::test::*;
@@ -23,6 +24,8 @@ enum Asked<'a> {
     Clones(VType<'a>),
     /// Whether a constructor is called on the own object where this type is on the stack, which is what it initializes.
     Constructs(VType<'a>),
+    /// Whether a frame with this type on the stack lacks the one operand that a call of `clone` takes.
+    Lacks(VType<'a>),
     /// Whether an `int` is stored to the last local variable, and what it replaced put back.
     Stores,
     /// Whether the class is K.
@@ -75,6 +78,21 @@ fn constructs<'a, C: Classes>(
     Ok(constructs_own(&env.method, &act, &named, &frame) && replaced == Some(object))
 }
 
+/// Whether the frame with this type on the stack lacks the one operand that a call of `clone` of Object takes.
+fn lacks<'a, C: Classes>(alloc: Global, env: &Env<'_, '_, 'a, C>, object: VType<'a>) -> Judged<'a> {
+    let act = Act::InvokeVirtual { index: 11 };
+    let mut constants = ClassConstants::new(alloc, env.method.class, env.classes);
+    let named = constants.named(&env.method, &act)?;
+    let types = ExpectedTypes::of(alloc, &env.method, &act, &named)?;
+    let mut frame = Working::new(alloc, env.method.code.max_locals, false);
+    frame.push(object)?;
+    let frame = frame.into_frame()?;
+    match first_unmet(&env.method, env, &types, &frame, env.classes) {
+        Some(Unmet::Operand { wrong, count }) => Ok(wrong.place == 1 && count == 1),
+        _ => Ok(false),
+    }
+}
+
 /// Whether a store of an `int` to the local variable 1 is seen there, and the local is top again when that is put back.
 fn stores<'a, C: Classes>(alloc: Global, env: &Env<'_, '_, 'a, C>) -> Judged<'a> {
     let act = Act::Store {
@@ -100,6 +118,7 @@ fn ask_in<'a, C: Classes>(
     let judged = match asked {
         Asked::Clones(object) => clones(alloc, env, object),
         Asked::Constructs(object) => constructs(alloc, env, object),
+        Asked::Lacks(object) => lacks(alloc, env, object),
         Asked::Stores => stores(alloc, env),
         Asked::IsOfK => Ok(own_class(&env.method) == b"K".as_slice()),
     };
@@ -199,6 +218,15 @@ fn ways_of_acts(rt: HostRuntime) {
     assert!(rt; matches!(branches_by(&call), Branches::Nowhere));
 }
 
+/// Of an object of a class that is missing it is not known.
+#[test]
+fn first_operand_that_is_not_met(rt: HostRuntime) {
+    let alloc = rt.alloc();
+    assert!(rt; ask(alloc, &CLONING, Asked::Lacks(VType::Int)) == Ok(true));
+    assert!(rt; ask(alloc, &CLONING, Asked::Lacks(VType::Class(b"K"))) == Ok(false));
+    assert!(rt; ask(alloc, &CLONING, Asked::Lacks(VType::Class(b"B"))) == Ok(false));
+}
+
 #[test]
 fn stores_in_place(rt: HostRuntime) {
     assert!(rt; ask(rt.alloc(), &CLONING, Asked::Stores) == Ok(true));
@@ -218,5 +246,7 @@ fn lesser_reasons(rt: HostRuntime) {
 #[test]
 fn memory_runs_out_for_members(rt: HostRuntime) {
     let told = ask(rt.alloc(), &CLONING, Asked::Clones(VType::Class(b"K")));
+    assert!(rt; told == Ok(true) || told == Err(OUT_OF_MEMORY));
+    let told = ask(rt.alloc(), &CLONING, Asked::Lacks(VType::Int));
     assert!(rt; told == Ok(true) || told == Err(OUT_OF_MEMORY));
 }

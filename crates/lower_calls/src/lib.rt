@@ -15,7 +15,7 @@
 //! | `running_locals` | `frames`: the local variables of a running frame, and the objects in them |
 //! | `shared_rows` | `blocks`: rows of numbers, changed, declared, taken on and compared |
 //! | `instruction_rules` | `rules`: single instructions |
-//! | `instructions_in_place` | `rules`: instructions on a frame in place, the members that they name, and reasons taken together |
+//! | `instructions_in_place` | `rules`: instructions in place, what they name and a frame lacks, and reasons together |
 //! | `printed_text` | `printing`: texts of class files, names and faults |
 //! | `making` | what several of them, and of those in `public_calls`, stand on |
 //!

@@ -150,17 +150,20 @@ fn is_explained(alloc: Global, reads: &[Read], left: usize, text: &[u8]) -> bool
     answered && out.taken.as_slice() == &text[..left.min(text.len())]
 }
 
-/// A method whose code is one `nop`, and a class whose name is at an index past the constant pool.
+/// A method whose code is one `nop`, one whose code is one `iadd`, and a class whose name is at an index past the
+/// constant pool.
 #[test]
 fn explanations_that_are_cut(rt: HostRuntime) -> Result<(), Fail> {
     let falls =
         b"method f ()V refused 71 at 0\n  71 FallsOff: the last instruction of the code goes on\n  stack 0 locals 0\n  0 nop\n  locals\n  stack\n";
+    let adds =
+        b"method f ()V refused 61 at 0\n  61 MissingOperand: the stack holds fewer operands than the instruction takes\n  stack 0 locals 0\n  0 iadd\n  locals\n  stack\n  operand 2 of 2: expected int, found none\n";
     let broken =
         b"class refused 20 pool 1\n  20 BadIndex: an index is 0 where it may not be, past the constant pool, or the second one of a Long or Double\n  constant 1 Class #9\n";
-    let rows: [(usize, u8, &[u8]); 2] = [(90, 0, falls), (12, 9, broken)];
+    let rows: [(usize, u8, &[u8]); 3] = [(90, 0, falls), (90, 0x60, adds), (12, 9, broken)];
     for (place, byte, text) in rows {
         let reads = with_byte(rt.alloc(), place, byte)?;
-        for left in 0..180 {
+        for left in 0..200 {
             assert!(rt; is_explained(rt.alloc(), &reads, left, text));
         }
     }
@@ -234,6 +237,7 @@ fn is_explained_or_memory(alloc: Global, place: usize, byte: u8, size: usize) ->
 #[test]
 fn memory_runs_out_for_an_explanation(rt: HostRuntime) {
     assert!(rt; is_explained_or_memory(rt.alloc(), 90, 0, 129));
+    assert!(rt; is_explained_or_memory(rt.alloc(), 90, 0x60, 196));
     assert!(rt; is_explained_or_memory(rt.alloc(), 12, 9, 158));
 }
 

@@ -26,6 +26,7 @@ pub mod Going
 pub mod Ends
 mod Plain
 pub mod Repeated
+pub mod Unlike
 pub mod Onward
 pub mod Parameters
 pub mod Summaries

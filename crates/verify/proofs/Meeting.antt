@@ -80,10 +80,10 @@ module _ (classes : List ClassFact) (m : Method Act) (frames : Frames) (at : ℕ
     pub goes_past : (total : FramesFact) → total ≡ met_at (c ∷ cs) coming → nat_eq c.0 at ≡ false → (declared next : Option FrameFact) → declared ≡ at_offset frames c.0 → next ≡ goes_from c coming declared → total ≡ met_at cs next
     goes_past total same e declared next d n = same ∙ passed e ∙ ap (λ o. met_at cs (goes_from c coming o)) (sym d) ∙ ap (met_at cs) (sym n)
 
-    pub meets : (total : FramesFact) → total ≡ met_at (c ∷ cs) coming → nat_eq c.0 at ≡ true → (declared : Option FrameFact) → declared ≡ at_offset frames c.0 → total ≡ frames_with classes coming declared
+    pub meets : (total : FramesFact) → total ≡ met_at (c ∷ cs) coming → nat_eq c.0 at ≡ true → (declared : Option FrameFact) → declared ≡ at_offset frames c.0 → total ≡ frames_with classes m frames c.0 (typing_rule m c.1) coming declared
     meets total same e declared d =
-        let here : met_at (c ∷ cs) coming ≡ frames_with classes coming (at_offset frames c.0) = rw e refl in
-        same ∙ here ∙ ap (frames_with classes coming) (sym d)
+        let here : met_at (c ∷ cs) coming ≡ frames_with classes m frames c.0 (typing_rule m c.1) coming (at_offset frames c.0) = rw e refl in
+        same ∙ here ∙ ap (frames_with classes m frames c.0 (typing_rule m c.1) coming) (sym d)
 
   -- the frame that comes to a declared one in front of the offset does not matter
   module _ (last : ℕ) (lt : last < at) (declared : IsStart frames last) where

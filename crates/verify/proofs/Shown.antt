@@ -51,7 +51,7 @@ module _ (typing_rule : TypingRules) (classes : List ClassFact) (m : Method Act)
     declared = at_offset frames c.0
 
     -- the frames at the first instruction
-    first_met : (coming : Option FrameFact) → met_at (c ∷ cs) coming c.0 ≡ frames_with classes coming declared
+    first_met : (coming : Option FrameFact) → met_at (c ∷ cs) coming c.0 ≡ frames_with classes m frames c.0 (typing_rule m c.1) coming declared
     first_met coming = rw (eq-eqb c.0 c.0 refl) refl
 
     first_here : at_offset (c ∷ cs) c.0 ≡ Some c.1

@@ -94,7 +94,7 @@ pub data Breaks (classes : List ClassFact) (m : Method Act) (frames : Frames) (a
       → Breaks classes m frames at act p next f why
   -- `next`: 71, it falls through, and there is no next instruction
   falls_off : why ≡ reason 71 → falls p ≡ true → next ≡ None → Breaks classes m frames at act p next f why
-  -- `uncovered`: 75, an entry covers an `<init>` on the own object
+  -- `uncovered`: 75, an entry covers a constructor on the own object
   constructor_covered : why ≡ reason 75 → constructs_own p f ≡ true → Covering m at
       → Breaks classes m frames at act p next f why
 

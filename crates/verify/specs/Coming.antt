@@ -18,8 +18,11 @@ use Rattle.rules.specs.Table as tables
 use Rattle.rules.specs.Table.{TypingRules}
 use Rattle.rules.specs.After.{after}
 use Rattle.rules.specs.Rules.{conditions}
+use Rattle.rules.specs.ExpectedTypes.{expected_types}
+use Rattle.rules.specs.Unmet.{UnmetFact, first_unmet, unmet_of}
 use Rattle.verify.specs.InitialFrames.{initial_types, initial_frame}
 use Rattle.verify.specs.TypeSafety.{Frames}
+use Rattle.verify.specs.DifferencesAt.{DifferenceAtFact, target_difference, handler_difference, first_refused, first_covering, difference_at_of, handler_difference_of}
 use Rattle.verify.specs.Verdict.{MapRefusal, frames_declared}
 use Rattle.verify.specs.declared.coming.TheConstants.{MOST_KEPT}
 use Rattle.verify.specs.declared.coming.FramesAt.{FramesAt}
@@ -27,28 +30,60 @@ use Rattle.verify.specs.declared.verdict.Verdict.{Verdict}
 use Rattle.verify.specs.declared.verdict.Verdict.TheVariants.{Verified, NoCode, Refused}
 use Rattle.verify.specs.declared.report.MethodVerdict.{MethodVerdict}
 
--- the frames at an offset: the frame that comes there, if any, the declared frame, if any, and their first difference
+-- At an offset: the frame that comes there, if any, the one that is declared, if any, their difference, and the first
+-- of all that the instruction takes that the frame before it has not; and the first differences of the frames that lead
+-- from it to its targets and to its handlers, here with the place of the entry of the exception table; the first entry
+-- that is refused before the code is judged; and the first one that covers the instruction.
 pub record FramesFact : Type 0 where
   pub coming : Option FrameFact
   pub declared : Option FrameFact
   pub difference : Option DifferenceFact
+  pub unmet : Option UnmetFact
+  pub target : Option DifferenceAtFact
+  pub handler : Option (ℕ × DifferenceAtFact)
+  pub refused_entry : Option ℕ
+  pub covering_entry : Option ℕ
 
 abbrev pub no_frames : FramesFact
-no_frames = record { coming = None; declared = None; difference = None }
+no_frames = record {
+  coming = None;
+  declared = None;
+  difference = None;
+  unmet = None;
+  target = None;
+  handler = None;
+  refused_entry = None;
+  covering_entry = None;
+}
 
 -- the first difference, where there are both frames
 abbrev pub difference_if : List ClassFact → Option FrameFact → Option FrameFact → Option DifferenceFact
 difference_if classes (Some coming) (Some declared) = first_difference classes coming declared
 difference_if classes _ _ = None
 
-abbrev pub frames_with : List ClassFact → Option FrameFact → Option FrameFact → FramesFact
-frames_with classes coming declared =
-    record { coming = coming; declared = declared; difference = difference_if classes coming declared }
-
 -- the frame before an instruction: the one that is declared there, and otherwise the one that comes
 abbrev pub before : Option FrameFact → Option FrameFact → Option FrameFact
 before coming None = coming
 before coming (Some declared) = Some declared
+
+-- the first expected type of a typing rule that the frame before its instruction does not meet, where there is one
+abbrev pub unmet_if : List ClassFact → Method Act → TypingRule → Option FrameFact → Option UnmetFact
+unmet_if classes m p None = None
+unmet_if classes m p (Some f) = first_unmet classes m (expected_types p) f
+
+-- the frames at an instruction with this typing rule
+abbrev pub frames_with : List ClassFact → Method Act → Frames → ℕ → TypingRule → Option FrameFact → Option FrameFact
+    → FramesFact
+frames_with classes m frames at p coming declared = record {
+  coming = coming;
+  declared = declared;
+  difference = difference_if classes coming declared;
+  unmet = unmet_if classes m p (before coming declared);
+  target = target_difference classes m frames at p (before coming declared);
+  handler = handler_difference classes m frames at (before coming declared);
+  refused_entry = first_refused classes m frames 0 m.exceptions;
+  covering_entry = first_covering at 0 m.exceptions;
+}
 
 abbrev pub frame_if : Bool → FrameFact → Option FrameFact
 frame_if comes f = if comes then Some f else None
@@ -64,7 +99,7 @@ going classes m at p (Some f) = frame_if (falls p && is_none (least (conditions 
 abbrev pub met : TypingRules → List ClassFact → Method Act → Frames → List (ℕ × Act) → Option FrameFact → ℕ → FramesFact
 met typing_rule classes m frames [] coming at = no_frames
 met typing_rule classes m frames (c ∷ cs) coming at =
-    if nat_eq c.0 at then frames_with classes coming (at_offset frames c.0)
+    if nat_eq c.0 at then frames_with classes m frames c.0 (typing_rule m c.1) coming (at_offset frames c.0)
     else met typing_rule classes m frames cs
     (going classes m c.0 (typing_rule m c.1) (before coming (at_offset frames c.0))) at
 
@@ -86,8 +121,12 @@ frames_view x =
     record {
       coming = option_map frame_of x.coming;
       declared = option_map frame_of x.declared;
-      difference =
-          option_map difference_of x.difference;
+      difference = option_map difference_of x.difference;
+      unmet = option_map unmet_of x.unmet;
+      target = option_map difference_at_of x.target;
+      handler = option_map handler_difference_of x.handler;
+      refused_entry = x.refused_entry;
+      covering_entry = x.covering_entry;
     }
 
 -- the method of this number has code, its bytes are instructions, and these are its frames at an offset

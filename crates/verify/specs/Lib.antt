@@ -18,6 +18,7 @@ pub mod Listed
 pub mod FinalSuper
 pub mod Answers
 pub mod Reports
+pub mod DifferencesAt
 pub mod Coming
 pub mod JudgedFrames
 pub mod OneVerdict

@@ -67,8 +67,8 @@ Gives v (Err faults.OutOfMemory) = Unit {0}
 Gives v (Err faults.NotInHierarchy) = ⊥
 
 -- the conditions on an instruction besides its rule and its targets: those on the frame before it; that it does not go
--- on where it is the last one; and that no entry of the exception table covers it where it calls an `<init>` on the own
--- object
+-- on where it is the last one; and that no entry of the exception table covers it where it calls a constructor on the
+-- own object
 abbrev pub aside_conditions : List ClassFact → Method Act → Frames → ℕ → Act → Bool → FrameFact → Conditions
 aside_conditions classes m frames at a last f =
     before_conditions classes m frames at a f

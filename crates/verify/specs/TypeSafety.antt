@@ -88,8 +88,8 @@ pub record IsTypeSafeAt (classes : List ClassFact) (m : Method Act) (frames : Fr
       × (at_offset frames to ≡ Some f)
   pub handled : (e : ExceptionEntry) → IsAmong e m.exceptions → covers e at ≡ true
       → LeadsTo classes frames (caught_frame e (table at)) e.handler
-  -- no entry covers a call of an `<init>` on the own object, which is not initialized (a rule of this project, stricter
-  -- than 4.10.1.6)
+  -- no entry covers a call of a constructor on the own object, which is not initialized (a rule of this project,
+  -- stricter than 4.10.1.6)
   pub uncovered : constructs_own p (table at) ≡ true → (e : ExceptionEntry) → IsAmong e m.exceptions
       → covers e at ≡ false
 

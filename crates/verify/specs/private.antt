@@ -15,3 +15,4 @@ pub mod Representatives
 pub mod Targets
 pub mod TogetherSteps
 pub mod Turns
+pub mod Unlike

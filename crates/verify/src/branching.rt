@@ -37,7 +37,7 @@ fn is_behind(frames: &DeclaredFrames<'_>, target: i64) -> bool
 }
 
 /// The frame that is declared at a target, with its place among all.
-fn declared_at<'n, 'a>(
+pub fn declared_at<'n, 'a>(
     frames: &'n DeclaredFrames<'a>,
     target: i64,
 ) -> Option<(usize, Declared<'n, 'a>)>

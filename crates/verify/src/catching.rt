@@ -61,7 +61,7 @@ fn declared_answer<'n, 'a, C: Classes>(
 }
 
 /// The frame with what is caught alone on its stack, to a declared frame.
-fn frame_answer<'n, 'a, C: Classes>(
+pub fn frame_answer<'n, 'a, C: Classes>(
     caught: RefType<'a>,
     frame: &Working<'a>,
     declared: &Declared<'n, 'a>,

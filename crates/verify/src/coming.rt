@@ -1,4 +1,5 @@
-//! The frames at an instruction: the one that comes to it, the one that is declared there, and the first difference.
+//! The frames at an instruction: the one that comes to it, the one that is declared there, the first difference, and
+//! the first of all that the instruction takes that the frame before it has not.
 ghost use Rattle.std.specs.Prelude.{◌≡◌, ◌≢◌, ◌⊎◌, ◌<◌, ◌≤◌, ◌-◌, ℕ, true, false, Ok, Some, List, length, map, option_map, IfOk, IfErr, IfSome};
 ghost use Rattle.layout.specs.declared.limits.TheConstants.{MAX_CODE_BYTES};
 ghost use Rattle.names.specs.Types.{type_of};
@@ -21,19 +22,22 @@ ghost use Rattle.rules.specs.declared.reason.Reason.TheVariants as reasons;
 ghost use Rattle.rules.specs.Table.{typing_rule};
 ghost use Rattle.verify.specs.declared.verdict.VerifyFault.TheVariants.{OutOfMemory};
 ghost use Rattle.verify.specs.Verdict.{frames_declared};
-ghost use Rattle.verify.specs.Coming.{no_frames, difference_if, frames_with, before, frame_if, going, met, frames_at, frames_view, frame_size, frames_size, AreFramesOf};
+ghost use Rattle.rules.specs.Unmet.{unmet_of};
+ghost use Rattle.verify.specs.Coming.{no_frames, difference_if, frames_with, before, unmet_if, frame_if, going, met, frames_at, frames_view, frame_size, frames_size, AreFramesOf};
 
 use crate::body::Body;
+use crate::difference_at::{DifferenceAt, handler_difference, target_difference};
+use crate::exceptions::{exceptions, first_covering, first_refused};
 use crate::initial::{begins_uninitialized, initial_locals, initial_types};
 use crate::method::types_of;
-use crate::stack_maps::declared_frames;
+use crate::stack_maps::{copy_of, declared_frames};
 use crate::verdict::VerifyFault;
 use classfile::CodeMethod;
 use frames::{CodeStarts, Declared, DeclaredFrames, Difference, Frame, first_difference};
 use hierarchy::Classes;
 use insn::{Act, CodeFault, Instructions};
 use names::FieldType;
-use rules::{ClassConstants, Reason, Working, goes_on, run};
+use rules::{ClassConstants, ExpectedTypes, Reason, Unmet, Working, first_unmet, goes_on, run};
 use std::alloc::{AllocError, Global};
 
 /// The frames of a method are kept where those of the methods before it have fewer types than this, so that all of them
@@ -50,6 +54,18 @@ pub struct FramesAt<'a> {
     pub declared: Option<Frame<'a>>,
     /// The first difference of the one that comes from the declared one, where there are both and one is found.
     pub difference: Option<Difference<'a>>,
+    /// The first of all that the instruction takes that the frame before it has not, or has of another type, where
+    /// there is that frame and one is found.
+    pub unmet: Option<Unmet<'a>>,
+    /// The first difference of the frame after the instruction from the frames that are declared at its targets.
+    pub target: Option<DifferenceAt<'a>>,
+    /// The first difference of the frame before the instruction from the frames of the handlers that cover it, with the
+    /// place of the entry in the exception table, from 0.
+    pub handler: Option<(usize, DifferenceAt<'a>)>,
+    /// The place of the first entry of the exception table that is refused before the code is judged, if one is.
+    pub refused_entry: Option<usize>,
+    /// The place of the first entry that covers the instruction, if one does.
+    pub covering_entry: Option<usize>,
 }
 
 impl<'a> FramesAt<'a> {
@@ -61,6 +77,11 @@ impl<'a> FramesAt<'a> {
             coming: None,
             declared: None,
             difference: None,
+            unmet: None,
+            target: None,
+            handler: None,
+            refused_entry: None,
+            covering_entry: None,
         }
     }
 
@@ -196,20 +217,6 @@ fn step<'a, C: Classes>(
     go_on(body, at, act, constants, frame)
 }
 
-/// A copy of a declared frame.
-fn copy_of<'a>(
-    alloc: Global,
-    declared: &Declared<'_, 'a>,
-    max_locals: u16,
-) -> Result<Frame<'a>, AllocError>
-    requires { length (declared_view declared.now).locals ≡ max_locals }
-    ensures { IfOk result (λ f. frame_of f ≡ declared_view declared.now) }
-{
-    let mut frame = Working::new(alloc, max_locals, false);
-    frame.take_on(declared, None)?;
-    frame.into_frame()
-}
-
 /// The first difference of a frame that comes from the declared one, where there are both.
 fn difference_if<'a, C: Classes>(
     coming: &Option<Frame<'a>>,
@@ -225,34 +232,114 @@ fn difference_if<'a, C: Classes>(
     }
 }
 
-/// The frame that comes, if one does, the declared frame, if there is one, and their first difference.
+/// The frame before an instruction, if there is one: the one that is declared there, and otherwise the one that comes.
+fn before<'r, 'a>(
+    coming: &'r Option<Frame<'a>>,
+    declared: &'r Option<Frame<'a>>,
+) -> Option<&'r Frame<'a>>
+    ensures { option_map (λ f. frame_of f.now) result
+        ≡ before (option_map frame_of coming.now) (option_map frame_of declared.now) }
+{
+    match declared {
+        Some(declared) => Some(declared),
+        None => match coming {
+            Some(coming) => Some(coming),
+            None => None,
+        },
+    }
+}
+
+/// The first expected type of an instruction that the frame before it does not meet, where there is that frame.
+fn unmet_if<'a, C: Classes>(
+    body: &Body<'_, 'a, C>,
+    act: Act<'a>,
+    frame: Option<&Frame<'a>>,
+    constants: &mut ClassConstants<'_, '_, 'a, C>,
+) -> Result<Option<Unmet<'a>>, AllocError>
+    requires constants { constants.old.members
+        ≡ record { class = body.now.method.now.class.now; classes = C.content body.now.classes.now } }
+    ensures same { constants.new.members ≡ constants.old.members }
+    ensures found { let m = method_view body.now.method.now in IfOk result (λ o. option_map unmet_of o
+        ≡ unmet_if (C.content body.now.classes.now) m (typing_rule m (act_view act.entry))
+        (option_map (λ f. frame_of f.now) frame.entry)) }
+{
+    let Some(frame) = frame else {
+        return Ok(None);
+    };
+    let named = constants.named(body.method, &act)?;
+    let types = ExpectedTypes::of(body.alloc, body.method, &act, &named)?;
+    Ok(first_unmet(body.method, body.starts, &types, frame, body.classes))
+}
+
+/// The frame that comes, if it does.
+fn frame_that<'a>(comes: bool, frame: Working<'a>) -> Result<Option<Frame<'a>>, AllocError>
+    ensures { IfOk result (λ o. option_map frame_of o ≡ frame_if comes (held frame.entry)) }
+{
+    if !comes {
+        return Ok(None);
+    }
+    Ok(Some(frame.into_frame()?))
+}
+
+/// A copy of a declared frame, if there is one.
+fn copy_if<'a, C: Classes>(
+    body: &Body<'_, 'a, C>,
+    declared: Option<Declared<'_, 'a>>,
+) -> Result<Option<Frame<'a>>, AllocError>
+    requires { IfSome declared
+        (λ d. length (declared_view d).locals ≡ body.now.method.now.code.now.max_locals) }
+    ensures { IfOk result (λ o. option_map frame_of o ≡ option_map declared_view declared.entry) }
+{
+    match declared {
+        Some(declared) => {
+            let copy = copy_of(body.alloc, &declared, body.method.code.max_locals)?;
+            Ok(Some(copy))
+        }
+        None => Ok(None),
+    }
+}
+
+/// The frame that comes to the instruction at an offset, if it does, the one that is declared there, and the differences
+/// of frames: of these two, of the frame before the instruction from its expected types, and of the frames that lead from
+/// it to its targets and to its handlers.
 fn meet<'a, C: Classes>(
-    alloc: Global,
+    body: &Body<'_, 'a, C>,
+    at: u16,
+    act: Act<'a>,
     comes: bool,
     frame: Working<'a>,
     declared: Option<Declared<'_, 'a>>,
-    max_locals: u16,
-    classes: &C,
+    constants: &mut ClassConstants<'_, '_, 'a, C>,
 ) -> Result<FramesAt<'a>, AllocError>
-    requires { IfSome declared (λ d. length (declared_view d).locals ≡ max_locals) }
-    ensures { IfOk result (λ x. frames_view x
-        ≡ frames_with (C.content classes.now) (frame_if comes (held frame.entry))
+    requires constants { constants.old.members
+        ≡ record { class = body.now.method.now.class.now; classes = C.content body.now.classes.now } }
+    requires declared { IfSome declared
+        (λ d. length (declared_view d).locals ≡ body.now.method.now.code.now.max_locals) }
+    requires locals { comes ≡ true → length (held frame).locals ≡ body.now.method.now.code.now.max_locals }
+    ensures same { constants.new.members ≡ constants.old.members }
+    ensures found { let m = method_view body.now.method.now in IfOk result (λ x. frames_view x
+        ≡ frames_with (C.content body.now.classes.now) m (frames_in body.now.frames.now) at
+        (typing_rule m (act_view act.entry)) (frame_if comes (held frame.entry))
         (option_map declared_view declared.entry)) }
 {
-    let coming = if comes {
-        Some(frame.into_frame()?)
-    } else {
-        None
-    };
-    let declared = match declared {
-        Some(declared) => Some(copy_of(alloc, &declared, max_locals)?),
-        None => None,
-    };
-    let difference = difference_if(&coming, &declared, classes);
+    let coming = frame_that(comes, frame)?;
+    let there = copy_if(body, declared)?;
+    let difference = difference_if(&coming, &there, body.classes);
+    let before = before(&coming, &there);
+    let unmet = unmet_if(body, act, before, constants)?;
+    let target = target_difference(body, at, act, before, constants)?;
+    let entries = exceptions(body.alloc, body.method)?;
+    let handler = handler_difference(body, at, &entries, before)?;
+    let refused_entry = first_refused(&entries, body)?;
     Ok(FramesAt {
         coming,
-        declared,
+        declared: there,
         difference,
+        unmet,
+        target,
+        handler,
+        refused_entry,
+        covering_entry: first_covering(&entries, at),
     })
 }
 
@@ -278,7 +365,6 @@ fn walk<'a, C: Classes>(
         (Some (held first.entry)) at) }
     ensures memory { IfErr result (λ e. e ≡ OutOfMemory) }
 {
-    let max_locals = body.method.code.max_locals;
     let last = last_before(body.frames, at);
     let mut frame = first;
     let mut code = Instructions::new(body.method.code.code);
@@ -288,8 +374,7 @@ fn walk<'a, C: Classes>(
         let act = code.take_act();
         let declared = body.frames.find(u32::from(here));
         if usize::from(here) == at {
-            let classes = body.classes;
-            return Ok(meet(body.alloc, comes, frame, declared, max_locals, classes)?);
+            return Ok(meet(body, here, act, comes, frame, declared, constants)?);
         }
         if usize::from(here) >= last {
             comes = step(body, here, act, declared, comes, constants, &mut frame)?;

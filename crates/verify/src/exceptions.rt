@@ -1,5 +1,5 @@
 //! The exception table of a method, which is judged before the code (JVMS 4.7.3, 4.10.1.6).
-ghost use Rattle.std.specs.Prelude.{◌≡◌, ◌≤◌, ℕ, None, Some, map, length, option_map, IfOk, IfSome, MatchOption};
+ghost use Rattle.std.specs.Prelude.{◌≡◌, ◌≢◌, ◌≤◌, ℕ, None, Some, map, length, option_map, IfOk, IfSome, MatchOption};
 ghost use Rattle.layout.specs.declared.limits.TheConstants.{MAX_CODE_BYTES};
 ghost use Rattle.names.specs.References.{reference_view};
 ghost use Rattle.classfile.specs.Methods.{caught_type, exception_entries};
@@ -7,10 +7,13 @@ ghost use Rattle.classfile.specs.Views.{handler_view};
 ghost use Rattle.frames.specs.DeclaredTables.{frames_in};
 ghost use Rattle.frames.specs.MarkedCode.{code_in};
 ghost use Rattle.rules.specs.Bodies.{method_view};
+ghost use Rattle.verify.specs.DifferencesAt.{first_refused, first_covering};
 ghost use Rattle.verify.specs.Verdict.{is_end, table_conditions};
 ghost use Rattle.rules.specs.Outcomes.{Judges};
+ghost use Rattle.rules.specs.declared.reason.Reason.TheVariants.{OutOfMemory};
 ghost use Rattle.verify.specs.private.ExceptionTables.{entry_view, IsEntry, AreNumbered, has_places, JudgesTable};
 
+use crate::body::Body;
 use crate::flow::check_answer;
 use classfile::{CodeMethod, ExceptionHandler};
 use frames::{CodeStarts, DeclaredFrames, Starts, VType, assignable, reference_to};
@@ -143,6 +146,52 @@ fn check_entry<'a, C: Classes>(
         assignable(&reference_to(entry.caught), &throwable, classes),
         Reason::BadException,
     )
+}
+
+/// The place of an entry that was refused for this reason; memory may have run out.
+fn refused_at(place: usize, reason: Reason<'_>) -> Result<Option<usize>, AllocError>
+    ensures { IfOk result (λ o. (o ≡ Some place) × (reason.entry ≢ OutOfMemory)) }
+{
+    match reason {
+        Reason::OutOfMemory => Err(AllocError),
+        _ => Ok(Some(place)),
+    }
+}
+
+/// The place in the table of the first of all its entries that is refused, if one is: 72, or 77. The only refusal is 1.
+pub fn first_refused<'a, C: Classes>(
+    entries: &[Entry<'a>],
+    body: &Body<'_, 'a, C>,
+) -> Result<Option<usize>, AllocError>
+    requires { AreNumbered entries.now }
+    ensures { IfOk result (λ o. o ≡ first_refused (C.content body.now.classes.now) (method_view body.now.method.now)
+        (frames_in body.now.frames.now) 0 (map entry_view entries.now)) }
+{
+    for entry in entries {
+        if let Err(reason) = check_entry(
+            entry,
+            body.method,
+            body.starts,
+            body.frames,
+            body.classes,
+        ) {
+            return refused_at(entry.place, reason);
+        }
+    }
+    Ok(None)
+}
+
+/// The place in the table of the first of all its entries that covers the instruction at an offset, if one does.
+pub fn first_covering(entries: &[Entry<'_>], at: u16) -> Option<usize>
+    requires { AreNumbered entries.now }
+    ensures { result ≡ first_covering at 0 (map entry_view entries.now) }
+{
+    for entry in entries {
+        if entry.from <= at && at < entry.to {
+            return Some(entry.place);
+        }
+    }
+    None
 }
 
 /// Judges an exception table by the frames that are declared: the first entry that is wrong is refused 72, or 77 where

@@ -392,7 +392,7 @@ impl<'a> Handlers<'a> {
 
     /// The frame becomes the one after an instruction with this act. Behind a store, entries whose handlers' frames
     /// take the type are not compared again. Another instruction changes no locals but those that hold an object, and
-    /// the flag where it calls an `<init>` on the own object.
+    /// the flag where it calls a constructor on the own object.
     pub fn behind<C: Classes>(
         &mut self,
         act: &Act<'_>,

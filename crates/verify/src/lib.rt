@@ -9,7 +9,7 @@
 //! - `play`: the reports on classes whose methods may call each other; `met_names`: the names of the classes before
 //!   one.
 //! - `explained`: a report, with the frames at the instructions at which methods are refused; `coming`: the frames at
-//!   an instruction.
+//!   an instruction; `difference_at`: how a frame that leads to a target or a handler differs from the one declared there.
 //!
 //! Files:
 //!
@@ -48,6 +48,7 @@ mod branching;
 mod catching;
 mod coming;
 mod comparisons;
+mod difference_at;
 mod each;
 mod exceptions;
 mod explained;
@@ -78,6 +79,7 @@ mod verified_walk;
 
 pub use among::{AmongFault, explain_among_under, verify_among, verify_among_under};
 pub use coming::FramesAt;
+pub use difference_at::DifferenceAt;
 pub use each::{EachFault, Judgement, verify_each};
 pub use explained::Explained;
 pub use files::{FileFault, FileRead, class_file};

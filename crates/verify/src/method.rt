@@ -196,8 +196,8 @@ pub fn verify_listed<'a, C: Classes>(
 /// - at the first instruction that is refused: 69 or 77 where the frame that comes in is not assignable to the one that
 ///   is declared there, 70 where none comes and none is declared; then the least number that holds of those of its rule
 ///   (60 to 66, 74, 76, 77, 90), 67, 68 and 77 for its targets, 77 and 82 for the protected member that it uses, 73 and
-///   77 for the handlers of the entries that cover it, 75 where such an entry covers its call of an `<init>` on the own
-///   object, and 71 where the last instruction goes on.
+///   77 for the handlers of the entries that cover it, 75 where such an entry covers its call of a constructor on the
+///   own object, and 71 where the last instruction goes on.
 ///
 /// Before all that, 80 where the hierarchy has no class with exactly this class's summary; and 1 where memory ran out.
 pub fn verify_method<'a, C: Classes>(

@@ -1,9 +1,10 @@
 //! The frames that the stack map of a method declares.
-ghost use Rattle.std.specs.Prelude.{◌≡◌, ◌≢◌, map, IfOk, IfErr};
+ghost use Rattle.std.specs.Prelude.{◌≡◌, ◌≢◌, length, map, IfOk, IfErr};
 ghost use Rattle.layout.specs.declared.fault.ReadFault.TheVariants as reading;
 ghost use Rattle.layout.specs.Refusals.{read_fault_number};
 ghost use Rattle.frames.specs.VerificationType.{type_of};
-ghost use Rattle.frames.specs.DeclaredTables.{locals_in};
+ghost use Rattle.frames.specs.FrameFact.{frame_of};
+ghost use Rattle.frames.specs.DeclaredTables.{locals_in, declared_view};
 ghost use Rattle.frames.specs.MarkedCode.{code_in};
 ghost use Rattle.rules.specs.Bodies.{method_view};
 ghost use Rattle.verify.specs.declared.verdict.VerifyFault.TheVariants.{OutOfMemory};
@@ -14,10 +15,11 @@ ghost use Rattle.verify.specs.Steps.{TellsFrames};
 use crate::refusal::stack_map;
 use crate::verdict::VerifyFault;
 use classfile::CodeMethod;
-use frames::{CodeStarts, DeclaredFrames, Limits, VType, declare, read_map};
+use frames::{CodeStarts, Declared, DeclaredFrames, Frame, Limits, VType, declare, read_map};
 use layout::ReadFault;
 use pool::ConstantTypes;
-use std::alloc::Global;
+use rules::Working;
+use std::alloc::{AllocError, Global};
 
 /// The number of a fault in a stack map's bytes.
 fn fault_number(fault: ReadFault) -> Result<u8, VerifyFault>
@@ -65,4 +67,18 @@ pub fn declared_frames<'a>(
         Ok(frames) => Ok(Ok(frames)),
         Err(fault) => Ok(Err(fault.number())),
     }
+}
+
+/// A copy of a declared frame.
+pub fn copy_of<'a>(
+    alloc: Global,
+    declared: &Declared<'_, 'a>,
+    max_locals: u16,
+) -> Result<Frame<'a>, AllocError>
+    requires { length (declared_view declared.now).locals ≡ max_locals }
+    ensures { IfOk result (λ f. frame_of f ≡ declared_view declared.now) }
+{
+    let mut frame = Working::new(alloc, max_locals, false);
+    frame.take_on(declared, None)?;
+    frame.into_frame()
 }

@@ -10,19 +10,19 @@ from tools.class_k import K, OBJECT_CLASS, code_f, method_f, with_constants
 # frame comes to the instruction of 70, and 78 and 79 are told before there are frames.
 METHODS = """
 method f ()V refused 60 at 0 | 60 NotSupported: the instruction is jsr, jsr_w or ret, or one that only --dynamic judges | stack 0 locals 0 | 0 jsr 3 | locals | stack
-method f ()V refused 61 at 0 | 61 MissingOperand: the stack holds fewer operands than the instruction takes | stack 0 locals 0 | 0 pop | locals | stack
-method f ()LA; refused 62 at 3 | 62 WrongOperand: an operand is of another type than the instruction takes | stack 1 locals 0 | 3 areturn | locals | stack uninitialized(0)
-method f (F)V refused 63 at 0 | 63 WrongLocal: the local variable that the instruction reads is of another type | stack 1 locals 2 | 0 iload_0 | locals float | stack
+method f ()V refused 61 at 0 | 61 MissingOperand: the stack holds fewer operands than the instruction takes | stack 0 locals 0 | 0 pop | locals | stack | stack: expected units 1, found 0
+method f ()LA; refused 62 at 3 | 62 WrongOperand: an operand is of another type than the instruction takes | stack 1 locals 0 | 3 areturn | locals | stack uninitialized(0) | operand 1 of 1: expected Class A, found uninitialized(0)
+method f (F)V refused 63 at 0 | 63 WrongLocal: the local variable that the instruction reads is of another type | stack 1 locals 2 | 0 iload_0 | locals float | stack | local 0: expected int, found float
 method f (F)V refused 64 at 0 | 64 LocalOutOfRange: the local variable, or at 0 the receiver with the parameters, passes max_locals | stack 1 locals 2 | 0 iload_2 | locals float | stack
 method f ()V refused 65 at 1 | 65 StackOver: the stack after the instruction passes max_stack | stack 1 locals 0 | 1 iconst_0 | locals | stack int
 method f ()V refused 66 at 0 | 66 WrongConstant: the constant, or the byte, is none that the instruction may have | stack 1 locals 0 | 0 new #8 | constant 8 Integer | locals | stack
 method f ()V refused 67 at 0 | 67 NoFrameAtTarget: the stack map declares no frame at a target of the instruction | stack 0 locals 0 | 0 goto 3 | locals | stack
-method f ()LA; refused 68 at 1 | 68 NotAssignableAtTarget: the frame after the instruction is not assignable to the one that is declared at a target | stack 1 locals 0 | 1 goto 4 | locals | stack int
+method f ()LA; refused 68 at 1 | 68 NotAssignableAtTarget: the frame after the instruction is not assignable to the one that is declared at a target | stack 1 locals 0 | 1 goto 4 | locals | stack int | target 4 | stack 0: int is not assignable to Class A
 method f ()V refused 69 at 1 | 69 NotAssignable: the frame that comes to the instruction is not assignable to the one that is declared there | stack 1 locals 0 | 1 return | locals | stack int | declared locals | declared stack | stack: items that come 1, declared 0
 method f ()V refused 70 at 1 | 70 NoFrame: the instruction before never goes on, and the stack map declares no frame here | stack 0 locals 0 | 1 nop
 method f ()V refused 71 at 0 | 71 FallsOff: the last instruction of the code goes on | stack 0 locals 0 | 0 nop | locals | stack
 method f ()V refused 72 at 0 | 72 BadException: an entry of the exception table has a wrong range or handler, or catches what is no Throwable | stack 1 locals 0 | 0 return | locals | stack | catch 0 0 1 any
-method f ()I refused 73 at 1 | 73 HandlerNotAssignable: the frame before the instruction is not assignable to the one that is declared at a handler which covers it | stack 1 locals 1 | 1 istore_0 | locals | stack int | catch 1 2 4 any
+method f ()I refused 73 at 1 | 73 HandlerNotAssignable: the frame before the instruction is not assignable to the one that is declared at a handler which covers it | stack 1 locals 1 | 1 istore_0 | locals | stack int | handler 4 | local 0: top is not assignable to int | catch 1 2 4 any
 method <init> ()V refused 74 at 0 | 74 OwnObjectNotReady: the constructor returns before its own object is initialized | stack 0 locals 1 | 0 return | locals uninitializedThis | stack | flags flagThisUninit
 method <init> ()V refused 75 at 1 | 75 ConstructorCovered: an entry of the exception table covers the call of a constructor on the own object | stack 1 locals 1 | 1 invokespecial #13 | constant 13 Methodref #9 #12 java/lang/Object <init> ()V | locals uninitializedThis | stack uninitializedThis | flags flagThisUninit | catch 0 4 5 any
 method f ()I refused 76 at 0 | 76 WrongReturn: the return is of another kind than the result of the method | stack 1 locals 0 | 0 return | locals | stack

@@ -60,7 +60,7 @@ returns-then-from-at-clause-found g c =
     let same : total ≡ met_at classes m frames at (act_located x ∷ acts one.others) coming = now.same ∙ ap (λ xs. met_at classes m frames at xs coming) one.all in
     let here : nat_eq x.0 at ≡ true = grind (arith, nat_tests, c.from-in-loop-code.ensures, c.if-from-at.true) in
     let there : option_map declared_view c.find-declared.result ≡ at_offset frames x.0 = c.find-declared.ensures.frame ∙ ap (at_offset frames) c.from.ensures in
-    c.in_ok-meet.ensures ∙ sym (meets classes m frames at (act_located x) (acts one.others) coming total same here (option_map declared_view c.find-declared.result) there)
+    c.in_ok-meet.ensures.found ∙ sym (meets classes m frames at (act_located x) (acts one.others) coming total same here (option_map declared_view c.find-declared.result) there)
 
 pub loop-code-smaller-then-from-last : goal.loop-code-smaller-then-from-last
 loop-code-smaller-then-from-last g c = (step_within c.loop-code.code c.take_act-act.new.self (c.at-here.result, c.take_act-act.result) (taken_at c.loop-code.code c.take_act-act.new.self c.at-here.result c.take_act-act.result c.at-here.ensures c.take_act-act.ensures)).2
