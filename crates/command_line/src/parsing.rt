@@ -60,10 +60,14 @@ const EXPLAIN_EXAMPLE: &str = "Example:
     62 WrongOperand: an operand is of another type than the instruction takes
     stack 2 locals 2
     2 ladd
+    locals int, int
+    stack int, int
+    operand 2 of 2: expected long, found int
 
-Each method that is refused has its line as by `verify`, a line that says what its number means, and of its code, as by `show`, the sizes,
-the instruction at the offset and, for 72, 73 and 75, the exception table. Behind 78 and 79 the fault is explained too. Where the files
-themselves are refused, the line of `verify` is followed by what its number means.";
+Each method that is refused has its line as by `verify`, a line that says what its number means, and of its code, as by `show`, the sizes
+and the instruction at the offset; then the types in the local variables and on the stack before it, what is wrong with them (61 to 63, 68,
+69 and 73), and the entry of the exception table at fault (72, 73 and 75). Behind 78 and 79 the fault is explained too. Where the files
+themselves are refused, the line of `verify` is followed by what its number means, and by the part of the file at fault.";
 
 /// The end of the help on `play`.
 const PLAY_EXAMPLE: &str = "Example:
