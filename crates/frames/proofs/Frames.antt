@@ -18,14 +18,14 @@ joined_append : (rs ss : List Outcome) → joined (rs ++ ss) ≡ both (joined rs
 joined_append [] ss = refl
 joined_append (r ∷ rs) ss = ap (both r) (joined_append rs ss) ∙ sym (both_assoc r (joined rs) (joined ss))
 
-list_joined : (f : VerificationType → VerificationType → Outcome) (xs ys : List VerificationType) → length xs ≡ length ys → list_answer f xs ys ≡ joined (answers f xs ys)
+pub list_joined : (f : VerificationType → VerificationType → Outcome) (xs ys : List VerificationType) → length xs ≡ length ys → list_answer f xs ys ≡ joined (answers f xs ys)
 list_joined f [] [] e = refl
 list_joined f [] (y ∷ ys) e = absurd (omega arith)
 list_joined f (x ∷ xs) [] e = absurd (omega arith)
 list_joined f (x ∷ xs) (y ∷ ys) e = ap (both (f x y)) (list_joined f xs ys (omega arith))
 
 -- what many answers as one mean
-abbrev RowAnswer : List Outcome → Outcome → Type 0
+abbrev pub RowAnswer : List Outcome → Outcome → Type 0
 RowAnswer rs yes = (i : ℕ) (r : Outcome) → slice_get rs i ≡ Some r → r ≡ yes
 RowAnswer rs no = (i : ℕ) × (slice_get rs i ≡ Some no)
 RowAnswer rs (missing name) = ((i : ℕ) → slice_get rs i ≢ Some no) × ((i : ℕ) × (slice_get rs i ≡ Some (missing name)) × ((j : ℕ) → j < i → slice_get rs j ≡ Some yes))
@@ -85,7 +85,7 @@ module _ (rs : List Outcome) where
   row_one (missing n) no p q = absurd (p.0 q.0 q.1)
   row_one (missing m) (missing n) p q = ap missing (row_missing m n p q)
 
-row_holds : (rs : List Outcome) → RowAnswer rs (joined rs)
+pub row_holds : (rs : List Outcome) → RowAnswer rs (joined rs)
 row_holds [] = λ i r e. absurd (none_some e)
 row_holds (r ∷ rs) = row_more rs r (joined rs) (row_holds rs)
 

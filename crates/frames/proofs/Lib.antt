@@ -15,6 +15,8 @@ pub mod Leaving
 pub mod Walks
 pub mod Judging
 pub mod Looping
+pub mod Refused
+pub mod FaultyEntries
 pub mod Finding
 pub mod Comparison
 pub mod Writing

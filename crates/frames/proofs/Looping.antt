@@ -14,6 +14,7 @@ use Rattle.frames.specs.StackMaps.{MapEntry}
 use Rattle.frames.specs.DeclaredFrames.{locals_of, stack_of, delta_of, offset_of, frame_with, frame_before, declared_from, any_info, infos_of, names_nothing, names_no_class, is_made_nowhere, chops_more, entry_conditions}
 use Rattle.frames.specs.TypeChains.{types_at, AreLinked}
 use Rattle.frames.specs.DeclaredViews.{locals_at, fact_of, facts_of, IsInside, AreInside, Made}
+use Rattle.frames.specs.RefusedEntries.{RefusedFact, refused_before, refused_from}
 use Rattle.frames.specs.private.Judging.{told, front_of, against, Declared}
 use Rattle.frames.specs.declared.chain.Link.{Link}
 use Rattle.frames.specs.declared.after.FrameTops.{FrameTops}
@@ -180,6 +181,33 @@ module _ (pool : List Entry) (code : List (ℕ × Act)) (max_locals max_stack : 
 
   pub declaring_done : (links : List Link) (fs : List FrameTops) (before behind : ℕ) (answer : Answer) → Declaring pool code max_locals max_stack links fs before behind [] answer → answer ≡ Ok (facts_of links max_locals fs)
   declaring_done links fs before behind answer l = sym l.same ∙ ap (λ (gs : List (ℕ × FrameFact)). Ok gs) (append-nil (facts_of links max_locals fs))
+
+  -- ---- the first that is refused
+
+  abbrev pub refused_left : List Link → ℕ → ℕ → ℕ → List MapEntry → Option RefusedFact
+  refused_left links before behind place left = refused_from pool code max_locals max_stack place (front_of behind) (locals_at links before) left
+
+  pub refused_first : (links : List Link) (before : ℕ) (es : List MapEntry) → refused_from pool code max_locals max_stack 0 None (locals_at links before) es ≡ refused_left links before 0 0 es
+  refused_first links before es = refl
+
+  -- not the one in front
+  pub refused_next : (old new : List Link) (before behind place : ℕ) (e : MapEntry) (es : List MapEntry) (f : FrameTops) → Declared pool code max_locals max_stack old new behind before e f
+      → refused_left old before behind place (e ∷ es) ≡ refused_left new f.locals (f.at + 1) (suc place) es
+  refused_next old new before behind place e es f d =
+      let ts = locals_at old before in
+      let at = offset_of (front_of behind) e in
+      let others = refused_from pool code max_locals max_stack (suc place) in
+      ap (λ (c : Option Reason). refused_before c place at (others (Some at) (locals_of pool ts e) es)) d.free
+      ∙ sym (ap (λ (us : List VerificationType). others (Some at) us es) d.made.locals)
+      ∙ sym (ap (λ (o : Option ℕ). others o (locals_at new f.locals) es) (front_behind f.at ∙ ap (λ (n : ℕ). Some n) d.at))
+
+  -- the one in front
+  pub refused_here : (links : List Link) (before behind place at : ℕ) (e : MapEntry) (es : List MapEntry) (r : Reason) → against pool code max_locals max_stack behind (locals_at links before) e ≡ Some r
+      → at ≡ offset_of (front_of behind) e → refused_left links before behind place (e ∷ es) ≡ Some (record { place = place; at = at; reason = r })
+  refused_here links before behind place at e es r h is =
+      let there = offset_of (front_of behind) e in
+      let others = refused_from pool code max_locals max_stack (suc place) (Some there) (locals_of pool (locals_at links before) e) es in
+      ap (λ (c : Option Reason). refused_before c place there others) h ∙ sym (ap (λ (n : ℕ). Some (record { place = place; at = n; reason = r })) is)
 
   -- ---- the offsets rise
 

@@ -34,14 +34,14 @@ get_behind [] ss i n r h e = let same : n ≡ i = omega (arith, h) in ap (slice_
 get_behind (q ∷ rs) ss i zero r h e = absurd (omega (arith, h))
 get_behind (q ∷ rs) ss i (suc n) r h e = get_behind rs ss i n r (omega (arith, h)) e
 
-answer_at : (f : VerificationType → VerificationType → Outcome) (xs ys : List VerificationType) (i : ℕ) (x y : VerificationType)
+pub answer_at : (f : VerificationType → VerificationType → Outcome) (xs ys : List VerificationType) (i : ℕ) (x y : VerificationType)
     → slice_get xs i ≡ Some x → slice_get ys i ≡ Some y → slice_get (answers f xs ys) i ≡ Some (f x y)
 answer_at f [] ys i x y p q = absurd (none_some p)
 answer_at f (a ∷ xs) [] i x y p q = absurd (none_some q)
 answer_at f (a ∷ xs) (b ∷ ys) zero x y p q = (λ i. Some (f (some_same p i) (some_same q i)))
 answer_at f (a ∷ xs) (b ∷ ys) (suc i) x y p q = answer_at f xs ys i x y p q
 
-answers_length : (f : VerificationType → VerificationType → Outcome) (xs ys : List VerificationType) → length xs ≡ length ys → length (answers f xs ys) ≡ length xs
+pub answers_length : (f : VerificationType → VerificationType → Outcome) (xs ys : List VerificationType) → length xs ≡ length ys → length (answers f xs ys) ≡ length xs
 answers_length f [] ys e = refl
 answers_length f (x ∷ xs) [] e = absurd (omega (arith, e))
 answers_length f (x ∷ xs) (y ∷ ys) e = ap suc (answers_length f xs ys (omega (arith, e)))

@@ -1,10 +1,11 @@
-//! The frames of a whole stack map.
-ghost use Rattle.std.specs.Prelude.{◌≡◌, ◌<◌, ◌≤◌, map, length, [], IfOk};
+//! The frames of a whole stack map, and the first entry that is refused.
+ghost use Rattle.std.specs.Prelude.{◌≡◌, ◌<◌, ◌≤◌, map, option_map, length, [], IfOk};
 ghost use Rattle.frames.specs.VerificationType.{type_of};
 ghost use Rattle.frames.specs.MapViews.{entry_of};
 ghost use Rattle.frames.specs.DeclaredFrames.{delta_of, declared_frames};
 ghost use Rattle.frames.specs.DeclaredViews.{locals_at};
-ghost use Rattle.frames.specs.private.Judging.{Declares, AreDeclared};
+ghost use Rattle.frames.specs.private.Judging.{Declares, AreDeclared, refused_by};
+ghost use Rattle.frames.specs.RefusedEntries.{refused_entry, refused_of};
 ghost use Rattle.frames.specs.DeclaredTables.{IsDeclared, locals_in};
 
 use crate::after::{FrameTops, frame_after};
@@ -17,6 +18,17 @@ use crate::starts::Starts;
 use crate::vtype::VType;
 use pool::ConstantTypes;
 use std::alloc::{AllocError, Global};
+
+/// The first entry of a stack map that is refused (JVMS 4.7.4, 4.10.1).
+#[derive(Clone, Copy, Debug, PartialEq, Eq)]
+pub struct RefusedEntry {
+    /// Its place in the map, from 0.
+    pub place: usize,
+    /// The offset of the frame that it would declare, in bytes.
+    pub at: u32,
+    /// The fault of the least number.
+    pub fault: FrameFault,
+}
 
 fn delta(entry: &MapEntry) -> u16
     ensures { result ≡ delta_of (entry_of entry.now) }
@@ -59,8 +71,7 @@ fn declare_one<'a, S: Starts>(
     }
 }
 
-// Puts the frames of entries behind the others, of which there are none; or tells the least fault of the first entry
-// that is refused.
+// Puts the frames of entries behind the others, of which there are none; or tells the first entry that is refused.
 fn declare_all<'a, S: Starts>(
     chains: &mut TypeChains<'a>,
     frames: &mut Vec<FrameTops>,
@@ -68,7 +79,7 @@ fn declare_all<'a, S: Starts>(
     entries: &[MapEntry],
     limits: &Limits<'_, 'a, S>,
     constants: &mut ConstantTypes<'_, 'a>,
-) -> Result<Result<(), FrameFault>, AllocError>
+) -> Result<Result<(), RefusedEntry>, AllocError>
     requires constants { constants.old ≡ limits.now.pool.now }
     requires empty { frames.old.items ≡ [] }
     requires inside { first ≤ length chains.old.links.items }
@@ -78,12 +89,21 @@ fn declare_all<'a, S: Starts>(
         (S.code limits.now.starts.now) limits.now.max_locals limits.now.max_stack
         (locals_at chains.old.links.items first)
         (map entry_of entries.now)) limits.now.max_locals chains.new.links.items frames.new.items) }
+    ensures refused { IfOk result (λ r. refused_by r ≡ refused_entry limits.now.pool.now
+        (S.code limits.now.starts.now) limits.now.max_locals limits.now.max_stack
+        (locals_at chains.old.links.items first) (map entry_of entries.now)) }
 {
     let mut before = first;
     let mut behind = 0;
     for entry in entries {
         match declare_one(chains, before, behind, entry, limits, constants)? {
-            Err(fault) => return Ok(Err(fault)),
+            Err(fault) => {
+                return Ok(Err(RefusedEntry {
+                    place: frames.len(),
+                    at: behind + u32::from(delta(entry)),
+                    fault,
+                }));
+            }
             Ok(frame) => {
                 frames.push(frame)?;
                 before = frame.locals;
@@ -120,7 +140,31 @@ pub fn declare<'a, S: Starts>(
     let mut frames = Vec::new(alloc);
     let first = chains.push_all(initial, 0)?;
     match declare_all(&mut chains, &mut frames, first, entries, limits, constants)? {
-        Err(fault) => Ok(Err(fault)),
+        Err(refused) => Ok(Err(refused.fault)),
         Ok(()) => Ok(Ok(DeclaredFrames::new(chains, frames, limits.max_locals))),
+    }
+}
+
+/// The first entry of a stack map that is refused, for which [`declare`] tells the fault; `None` where no entry is.
+/// Arguments and memory are those of [`declare`].
+pub fn refused_entry<'a, S: Starts>(
+    alloc: Global,
+    entries: &[MapEntry],
+    limits: &Limits<'_, 'a, S>,
+    constants: &mut ConstantTypes<'_, 'a>,
+    initial: &[VType<'a>],
+) -> Result<Option<RefusedEntry>, AllocError>
+    requires { constants.old ≡ limits.now.pool.now }
+    ensures same { constants.new ≡ constants.old }
+    ensures found { IfOk result (λ o. option_map refused_of o
+        ≡ refused_entry limits.now.pool.now (S.code limits.now.starts.now) limits.now.max_locals limits.now.max_stack
+        (map type_of initial.now) (map entry_of entries.now)) }
+{
+    let mut chains: TypeChains<'a> = TypeChains::new(alloc);
+    let mut frames = Vec::new(alloc);
+    let first = chains.push_all(initial, 0)?;
+    match declare_all(&mut chains, &mut frames, first, entries, limits, constants)? {
+        Err(refused) => Ok(Some(refused)),
+        Ok(()) => Ok(None),
     }
 }

@@ -1,6 +1,7 @@
 //! The meaning of the answers of the comparisons, and that declared frames tell the same in both of their forms.
 ghost use Rattle.frames.specs.DeclaredForms.{FormsAgree};
-ghost use Rattle.frames.specs.Differences.{DifferencesAreNo};
+ghost use Rattle.frames.specs.Differences.{DifferencesAreNo, MissingIsFound};
+ghost use Rattle.frames.specs.RefusedEntries.{RefusedIsReason, FaultyIsFault};
 ghost use Rattle.frames.specs.Packing.{EqualSlotsAreEqualTypes, EqualSlotsAreYes};
 ghost use Rattle.frames.specs.Meaning.{ClassesHaveOneAnswer, TypesMean, FramesHaveOneAnswer, FramesToThemselves};
 
@@ -23,6 +24,23 @@ pub fn frames_have_one_answer()
 /// A frame differs from another of as many locals exactly where the comparison of the two is `No`.
 pub fn differences_are_no()
     ensures { DifferencesAreNo }
+{}
+
+/// The comparison of a frame with another of as many locals is `Missing` exactly where a first place asks for a class
+/// that is missing, and the class is the one for which this place asks.
+pub fn missing_is_found()
+    ensures { MissingIsFound }
+{}
+
+/// An entry of a stack map is refused exactly where the map declares no frames, and the reason against it is the map's.
+pub fn refused_is_reason()
+    ensures { RefusedIsReason }
+{}
+
+/// A body that has the number of its entries whole has a fault in front of any bytes left over exactly where
+/// [`faulty_entry`](crate::faulty_entry) tells an entry.
+pub fn faulty_is_fault()
+    ensures { FaultyIsFault }
 {}
 
 /// Each frame is assignable to itself.

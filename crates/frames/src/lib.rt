@@ -9,8 +9,9 @@
 //! - `compare_frames`: one frame to another.
 //! - `constants`: the classes that entries name by the constant pool.
 //! - `declared_frames`: the frames that a stack map declares.
-//! - `declaring`: these frames made from the entries.
-//! - `difference`: what differs first of two frames.
+//! - `declaring`: these frames made from the entries, and the first entry that is refused.
+//! - `difference`: what differs first of two frames, and where a class is missing first.
+//! - `faulty`: the entry that bytes do not spell.
 //! - `fitting`: which declared frames running locals are known to fit.
 //! - `frame`: frames.
 //! - `frame_fault`: why an entry is refused.
@@ -43,6 +44,7 @@ mod constants;
 mod declared_frames;
 mod declaring;
 mod difference;
+mod faulty;
 mod fitting;
 mod frame;
 mod frame_fault;
@@ -70,8 +72,9 @@ pub use code_starts::CodeStarts;
 pub use compare::assignable;
 pub use compare_frames::{both, frame_assignable, width};
 pub use declared_frames::{Declared, DeclaredFrames};
-pub use declaring::declare;
-pub use difference::{Difference, Mismatch, first_difference};
+pub use declaring::{RefusedEntry, declare, refused_entry};
+pub use difference::{Difference, Mismatch, Sought, first_difference, first_missing, is_sought};
+pub use faulty::faulty_entry;
 pub use fitting::Fitting;
 pub use frame::Frame;
 pub use frame_fault::FrameFault;

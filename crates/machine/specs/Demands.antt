@@ -44,7 +44,7 @@ AreForm [] vs = Unit {0}
 AreForm (p ∷ ps) [] = ⊥
 AreForm (p ∷ ps) (v ∷ vs) = (p ≡ place_of v) × AreForm ps vs
 
--- what an `<init>` is called on: an object that this run's `new` made, of exactly the method's class
+-- the receiver of a constructor: an object that this run's `new` made, of exactly the method's class
 pub record IsMade (heap : Heap) (class : List ℕ) (a : ℕ) : Type 0 where
   pub here : heap a ≡ Some (object (class_type class) made)
 

@@ -1,5 +1,5 @@
 -- The references that an instruction uses, by its act and the constant that it names (JVMS 2.9.1, 4.10.1.4, 6.5):
--- arguments, receivers aside from that of an `<init>`, the objects of fields, arrays, what is stored in a field or an
+-- arguments, receivers aside from that of a constructor, the objects of fields, arrays, what is stored in a field or an
 -- array, and what is cast, thrown or returned. Each is null, or its object's constructor has returned. References that
 -- are copied, stored in local variables, compared, tested or locked are not used.
 use Rattle.std.specs.Prelude.{◌≡◌, ℕ, true, List, [], ◌∷◌, ◌++◌, length, slice_get, Option, Some, None, ◌⊎◌}

@@ -1,14 +1,16 @@
--- The first of all that an instruction takes that the frame before it has not, or has of another type (JVMS 4.10.1.9).
-use Rattle.std.specs.Prelude.{ℕ, suc, ◌+◌, nat_lt, List, [], ◌∷◌, length, Option, Some, None, option_map, if◌then◌else◌}
+-- The first of all that an instruction takes that the frame before it has not, or has of another type, or of a type
+-- whose comparison asks for a class that is missing (JVMS 4.10.1.9).
+use Rattle.std.specs.Prelude.{ℕ, suc, ◌+◌, Bool, nat_lt, List, [], ◌∷◌, length, Option, Some, None, option_map, if◌then◌else◌}
 use Rattle.std.specs.Option.{option_or}
 use Rattle.classfile.specs.Methods.{Method}
 use Rattle.hierarchy.specs.Class.{ClassFact}
+use Rattle.hierarchy.specs.Answer.{Outcome}
 use Rattle.insn.specs.Meanings.{Act}
 use Rattle.insn.specs.Stacks.{beneath}
 use Rattle.frames.specs.VerificationType.{VerificationType, type_of}
 use Rattle.frames.specs.FrameFact.{FrameFact}
 use Rattle.frames.specs.Slots.{units_of}
-use Rattle.frames.specs.Conditions.{is_no}
+use Rattle.frames.specs.Differences.{is_no, is_missing}
 use Rattle.rules.specs.TypingRules.{ExpectedType}
 use Rattle.rules.specs.After.{local_of}
 use Rattle.rules.specs.Rules.{accepts, local_answer, may_construct}
@@ -42,13 +44,14 @@ absent_operand below [] ts = None
 absent_operand below (w ∷ ws) [] = Some (record { place = below + suc (length ws); expected = w; found = None })
 absent_operand below (w ∷ ws) (t ∷ ts) = absent_operand below ws ts
 
--- the first one that is of another type
-abbrev pub wrong_operand : List ClassFact → ℕ → List ExpectedType → List VerificationType → Option OperandFact
-wrong_operand classes below [] ts = None
-wrong_operand classes below (w ∷ ws) [] = None
-wrong_operand classes below (w ∷ ws) (t ∷ ts) =
-    if is_no (accepts classes w t) then Some (record { place = below + suc (length ws); expected = w; found = Some t })
-    else wrong_operand classes below ws ts
+-- the first one whose answer is sought
+abbrev pub sought_operand : (Outcome → Bool) → List ClassFact → ℕ → List ExpectedType → List VerificationType
+    → Option OperandFact
+sought_operand sought classes below [] ts = None
+sought_operand sought classes below (w ∷ ws) [] = None
+sought_operand sought classes below (w ∷ ws) (t ∷ ts) =
+    if sought (accepts classes w t) then Some (record { place = below + suc (length ws); expected = w; found = Some t })
+    else sought_operand sought classes below ws ts
 
 abbrev pub operand_of : ℕ → Option OperandFact → Option UnmetFact
 operand_of count o = option_map (λ x. operand x count) o
@@ -70,12 +73,13 @@ wrong_receiver m (Some name) count None = None
 wrong_receiver m (Some name) count (Some t) =
     if may_construct m name t then None else Some (receiver name (Some t) count)
 
--- ---- a local variable
+-- ---- a local variable, if its answer is sought
 
-abbrev pub unmet_local : List ClassFact → Method Act → Option ExpectedLocal → FrameFact → Option UnmetFact
-unmet_local classes m None f = None
-unmet_local classes m (Some l) f =
-    if is_no (local_answer classes m l.expected l.place l.width f) then Some (local l.place l.expected
+abbrev pub sought_local : (Outcome → Bool) → List ClassFact → Method Act → Option ExpectedLocal → FrameFact
+    → Option UnmetFact
+sought_local sought classes m None f = None
+sought_local sought classes m (Some l) f =
+    if sought (local_answer classes m l.expected l.place l.width f) then Some (local l.place l.expected
     (local_of l.place f))
     else None
 
@@ -104,13 +108,20 @@ absent x f =
 
 abbrev pub wrong : List ClassFact → Method Act → ExpectedTypes → FrameFact → Option UnmetFact
 wrong classes m x f =
-    option_or (operand_of (count_of x) (wrong_operand classes (receivers x.receiver) x.operands f.stack))
+    option_or (operand_of (count_of x) (sought_operand is_no classes (receivers x.receiver) x.operands f.stack))
     (wrong_receiver m x.receiver (count_of x) (receiver_in x f))
 
 abbrev pub first_unmet : List ClassFact → Method Act → ExpectedTypes → FrameFact → Option UnmetFact
 first_unmet classes m x f =
-    option_or (unmet_local classes m x.local f)
+    option_or (sought_local is_no classes m x.local f)
     (option_or (absent_units x.units f) (option_or (absent x f) (wrong classes m x f)))
+
+-- ---- the first of which it is not known whether the frame has it (77)
+
+abbrev pub first_unknown : List ClassFact → Method Act → ExpectedTypes → FrameFact → Option UnmetFact
+first_unknown classes m x f =
+    option_or (sought_local is_missing classes m x.local f)
+    (operand_of (count_of x) (sought_operand is_missing classes (receivers x.receiver) x.operands f.stack))
 
 -- ---- what values of the program stand for
 

@@ -13,7 +13,7 @@
 //! - `kept_items`: how many items of the stack an instruction leaves as they are.
 //! - `replacing`: the uninitialized object whose type an instruction replaces in the locals.
 //! - `expected_types`: the expected types of all that an instruction takes; `unmet`: the first of them that a frame does
-//!   not meet.
+//!   not meet, and the first of which that is not known.
 //!
 //! Instructions, family by family:
 //!
@@ -107,7 +107,7 @@ pub use protected::check_member;
 pub use reason::Reason;
 pub use replacing::replaced_object;
 pub use running::{run, run_plain};
-pub use unmet::{Unmet, UnmetOperand, first_unmet};
+pub use unmet::{Unmet, UnmetOperand, first_unknown, first_unmet};
 pub use ways::{
     branches, branches_by, falls, goes_on, is_plain, keeps_locals, stored_to,
     typing_rules_go_as_acts,

@@ -1,4 +1,5 @@
-//! The first of all that an instruction takes that the frame before it has not, or has of another type.
+//! The first of all that an instruction takes that the frame before it has not, or has of another type, or of a type
+//! whose comparison asks for a class that is missing.
 ghost use Rattle.std.specs.Prelude.{◌≡◌, ◌≤◌, ◌-◌, map, option_map};
 ghost use Rattle.frames.specs.Slots.{units_of};
 ghost use Rattle.frames.specs.FrameAssignable.{width_of};
@@ -8,7 +9,8 @@ ghost use Rattle.frames.specs.VerificationType.{type_of};
 ghost use Rattle.rules.specs.After.{local_of};
 ghost use Rattle.rules.specs.Bodies.{method_view};
 ghost use Rattle.rules.specs.ExpectedTypes.{local_view, types_view};
-ghost use Rattle.rules.specs.Unmet.{absent, absent_operand, absent_receiver, absent_units, first_of, first_unmet, found_in, operand_of, receivers, unmet_local, unmet_of, wrong, wrong_operand, wrong_receiver};
+ghost use Rattle.frames.specs.Differences.{is_no, is_missing, is_sought};
+ghost use Rattle.rules.specs.Unmet.{absent, absent_operand, absent_receiver, absent_units, first_of, first_unknown, first_unmet, found_in, operand_of, receivers, sought_local, sought_operand, unmet_of, wrong, wrong_receiver};
 ghost use Rattle.rules.specs.Views.{expected_view, stack_of};
 
 use crate::constructing::may_construct;
@@ -16,8 +18,8 @@ use crate::expected::ExpectedType;
 use crate::expected_types::{ExpectedLocal, ExpectedTypes};
 use crate::operands::accepts;
 use classfile::CodeMethod;
-use frames::{Frame, Starts, VType};
-use hierarchy::{Answer, Classes};
+use frames::{Frame, Sought, Starts, VType, is_sought};
+use hierarchy::Classes;
 
 /// An operand that is not there, or is of another type than the expected one.
 #[derive(Clone, Copy, Debug)]
@@ -80,8 +82,10 @@ fn absent_operand<'a>(
     }
 }
 
-/// The first operand, from the top down, that is of another type. So many others stand beneath them.
-fn wrong_operand<'a, C: Classes>(
+/// The first operand, from the top down, of which the answer is the one that is looked for. So many others stand beneath
+/// them.
+fn sought_operand<'a, C: Classes>(
+    sought: Sought,
     below: usize,
     expected: &[ExpectedType<'a>],
     stack: &[VType<'a>],
@@ -89,20 +93,23 @@ fn wrong_operand<'a, C: Classes>(
 ) -> Option<UnmetOperand<'a>>
     requires { below ≤ 1 }
     ensures { option_map found_in result
-        ≡ wrong_operand (C.content classes.now) below (map expected_view expected.now) (stack_of stack.now) }
+        ≡ sought_operand (is_sought sought) (C.content classes.now) below (map expected_view expected.now)
+        (stack_of stack.now) }
 {
     match expected {
         [] => None,
         [first, others @ ..] => match stack {
             [] => None,
-            [rest @ .., top] => match accepts(*first, top, classes) {
-                Answer::No => Some(UnmetOperand {
-                    place: below + others.len() + 1,
-                    expected: *first,
-                    found: Some(*top),
-                }),
-                _ => wrong_operand(below, others, rest, classes),
-            },
+            [rest @ .., top] => {
+                if is_sought(sought, accepts(*first, top, classes)) {
+                    return Some(UnmetOperand {
+                        place: below + others.len() + 1,
+                        expected: *first,
+                        found: Some(*top),
+                    });
+                }
+                sought_operand(sought, below, others, rest, classes)
+            }
         },
     }
 }
@@ -188,15 +195,17 @@ fn local_of<'a>(place: u16, frame: &Frame<'a>) -> VType<'a>
     }
 }
 
-/// The local variable that is read, where it is of another type.
-fn unmet_local<'a, C: Classes>(
+/// The local variable that is read, where the answer for its type is the one that is looked for.
+fn sought_local<'a, C: Classes>(
+    sought: Sought,
     method: &CodeMethod<'_, 'a>,
     local: Option<ExpectedLocal<'a>>,
     frame: &Frame<'a>,
     classes: &C,
 ) -> Option<Unmet<'a>>
-    ensures { option_map unmet_of result ≡ unmet_local (C.content classes.now) (method_view method.now)
-        (option_map local_view local.entry) (frame_of frame.now) }
+    ensures { option_map unmet_of result
+        ≡ sought_local (is_sought sought) (C.content classes.now) (method_view method.now) (option_map local_view local.entry)
+        (frame_of frame.now) }
 {
     let Some(local) = local else {
         return None;
@@ -207,14 +216,14 @@ fn unmet_local<'a, C: Classes>(
     }
     let (place, expected) = (local.place, local.expected);
     let found = local_of(place, frame);
-    match accepts(expected, &found, classes) {
-        Answer::No => Some(Unmet::Local {
+    if is_sought(sought, accepts(expected, &found, classes)) {
+        return Some(Unmet::Local {
             place,
             expected,
             found,
-        }),
-        _ => None,
+        });
     }
+    None
 }
 
 /// How many units of the stack an item takes.
@@ -295,7 +304,7 @@ fn wrong<'a, S: Starts, C: Classes>(
     let count = below + types.operands.len();
     let operand = operand_of(
         count,
-        wrong_operand(below, &types.operands, &frame.stack, classes),
+        sought_operand(Sought::No, below, &types.operands, &frame.stack, classes),
     );
     let found = item_beneath(&types.operands, &frame.stack);
     operand.or(wrong_receiver(method, starts, types.receiver, count, found))
@@ -317,5 +326,25 @@ pub fn first_unmet<'a, S: Starts, C: Classes>(
 {
     let operand = absent(types, frame).or(wrong(method, starts, types, frame, classes));
     let on_stack = absent_units(types.units, frame).or(operand);
-    unmet_local(method, types.local, frame, classes).or(on_stack)
+    sought_local(Sought::No, method, types.local, frame, classes).or(on_stack)
+}
+
+/// The first of all that an instruction takes of which it is not known whether the frame has it, as a `Local` or an
+/// `Operand` with the type that was found: their comparison asks for a class that is missing. First the local variable,
+/// and then the operands from the top of the stack down. Takes no memory.
+pub fn first_unknown<'a, C: Classes>(
+    method: &CodeMethod<'_, 'a>,
+    types: &ExpectedTypes<'a>,
+    frame: &Frame<'a>,
+    classes: &C,
+) -> Option<Unmet<'a>>
+    ensures { option_map unmet_of result ≡ first_unknown (C.content classes.now) (method_view method.now)
+        (types_view types.now) (frame_of frame.now) }
+{
+    let below = receivers(types.receiver);
+    let count = below + types.operands.len();
+    let (operands, stack) = (&types.operands, &frame.stack);
+    let operand = sought_operand(Sought::Missing, below, operands, stack, classes);
+    let local = sought_local(Sought::Missing, method, types.local, frame, classes);
+    local.or(operand_of(count, operand))
 }

@@ -11,7 +11,7 @@ use Rattle.hierarchy.proofs.Names.{none_some, some_same}
 use Rattle.frames.specs.VerificationType.{VerificationType, top, int, float, long, double, null, class, array, uninit_this, uninit}
 use Rattle.frames.specs.Packing.{element_code}
 use Rattle.type_numbers.specs.Numbers.{Numbering, IsNoted, IsBaseNoted, IsNumber, absent_limit, absent_number, number_by, numbered, class_number, array_number, present_at}
-use Rattle.type_numbers.specs.private.Decoding.{element_at, type_named, type_with, name_at, type_at}
+use Rattle.type_numbers.specs.Decoding.{element_at, type_named, type_with, name_at, type_at, or_top, type_by}
 use Rattle.type_numbers.proofs.Growing.{named_at}
 use Rattle.type_numbers.proofs.NumberParts.{HasParts, parts_of, tag_back, dims_back, rest_back, dimension_inside}
 
@@ -123,3 +123,6 @@ module _ (s : Numbering) where
   -- two types of one number are equal
   pub one_type : (n : ℕ) (t u : VerificationType) → IsNumber s n t → IsNumber s n u → t ≡ u
   one_type n t u h k = some_same (sym (read_back n t h) ∙ read_back n u k)
+
+pub number_read : (s : Numbering) (n : ℕ) (t : VerificationType) → IsNumber s n t → type_by s n ≡ t
+number_read s n t h = ap or_top (read_back s n t h)

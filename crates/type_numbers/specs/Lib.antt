@@ -1,4 +1,5 @@
 pub mod Numbers
+pub mod Decoding
 pub mod NumberLaws
 pub mod MethodNumbers
 pub mod Constants

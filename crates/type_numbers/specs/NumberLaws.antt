@@ -4,6 +4,7 @@ use Rattle.std.specs.Prelude.{◌≡◌, ◌≢◌, ℕ, ◌<◌}
 use Rattle.frames.specs.VerificationType.{VerificationType}
 use Rattle.frames.specs.Packing.{absent_slot, slot_of}
 use Rattle.type_numbers.specs.Numbers.{Numbering, IsNumber, Extends}
+use Rattle.type_numbers.specs.Decoding.{type_by}
 
 abbrev pub EqualNumbersAreEqualTypes : Type 0
 EqualNumbersAreEqualTypes = (s : Numbering) (n : ℕ) (t u : VerificationType) → IsNumber s n t → IsNumber s n u → t ≡ u
@@ -22,3 +23,7 @@ NumbersAreSlots = (s : Numbering) (n : ℕ) (t : VerificationType) → IsNumber 
 abbrev pub NumbersStay : Type 0
 NumbersStay = (old new : Numbering) → Extends old new → (n : ℕ) (t : VerificationType) → IsNumber old n t
     → IsNumber new n t
+
+-- the type that a number was given to is the one that it stands for
+abbrev pub NumbersAreRead : Type 0
+NumbersAreRead = (s : Numbering) (n : ℕ) (t : VerificationType) → IsNumber s n t → type_by s n ≡ t

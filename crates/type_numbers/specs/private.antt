@@ -1,5 +1,4 @@
 -- Words of the code's own steps, which its private contracts use: nothing that a reader must believe rests on them.
-pub mod Decoding
 pub mod Readings
 pub mod Entries
 pub mod Deciding

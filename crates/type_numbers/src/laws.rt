@@ -1,6 +1,6 @@
 //! Laws of the numbers of types, and of tables of constants.
 ghost use Rattle.type_numbers.specs.Constants.{TablesStay};
-ghost use Rattle.type_numbers.specs.NumberLaws.{EqualNumbersAreEqualTypes, TypesHaveOneNumber, NumbersAreBelowAbsent, NumbersAreSlots, NumbersStay};
+ghost use Rattle.type_numbers.specs.NumberLaws.{EqualNumbersAreEqualTypes, TypesHaveOneNumber, NumbersAreBelowAbsent, NumbersAreSlots, NumbersStay, NumbersAreRead};
 
 /// Two types that have one number are equal.
 pub fn equal_numbers_are_equal_types()
@@ -25,6 +25,11 @@ pub fn numbers_are_slots()
 /// Each type keeps its number.
 pub fn numbers_stay()
     ensures { NumbersStay }
+{}
+
+/// A number stands for the type that it was given to.
+pub fn numbers_are_read()
+    ensures { NumbersAreRead }
 {}
 
 /// A table of constants stays true where more types have numbers.

@@ -1,7 +1,7 @@
 //! The parts of a number: a tag, a number of dimensions, and two bytes that tell types of one tag apart.
 ghost use Rattle.std.specs.Prelude.{◌≡◌, ◌+◌, ◌*◌, ◌/◌, ◌%◌, nat_lt, Some};
 ghost use Rattle.type_numbers.specs.Numbers.{absent_number, numbered};
-ghost use Rattle.type_numbers.specs.private.Decoding.{element_at};
+ghost use Rattle.type_numbers.specs.Decoding.{element_at};
 
 use names::Primitive;
 

@@ -73,7 +73,7 @@ impl<'c, 'n, C: Classes, S: BuildHasher> TypeNumbers<'c, 'n, C, S> {
     ghost use Rattle.frames.specs.Assignable.{type_answer};
     ghost use Rattle.frames.specs.VerificationType.{VerificationType, array, type_of};
     ghost use Rattle.type_numbers.specs.Numbers.{class_number, IsNoted, IsNumber, IsGiven, Extends};
-    ghost use Rattle.type_numbers.specs.private.Decoding.{name_at, type_with, type_at};
+    ghost use Rattle.type_numbers.specs.Decoding.{name_at, type_with, type_at};
 
     /// The number of a type. The only refusal is 1, where memory runs out.
     pub fn number(&mut self, vtype: &VType<'n>) -> Result<u32, AllocError>

@@ -12,8 +12,10 @@ use Rattle.frames.specs.StackMaps.{TypeInfo, MapEntry}
 use Rattle.frames.specs.DeclaredFrames.{names_nothing, names_no_class, is_made_nowhere, offset_of, locals_of, stack_of, entry_conditions}
 use Rattle.frames.specs.TypeChains.{types_at}
 use Rattle.frames.specs.DeclaredViews.{locals_at, facts_of, AreInside, Made}
+use Rattle.frames.specs.RefusedEntries.{RefusedFact, refused_of}
 use Rattle.frames.specs.declared.chain.Link.{Link}
 use Rattle.frames.specs.declared.after.FrameTops.{FrameTops}
+use Rattle.frames.specs.declared.declaring.RefusedEntry.{RefusedEntry}
 use Rattle.frames.specs.declared.frame_fault.FrameFault.{FrameFault}
 use Rattle.frames.specs.declared.refusing.Wrong.{Wrong}
 use Rattle.frames.specs.declared.refusing.Wrong.TheVariants.{NamesNothing, NamesNoClass, MadeNowhere}
@@ -59,9 +61,15 @@ Declares pool code max_locals max_stack old new behind before e (Err fault) =
 
 -- ---- all of them
 
+-- the entry that is refused, if one is
+abbrev pub refused_by : {A : Type 0} → Result A RefusedEntry → Option RefusedFact
+refused_by (Ok u) = None
+refused_by (Err refused) = Some (refused_of refused)
+
 abbrev pub AreDeclared : {A : Type 0} → Result (List (ℕ × FrameFact)) Reason → ℕ → List Link → List FrameTops
-    → Result A FrameFault → Type 0
+    → Result A RefusedEntry → Type 0
 AreDeclared answer max_locals links frames (Ok u) =
     (answer ≡ Ok (facts_of links max_locals frames)) × AreInside links max_locals frames
     × StartsRise 0 (facts_of links max_locals frames)
-AreDeclared answer max_locals links frames (Err fault) = answer ≡ Err (reason (frame_fault_number fault))
+AreDeclared answer max_locals links frames (Err refused) =
+    answer ≡ Err (reason (frame_fault_number refused.fault))

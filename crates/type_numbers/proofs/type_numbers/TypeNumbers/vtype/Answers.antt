@@ -2,7 +2,7 @@ use Rattle.std.proofs.Common.{◌∙◌, ap, subst, sym}
 use Rattle.frames.specs.VerificationType.{type_of}
 use Rattle.hierarchy.proofs.Names.{none_some, some_same}
 use Rattle.type_numbers.specs.Numbers.{IsNumber}
-use Rattle.type_numbers.specs.private.Decoding.{type_at}
+use Rattle.type_numbers.specs.Decoding.{type_at}
 use Rattle.std.specs.Option.{option_map}
 use Rattle.type_numbers.proofs.Decoded.{read_back}
 use Rattle.type_numbers.proofs.type_numbers.TypeNumbers.vtype.Goals as goal
