@@ -1,3 +1,4 @@
+pub mod AttributeFault
 pub mod AttributeForm
 pub mod BootstrapViews
 pub mod Bootstraps

@@ -114,8 +114,9 @@ fn has_two_stack_maps(code: &CodeAttr<'_>) -> bool
     code.attributes.iter().filter(|a| is_stack_map(a)).count() > 1
 }
 
+/// Whether an index in the attribute may not be looked up.
 #[tactic(auto, unfolding(crate::specs::AttributeForm::attribute_has_bad, crate::specs::AttributeForm::head_has_bad))]
-fn attribute_has_bad(pool: &Pool<'_>, attribute: &Attribute<'_>) -> bool
+pub fn attribute_has_bad(pool: &Pool<'_>, attribute: &Attribute<'_>) -> bool
     ensures { result ≡ attribute_has_bad pool.now (attribute_view attribute.now) }
 {
     match attribute {
@@ -127,8 +128,9 @@ fn attribute_has_bad(pool: &Pool<'_>, attribute: &Attribute<'_>) -> bool
     }
 }
 
+/// Whether an index in the attribute may not be looked up, or leads to another kind.
 #[tactic(auto, unfolding(crate::specs::AttributeForm::attribute_has_bad, crate::specs::AttributeForm::attribute_has_other, crate::specs::AttributeForm::head_has_bad, crate::specs::AttributeForm::head_has_other))]
-fn attribute_has_fault(pool: &Pool<'_>, attribute: &Attribute<'_>) -> bool
+pub fn attribute_has_fault(pool: &Pool<'_>, attribute: &Attribute<'_>) -> bool
     ensures { result ≡ (attribute_has_bad pool.now (attribute_view attribute.now)
         || attribute_has_other pool.now (attribute_view attribute.now)) }
 {
@@ -143,7 +145,8 @@ fn attribute_has_fault(pool: &Pool<'_>, attribute: &Attribute<'_>) -> bool
     }
 }
 
-fn code_is_badly_long(attribute: &Attribute<'_>) -> bool
+/// Whether it is a Code attribute whose code has not 1 to 65,535 bytes.
+pub fn code_is_badly_long(attribute: &Attribute<'_>) -> bool
     ensures { result ≡ on_body has_bad_length (attribute_view attribute.now) }
 {
     match attribute {
@@ -152,7 +155,8 @@ fn code_is_badly_long(attribute: &Attribute<'_>) -> bool
     }
 }
 
-fn code_has_two_stack_maps(attribute: &Attribute<'_>) -> bool
+/// Whether it is a Code attribute with two StackMapTables.
+pub fn code_has_two_stack_maps(attribute: &Attribute<'_>) -> bool
     ensures { result ≡ on_body has_two_stack_maps (attribute_view attribute.now) }
 {
     match attribute {

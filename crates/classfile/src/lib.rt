@@ -30,6 +30,7 @@
 //! | `constant_form`, `class_form`, `member_form`, `attribute_form` | which rule is broken at a place |
 //! | `number_form`, `repeated_attributes` | which rule is broken by an index in an attribute of numbers, and whether one stands twice |
 //! | `record_form` | which rule is broken by the attributes of a class |
+//! | `attribute_fault` | [`attribute_at_fault`], which attribute breaks the rule at a place |
 //! | `text_forms` | the forms of each text of the pool, judged once |
 //! | `indices`, `naming`, `flags` | what an index leads to, forms of names and descriptors, access flags |
 //! | `duplicate_finder` | whether a member has the name and the descriptor of an earlier one |
@@ -40,6 +41,7 @@
 #![tactic(auto)]
 
 mod attribute;
+mod attribute_fault;
 mod attribute_form;
 mod bootstraps;
 mod class_attribute;
@@ -78,6 +80,7 @@ mod text_forms;
 mod text_numbers;
 
 pub use attribute::Attribute;
+pub use attribute_fault::{attribute_at_fault, attribute_name};
 pub use bootstraps::Bootstraps;
 pub use class_attribute::ClassAttribute;
 pub use class_file::ClassFile;

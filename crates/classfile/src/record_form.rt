@@ -61,8 +61,9 @@ fn components_have_twice(components: &[Component<'_>]) -> bool
     components.iter().any(|c| component_has_twice(c))
 }
 
+/// Whether an index in the attribute may not be looked up.
 #[tactic(auto, unfolding(crate::specs::RecordForm::class_attribute_has_bad, crate::specs::AttributeForm::head_has_bad))]
-fn class_attribute_has_bad(pool: &Pool<'_>, attribute: &ClassAttribute<'_>) -> bool
+pub fn class_attribute_has_bad(pool: &Pool<'_>, attribute: &ClassAttribute<'_>) -> bool
     ensures { result ≡ class_attribute_has_bad pool.now (class_attribute_view attribute.now) }
 {
     match attribute {
@@ -76,8 +77,9 @@ fn class_attribute_has_bad(pool: &Pool<'_>, attribute: &ClassAttribute<'_>) -> b
     }
 }
 
+/// Whether an index in the attribute may not be looked up, or leads to another kind.
 #[tactic(auto, unfolding(crate::specs::RecordForm::class_attribute_has_bad, crate::specs::RecordForm::class_attribute_has_other, crate::specs::AttributeForm::head_has_bad, crate::specs::AttributeForm::head_has_other))]
-fn class_attribute_has_fault(pool: &Pool<'_>, attribute: &ClassAttribute<'_>) -> bool
+pub fn class_attribute_has_fault(pool: &Pool<'_>, attribute: &ClassAttribute<'_>) -> bool
     ensures { result ≡ (class_attribute_has_bad pool.now (class_attribute_view attribute.now)
         || class_attribute_has_other pool.now (class_attribute_view attribute.now)) }
 {
@@ -124,7 +126,8 @@ fn record_stands_twice(attributes: &[ClassAttribute<'_>]) -> bool
     attributes.iter().filter(|a| is_record(a)).count() > 1
 }
 
-fn record_has_twice(attribute: &ClassAttribute<'_>) -> bool
+/// Whether it is a Record attribute, and an attribute of a component stands twice of which there may be one.
+pub fn record_has_twice(attribute: &ClassAttribute<'_>) -> bool
     ensures { result ≡ on_body components_have_twice (class_attribute_view attribute.now) }
 {
     match attribute {

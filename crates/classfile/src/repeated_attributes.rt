@@ -2,8 +2,9 @@
 ghost use Rattle.std.specs.Prelude.{◌≡◌, map, option_map};
 ghost use Rattle.classfile.specs.LayoutViews.{layout_view};
 ghost use Rattle.classfile.specs.private.IndexColumns.{layout_of, has_numbers, two_have_numbers};
+ghost use Rattle.classfile.specs.AttributeForm.{is_of_parts};
 ghost use Rattle.classfile.specs.NumberForm.{has_this_layout, layout_stands_twice, numbers_stand_twice};
-ghost use Rattle.classfile.specs.Values.{AttributeOf};
+ghost use Rattle.classfile.specs.Values.{AttributeOf, name_of};
 
 use crate::attribute::Attribute;
 use crate::class_attribute::ClassAttribute;
@@ -21,6 +22,14 @@ pub trait Tabled {
     /// The layout of the attribute, if its body is numbers.
     fn layout(&self) -> Option<&AttributeLayout<'_>>
         ensures { option_map (λ l. layout_view l.now) result ≡ layout_of (attribute self.now) };
+
+    /// The index of its name.
+    fn name(&self) -> u16
+        ensures { result ≡ name_of (attribute self.now) };
+
+    /// Whether the attribute is read by its parts.
+    fn is_of_parts(&self) -> bool
+        ensures { result ≡ is_of_parts (attribute self.now) };
 }
 
 impl<'a> Tabled for Attribute<'a> {
@@ -36,6 +45,18 @@ impl<'a> Tabled for Attribute<'a> {
             Attribute::Numbers { numbers, .. } => Some(numbers.layout),
             Attribute::Code { .. } | Attribute::Raw { .. } => None,
         }
+    }
+
+    fn name(&self) -> u16 {
+        match self {
+            Attribute::Code { name, .. }
+            | Attribute::Numbers { name, .. }
+            | Attribute::Raw { name, .. } => *name,
+        }
+    }
+
+    fn is_of_parts(&self) -> bool {
+        matches!(self, Attribute::Code { .. })
     }
 }
 
@@ -54,6 +75,18 @@ impl<'a> Tabled for ClassAttribute<'a> {
             ClassAttribute::Record { .. } | ClassAttribute::Raw { .. } => None,
         }
     }
+
+    fn name(&self) -> u16 {
+        match self {
+            ClassAttribute::Record { name, .. }
+            | ClassAttribute::Numbers { name, .. }
+            | ClassAttribute::Raw { name, .. } => *name,
+        }
+    }
+
+    fn is_of_parts(&self) -> bool {
+        matches!(self, ClassAttribute::Record { .. })
+    }
 }
 
 /// Whether the body of the attribute is numbers.
@@ -65,7 +98,7 @@ fn has_numbers<A: Tabled>(attribute: &A) -> bool
 
 /// Whether the attribute has this layout.
 #[tactic(auto, unfolding(crate::specs::NumberForm::has_this_layout))]
-fn has_this_layout<A: Tabled>(layout: &AttributeLayout<'_>, attribute: &A) -> bool
+pub fn has_this_layout<A: Tabled>(layout: &AttributeLayout<'_>, attribute: &A) -> bool
     ensures { result ≡ has_this_layout (layout_view layout.now) (A.attribute attribute.now) }
 {
     match attribute.layout() {
