@@ -71,6 +71,8 @@ EXPLAINED = [
     (r"catch (.*)", "exception_table"),
     (r"(target|handler) (\d+)", "place"),
     (r"(local|stack) (\d+): (.*) is not assignable to (.*)", "mismatch"),
+    (r"(local|stack) (\d+): whether (.*) is assignable to (.*) is not known", "mismatch"),
+    (r"entry (\d+)(?: at (\d+))?", "entry"),
     (r"operand (\d+) of (\d+): expected (.*), found (.*)", "operand"),
     (r"local (\d+): expected (.*), found (.*)", "local"),
     (r"stack: expected units (\d+), found (\d+)", "stack_units"),
@@ -81,6 +83,7 @@ EXPLAINED = [
     (r"class (.*) major (\d+) minor (\d+) flags ([0-9a-f]{4})", "class"),
     (r"super (.*)", "super"),
     (r"(?:field|method) ([0-9a-f]{4}) (.*) (.*)", "member"),
+    (r"attribute (\d+)(?: (.*))?", "attribute"),
 ]
 
 
@@ -91,6 +94,8 @@ def explained_line(line):
         return [("max_stack", int(found[1])), ("max_locals", int(found[2]))]
     if kind == "place":
         return [(found[1], int(found[2]))]
+    if kind == "entry":
+        return [(kind, int(found[1])), *([("entry_at", int(found[2]))] if found[2] else [])]
     if kind == "mismatch":
         return [("differs", found[1]), ("index", int(found[2])), ("type", unescaped(found[3])), ("declared_type", unescaped(found[4]))]
     if kind == "operand":
@@ -110,6 +115,8 @@ def explained_line(line):
         return [] if found[1] == "none" else [(kind, unescaped(found[1]))]
     if kind == "member":
         return [("flags", found[1]), ("name", unescaped(found[2])), ("descriptor", unescaped(found[3]))]
+    if kind == "attribute":
+        return [(kind, int(found[1])), ("attribute_name", unescaped(found[2] or ""))]
     if kind == "frame":
         return [(found[1].replace(" ", "_"), [unescaped(it) for it in found[2][1:].split(", ")] if found[2] else [])]
     return [(kind, unescaped(found[1]))]

@@ -32,7 +32,7 @@ use Rattle.answers.specs.declared.command.Form.{Form}
 use Rattle.answers.specs.declared.command.Form.TheVariants.{Plain, Json}
 use Rattle.answers.specs.declared.manner.Manner.{Manner}
 use Rattle.answers.specs.declared.manner.Manner.TheVariants.{Told, Explained}
-use Rattle.printing.specs.Parts.{part_lines, part_fields}
+use Rattle.printing.specs.Parts.{part_lines, attribute_line, part_fields, attribute_fields}
 use Rattle.answers.specs.Sentences.{sentence, fault_sentence, sentence_line, fault_line, reason_lines, sentence_fields, reason_sentence_fields, file_fault_number}
 use Rattle.answers.specs.Explanations.{code_part, code_fields, explanation, explanation_object, explanations}
 use Rattle.verify.specs.declared.files.FileFault.{FileFault}
@@ -197,9 +197,8 @@ same_object pool body begun Verified Verified x e = refl
 same_object pool body begun NoCode NoCode x e = refl
 same_object pool body begun (Refused at why) (Refused there other) x e =
     let fields : reason_sentence_fields why ≡ reason_sentence_fields other = sentences_by_view why ∙ ap sentences_of e.2 ∙ sym (sentences_by_view other) in
-    ap (λ z. begun (fields_then z (code_fields (reason_number why) pool body at x))) fields
-    ∙ ap (λ n. begun (fields_then (reason_sentence_fields other) (code_fields n pool body at x))) e.1
-    ∙ ap (λ a. begun (fields_then (reason_sentence_fields other) (code_fields (reason_number other) pool body a x))) e.0
+    ap (λ z. begun (fields_then z (code_fields pool body at x))) fields
+    ∙ ap (λ a. begun (fields_then (reason_sentence_fields other) (code_fields pool body a x))) e.0
 same_object pool body begun _ _ x e = absurd e
 
 abbrev begun_of : List ℕ → List ℕ → List Field → List ℕ → List ℕ
@@ -295,7 +294,7 @@ module _ (laws : Laws) where
 
   one_part : (read : Read) (r : FileFault) (text other : List ℕ) → IsPart read r text → IsPart read r other → text ≡ other
   one_part (Ok bytes) (Malformed rule place) text other (c, p, e) (d, q, f) =
-      e ∙ ap (λ (x : Class). part_lines x place) (laws.one_class bytes c d p q) ∙ sym f
+      e ∙ ap (λ (x : Class). part_lines x place ++ attribute_line x rule place) (laws.one_class bytes c d p q) ∙ sym f
   one_part (Err fault) (Malformed rule place) text other (c, p, e) q = absurd p
   one_part read files.OutOfMemory text other p q = p ∙ sym q
   one_part read (files.Unread fault) text other p q = p ∙ sym q
@@ -303,7 +302,7 @@ module _ (laws : Laws) where
 
   one_part_fields : (read : Read) (r : FileFault) (fields other : List Field) → ArePartFields read r fields → ArePartFields read r other → fields ≡ other
   one_part_fields (Ok bytes) (Malformed rule place) fields other (c, p, e) (d, q, f) =
-      e ∙ ap (λ (x : Class). part_fields x place) (laws.one_class bytes c d p q) ∙ sym f
+      e ∙ ap (λ (x : Class). part_fields x place ++ attribute_fields x rule place) (laws.one_class bytes c d p q) ∙ sym f
   one_part_fields (Err fault) (Malformed rule place) fields other (c, p, e) q = absurd p
   one_part_fields read files.OutOfMemory fields other p q = p ∙ sym q
   one_part_fields read (files.Unread fault) fields other p q = p ∙ sym q

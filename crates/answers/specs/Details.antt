@@ -1,54 +1,69 @@
--- The lines, and the fields, on what is wrong with a frame, where a number is about an operand, a local variable, a
--- target or a handler.
-use Rattle.std.specs.Prelude.{ℕ, Bool, ◌||◌, nat_eq, if◌then◌else◌, List, [], ◌∷◌, ◌++◌, Option, Some, None, option_map, codes, decimal}
-use Rattle.rules.specs.ReasonNumbers.{missing_operand, wrong_operand, wrong_local, not_assignable_at_target, handler_not_assignable}
-use Rattle.rules.specs.Unmet.{UnmetFact, unmet_of}
-use Rattle.verify.specs.Coming.{FramesFact}
-use Rattle.verify.specs.DifferencesAt.{DifferenceAtFact, difference_at_of}
+-- The lines, and the fields, on what is wrong where a method is refused.
+use Rattle.std.specs.Prelude.{ℕ, Bool, true, false, nat_eq, if◌then◌else◌, List, [], ◌∷◌, ◌++◌, Option, Some, None, codes, decimal}
+use Rattle.frames.specs.declared.difference.Sought.{Sought}
+use Rattle.frames.specs.declared.difference.Sought.TheVariants.{No, Missing}
+use Rattle.rules.specs.ReasonNumbers.{absent_class}
+use Rattle.verify.specs.Details.{DetailFact, arriving, taken, target, handler, entry, map_entry}
+use Rattle.verify.specs.DifferencesAt.{DifferenceAtFact}
 use Rattle.printing.specs.Differences.{difference_line, difference_fields}
 use Rattle.printing.specs.Json as json
 use Rattle.printing.specs.Json.{Field}
 use Rattle.answers.specs.Unmet.{unmet_line, unmet_fields}
-use Rattle.answers.specs.declared.details.Detail.{Detail}
-use Rattle.answers.specs.declared.details.Detail.TheVariants.{Unmet, At}
 
--- An expected type of the instruction is not met; or the frame that leads to a target or a handler, as the word says,
--- differs from the one that is declared there.
-pub data DetailFact : Type 0 where
-  unmet : UnmetFact → DetailFact
-  differs : (word : List ℕ) → DifferenceAtFact → DetailFact
+-- the answer of the comparisons that a number is about
+abbrev pub sought_by : ℕ → Sought
+sought_by n = if nat_eq n absent_class then Missing else No
 
--- these numbers are about an operand or a local variable of the instruction
-abbrev pub is_of_unmet : ℕ → Bool
-is_of_unmet n = nat_eq n missing_operand || nat_eq n wrong_operand || nat_eq n wrong_local
+-- the frame that comes to the instruction and the one that is declared there are compared
+abbrev pub is_arriving : Option DetailFact → Bool
+is_arriving (Some (arriving d)) = true
+is_arriving _ = false
 
--- what is wrong, where a number is about it
-abbrev pub detail_for : ℕ → FramesFact → Option DetailFact
-detail_for n x =
-    if is_of_unmet n then option_map unmet x.unmet
-    else if nat_eq n not_assignable_at_target then option_map (differs (codes "target")) x.target
-    else if nat_eq n handler_not_assignable then option_map (λ h. differs (codes "handler") h.1) x.handler
-    else None
+-- the place of the entry of the exception table at fault, if one is
+abbrev pub entry_of : Option DetailFact → Option ℕ
+entry_of (Some (handler place d)) = Some place
+entry_of (Some (entry place)) = Some place
+entry_of _ = None
 
-abbrev pub detail_line : DetailFact → List ℕ
-detail_line (unmet x) = unmet_line x
-detail_line (differs word d) =
-    codes "  " ++ (word ++ (codes " " ++ (decimal d.at ++ (codes "\n" ++ difference_line d.difference))))
+-- ---- in words; the entry of the exception table is shown behind
 
-abbrev pub detail_line_of : Option DetailFact → List ℕ
-detail_line_of None = []
-detail_line_of (Some x) = detail_line x
+abbrev pub placed_line : Sought → List ℕ → DifferenceAtFact → List ℕ
+placed_line sought word d =
+    codes "  " ++ (word ++ (codes " " ++ (decimal d.at ++ (codes "\n" ++ difference_line sought d.difference))))
+
+abbrev pub offset_text : Option ℕ → List ℕ
+offset_text None = codes "\n"
+offset_text (Some at) = codes " at " ++ (decimal at ++ codes "\n")
+
+abbrev pub detail_line : Sought → DetailFact → List ℕ
+detail_line sought (arriving d) = difference_line sought d
+detail_line sought (taken x) = unmet_line x
+detail_line sought (target d) = placed_line sought (codes "target") d
+detail_line sought (handler place d) = placed_line sought (codes "handler") d
+detail_line sought (entry place) = []
+detail_line sought (map_entry place at) = codes "  entry " ++ (decimal place ++ offset_text at)
+
+abbrev pub detail_line_of : Sought → Option DetailFact → List ℕ
+detail_line_of sought None = []
+detail_line_of sought (Some x) = detail_line sought x
+
+-- ---- as fields of an object of JSON
+
+abbrev pub placed_fields : List ℕ → DifferenceAtFact → List Field
+placed_fields word d = (word, json.number d.at) ∷ difference_fields d.difference
+
+abbrev pub offset_fields : Option ℕ → List Field
+offset_fields None = []
+offset_fields (Some at) = (codes "entry_at", json.number at) ∷ []
 
 abbrev pub detail_fields : DetailFact → List Field
-detail_fields (unmet x) = unmet_fields x
-detail_fields (differs word d) = (word, json.number d.at) ∷ difference_fields d.difference
+detail_fields (arriving d) = difference_fields d
+detail_fields (taken x) = unmet_fields x
+detail_fields (target d) = placed_fields (codes "target") d
+detail_fields (handler place d) = placed_fields (codes "handler") d
+detail_fields (entry place) = []
+detail_fields (map_entry place at) = (codes "entry", json.number place) ∷ offset_fields at
 
 abbrev pub detail_fields_of : Option DetailFact → List Field
 detail_fields_of None = []
 detail_fields_of (Some x) = detail_fields x
-
--- ---- what a value of the program stands for
-
-abbrev pub detail_of : Detail → DetailFact
-detail_of (Unmet x) = unmet (unmet_of x)
-detail_of (At word d) = differs word.now (difference_at_of d)

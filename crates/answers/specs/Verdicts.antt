@@ -32,7 +32,7 @@ use Rattle.answers.specs.declared.manner.Manner.{Manner}
 use Rattle.answers.specs.declared.manner.Manner.TheVariants.{Told, Explained}
 use Rattle.answers.specs.Sentences.{sentence_line, sentence_fields, file_fault_number}
 use Rattle.answers.specs.Explanations.{explanation, explanation_object, explanations}
-use Rattle.printing.specs.Parts.{part_lines, part_fields}
+use Rattle.printing.specs.Parts.{part_lines, attribute_line, part_fields, attribute_fields}
 use Rattle.verify.specs.declared.files.FileFault.{FileFault}
 use Rattle.verify.specs.declared.files.FileFault.TheVariants.{Malformed}
 use Rattle.verify.specs.Files.{Read, IsDecoded, IsFormed, IsRefused, AreFormed, IsFirstRefused}
@@ -164,9 +164,11 @@ report_status rs = if list_any (λ r. is_refusal r.verdict) rs then 1 else 0
 
 -- ---- in the manner of `verify`, or in that of `explain`, which has the sentence on its number behind each refusal
 
--- the text of the part of a class that breaks a rule; empty for any other refusal of a file
+-- the text of the part of a class that breaks a rule, and of the attribute of it that does; empty for any other refusal
+-- of a file
 abbrev pub IsPart : Read → FileFault → List ℕ → Type 0
-IsPart read (Malformed rule place) text = (c : Class) × IsDecoded read c × (text ≡ part_lines c place)
+IsPart read (Malformed rule place) text = (c : Class) × IsDecoded read c
+    × (text ≡ part_lines c place ++ attribute_line c rule place)
 IsPart read r text = text ≡ []
 
 -- the lines of `explain` about a file that is refused with this line
@@ -174,9 +176,11 @@ abbrev pub IsExplained : Read → FileFault → List ℕ → List ℕ → Type 0
 IsExplained read r line text = (part : List ℕ) × IsPart read r part
     × (text ≡ line ++ (sentence_line (file_fault_number r) ++ part))
 
--- the fields of the part of a class that breaks a rule; none for any other refusal of a file
+-- the fields of the part of a class that breaks a rule, and of the attribute of it that does; none for any other
+-- refusal of a file
 abbrev pub ArePartFields : Read → FileFault → List Field → Type 0
-ArePartFields read (Malformed rule place) fields = (c : Class) × IsDecoded read c × (fields ≡ part_fields c place)
+ArePartFields read (Malformed rule place) fields = (c : Class) × IsDecoded read c
+    × (fields ≡ part_fields c place ++ attribute_fields c rule place)
 ArePartFields read r fields = fields ≡ []
 
 -- the object of `explain` about a file that is refused, whose first fields are written by `begun`

@@ -3,55 +3,28 @@ ghost use Rattle.std.specs.Prelude.{◌≡◌, map, [], codes, option_map};
 ghost use Rattle.classfile.specs.Methods.{code_of};
 ghost use Rattle.classfile.specs.Views.{member_view, code_view, handler_view};
 ghost use Rattle.frames.specs.FrameFact.{frame_of};
-ghost use Rattle.frames.specs.Differences.{difference_of};
 ghost use Rattle.rules.specs.Reasons.{reason_number};
 ghost use Rattle.verify.specs.Coming.{before, frames_view};
-ghost use Rattle.answers.specs.Details.{detail_for, detail_line_of, detail_fields_of, detail_of};
-ghost use Rattle.answers.specs.Explanations.{is_of_table, entry_for, entry_at, entry_lines, lines_if, difference_line_of, is_of_entry, frames_for, code_part, explanation, frame_fields_of, declared_fields_of, difference_fields_of, frame_fields_for, entry_fields, code_fields, explanation_object, explanations};
+ghost use Rattle.answers.specs.Details.{sought_by, is_arriving, entry_of, detail_line_of, detail_fields_of};
+ghost use Rattle.answers.specs.Explanations.{entry_at, entry_lines, lines_if, frames_for, code_part, explanation, frame_fields_of, declared_fields_of, frame_fields_for, entry_fields, code_fields, explanation_object, explanations};
 ghost use Rattle.printing.specs.Json.{fields_then, fields_behind};
 ghost use Rattle.answers.specs.Verdicts.{verdict_line, verdict_object, explained};
 ghost use Rattle.answers.specs.declared.command.Form.TheVariants.{Plain};
 
 use crate::command::Form;
-use crate::details::{DetailFieldsIf, DetailIf, detail_for};
+use crate::details::{DetailFieldsIf, DetailIf, entry_of, is_arriving, sought_by};
 use crate::sentences::{ReasonSentenceFields, ReasonSentences};
 use crate::verdicts::{VerdictLine, VerdictObject};
 use classfile::{CodeAttr, ExceptionHandler, Member};
-use frames::{Difference, Frame};
+use frames::Frame;
 use pool::Pool;
 use printing::{
-    DifferenceFields, DifferenceLine, END, FrameFields, FrameLines, Handlers, HandlersField,
-    InstructionAt, InstructionFields, NamedAt, NamedFields, Print, SizeFields, Sizes, Then, Word,
-    WriteFailed,
+    END, FrameFields, FrameLines, Handlers, HandlersField, InstructionAt, InstructionFields,
+    NamedAt, NamedFields, Print, SizeFields, Sizes, Then, Word, WriteFailed,
 };
 use rules::Reason;
 use std::io::Write;
 use verify::{FramesAt, MethodVerdict, Verdict};
-
-/// Whether a reason is about entries of the exception table.
-fn is_of_table(reason: &Reason<'_>) -> bool
-    ensures { result ≡ is_of_table (reason_number reason.now) }
-{
-    match reason {
-        Reason::BadException | Reason::HandlerNotAssignable | Reason::ConstructorCovered => true,
-        _ => false,
-    }
-}
-
-/// The place of the entry that a reason is about, if it is about one.
-fn entry_for(reason: &Reason<'_>, frames: &FramesAt<'_>) -> Option<usize>
-    ensures { result ≡ entry_for (reason_number reason.now) (frames_view frames.now) }
-{
-    match reason {
-        Reason::BadException => frames.refused_entry,
-        Reason::HandlerNotAssignable => match frames.handler {
-            Some((place, _)) => Some(place),
-            None => None,
-        },
-        Reason::ConstructorCovered => frames.covering_entry,
-        _ => None,
-    }
-}
 
 /// The entry at a place of an exception table, if there is one.
 fn entry_at<'m>(table: &'m [ExceptionHandler], place: Option<usize>) -> &'m [ExceptionHandler]
@@ -66,34 +39,22 @@ fn entry_at<'m>(table: &'m [ExceptionHandler], place: Option<usize>) -> &'m [Exc
     &table[place..place + 1]
 }
 
-/// The line of the entry of the exception table that a reason is about.
+/// The line of the entry of the exception table at fault.
 #[derive(Clone, Copy)]
 struct EntryLines<'m, 'r, 'a> {
-    reason: Reason<'a>,
     pool: &'m Pool<'a>,
     body: &'m CodeAttr<'a>,
     frames: &'r FramesAt<'a>,
 }
 
 impl<'m, 'r, 'a> Print for EntryLines<'m, 'r, 'a> {
-    ghost text = { λ t. entry_lines (reason_number t.reason) t.pool.now (code_view t.body.now)
-        (frames_view t.frames.now) };
+    ghost text = { λ t. entry_lines t.pool.now (code_view t.body.now) (frames_view t.frames.now) };
 
     fn put<W: Write>(&self, out: &mut W) -> Result<(), WriteFailed> {
-        let place = entry_for(&self.reason, self.frames);
+        let place = entry_of(&self.frames.detail);
         let pool = self.pool;
         let table = entry_at(&self.body.exception_table, place);
         Handlers { pool, table }.put(out)
-    }
-}
-
-/// Whether a reason is about the frame that comes to an instruction and the one that is declared there.
-fn is_of_entry(reason: &Reason<'_>) -> bool
-    ensures { result ≡ is_of_entry (reason_number reason.now) }
-{
-    match reason {
-        Reason::NotAssignable => true,
-        _ => false,
     }
 }
 
@@ -130,21 +91,6 @@ impl<'r, 'a> Print for Declared<'r, 'a> {
     }
 }
 
-/// The line of the first difference of the frame that comes from the declared one, if there is one.
-#[derive(Clone, Copy)]
-struct Differing<'r, 'a>(&'r FramesAt<'a>);
-
-impl<'r, 'a> Print for Differing<'r, 'a> {
-    ghost text = { λ t. difference_line_of (frames_view t.0.now).difference };
-
-    fn put<W: Write>(&self, out: &mut W) -> Result<(), WriteFailed> {
-        match self.0.difference {
-            Some(difference) => DifferenceLine(difference).put(out),
-            None => Word("").put(out),
-        }
-    }
-}
-
 /// The lines of the frame before an instruction, if there is one.
 #[derive(Clone, Copy)]
 struct Before<'r, 'a>(&'r FramesAt<'a>);
@@ -160,23 +106,19 @@ impl<'r, 'a> Print for Before<'r, 'a> {
     }
 }
 
-/// The frames at the instruction at which a method is refused for a reason.
+/// The frame before the instruction at which a method is refused; where the frame that comes is compared with the
+/// declared one, both.
 #[derive(Clone, Copy)]
-struct FramesFor<'r, 'a> {
-    reason: Reason<'a>,
-    frames: &'r FramesAt<'a>,
-}
+struct FramesFor<'r, 'a>(&'r FramesAt<'a>);
 
 impl<'r, 'a> Print for FramesFor<'r, 'a> {
-    ghost text = { λ t. frames_for (reason_number t.reason) (frames_view t.frames.now) };
+    ghost text = { λ t. frames_for (frames_view t.0.now) };
 
     fn put<W: Write>(&self, out: &mut W) -> Result<(), WriteFailed> {
-        if is_of_entry(&self.reason) {
-            let declared = Then(Declared(self.frames), Differing(self.frames));
-            Then(Coming(self.frames), declared).put(out)
+        if is_arriving(&self.0.detail) {
+            Then(Coming(self.0), Declared(self.0)).put(out)
         } else {
-            let detail = DetailIf(detail_for(&self.reason, self.frames));
-            Then(Before(self.frames), detail).put(out)
+            Before(self.0).put(out)
         }
     }
 }
@@ -202,19 +144,16 @@ impl<'m, 'r, 'a> Print for CodePart<'m, 'r, 'a> {
                 let code = body.code;
                 let at = self.at;
                 let pool = self.pool;
-                let reason = self.reason;
-                let frames = FramesFor {
-                    reason,
-                    frames: self.frames,
+                let frames = self.frames;
+                let sought = sought_by(&self.reason);
+                let detail = DetailIf {
+                    sought,
+                    detail: frames.detail,
                 };
-                let entries = EntryLines {
-                    reason,
-                    pool,
-                    body,
-                    frames: self.frames,
-                };
+                let entries = EntryLines { pool, body, frames };
                 let named = NamedAt { pool, code, at };
-                let behind = Then(named, Then(frames, entries));
+                let wrong = Then(FramesFor(frames), Then(detail, entries));
+                let behind = Then(named, wrong);
                 let behind = Then(InstructionAt { code, at }, behind);
                 Then(Sizes(body), behind).put(out)
             }
@@ -257,31 +196,27 @@ impl<'m, 'r, 'a> Print for Explanation<'m, 'r, 'a> {
     }
 }
 
-/// The entry of the exception table that a reason is about as the last field of an object, where it is about one, and
-/// then the end of the object.
+/// The entry of the exception table at a place as the last field of an object, if there is one, and then the end of the
+/// object.
 #[derive(Clone, Copy)]
-struct EntryFields<'m, 'r, 'a> {
-    reason: Reason<'a>,
+struct EntryFields<'m, 'a> {
     pool: &'m Pool<'a>,
     body: &'m CodeAttr<'a>,
-    frames: &'r FramesAt<'a>,
+    place: Option<usize>,
 }
 
-impl<'m, 'r, 'a> Print for EntryFields<'m, 'r, 'a> {
-    ghost text = { λ t. fields_behind (entry_fields (reason_number t.reason) t.pool.now (code_view t.body.now)
-        (frames_view t.frames.now)) };
+impl<'m, 'a> Print for EntryFields<'m, 'a> {
+    ghost text = { λ t. fields_behind (entry_fields t.pool.now (code_view t.body.now) t.place) };
 
     fn put<W: Write>(&self, out: &mut W) -> Result<(), WriteFailed> {
-        if is_of_table(&self.reason) {
-            let place = entry_for(&self.reason, self.frames);
-            HandlersField {
+        match self.place {
+            Some(place) => HandlersField {
                 pool: self.pool,
-                table: entry_at(&self.body.exception_table, place),
+                table: entry_at(&self.body.exception_table, Some(place)),
                 behind: END,
             }
-            .put(out)
-        } else {
-            END.put(out)
+            .put(out),
+            None => END.put(out),
         }
     }
 }
@@ -330,54 +265,33 @@ impl<'r, 'a, B: Print + Copy> Print for DeclaredIf<'r, 'a, B> {
     }
 }
 
-/// The fields of a difference, if there is one, and then the text behind them.
-#[derive(Clone, Copy)]
-struct DifferenceIf<'a, B>(Option<Difference<'a>>, B);
-
-impl<'a, B: Print + Copy> Print for DifferenceIf<'a, B> {
-    ghost text = { λ t. fields_then (difference_fields_of (option_map difference_of t.0)) (B.text t.1) };
-
-    fn put<W: Write>(&self, out: &mut W) -> Result<(), WriteFailed> {
-        match self.0 {
-            Some(difference) => DifferenceFields(difference, self.1).put(out),
-            None => self.1.put(out),
-        }
-    }
-}
-
-/// The fields of the frames at the instruction at which a method is refused for a reason, and then what stands behind
-/// them.
+/// The fields of the frame before the instruction at which a method is refused, and then what stands behind them; where
+/// the frame that comes is compared with the declared one, the fields of both.
 #[derive(Clone, Copy)]
 struct FrameFieldsFor<'r, 'a, B> {
-    reason: Reason<'a>,
     frames: &'r FramesAt<'a>,
     behind: B,
 }
 
 impl<'r, 'a, B: Print + Copy> Print for FrameFieldsFor<'r, 'a, B> {
-    ghost text = { λ t. frame_fields_for (reason_number t.reason) (frames_view t.frames.now) (B.text t.behind) };
+    ghost text = { λ t. frame_fields_for (frames_view t.frames.now) (B.text t.behind) };
 
     fn put<W: Write>(&self, out: &mut W) -> Result<(), WriteFailed> {
         let coming = self.frames.coming.as_ref();
         let declared = self.frames.declared.as_ref();
-        if is_of_entry(&self.reason) {
-            let difference = DifferenceIf(self.frames.difference, self.behind);
-            FrameIf(coming, DeclaredIf(declared, difference)).put(out)
-        } else {
-            let detail = detail_for(&self.reason, self.frames);
-            let behind = DetailFieldsIf(detail, self.behind);
-            match declared {
-                Some(_) => FrameIf(declared, behind).put(out),
-                None => FrameIf(coming, behind).put(out),
-            }
+        if is_arriving(&self.frames.detail) {
+            return FrameIf(coming, DeclaredIf(declared, self.behind)).put(out);
+        }
+        match declared {
+            Some(_) => FrameIf(declared, self.behind).put(out),
+            None => FrameIf(coming, self.behind).put(out),
         }
     }
 }
 
-/// The fields on the code of a method which is refused at an offset for a reason, and the end of the object.
+/// The fields on the code of a method which is refused at an offset, and the end of the object.
 #[derive(Clone, Copy)]
 struct CodeFields<'m, 'r, 'a> {
-    reason: Reason<'a>,
     pool: &'m Pool<'a>,
     member: &'m Member<'a>,
     at: usize,
@@ -385,8 +299,8 @@ struct CodeFields<'m, 'r, 'a> {
 }
 
 impl<'m, 'r, 'a> Print for CodeFields<'m, 'r, 'a> {
-    ghost text = { λ t. code_fields (reason_number t.reason) t.pool.now
-        (code_of (member_view t.member.now).attributes) t.at (frames_view t.frames.now) };
+    ghost text = { λ t. code_fields t.pool.now (code_of (member_view t.member.now).attributes) t.at
+        (frames_view t.frames.now) };
 
     fn put<W: Write>(&self, out: &mut W) -> Result<(), WriteFailed> {
         match self.member.code() {
@@ -395,16 +309,12 @@ impl<'m, 'r, 'a> Print for CodeFields<'m, 'r, 'a> {
                 let code = body.code;
                 let at = self.at;
                 let pool = self.pool;
-                let reason = self.reason;
+                let detail = self.frames.detail;
+                let place = entry_of(&detail);
+                let entry = EntryFields { pool, body, place };
                 let frames = FrameFieldsFor {
-                    reason,
                     frames: self.frames,
-                    behind: EntryFields {
-                        reason,
-                        pool,
-                        body,
-                        frames: self.frames,
-                    },
+                    behind: DetailFieldsIf(detail, entry),
                 };
                 let named = NamedFields {
                     pool,
@@ -442,7 +352,6 @@ impl<'m, 'r, 'a> Print for ExplanationObject<'m, 'r, 'a> {
             Verdict::Verified | Verdict::NoCode => Word("").put(out),
             Verdict::Refused { at, reason } => {
                 let code = CodeFields {
-                    reason,
                     pool: self.pool,
                     member: self.member,
                     at,

@@ -24,7 +24,7 @@ use crate::telling::tell;
 use crate::verdicts::{ClassRefusal, FileObject, KnownRefusal, ReportText};
 use classfile::{ClassFile, Profile, decode, one_class};
 use layout::StreamFault;
-use printing::{END, PartFields, PartLines, Print, Then, Word};
+use printing::{AttributeFields, AttributeLine, END, PartFields, PartLines, Print, Then, Word};
 use std::alloc::Global;
 use std::hash::BuildHasher;
 use std::io::Write;
@@ -62,10 +62,11 @@ fn explain_file<T: Print + Copy, W: Write>(
 {
     let sentence = FileSentence(fault);
     match fault {
-        FileFault::Malformed { place, .. } => match file_class(alloc, read) {
+        FileFault::Malformed { rule, place } => match file_class(alloc, read) {
             Ok(class) => {
                 let class = &class;
-                let part = PartLines { class, place };
+                let attribute = AttributeLine { class, rule, place };
+                let part = Then(PartLines { class, place }, attribute);
                 tell(&Then(line, Then(sentence, part)), 1, out)
             }
             Err(fault) => Err(fault),
@@ -89,12 +90,18 @@ fn explain_object<W: Write>(
         × (s ≡ refusal_status fault)) (W.contents out.old) (W.contents out.new) result }
 {
     match fault {
-        FileFault::Malformed { place, .. } => match file_class(alloc, read) {
+        FileFault::Malformed { rule, place } => match file_class(alloc, read) {
             Ok(class) => {
+                let behind = AttributeFields {
+                    class: &class,
+                    rule,
+                    place,
+                    behind: END,
+                };
                 let part = PartFields {
                     class: &class,
                     place,
-                    behind: END,
+                    behind,
                 };
                 let behind = FileSentenceFields(fault, part);
                 let text = FileObject {

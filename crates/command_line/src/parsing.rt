@@ -66,8 +66,8 @@ const EXPLAIN_EXAMPLE: &str = "Example:
 
 Each method that is refused has its line as by `verify`, a line that says what its number means, and of its code, as by `show`, the sizes
 and the instruction at the offset; then the types in the local variables and on the stack before it, what is wrong with them (61 to 63, 68,
-69 and 73), and the entry of the exception table at fault (72, 73 and 75). Behind 78 and 79 the fault is explained too. Where the files
-themselves are refused, the line of `verify` is followed by what its number means, and by the part of the file at fault.";
+69 and 73) or which comparison asks for the missing class (77), and the entry at fault of the exception table (72, 73, 75 and 77) or of the
+stack map (78). Behind 78 and 79 the fault is explained too. Where the files themselves are refused, the line of `verify` is followed by what its number means, and by the part of the file at fault.";
 
 /// The end of the help on `play`.
 const PLAY_EXAMPLE: &str = "Example:

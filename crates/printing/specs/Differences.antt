@@ -1,23 +1,30 @@
--- The line of the first difference of a frame that comes from the declared one (JVMS 4.10.1.4), and its fields.
+-- The line of the first difference of a frame that comes from the declared one (JVMS 4.10.1.4), or of the first place
+-- at which their comparison asks for a class that is missing, and its fields.
 use Rattle.std.specs.Prelude.{ℕ, List, [], ◌∷◌, ◌++◌, codes, decimal}
 use Rattle.frames.specs.Differences.{MismatchFact, DifferenceFact, flag, local, sizes, item}
+use Rattle.frames.specs.declared.difference.Sought.{Sought}
+use Rattle.frames.specs.declared.difference.Sought.TheVariants.{No, Missing}
 use Rattle.printing.specs.Frames.{type_text}
 use Rattle.printing.specs.Json.{Field, number, word, written}
 use Rattle.printing.specs.declared.within.Within.TheVariants.{Words, Json}
 
--- two types, of which the one that comes is not assignable to the declared one
-abbrev pub types_differ : MismatchFact → List ℕ
-types_differ m = type_text Words m.from ++ (codes " is not assignable to " ++ (type_text Words m.to ++ codes "\n"))
+-- two types, of which the one that comes is not assignable to the declared one, or is not known to be
+abbrev pub types_differ : Sought → MismatchFact → List ℕ
+types_differ No m = type_text Words m.from ++ (codes " is not assignable to " ++ (type_text Words m.to ++ codes "\n"))
+types_differ Missing m =
+    codes "whether " ++ (type_text Words m.from ++ (codes " is assignable to " ++ (type_text Words m.to
+    ++ codes " is not known\n")))
 
-abbrev pub mismatch_line : List ℕ → MismatchFact → List ℕ
-mismatch_line part m = codes "  " ++ (part ++ (codes " " ++ (decimal m.place ++ (codes ": " ++ types_differ m))))
+abbrev pub mismatch_line : Sought → List ℕ → MismatchFact → List ℕ
+mismatch_line sought part m =
+    codes "  " ++ (part ++ (codes " " ++ (decimal m.place ++ (codes ": " ++ types_differ sought m))))
 
-abbrev pub difference_line : DifferenceFact → List ℕ
-difference_line flag = codes "  flags: flagThisUninit comes and is not declared\n"
-difference_line (local m) = mismatch_line (codes "local") m
-difference_line (sizes from to) =
+abbrev pub difference_line : Sought → DifferenceFact → List ℕ
+difference_line sought flag = codes "  flags: flagThisUninit comes and is not declared\n"
+difference_line sought (local m) = mismatch_line sought (codes "local") m
+difference_line sought (sizes from to) =
     codes "  stack: items that come " ++ (decimal from ++ (codes ", declared " ++ (decimal to ++ codes "\n")))
-difference_line (item m) = mismatch_line (codes "stack") m
+difference_line sought (item m) = mismatch_line sought (codes "stack") m
 
 -- ---- as fields of an object of JSON
 

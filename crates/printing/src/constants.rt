@@ -17,10 +17,10 @@ use std::io::Write;
 
 /// The text at an index, behind a blank; nothing where there is none.
 #[derive(Clone, Copy)]
-struct TextBehind<'p, 'a> {
-    within: Within,
-    pool: &'p Pool<'a>,
-    index: u16,
+pub struct TextBehind<'p, 'a> {
+    pub within: Within,
+    pub pool: &'p Pool<'a>,
+    pub index: u16,
 }
 
 impl<'p, 'a> Print for TextBehind<'p, 'a> {

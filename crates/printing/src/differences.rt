@@ -1,4 +1,5 @@
-//! The line of the first difference of a frame that comes from the declared one (JVMS 4.10.1.4), and its JSON fields.
+//! The line of the first difference of a frame that comes from the declared one (JVMS 4.10.1.4), or of the first place
+//! at which their comparison asks for a class that is missing, and its JSON fields.
 ghost use Rattle.frames.specs.Differences.{mismatch_of, difference_of};
 ghost use Rattle.printing.specs.Differences.{types_differ, mismatch_line, difference_line, mismatch_fields, difference_fields};
 ghost use Rattle.printing.specs.Json.{fields_then};
@@ -7,40 +8,55 @@ use crate::frame::TypeText;
 use crate::json::{Enclosed, More, Quoted};
 use crate::print::{Number, Print, Then, Word, WriteFailed};
 use crate::within::Within;
-use frames::{Difference, Mismatch};
+use frames::{Difference, Mismatch, Sought};
 use std::io::Write;
 
-/// The type that comes and the declared one, to which it is not assignable, and the end of the line.
+/// The type that comes and the declared one, to which it is not assignable, or is not known to be, and the end of the
+/// line.
 #[derive(Clone, Copy)]
-struct TypesDiffer<'a>(Mismatch<'a>);
+struct TypesDiffer<'a> {
+    sought: Sought,
+    mismatch: Mismatch<'a>,
+}
 
 impl<'a> Print for TypesDiffer<'a> {
-    ghost text = { λ t. types_differ (mismatch_of t.0) };
+    ghost text = { λ t. types_differ t.sought (mismatch_of t.mismatch) };
 
     fn put<W: Write>(&self, out: &mut W) -> Result<(), WriteFailed> {
-        let from = TypeText(Within::Words, self.0.from);
-        let to = TypeText(Within::Words, self.0.to);
-        Then(
-            from,
-            Then(Word(" is not assignable to "), Then(to, Word("\n"))),
-        )
-        .put(out)
+        let from = TypeText(Within::Words, self.mismatch.from);
+        let to = TypeText(Within::Words, self.mismatch.to);
+        match self.sought {
+            Sought::No => {
+                let to = Then(to, Word("\n"));
+                Then(from, Then(Word(" is not assignable to "), to)).put(out)
+            }
+            Sought::Missing => {
+                let to = Then(to, Word(" is not known\n"));
+                let types = Then(from, Then(Word(" is assignable to "), to));
+                Then(Word("whether "), types).put(out)
+            }
+        }
     }
 }
 
 /// The line of a place of one part of the frames.
 #[derive(Clone, Copy)]
 struct MismatchLine<'a> {
+    sought: Sought,
     part: &'static str,
     mismatch: Mismatch<'a>,
 }
 
 impl<'a> Print for MismatchLine<'a> {
-    ghost text = { λ t. mismatch_line t.part.now (mismatch_of t.mismatch) };
+    ghost text = { λ t. mismatch_line t.sought t.part.now (mismatch_of t.mismatch) };
 
     fn put<W: Write>(&self, out: &mut W) -> Result<(), WriteFailed> {
         let place = Number(self.mismatch.place as u64);
-        let types = Then(Word(": "), TypesDiffer(self.mismatch));
+        let differ = TypesDiffer {
+            sought: self.sought,
+            mismatch: self.mismatch,
+        };
+        let types = Then(Word(": "), differ);
         Then(
             Word("  "),
             Then(Word(self.part), Then(Word(" "), Then(place, types))),
@@ -49,21 +65,33 @@ impl<'a> Print for MismatchLine<'a> {
     }
 }
 
-/// The line of the first difference of a frame that comes from the declared one.
+/// The line of the first difference of a frame that comes from the declared one, or of the first place at which their
+/// comparison asks for a class that is missing.
 #[derive(Clone, Copy)]
-pub struct DifferenceLine<'a>(pub Difference<'a>);
+pub struct DifferenceLine<'a> {
+    /// The answer of the comparison.
+    pub sought: Sought,
+    /// The difference, or the place.
+    pub difference: Difference<'a>,
+}
 
 impl<'a> Print for DifferenceLine<'a> {
-    ghost text = { λ t. difference_line (difference_of t.0) };
+    ghost text = { λ t. difference_line t.sought (difference_of t.difference) };
 
     fn put<W: Write>(&self, out: &mut W) -> Result<(), WriteFailed> {
-        match self.0 {
+        let sought = self.sought;
+        match self.difference {
             Difference::Flag => {
                 Word("  flags: flagThisUninit comes and is not declared\n").put(out)
             }
             Difference::Local(mismatch) => {
                 let part = "local";
-                MismatchLine { part, mismatch }.put(out)
+                MismatchLine {
+                    sought,
+                    part,
+                    mismatch,
+                }
+                .put(out)
             }
             Difference::Sizes { from, to } => {
                 let declared = Then(Word(", declared "), Then(Number(to as u64), Word("\n")));
@@ -72,7 +100,12 @@ impl<'a> Print for DifferenceLine<'a> {
             }
             Difference::Item(mismatch) => {
                 let part = "stack";
-                MismatchLine { part, mismatch }.put(out)
+                MismatchLine {
+                    sought,
+                    part,
+                    mismatch,
+                }
+                .put(out)
             }
         }
     }
@@ -98,7 +131,8 @@ impl<'a, B: Print + Copy> Print for MismatchFields<'a, B> {
     }
 }
 
-/// The fields of the first difference of a frame that comes from the declared one, and then what stands behind them.
+/// The fields of the first difference of a frame that comes from the declared one, or of the first place at which their
+/// comparison asks for a class that is missing, and then what stands behind them.
 #[derive(Clone, Copy)]
 pub struct DifferenceFields<'a, B>(pub Difference<'a>, pub B);
 

@@ -14,7 +14,8 @@
 //! - `frame`: the lines of a frame, and a frame as fields of an object of JSON.
 //! - `differences`: the line of what differs first of two frames, and its fields.
 //! - `within`: names in a line of words, or in a string of JSON.
-//! - `constants`: the line of a constant; `parts`: the part of a class file at a place, by its lines or as fields.
+//! - `constants`: the line of a constant; `parts`: the part of a class file at a place, and the attribute of it that is
+//!   at fault, by its lines or as fields.
 //! - `class_attributes`: the lines of records and sealed classes.
 //! - `listing`: the lines of a class file.
 #![tactic(auto)]
@@ -45,6 +46,6 @@ pub use frame::{FrameFields, FrameLines, TypeText};
 pub use json::{END, Enclosed, More, Object, Quoted, QuotedName, QuotedSpelled, Strings};
 pub use listing::Listing;
 pub use name::{ClassName, ConstantText, Hexadecimal, Name, Spelled};
-pub use parts::{PartFields, PartLines};
+pub use parts::{AttributeFields, AttributeLine, PartFields, PartLines};
 pub use print::{Lines, Number, Print, Then, Word, WriteFailed, put_bytes, put_lines};
 pub use within::Within;

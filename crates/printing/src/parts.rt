@@ -1,19 +1,20 @@
-//! The part of a class file at a place, by its lines or by fields of an object of JSON.
+//! The part of a class file at a place, and the attribute of it that is at fault, by its lines or by fields of an object
+//! of JSON.
 ghost use Rattle.std.specs.Prelude.{◌≡◌, [], map, slice_get};
 ghost use Rattle.std.specs.Option.{option_map_or};
 ghost use Rattle.classfile.specs.Views.{member_view, class_view};
 ghost use Rattle.printing.specs.Classes.{member_line};
 ghost use Rattle.printing.specs.Json.{fields_then};
-ghost use Rattle.printing.specs.Parts.{part_lines, member_fields, super_fields, class_fields, part_fields};
+ghost use Rattle.printing.specs.Parts.{part_lines, numbered_line, attribute_line, member_fields, super_fields, class_fields, part_fields, numbered_fields, attribute_fields};
 ghost use Rattle.printing.specs.Writing.{Writes};
 
-use crate::constants::{ConstantFields, ConstantLine};
+use crate::constants::{ConstantFields, ConstantLine, TextBehind};
 use crate::json::{Enclosed, More};
 use crate::listing::{Above, Head, MemberLine};
 use crate::name::{ClassName, ConstantText, Hexadecimal};
 use crate::print::{Number, Print, Then, Word, WriteFailed};
 use crate::within::{ClassNameIn, TextIn, Within};
-use classfile::{ClassFile, Member, Place};
+use classfile::{ClassFile, FormRule, Member, Place, attribute_at_fault, attribute_name};
 use pool::Pool;
 use std::io::Write;
 
@@ -56,6 +57,49 @@ impl<'c, 'a> Print for PartLines<'c, 'a> {
             }
             Place::Field(number) => put_member(out, "  field ", pool, &class.fields, number),
             Place::Method(number) => put_member(out, "  method ", pool, &class.methods, number),
+        }
+    }
+}
+
+/// Writes the line of the attribute of this number; nothing where there is none.
+fn put_attribute<W: Write>(
+    out: &mut W,
+    class: &ClassFile<'_>,
+    place: Place,
+    number: usize,
+) -> Result<(), WriteFailed>
+    ensures { Writes (W.contents out.old) (W.contents out.new) (numbered_line (class_view class.now) place number)
+        result }
+{
+    match attribute_name(class, place, number) {
+        Some(index) => {
+            let name = TextBehind {
+                within: Within::Words,
+                pool: &class.constant_pool,
+                index,
+            };
+            let behind = Then(Number(number), Then(name, Word("\n")));
+            Then(Word("  attribute "), behind).put(out)
+        }
+        None => Word("").put(out),
+    }
+}
+
+/// The line of the attribute that breaks the rule at a place of a class file; nothing where none does.
+#[derive(Clone, Copy)]
+pub struct AttributeLine<'c, 'a> {
+    pub class: &'c ClassFile<'a>,
+    pub rule: FormRule,
+    pub place: Place,
+}
+
+impl<'c, 'a> Print for AttributeLine<'c, 'a> {
+    ghost text = { λ t. attribute_line (class_view t.class.now) t.rule t.place };
+
+    fn put<W: Write>(&self, out: &mut W) -> Result<(), WriteFailed> {
+        match attribute_at_fault(self.class, self.rule, self.place) {
+            Some(number) => put_attribute(out, self.class, self.place, number),
+            None => Word("").put(out),
         }
     }
 }
@@ -181,6 +225,51 @@ impl<'c, 'a, B: Print + Copy> Print for PartFields<'c, 'a, B> {
             Place::Class => ClassFields(class, behind).put(out),
             Place::Field(number) => put_member_fields(out, pool, &class.fields, number, behind),
             Place::Method(number) => put_member_fields(out, pool, &class.methods, number, behind),
+        }
+    }
+}
+
+/// Writes the attribute of this number as fields, if there is one, and then what stands behind them.
+fn put_attribute_fields<W: Write, B: Print + Copy>(
+    out: &mut W,
+    class: &ClassFile<'_>,
+    place: Place,
+    number: usize,
+    behind: B,
+) -> Result<(), WriteFailed>
+    ensures { Writes (W.contents out.old) (W.contents out.new)
+        (fields_then (numbered_fields (class_view class.now) place number) (B.text behind)) result }
+{
+    match attribute_name(class, place, number) {
+        Some(index) => {
+            let pool = &class.constant_pool;
+            let name = Enclosed(TextIn(Within::Json, ConstantText { pool, index }));
+            let behind = More("attribute_name", name, behind);
+            More("attribute", Number(number), behind).put(out)
+        }
+        None => behind.put(out),
+    }
+}
+
+/// The attribute that breaks the rule at a place of a class file as fields of an object of JSON, if one does, and then
+/// what stands behind them. They say what the [`AttributeLine`] says.
+#[derive(Clone, Copy)]
+pub struct AttributeFields<'c, 'a, B> {
+    pub class: &'c ClassFile<'a>,
+    pub rule: FormRule,
+    pub place: Place,
+    pub behind: B,
+}
+
+impl<'c, 'a, B: Print + Copy> Print for AttributeFields<'c, 'a, B> {
+    ghost text = { λ t. fields_then (attribute_fields (class_view t.class.now) t.rule t.place) (B.text t.behind) };
+
+    fn put<W: Write>(&self, out: &mut W) -> Result<(), WriteFailed> {
+        match attribute_at_fault(self.class, self.rule, self.place) {
+            Some(number) => {
+                put_attribute_fields(out, self.class, self.place, number, self.behind)
+            }
+            None => self.behind.put(out),
         }
     }
 }

@@ -31,7 +31,7 @@ told code (codes.BadSwitch at) f h = h
 told code (codes.BadWide at) f h = h
 told code (codes.NonZeroByte at) f h = h
 
-module _ (classes : List ClassFact) (c : JudgedClass) (number at : ℕ) where
+module _ (classes : List ClassFact) (c : JudgedClass) (number reason at : ℕ) where
   faulty_none : (body : CodeBody) (fault : CodeFault) → code_at c.file number ≡ Some body → FaultyCode body.code fault → HasNoInstructions c number
   faulty_none body fault has faulty = λ other xs there spelled.
       let same : other ≡ body = some_same other body (sym there ∙ has) in
@@ -39,17 +39,17 @@ module _ (classes : List ClassFact) (c : JudgedClass) (number at : ℕ) where
 
   pub without_code : (body : CodeBody) (fault : CodeFault) (r : Result FramesAt VerifyFault) → code_at c.file number ≡ Some body
       → UnlessMemory fault (FaultyCode body.code fault) → IfOk r (λ x. (fault ≢ codes.OutOfMemory) × (frames_view x ≡ no_frames))
-      → IfOk r (λ x. AreFramesOf classes c number at (frames_view x))
+      → IfOk r (λ x. AreFramesOf classes c number reason at (frames_view x))
   without_code body fault (Ok x) has faulty p = inr (faulty_none body fault has (told body.code fault p.0 faulty), p.1)
   without_code body fault (Err e) has faulty p = tt
 
   pub found_in : (body : CodeBody) (xs : List (ℕ × Instruction)) (method : Method Act) (r : Result FramesAt VerifyFault)
       → code_at c.file number ≡ Some body → SpellsCode 0 body.code xs → method_of c number (acts xs) ≡ Some method
-      → IfOk r (λ x. frames_view x ≡ frames_at typing_rule classes method at) → IfOk r (λ x. AreFramesOf classes c number at (frames_view x))
+      → IfOk r (λ x. frames_view x ≡ frames_at typing_rule classes method reason at) → IfOk r (λ x. AreFramesOf classes c number reason at (frames_view x))
   found_in body xs method (Ok x) has spelled says same =
       inl (record { body = body; has_code = has; instructions = xs; spelled = spelled; method = method; says = says; same = same })
   found_in body xs method (Err e) has spelled says same = tt
 
   -- a method without code
-  pub without_body : code_at c.file number ≡ None → AreFramesOf classes c number at no_frames
+  pub without_body : code_at c.file number ≡ None → AreFramesOf classes c number reason at no_frames
   without_body none = inr ((λ body xs there spelled. none_some body (sym none ∙ there)), refl)

@@ -27,6 +27,7 @@ pub mod Ends
 mod Plain
 pub mod Repeated
 pub mod Unlike
+pub mod Detailed
 pub mod Onward
 pub mod Parameters
 pub mod Summaries

@@ -1,5 +1,5 @@
 -- The reading of a stack map's bytes, by what they spell and by their fault.
-use Rattle.std.proofs.Common.{◌≡◌, ℕ, ◌+◌, Bool, false, nat_eq, if◌then◌else◌, List, length, Some, Result, Ok, Err, refl, sym, ◌∙◌, ap, subst, arith, inl, inr}
+use Rattle.std.proofs.Common.{◌≡◌, ℕ, ◌+◌, Bool, false, nat_eq, if◌then◌else◌, List, length, Option, Some, Result, Ok, Err, refl, sym, ◌∙◌, ap, subst, arith, inl, inr}
 use Rattle.std.proofs.lemmas.Bool.Decides.{nat_tests}
 use Rattle.layout.specs.FormatLaws.{spelled_reads, fault_reads}
 use Rattle.layout.specs.declared.fault.ReadFault.{ReadFault}
@@ -15,6 +15,12 @@ use Rattle.insn.specs.Meanings.{Act}
 use Rattle.verify.specs.InitialFrames.{initial_types}
 use Rattle.verify.specs.TypeSafety.{Frames}
 use Rattle.verify.proofs.Premises.{entries_there}
+use Rattle.std.specs.Prelude.{◌≢◌, IfOk}
+use Rattle.std.specs.Option.{option_and_then, option_map}
+use Rattle.frames.specs.RefusedEntries.{refused_entry}
+use Rattle.verify.specs.declared.detail.Detail.{Detail}
+use Rattle.verify.specs.declared.verdict.VerifyFault.{VerifyFault}
+use Rattle.verify.specs.Details.{DetailFact, refused_detail, faulty_detail, map_detail_of, map_detail, detail_of}
 use Rattle.verify.specs.Verdict.{unreadable, all_entries, entries_read, or_undeclared, frames_of, frames_declared}
 
 more_there : (body : List ℕ) (at : ℕ) → HasMore stack_map body at → entries_read (Some body) ≡ Err (AttributeLength at)
@@ -50,3 +56,23 @@ module _ (m : Method Act) (body : List ℕ) (here : m.stack_map ≡ Some body) w
 pub fault_told : (e : ReadFault) (P : Type 0) → (e ≡ OutOfMemory → ⊥) → UnlessMemory e P → P
 fault_told OutOfMemory P f u = absurd (f refl)
 fault_told _ P f u = u
+
+-- ---- the entry for which it is refused
+
+module _ (m : Method Act) (body : List ℕ) (here : m.stack_map ≡ Some body) where
+  abbrev read_as : Option (List ℕ) → Option DetailFact
+  read_as o = map_detail_of m (entries_read o)
+
+  faulty_map : (fault : ReadFault) → MapFault body fault → map_detail m ≡ faulty_detail body
+  faulty_map fault f = ap read_as here ∙ ap (map_detail_of m) (fault_there body fault f) ∙ ap (option_and_then faulty_detail) here
+
+  pub faulty_found : (fault : ReadFault) (r : Result (Option Detail) VerifyFault) → UnlessMemory fault (MapFault body fault)
+      → IfOk r (λ o. (fault ≢ OutOfMemory) × (option_map detail_of o ≡ faulty_detail body)) → IfOk r (λ o. option_map detail_of o ≡ map_detail m)
+  faulty_found fault (Ok o) u p = p.1 ∙ sym (faulty_map fault (fault_told fault (MapFault body fault) p.0 u))
+  faulty_found fault (Err e) u p = tt
+
+  pub refused_found : (entries : List MapEntry) (initial : List VerificationType) → IsMap body entries → initial ≡ initial_types m
+      → option_map refused_detail (refused_entry m.constant_pool m.code m.max_locals m.max_stack initial entries) ≡ map_detail m
+  refused_found entries initial spelled same =
+      ap (λ ts. option_map refused_detail (refused_entry m.constant_pool m.code m.max_locals m.max_stack ts entries)) same
+      ∙ sym (ap read_as here ∙ ap (map_detail_of m) (entries_there (Some body) entries spelled))

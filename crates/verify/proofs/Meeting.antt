@@ -27,8 +27,8 @@ use Rattle.rules.specs.declared.reason.Reason.TheVariants as reasons
 use Rattle.verify.specs.declared.verdict.VerifyFault.{VerifyFault}
 use Rattle.verify.specs.InitialFrames.{initial_types, initial_frame, is_uninitialized}
 use Rattle.verify.specs.TypeSafety.{Frames, Declares}
-use Rattle.verify.specs.Verdict.{frames_declared}
-use Rattle.verify.specs.Coming.{FramesFact, frames_with, before, frame_if, going, met, met_under, frames_at}
+use Rattle.verify.specs.Verdict.{MapRefusal, frames_declared}
+use Rattle.verify.specs.Coming.{FramesFact, frames_with, before, frame_if, going, met, met_under, without_map, frames_at}
 use Rattle.verify.proofs.Declared.{good_frames}
 use Rattle.verify.proofs.Going.{ways}
 use Rattle.verify.proofs.Premises.{not_at, frames_there}
@@ -66,9 +66,9 @@ start_behind c cs at lt s = by (nat_eq c.0 at) refl s.here
 pub not_before : (low : ℕ) (cs : List (ℕ × Act)) (at : ℕ) → StartsRise low cs → IsStart cs at → low ≤ at
 not_before low cs at rise s = grind (arith, nat_tests, not_at low cs at rise, s.here)
 
-module _ (classes : List ClassFact) (m : Method Act) (frames : Frames) (at : ℕ) where
+module _ (classes : List ClassFact) (m : Method Act) (frames : Frames) (reason at : ℕ) where
   abbrev pub met_at : List (ℕ × Act) → Option FrameFact → FramesFact
-  met_at cs coming = met typing_rule classes m frames cs coming at
+  met_at cs coming = met typing_rule classes m frames reason cs coming at
 
   abbrev goes_from : ℕ × Act → Option FrameFact → Option FrameFact → Option FrameFact
   goes_from c coming declared = going classes m c.0 (typing_rule m c.1) (before coming declared)
@@ -80,10 +80,10 @@ module _ (classes : List ClassFact) (m : Method Act) (frames : Frames) (at : ℕ
     pub goes_past : (total : FramesFact) → total ≡ met_at (c ∷ cs) coming → nat_eq c.0 at ≡ false → (declared next : Option FrameFact) → declared ≡ at_offset frames c.0 → next ≡ goes_from c coming declared → total ≡ met_at cs next
     goes_past total same e declared next d n = same ∙ passed e ∙ ap (λ o. met_at cs (goes_from c coming o)) (sym d) ∙ ap (met_at cs) (sym n)
 
-    pub meets : (total : FramesFact) → total ≡ met_at (c ∷ cs) coming → nat_eq c.0 at ≡ true → (declared : Option FrameFact) → declared ≡ at_offset frames c.0 → total ≡ frames_with classes m frames c.0 (typing_rule m c.1) coming declared
+    pub meets : (total : FramesFact) → total ≡ met_at (c ∷ cs) coming → nat_eq c.0 at ≡ true → (declared : Option FrameFact) → declared ≡ at_offset frames c.0 → total ≡ frames_with classes m frames c.0 c.1 (typing_rule m c.1) reason coming declared
     meets total same e declared d =
-        let here : met_at (c ∷ cs) coming ≡ frames_with classes m frames c.0 (typing_rule m c.1) coming (at_offset frames c.0) = rw e refl in
-        same ∙ here ∙ ap (frames_with classes m frames c.0 (typing_rule m c.1) coming) (sym d)
+        let here : met_at (c ∷ cs) coming ≡ frames_with classes m frames c.0 c.1 (typing_rule m c.1) reason coming (at_offset frames c.0) = rw e refl in
+        same ∙ here ∙ ap (frames_with classes m frames c.0 c.1 (typing_rule m c.1) reason coming) (sym d)
 
   -- the frame that comes to a declared one in front of the offset does not matter
   module _ (last : ℕ) (lt : last < at) (declared : IsStart frames last) where
@@ -168,19 +168,26 @@ started_length m e =
     let le : length ts ≤ m.max_locals = grind (arith, nat_tests, e) in
     omega (arith, length-append ts (replicate (m.max_locals - length ts) top), length-replicate (m.max_locals - length ts) top, le)
 
-pub frames_are : (classes : List ClassFact) (m : Method Act) (frames : Frames) (at : ℕ) → nat_lt m.max_locals (length (in_locals (initial_types m))) ≡ false → frames_declared m ≡ Ok frames
-    → (f : FrameFact) → f ≡ initial_frame m → met typing_rule classes m frames m.code (Some f) at ≡ frames_at typing_rule classes m at
-frames_are classes m frames at wide d f same =
-    let there : frames_at typing_rule classes m at ≡ met_under typing_rule classes m (Ok frames) at = rw wide (ap (λ r. met_under typing_rule classes m r at) d) in
-    ap (λ g. met typing_rule classes m frames m.code (Some g) at) same ∙ sym there
+pub frames_are : (classes : List ClassFact) (m : Method Act) (frames : Frames) (reason at : ℕ) → nat_lt m.max_locals (length (in_locals (initial_types m))) ≡ false → frames_declared m ≡ Ok frames
+    → (f : FrameFact) → f ≡ initial_frame m → met typing_rule classes m frames reason m.code (Some f) at ≡ frames_at typing_rule classes m reason at
+frames_are classes m frames reason at wide d f same =
+    let there : frames_at typing_rule classes m reason at ≡ met_under typing_rule classes m (Ok frames) reason at = rw wide (ap (λ r. met_under typing_rule classes m r reason at) d) in
+    ap (λ g. met typing_rule classes m frames reason m.code (Some g) at) same ∙ sym there
+
+-- where the stack map is refused
+pub map_is : (classes : List ClassFact) (m : Method Act) (why : MapRefusal) (reason at : ℕ) → nat_lt m.max_locals (length (in_locals (initial_types m))) ≡ false → frames_declared m ≡ Err why
+    → without_map m ≡ frames_at typing_rule classes m reason at
+map_is classes m why reason at wide d =
+    let there : frames_at typing_rule classes m reason at ≡ met_under typing_rule classes m (Err why) reason at = rw wide (ap (λ r. met_under typing_rule classes m r reason at) d) in
+    sym there
 
 -- ---- the bytes that are left
 
 -- they are these instructions, and with them the frames at the offset are what they are; a declared frame in front of the offset is ahead
-pub record Walks (classes : List ClassFact) (m : Method Act) (frames : Frames) (at last size : ℕ) (p : Place) (coming : Option FrameFact) (total : FramesFact) : Type 0 where
+pub record Walks (classes : List ClassFact) (m : Method Act) (frames : Frames) (reason at last size : ℕ) (p : Place) (coming : Option FrameFact) (total : FramesFact) : Type 0 where
   pub instructions : List (ℕ × Instruction)
   pub read : reading_at p ≡ Ok instructions
-  pub same : total ≡ met_at classes m frames at (acts instructions) coming
+  pub same : total ≡ met_at classes m frames reason at (acts instructions) coming
   pub low : ℕ
   pub rises : StartsRise low (acts instructions)
   pub ahead : p.at < last → IsStart (acts instructions) last

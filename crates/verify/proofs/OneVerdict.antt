@@ -137,28 +137,29 @@ one_report classes c rs others p q = record {
 -- ---- frames
 
 module _ (classes : List ClassFact) (c : JudgedClass) (number : ℕ) where
-  both_have : (at there : ℕ) (x y : FramesFact) → at ≡ there → HasFrames classes c number at x → HasFrames classes c number there y → x ≡ y
-  both_have at there x y e p q =
+  both_have : (n k at there : ℕ) (x y : FramesFact) → n ≡ k → at ≡ there → HasFrames classes c number n at x → HasFrames classes c number k there y → x ≡ y
+  both_have n k at there x y i e p q =
       let body : p.body ≡ q.body = some_same p.body q.body (sym p.has_code ∙ q.has_code) in
       let same : p.instructions ≡ q.instructions =
       one_code 0 q.body.code p.instructions q.instructions (subst (λ b. SpellsCode 0 b.code p.instructions) body p.spelled) q.spelled in
       let method : p.method ≡ q.method =
       some_same p.method q.method (sym p.says ∙ ap (λ z. method_of c number (acts z)) same ∙ q.says) in
-      p.same ∙ ap (λ m. frames_at typing_rule classes m at) method ∙ ap (frames_at typing_rule classes q.method) e ∙ sym q.same
+      p.same ∙ ap (λ m. frames_at typing_rule classes m n at) method ∙ ap (λ z. frames_at typing_rule classes q.method z at) i
+      ∙ ap (frames_at typing_rule classes q.method k) e ∙ sym q.same
 
-  has_none : (at : ℕ) (x : FramesFact) → HasFrames classes c number at x → HasNoInstructions c number → ⊥
-  has_none at x p none = none p.body p.instructions p.has_code p.spelled
+  has_none : (n at : ℕ) (x : FramesFact) → HasFrames classes c number n at x → HasNoInstructions c number → ⊥
+  has_none n at x p none = none p.body p.instructions p.has_code p.spelled
 
-  same_frames : (at there : ℕ) (x y : FramesFact) → at ≡ there → AreFramesOf classes c number at x → AreFramesOf classes c number there y → x ≡ y
-  same_frames at there x y e (inl p) (inl q) = both_have at there x y e p q
-  same_frames at there x y e (inl p) (inr q) = absurd (has_none at x p q.0)
-  same_frames at there x y e (inr p) (inl q) = absurd (has_none there y q p.0)
-  same_frames at there x y e (inr p) (inr q) = p.1 ∙ sym q.1
+  same_frames : (n k at there : ℕ) (x y : FramesFact) → n ≡ k → at ≡ there → AreFramesOf classes c number n at x → AreFramesOf classes c number k there y → x ≡ y
+  same_frames n k at there x y i e (inl p) (inl q) = both_have n k at there x y i e p q
+  same_frames n k at there x y i e (inl p) (inr q) = absurd (has_none n at x p q.0)
+  same_frames n k at there x y i e (inr p) (inl q) = absurd (has_none k there y q p.0)
+  same_frames n k at there x y i e (inr p) (inr q) = p.1 ∙ sym q.1
 
   same_framed : (v w : Verdict) (x y : FramesFact) → AreSameVerdict v w → IsFramed classes c number v x → IsFramed classes c number w y → x ≡ y
   same_framed Verified Verified x y e p q = p ∙ sym q
   same_framed NoCode NoCode x y e p q = p ∙ sym q
-  same_framed (Refused at why) (Refused there other) x y e p q = same_frames at there x y e.0 p q
+  same_framed (Refused at why) (Refused there other) x y e p q = same_frames (reason_number why) (reason_number other) at there x y e.1 e.0 p q
   same_framed _ _ x y e p q = absurd e
 
 -- each place of a list of one length with another is one of this too

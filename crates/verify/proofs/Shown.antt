@@ -39,9 +39,9 @@ before_same classes true f (Some d) e = refl
 before_same classes false f None e = cc
 before_same classes false f (Some d) e = refl
 
-module _ (typing_rule : TypingRules) (classes : List ClassFact) (m : Method Act) (frames : Frames) where
+module _ (typing_rule : TypingRules) (classes : List ClassFact) (m : Method Act) (frames : Frames) (number : ℕ) where
   abbrev met_at : List (ℕ × Act) → Option FrameFact → ℕ → FramesFact
-  met_at cs coming at = met typing_rule classes m frames cs coming at
+  met_at cs coming at = met typing_rule classes m frames number cs coming at
 
   abbrev Judged : List (ℕ × Act) → ℕ → Reason → FramesFact → Type 0
   Judged cs at why x = IsJudgedBy typing_rule classes m frames cs at why x
@@ -51,7 +51,7 @@ module _ (typing_rule : TypingRules) (classes : List ClassFact) (m : Method Act)
     declared = at_offset frames c.0
 
     -- the frames at the first instruction
-    first_met : (coming : Option FrameFact) → met_at (c ∷ cs) coming c.0 ≡ frames_with classes m frames c.0 (typing_rule m c.1) coming declared
+    first_met : (coming : Option FrameFact) → met_at (c ∷ cs) coming c.0 ≡ frames_with classes m frames c.0 c.1 (typing_rule m c.1) number coming declared
     first_met coming = rw (eq-eqb c.0 c.0 refl) refl
 
     first_here : at_offset (c ∷ cs) c.0 ≡ Some c.1
@@ -126,4 +126,4 @@ module _ (typing_rule : TypingRules) (classes : List ClassFact) (m : Method Act)
       by_entry later None is e = by_rule later is _ refl e
 
 pub frames_are_judged : FramesAreJudged
-frames_are_judged typing_rule classes m frames rise at why e = judged typing_rule classes m frames 0 m.code true (initial_frame m) at why rise e
+frames_are_judged typing_rule classes m frames rise number at why e = judged typing_rule classes m frames number 0 m.code true (initial_frame m) at why rise e

@@ -30,10 +30,11 @@ pub record IsJudgedBy (typing_rule : TypingRules) (classes : List ClassFact) (m 
       ⊎ ((f : FrameFact) × (before x.coming x.declared ≡ Some f)
       × (least (at_conditions classes m frames at act (typing_rule m act) (next_offset code at) f) ≡ Some why))
 
+-- whatever the number of the reason is by which is told what is wrong
 abbrev pub FramesAreJudged : Type 0
 FramesAreJudged =
     (typing_rule : TypingRules) (classes : List ClassFact) (m : Method Act) (frames : Frames) → StartsRise 0 m.code
-    → (at : ℕ) (why : Reason)
+    → (number at : ℕ) (why : Reason)
     → code_judged typing_rule classes m frames ≡ refused at why
     → IsJudgedBy typing_rule classes m frames m.code at why
-    (met typing_rule classes m frames m.code (Some (initial_frame m)) at)
+    (met typing_rule classes m frames number m.code (Some (initial_frame m)) at)

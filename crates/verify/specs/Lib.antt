@@ -19,6 +19,7 @@ pub mod FinalSuper
 pub mod Answers
 pub mod Reports
 pub mod DifferencesAt
+pub mod Details
 pub mod Coming
 pub mod JudgedFrames
 pub mod OneVerdict

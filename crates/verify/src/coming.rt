@@ -1,5 +1,5 @@
-//! The frames at an instruction: the one that comes to it, the one that is declared there, the first difference, and
-//! the first of all that the instruction takes that the frame before it has not.
+//! The frames at the instruction at which a method is refused: the one that comes to it, and the one that is declared
+//! there; and what is wrong.
 ghost use Rattle.std.specs.Prelude.{◌≡◌, ◌≢◌, ◌⊎◌, ◌<◌, ◌≤◌, ◌-◌, ℕ, true, false, Ok, Some, List, length, map, option_map, IfOk, IfErr, IfSome};
 ghost use Rattle.layout.specs.declared.limits.TheConstants.{MAX_CODE_BYTES};
 ghost use Rattle.names.specs.Types.{type_of};
@@ -13,7 +13,6 @@ ghost use Rattle.insn.specs.Code.{SpellsCode};
 ghost use Rattle.insn.specs.Offsets.{at_offset, IsStart};
 ghost use Rattle.insn.specs.Views.{act_view};
 ghost use Rattle.frames.specs.FrameFact.{frame_of};
-ghost use Rattle.frames.specs.Differences.{difference_of};
 ghost use Rattle.frames.specs.DeclaredTables.{declared_view, frames_in};
 ghost use Rattle.frames.specs.MarkedCode.{code_in};
 ghost use Rattle.rules.specs.Bodies.{method_view};
@@ -22,29 +21,37 @@ ghost use Rattle.rules.specs.declared.reason.Reason.TheVariants as reasons;
 ghost use Rattle.rules.specs.Table.{typing_rule};
 ghost use Rattle.verify.specs.declared.verdict.VerifyFault.TheVariants.{OutOfMemory};
 ghost use Rattle.verify.specs.Verdict.{frames_declared};
-ghost use Rattle.rules.specs.Unmet.{unmet_of};
-ghost use Rattle.verify.specs.Coming.{no_frames, difference_if, frames_with, before, unmet_if, frame_if, going, met, frames_at, frames_view, frame_size, frames_size, AreFramesOf};
+ghost use Rattle.rules.specs.Reasons.{reason_number};
+ghost use Rattle.verify.specs.Coming.{no_frames, frames_with, before, frame_if, going, met, frames_at, frames_view, frame_size, frames_size, AreFramesOf};
 
 use crate::body::Body;
-use crate::difference_at::{DifferenceAt, handler_difference, target_difference};
-use crate::exceptions::{exceptions, first_covering, first_refused};
+use crate::detail::{Detail, RefusedAt, detail_at};
 use crate::initial::{begins_uninitialized, initial_locals, initial_types};
 use crate::method::types_of;
-use crate::stack_maps::{copy_of, declared_frames};
+use crate::stack_maps::{copy_of, declared_frames, map_detail};
 use crate::verdict::VerifyFault;
 use classfile::CodeMethod;
-use frames::{CodeStarts, Declared, DeclaredFrames, Difference, Frame, first_difference};
+use frames::{CodeStarts, Declared, DeclaredFrames, Frame};
 use hierarchy::Classes;
 use insn::{Act, CodeFault, Instructions};
 use names::FieldType;
-use rules::{ClassConstants, ExpectedTypes, Reason, Unmet, Working, first_unmet, goes_on, run};
+use rules::{ClassConstants, Reason, Working, goes_on, run};
 use std::alloc::{AllocError, Global};
 
 /// The frames of a method are kept where those of the methods before it have fewer types than this, so that all of them
 /// take memory that is linear in the class.
 pub const MOST_KEPT: usize = 65_536;
 
-/// The frames at an instruction of a method (JVMS 4.10.1.6).
+/// Where a method is refused, and why.
+#[derive(Clone, Copy)]
+pub struct Refusal<'a> {
+    /// The offset of the instruction, in bytes.
+    pub at: usize,
+    /// The reason.
+    pub reason: Reason<'a>,
+}
+
+/// The frames at the instruction at which a method is refused (JVMS 4.10.1.6), and what is wrong.
 #[derive(Debug, Drop)]
 pub struct FramesAt<'a> {
     /// The frame that comes to it: the one after the instruction in front, or the one with which the method begins.
@@ -52,20 +59,8 @@ pub struct FramesAt<'a> {
     pub coming: Option<Frame<'a>>,
     /// The frame that the stack map declares there, if it declares one.
     pub declared: Option<Frame<'a>>,
-    /// The first difference of the one that comes from the declared one, where there are both and one is found.
-    pub difference: Option<Difference<'a>>,
-    /// The first of all that the instruction takes that the frame before it has not, or has of another type, where
-    /// there is that frame and one is found.
-    pub unmet: Option<Unmet<'a>>,
-    /// The first difference of the frame after the instruction from the frames that are declared at its targets.
-    pub target: Option<DifferenceAt<'a>>,
-    /// The first difference of the frame before the instruction from the frames of the handlers that cover it, with the
-    /// place of the entry in the exception table, from 0.
-    pub handler: Option<(usize, DifferenceAt<'a>)>,
-    /// The place of the first entry of the exception table that is refused before the code is judged, if one is.
-    pub refused_entry: Option<usize>,
-    /// The place of the first entry that covers the instruction, if one does.
-    pub covering_entry: Option<usize>,
+    /// What is wrong, where the reason is about a comparison of types or an entry of a table, and it is found.
+    pub detail: Option<Detail<'a>>,
 }
 
 impl<'a> FramesAt<'a> {
@@ -76,12 +71,7 @@ impl<'a> FramesAt<'a> {
         FramesAt {
             coming: None,
             declared: None,
-            difference: None,
-            unmet: None,
-            target: None,
-            handler: None,
-            refused_entry: None,
-            covering_entry: None,
+            detail: None,
         }
     }
 
@@ -217,21 +207,6 @@ fn step<'a, C: Classes>(
     go_on(body, at, act, constants, frame)
 }
 
-/// The first difference of a frame that comes from the declared one, where there are both.
-fn difference_if<'a, C: Classes>(
-    coming: &Option<Frame<'a>>,
-    declared: &Option<Frame<'a>>,
-    classes: &C,
-) -> Option<Difference<'a>>
-    ensures { option_map difference_of result
-        ≡ difference_if (C.content classes.now) (option_map frame_of coming.now) (option_map frame_of declared.now) }
-{
-    match (coming, declared) {
-        (Some(coming), Some(declared)) => first_difference(coming, declared, classes),
-        _ => None,
-    }
-}
-
 /// The frame before an instruction, if there is one: the one that is declared there, and otherwise the one that comes.
 fn before<'r, 'a>(
     coming: &'r Option<Frame<'a>>,
@@ -247,28 +222,6 @@ fn before<'r, 'a>(
             None => None,
         },
     }
-}
-
-/// The first expected type of an instruction that the frame before it does not meet, where there is that frame.
-fn unmet_if<'a, C: Classes>(
-    body: &Body<'_, 'a, C>,
-    act: Act<'a>,
-    frame: Option<&Frame<'a>>,
-    constants: &mut ClassConstants<'_, '_, 'a, C>,
-) -> Result<Option<Unmet<'a>>, AllocError>
-    requires constants { constants.old.members
-        ≡ record { class = body.now.method.now.class.now; classes = C.content body.now.classes.now } }
-    ensures same { constants.new.members ≡ constants.old.members }
-    ensures found { let m = method_view body.now.method.now in IfOk result (λ o. option_map unmet_of o
-        ≡ unmet_if (C.content body.now.classes.now) m (typing_rule m (act_view act.entry))
-        (option_map (λ f. frame_of f.now) frame.entry)) }
-{
-    let Some(frame) = frame else {
-        return Ok(None);
-    };
-    let named = constants.named(body.method, &act)?;
-    let types = ExpectedTypes::of(body.alloc, body.method, &act, &named)?;
-    Ok(first_unmet(body.method, body.starts, &types, frame, body.classes))
 }
 
 /// The frame that comes, if it does.
@@ -299,13 +252,11 @@ fn copy_if<'a, C: Classes>(
     }
 }
 
-/// The frame that comes to the instruction at an offset, if it does, the one that is declared there, and the differences
-/// of frames: of these two, of the frame before the instruction from its expected types, and of the frames that lead from
-/// it to its targets and to its handlers.
+/// The frame that comes to the instruction at which a method is refused, if it does, the one that is declared there,
+/// and what is wrong.
 fn meet<'a, C: Classes>(
     body: &Body<'_, 'a, C>,
-    at: u16,
-    act: Act<'a>,
+    refused: RefusedAt<'a>,
     comes: bool,
     frame: Working<'a>,
     declared: Option<Declared<'_, 'a>>,
@@ -317,40 +268,31 @@ fn meet<'a, C: Classes>(
         (λ d. length (declared_view d).locals ≡ body.now.method.now.code.now.max_locals) }
     requires locals { comes ≡ true → length (held frame).locals ≡ body.now.method.now.code.now.max_locals }
     ensures same { constants.new.members ≡ constants.old.members }
-    ensures found { let m = method_view body.now.method.now in IfOk result (λ x. frames_view x
-        ≡ frames_with (C.content body.now.classes.now) m (frames_in body.now.frames.now) at
-        (typing_rule m (act_view act.entry)) (frame_if comes (held frame.entry))
+    ensures found { let m = method_view body.now.method.now in let a = act_view refused.entry.act in
+        IfOk result (λ x. frames_view x
+        ≡ frames_with (C.content body.now.classes.now) m (frames_in body.now.frames.now) refused.entry.at
+        a (typing_rule m a) (reason_number refused.entry.reason) (frame_if comes (held frame.entry))
         (option_map declared_view declared.entry)) }
 {
     let coming = frame_that(comes, frame)?;
     let there = copy_if(body, declared)?;
-    let difference = difference_if(&coming, &there, body.classes);
     let before = before(&coming, &there);
-    let unmet = unmet_if(body, act, before, constants)?;
-    let target = target_difference(body, at, act, before, constants)?;
-    let entries = exceptions(body.alloc, body.method)?;
-    let handler = handler_difference(body, at, &entries, before)?;
-    let refused_entry = first_refused(&entries, body)?;
+    let detail = detail_at(body, refused, &coming, &there, before, constants)?;
     Ok(FramesAt {
         coming,
         declared: there,
-        difference,
-        unmet,
-        target,
-        handler,
-        refused_entry,
-        covering_entry: first_covering(&entries, at),
+        detail,
     })
 }
 
-/// The frames at an offset of code, by one walk over it with the frame with which the method begins. No instruction is
-/// run in front of the last frame that is declared in front of the offset, since what comes to that one does not
-/// matter.
+/// The frames at the offset at which code is refused, by one walk over it with the frame with which the method begins.
+/// No instruction is run in front of the last frame that is declared in front of the offset, since what comes to that
+/// one does not matter.
 fn walk<'a, C: Classes>(
     body: &Body<'_, 'a, C>,
     constants: &mut ClassConstants<'_, '_, 'a, C>,
     first: Working<'a>,
-    at: usize,
+    refusal: Refusal<'a>,
 ) -> Result<FramesAt<'a>, VerifyFault>
     requires constants { constants.old.members
         ≡ record { class = body.now.method.now.class.now; classes = C.content body.now.classes.now } }
@@ -361,10 +303,11 @@ fn walk<'a, C: Classes>(
     ensures same { constants.new.members ≡ constants.old.members }
     ensures found { let m = method_view body.now.method.now in
         IfOk result (λ x. frames_view x
-        ≡ met typing_rule (C.content body.now.classes.now) m (frames_in body.now.frames.now) m.code
-        (Some (held first.entry)) at) }
+        ≡ met typing_rule (C.content body.now.classes.now) m (frames_in body.now.frames.now)
+        (reason_number refusal.entry.reason) m.code (Some (held first.entry)) refusal.entry.at) }
     ensures memory { IfErr result (λ e. e ≡ OutOfMemory) }
 {
+    let at = refusal.at;
     let last = last_before(body.frames, at);
     let mut frame = first;
     let mut code = Instructions::new(body.method.code.code);
@@ -374,7 +317,13 @@ fn walk<'a, C: Classes>(
         let act = code.take_act();
         let declared = body.frames.find(u32::from(here));
         if usize::from(here) == at {
-            return Ok(meet(body, here, act, comes, frame, declared, constants)?);
+            let reason = refusal.reason;
+            let refused = RefusedAt {
+                at: here,
+                act,
+                reason,
+            };
+            return Ok(meet(body, refused, comes, frame, declared, constants)?);
         }
         if usize::from(here) >= last {
             comes = step(body, here, act, declared, comes, constants, &mut frame)?;
@@ -383,14 +332,14 @@ fn walk<'a, C: Classes>(
     Ok(FramesAt::none())
 }
 
-/// The frames at an offset of the code of a method, whose parameters are of these types.
+/// The frames at the offset at which a method is refused, whose parameters are of these types.
 fn frames_in_body<'a, C: Classes>(
     alloc: Global,
     method: &CodeMethod<'_, 'a>,
     starts: &CodeStarts<'_>,
     parameters: &[FieldType<'a>],
     constants: &mut ClassConstants<'_, '_, 'a, C>,
-    at: usize,
+    refusal: Refusal<'a>,
     classes: &C,
 ) -> Result<FramesAt<'a>, VerifyFault>
     requires constants { constants.old.members
@@ -401,7 +350,8 @@ fn frames_in_body<'a, C: Classes>(
     requires few { length method.now.code.now.code.now ≤ MAX_CODE_BYTES }
     ensures same { constants.new.members ≡ constants.old.members }
     ensures found { IfOk result (λ x. frames_view x
-        ≡ frames_at typing_rule (C.content classes.now) (method_view method.now) at) }
+        ≡ frames_at typing_rule (C.content classes.now) (method_view method.now) (reason_number refusal.entry.reason)
+        refusal.entry.at) }
     ensures memory { IfErr result (λ e. e ≡ OutOfMemory) }
 {
     let max_locals = method.code.max_locals;
@@ -411,7 +361,11 @@ fn frames_in_body<'a, C: Classes>(
     };
     let declared = declared_frames(alloc, method, &types, starts, &mut constants.types)?;
     let Ok(frames) = declared else {
-        return Ok(FramesAt::none());
+        return Ok(FramesAt {
+            coming: None,
+            declared: None,
+            detail: map_detail(alloc, method, &types, starts, &mut constants.types)?,
+        });
     };
     let mut frame = Working::new(alloc, 0, false);
     frame.start(&locals, max_locals, begins_uninitialized(method))?;
@@ -422,7 +376,7 @@ fn frames_in_body<'a, C: Classes>(
         frames: &frames,
         classes,
     };
-    walk(&body, constants, frame, at)
+    walk(&body, constants, frame, refusal)
 }
 
 /// No frame where bytes are no code; 1 where memory ran out.
@@ -436,22 +390,22 @@ fn without_code<'a>(fault: CodeFault) -> Result<FramesAt<'a>, VerifyFault>
     }
 }
 
-/// The frames at an offset of a method with code (JVMS 4.10.1.6); none where its bytes are no instructions, where its
-/// receiver and its parameters do not fit into max_locals, where its stack map is refused, or where no instruction
-/// begins at the offset.
+/// The frames at the offset at which a method with code is refused (JVMS 4.10.1.6), and what is wrong; none where its
+/// bytes are no instructions, where its receiver and its parameters do not fit into max_locals, or where no instruction
+/// begins at the offset. Where its stack map is refused, there are no frames, and what is wrong is in the map.
 pub fn frames_of<'a, C: Classes>(
     alloc: Global,
     method: CodeMethod<'_, 'a>,
     constants: &mut ClassConstants<'_, '_, 'a, C>,
-    at: usize,
+    refusal: Refusal<'a>,
     classes: &C,
 ) -> Result<FramesAt<'a>, VerifyFault>
     requires constants { constants.old.members ≡ record { class = method.class.now; classes = C.content classes.now } }
     requires formed { WellFormed (class_view method.class.now) }
     requires coded { code_at (class_view method.class.now) method.number ≡ Some (code_view method.code.now) }
     ensures same { constants.new.members ≡ constants.old.members }
-    ensures found { IfOk result (λ x. AreFramesOf (C.content classes.now) (class_of method.entry) method.entry.number at
-        (frames_view x)) }
+    ensures found { IfOk result (λ x. AreFramesOf (C.content classes.now) (class_of method.entry) method.entry.number
+        (reason_number refusal.entry.reason) refusal.entry.at (frames_view x)) }
     ensures memory { IfErr result (λ e. e ≡ OutOfMemory) }
 {
     let starts = match CodeStarts::new(alloc, method.code.code) {
@@ -465,7 +419,7 @@ pub fn frames_of<'a, C: Classes>(
         &starts,
         &types.params,
         constants,
-        at,
+        refusal,
         classes,
     )
 }

@@ -1,17 +1,19 @@
-//! The first difference of a frame that leads to a branch target, or to the handler of an exception, from the frame that
-//! is declared there (JVMS 4.10.1.6).
+//! The first difference of a frame that leads to a branch target, or to the handler of an exception, from the frame
+//! that is declared there, or the first place at which their comparison asks for a class that is missing (JVMS
+//! 4.10.1.6).
 ghost use Rattle.std.specs.Prelude.{◌≡◌, ◌≢◌, None, Some, map, length, option_map, IfOk, IfSome};
 ghost use Rattle.insn.specs.Branching.{targets_of};
 ghost use Rattle.insn.specs.Views.{act_view};
 ghost use Rattle.names.specs.References.{reference_view};
 ghost use Rattle.frames.specs.FrameFact.{frame_of};
+ghost use Rattle.frames.specs.Differences.{difference_of};
 ghost use Rattle.frames.specs.DeclaredTables.{frames_in, locals_in, declared_view, IsOf};
 ghost use Rattle.rules.specs.Bodies.{method_view};
 ghost use Rattle.rules.specs.Held.{held};
 ghost use Rattle.rules.specs.Table.{typing_rule};
 ghost use Rattle.rules.specs.declared.reason.Reason.TheVariants as reasons;
 ghost use Rattle.verify.specs.TypeSafety.{caught_frame};
-ghost use Rattle.verify.specs.DifferencesAt.{from_declared, at_target, at_targets, at_handler, at_handlers, target_difference, handler_difference, difference_at_of, handler_difference_of};
+ghost use Rattle.verify.specs.DifferencesAt.{sought_difference, from_declared, at_target, at_targets, at_handler, at_handlers, target_difference, handler_difference, difference_at_of, handler_difference_of};
 ghost use Rattle.verify.specs.private.ExceptionTables.{entry_view, AreNumbered};
 ghost use Rattle.verify.specs.private.Keeping.{AreKnown};
 ghost use Rattle.verify.specs.private.Known.{IsKnown};
@@ -25,13 +27,17 @@ use crate::known::Known;
 use crate::local_facts::KnownLocals;
 use crate::place_set::PlaceSet;
 use crate::stack_maps::copy_of;
-use frames::{Declared, DeclaredFrames, Difference, Frame, VType, first_difference, reference_to};
-use hierarchy::{Answer, Classes};
+use frames::{
+    Declared, DeclaredFrames, Difference, Frame, Sought, VType, first_difference, first_missing,
+    is_sought, reference_to,
+};
+use hierarchy::Classes;
 use insn::{Act, BranchTargets, Branches};
 use rules::{ClassConstants, Reason, Working, branches_by, run};
 use std::alloc::AllocError;
 
-/// The first difference of a frame from one that is declared at an offset.
+/// The first difference of a frame from one that is declared at an offset, or the first place at which their comparison
+/// asks for a class that is missing.
 #[derive(Clone, Copy, Debug, PartialEq, Eq)]
 pub struct DifferenceAt<'a> {
     /// The offset of the declared frame, in bytes.
@@ -40,9 +46,27 @@ pub struct DifferenceAt<'a> {
     pub difference: Difference<'a>,
 }
 
-/// The frame that is declared at a target, with its offset, if a frame is not assignable to it and it was not seen
-/// before.
+/// The first difference of a frame from another, or the first place at which their comparison asks for a class that is
+/// missing, as is looked for.
+pub fn sought_difference<'a, C: Classes>(
+    sought: Sought,
+    from: &Frame<'a>,
+    to: &Frame<'a>,
+    classes: &C,
+) -> Option<Difference<'a>>
+    ensures { option_map difference_of result
+        ≡ sought_difference sought (C.content classes.now) (frame_of from.now) (frame_of to.now) }
+{
+    match sought {
+        Sought::No => first_difference(from, to, classes),
+        Sought::Missing => first_missing(from, to, classes),
+    }
+}
+
+/// The frame that is declared at a target, with its offset, if the answer for a frame is the one that is looked for and
+/// the declared frame was not seen before.
 fn unlike_at_target<'n, 'a, C: Classes>(
+    sought: Sought,
     target: i64,
     frame: &Working<'a>,
     frames: &'n DeclaredFrames<'a>,
@@ -52,13 +76,13 @@ fn unlike_at_target<'n, 'a, C: Classes>(
 ) -> Option<(usize, Declared<'n, 'a>)>
     requires size { length (held frame.now).locals ≡ locals_in frames.now }
     requires known { IsKnown (C.content classes.now) frames.now (held frame.now) known.old }
-    requires passed { ArePassed (C.content classes.now) (frames_in frames.now) (held frame.now) seen.old }
+    requires passed { ArePassed sought (C.content classes.now) (frames_in frames.now) (held frame.now) seen.old }
     ensures known { IsKnown (C.content classes.now) frames.now (held frame.now) known.new }
     ensures passed { result ≡ None
-        → ArePassed (C.content classes.now) (frames_in frames.now) (held frame.now) seen.new }
-    ensures found { at_target (C.content classes.now) (frames_in frames.now) (held frame.now) target
-        ≡ found_difference (C.content classes.now) (held frame.now) result }
-    ensures some { IfSome result (λ _. at_target (C.content classes.now) (frames_in frames.now)
+        → ArePassed sought (C.content classes.now) (frames_in frames.now) (held frame.now) seen.new }
+    ensures found { at_target sought (C.content classes.now) (frames_in frames.now) (held frame.now) target
+        ≡ found_difference sought (C.content classes.now) (held frame.now) result }
+    ensures some { IfSome result (λ _. at_target sought (C.content classes.now) (frames_in frames.now)
         (held frame.now) target ≢ None) }
     ensures locals { IfSome result (λ x. length (declared_view x.1).locals ≡ locals_in frames.now) }
 {
@@ -66,14 +90,16 @@ fn unlike_at_target<'n, 'a, C: Classes>(
     if !seen.put(place) {
         return None;
     }
-    match known.answer(&declared, frames, frame, classes) {
-        Answer::No => Some((target as usize, declared)),
-        _ => None,
+    if is_sought(sought, known.answer(&declared, frames, frame, classes)) {
+        return Some((target as usize, declared));
     }
+    None
 }
 
-/// The first of the frames that are declared at these targets, with its offset, to which a frame is not assignable.
+/// The first of the frames that are declared at these targets, with its offset, for which the answer is the one that is
+/// looked for.
 fn unlike_target<'n, 'a, C: Classes>(
+    sought: Sought,
     targets: BranchTargets<'a>,
     frame: &Working<'a>,
     body: &Body<'n, 'a, C>,
@@ -82,15 +108,23 @@ fn unlike_target<'n, 'a, C: Classes>(
     requires size { length (held frame.now).locals ≡ locals_in body.now.frames.now }
     requires known { IsKnown (C.content body.now.classes.now) body.now.frames.now (held frame.now) known.old }
     ensures found { let classes = C.content body.now.classes.now in
-        IfOk result (λ o. at_targets classes (frames_in body.now.frames.now) (held frame.now)
-        (targets_of targets.entry) ≡ found_difference classes (held frame.now) o) }
+        IfOk result (λ o. at_targets sought classes (frames_in body.now.frames.now) (held frame.now)
+        (targets_of targets.entry) ≡ found_difference sought classes (held frame.now) o) }
     ensures locals { IfOk result (λ o. IfSome o
         (λ x. length (declared_view x.1).locals ≡ locals_in body.now.frames.now)) }
 {
     let mut seen = PlaceSet::new(body.alloc);
     seen.start(body.frames.len())?;
     for target in targets {
-        let found = unlike_at_target(target, frame, body.frames, known, &mut seen, body.classes);
+        let found = unlike_at_target(
+            sought,
+            target,
+            frame,
+            body.frames,
+            known,
+            &mut seen,
+            body.classes,
+        );
         if found.is_some() {
             return Ok(found);
         }
@@ -98,44 +132,56 @@ fn unlike_target<'n, 'a, C: Classes>(
     Ok(None)
 }
 
-/// The frame of an entry's handler, if the entry covers the instruction at an offset and the frame with what it catches
-/// alone on its stack is not assignable to that one. In `room` the stack of the handler's frame is written.
+/// The frame of an entry's handler, if the entry covers the instruction at an offset and the answer for the frame with
+/// what it catches alone on its stack is the one that is looked for. In `room` the stack of the handler's frame is
+/// written.
 fn unlike_at_handler<'n, 'a, C: Classes>(
+    sought: Sought,
     at: u16,
     entry: &Entry<'a>,
     frame: &Working<'a>,
-    frames: &'n DeclaredFrames<'a>,
+    body: &Body<'n, 'a, C>,
     known: &mut KnownLocals<'n, 'a>,
     room: &mut Vec<VType<'a>>,
-    classes: &C,
 ) -> Result<Option<Declared<'n, 'a>>, AllocError>
-    requires size { length (held frame.now).locals ≡ locals_in frames.now }
-    requires known { AreKnown (C.content classes.now) frames.now (held frame.now) known.old }
-    ensures known { AreKnown (C.content classes.now) frames.now (held frame.now) known.new }
+    requires size { length (held frame.now).locals ≡ locals_in body.now.frames.now }
+    requires known { AreKnown (C.content body.now.classes.now) body.now.frames.now (held frame.now) known.old }
+    ensures known { AreKnown (C.content body.now.classes.now) body.now.frames.now (held frame.now) known.new }
     ensures found { let e = entry_view entry.now in
-        IfOk result (λ o. at_handler (C.content classes.now) (frames_in frames.now) at (held frame.now) e
-        ≡ found_difference (C.content classes.now) (caught_frame e (held frame.now))
-        (option_map (λ d. (e.handler, d)) o)) }
-    ensures some { IfOk result (λ o. IfSome o (λ _. at_handler (C.content classes.now) (frames_in frames.now) at
-        (held frame.now) (entry_view entry.now) ≢ None)) }
-    ensures locals { IfOk result (λ o. IfSome o (λ d. length (declared_view d).locals ≡ locals_in frames.now)) }
+        let classes = C.content body.now.classes.now in
+        IfOk result (λ o. at_handler sought classes (frames_in body.now.frames.now) at (held frame.now) e
+        ≡ found_difference sought classes (caught_frame e (held frame.now)) (option_map (λ d. (e.handler, d)) o)) }
+    ensures some { IfOk result (λ o. IfSome o (λ _. at_handler sought (C.content body.now.classes.now)
+        (frames_in body.now.frames.now) at (held frame.now) (entry_view entry.now) ≢ None)) }
+    ensures locals { IfOk result (λ o. IfSome o
+        (λ d. length (declared_view d).locals ≡ locals_in body.now.frames.now)) }
 {
     if at < entry.from || at >= entry.to {
         return Ok(None);
     }
-    let Some(declared) = frames.find(u32::from(entry.handler)) else {
+    let Some(declared) = body.frames.find(u32::from(entry.handler)) else {
         return Ok(None);
     };
-    let answer = frame_answer(entry.caught, frame, &declared, frames, known, room, classes)?;
-    match answer {
-        Answer::No => Ok(Some(declared)),
-        _ => Ok(None),
+    let answer = frame_answer(
+        entry.caught,
+        frame,
+        &declared,
+        body.frames,
+        known,
+        room,
+        body.classes,
+    )?;
+    if is_sought(sought, answer) {
+        return Ok(Some(declared));
     }
+    Ok(None)
 }
 
-/// The first of these entries that covers the instruction and at whose handler a frame is declared to which the frame
-/// with what the entry catches alone on its stack is not assignable, with that declared frame.
+/// The first of these entries that covers the instruction and at whose handler a frame is declared for which the answer
+/// for the frame with what the entry catches alone on its stack is the one that is looked for, with that declared
+/// frame.
 fn unlike_handler<'n, 'a, C: Classes>(
+    sought: Sought,
     at: u16,
     entries: &[Entry<'a>],
     frame: &Working<'a>,
@@ -146,22 +192,14 @@ fn unlike_handler<'n, 'a, C: Classes>(
     requires known { AreKnown (C.content body.now.classes.now) body.now.frames.now (held frame.now) known.old }
     requires numbered { AreNumbered entries.now }
     ensures found { let classes = C.content body.now.classes.now in
-        IfOk result (λ o. at_handlers classes (frames_in body.now.frames.now) at (held frame.now) 0
-        (map entry_view entries.now) ≡ caught_difference classes (held frame.now) o) }
+        IfOk result (λ o. at_handlers sought classes (frames_in body.now.frames.now) at (held frame.now) 0
+        (map entry_view entries.now) ≡ caught_difference sought classes (held frame.now) o) }
     ensures locals { IfOk result (λ o. IfSome o
         (λ x. length (declared_view x.1).locals ≡ locals_in body.now.frames.now)) }
 {
     let mut room = Vec::new(body.alloc);
     for entry in entries {
-        let found = unlike_at_handler(
-            at,
-            entry,
-            frame,
-            body.frames,
-            known,
-            &mut room,
-            body.classes,
-        )?;
+        let found = unlike_at_handler(sought, at, entry, frame, body, known, &mut room)?;
         if let Some(declared) = found {
             return Ok(Some((*entry, declared)));
         }
@@ -169,8 +207,9 @@ fn unlike_handler<'n, 'a, C: Classes>(
     Ok(None)
 }
 
-/// The first difference of a frame from a declared one, with the offset of that one.
+/// The difference of a frame from a declared one that is looked for, with the offset of that one.
 fn difference_from<'a, C: Classes>(
+    sought: Sought,
     frame: &Frame<'a>,
     at: usize,
     declared: &Declared<'_, 'a>,
@@ -178,10 +217,11 @@ fn difference_from<'a, C: Classes>(
 ) -> Result<Option<DifferenceAt<'a>>, AllocError>
     requires { length (declared_view declared.now).locals ≡ locals_in body.now.frames.now }
     ensures { IfOk result (λ o. option_map difference_at_of o
-        ≡ from_declared (C.content body.now.classes.now) (frame_of frame.now) at (Some (declared_view declared.now))) }
+        ≡ from_declared sought (C.content body.now.classes.now) (frame_of frame.now) at
+        (Some (declared_view declared.now))) }
 {
     let declared = copy_of(body.alloc, declared, body.method.code.max_locals)?;
-    match first_difference(frame, &declared, body.classes) {
+    match sought_difference(sought, frame, &declared, body.classes) {
         Some(difference) => Ok(Some(DifferenceAt { at, difference })),
         None => Ok(None),
     }
@@ -198,8 +238,10 @@ fn refused<'a>(reason: Reason<'_>) -> Result<Option<DifferenceAt<'a>>, AllocErro
 }
 
 /// The first difference of the frame after an instruction from the frames that are declared at its targets, the default
-/// of a switch first (JVMS 4.10.1.6). None where there is no frame before the instruction, or its rule refuses it.
+/// of a switch first, or the first place that asks for a missing class, as is looked for (JVMS 4.10.1.6). None where
+/// there is no frame before the instruction, or its rule refuses it.
 pub fn target_difference<'a, C: Classes>(
+    sought: Sought,
     body: &Body<'_, 'a, C>,
     at: u16,
     act: Act<'a>,
@@ -211,7 +253,7 @@ pub fn target_difference<'a, C: Classes>(
     requires locals { IfSome before (λ f. length f.now.locals.items ≡ body.now.method.now.code.now.max_locals) }
     ensures same { constants.new.members ≡ constants.old.members }
     ensures found { let m = method_view body.now.method.now in IfOk result (λ o. option_map difference_at_of o
-        ≡ target_difference (C.content body.now.classes.now) m (frames_in body.now.frames.now) at
+        ≡ target_difference sought (C.content body.now.classes.now) m (frames_in body.now.frames.now) at
         (typing_rule m (act_view act.entry)) (option_map (λ f. frame_of f.now) before.entry)) }
 {
     let Some(before) = before else {
@@ -233,10 +275,10 @@ pub fn target_difference<'a, C: Classes>(
     }
     let mut known = Known::new(body.alloc, body.frames, body.method.code.max_stack)?;
     let targets = BranchTargets::new(at, branches);
-    match unlike_target(targets, &frame, body, &mut known)? {
+    match unlike_target(sought, targets, &frame, body, &mut known)? {
         Some((to, declared)) => {
             let after = frame.into_frame()?;
-            difference_from(&after, to, &declared, body)
+            difference_from(sought, &after, to, &declared, body)
         }
         None => Ok(None),
     }
@@ -256,10 +298,11 @@ fn numbered<'a>(
     }
 }
 
-/// The first difference of the frame before an instruction, with what is caught alone on its stack, from the frames of the
-/// handlers of the entries that cover it (JVMS 4.10.1.6), with the place of the entry in the table. None where there is
-/// no frame before the instruction.
+/// The first difference of the frame before an instruction, with what is caught alone on its stack, from the frames of
+/// the handlers of the entries that cover it, or the first place that asks for a missing class, as is looked for (JVMS
+/// 4.10.1.6), with the place of the entry in the table. None where there is no frame before the instruction.
 pub fn handler_difference<'a, C: Classes>(
+    sought: Sought,
     body: &Body<'_, 'a, C>,
     at: u16,
     entries: &[Entry<'a>],
@@ -269,7 +312,7 @@ pub fn handler_difference<'a, C: Classes>(
     requires numbered { AreNumbered entries.now }
     requires locals { IfSome before (λ f. length f.now.locals.items ≡ body.now.method.now.code.now.max_locals) }
     ensures { let m = method_view body.now.method.now in IfOk result (λ o. option_map handler_difference_of o
-        ≡ handler_difference (C.content body.now.classes.now) m (frames_in body.now.frames.now) at
+        ≡ handler_difference sought (C.content body.now.classes.now) m (frames_in body.now.frames.now) at
         (option_map (λ f. frame_of f.now) before.entry)) }
 {
     let Some(before) = before else {
@@ -278,12 +321,13 @@ pub fn handler_difference<'a, C: Classes>(
     let max_locals = body.method.code.max_locals;
     let mut frame = Working::from_frame(body.alloc, before, max_locals)?;
     let mut known = Known::new(body.alloc, body.frames, body.method.code.max_stack)?;
-    match unlike_handler(at, entries, &frame, body, &mut known.locals)? {
+    match unlike_handler(sought, at, entries, &frame, body, &mut known.locals)? {
         Some((entry, declared)) => {
             frame.start(&before.locals, max_locals, before.flag)?;
             frame.push(reference_to(entry.caught))?;
             let caught = frame.into_frame()?;
-            let difference = difference_from(&caught, usize::from(entry.handler), &declared, body)?;
+            let to = usize::from(entry.handler);
+            let difference = difference_from(sought, &caught, to, &declared, body)?;
             Ok(numbered(entry.place, difference))
         }
         None => Ok(None),

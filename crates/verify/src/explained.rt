@@ -4,12 +4,13 @@ ghost use Rattle.classfile.specs.CodeMethods.{judged_class};
 ghost use Rattle.classfile.specs.Views.{class_view};
 ghost use Rattle.verify.specs.declared.verdict.VerifyFault.TheVariants.{OutOfMemory};
 ghost use Rattle.hierarchy.specs.Rules.{IsHierarchy};
+ghost use Rattle.rules.specs.Reasons.{reason_number};
 ghost use Rattle.verify.specs.Listed.{IsListed};
 ghost use Rattle.verify.specs.Reports.{IsReport};
 ghost use Rattle.verify.specs.Coming.{AreFramed, AreFramesOf, IsFramedIf, frames_view};
 ghost use Rattle.verify.specs.Explaining.{AreFramedIf, IsExplained};
 
-use crate::coming::{FramesAt, MOST_KEPT, frames_of};
+use crate::coming::{FramesAt, MOST_KEPT, Refusal, frames_of};
 use crate::report::{MethodVerdict, Report, report_listed};
 use crate::verdict::{Verdict, VerifyFault};
 use classfile::Formed;
@@ -27,27 +28,27 @@ pub struct Explained<'a> {
     pub frames: Vec<FramesAt<'a>>,
 }
 
-/// The frames at an offset of the method of a number.
+/// The frames at the offset at which the method of a number is refused.
 fn frames_at<'a, C: Classes>(
     alloc: Global,
     formed: &Formed<'_, 'a>,
     number: usize,
     constants: &mut ClassConstants<'_, '_, 'a, C>,
-    at: usize,
+    refusal: Refusal<'a>,
     classes: &C,
 ) -> Result<FramesAt<'a>, VerifyFault>
     requires constants { constants.old.members
         ≡ record { class = formed.now.class.now; classes = C.content classes.now } }
     requires within { number < length formed.now.class.now.methods.items }
     ensures same { constants.new.members ≡ constants.old.members }
-    ensures found { IfOk result (λ x. AreFramesOf (C.content classes.now) (judged_class formed.now) number at
-        (frames_view x)) }
+    ensures found { IfOk result (λ x. AreFramesOf (C.content classes.now) (judged_class formed.now) number
+        (reason_number refusal.entry.reason) refusal.entry.at (frames_view x)) }
     ensures memory { IfErr result (λ e. e ≡ OutOfMemory) }
 {
     formed.class();
     match formed.method(number) {
         None => Ok(FramesAt::none()),
-        Some(method) => frames_of(alloc, method, constants, at, classes),
+        Some(method) => frames_of(alloc, method, constants, refusal, classes),
     }
 }
 
@@ -74,7 +75,10 @@ fn frames_on<'a, C: Classes>(
     }
     match *verdict {
         Verdict::Verified | Verdict::NoCode => Ok(FramesAt::none()),
-        Verdict::Refused { at, .. } => { frames_at(alloc, formed, number, constants, at, classes) }
+        Verdict::Refused { at, reason } => {
+            let refusal = Refusal { at, reason };
+            frames_at(alloc, formed, number, constants, refusal, classes)
+        }
     }
 }
 

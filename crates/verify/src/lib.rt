@@ -8,8 +8,9 @@
 //! - `final_super`: whether the superclass of a class is final; `listing`: whether a hierarchy has a class as it is.
 //! - `play`: the reports on classes whose methods may call each other; `met_names`: the names of the classes before
 //!   one.
-//! - `explained`: a report, with the frames at the instructions at which methods are refused; `coming`: the frames at
-//!   an instruction; `difference_at`: how a frame that leads to a target or a handler differs from the one declared there.
+//! - `explained`: a report, with the frames at the instructions at which methods are refused; `coming`: these
+//!   frames; `detail`: what is wrong there, by the reason; `difference_at`: how a frame that leads to a target or a
+//!   handler differs from the one that is declared there.
 //!
 //! Files:
 //!
@@ -48,6 +49,7 @@ mod branching;
 mod catching;
 mod coming;
 mod comparisons;
+mod detail;
 mod difference_at;
 mod each;
 mod exceptions;
@@ -79,6 +81,7 @@ mod verified_walk;
 
 pub use among::{AmongFault, explain_among_under, verify_among, verify_among_under};
 pub use coming::FramesAt;
+pub use detail::Detail;
 pub use difference_at::DifferenceAt;
 pub use each::{EachFault, Judgement, verify_each};
 pub use explained::Explained;

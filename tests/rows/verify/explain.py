@@ -7,7 +7,8 @@ from tools.class_k import K, OBJECT_CLASS, code_f, method_f, with_constants
 
 # For each method: its lines, with `|` between them. Its frames are built from its code in docs/REFUSALS.md: the
 # parameters of its descriptor are in the locals, and the instructions in front have put their values on the stack. No
-# frame comes to the instruction of 70, and 78 and 79 are told before there are frames.
+# frame comes to the instruction of 70, and 78 and 79 are told before there are frames; the map of 78 ends where its entry
+# 0 should begin.
 METHODS = """
 method f ()V refused 60 at 0 | 60 NotSupported: the instruction is jsr, jsr_w or ret, or one that only --dynamic judges | stack 0 locals 0 | 0 jsr 3 | locals | stack
 method f ()V refused 61 at 0 | 61 MissingOperand: the stack holds fewer operands than the instruction takes | stack 0 locals 0 | 0 pop | locals | stack | stack: expected units 1, found 0
@@ -26,8 +27,8 @@ method f ()I refused 73 at 1 | 73 HandlerNotAssignable: the frame before the ins
 method <init> ()V refused 74 at 0 | 74 OwnObjectNotReady: the constructor returns before its own object is initialized | stack 0 locals 1 | 0 return | locals uninitializedThis | stack | flags flagThisUninit
 method <init> ()V refused 75 at 1 | 75 ConstructorCovered: an entry of the exception table covers the call of a constructor on the own object | stack 1 locals 1 | 1 invokespecial #13 | constant 13 Methodref #9 #12 java/lang/Object <init> ()V | locals uninitializedThis | stack uninitializedThis | flags flagThisUninit | catch 0 4 5 any
 method f ()I refused 76 at 0 | 76 WrongReturn: the return is of another kind than the result of the method | stack 1 locals 0 | 0 return | locals | stack
-method f (LA;)LB; refused 77 at 1 missing B | 77 ClassMissing: a comparison of types needs the class of this name, which is not among the files | stack 1 locals 1 | 1 areturn | locals Class A | stack Class A
-method f ()V refused 78 at 0 fault 2 | 78 BadStackMap: the stack map is refused | 2 EndsEarly: the stack map ends within an entry | stack 0 locals 0 | 0 return
+method f (LA;)LB; refused 77 at 1 missing B | 77 ClassMissing: a comparison of types needs the class of this name, which is not among the files | stack 1 locals 1 | 1 areturn | locals Class A | stack Class A | operand 1 of 1: expected Class B, found Class A
+method f ()V refused 78 at 0 fault 2 | 78 BadStackMap: the stack map is refused | 2 EndsEarly: the stack map ends within an entry | stack 0 locals 0 | 0 return | entry 0
 method f ()V refused 79 at 1 fault 31 | 79 BadCode: the code is refused at this instruction | 31 BadOpcode: the byte is no opcode | stack 0 locals 0
 method f (LA;)V refused 82 at 1 | 82 ProtectedMember: a protected member of another package is used on an object that is not assignable to the current class | stack 1 locals 1 | 1 invokevirtual #13 | constant 13 Methodref #9 #12 java/lang/Object clone ()Ljava/lang/Object; | locals Class A | stack Class A
 """
@@ -84,8 +85,19 @@ PARTS = {
     26: ["method 0009 Code ()V"],
     27: ["method 0109 f ()V"],
     28: ["class K major 52 minor 0 flags 0021", "super none"],
-    29: ["method 0009 f ()V"],
-    30: ["method 0009 f ()V"],
+    29: ["method 0009 f ()V", "attribute 0 Code"],
+    30: ["method 0009 f ()V", "attribute 1 Code"],
+}
+# The entry at fault of a stack map that is refused by the fault of this number: where its bytes are an entry, with the
+# offset of its frame.
+ENTRIES = {
+    47: "entry 0",
+    48: "entry 0",
+    49: "entry 0 at 0",
+    50: "entry 0 at 0",
+    51: "entry 0 at 0",
+    52: "entry 0 at 5",
+    53: "entry 0 at 0",
 }
 OF_CONSTANT = ["method f ()V refused 66 at 0", "66 WrongConstant: the constant, or the byte, is none that the instruction may have", "stack 1 locals 0"]
 EMPTY = ["locals", "stack"]
@@ -106,7 +118,8 @@ def of_code(number, line):
     """The text for the example of a fault of code or of a stack map."""
     head = "78 BadStackMap: the stack map is refused" if "refused 78" in line else "79 BadCode: the code is refused at this instruction"
     sizes = f"stack {int(number == 53)} locals 0"
-    return text([line, head, OF_NUMBER[number], sizes, *(["0 nop"] if "refused 78" in line else [])])
+    of_map = ["0 nop", ENTRIES[number]] if "refused 78" in line else []
+    return text([line, head, OF_NUMBER[number], sizes, *of_map])
 
 
 # A constant of each kind, from 8 on, and the line of it.

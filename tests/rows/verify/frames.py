@@ -91,8 +91,31 @@ f (LA;)V 2 1 | iconst_0; aload_0; putfield [field A x I]; return | | | 62 at 2 |
 # the own fields of a constructor may be set before another constructor has returned; K declares x
 <init> ()V 2 1 | iconst_0; iconst_0; putfield [field K x I]; return | | | 62 at 2 | 2 putfield #13 / constant 13 Fieldref #9 #12 K x I / locals uninitializedThis / stack int, int / flags flagThisUninit / operand 1 of 2: expected uninitializedThis or Class K, found int
 <init> ()V 2 1 | iconst_0; iconst_0; putfield [field K y I]; return | | | 62 at 2 | 2 putfield #13 / constant 13 Fieldref #9 #12 K y I / locals uninitializedThis / stack int, int / flags flagThisUninit / operand 1 of 2: expected Class K, found int
-# for 77 only the frame before the instruction, also where the two were compared
-f (LA;)V 0 1 | nop; return | 1 full [class B] [] | | 77 at 1 missing B | 1 return / locals Class B / stack
+# for 77 the comparison that asks for the class: of the frame that comes with the one that is declared there, of a local or of an item
+f (LA;)V 0 1 | nop; return | 1 full [class B] [] | | 77 at 1 missing B | 1 return / locals Class A / stack / declared locals Class B / declared stack / local 0: whether Class A is assignable to Class B is not known
+f (IILA;)V 0 3 | return | 0 full [top, int, class B] [] | | 77 at 0 missing B | 0 return / locals int, int, Class A / stack / declared locals top, int, Class B / declared stack / local 2: whether Class A is assignable to Class B is not known
+f (LB;)V 2 1 | iconst_0; aload_0; pop2; return | 2 full [class B] [int, class A] | | 77 at 2 missing B | 2 pop2 / locals Class B / stack int, Class B / declared locals Class B / declared stack int, Class A / stack 1: whether Class B is assignable to Class A is not known
+# of an operand with the type that the instruction takes; the first one is that nearest to the top
+f (LA;LB;)V 2 2 | aload_1; aload_0; invokestatic [method A s (LA;LB;)V]; return | | | 77 at 2 missing B | 2 invokestatic #13 / constant 13 Methodref #9 #12 A s (LA;LB;)V / locals Class A, Class B / stack Class B, Class A / operand 2 of 2: expected Class B, found Class A
+f (LB;LA;)V 2 2 | aload_0; aload_1; invokestatic [method A s (LA;LA;)V]; return | | | 77 at 2 missing B | 2 invokestatic #13 / constant 13 Methodref #9 #12 A s (LA;LA;)V / locals Class B, Class A / stack Class B, Class A / operand 1 of 2: expected Class A, found Class B
+# of the frame after the instruction with that of the first target at which a class is missing
+f (LA;I)V 1 2 | iload_1; ifeq 3; return | 4 full [class B, int] [] | | 77 at 1 missing B | 1 ifeq 4 / locals Class A, int / stack int / target 4 / local 0: whether Class A is assignable to Class B is not known
+f (LA;I)V 1 2 | iload_1; bytes ab 0000 00000014 00000001 ffffffff 00000013; return; return | 20 full [class B] []; 21 full [class A] [] | | 77 at 1 missing B | 1 lookupswitch 21 -1:20 / locals Class A, int / stack int / target 20 / local 0: whether Class A is assignable to Class B is not known
+# of the frame before it with that of the first handler at which one is missing, with the entry of the exception table
+f (LA;)V 1 1 | nop; return; pop; return; pop; return | 2 same1 class java/lang/Throwable; 4 full [class B] [class java/lang/Throwable] | 0 1 2 any, 0 1 4 any | 77 at 0 missing B | 0 nop / locals Class A / stack / handler 4 / local 0: whether Class A is assignable to Class B is not known / catch 0 1 4 any
+f ()V 1 0 | nop; return; pop; return | 2 same1 class B | 0 1 2 any | 77 at 0 missing B | 0 nop / locals / stack / handler 2 / stack 0: whether Class java/lang/Throwable is assignable to Class B is not known / catch 0 1 2 any
+# of what an entry of the exception table catches, before the code is judged
+f ()V 1 0 | nop; return; pop; return | 2 same1 class java/lang/Throwable | 0 1 2 any, 0 1 2 B | 77 at 0 missing B | 0 nop / locals / stack / catch 0 1 2 B
+# none where it is about the object of a protected member, which goes before the handlers, or about the class of invokespecial
+f (LB;LD;)V 1 2 | aload_0; invokevirtual [method java/lang/Object clone ()Ljava/lang/Object;]; pop; return; pop; return | 6 full [class B, class A] [class java/lang/Throwable] | 1 5 6 any | 77 at 1 missing B | 1 invokevirtual #13 / constant 13 Methodref #9 #12 java/lang/Object clone ()Ljava/lang/Object; / locals Class B, Class D / stack Class B
+g ()V 1 1 | aload_0; invokespecial [method B f ()V]; return | | | 77 at 1 missing B | 1 invokespecial #13 / constant 13 Methodref #9 #12 B f ()V / locals Class K / stack Class K
+# for 78 the entry of the stack map that declares no frame, with the offset of the frame, or the first that its bytes do not spell
+f ()V 0 0 | nop; nop; return | 1 same; 4 same | | 78 at 0 fault 52 | 0 nop / entry 1 at 4
+f ()V 0 0 | nop; nop; return | bytes 0002 01 | | 78 at 0 fault 2 | 0 nop / entry 1
+f ()V 0 0 | nop; nop; return | bytes 0002 01 f0 | | 78 at 0 fault 47 | 0 nop / entry 1
+# and none where its number of entries is cut, or bytes stand behind them
+f ()V 0 0 | nop; return | bytes 00 | | 78 at 0 fault 2 | 0 nop
+f ()V 0 0 | nop; return | bytes 0001 01 00 | | 78 at 0 fault 12 | 0 nop
 # for 68 the frame before the branch, and the first target, in the order of the instruction, from whose frame the frame after differs
 f (I)V 1 1 | iload_0; ifeq 3; return | 4 full [float] [] | | 68 at 1 | 1 ifeq 4 / locals int / stack int / target 4 / local 0: int is not assignable to float
 f (I)V 2 1 | fconst_0; iload_0; ifeq 3; return | 5 same | | 68 at 2 | 2 ifeq 5 / locals int / stack float, int / target 5 / stack: items that come 1, declared 0
@@ -137,6 +160,13 @@ CODES = {
     "dead": ("return; nop; return", "", "70 at 1", "1 nop", ""),
     "entry": ("iconst_0; return", "1 same", "69 at 1", "1 return", "locals / stack int / declared locals / declared stack / stack: items that come 1, declared 0"),
 }
+# What is said of the fault of a stack map, by its number.
+FAULTS = {
+    2: "2 EndsEarly: the stack map ends within an entry",
+    12: "12 AttributeLength: bytes stand behind the last entry",
+    47: "47 BadFrameType: a byte is no frame type",
+    52: "52 NotAStart: the offset of an entry is that of no instruction",
+}
 SENTENCES = {int(it.split()[0]): it.strip() for it in (line.split("|")[1] for line in METHODS.strip().splitlines())}
 
 
@@ -155,8 +185,9 @@ def rows():
         fields = [member(0, constants.text("x"), constants.text("I"))]
         k = replace(K, constants=constants.items, fields=fields, methods=[method_f(attributes, flags=STATIC if name == "f" else 0)])
         first = f"method {name} {descriptor} refused {told}".replace("\\", "\\u005c")
+        said = [SENTENCES[int(told.split()[0])], *([FAULTS[int(told.split()[-1])]] if "fault" in told else [])]
         sizes = f"stack {stack} locals {variables}"
-        yield f"{head} {code} {body}", [k.data(), *KNOWN], text([first, SENTENCES[int(told.split()[0])], sizes, *lines.split(" / ")])
+        yield f"{head} {code} {body}", [k.data(), *KNOWN], text([first, *said, sizes, *lines.split(" / ")])
 
 
 def bounded():

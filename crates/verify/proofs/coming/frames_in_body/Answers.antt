@@ -5,6 +5,7 @@ use Rattle.frames.specs.VerificationType.{type_of}
 use Rattle.frames.specs.DeclaredTables.{frames_in}
 use Rattle.frames.specs.Slots.{in_locals}
 use Rattle.rules.specs.Bodies.{method_view}
+use Rattle.rules.specs.Reasons.{reason_number}
 use Rattle.rules.specs.Held.{held}
 use Rattle.verify.specs.InitialFrames.{initial_types, initial_frame}
 use Rattle.verify.specs.Verdict.{frames_declared}
@@ -36,4 +37,4 @@ returns-clause-found g c =
     let locals : map type_of c.deref-3.result.now ≡ in_locals (initial_types m) = ap (map type_of) c.deref-3.ensures.value ∙ some.1 ∙ ap in_locals same in
     let begins : held c.start.new.self ≡ initial_frame m = c.in_ok-start.ensures ∙ started m c.deref-3.result.now c.begins_uninitialized.result locals c.begins_uninitialized.ensures in
     let told : frames_declared m ≡ Ok (frames_in c.in-Ok.frames) = subst (TellsFrames (frames_declared m)) c.in-Ok.is c.in_ok-declared.ensures.told in
-    subst (λ (z : FramesFact). IfOk c.walk.result (λ x. frames_view x ≡ z)) (frames_are classes m (frames_in c.in-Ok.frames) c.args.at wide told (held c.start.new.self) begins) c.walk.ensures.found
+    subst (λ (z : FramesFact). IfOk c.walk.result (λ x. frames_view x ≡ z)) (frames_are classes m (frames_in c.in-Ok.frames) (reason_number c.args.refusal.reason) c.args.refusal.at wide told (held c.start.new.self) begins) c.walk.ensures.found

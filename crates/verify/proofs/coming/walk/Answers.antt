@@ -12,6 +12,7 @@ use Rattle.insn.proofs.Readings.{reading_at, whole_reading, only_reading, has_in
 use Rattle.frames.specs.DeclaredTables.{declared_view, frames_in}
 use Rattle.rules.specs.Bodies.{method_view}
 use Rattle.rules.specs.Held.{held}
+use Rattle.rules.specs.Reasons.{reason_number}
 use Rattle.rules.specs.Table.{typing_rule}
 use Rattle.verify.specs.Coming.{frame_if, met}
 use Rattle.verify.proofs.Meeting.{met_at, goes_past, meets, skipped, start_behind, last_ahead, is_in_front}
@@ -34,7 +35,7 @@ loop-code-init g c =
         same = refl;
         low = 0;
         rises = decoded_rise 0 (instructions_in code) (starts_rise 0 code (instructions_in code) (read_spelled code c.requires.spelled.0 c.requires.spelled.1));
-        ahead = last_ahead classes m frames c.args.at c.requires.frames c.last_before-last.result c.last_before-last.ensures c.new-code.result.at;
+        ahead = last_ahead classes m frames (reason_number c.args.refusal.reason) c.args.refusal.at c.requires.frames c.last_before-last.result c.last_before-last.ensures c.new-code.result.at;
         within = omega (arith, all);
       };
       locals = λ e. c.requires.locals;
@@ -51,16 +52,17 @@ returns-then-from-at-clause-found g c =
     let classes = g.C.Classes.content c.args.body.now.classes.now in
     let m = method_view c.args.body.now.method.now in
     let frames = frames_in c.args.body.now.frames.now in
-    let at = c.args.at in
+    let n = reason_number c.args.refusal.reason in
+    let at = c.args.refusal.at in
     let coming = frame_if c.loop-code.comes (held c.loop-code.frame) in
-    let total = met typing_rule classes m frames m.code (Some (held c.args.first)) at in
+    let total = met typing_rule classes m frames n m.code (Some (held c.args.first)) at in
     let now = c.loop-code.invariant.walks in
     let x : ℕ × program.Act = (c.at-here.result, c.take_act-act.result) in
     let one = steps c.loop-code.code c.take_act-act.new.self x now.instructions now.read (taken_at c.loop-code.code c.take_act-act.new.self c.at-here.result c.take_act-act.result c.at-here.ensures c.take_act-act.ensures) in
-    let same : total ≡ met_at classes m frames at (act_located x ∷ acts one.others) coming = now.same ∙ ap (λ xs. met_at classes m frames at xs coming) one.all in
+    let same : total ≡ met_at classes m frames n at (act_located x ∷ acts one.others) coming = now.same ∙ ap (λ xs. met_at classes m frames n at xs coming) one.all in
     let here : nat_eq x.0 at ≡ true = grind (arith, nat_tests, c.from-in-loop-code.ensures, c.if-from-at.true) in
     let there : option_map declared_view c.find-declared.result ≡ at_offset frames x.0 = c.find-declared.ensures.frame ∙ ap (at_offset frames) c.from.ensures in
-    c.in_ok-meet.ensures.found ∙ sym (meets classes m frames at (act_located x) (acts one.others) coming total same here (option_map declared_view c.find-declared.result) there)
+    c.in_ok-meet.ensures.found ∙ sym (meets classes m frames n at (act_located x) (acts one.others) coming total same here (option_map declared_view c.find-declared.result) there)
 
 pub loop-code-smaller-then-from-last : goal.loop-code-smaller-then-from-last
 loop-code-smaller-then-from-last g c = (step_within c.loop-code.code c.take_act-act.new.self (c.at-here.result, c.take_act-act.result) (taken_at c.loop-code.code c.take_act-act.new.self c.at-here.result c.take_act-act.result c.at-here.ensures c.take_act-act.ensures)).2
@@ -73,16 +75,17 @@ loop-code-preserved-then-from-last g c =
     let classes = g.C.Classes.content c.args.body.now.classes.now in
     let m = method_view c.args.body.now.method.now in
     let frames = frames_in c.args.body.now.frames.now in
-    let at = c.args.at in
+    let n = reason_number c.args.refusal.reason in
+    let at = c.args.refusal.at in
     let last = c.last_before-last.result in
     let coming = frame_if c.loop-code.comes (held c.loop-code.frame) in
-    let total = met typing_rule classes m frames m.code (Some (held c.args.first)) at in
+    let total = met typing_rule classes m frames n m.code (Some (held c.args.first)) at in
     let now = c.loop-code.invariant.walks in
     let x : ℕ × program.Act = (c.at-here.result, c.take_act-act.result) in
     let taken = taken_at c.loop-code.code c.take_act-act.new.self c.at-here.result c.take_act-act.result c.at-here.ensures c.take_act-act.ensures in
     let one = steps c.loop-code.code c.take_act-act.new.self x now.instructions now.read taken in
     let a : ℕ × Act = act_located x in
-    let same : total ≡ met_at classes m frames at (a ∷ acts one.others) coming = now.same ∙ ap (λ xs. met_at classes m frames at xs coming) one.all in
+    let same : total ≡ met_at classes m frames n at (a ∷ acts one.others) coming = now.same ∙ ap (λ xs. met_at classes m frames n at xs coming) one.all in
     let rises : StartsRise now.low (a ∷ acts one.others) = subst (StartsRise now.low) one.all now.rises in
     let within = step_within c.loop-code.code c.take_act-act.new.self x taken in
     let apart : nat_eq x.0 at ≡ false = grind (arith, nat_tests, c.from-in-loop-code.ensures, c.if-from-at.false) in
@@ -92,7 +95,7 @@ loop-code-preserved-then-from-last g c =
       walks = record {
         instructions = one.others;
         read = one.read;
-        same = goes_past classes m frames at a (acts one.others) coming total same apart (option_map declared_view c.find-declared.result)
+        same = goes_past classes m frames n at a (acts one.others) coming total same apart (option_map declared_view c.find-declared.result)
             (frame_if c.in_ok-comes.comes (held c.step.new.frame)) there c.in_ok-comes.ensures.goes;
         low = x.0 + 1;
         rises = rises.1;
@@ -108,26 +111,27 @@ loop-code-preserved g c =
     let classes = g.C.Classes.content c.args.body.now.classes.now in
     let m = method_view c.args.body.now.method.now in
     let frames = frames_in c.args.body.now.frames.now in
-    let at = c.args.at in
+    let n = reason_number c.args.refusal.reason in
+    let at = c.args.refusal.at in
     let last = c.last_before-last.result in
     let coming = frame_if c.loop-code.comes (held c.loop-code.frame) in
-    let total = met typing_rule classes m frames m.code (Some (held c.args.first)) at in
+    let total = met typing_rule classes m frames n m.code (Some (held c.args.first)) at in
     let now = c.loop-code.invariant.walks in
     let x : ℕ × program.Act = (c.at-here.result, c.take_act-act.result) in
     let taken = taken_at c.loop-code.code c.take_act-act.new.self c.at-here.result c.take_act-act.result c.at-here.ensures c.take_act-act.ensures in
     let one = steps c.loop-code.code c.take_act-act.new.self x now.instructions now.read taken in
     let a : ℕ × Act = act_located x in
-    let same : total ≡ met_at classes m frames at (a ∷ acts one.others) coming = now.same ∙ ap (λ xs. met_at classes m frames at xs coming) one.all in
+    let same : total ≡ met_at classes m frames n at (a ∷ acts one.others) coming = now.same ∙ ap (λ xs. met_at classes m frames n at xs coming) one.all in
     let rises : StartsRise now.low (a ∷ acts one.others) = subst (StartsRise now.low) one.all now.rises in
     let within = step_within c.loop-code.code c.take_act-act.new.self x taken in
     let less : x.0 < last = omega (arith, c.from-in-loop-code-2.ensures, c.if-from-last.false) in
     let ahead : IsStart (a ∷ acts one.others) last = subst (λ xs. IsStart xs last) one.all (now.ahead (subst (λ n. n < last) (sym within.0) less)) in
-    let front = is_in_front classes m frames at last c.last_before-last.ensures x.0 less in
+    let front = is_in_front classes m frames n at last c.last_before-last.ensures x.0 less in
     record {
       walks = record {
         instructions = one.others;
         read = one.read;
-        same = skipped classes m frames at last front.0 front.1 a (acts one.others) now.low rises less ahead coming total same;
+        same = skipped classes m frames n at last front.0 front.1 a (acts one.others) now.low rises less ahead coming total same;
         low = x.0 + 1;
         rises = rises.1;
         ahead = λ lt. start_behind a (acts one.others) last less ahead;
@@ -142,7 +146,8 @@ returns-clause-found g c =
     let classes = g.C.Classes.content c.args.body.now.classes.now in
     let m = method_view c.args.body.now.method.now in
     let frames = frames_in c.args.body.now.frames.now in
-    let at = c.args.at in
+    let n = reason_number c.args.refusal.reason in
+    let at = c.args.refusal.at in
     let now = c.loop-code.invariant.walks in
     let coming = frame_if c.loop-code.comes (held c.loop-code.frame) in
-    c.none.ensures ∙ sym (now.same ∙ ap (λ xs. met_at classes m frames at (acts xs) coming) (at_end c.loop-code.code now.instructions now.read (sym c.is_at_end.ensures ∙ c.loop-code-test.false)))
+    c.none.ensures ∙ sym (now.same ∙ ap (λ xs. met_at classes m frames n at (acts xs) coming) (at_end c.loop-code.code now.instructions now.read (sym c.is_at_end.ensures ∙ c.loop-code-test.false)))

@@ -42,11 +42,11 @@ returns-in-Some-2 g c =
     c.in_ok-caught-in-Some-2.ensures ∙ c.in_ok-push-in-Some-2.ensures ∙ ap (pushed (type_of c.reference_to.result ∷ [])) begun
     ∙ ap (λ (x : VerificationType). pushed (x ∷ []) (held_frame b.locals.items n [] b.flag)) c.reference_to.ensures
     ∙ caught_is b n many t ∙ ap (λ (x : FrameFact). with_stack x (t ∷ [])) (sym c.in_ok-frame.ensures) in
-    let found = c.in_ok-entry.ensures.found ∙ ap (caught_difference classes f) c.in-Some-2.is in
-    let told : option_map difference_at_of c.in_ok-difference-in-Some-2.difference ≡ from_declared classes (caught_frame e f) entry.handler (Some d) =
-    c.in_ok-difference-in-Some-2.ensures ∙ ap (λ (x : FrameFact). from_declared classes x c.from.result (Some d)) alone
-    ∙ ap (λ (k : ℕ). from_declared classes (caught_frame e f) k (Some d)) c.from.ensures in
+    let found = c.in_ok-entry.ensures.found ∙ ap (caught_difference c.args.sought classes f) c.in-Some-2.is in
+    let told : option_map difference_at_of c.in_ok-difference-in-Some-2.difference ≡ from_declared c.args.sought classes (caught_frame e f) entry.handler (Some d) =
+    c.in_ok-difference-in-Some-2.ensures ∙ ap (λ (x : FrameFact). from_declared c.args.sought classes x c.from-to.result (Some d)) alone
+    ∙ ap (λ (k : ℕ). from_declared c.args.sought classes (caught_frame e f) k (Some d)) c.from-to.ensures in
     c.numbered.ensures ∙ ap (option_map (λ (x : DifferenceAtFact). (entry.place, x))) told ∙ sym found
-    ∙ ap (λ (es : List ExceptionEntry). at_handlers classes frames c.args.at f 0 es) c.requires.entries
-    ∙ ap (λ (x : FrameFact). at_handlers classes frames c.args.at x 0 m.exceptions) c.in_ok-frame.ensures
-    ∙ ap (λ (o : Option (Bor Frame)). handler_difference classes m frames c.args.at (option_map (λ b. frame_of b.now) o)) (sym c.in-Some.is)
+    ∙ ap (λ (es : List ExceptionEntry). at_handlers c.args.sought classes frames c.args.at f 0 es) c.requires.entries
+    ∙ ap (λ (x : FrameFact). at_handlers c.args.sought classes frames c.args.at x 0 m.exceptions) c.in_ok-frame.ensures
+    ∙ ap (λ (o : Option (Bor Frame)). handler_difference c.args.sought classes m frames c.args.at (option_map (λ b. frame_of b.now) o)) (sym c.in-Some.is)

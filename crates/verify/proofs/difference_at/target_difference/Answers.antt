@@ -48,14 +48,14 @@ returns-in-Some-2-clause-found g c =
     let now = held c.run.new.frame in
     let ran = (subst (Done (conditions classes m c.args.at p f) (after m c.args.at p f) now) c.in_default-run.is c.run.ensures).outcome in
     let led = c.new-targets.ensures ∙ ap (led_to c.args.at) (c.branches_by-branches.ensures ∙ (ways m a).way.branches) in
-    let found = c.in_ok-to.ensures.found ∙ ap (found_difference classes now) c.in-Some-2.is in
+    let found = c.in_ok-to.ensures.found ∙ ap (found_difference c.args.sought classes now) c.in-Some-2.is in
     let start : f ≡ frame_of c.in-Some.before.now = c.in_ok-frame.ensures in
-    let whole : from_declared classes (frame_of c.in_ok-after-in-Some-2.after) c.in-Some-2.to (Some (declared_view c.in-Some-2.declared))
-    ≡ target_difference classes m frames c.args.at p (option_map (λ b. frame_of b.now) c.args.before) =
-    ap (λ (x : FrameFact). from_declared classes x c.in-Some-2.to (Some (declared_view c.in-Some-2.declared))) c.in_ok-after-in-Some-2.ensures
-    ∙ sym found ∙ at_targets_is classes m frames c.args.at p f ran.0 now ran.1 (targets_of c.new-targets.result) led
-    ∙ ap (λ (x : FrameFact). target_difference classes m frames c.args.at p (Some x)) start
-    ∙ ap (λ (o : Option (Bor Frame)). target_difference classes m frames c.args.at p (option_map (λ b. frame_of b.now) o)) (sym c.in-Some.is) in
+    let whole : from_declared c.args.sought classes (frame_of c.in_ok-after-in-Some-2.after) c.in-Some-2.to (Some (declared_view c.in-Some-2.declared))
+    ≡ target_difference c.args.sought classes m frames c.args.at p (option_map (λ b. frame_of b.now) c.args.before) =
+    ap (λ (x : FrameFact). from_declared c.args.sought classes x c.in-Some-2.to (Some (declared_view c.in-Some-2.declared))) c.in_ok-after-in-Some-2.ensures
+    ∙ sym found ∙ at_targets_is c.args.sought classes m frames c.args.at p f ran.0 now ran.1 (targets_of c.new-targets.result) led
+    ∙ ap (λ (x : FrameFact). target_difference c.args.sought classes m frames c.args.at p (Some x)) start
+    ∙ ap (λ (o : Option (Bor Frame)). target_difference c.args.sought classes m frames c.args.at p (option_map (λ b. frame_of b.now) o)) (sym c.in-Some.is) in
     subst (λ (z : Option DifferenceAtFact). IfOk c.difference_from.result (λ o. option_map difference_at_of o ≡ z)) whole c.difference_from.ensures
 
 pub returns-clause-found : goal.returns-clause-found
@@ -69,7 +69,7 @@ returns-clause-found g c =
     let now = held c.run.new.frame in
     let ran = (subst (Done (conditions classes m c.args.at p f) (after m c.args.at p f) now) c.in_default-run.is c.run.ensures).outcome in
     let led = c.new-targets.ensures ∙ ap (led_to c.args.at) (c.branches_by-branches.ensures ∙ (ways m a).way.branches) in
-    let found = c.in_ok-to.ensures.found ∙ ap (found_difference classes now) c.in-None.is in
-    sym found ∙ at_targets_is classes m frames c.args.at p f ran.0 now ran.1 (targets_of c.new-targets.result) led
-    ∙ ap (λ (x : FrameFact). target_difference classes m frames c.args.at p (Some x)) c.in_ok-frame.ensures
-    ∙ ap (λ (o : Option (Bor Frame)). target_difference classes m frames c.args.at p (option_map (λ b. frame_of b.now) o)) (sym c.in-Some.is)
+    let found = c.in_ok-to.ensures.found ∙ ap (found_difference c.args.sought classes now) c.in-None.is in
+    sym found ∙ at_targets_is c.args.sought classes m frames c.args.at p f ran.0 now ran.1 (targets_of c.new-targets.result) led
+    ∙ ap (λ (x : FrameFact). target_difference c.args.sought classes m frames c.args.at p (Some x)) c.in_ok-frame.ensures
+    ∙ ap (λ (o : Option (Bor Frame)). target_difference c.args.sought classes m frames c.args.at p (option_map (λ b. frame_of b.now) o)) (sym c.in-Some.is)

@@ -21,9 +21,9 @@ returns-in-Some-clause-found g c =
     let i = c.loop-entry.entry-index in
     let d : Entry = record { place = 0; from = 0; to = 0; handler = 0; caught = Class (record { ref_ptr = (0, 0); now = [] }) } in
     let e = slice_index_or es i d in
-    let there : at_handler classes frames c.args.at f (entry_view e) ≢ None =
-    subst (λ (o : Option Declared). IfSome o (λ _. at_handler classes frames c.args.at f (entry_view e) ≢ None)) c.in-Some.is c.in_ok-found.ensures.some in
+    let there : at_handler c.args.sought classes frames c.args.at f (entry_view e) ≢ None =
+    subst (λ (o : Option Declared). IfSome o (λ _. at_handler c.args.sought classes frames c.args.at f (entry_view e) ≢ None)) c.in-Some.is c.in_ok-found.ensures.some in
     let found = c.in_ok-found.ensures.found
-    ∙ ap (λ (o : Option Declared). found_difference classes (caught_frame (entry_view e) f) (option_map (λ x. (e.handler, x)) o)) c.in-Some.is in
-    c.loop-entry.invariant.same ∙ differing_there es i d c.loop-entry-test.true c.requires.numbered classes frames c.args.at f there
+    ∙ ap (λ (o : Option Declared). found_difference c.args.sought classes (caught_frame (entry_view e) f) (option_map (λ x. (e.handler, x)) o)) c.in-Some.is in
+    c.loop-entry.invariant.same ∙ differing_there es i d c.loop-entry-test.true c.requires.numbered c.args.sought classes frames c.args.at f there
     ∙ ap (option_map (λ (x : DifferenceAtFact). (e.place, x))) found

@@ -21,11 +21,11 @@ loop-target-preserved g c =
     let found = c.unlike_at_target-found.result in
     let fits : SFits w64 c.in-Some.target = search rules in
     let missing : found ≡ None = none_is found (c.is_some.ensures) c.if-is_some.false in
-    let none : at_target classes frames f c.in-Some.target ≡ None =
-    subst (λ t. at_target classes frames f t ≡ found_difference classes f found) (to_z-of_z w64 _ fits) c.unlike_at_target-found.ensures.found ∙ ap (found_difference classes f) missing in
+    let none : at_target c.args.sought classes frames f c.in-Some.target ≡ None =
+    subst (λ t. at_target c.args.sought classes frames f t ≡ found_difference c.args.sought classes f found) (to_z-of_z w64 _ fits) c.unlike_at_target-found.ensures.found ∙ ap (found_difference c.args.sought classes f) missing in
     record {
-      same = c.loop-target.invariant.same ∙ ap (at_targets classes frames f) c.in-Some.ensures.steps
-          ∙ second_is (at_target classes frames f c.in-Some.target) (at_targets classes frames f left) none;
+      same = c.loop-target.invariant.same ∙ ap (at_targets c.args.sought classes frames f) c.in-Some.ensures.steps
+          ∙ second_is (at_target c.args.sought classes frames f c.in-Some.target) (at_targets c.args.sought classes frames f left) none;
       passed = c.unlike_at_target-found.ensures.passed missing;
       known = c.unlike_at_target-found.ensures.known;
     }

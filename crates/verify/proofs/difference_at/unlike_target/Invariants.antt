@@ -12,7 +12,7 @@ invariant-loop-target g l =
     let classes = g.C.Classes.content l.body.classes.now in
     let frames = frames_in l.body.frames.now in
     record {
-      same : at_targets classes frames (held l.frame) (targets_of l.fn.targets) ≡ at_targets classes frames (held l.frame) (targets_of l.target-iterator);
-      passed : ArePassed classes frames (held l.frame) l.seen;
+      same : at_targets l.sought classes frames (held l.frame) (targets_of l.fn.targets) ≡ at_targets l.sought classes frames (held l.frame) (targets_of l.target-iterator);
+      passed : ArePassed l.sought classes frames (held l.frame) l.seen;
       known : IsKnown classes l.body.frames.now (held l.frame) l.known;
     }

@@ -8,5 +8,5 @@ use Rattle.printing.proofs.differences.DifferenceLinePrint.put.Goals as goal
 pub returns-in-Sizes : goal.returns-in-Sizes
 returns-in-Sizes g c =
     let held = g.W.Write.contents in
-    subst (λ (d : Difference). Writes (held c.args.out.now) (held c.put-in-Sizes.new.out) (difference_line (difference_of d)) c.put-in-Sizes.result)
+    subst (λ (d : Difference). Writes (held c.args.out.now) (held c.put-in-Sizes.new.out) (difference_line c.args.self.now.sought (difference_of d)) c.put-in-Sizes.result)
     (sym c.in-Sizes.is) c.put-in-Sizes.ensures
