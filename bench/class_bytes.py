@@ -1,4 +1,5 @@
-"""Class files made by hand, without Java: what the measurements of hostile files are made of."""
+"""Class files made by hand, without Java: what the measurements of hostile files are made of, and the files of one measurement."""
+import pathlib
 import struct
 
 POOL = 8  # the first index behind the fixed entries
@@ -36,3 +37,20 @@ def method(name, code, max_stack, max_locals, body_of_map=None, handlers=()):
     behind = struct.pack(">H", len(handlers)) + b"".join(handlers) + struct.pack(">H", len(nested)) + b"".join(nested)
     body = struct.pack(">HHI", max_stack, max_locals, len(code)) + code + behind
     return struct.pack(">HHHHHI", 9, name, 5, 1, 6, len(body)) + body
+
+
+def path_of(folder, i):
+    return pathlib.Path(folder) / f"{i}.class"
+
+
+def written(folder, classes):
+    """Writes the file of each of these classes. Whether there are any."""
+    for i, data in enumerate(classes):
+        path_of(folder, i).write_bytes(data)
+    return bool(classes)
+
+
+def paths(folder):
+    """The paths of those files, in their order."""
+    count = sum(it.stem.isdigit() for it in pathlib.Path(folder).iterdir())
+    return [str(path_of(folder, i)) for i in range(count)]

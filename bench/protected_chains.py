@@ -1,5 +1,4 @@
 """Classes whose methods read protected fields of classes far above, with these, for `bench/hostile`: one judged beside known ones, or all in play."""
-import pathlib
 import struct
 
 from long_texts import LONGEST, indices, utf8
@@ -104,20 +103,3 @@ IN_PLAY = {
     "8,000 classes in play in one line of superclasses, each of which reads a field of the one above it": lambda: in_line(8_000, lambda i: b"x"),
     "30,000 classes in play in one line of superclasses, each of which reads another field of the one above it": lambda: in_line(30_000, lambda i: b"x%d" % i),
 }
-
-
-def path_of(folder, i):
-    return pathlib.Path(folder) / f"{i}.class"
-
-
-def written(folder, classes):
-    """Writes the file of each of these classes. Whether there are any."""
-    for i, data in enumerate(classes):
-        path_of(folder, i).write_bytes(data)
-    return bool(classes)
-
-
-def paths(folder):
-    """The paths of those files, in their order."""
-    count = sum(it.stem.isdigit() for it in pathlib.Path(folder).iterdir())
-    return [str(path_of(folder, i)) for i in range(count)]

@@ -80,20 +80,22 @@ fn place_of(n: usize) -> usize {
     place
 }
 
+/// Whether the stream was refused for this, after so many bytes were taken.
+fn is_refused<T: Drop>(answer: Result<T, StreamFault>, taken: usize, why: ReadFault) -> bool {
+    match answer {
+        Ok(_) => false,
+        Err(fault) => fault == StreamFault { taken, why },
+    }
+}
+
 /// That a failing reader is refused 15 where it failed, and one that ends 2 at the part that is not whole.
 fn is_cut(alloc: Global, n: usize, piece: usize) -> bool
     requires { n ≤ 97 }
 {
-    let failed = StreamFault {
-        taken: n,
-        why: ReadFault::ReadFailed { at: n },
-    };
-    let ended = StreamFault {
-        taken: n,
-        why: ReadFault::EndsEarly { at: place_of(n) },
-    };
-    matches!(of_cut(alloc, n, true, piece), Err(fault) if fault == failed)
-        && matches!(of_cut(alloc, n, false, piece), Err(fault) if fault == ended)
+    let failed = ReadFault::ReadFailed { at: n };
+    let ended = ReadFault::EndsEarly { at: place_of(n) };
+    is_refused(of_cut(alloc, n, true, piece), n, failed)
+        && is_refused(of_cut(alloc, n, false, piece), n, ended)
 }
 
 #[test]
@@ -133,7 +135,7 @@ fn memory_for_a_class(rt: HostRuntime) {
     assert!(rt; leaves_three(rt.alloc(), 7, true));
 }
 
-/// The answer on K with one byte changed, and how many bytes were taken.
+/// The answer on K with one byte changed.
 fn of_changed(alloc: Global, place: usize, byte: u8) -> Result<Vec<u8>, StreamFault>
     requires { place < 97 }
 {
@@ -145,45 +147,13 @@ fn of_changed(alloc: Global, place: usize, byte: u8) -> Result<Vec<u8>, StreamFa
 #[test]
 fn faults(rt: HostRuntime) {
     let magic = of_changed(rt.alloc(), 0, 0);
-    assert!(rt;
-        matches!(
-            magic,
-            Err(StreamFault {
-                taken: 4,
-                why: ReadFault::BadMagic
-            })
-        )
-    );
+    assert!(rt; is_refused(magic, 4, ReadFault::BadMagic));
     let tag = of_changed(rt.alloc(), 10, 2);
-    assert!(rt;
-        matches!(
-            tag,
-            Err(StreamFault {
-                taken: 11,
-                why: ReadFault::BadTag { at: 10, tag: 2 }
-            })
-        )
-    );
+    assert!(rt; is_refused(tag, 11, ReadFault::BadTag { at: 10, tag: 2 }));
     let long = of_changed(rt.alloc(), 78, 0xFF);
-    assert!(rt;
-        matches!(
-            long,
-            Err(StreamFault {
-                taken: 82,
-                why: ReadFault::TooLong { at: 82 }
-            })
-        )
-    );
+    assert!(rt; is_refused(long, 82, ReadFault::TooLong { at: 82 }));
     let claims = of_changed(rt.alloc(), 79, 1);
-    assert!(rt;
-        matches!(
-            claims,
-            Err(StreamFault {
-                taken: 97,
-                why: ReadFault::EndsEarly { at: 82 }
-            })
-        )
-    );
+    assert!(rt; is_refused(claims, 97, ReadFault::EndsEarly { at: 82 }));
     let kept = of_changed(rt.alloc(), 7, 0xFF);
     assert!(rt; kept.is_ok());
 }
@@ -192,26 +162,10 @@ fn faults(rt: HostRuntime) {
 fn a_pool_without_a_count(rt: HostRuntime) {
     let none = [0xCA, 0xFE, 0xBA, 0xBE, 0, 0, 0, 0x34, 0, 0, 9];
     let answer = read_class(rt.alloc(), &mut cut(&none, 11, false, 2));
-    assert!(rt;
-        matches!(
-            answer,
-            Err(StreamFault {
-                taken: 10,
-                why: ReadFault::BadPoolCount { at: 8 }
-            })
-        )
-    );
+    assert!(rt; is_refused(answer, 10, ReadFault::BadPoolCount { at: 8 }));
     let last = [0xCA, 0xFE, 0xBA, 0xBE, 0, 0, 0, 0x34, 0, 2, 5, 0, 0];
     let answer = read_class(rt.alloc(), &mut cut(&last, 13, false, 2));
-    assert!(rt;
-        matches!(
-            answer,
-            Err(StreamFault {
-                taken: 11,
-                why: ReadFault::BadTag { at: 10, tag: 5 }
-            })
-        )
-    );
+    assert!(rt; is_refused(answer, 11, ReadFault::BadTag { at: 10, tag: 5 }));
 }
 
 /// The bytes that are gathered of eight: a number of each size, one byte more, and then the reader fails.
@@ -249,15 +203,8 @@ fn numbers_of_a_stream(rt: HostRuntime) {
     assert!(rt; matches!(reading.u1(&mut reader), Ok(1)));
     assert!(rt; matches!(reading.u2(&mut reader), Ok(0x0203)));
     assert!(rt; matches!(reading.more(&mut reader, 2), Ok(2)));
-    assert!(rt;
-        matches!(
-            reading.part(&mut reader, 3),
-            Err(StreamFault {
-                taken: 7,
-                why: ReadFault::EndsEarly { at: 5 }
-            })
-        )
-    );
+    let part = reading.part(&mut reader, 3);
+    assert!(rt; is_refused(part, 7, ReadFault::EndsEarly { at: 5 }));
     assert!(rt; reading.bytes().len() == 7);
 }
 

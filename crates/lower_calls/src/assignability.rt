@@ -1,4 +1,4 @@
-use crate::making::{frame, hasher, setting};
+use crate::making::{A, B, array, frame, hasher, setting};
 use frames::{
     Frame, VType, array_of, assignable, frame_assignable, held_by, laws, number_type, reference_to,
 };
@@ -18,15 +18,7 @@ fn laws_are_called() {
     laws::forms_agree();
 }
 
-const A: VType<'static> = VType::Class(b"A");
-
-const B: VType<'static> = VType::Class(b"B");
-
 const I: VType<'static> = VType::Class(b"I");
-
-fn array<'a>(dims: u8, base: Base<'a>) -> VType<'a> {
-    VType::Array { dims, base }
-}
 
 /// A type, where another is wanted, and what is answered.
 fn class_rows<'a>() -> [(VType<'a>, VType<'a>, Answer<'a>); 7] {

@@ -1,8 +1,10 @@
+ghost use Rattle.std.specs.Prelude.{◌≡◌};
+
 use classfile::{ClassFile, decode};
 use format_calls::making::K;
 use frames::{
-    CodeStarts, Declared, Frame, FrameFault, Limits, Locals, MapEntry, StackMap, TypeInfo, VType,
-    declare, declared,
+    CodeStarts, Declared, DeclaredFrames, Frame, FrameFault, Limits, Locals, MapEntry,
+    RefusedEntry, StackMap, TypeInfo, VType, declare, declared, laws, refused_entry,
 };
 use insn::decode_code;
 use pool::ConstantTypes;
@@ -26,6 +28,22 @@ fn stack_map<'a>(alloc: Global) -> Result<StackMap<'a>, AllocError> {
     Ok(StackMap::new(Vec::from_array(alloc, entries)?))
 }
 
+/// What the frames keep to, where the stack has room for this many units.
+fn limits<'m, 'a>(
+    class: &'m ClassFile<'a>,
+    starts: &'m CodeStarts<'m>,
+    max_stack: u16,
+) -> Limits<'m, 'a, CodeStarts<'m>>
+    ensures { result.pool.now ≡ class.now.constant_pool }
+{
+    Limits {
+        pool: &class.constant_pool,
+        starts,
+        max_locals: 5,
+        max_stack,
+    }
+}
+
 /// Whether a frame has these locals, by units, and this stack.
 fn has(
     alloc: Global,
@@ -41,37 +59,55 @@ fn has(
     Ok(alike && found.below(5) == locals && items.as_slice() == stack && !frame.flag())
 }
 
-/// Whether the frames of the entries are found by their offsets.
+/// Whether the frame at an offset is found, and has these locals, by units, and this stack.
+fn has_at(
+    alloc: Global,
+    frames: &DeclaredFrames<'_>,
+    at: u32,
+    locals: &[VType<'_>],
+    stack: &[VType<'_>],
+) -> Result<bool, AllocError> {
+    match frames.find(at) {
+        Some(frame) => has(alloc, &frame, locals, stack),
+        None => Ok(false),
+    }
+}
+
+/// Whether the frames of the entries are found by their offsets, and no other.
+fn have_all(alloc: Global, frames: &DeclaredFrames<'_>) -> Result<bool, AllocError> {
+    let same = has_at(alloc, frames, 0, &LOCALS, &[])?;
+    let item = has_at(alloc, frames, 1, &LOCALS, &[VType::Double])?;
+    let chopped = has_at(alloc, frames, 2, &LOCALS[..3], &[])?;
+    Ok(same && item && chopped && frames.find(3).is_none())
+}
+
+/// Whether the frames of the entries are declared.
 fn are_found(alloc: Global, class: &ClassFile<'_>) -> Result<bool, AllocError> {
     let Ok(starts) = CodeStarts::new(alloc, &CODE) else {
         return Ok(false);
     };
     let map = stack_map(alloc)?;
-    let pool = &class.constant_pool;
-    let mut constants = ConstantTypes::new(alloc, pool);
-    let limits = Limits {
-        pool,
-        starts: &starts,
-        max_locals: 5,
-        max_stack: 2,
-    };
-    let found = declare(alloc, map.entries(), &limits, &mut constants, &[])?;
-    let Ok(frames) = found else {
-        return Ok(false);
-    };
-    match (
-        frames.find(0),
-        frames.find(1),
-        frames.find(2),
-        frames.find(3),
-    ) {
-        (Some(first), Some(second), Some(third), None) => Ok(
-            has(alloc, &first, &LOCALS, &[])?
-                && has(alloc, &second, &LOCALS, &[VType::Double])?
-                && has(alloc, &third, &LOCALS[..3], &[])?,
-        ),
-        _ => Ok(false),
+    let mut constants = ConstantTypes::new(alloc, &class.constant_pool);
+    let limits = limits(class, &starts, 2);
+    match declare(alloc, map.entries(), &limits, &mut constants, &[])? {
+        Ok(frames) => have_all(alloc, &frames),
+        Err(_) => Ok(false),
     }
+}
+
+/// The first entry that is refused, where the stack has room for this many units.
+fn refused(
+    alloc: Global,
+    class: &ClassFile<'_>,
+    max_stack: u16,
+) -> Result<Option<RefusedEntry>, AllocError> {
+    let Ok(starts) = CodeStarts::new(alloc, &CODE) else {
+        return Err(AllocError);
+    };
+    let map = stack_map(alloc)?;
+    let mut constants = ConstantTypes::new(alloc, &class.constant_pool);
+    let limits = limits(class, &starts, max_stack);
+    refused_entry(alloc, map.entries(), &limits, &mut constants, &[])
 }
 
 /// Whether a frame has these locals and perhaps more, and this stack, at this offset.
@@ -105,4 +141,21 @@ fn of_entries(rt: HostRuntime) {
     assert!(rt; are_found(rt.alloc(), &class) == Ok(true));
     assert!(rt; are_whole(rt.alloc(), &class, 2) == Ok(true));
     assert!(rt; are_whole(rt.alloc(), &class, 1) == Ok(true));
+}
+
+#[test]
+fn refused_is_reason() {
+    laws::refused_is_reason();
+}
+
+#[test]
+fn of_a_refused_entry(rt: HostRuntime) {
+    let class = decode(rt.alloc(), &K).expect(&rt, "a class file");
+    assert!(rt; refused(rt.alloc(), &class, 2) == Ok(None));
+    let second = RefusedEntry {
+        place: 1,
+        at: 1,
+        fault: FrameFault::StackOver,
+    };
+    assert!(rt; refused(rt.alloc(), &class, 1) == Ok(Some(second)));
 }

@@ -1,17 +1,18 @@
-use crate::making::{frame, hasher, setting};
-use frames::{Difference, Frame, Mismatch, VType, first_difference, laws};
+use crate::making::{A, B, frame, hasher, setting};
+use frames::{Difference, Frame, Mismatch, VType, first_difference, first_missing, laws};
 use hierarchy::{Classes, Rows};
 use std::alloc::{AllocError, Global};
 use std::process::Abort;
 use std::test::*;
 
-const A: VType<'static> = VType::Class(b"A");
-
-const B: VType<'static> = VType::Class(b"B");
-
 #[test]
 fn differences_are_no() {
     laws::differences_are_no();
+}
+
+#[test]
+fn missing_is_found() {
+    laws::missing_is_found();
 }
 
 /// Whether this is the first difference of two frames.
@@ -93,6 +94,32 @@ fn check_order<C: Classes>(rt: &impl Abort, alloc: Global, classes: &C) {
     assert!(rt; is_first(ints, objects, classes, local(0, VType::Int, A)));
 }
 
+/// Whether this is the first place of two frames at which a class is missing.
+fn is_missing<'a, C: Classes>(
+    from: Result<Frame<'a>, AllocError>,
+    to: Result<Frame<'a>, AllocError>,
+    classes: &C,
+    expected: Option<Difference<'a>>,
+) -> bool {
+    match (from, to) {
+        (Ok(from), Ok(to)) => first_missing(&from, &to, classes) == expected,
+        _ => false,
+    }
+}
+
+/// The class B is missing: at a local variable before the stack, at an item, and nowhere beside a difference.
+fn check_missing<C: Classes>(rt: &impl Abort, alloc: Global, classes: &C) {
+    let as_a = frame(alloc, &[A, A], &[VType::Int, A], false);
+    let as_b = frame(alloc, &[A, B], &[VType::Int, B], false);
+    assert!(rt; is_missing(as_a, as_b, classes, local(1, A, B)));
+    let as_a = frame(alloc, &[A], &[VType::Int, A], false);
+    let as_b = frame(alloc, &[A], &[VType::Int, B], false);
+    assert!(rt; is_missing(as_a, as_b, classes, item(1, A, B)));
+    let as_a = frame(alloc, &[A], &[VType::Int], false);
+    let as_b = frame(alloc, &[B], &[VType::Float], false);
+    assert!(rt; is_missing(as_a, as_b, classes, None));
+}
+
 #[test]
 fn differences(rt: HostRuntime) {
     let alloc = rt.alloc();
@@ -102,6 +129,7 @@ fn differences(rt: HostRuntime) {
             check_locals(&rt, alloc, &classes);
             check_stacks(&rt, alloc, &classes);
             check_order(&rt, alloc, &classes);
+            check_missing(&rt, alloc, &classes);
         }
         Err(_) => panic!(rt; "a hierarchy"),
     }

@@ -1,5 +1,5 @@
 //! Single instructions of an instance initialization method.
-use crate::making::{frame, hasher, object, object_with_clone, summary};
+use crate::making::{array, cloneable, frame, hasher, object};
 use classfile::{ClassFile, Formed, decode, form_check};
 use format_calls::making::OUT_OF_MEMORY;
 use frames::{Frame, VType};
@@ -101,14 +101,9 @@ fn judge_of<'a>(alloc: Global, formed: &Formed<'_, 'a>, frame: &Frame<'a>) -> Ju
 
 /// The outcome of the rule where Object has the method `clone`, which is protected, and K and A are below it.
 fn judge_cloning<'a>(alloc: Global, formed: &Formed<'_, 'a>, frame: &Frame<'a>) -> Judged<'a> {
-    let Ok(above) = object_with_clone(alloc) else {
+    let Ok(list) = cloneable(alloc) else {
         return Err(OUT_OF_MEMORY);
     };
-    let list = [
-        above,
-        summary(alloc, b"K", Some(OBJECT), false),
-        summary(alloc, b"A", Some(OBJECT), false),
-    ];
     match Rows::new(alloc, &list, hasher()) {
         Ok(classes) => judge_among(alloc, formed, &classes, frame),
         Err(_) => Err(OUT_OF_MEMORY),
@@ -205,11 +200,8 @@ fn protected_members(rt: HostRuntime) {
     assert!(rt; leaves(judge_clone(alloc, VType::Null), &given));
     assert!(rt; matches!(judge_clone(alloc, VType::Class(b"A")), Err(82)));
     assert!(rt; matches!(judge_clone(alloc, VType::Class(b"B")), Err(77)));
-    let array = VType::Array {
-        dims: 1,
-        base: Base::Class(b"K"),
-    };
-    assert!(rt; matches!(judge_clone(alloc, array), Err(82)));
+    let array_of_k = array(1, Base::Class(b"K"));
+    assert!(rt; matches!(judge_clone(alloc, array_of_k), Err(82)));
     assert!(rt; matches!(judge_clone(alloc, VType::Int), Err(62)));
 }
 

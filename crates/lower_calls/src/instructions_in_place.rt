@@ -1,20 +1,20 @@
 //! Instructions on a frame in place, the members that they name, the first thing that they take and a frame lacks, and
 //! reasons taken together.
 use crate::instruction_rules::{CLONING, CONSTRUCTING};
-use crate::making::{hasher, object_with_clone, summary};
+use crate::making::{A, B, array, cloneable, hasher};
 use classfile::{ClassFile, Formed, decode, form_check};
 use format_calls::making::OUT_OF_MEMORY;
 use frames::VType;
 use hierarchy::{Classes, Rows};
 use insn::{Act, Branches, Kind, decode_code};
 use layout::MAX_CODE_BYTES;
-use names::{Base, OBJECT};
+use names::Base;
 use rules::{
     ClassConstants, Env, ExpectedTypes, Reason, Unmet, Working, branches_by, check_member,
     constructs_own, first_reason, first_unmet, goes_on, is_plain, keeps_locals, own_class,
     replaced_object, run, run_plain, stored_to, together, typing_rules_go_as_acts,
 };
-use std::alloc::Global;
+use std::alloc::{AllocError, Global};
 use std::test::*;
 
 /// Something that is asked in the first method of a class.
@@ -34,33 +34,57 @@ enum Asked<'a> {
 
 type Judged<'a> = Result<bool, Reason<'a>>;
 
+/// A call of `clone`, and of the constructor of Object, by their constants in the class files.
+const CLONE: Act<'static> = Act::InvokeVirtual { index: 11 };
+
+const CONSTRUCT: Act<'static> = Act::InvokeSpecial { index: 9 };
+
+/// A frame of the method with this type alone on its stack.
+fn holding<'a, C: Classes>(
+    alloc: Global,
+    env: &Env<'_, '_, 'a, C>,
+    flag: bool,
+    object: VType<'a>,
+) -> Result<Working<'a>, AllocError> {
+    let mut frame = Working::new(alloc, env.method.code.max_locals, flag);
+    frame.push(object)?;
+    Ok(frame)
+}
+
+/// What the rule says of an instruction, together with what is said of the member that it uses.
+fn both<'a>(ran: Result<(), Reason<'a>>, used: Result<(), Reason<'a>>) -> Result<(), Reason<'a>> {
+    match ran {
+        Ok(()) => together(used, Ok(())),
+        Err(reason) => Err(first_reason(reason, used)),
+    }
+}
+
 /// Whether `clone` of Object leaves one item on the stack, on which only its object was.
+fn clones_in<'a, C: Classes>(
+    alloc: Global,
+    env: &Env<'_, '_, 'a, C>,
+    frame: &mut Working<'a>,
+) -> Judged<'a> {
+    let (method, classes) = (&env.method, env.classes);
+    if frame.max_locals() != method.code.max_locals {
+        return Ok(false);
+    }
+    let mut constants = ClassConstants::new(alloc, method.class, classes);
+    let named = constants.named(method, &CLONE)?;
+    let members = &mut constants.members;
+    let used = check_member(method, &CLONE, &named, members, frame, classes);
+    let ran = run(method, env, 0, CLONE, &named, frame, classes);
+    both(ran, used)?;
+    Ok(frame.stack().len() == 1)
+}
+
 fn clones<'a, C: Classes>(
     alloc: Global,
     env: &Env<'_, '_, 'a, C>,
     object: VType<'a>,
 ) -> Judged<'a> {
-    let act = Act::InvokeVirtual { index: 11 };
-    let mut frame = Working::new(alloc, env.method.code.max_locals, false);
-    frame.push(object)?;
-    let mut constants = ClassConstants::new(alloc, env.method.class, env.classes);
-    let named = constants.named(&env.method, &act)?;
-    let used = check_member(
-        &env.method,
-        &act,
-        &named,
-        &mut constants.members,
-        &frame,
-        env.classes,
-    );
-    if frame.max_locals() != env.method.code.max_locals {
-        return Ok(false);
-    }
-    match run(&env.method, env, 0, act, &named, &mut frame, env.classes) {
-        Ok(()) => together(used, Ok(()))?,
-        Err(reason) => return Err(first_reason(reason, used)),
-    }
-    Ok(frame.stack().len() == 1)
+    let mut frame = holding(alloc, env, false, object)?;
+    clones_in(alloc, env, &mut frame)
 }
 
 /// Whether the constructor of Object is called on the own object, and initializes it.
@@ -69,45 +93,53 @@ fn constructs<'a, C: Classes>(
     env: &Env<'_, '_, 'a, C>,
     object: VType<'a>,
 ) -> Judged<'a> {
-    let act = Act::InvokeSpecial { index: 9 };
-    let mut frame = Working::new(alloc, env.method.code.max_locals, true);
-    frame.push(object)?;
+    let frame = holding(alloc, env, true, object)?;
     let mut constants = ClassConstants::new(alloc, env.method.class, env.classes);
-    let named = constants.named(&env.method, &act)?;
-    let replaced = replaced_object(&env.method, 0, &act, &named, &frame);
-    Ok(constructs_own(&env.method, &act, &named, &frame) && replaced == Some(object))
+    let named = constants.named(&env.method, &CONSTRUCT)?;
+    let replaced = replaced_object(&env.method, 0, &CONSTRUCT, &named, &frame);
+    Ok(constructs_own(&env.method, &CONSTRUCT, &named, &frame) && replaced == Some(object))
 }
 
 /// Whether the frame with this type on the stack lacks the one operand that a call of `clone` of Object takes.
 fn lacks<'a, C: Classes>(alloc: Global, env: &Env<'_, '_, 'a, C>, object: VType<'a>) -> Judged<'a> {
-    let act = Act::InvokeVirtual { index: 11 };
     let mut constants = ClassConstants::new(alloc, env.method.class, env.classes);
-    let named = constants.named(&env.method, &act)?;
-    let types = ExpectedTypes::of(alloc, &env.method, &act, &named)?;
-    let mut frame = Working::new(alloc, env.method.code.max_locals, false);
-    frame.push(object)?;
+    let named = constants.named(&env.method, &CLONE)?;
+    let types = ExpectedTypes::of(alloc, &env.method, &CLONE, &named)?;
+    is_unmet(env, &types, holding(alloc, env, false, object)?)
+}
+
+/// Whether the first of these expected types that the frame does not meet is that of the one operand.
+fn is_unmet<'a, C: Classes>(
+    env: &Env<'_, '_, 'a, C>,
+    types: &ExpectedTypes<'a>,
+    frame: Working<'a>,
+) -> Judged<'a> {
     let frame = frame.into_frame()?;
-    match first_unmet(&env.method, env, &types, &frame, env.classes) {
+    match first_unmet(&env.method, env, types, &frame, env.classes) {
         Some(Unmet::Operand { wrong, count }) => Ok(wrong.place == 1 && count == 1),
         _ => Ok(false),
     }
 }
 
-/// Whether a store of an `int` to the local variable 1 is seen there, and the local is top again when that is put back.
-fn stores<'a, C: Classes>(alloc: Global, env: &Env<'_, '_, 'a, C>) -> Judged<'a> {
+/// Whether a store of the `int` on the stack to the local variable 1 is seen there, and the local is top again when that
+/// is put back.
+fn stores_in<'a, C: Classes>(env: &Env<'_, '_, 'a, C>, frame: &mut Working<'a>) -> Judged<'a> {
     let act = Act::Store {
         kind: Kind::Int,
         local: 1,
     };
-    let mut frame = Working::new(alloc, env.method.code.max_locals, false);
-    frame.push(VType::Int)?;
     if !is_plain(&act) || frame.max_locals() != env.method.code.max_locals {
         return Ok(false);
     }
-    run_plain(&env.method, &act, &mut frame, env.classes)?;
+    run_plain(&env.method, &act, frame, env.classes)?;
     let is_there = matches!(frame.local(1), VType::Int) && frame.stack().is_empty();
     frame.put_back(VType::Top, 1)?;
     Ok(is_there && matches!(frame.local(1), VType::Top))
+}
+
+fn stores<'a, C: Classes>(alloc: Global, env: &Env<'_, '_, 'a, C>) -> Judged<'a> {
+    let mut frame = holding(alloc, env, false, VType::Int)?;
+    stores_in(env, &mut frame)
 }
 
 fn ask_in<'a, C: Classes>(
@@ -152,14 +184,9 @@ fn ask_among<'a, C: Classes>(
 
 /// The answer where Object has the method `clone`, which is protected, and K and A are below it.
 fn ask_formed<'a>(alloc: Global, formed: &Formed<'_, 'a>, asked: Asked<'a>) -> Result<bool, u8> {
-    let Ok(above) = object_with_clone(alloc) else {
+    let Ok(list) = cloneable(alloc) else {
         return Err(OUT_OF_MEMORY);
     };
-    let list = [
-        above,
-        summary(alloc, b"K", Some(OBJECT), false),
-        summary(alloc, b"A", Some(OBJECT), false),
-    ];
     match Rows::new(alloc, &list, hasher()) {
         Ok(classes) => ask_among(alloc, formed, &classes, asked),
         Err(_) => Err(OUT_OF_MEMORY),
@@ -185,15 +212,12 @@ fn ask<'a>(alloc: Global, bytes: &'a [u8], asked: Asked<'a>) -> Result<bool, u8>
 #[test]
 fn members_of_other_packages(rt: HostRuntime) {
     let alloc = rt.alloc();
-    let array = VType::Array {
-        dims: 1,
-        base: Base::Class(b"K"),
-    };
+    let array_of_k = array(1, Base::Class(b"K"));
     assert!(rt; ask(alloc, &CLONING, Asked::Clones(VType::Class(b"K"))) == Ok(true));
     assert!(rt; ask(alloc, &CLONING, Asked::Clones(VType::Null)) == Ok(true));
-    assert!(rt; ask(alloc, &CLONING, Asked::Clones(VType::Class(b"A"))) == Err(82));
-    assert!(rt; ask(alloc, &CLONING, Asked::Clones(array)) == Err(82));
-    assert!(rt; ask(alloc, &CLONING, Asked::Clones(VType::Class(b"B"))) == Err(77));
+    assert!(rt; ask(alloc, &CLONING, Asked::Clones(A)) == Err(82));
+    assert!(rt; ask(alloc, &CLONING, Asked::Clones(array_of_k)) == Err(82));
+    assert!(rt; ask(alloc, &CLONING, Asked::Clones(B)) == Err(77));
     assert!(rt; ask(alloc, &CLONING, Asked::Clones(VType::Int)) == Err(62));
 }
 
@@ -218,13 +242,13 @@ fn ways_of_acts(rt: HostRuntime) {
     assert!(rt; matches!(branches_by(&call), Branches::Nowhere));
 }
 
-/// Of an object of a class that is missing it is not known.
+/// Whether an object of a missing class may be the operand is not known, so nothing is found.
 #[test]
 fn first_operand_that_is_not_met(rt: HostRuntime) {
     let alloc = rt.alloc();
     assert!(rt; ask(alloc, &CLONING, Asked::Lacks(VType::Int)) == Ok(true));
     assert!(rt; ask(alloc, &CLONING, Asked::Lacks(VType::Class(b"K"))) == Ok(false));
-    assert!(rt; ask(alloc, &CLONING, Asked::Lacks(VType::Class(b"B"))) == Ok(false));
+    assert!(rt; ask(alloc, &CLONING, Asked::Lacks(B)) == Ok(false));
 }
 
 #[test]

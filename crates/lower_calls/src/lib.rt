@@ -7,10 +7,10 @@
 //! | `ancestor_rows` | `hierarchy`: rows of ancestors |
 //! | `guarded_members` | `hierarchy`: references to protected members of other packages |
 //! | `assignability` | `frames`: one type or frame where another is wanted |
-//! | `differences` | `frames`: the first difference of two frames |
+//! | `differences` | `frames`: the first difference of two frames, and the first class that is missing |
 //! | `packed_frames` | `frames`: types as slots, and frames compared by them |
 //! | `numbered_types` | `type_numbers`: types as numbers, and tables of constants by them |
-//! | `stack_maps`, `declared_frames` | `frames`: stack maps both ways, and the frames that they declare |
+//! | `stack_maps`, `declared_frames` | `frames`: stack maps both ways, their frames, and entries at fault |
 //! | `operand_stacks` | `frames`: the operand stack of a running frame, and the objects on it |
 //! | `running_locals` | `frames`: the local variables of a running frame, and the objects in them |
 //! | `shared_rows` | `blocks`: rows of numbers, changed, declared, taken on and compared |

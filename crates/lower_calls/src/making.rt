@@ -1,9 +1,20 @@
 //! Values that tests of several files use: summaries of classes, and frames.
 use frames::{Frame, VType};
 use hierarchy::{Kind, MemberSummary, Summary};
-use names::OBJECT;
+use names::{Base, OBJECT};
 use std::alloc::{AllocError, Global};
 use std::hash::{BuildHasherDefault, FoldHasher};
+
+/// Objects of the class A.
+pub const A: VType<'static> = VType::Class(b"A");
+
+/// Objects of a class B, which no list here has.
+pub const B: VType<'static> = VType::Class(b"B");
+
+/// Arrays of so many dimensions.
+pub fn array<'a>(dims: u8, base: Base<'a>) -> VType<'a> {
+    VType::Array { dims, base }
+}
 
 /// The summary of a class or interface that is not final and has no members, by its name and its superclass's.
 pub fn summary<'a>(
@@ -27,7 +38,7 @@ pub fn object<'a>(alloc: Global) -> Summary<'a> {
 }
 
 /// The summary of `java/lang/Object` with its method `clone`, which is protected.
-pub fn object_with_clone<'a>(alloc: Global) -> Result<Summary<'a>, AllocError> {
+fn object_with_clone<'a>(alloc: Global) -> Result<Summary<'a>, AllocError> {
     let mut above = object(alloc);
     above.members.push(MemberSummary {
         name: b"clone",
@@ -37,6 +48,15 @@ pub fn object_with_clone<'a>(alloc: Global) -> Result<Summary<'a>, AllocError> {
         is_protected: true,
     })?;
     Ok(above)
+}
+
+/// The summaries of `java/lang/Object` with its method `clone`, which is protected, and of classes K and A below it.
+pub fn cloneable<'a>(alloc: Global) -> Result<Vec<Summary<'a>>, AllocError> {
+    let mut list = Vec::new(alloc);
+    list.push(object_with_clone(alloc)?)?;
+    list.push(summary(alloc, b"K", Some(OBJECT), false))?;
+    list.push(summary(alloc, b"A", Some(OBJECT), false))?;
+    Ok(list)
 }
 
 /// The summaries of `java/lang/Object`, of a class A and a class C below it, and of an interface I; there is no class

@@ -1,6 +1,6 @@
-use crate::making::{hasher, object, summary};
+use crate::making::{A, B, array, hasher, setting};
 use frames::VType;
-use hierarchy::{Answer, Classes, Rows, Summary};
+use hierarchy::{Answer, Classes, Rows};
 use layout::{Cursor, Part};
 use names::{Base, OBJECT, Primitive};
 use pool::Pool;
@@ -11,21 +11,7 @@ use type_numbers::{
     ConstantTable, DescriptorNumbers, MethodNumbers, NamedConstant, TypeNumbers, laws,
 };
 
-const A: VType<'static> = VType::Class(b"A");
-
-const B: VType<'static> = VType::Class(b"B");
-
 const D: VType<'static> = VType::Class(b"D");
-
-/// Classes of which A has place 3, and none is B, D or java/lang/String.
-fn setting<'a>(alloc: Global) -> [Summary<'a>; 4] {
-    [
-        object(alloc),
-        summary(alloc, b"I", Some(OBJECT), true),
-        summary(alloc, b"C", Some(b"A"), false),
-        summary(alloc, b"A", Some(OBJECT), false),
-    ]
-}
 
 #[test]
 fn laws_are_called() {
@@ -35,10 +21,6 @@ fn laws_are_called() {
     laws::numbers_are_slots();
     laws::numbers_stay();
     laws::tables_stay();
-}
-
-fn array<'a>(dims: u8, base: Base<'a>) -> VType<'a> {
-    VType::Array { dims, base }
 }
 
 /// Types with the numbers that they get one after the other.
@@ -52,10 +34,10 @@ fn numbered<'a>() -> [(VType<'a>, u32); 20] {
         (VType::Null, 0x0500_0000),
         (VType::UninitThis, 0x0600_0000),
         (VType::Class(OBJECT), 0x0700_0000),
-        (A, 0x0700_0003),
-        (VType::Class(b"C"), 0x0700_0002),
-        (array(1, Base::Class(b"A")), 0x0701_0003),
-        (array(2, Base::Class(b"C")), 0x0702_0002),
+        (A, 0x0700_0001),
+        (VType::Class(b"C"), 0x0700_0003),
+        (array(1, Base::Class(b"A")), 0x0701_0001),
+        (array(2, Base::Class(b"C")), 0x0702_0003),
         (VType::Uninit(65534), 0x0800_FFFE),
         (array(2, Base::Primitive(Primitive::Int)), 0x0902_000A),
         (array(255, Base::Primitive(Primitive::Boolean)), 0x09FF_0004),
@@ -115,19 +97,22 @@ const TYPES: MethodNumbers = MethodNumbers {
     result: None,
 };
 
+/// The numbers of the types of its parameters.
+const ARGUMENTS: [u32; 2] = [0x0A00_0000, 0x0100_0000];
+
 /// The constants of that pool that are something to instructions, with their indices.
 const CONSTANTS: [(u16, NamedConstant); 12] = [
     (
         2,
         NamedConstant::Class {
-            class: 0x0700_0003,
+            class: 0x0700_0001,
             loaded: 0x0A00_0001,
         },
     ),
     (
         6,
         NamedConstant::Field {
-            class: 0x0700_0003,
+            class: 0x0700_0001,
             held: 0x0A00_0000,
         },
     ),
@@ -135,7 +120,7 @@ const CONSTANTS: [(u16, NamedConstant); 12] = [
         9,
         NamedConstant::Method {
             interface: false,
-            class: 0x0700_0003,
+            class: 0x0700_0001,
             types: TYPES,
         },
     ),
@@ -150,7 +135,7 @@ const CONSTANTS: [(u16, NamedConstant); 12] = [
         12,
         NamedConstant::Method {
             interface: true,
-            class: 0x0700_0003,
+            class: 0x0700_0001,
             types: TYPES,
         },
     ),
@@ -200,37 +185,62 @@ fn are_constants(table: &ConstantTable) -> bool {
     fine
 }
 
-/// Whether the table of that pool has these constants, or the bytes are no pool, where that may be.
-fn are_tabled<C: Classes>(alloc: Global, classes: &C, may_fail: bool) -> Result<bool, AllocError> {
-    let Ok(pool) = Pool::take(alloc, &mut Cursor::new(&NAMED)) else {
-        return Ok(may_fail);
-    };
-    let mut numbers = TypeNumbers::new(alloc, classes, hasher());
-    let table = ConstantTable::new(alloc, &pool, &mut numbers)?;
+/// Whether the table of that pool has these constants, and the numbers of the types of its methods.
+fn are_tabled<'n, C: Classes, S: BuildHasher + Drop>(
+    alloc: Global,
+    pool: &Pool<'n>,
+    numbers: &mut TypeNumbers<'_, 'n, C, S>,
+) -> Result<bool, AllocError> {
+    let table = ConstantTable::new(alloc, pool, numbers)?;
     let NamedConstant::Method { types, .. } = table.get(9) else {
         return Ok(false);
     };
-    Ok(are_constants(&table) && table.arguments(types) == [0x0A00_0000, 0x0100_0000].as_slice())
+    Ok(are_constants(&table) && table.arguments(types) == ARGUMENTS.as_slice())
 }
 
-/// Whether the text at 7 of that pool is the descriptor of a method that takes a java/lang/String and an int, however
-/// often it is asked, and those at 4 and 5 are none; or the bytes are no pool, where that may be.
-fn are_methods<C: Classes>(alloc: Global, classes: &C, may_fail: bool) -> Result<bool, AllocError> {
+/// Whether the text at 7 of that pool is the descriptor of a method that takes a java/lang/String and an int, and is
+/// read once, however often it is asked.
+fn is_method<'n, C: Classes, S: BuildHasher + Drop>(
+    alloc: Global,
+    pool: &Pool<'n>,
+    numbers: &mut TypeNumbers<'_, 'n, C, S>,
+) -> Result<bool, AllocError> {
+    let mut descriptors = DescriptorNumbers::new(alloc, pool)?;
+    let first = descriptors.types(pool, 7, numbers)?;
+    let again = descriptors.types(pool, 7, numbers)?;
+    let Some(types) = again else {
+        return Ok(false);
+    };
+    let fits = descriptors.arguments(types) == ARGUMENTS.as_slice();
+    let fine = types.result.is_none() && first == again;
+    Ok(fits && fine && descriptors.into_row().len() == types.count)
+}
+
+/// Whether the text at 4 of that pool is no descriptor of a method, and no text is at 5.
+fn are_no_methods<'n, C: Classes, S: BuildHasher + Drop>(
+    alloc: Global,
+    pool: &Pool<'n>,
+    numbers: &mut TypeNumbers<'_, 'n, C, S>,
+) -> Result<bool, AllocError> {
+    let mut descriptors = DescriptorNumbers::new(alloc, pool)?;
+    let text = descriptors.types(pool, 4, numbers)?;
+    let constant = descriptors.types(pool, 5, numbers)?;
+    Ok(text.is_none() && constant.is_none())
+}
+
+/// Whether all that is said of that pool holds, or the bytes are no pool, where that may be.
+fn are_numbered<C: Classes>(
+    alloc: Global,
+    classes: &C,
+    may_fail: bool,
+) -> Result<bool, AllocError> {
     let Ok(pool) = Pool::take(alloc, &mut Cursor::new(&NAMED)) else {
         return Ok(may_fail);
     };
     let mut numbers = TypeNumbers::new(alloc, classes, hasher());
-    let mut descriptors = DescriptorNumbers::new(alloc, &pool)?;
-    let first = descriptors.types(&pool, 7, &mut numbers)?;
-    let again = descriptors.types(&pool, 7, &mut numbers)?;
-    let text = descriptors.types(&pool, 4, &mut numbers)?;
-    let constant = descriptors.types(&pool, 5, &mut numbers)?;
-    let Some(types) = again else {
-        return Ok(false);
-    };
-    let fits = descriptors.arguments(types) == [0x0A00_0000, 0x0100_0000].as_slice();
-    let fine = types.result.is_none() && first == again && text.is_none() && constant.is_none();
-    Ok(fits && fine && descriptors.into_row().len() == types.count)
+    let constants = are_tabled(alloc, &pool, &mut numbers)?;
+    let method = is_method(alloc, &pool, &mut numbers)?;
+    Ok(constants && method && are_no_methods(alloc, &pool, &mut numbers)?)
 }
 
 /// Whether all that is said of numbers holds; or memory ran out, where it may.
@@ -239,16 +249,13 @@ fn holds(alloc: Global, may_fail: bool) -> bool {
     let Ok(classes) = Rows::new(alloc, &list, hasher()) else {
         return may_fail;
     };
-    let Ok(types) = agree(alloc, &classes) else {
-        return may_fail;
-    };
-    let Ok(constants) = are_tabled(alloc, &classes, may_fail) else {
-        return may_fail;
-    };
-    let Ok(methods) = are_methods(alloc, &classes, may_fail) else {
-        return may_fail;
-    };
-    types && constants && methods
+    match (
+        agree(alloc, &classes),
+        are_numbered(alloc, &classes, may_fail),
+    ) {
+        (Ok(types), Ok(constants)) => types && constants,
+        _ => may_fail,
+    }
 }
 
 #[test]

@@ -1,35 +1,17 @@
-use crate::making::{frame, hasher, object, summary};
+use crate::making::{A, B, array, frame, hasher, setting};
 use frames::{
     ABSENT, Frame, FrameFault, Packed, VType, first_undecided, frame_assignable, laws, pack,
     packed_assignable,
 };
-use hierarchy::{Answer, Classes, Rows, Summary};
+use hierarchy::{Answer, Classes, Rows};
 use names::{Base, OBJECT, Primitive};
 use std::alloc::{AllocError, Global};
 use std::test::*;
-
-const A: VType<'static> = VType::Class(b"A");
-
-const B: VType<'static> = VType::Class(b"B");
-
-/// Classes of which A has place 3, and none is B.
-fn setting<'a>(alloc: Global) -> [Summary<'a>; 4] {
-    [
-        object(alloc),
-        summary(alloc, b"I", Some(OBJECT), true),
-        summary(alloc, b"C", Some(b"A"), false),
-        summary(alloc, b"A", Some(OBJECT), false),
-    ]
-}
 
 #[test]
 fn laws_are_called() {
     laws::equal_slots_are_equal_types();
     hierarchy::laws::places_are_names();
-}
-
-fn array<'a>(dims: u8, base: Base<'a>) -> VType<'a> {
-    VType::Array { dims, base }
 }
 
 /// Types and their slots.
@@ -42,8 +24,8 @@ fn slots<'a>() -> [(VType<'a>, u32); 14] {
         (VType::Long, 0x0400_0000),
         (VType::Null, 0x0500_0000),
         (VType::UninitThis, 0x0600_0000),
-        (A, 0x0700_0003),
-        (array(1, Base::Class(b"A")), 0x0701_0003),
+        (A, 0x0700_0001),
+        (array(1, Base::Class(b"A")), 0x0701_0001),
         (VType::Uninit(65534), 0x0800_FFFE),
         (array(2, Base::Primitive(Primitive::Int)), 0x0902_000A),
         (array(255, Base::Primitive(Primitive::Boolean)), 0x09FF_0004),
@@ -58,7 +40,7 @@ fn are_packed<C: Classes>(classes: &C) -> bool {
 
 fn has_places<C: Classes>(classes: &C) -> bool {
     classes.place(OBJECT) == Some(0)
-        && classes.place(b"A") == Some(3)
+        && classes.place(b"A") == Some(1)
         && classes.place(b"B").is_none()
 }
 

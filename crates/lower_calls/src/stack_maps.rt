@@ -1,4 +1,4 @@
-use frames::{MapEntry, StackMap, TypeInfo, read_map};
+use frames::{MapEntry, StackMap, TypeInfo, faulty_entry, laws, read_map};
 use layout::{Cursor, Part, ReadFault, WriteFault};
 use std::alloc::{AllocError, Global};
 use std::test::*;
@@ -120,6 +120,19 @@ fn refused_to_read(rt: HostRuntime) {
     for (body, fault) in faults() {
         assert!(rt; read_map(rt.alloc(), body).err() == Some(fault));
     }
+}
+
+#[test]
+fn faulty_is_fault() {
+    laws::faulty_is_fault();
+}
+
+#[test]
+fn entry_at_fault(rt: HostRuntime) {
+    let alloc = rt.alloc();
+    assert!(rt; faulty_entry(alloc, &ALL) == Ok(None));
+    assert!(rt; faulty_entry(alloc, &[0, 3, 9, 251, 0, 1, 246]) == Ok(Some(2)));
+    assert!(rt; faulty_entry(alloc, &[0, 1, 7, 0, 0]) == Ok(None));
 }
 
 /// Why the entry is not written behind a byte, which stays.
