@@ -122,8 +122,25 @@ def explained_line(line):
     return [(kind, unescaped(found[1]))]
 
 
+def part_of_bytes(lines):
+    """The fields that the lines on the part of a file are in which a fault of its bytes lies."""
+    for i, line in enumerate(lines):
+        kind, number, *_ = line.split()
+        if kind == "attribute":
+            yield from ([("place", "class")] if i == 0 else [])
+            yield kind, int(number)
+        else:
+            yield "place", "pool" if kind == "constant" else kind
+            yield "index", int(number)
+            yield from ([(kind, line.removeprefix("constant "))] if kind == "constant" else [])
+
+
 def explained(lines):
     """The fields that the lines below a refusal are; a second sentence is the one on the fault behind the number."""
+    if int(lines[0].split()[0]) < 20:
+        yield from explained_line(lines[0])
+        yield from part_of_bytes(lines[1:])
+        return
     entries = []
     for i, line in enumerate(lines):
         for name, value in explained_line(line):

@@ -3,7 +3,7 @@ use Rattle.std.proofs.Common.{◌≡◌, ℕ, List, [], ◌∷◌, take, drop, i
 use Rattle.classfile.specs.Values.{Class}
 use Rattle.answers.specs.Answers.{FileSays, CheckTells, ShowTells}
 use Rattle.verify.specs.Files.{Read}
-use Rattle.answers.specs.Files.{refusal_status}
+use Rattle.answers.specs.Files.{reads_of, refusal_status}
 use Rattle.answers.specs.Texts.{refusal_line}
 use Rattle.answers.specs.Laws.{OneAnswer}
 use Rattle.answers.specs.declared.command.Command.TheVariants.{Check, Show, Verify, Explain, Play, VerifyEach}
@@ -34,10 +34,10 @@ one_show c text other status next p q = (p.0 ∙ sym q.0, p.1 ∙ sym q.1)
 
 pub same_answer : Laws → OneAnswer
 same_answer laws command [] text other status next p q = (p.0 ∙ sym q.0, p.1 ∙ sym q.1)
-same_answer laws (Check form) (read ∷ others) text other status next p q = one_said laws form (CheckTells form) (one_check form) read text other status next p q
-same_answer laws Show (read ∷ others) text other status next p q = one_said laws Plain ShowTells one_show read text other status next p q
-same_answer laws (Verify form profile) (read ∷ known) text other status next p q = one_verify laws (Told form) profile read known text other status next p q
-same_answer laws (Explain form profile) (read ∷ known) text other status next p q = one_verify laws (Explained form) profile read known text other status next p q
-same_answer laws (Play profile) (read ∷ others) text other status next p q = one_play laws profile (read ∷ others) text other status next p q
-same_answer laws (VerifyEach profile classes) (read ∷ others) text other status next p q =
-    one_each laws profile (take classes (read ∷ others)) (drop classes (read ∷ others)) text other status next p q
+same_answer laws (Check form) (file ∷ others) text other status next p q = one_said laws form (CheckTells form) (one_check form) file.read text other status next p q
+same_answer laws Show (file ∷ others) text other status next p q = one_said laws Plain ShowTells one_show file.read text other status next p q
+same_answer laws (Verify form profile) (file ∷ known) text other status next p q = one_verify laws (Told form) profile file known text other status next p q
+same_answer laws (Explain form profile) (file ∷ known) text other status next p q = one_verify laws (Explained form) profile file known text other status next p q
+same_answer laws (Play profile) (file ∷ others) text other status next p q = one_play laws profile (reads_of (file ∷ others)) text other status next p q
+same_answer laws (VerifyEach profile classes) (file ∷ others) text other status next p q =
+    one_each laws profile (take classes (reads_of (file ∷ others))) (drop classes (reads_of (file ∷ others))) text other status next p q

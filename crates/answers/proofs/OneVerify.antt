@@ -38,8 +38,8 @@ use Rattle.answers.specs.Explanations.{code_part, code_fields, explanation, expl
 use Rattle.verify.specs.declared.files.FileFault.{FileFault}
 use Rattle.verify.specs.declared.files.FileFault.TheVariants as files
 use Rattle.verify.specs.declared.files.FileFault.TheVariants.{Malformed}
-use Rattle.verify.specs.Files.{Read, IsFormed, IsRefused, AreFormed, IsFirstRefused}
-use Rattle.answers.specs.Files.{refusal_status}
+use Rattle.verify.specs.Files.{Read, IsDecoded, IsFormed, IsRefused, AreFormed, IsFirstRefused}
+use Rattle.answers.specs.Files.{File, reads_of, refusal_status}
 use Rattle.answers.specs.Verdicts.{class_object, class_refusal, known_object, known_refusal, explained, verdict_object, IsPart, ArePartFields, IsTold, hierarchy_told, IsReportTold, fault_name, named_field, name_fields, hierarchy_refusal, reason_ending, reason_fields, verdict_text, verdict_fields, verdict_line, is_refusal, ClassSays, HierarchySays, KnownSays, VerifySays}
 use Rattle.answers.proofs.OneFile.{Laws, one_formed, not_refused, one_refusal}
 
@@ -292,40 +292,42 @@ module _ (laws : Laws) where
 
   -- ---- files that are refused
 
-  one_part : (read : Read) (r : FileFault) (text other : List ℕ) → IsPart read r text → IsPart read r other → text ≡ other
-  one_part (Ok bytes) (Malformed rule place) text other (c, p, e) (d, q, f) =
-      e ∙ ap (λ (x : Class). part_lines x place ++ attribute_line x rule place) (laws.one_class bytes c d p q) ∙ sym f
-  one_part (Err fault) (Malformed rule place) text other (c, p, e) q = absurd p
-  one_part read files.OutOfMemory text other p q = p ∙ sym q
-  one_part read (files.Unread fault) text other p q = p ∙ sym q
-  one_part read (files.NoClass fault) text other p q = p ∙ sym q
+  one_decoded : (read : Read) (c d : Class) → IsDecoded read c → IsDecoded read d → c ≡ d
+  one_decoded (Ok bytes) c d p q = laws.one_class bytes c d p q
+  one_decoded (Err fault) c d p q = absurd p
 
-  one_part_fields : (read : Read) (r : FileFault) (fields other : List Field) → ArePartFields read r fields → ArePartFields read r other → fields ≡ other
-  one_part_fields (Ok bytes) (Malformed rule place) fields other (c, p, e) (d, q, f) =
-      e ∙ ap (λ (x : Class). part_fields x place ++ attribute_fields x rule place) (laws.one_class bytes c d p q) ∙ sym f
-  one_part_fields (Err fault) (Malformed rule place) fields other (c, p, e) q = absurd p
-  one_part_fields read files.OutOfMemory fields other p q = p ∙ sym q
-  one_part_fields read (files.Unread fault) fields other p q = p ∙ sym q
-  one_part_fields read (files.NoClass fault) fields other p q = p ∙ sym q
+  one_part : (file : File) (r : FileFault) (text other : List ℕ) → IsPart file r text → IsPart file r other → text ≡ other
+  one_part file (Malformed rule place) text other (c, p, e) (d, q, f) =
+      e ∙ ap (λ (x : Class). part_lines x place ++ attribute_line x rule place) (one_decoded file.read c d p q) ∙ sym f
+  one_part file files.OutOfMemory text other p q = p ∙ sym q
+  one_part file (files.Unread fault) text other p q = p ∙ sym q
+  one_part file (files.NoClass fault) text other p q = p ∙ sym q
 
-  one_told : (manner : Manner) (read : Read) (r : FileFault) (line : Form → List ℕ) (object : List ℕ → List ℕ) (text other : List ℕ)
-      → IsTold manner read r line object text → IsTold manner read r line object other → text ≡ other
-  one_told (Told form) read r line object text other p q = p ∙ sym q
-  one_told (Explained Json) read r line object text other (a, p, e) (b, q, f) =
-      e ∙ ap (λ x. object (fields_then (sentence_fields (file_fault_number r)) (fields_behind x))) (one_part_fields read r a b p q) ∙ sym f
-  one_told (Explained Plain) read r line object text other (a, p, e) (b, q, f) =
-      e ∙ ap (λ x. line Plain ++ (sentence_line (file_fault_number r) ++ x)) (one_part read r a b p q) ∙ sym f
+  one_part_fields : (file : File) (r : FileFault) (fields other : List Field) → ArePartFields file r fields → ArePartFields file r other → fields ≡ other
+  one_part_fields file (Malformed rule place) fields other (c, p, e) (d, q, f) =
+      e ∙ ap (λ (x : Class). part_fields x place ++ attribute_fields x rule place) (one_decoded file.read c d p q) ∙ sym f
+  one_part_fields file files.OutOfMemory fields other p q = p ∙ sym q
+  one_part_fields file (files.Unread fault) fields other p q = p ∙ sym q
+  one_part_fields file (files.NoClass fault) fields other p q = p ∙ sym q
+
+  one_told : (manner : Manner) (file : File) (r : FileFault) (line : Form → List ℕ) (object : List ℕ → List ℕ) (text other : List ℕ)
+      → IsTold manner file r line object text → IsTold manner file r line object other → text ≡ other
+  one_told (Told form) file r line object text other p q = p ∙ sym q
+  one_told (Explained Json) file r line object text other (a, p, e) (b, q, f) =
+      e ∙ ap (λ x. object (fields_then (sentence_fields (file_fault_number r)) (fields_behind x))) (one_part_fields file r a b p q) ∙ sym f
+  one_told (Explained Plain) file r line object text other (a, p, e) (b, q, f) =
+      e ∙ ap (λ x. line Plain ++ (sentence_line (file_fault_number r) ++ x)) (one_part file r a b p q) ∙ sym f
 
   -- refusals of one file are the same
-  same_known : (manner : Manner) (reads : List Read) (i j : ℕ) (r s : FileFault) (p : IsFirstRefused reads i r) (q : IsFirstRefused reads j s) (text other : List ℕ)
-      → IsTold manner p.read r (λ form. known_refusal form (i + 1) r) (known_object (i + 1) r) text → IsTold manner q.read s (λ form. known_refusal form (j + 1) s) (known_object (j + 1) s) other → text ≡ other
-  same_known manner reads i j r s p q text other t u =
-      let same = one_first reads i j r s p q in
-      let read : p.read ≡ q.read = some_same p.read q.read (sym p.here ∙ ap (slice_get reads) same.0 ∙ q.here) in
-      let first : IsTold manner q.read r (λ form. known_refusal form (i + 1) r) (known_object (i + 1) r) text = subst (λ x. IsTold manner x r (λ form. known_refusal form (i + 1) r) (known_object (i + 1) r) text) read t in
-      let second : IsTold manner q.read s (λ form. known_refusal form (i + 1) s) (known_object (i + 1) s) text = subst (λ x. IsTold manner q.read x (λ form. known_refusal form (i + 1) x) (known_object (i + 1) x) text) same.1 first in
-      one_told manner q.read s (λ form. known_refusal form (j + 1) s) (known_object (j + 1) s) text other
-      (subst (λ n. IsTold manner q.read s (λ form. known_refusal form (n + 1) s) (known_object (n + 1) s) text) same.0 second) u
+  same_known : (manner : Manner) (known : List File) (i j : ℕ) (r s : FileFault) (f g : File) (text other : List ℕ) → (i ≡ j) × (r ≡ s)
+      → slice_get known i ≡ Some f → slice_get known j ≡ Some g
+      → IsTold manner f r (λ form. known_refusal form (i + 1) r) (known_object (i + 1) r) text → IsTold manner g s (λ form. known_refusal form (j + 1) s) (known_object (j + 1) s) other → text ≡ other
+  same_known manner known i j r s f g text other same here there t u =
+      let file : f ≡ g = some_same f g (sym here ∙ ap (slice_get known) same.0 ∙ there) in
+      let first : IsTold manner g r (λ form. known_refusal form (i + 1) r) (known_object (i + 1) r) text = subst (λ x. IsTold manner x r (λ form. known_refusal form (i + 1) r) (known_object (i + 1) r) text) file t in
+      let second : IsTold manner g s (λ form. known_refusal form (i + 1) s) (known_object (i + 1) s) text = subst (λ x. IsTold manner g x (λ form. known_refusal form (i + 1) x) (known_object (i + 1) x) text) same.1 first in
+      one_told manner g s (λ form. known_refusal form (j + 1) s) (known_object (j + 1) s) text other
+      (subst (λ n. IsTold manner g s (λ form. known_refusal form (n + 1) s) (known_object (n + 1) s) text) same.0 second) u
 
   -- ---- what is said
 
@@ -354,24 +356,25 @@ module _ (laws : Laws) where
   one_judged manner classes c text other status next (inr (h, p)) (inl (g, n, q, u, v)) = absurd (laws.not_hierarchy classes g n q h)
   one_judged manner classes c text other status next (inr (h, p)) (inr (k, q)) = one_class manner classes c text other status next p q
 
-  one_known : (manner : Manner) (c : JudgedClass) (known : List Read) (text other : List ℕ) (status next : ℕ)
+  one_known : (manner : Manner) (c : JudgedClass) (known : List File) (text other : List ℕ) (status next : ℕ)
       → KnownSays manner c known text status → KnownSays manner c known other next → (text ≡ other) × (status ≡ next)
-  one_known manner c known text other status next (inl (i, r, p, t, s)) (inl (j, o, q, u, v)) =
-      (same_known manner known i j r o p q text other t u, s ∙ ap refusal_status (one_first known i j r o p q).1 ∙ sym v)
-  one_known manner c known text other status next (inl (i, r, p, t, s)) (inr (ds, q, k)) = absurd (none_refused known ds i r q p)
-  one_known manner c known text other status next (inr (cs, p, h)) (inl (j, o, q, u, v)) = absurd (none_refused known cs j o p q)
+  one_known manner c known text other status next (inl (i, r, p, f, here, t, s)) (inl (j, o, q, g, there, u, v)) =
+      let same = one_first (reads_of known) i j r o p q in
+      (same_known manner known i j r o f g text other same here there t u, s ∙ ap refusal_status same.1 ∙ sym v)
+  one_known manner c known text other status next (inl (i, r, p, f, here, t, s)) (inr (ds, q, k)) = absurd (none_refused (reads_of known) ds i r q p)
+  one_known manner c known text other status next (inr (cs, p, h)) (inl (j, o, q, g, there, u, v)) = absurd (none_refused (reads_of known) cs j o p q)
   one_known manner c known text other status next (inr (cs, p, h)) (inr (ds, q, k)) =
       one_judged manner (map summary_of (c.file ∷ ds)) c text other status next
-      (subst (λ x. HierarchySays manner (map summary_of (c.file ∷ x)) c text status) (one_list known cs ds p q) h) k
+      (subst (λ x. HierarchySays manner (map summary_of (c.file ∷ x)) c text status) (one_list (reads_of known) cs ds p q) h) k
 
-  pub one_verify : (manner : Manner) (profile : Profile) (read : Read) (known : List Read) (text other : List ℕ) (status next : ℕ)
-      → VerifySays manner profile read known text status → VerifySays manner profile read known other next → (text ≡ other) × (status ≡ next)
-  one_verify manner profile read known text other status next (inl (r, p, t, s)) (inl (o, q, u, v)) =
-      let same = one_refusal laws read r o p q in (
-        one_told manner read o (λ form. class_refusal form o) (class_object o) text other (subst (λ x. IsTold manner read x (λ form. class_refusal form x) (class_object x) text) same t) u,
+  pub one_verify : (manner : Manner) (profile : Profile) (file : File) (known : List File) (text other : List ℕ) (status next : ℕ)
+      → VerifySays manner profile file known text status → VerifySays manner profile file known other next → (text ≡ other) × (status ≡ next)
+  one_verify manner profile file known text other status next (inl (r, p, t, s)) (inl (o, q, u, v)) =
+      let same = one_refusal laws file.read r o p q in (
+        one_told manner file o (λ form. class_refusal form o) (class_object o) text other (subst (λ x. IsTold manner file x (λ form. class_refusal form x) (class_object x) text) same t) u,
         s ∙ ap refusal_status same ∙ sym v,
       )
-  one_verify manner profile read known text other status next (inl (r, p, t, s)) (inr (d, q, l)) = absurd (not_refused laws read d r q p)
-  one_verify manner profile read known text other status next (inr (c, p, k)) (inl (o, q, u, v)) = absurd (not_refused laws read c o p q)
-  one_verify manner profile read known text other status next (inr (c, p, k)) (inr (d, q, l)) =
-      one_known manner (judged profile c) known text other status next k (subst (λ x. KnownSays manner (judged profile x) known other next) (one_formed laws read d c q p) l)
+  one_verify manner profile file known text other status next (inl (r, p, t, s)) (inr (d, q, l)) = absurd (not_refused laws file.read d r q p)
+  one_verify manner profile file known text other status next (inr (c, p, k)) (inl (o, q, u, v)) = absurd (not_refused laws file.read c o p q)
+  one_verify manner profile file known text other status next (inr (c, p, k)) (inr (d, q, l)) =
+      one_known manner (judged profile c) known text other status next k (subst (λ x. KnownSays manner (judged profile x) known other next) (one_formed laws file.read d c q p) l)

@@ -1,5 +1,6 @@
 -- Refusals of files, from what the verifier says of them.
-use Rattle.std.proofs.Common.{◌≡◌, ℕ, ◌+◌, ◌-◌, ◌<◌, List, Some, Ok, Err, map, length, slice_get, slice_index_or, option_map, sym, ◌∙◌, ap, subst, arith}
+use Rattle.std.proofs.Common.{◌≡◌, ℕ, ◌+◌, ◌-◌, ◌<◌, List, Some, Ok, Err, map, length, slice_get, slice_index_or, option_map, Result, sym, ◌∙◌, ap, subst, arith}
+use Rattle.std.specs.Prelude.{Vec}
 use Rattle.std.proofs.lemmas.List.{length-map}
 use Rattle.std.proofs.lemmas.Option.{slice_get-map, slice_get_within, slice_get-get_or}
 use Rattle.classfile.specs.declared.profile.Profile.{Profile}
@@ -8,8 +9,10 @@ use Rattle.classfile.specs.Laws.{OneClass}
 use Rattle.verify.specs.declared.among.AmongFault.{AmongFault}
 use Rattle.verify.specs.declared.among.AmongFault.TheVariants.{OutOfMemory, Refused, KnownRefused, NoHierarchy, FinalSuper}
 use Rattle.verify.specs.Among.{ReportsAmong}
+use Rattle.classfile.specs.declared.reading.CutShort.{CutShort}
 use Rattle.verify.specs.Files.{Read, IsFormed}
-use Rattle.answers.specs.Files.{CountsKnown}
+use Rattle.printing.proofs.Fields.{of_views}
+use Rattle.answers.specs.Files.{File, file_view, read_view, reads_of, CountsKnown}
 
 -- a file is one class
 pub one_file : OneClass → (read : Read) (c d : Class) → IsFormed read c → IsFormed read d → c ≡ d
@@ -27,12 +30,15 @@ counted profile read known (KnownRefused number fault) (c, i, formed, same, firs
 counted profile read known (NoHierarchy fault) p = tt
 counted profile read known FinalSuper p = tt
 
--- the file of this number, as it was read
-pub read_there : {X : Type 0} (view : X → Read) (xs : List X) (i n : ℕ) (x : X) (r : Read) → n ≡ i + 1 → slice_get (map view xs) i ≡ Some r
-    → view (slice_index_or xs (n - 1) x) ≡ r
-read_there view xs i n x r same there =
-    let at : n - 1 ≡ i = omega (arith, same) in
-    let lt : i < length xs = subst (λ k. i < k) (length-map xs view) (slice_get_within (map view xs) i r there) in
-    let both : Some (view (slice_index_or xs i x)) ≡ Some r = sym (ap (option_map view) (slice_get-get_or xs i x lt)) ∙ sym (slice_get-map view xs i) ∙ there in
-    let found : view (slice_index_or xs i x) ≡ r = cc in
-    ap (λ k. view (slice_index_or xs k x)) at ∙ found
+-- what was read of each file
+pub viewed : {Z : Type 0} (xs : List (Result (Vec ℕ Z) CutShort)) → map read_view xs ≡ reads_of (map file_view xs)
+viewed xs = of_views (λ (file : File). file.read) file_view xs
+
+-- the file of this number
+pub file_there : {X : Type 0} (view : X → File) (xs : List X) (i n : ℕ) (x : X) (r : Read) → n ≡ i + 1 → slice_get (reads_of (map view xs)) i ≡ Some r
+    → slice_get (map view xs) i ≡ Some (view (slice_index_or xs (n - 1) x))
+file_there view xs i n x r same there =
+    let at : i ≡ n - 1 = omega (arith, same) in
+    let long : length (reads_of (map view xs)) ≡ length xs = length-map (map view xs) (λ (file : File). file.read) ∙ length-map xs view in
+    let lt : i < length xs = subst (λ k. i < k) long (slice_get_within (reads_of (map view xs)) i r there) in
+    slice_get-map view xs i ∙ ap (option_map view) (slice_get-get_or xs i x lt) ∙ ap (λ k. Some (view (slice_index_or xs k x))) at

@@ -8,7 +8,7 @@ use Rattle.printing.specs.Classes.{class_lines, has_refused}
 use Rattle.printing.specs.Writing.{AppendsFront}
 use Rattle.verify.specs.declared.files.FileFault.{FileFault}
 use Rattle.verify.specs.Files.{Read, IsFormed, IsRefused}
-use Rattle.answers.specs.Files.{refusal_status}
+use Rattle.answers.specs.Files.{File, reads_of, refusal_status}
 use Rattle.answers.specs.Verdicts.{VerifySays}
 use Rattle.answers.specs.Plays.{PlaySays}
 use Rattle.answers.specs.Judgements.{EachSays}
@@ -36,16 +36,16 @@ abbrev pub ShowTells : Class → List ℕ → ℕ → Type 0
 ShowTells c text status = (text ≡ class_lines c) × (status ≡ (if has_refused c then 1 else 0))
 
 -- The text and the status that answer a command about these files. Without files the text is empty, and the status 0.
-abbrev pub Says : Command → List Read → List ℕ → ℕ → Type 0
+abbrev pub Says : Command → List File → List ℕ → ℕ → Type 0
 Says command [] text status = (text ≡ []) × (status ≡ 0)
-Says (Check form) (read ∷ others) text status = FileSays form (CheckTells form) read text status
-Says Show (read ∷ others) text status = FileSays Plain ShowTells read text status
-Says (Verify form profile) (read ∷ known) text status = VerifySays (manners.Told form) profile read known text status
-Says (Explain form profile) (read ∷ known) text status =
-    VerifySays (manners.Explained form) profile read known text status
-Says (Play profile) (read ∷ others) text status = PlaySays profile (read ∷ others) text status
-Says (VerifyEach profile classes) (read ∷ others) text status =
-    EachSays profile (take classes (read ∷ others)) (drop classes (read ∷ others)) text status
+Says (Check form) (file ∷ others) text status = FileSays form (CheckTells form) file.read text status
+Says Show (file ∷ others) text status = FileSays Plain ShowTells file.read text status
+Says (Verify form profile) (file ∷ known) text status = VerifySays (manners.Told form) profile file known text status
+Says (Explain form profile) (file ∷ known) text status =
+    VerifySays (manners.Explained form) profile file known text status
+Says (Play profile) files text status = PlaySays profile (reads_of files) text status
+Says (VerifyEach profile classes) files text status =
+    EachSays profile (take classes (reads_of files)) (drop classes (reads_of files)) text status
 
 -- The bytes that a writer holds after an answer: the whole text was written; or nothing, where memory ran out; or a
 -- prefix of the text, where a write failed.

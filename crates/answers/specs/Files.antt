@@ -1,6 +1,6 @@
 -- Files as the program read them.
-use Rattle.std.specs.Prelude.{ℕ, ◌≤◌, Result, Ok, Err, Vec}
-use Rattle.layout.specs.declared.fault.StreamFault.{StreamFault}
+use Rattle.std.specs.Prelude.{ℕ, ◌≤◌, List, map, Result, Ok, Err, Vec}
+use Rattle.classfile.specs.declared.reading.CutShort.{CutShort}
 use Rattle.layout.specs.declared.fault.ReadFault.{ReadFault}
 use Rattle.layout.specs.declared.fault.ReadFault.TheVariants as reading
 use Rattle.verify.specs.declared.files.FileFault.{FileFault}
@@ -9,10 +9,22 @@ use Rattle.verify.specs.declared.among.AmongFault.{AmongFault}
 use Rattle.verify.specs.declared.among.AmongFault.TheVariants.{KnownRefused}
 use Rattle.verify.specs.Files.{Read}
 
--- a file as it was read: its bytes, or why it could not be
-abbrev pub read_view : {Z : Type 0} → Result (Vec ℕ Z) StreamFault → Read
-read_view (Ok bytes) = Ok bytes.items
-read_view (Err fault) = Err fault.why
+-- a file as the program read it
+pub record File : Type 0 where
+  -- its bytes, or why it was not read to the end of its class
+  pub read : Read
+  -- the bytes that were read of it
+  pub held : List ℕ
+
+abbrev pub file_view : {Z : Type 0} → Result (Vec ℕ Z) CutShort → File
+file_view (Ok bytes) = record { read = Ok bytes.items; held = bytes.items }
+file_view (Err cut) = record { read = Err cut.why; held = cut.bytes.items }
+
+abbrev pub read_view : {Z : Type 0} → Result (Vec ℕ Z) CutShort → Read
+read_view file = (file_view file).read
+
+abbrev pub reads_of : List File → List Read
+reads_of files = map (λ file. file.read) files
 
 -- the status where a file could not be read
 abbrev pub read_status : ReadFault → ℕ

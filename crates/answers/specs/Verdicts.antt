@@ -1,10 +1,12 @@
 -- The answers to `verify` and `explain` about a class among its known classes.
-use Rattle.std.specs.Prelude.{◌≡◌, ◌≢◌, ◌⊎◌, ℕ, ◌+◌, Bool, true, false, if◌then◌else◌, List, [], ◌∷◌, ◌++◌, map, codes, decimal, Option, Some, None}
+use Rattle.std.specs.Prelude.{◌≡◌, ◌≢◌, ◌⊎◌, ℕ, ◌+◌, Bool, true, false, if◌then◌else◌, List, [], ◌∷◌, ◌++◌, map, codes, decimal, slice_get, Option, Some, None}
 use Rattle.std.specs.List.{flat_map, list_any}
+use Rattle.std.specs.Option.{option_map_or}
 use Rattle.pool.specs.Entries.{Entry}
 use Rattle.classfile.specs.Values.{CodeBody, Class}
 use Rattle.classfile.specs.Methods.{JudgedClass}
 use Rattle.classfile.specs.CodeMethods.{judged}
+use Rattle.classfile.specs.FileParts.{fault_part}
 use Rattle.classfile.specs.declared.profile.Profile.{Profile}
 use Rattle.hierarchy.specs.declared.fault.HierarchyFault.{HierarchyFault}
 use Rattle.hierarchy.specs.declared.fault.HierarchyFault.TheVariants.{OutOfMemory, ClassTwice, Cycle, SuperMissing, NoObject, BadArrayInterface, TooManyClasses, InterfaceSuper}
@@ -32,11 +34,12 @@ use Rattle.answers.specs.declared.manner.Manner.{Manner}
 use Rattle.answers.specs.declared.manner.Manner.TheVariants.{Told, Explained}
 use Rattle.answers.specs.Sentences.{sentence_line, sentence_fields, file_fault_number}
 use Rattle.answers.specs.Explanations.{explanation, explanation_object, explanations}
+use Rattle.printing.specs.FileParts.{file_part_lines, file_part_fields}
 use Rattle.printing.specs.Parts.{part_lines, attribute_line, part_fields, attribute_fields}
 use Rattle.verify.specs.declared.files.FileFault.{FileFault}
-use Rattle.verify.specs.declared.files.FileFault.TheVariants.{Malformed}
-use Rattle.verify.specs.Files.{Read, IsDecoded, IsFormed, IsRefused, AreFormed, IsFirstRefused}
-use Rattle.answers.specs.Files.{refusal_status}
+use Rattle.verify.specs.declared.files.FileFault.TheVariants.{Malformed, NoClass, Unread}
+use Rattle.verify.specs.Files.{IsDecoded, IsFormed, IsRefused, AreFormed, IsFirstRefused}
+use Rattle.answers.specs.Files.{File, reads_of, refusal_status}
 
 -- ---- texts, in words or as objects of JSON
 
@@ -164,35 +167,38 @@ report_status rs = if list_any (λ r. is_refusal r.verdict) rs then 1 else 0
 
 -- ---- in the manner of `verify`, or in that of `explain`, which has the sentence on its number behind each refusal
 
--- the text of the part of a class that breaks a rule, and of the attribute of it that does; empty for any other refusal
--- of a file
-abbrev pub IsPart : Read → FileFault → List ℕ → Type 0
-IsPart read (Malformed rule place) text = (c : Class) × IsDecoded read c
+-- the text of the part of a file that a refusal is about: of the part of the class that breaks a rule, and of the
+-- attribute of it that does; or of the part in which a fault of the bytes lies
+abbrev pub IsPart : File → FileFault → List ℕ → Type 0
+IsPart file (Malformed rule place) text = (c : Class) × IsDecoded file.read c
     × (text ≡ part_lines c place ++ attribute_line c rule place)
-IsPart read r text = text ≡ []
+IsPart file (NoClass e) text = text ≡ option_map_or file_part_lines (fault_part file.held e) []
+IsPart file (Unread e) text = text ≡ option_map_or file_part_lines (fault_part file.held e) []
+IsPart file r text = text ≡ []
 
 -- the lines of `explain` about a file that is refused with this line
-abbrev pub IsExplained : Read → FileFault → List ℕ → List ℕ → Type 0
-IsExplained read r line text = (part : List ℕ) × IsPart read r part
+abbrev pub IsExplained : File → FileFault → List ℕ → List ℕ → Type 0
+IsExplained file r line text = (part : List ℕ) × IsPart file r part
     × (text ≡ line ++ (sentence_line (file_fault_number r) ++ part))
 
--- the fields of the part of a class that breaks a rule, and of the attribute of it that does; none for any other
--- refusal of a file
-abbrev pub ArePartFields : Read → FileFault → List Field → Type 0
-ArePartFields read (Malformed rule place) fields = (c : Class) × IsDecoded read c
+-- the fields of this part
+abbrev pub ArePartFields : File → FileFault → List Field → Type 0
+ArePartFields file (Malformed rule place) fields = (c : Class) × IsDecoded file.read c
     × (fields ≡ part_fields c place ++ attribute_fields c rule place)
-ArePartFields read r fields = fields ≡ []
+ArePartFields file (NoClass e) fields = fields ≡ option_map_or file_part_fields (fault_part file.held e) []
+ArePartFields file (Unread e) fields = fields ≡ option_map_or file_part_fields (fault_part file.held e) []
+ArePartFields file r fields = fields ≡ []
 
 -- the object of `explain` about a file that is refused, whose first fields are written by `begun`
-abbrev pub IsExplainedObject : Read → FileFault → (List ℕ → List ℕ) → List ℕ → Type 0
-IsExplainedObject read r begun text = (part : List Field) × ArePartFields read r part
+abbrev pub IsExplainedObject : File → FileFault → (List ℕ → List ℕ) → List ℕ → Type 0
+IsExplainedObject file r begun text = (part : List Field) × ArePartFields file r part
     × (text ≡ begun (fields_then (sentence_fields (file_fault_number r)) (fields_behind part)))
 
 -- the text about a file that is refused, by its line in each form and its object of JSON
-abbrev pub IsTold : Manner → Read → FileFault → (Form → List ℕ) → (List ℕ → List ℕ) → List ℕ → Type 0
-IsTold (Told form) read r line object text = text ≡ line form
-IsTold (Explained Plain) read r line object text = IsExplained read r (line Plain) text
-IsTold (Explained Json) read r line object text = IsExplainedObject read r object text
+abbrev pub IsTold : Manner → File → FileFault → (Form → List ℕ) → (List ℕ → List ℕ) → List ℕ → Type 0
+IsTold (Told form) file r line object text = text ≡ line form
+IsTold (Explained Plain) file r line object text = IsExplained file r (line Plain) text
+IsTold (Explained Json) file r line object text = IsExplainedObject file r object text
 
 abbrev pub hierarchy_told : Manner → HierarchyFault → List ℕ
 hierarchy_told (Told form) f = hierarchy_refusal form f
@@ -234,17 +240,19 @@ HierarchySays manner classes c text status =
 
 -- The answer about a class and its known files: the refusal of the first known file that is refused, or, where none is,
 -- the answer about all.
-abbrev pub KnownSays : Manner → JudgedClass → List Read → List ℕ → ℕ → Type 0
+abbrev pub KnownSays : Manner → JudgedClass → List File → List ℕ → ℕ → Type 0
 KnownSays manner c known text status =
-    ((i : ℕ) × (r : FileFault) × (first : IsFirstRefused known i r)
-    × IsTold manner first.read r (λ form. known_refusal form (i + 1) r) (known_object (i + 1) r) text
+    ((i : ℕ) × (r : FileFault) × IsFirstRefused (reads_of known) i r
+    × (file : File) × (slice_get known i ≡ Some file)
+    × IsTold manner file r (λ form. known_refusal form (i + 1) r) (known_object (i + 1) r) text
     × (status ≡ refusal_status r))
-    ⊎ ((cs : List Class) × AreFormed known cs × HierarchySays manner (map summary_of (c.file ∷ cs)) c text status)
+    ⊎ ((cs : List Class) × AreFormed (reads_of known) cs
+    × HierarchySays manner (map summary_of (c.file ∷ cs)) c text status)
 
 -- the answer to `verify` and to `explain`, by a profile: why the file is no class that is well formed, or the answer
 -- about its class
-abbrev pub VerifySays : Manner → Profile → Read → List Read → List ℕ → ℕ → Type 0
-VerifySays manner profile read known text status =
-    ((r : FileFault) × IsRefused read r × IsTold manner read r (λ form. class_refusal form r) (class_object r) text
-    × (status ≡ refusal_status r))
-    ⊎ ((c : Class) × IsFormed read c × KnownSays manner (judged profile c) known text status)
+abbrev pub VerifySays : Manner → Profile → File → List File → List ℕ → ℕ → Type 0
+VerifySays manner profile file known text status =
+    ((r : FileFault) × IsRefused file.read r
+    × IsTold manner file r (λ form. class_refusal form r) (class_object r) text × (status ≡ refusal_status r))
+    ⊎ ((c : Class) × IsFormed file.read c × KnownSays manner (judged profile c) known text status)

@@ -1,7 +1,7 @@
 //! Answers a command.
 ghost use Rattle.std.specs.Prelude.{◌≡◌, map, Err, true};
 ghost use Rattle.answers.specs.Answers.{Answered, Says, has_lost, is_lost};
-ghost use Rattle.answers.specs.Files.{read_view};
+ghost use Rattle.answers.specs.Files.{file_view, read_view};
 ghost use Rattle.answers.specs.declared.fault.AnswerFault.TheVariants.{OutOfMemory};
 
 use crate::checking::check;
@@ -12,24 +12,26 @@ use crate::playing::play;
 use crate::showing::show;
 use crate::verifying::verify;
 use crate::verifying_each::verify_each;
-use layout::{ReadFault, StreamFault};
+use classfile::CutShort;
+use layout::ReadFault;
 use std::alloc::Global;
 use std::hash::BuildHasher;
 use std::io::Write;
 
 /// Writes the answer to a command about these files, and returns its status. `reads` has for each file its bytes, or
-/// why it could not be read. Where there are no files, nothing is written.
+/// those that were read of it and why it was not read to the end of its class. Where there are no files, nothing is
+/// written.
 ///
 /// 1 where memory ran out, also while a file was read: then nothing was written. 19 where a write fails or takes
 /// nothing: then a prefix of the text was written.
 pub fn answer<W: Write, S: BuildHasher + Drop>(
     alloc: Global,
     command: Command,
-    reads: &[Result<Vec<u8>, StreamFault>],
+    reads: &[Result<Vec<u8>, CutShort>],
     hasher: S,
     out: &mut W,
 ) -> Result<u8, AnswerFault>
-    ensures answered { Answered (Says command (map read_view reads.now)) (W.contents out.old)
+    ensures answered { Answered (Says command (map file_view reads.now)) (W.contents out.old)
         (W.contents out.new) result }
     ensures memory { has_lost (map read_view reads.now) ≡ true → result ≡ Err OutOfMemory }
 {
@@ -57,7 +59,7 @@ pub fn answer<W: Write, S: BuildHasher + Drop>(
     }
 }
 
-fn is_lost(read: &Result<Vec<u8>, StreamFault>) -> bool
+fn is_lost(read: &Result<Vec<u8>, CutShort>) -> bool
     ensures { result ≡ is_lost (read_view read.now) }
 {
     match read {
@@ -67,7 +69,7 @@ fn is_lost(read: &Result<Vec<u8>, StreamFault>) -> bool
 }
 
 /// True where memory ran out while one of the files was read.
-fn has_lost(reads: &[Result<Vec<u8>, StreamFault>]) -> bool
+fn has_lost(reads: &[Result<Vec<u8>, CutShort>]) -> bool
     ensures { result ≡ has_lost (map read_view reads.now) }
 {
     for read in reads {

@@ -7,7 +7,7 @@ use crate::command::Form;
 use crate::fault::AnswerFault;
 use crate::reads::file_read;
 use crate::telling::{refuse, tell};
-use layout::StreamFault;
+use classfile::CutShort;
 use printing::{END, More, Object, Print, Quoted, Word, WriteFailed};
 use std::alloc::Global;
 use std::io::Write;
@@ -35,7 +35,7 @@ impl Print for OkLine {
 pub fn check<W: Write>(
     alloc: Global,
     form: Form,
-    read: &Result<Vec<u8>, StreamFault>,
+    read: &Result<Vec<u8>, CutShort>,
     out: &mut W,
 ) -> Result<u8, AnswerFault>
     ensures { Answered (FileSays form (CheckTells form) (read_view read.now)) (W.contents out.old)

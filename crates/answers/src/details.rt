@@ -129,7 +129,7 @@ impl<'a> Print for DetailLine<'a> {
 pub struct DetailIf<'a> {
     /// The answer of the comparisons.
     pub sought: Sought,
-    /// What is wrong.
+    /// The comparison or the entry at fault.
     pub detail: Option<Detail<'a>>,
 }
 

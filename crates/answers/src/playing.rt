@@ -14,8 +14,7 @@ use crate::reads::file_reads;
 use crate::refusal::Refusal;
 use crate::telling::tell;
 use crate::verdicts::HierarchyRefusal;
-use classfile::Profile;
-use layout::StreamFault;
+use classfile::{CutShort, Profile};
 use printing::Word;
 use std::alloc::Global;
 use std::hash::BuildHasher;
@@ -49,7 +48,7 @@ fn refuse<W: Write>(fault: TogetherFault<'_>, out: &mut W) -> Result<u8, AnswerF
 pub fn play<S: BuildHasher + Drop, W: Write>(
     alloc: Global,
     profile: Profile,
-    reads: &[Result<Vec<u8>, StreamFault>],
+    reads: &[Result<Vec<u8>, CutShort>],
     hasher: S,
     out: &mut W,
 ) -> Result<u8, AnswerFault>

@@ -7,7 +7,7 @@ use crate::command::Form;
 use crate::fault::AnswerFault;
 use crate::reads::file_read;
 use crate::telling::{refuse, tell};
-use layout::StreamFault;
+use classfile::CutShort;
 use printing::Listing;
 use std::alloc::Global;
 use std::io::Write;
@@ -16,7 +16,7 @@ use verify::class_file;
 /// Answers `show` of a file, by its bytes or by why it could not be read.
 pub fn show<W: Write>(
     alloc: Global,
-    read: &Result<Vec<u8>, StreamFault>,
+    read: &Result<Vec<u8>, CutShort>,
     out: &mut W,
 ) -> Result<u8, AnswerFault>
     ensures { Answered (FileSays Plain ShowTells (read_view read.now)) (W.contents out.old)

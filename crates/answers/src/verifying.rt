@@ -5,7 +5,7 @@ ghost use Rattle.classfile.specs.Views.{class_view};
 ghost use Rattle.classfile.specs.declared.profile.Profile.{Profile as ProfileFact};
 ghost use Rattle.verify.specs.Files.{IsDecoded, IsFormed};
 ghost use Rattle.verify.specs.Among.{ReportsAmong};
-ghost use Rattle.answers.specs.Files.{read_view, refusal_status, CountsKnown};
+ghost use Rattle.answers.specs.Files.{file_view, read_view, reads_of, refusal_status, CountsKnown};
 ghost use Rattle.answers.specs.Answers.{Answered};
 ghost use Rattle.answers.specs.Verdicts.{VerifySays, class_object, class_refusal, known_object, known_refusal, file_object, IsExplained, IsExplainedObject, IsTold, report_status, explained};
 ghost use Rattle.answers.specs.declared.fault.AnswerFault.TheVariants.{OutOfMemory};
@@ -16,15 +16,17 @@ use crate::command::Form;
 use crate::explaining::Explanations;
 use crate::fault::AnswerFault;
 use crate::manner::Manner;
-use crate::reads::{file_read, file_reads};
+use crate::reads::{file_read, file_reads, held};
 use crate::refusal::Refusal;
 use crate::refusing::{FinalSuperTold, HierarchyTold};
 use crate::sentences::{FileSentence, FileSentenceFields};
 use crate::telling::tell;
 use crate::verdicts::{ClassRefusal, FileObject, KnownRefusal, ReportText};
-use classfile::{ClassFile, Profile, decode, one_class};
-use layout::StreamFault;
-use printing::{AttributeFields, AttributeLine, END, PartFields, PartLines, Print, Then, Word};
+use classfile::{ClassFile, CutShort, Profile, decode, fault_part, one_class};
+use printing::{
+    AttributeFields, AttributeLine, END, FilePartFields, FilePartLines, PartFields, PartLines,
+    Print, Then, Word,
+};
 use std::alloc::Global;
 use std::hash::BuildHasher;
 use std::io::Write;
@@ -35,7 +37,7 @@ use verify::{
 /// The class file in a file; 1 where memory runs out. The file is known to be a class file.
 fn file_class<'a>(
     alloc: Global,
-    read: &'a Result<Vec<u8>, StreamFault>,
+    read: &'a Result<Vec<u8>, CutShort>,
 ) -> Result<ClassFile<'a>, AnswerFault>
     ensures class { IfOk result (λ c. IsDecoded (read_view read.now) (class_view c)) }
     ensures memory { IfErr result (λ e. e ≡ OutOfMemory) }
@@ -53,11 +55,11 @@ fn file_class<'a>(
 fn explain_file<T: Print + Copy, W: Write>(
     alloc: Global,
     line: T,
-    read: &Result<Vec<u8>, StreamFault>,
+    read: &Result<Vec<u8>, CutShort>,
     fault: FileFault,
     out: &mut W,
 ) -> Result<u8, AnswerFault>
-    ensures { Answered (λ t s. IsExplained (read_view read.now) fault (T.text line) t × (s ≡ refusal_status fault))
+    ensures { Answered (λ t s. IsExplained (file_view read.now) fault (T.text line) t × (s ≡ refusal_status fault))
         (W.contents out.old) (W.contents out.new) result }
 {
     let sentence = FileSentence(fault);
@@ -71,10 +73,12 @@ fn explain_file<T: Print + Copy, W: Write>(
             }
             Err(fault) => Err(fault),
         },
-        FileFault::OutOfMemory | FileFault::Unread(_) | FileFault::NoClass(_) => {
-            let text = Then(line, Then(sentence, Word("")));
+        FileFault::Unread(why) | FileFault::NoClass(why) => {
+            let part = FilePartLines(fault_part(held(read), why));
+            let text = Then(line, Then(sentence, part));
             tell(&text, Refusal(fault).status(), out)
         }
+        FileFault::OutOfMemory => tell(&Then(line, Then(sentence, Word(""))), 1, out),
     }
 }
 
@@ -82,11 +86,11 @@ fn explain_file<T: Print + Copy, W: Write>(
 fn explain_object<W: Write>(
     alloc: Global,
     position: Option<usize>,
-    read: &Result<Vec<u8>, StreamFault>,
+    read: &Result<Vec<u8>, CutShort>,
     fault: FileFault,
     out: &mut W,
 ) -> Result<u8, AnswerFault>
-    ensures { Answered (λ t s. IsExplainedObject (read_view read.now) fault (file_object position fault) t
+    ensures { Answered (λ t s. IsExplainedObject (file_view read.now) fault (file_object position fault) t
         × (s ≡ refusal_status fault)) (W.contents out.old) (W.contents out.new) result }
 {
     match fault {
@@ -113,14 +117,24 @@ fn explain_object<W: Write>(
             }
             Err(fault) => Err(fault),
         },
-        FileFault::OutOfMemory | FileFault::Unread(_) | FileFault::NoClass(_) => {
-            let behind = FileSentenceFields(fault, END);
+        FileFault::Unread(why) | FileFault::NoClass(why) => {
+            let part = FilePartFields(fault_part(held(read), why), END);
+            let behind = FileSentenceFields(fault, part);
             let text = FileObject {
                 position,
                 fault,
                 behind,
             };
             tell(&text, Refusal(fault).status(), out)
+        }
+        FileFault::OutOfMemory => {
+            let behind = FileSentenceFields(fault, END);
+            let text = FileObject {
+                position,
+                fault,
+                behind,
+            };
+            tell(&text, 1, out)
         }
     }
 }
@@ -129,11 +143,11 @@ fn explain_object<W: Write>(
 fn refuse_class<W: Write>(
     alloc: Global,
     manner: Manner,
-    read: &Result<Vec<u8>, StreamFault>,
+    read: &Result<Vec<u8>, CutShort>,
     fault: FileFault,
     out: &mut W,
 ) -> Result<u8, AnswerFault>
-    ensures { Answered (λ t s. IsTold manner (read_view read.now) fault (λ form. class_refusal form fault)
+    ensures { Answered (λ t s. IsTold manner (file_view read.now) fault (λ form. class_refusal form fault)
         (class_object fault) t × (s ≡ refusal_status fault)) (W.contents out.old) (W.contents out.new) result }
 {
     let refusal = Refusal(fault);
@@ -151,11 +165,11 @@ fn refuse_known<W: Write>(
     alloc: Global,
     manner: Manner,
     number: usize,
-    read: &Result<Vec<u8>, StreamFault>,
+    read: &Result<Vec<u8>, CutShort>,
     fault: FileFault,
     out: &mut W,
 ) -> Result<u8, AnswerFault>
-    ensures { Answered (λ t s. IsTold manner (read_view read.now) fault (λ form. known_refusal form number fault)
+    ensures { Answered (λ t s. IsTold manner (file_view read.now) fault (λ form. known_refusal form number fault)
         (known_object number fault) t × (s ≡ refusal_status fault)) (W.contents out.old) (W.contents out.new) result }
 {
     let refusal = Refusal(fault);
@@ -186,15 +200,15 @@ fn refuse_known<W: Write>(
 fn refuse<W: Write>(
     alloc: Global,
     manner: Manner,
-    read: &Result<Vec<u8>, StreamFault>,
-    known: &[Result<Vec<u8>, StreamFault>],
+    read: &Result<Vec<u8>, CutShort>,
+    known: &[Result<Vec<u8>, CutShort>],
     fault: AmongFault<'_>,
     out: &mut W,
 ) -> Result<u8, AnswerFault>
     requires { CountsKnown fault (length known.now) }
     ensures { (profile : ProfileFact)
-        → ReportsAmong profile (read_view read.now) (map read_view known.now) (Err fault.entry)
-        → Answered (VerifySays manner profile (read_view read.now) (map read_view known.now)) (W.contents out.old)
+        → ReportsAmong profile (read_view read.now) (reads_of (map file_view known.now)) (Err fault.entry)
+        → Answered (VerifySays manner profile (file_view read.now) (map file_view known.now)) (W.contents out.old)
         (W.contents out.new) result }
 {
     match fault {
@@ -213,7 +227,7 @@ fn refuse<W: Write>(
 fn explain<'a, W: Write>(
     alloc: Global,
     form: Form,
-    read: &'a Result<Vec<u8>, StreamFault>,
+    read: &'a Result<Vec<u8>, CutShort>,
     found: &Explained<'a>,
     out: &mut W,
 ) -> Result<u8, AnswerFault>
@@ -244,12 +258,12 @@ fn tell_verdicts<'a, S: BuildHasher + Drop, W: Write>(
     alloc: Global,
     form: Form,
     profile: Profile,
-    read: &'a Result<Vec<u8>, StreamFault>,
-    known: &'a [Result<Vec<u8>, StreamFault>],
+    read: &'a Result<Vec<u8>, CutShort>,
+    known: &'a [Result<Vec<u8>, CutShort>],
     hasher: S,
     out: &mut W,
 ) -> Result<u8, AnswerFault>
-    ensures { Answered (VerifySays (manners.Told form) profile (read_view read.now) (map read_view known.now))
+    ensures { Answered (VerifySays (manners.Told form) profile (file_view read.now) (map file_view known.now))
         (W.contents out.old) (W.contents out.new) result }
 {
     let files = match file_reads(alloc, known) {
@@ -271,12 +285,12 @@ fn explain_verdicts<'a, S: BuildHasher + Drop, W: Write>(
     alloc: Global,
     form: Form,
     profile: Profile,
-    read: &'a Result<Vec<u8>, StreamFault>,
-    known: &'a [Result<Vec<u8>, StreamFault>],
+    read: &'a Result<Vec<u8>, CutShort>,
+    known: &'a [Result<Vec<u8>, CutShort>],
     hasher: S,
     out: &mut W,
 ) -> Result<u8, AnswerFault>
-    ensures { Answered (VerifySays (manners.Explained form) profile (read_view read.now) (map read_view known.now))
+    ensures { Answered (VerifySays (manners.Explained form) profile (file_view read.now) (map file_view known.now))
         (W.contents out.old) (W.contents out.new) result }
 {
     let files = match file_reads(alloc, known) {
@@ -294,12 +308,12 @@ pub fn verify<'a, S: BuildHasher + Drop, W: Write>(
     alloc: Global,
     manner: Manner,
     profile: Profile,
-    read: &'a Result<Vec<u8>, StreamFault>,
-    known: &'a [Result<Vec<u8>, StreamFault>],
+    read: &'a Result<Vec<u8>, CutShort>,
+    known: &'a [Result<Vec<u8>, CutShort>],
     hasher: S,
     out: &mut W,
 ) -> Result<u8, AnswerFault>
-    ensures { Answered (VerifySays manner profile (read_view read.now) (map read_view known.now)) (W.contents out.old)
+    ensures { Answered (VerifySays manner profile (file_view read.now) (map file_view known.now)) (W.contents out.old)
         (W.contents out.new) result }
 {
     match manner {

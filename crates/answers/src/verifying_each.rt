@@ -10,8 +10,7 @@ use crate::judgements::JudgementsText;
 use crate::reads::file_reads;
 use crate::telling::tell;
 use crate::verdicts::HierarchyRefusal;
-use classfile::Profile;
-use layout::StreamFault;
+use classfile::{CutShort, Profile};
 use std::alloc::Global;
 use std::hash::BuildHasher;
 use std::io::Write;
@@ -21,8 +20,8 @@ use verify::{EachFault, verify_each as judge_each};
 fn verify_among<'a, S: BuildHasher + Drop, W: Write>(
     alloc: Global,
     profile: Profile,
-    reads: &'a [Result<Vec<u8>, StreamFault>],
-    known: &'a [Result<Vec<u8>, StreamFault>],
+    reads: &'a [Result<Vec<u8>, CutShort>],
+    known: &'a [Result<Vec<u8>, CutShort>],
     hasher: S,
     out: &mut W,
 ) -> Result<u8, AnswerFault>
@@ -56,7 +55,7 @@ pub fn verify_each<S: BuildHasher + Drop, W: Write>(
     alloc: Global,
     profile: Profile,
     classes: usize,
-    reads: &[Result<Vec<u8>, StreamFault>],
+    reads: &[Result<Vec<u8>, CutShort>],
     hasher: S,
     out: &mut W,
 ) -> Result<u8, AnswerFault>

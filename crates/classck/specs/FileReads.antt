@@ -9,3 +9,7 @@ pub record ReadsOn (file given : List ℕ) : Type 0 where
   pub parts : file ≡ class ++ behind
   pub outline : IsOutline class
   pub one_more : given ≡ class ++ take 1 behind
+
+-- the file begins with these bytes
+abbrev pub BeginsWith : List ℕ → List ℕ → Type 0
+BeginsWith file given = (behind : List ℕ) × (file ≡ given ++ behind)

@@ -9,6 +9,7 @@ pub mod Encodings
 pub mod FewAttributes
 pub mod FieldIndices
 pub mod FirstFaults
+pub mod FoundParts
 pub mod FormExamples
 pub mod FormKinds
 pub mod FormedMethods
@@ -27,7 +28,9 @@ pub mod Places
 pub mod Receivers
 pub mod RowLaws
 pub mod Rows
+pub mod SearchedParts
 pub mod SeenLaws
+pub mod SkippedParts
 pub mod SpecialNames
 pub mod Steps
 pub mod Tables

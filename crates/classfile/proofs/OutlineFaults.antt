@@ -5,7 +5,6 @@ use Rattle.layout.specs.Streams.{Progress, whole, partial, refused, Leads, IsDec
 use Rattle.layout.specs.StreamLaws.{one_lead, decided_or_partial}
 use Rattle.layout.specs.declared.fault.ReadFault.{ReadFault}
 use Rattle.layout.specs.declared.fault.ReadFault.TheVariants.{OutOfMemory, EndsEarly, ReadFailed}
-use Rattle.layout.specs.declared.fault.StreamFault.{StreamFault}
 use Rattle.std.specs.Prelude.{IfSome}
 use Rattle.std.specs.Io.KnownBytes.{Consumes}
 use Rattle.classfile.specs.Outline.{outline, IsOutline, OutlineFault, GivesUp, Stopped, IsLostOr}
@@ -63,6 +62,7 @@ stopped_faults stream given (Some rest) (EndsEarly at) h g =
     inr (at, refl, subst (λ (t : List ℕ). Leads outline 0 t (partial at)) all g.0)
 stopped_faults stream given after e h g = let f = front_of stream given after h in inl (given, f.0, f.2, g)
 
-pub known_faults : (before after : Option (List ℕ)) (e : StreamFault) → Stopped before after e → IfSome before (λ stream. IsLostOr (OutlineFault stream) e.why)
-known_faults None after e s = tt
-known_faults (Some stream) after e s = stopped_faults stream s.given after e.why s.consumed s.why
+pub known_faults : (before after : Option (List ℕ)) (given : List ℕ) (why : ReadFault) → Stopped before after given why
+    → IfSome before (λ stream. IsLostOr (OutlineFault stream) why)
+known_faults None after given why s = tt
+known_faults (Some stream) after given why s = stopped_faults stream given after why s.consumed s.gives_up

@@ -73,7 +73,7 @@ repeated_end f n i here start now before le go =
 
 -- ---- the constants, of whose indices i were read
 
-at_last : (n i : ℕ) → i < n → nat_eq (i + 1) n ≡ nat_eq (n - (i + 1)) 0
+pub at_last : (n i : ℕ) → i < n → nat_eq (i + 1) n ≡ nat_eq (n - (i + 1)) 0
 at_last n i lt = by_test (nat_eq (n - (i + 1)) 0) refl
   where
     by_test : (b : Bool) → nat_eq (n - (i + 1)) 0 ≡ b → nat_eq (i + 1) n ≡ b

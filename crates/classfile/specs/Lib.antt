@@ -10,6 +10,7 @@ pub mod Conditions
 pub mod DeclaredFields
 pub mod ConstantForm
 pub mod Encoding
+pub mod FileParts
 pub mod Flags
 pub mod FormLaws
 pub mod Indices

@@ -4,7 +4,6 @@ use Rattle.std.specs.Prelude.{◌≡◌, ℕ, zero, suc, ◌-◌, Bool, true, fa
 use Rattle.layout.specs.Format.{Format, done, part, refuse, andthen, number}
 use Rattle.std.specs.Io.KnownBytes.{Consumes, IsAtEnd}
 use Rattle.layout.specs.Streams.{Leads, StreamHas, whole, partial, refused}
-use Rattle.layout.specs.declared.fault.StreamFault.{StreamFault}
 use Rattle.layout.specs.declared.fault.ReadFault.{ReadFault}
 use Rattle.layout.specs.declared.fault.ReadFault.TheVariants.{OutOfMemory, EndsEarly, ReadFailed, BadMagic, BadTag, BadPoolCount}
 
@@ -140,11 +139,9 @@ GivesUp given after (EndsEarly at) = Leads outline 0 given (partial at) × IsAtE
 GivesUp given after e = Leads outline 0 given (refused e)
 
 -- These bytes were taken from the reader, and behind them it was given up.
-pub record Stopped (before after : Option (List ℕ)) (e : StreamFault) : Type 0 where
-  pub given : List ℕ
-  pub taken : e.taken ≡ length given
+pub record Stopped (before after : Option (List ℕ)) (given : List ℕ) (why : ReadFault) : Type 0 where
   pub consumed : Consumes before after given
-  pub why : GivesUp given after e.why
+  pub gives_up : GivesUp given after why
 
 -- Memory ran out or the reader failed; or it is such a fault.
 abbrev pub IsLostOr : (ReadFault → Type 0) → ReadFault → Type 0

@@ -6,4 +6,5 @@ pub mod MemberTexts
 pub mod NamedAt
 pub mod NumbersLaws
 pub mod Pieces
+pub mod Searching
 pub mod TextForms

@@ -1,5 +1,6 @@
 //! Laws that follow of the layout of class files alone, whatever the code does.
 ghost use Rattle.classfile.specs.OutlineLaws.{ClassIsOutline, OneOutline, OutlineOrFault, NoFaultBehindOutline};
+ghost use Rattle.classfile.specs.FileParts.{PartIsFound};
 ghost use Rattle.classfile.specs.Laws.{OneClass, OneSpelling, ClassOrFault, NoFaultInClass, OneFault, BodySpellsRows, SpelledIsLaidOut};
 
 /// No bytes spell two classes.
@@ -47,4 +48,10 @@ pub fn outline_or_fault()
 pub fn body_spells_rows()
     ensures rows { BodySpellsRows }
     ensures layout { SpelledIsLaidOut }
+{}
+
+/// A part is found only in the table in which the place lies, the constants, the fields, the methods or the attributes
+/// of the class, and wherever it lies in one of them.
+pub fn part_is_found()
+    ensures { PartIsFound }
 {}

@@ -23,6 +23,7 @@
 //! | `table` | a count and so many items, for all tables of a class file |
 //! | `decoding`, `encoding` | the two calls |
 //! | `outline`, `reading` | [`read_class`], and how far a class reaches in a stream |
+//! | `file_parts`, `skipping` | [`fault_part`], in which part of a file a fault of its bytes lies |
 //! | `laws` | that they undo one another |
 //! | `form` | [`form_check`], [`Formed`], and the places one after the other |
 //! | `profile` | [`Profile`], how the methods of a class are judged |
@@ -54,6 +55,7 @@ mod constant_form;
 mod decoding;
 mod duplicate_finder;
 mod encoding;
+mod file_parts;
 pub mod flags;
 mod form;
 mod form_fault;
@@ -75,6 +77,7 @@ mod profile;
 mod reading;
 mod record_form;
 mod repeated_attributes;
+mod skipping;
 mod table;
 mod text_forms;
 mod text_numbers;
@@ -89,6 +92,7 @@ pub use code_method::CodeMethod;
 pub use component::Component;
 pub use decoding::decode;
 pub use encoding::encode;
+pub use file_parts::{FilePart, fault_part};
 pub use form::{Formed, form_check};
 pub use form_fault::{FormFault, FormRule, Place};
 pub use form_laws::{
@@ -97,7 +101,7 @@ pub use form_laws::{
 };
 pub use laws::{
     body_spells_rows, class_is_outline, class_or_fault, no_fault_in_class, one_class, one_fault,
-    one_outline, one_spelling, outline_or_fault,
+    one_outline, one_spelling, outline_or_fault, part_is_found,
 };
 pub use layouts::{AttributeLayout, Column};
 pub use member::Member;
@@ -105,4 +109,4 @@ pub use nested::NestedAttribute;
 pub use numbers::Numbers;
 pub use own_fields::{OwnFields, declares_field};
 pub use profile::Profile;
-pub use reading::read_class;
+pub use reading::{CutShort, read_class};

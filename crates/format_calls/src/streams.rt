@@ -2,7 +2,9 @@
 ghost use Rattle.std.specs.Prelude.{◌≤◌, ◌<◌, length};
 
 use crate::making::K;
-use classfile::{class_is_outline, one_outline, outline_or_fault, read_class};
+use classfile::{
+    CutShort, class_is_outline, one_outline, outline_or_fault, part_is_found, read_class,
+};
 use layout::{
     ReadFault, Reading, StreamFault, body_is_whole, reading_is_spelling, streams_are_decided,
     whole_is_spelling, writing_is_spelling,
@@ -63,7 +65,7 @@ fn cut(bytes: &[u8], n: usize, fails: bool, piece: usize) -> Pieces<'_>
 }
 
 /// The answer on K, cut behind the first `n` bytes.
-fn of_cut(alloc: Global, n: usize, fails: bool, piece: usize) -> Result<Vec<u8>, StreamFault>
+fn of_cut(alloc: Global, n: usize, fails: bool, piece: usize) -> Result<Vec<u8>, CutShort>
     requires { n ≤ 97 }
 {
     read_class(alloc, &mut cut(&K, n, fails, piece))
@@ -80,22 +82,20 @@ fn place_of(n: usize) -> usize {
     place
 }
 
-/// Whether the stream was refused for this, after so many bytes were taken.
-fn is_refused<T: Drop>(answer: Result<T, StreamFault>, taken: usize, why: ReadFault) -> bool {
-    match answer {
-        Ok(_) => false,
-        Err(fault) => fault == StreamFault { taken, why },
-    }
+/// That a class was cut short behind these bytes, for this reason.
+fn is_cut_at(answer: &Result<Vec<u8>, CutShort>, bytes: &[u8], why: ReadFault) -> bool {
+    matches!(answer, Err(cut) if cut.bytes.as_slice() == bytes && cut.why == why)
 }
 
 /// That a failing reader is refused 15 where it failed, and one that ends 2 at the part that is not whole.
 fn is_cut(alloc: Global, n: usize, piece: usize) -> bool
     requires { n ≤ 97 }
 {
+    let (front, _) = K.split_at(n);
     let failed = ReadFault::ReadFailed { at: n };
     let ended = ReadFault::EndsEarly { at: place_of(n) };
-    is_refused(of_cut(alloc, n, true, piece), n, failed)
-        && is_refused(of_cut(alloc, n, false, piece), n, ended)
+    is_cut_at(&of_cut(alloc, n, true, piece), front, failed)
+        && is_cut_at(&of_cut(alloc, n, false, piece), front, ended)
 }
 
 #[test]
@@ -135,37 +135,44 @@ fn memory_for_a_class(rt: HostRuntime) {
     assert!(rt; leaves_three(rt.alloc(), 7, true));
 }
 
-/// The answer on K with one byte changed.
-fn of_changed(alloc: Global, place: usize, byte: u8) -> Result<Vec<u8>, StreamFault>
+/// Whether K with one byte changed is cut short behind so many bytes, for this reason.
+fn is_changed(alloc: Global, place: usize, byte: u8, taken: usize, why: ReadFault) -> bool
     requires { place < 97 }
+    requires { taken ≤ 97 }
 {
     let mut bytes = K;
     bytes[place] = byte;
-    read_class(alloc, &mut cut(&bytes, 97, false, 7))
+    let answer = read_class(alloc, &mut cut(&bytes, 97, false, 7));
+    let (front, _) = bytes.split_at(taken);
+    is_cut_at(&answer, front, why)
 }
 
 #[test]
 fn faults(rt: HostRuntime) {
-    let magic = of_changed(rt.alloc(), 0, 0);
-    assert!(rt; is_refused(magic, 4, ReadFault::BadMagic));
-    let tag = of_changed(rt.alloc(), 10, 2);
-    assert!(rt; is_refused(tag, 11, ReadFault::BadTag { at: 10, tag: 2 }));
-    let long = of_changed(rt.alloc(), 78, 0xFF);
-    assert!(rt; is_refused(long, 82, ReadFault::TooLong { at: 82 }));
-    let claims = of_changed(rt.alloc(), 79, 1);
-    assert!(rt; is_refused(claims, 97, ReadFault::EndsEarly { at: 82 }));
-    let kept = of_changed(rt.alloc(), 7, 0xFF);
-    assert!(rt; kept.is_ok());
+    let alloc = rt.alloc();
+    assert!(rt; is_changed(alloc, 0, 0, 4, ReadFault::BadMagic));
+    assert!(rt; is_changed(alloc, 10, 2, 11, ReadFault::BadTag { at: 10, tag: 2 }));
+    assert!(rt; is_changed(alloc, 78, 0xFF, 82, ReadFault::TooLong { at: 82 }));
+    assert!(rt; is_changed(alloc, 79, 1, 97, ReadFault::EndsEarly { at: 82 }));
+}
+
+#[test]
+fn versions_are_not_looked_at(rt: HostRuntime) {
+    let mut bytes = K;
+    bytes[7] = 0xFF;
+    assert!(rt; read_class(rt.alloc(), &mut cut(&bytes, 97, false, 7)).is_ok());
 }
 
 #[test]
 fn a_pool_without_a_count(rt: HostRuntime) {
     let none = [0xCA, 0xFE, 0xBA, 0xBE, 0, 0, 0, 0x34, 0, 0, 9];
     let answer = read_class(rt.alloc(), &mut cut(&none, 11, false, 2));
-    assert!(rt; is_refused(answer, 10, ReadFault::BadPoolCount { at: 8 }));
+    let (front, _) = none.split_at(10);
+    assert!(rt; is_cut_at(&answer, front, ReadFault::BadPoolCount { at: 8 }));
     let last = [0xCA, 0xFE, 0xBA, 0xBE, 0, 0, 0, 0x34, 0, 2, 5, 0, 0];
     let answer = read_class(rt.alloc(), &mut cut(&last, 13, false, 2));
-    assert!(rt; is_refused(answer, 11, ReadFault::BadTag { at: 10, tag: 5 }));
+    let (front, _) = last.split_at(11);
+    assert!(rt; is_cut_at(&answer, front, ReadFault::BadTag { at: 10, tag: 5 }));
 }
 
 /// The bytes that are gathered of eight: a number of each size, one byte more, and then the reader fails.
@@ -218,4 +225,5 @@ fn laws_are_called() {
     class_is_outline();
     one_outline();
     outline_or_fault();
+    part_is_found();
 }

@@ -28,7 +28,7 @@ fn stack_map<'a>(alloc: Global) -> Result<StackMap<'a>, AllocError> {
     Ok(StackMap::new(Vec::from_array(alloc, entries)?))
 }
 
-/// What the frames keep to, where the stack has room for this many units.
+/// The limits of the frames, where the stack has room for this many units.
 fn limits<'m, 'a>(
     class: &'m ClassFile<'a>,
     starts: &'m CodeStarts<'m>,

@@ -51,7 +51,7 @@ fn holding<'a, C: Classes>(
     Ok(frame)
 }
 
-/// What the rule says of an instruction, together with what is said of the member that it uses.
+/// The outcome of an instruction's rule, together with that of the member that it uses.
 fn both<'a>(ran: Result<(), Reason<'a>>, used: Result<(), Reason<'a>>) -> Result<(), Reason<'a>> {
     match ran {
         Ok(()) => together(used, Ok(())),

@@ -1,8 +1,12 @@
--- Strings of an array, one of each item.
+-- Fields behind others, and strings of an array, one of each item.
 use Rattle.std.proofs.Common.{◌≡◌, ◌∙◌, ℕ, List, [], ◌∷◌, ◌++◌, map, refl, sym, ap}
 use Rattle.std.specs.Prelude.{codes}
 use Rattle.std.specs.List.{flat_map}
-use Rattle.printing.specs.Json.{enclosed, following, array_text}
+use Rattle.printing.specs.Json.{Field, field_text, fields_then, enclosed, following, array_text}
+
+pub fields_of_both : (fs gs : List Field) (rest : List ℕ) → fields_then (fs ++ gs) rest ≡ fields_then fs (fields_then gs rest)
+fields_of_both [] gs rest = refl
+fields_of_both (f ∷ fs) gs rest = ap (λ (l : List ℕ). codes "," ++ (field_text f ++ l)) (fields_of_both fs gs rest)
 
 pub of_views : {A B C : Type 0} (f : B → C) (g : A → B) (xs : List A) → map (λ x. f (g x)) xs ≡ map f (map g xs)
 of_views f g [] = refl

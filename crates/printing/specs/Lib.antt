@@ -8,6 +8,7 @@ pub mod Json
 pub mod Differences
 pub mod NamesIn
 pub mod FaultFields
+pub mod FileParts
 pub mod Constants
 pub mod Parts
 pub mod private

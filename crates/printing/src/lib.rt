@@ -16,6 +16,7 @@
 //! - `within`: names in a line of words, or in a string of JSON.
 //! - `constants`: the line of a constant; `parts`: the part of a class file at a place, and the attribute of it that is
 //!   at fault, by its lines or as fields.
+//! - `file_parts`: the part of a file in which a fault of its bytes lies, by its lines or as fields.
 //! - `class_attributes`: the lines of records and sealed classes.
 //! - `listing`: the lines of a class file.
 #![tactic(auto)]
@@ -26,6 +27,7 @@ mod constants;
 mod differences;
 mod fault_fields;
 mod faults;
+mod file_parts;
 mod frame;
 mod instruction;
 mod json;
@@ -42,6 +44,7 @@ pub use code::{
 };
 pub use differences::{DifferenceFields, DifferenceLine};
 pub use fault_fields::{FaultFields, PlaceFields};
+pub use file_parts::{FilePartFields, FilePartLines};
 pub use frame::{FrameFields, FrameLines, TypeText};
 pub use json::{END, Enclosed, More, Object, Quoted, QuotedName, QuotedSpelled, Strings};
 pub use listing::Listing;

@@ -26,113 +26,63 @@ fn misses(alloc: Global, words: &[&str]) -> bool {
     }
 }
 
+/// Each command with the files behind it, of which one looks like an option.
 #[test]
 fn lines(rt: HostRuntime) {
     let alloc = rt.alloc();
-    assert!(rt;
-        asks(
-            alloc,
-            &["classck", "check", "--", "-a"],
-            Command::Check(Form::Plain),
-            1,
-            "-a"
-        )
-    );
-    assert!(rt;
-        asks(
-            alloc,
-            &["classck", "verify", "K", "O", "P"],
-            Command::Verify(Form::Plain, Profile::Default),
-            3,
-            "P"
-        )
-    );
-    assert!(rt;
-        asks(
-            alloc,
-            &["classck", "play", "K", "O"],
-            Command::Play(Profile::Default),
-            2,
-            "O"
-        )
-    );
-    assert!(rt;
-        asks(
-            alloc,
-            &["classck", "verify", "K", "--dynamic", "O"],
-            Command::Verify(Form::Plain, Profile::Dynamic),
-            2,
-            "O"
-        )
-    );
-    assert!(rt;
-        asks(
-            alloc,
-            &["classck", "play", "--dynamic", "K"],
-            Command::Play(Profile::Dynamic),
-            1,
-            "K"
-        )
-    );
-    assert!(rt;
-        asks(
-            alloc,
-            &["classck", "check", "--json", "K"],
-            Command::Check(Form::Json),
-            1,
-            "K"
-        )
-    );
-    assert!(rt;
-        asks(
-            alloc,
-            &["classck", "verify", "K", "O", "--json"],
-            Command::Verify(Form::Json, Profile::Default),
-            2,
-            "O"
-        )
-    );
-    assert!(rt;
-        asks(
-            alloc,
-            &["classck", "verify", "--json", "--dynamic", "K", "O"],
-            Command::Verify(Form::Json, Profile::Dynamic),
-            2,
-            "O"
-        )
-    );
-    assert!(rt;
-        asks(
-            alloc,
-            &["classck", "verify-each", "K", "L", "--known", "O"],
-            Command::VerifyEach {
-                profile: Profile::Default,
-                classes: 2,
-            },
-            3,
-            "O"
-        )
-    );
-    assert!(rt;
-        asks(
-            alloc,
-            &["classck", "explain", "K", "O"],
-            Command::Explain(Form::Plain, Profile::Default),
-            2,
-            "O"
-        )
-    );
-    assert!(rt;
-        asks(
-            alloc,
-            &["classck", "explain", "--dynamic", "K"],
-            Command::Explain(Form::Plain, Profile::Dynamic),
-            1,
-            "K"
-        )
-    );
-    assert!(rt; misses(alloc, &["classck", "check"]));
-    assert!(rt; misses(alloc, &["classck", "play"]));
+    let words = ["classck", "check", "--", "-a"];
+    assert!(rt; asks(alloc, &words, Command::Check(Form::Plain), 1, "-a"));
+    let words = ["classck", "verify", "K", "O", "P"];
+    let verify = Command::Verify(Form::Plain, Profile::Default);
+    assert!(rt; asks(alloc, &words, verify, 3, "P"));
+    let words = ["classck", "explain", "K", "O"];
+    let explain = Command::Explain(Form::Plain, Profile::Default);
+    assert!(rt; asks(alloc, &words, explain, 2, "O"));
+    let words = ["classck", "play", "K", "O"];
+    assert!(rt; asks(alloc, &words, Command::Play(Profile::Default), 2, "O"));
+}
+
+/// Two classes, and a known one.
+#[test]
+fn lines_of_many_classes(rt: HostRuntime) {
+    let words = ["classck", "verify-each", "K", "L", "--known", "O"];
+    let each = Command::VerifyEach {
+        profile: Profile::Default,
+        classes: 2,
+    };
+    assert!(rt; asks(rt.alloc(), &words, each, 3, "O"));
+}
+
+#[test]
+fn lines_with_dynamic(rt: HostRuntime) {
+    let alloc = rt.alloc();
+    let words = ["classck", "verify", "K", "--dynamic", "O"];
+    let verify = Command::Verify(Form::Plain, Profile::Dynamic);
+    assert!(rt; asks(alloc, &words, verify, 2, "O"));
+    let words = ["classck", "explain", "--dynamic", "K"];
+    let explain = Command::Explain(Form::Plain, Profile::Dynamic);
+    assert!(rt; asks(alloc, &words, explain, 1, "K"));
+    let words = ["classck", "play", "--dynamic", "K"];
+    assert!(rt; asks(alloc, &words, Command::Play(Profile::Dynamic), 1, "K"));
+}
+
+#[test]
+fn lines_with_json(rt: HostRuntime) {
+    let alloc = rt.alloc();
+    let words = ["classck", "check", "--json", "K"];
+    assert!(rt; asks(alloc, &words, Command::Check(Form::Json), 1, "K"));
+    let words = ["classck", "verify", "K", "O", "--json"];
+    let verify = Command::Verify(Form::Json, Profile::Default);
+    assert!(rt; asks(alloc, &words, verify, 2, "O"));
+    let words = ["classck", "verify", "--json", "--dynamic", "K", "O"];
+    let dynamic = Command::Verify(Form::Json, Profile::Dynamic);
+    assert!(rt; asks(alloc, &words, dynamic, 2, "O"));
+}
+
+#[test]
+fn lines_without_a_file(rt: HostRuntime) {
+    assert!(rt; misses(rt.alloc(), &["classck", "check"]));
+    assert!(rt; misses(rt.alloc(), &["classck", "play"]));
 }
 
 /// Each complaint, in the order of the enum.

@@ -1,20 +1,19 @@
 //! Dynamic calls and constants: looked up, and judged and run where a profile asks for it.
-use crate::walks::{Stop, Walk, on, stop_of};
+use crate::verified_walks::{RIGHT, walk_in};
+use crate::walks::{Stop, Walk, answered_first};
 use classfile::{Bootstraps, ClassFile, Formed, Profile, decode, form_check};
 use format_calls::making::{K, O, OUT_OF_MEMORY};
 use hierarchy::{Classes, Rows, summary_of};
 use insn::Act;
 use lower_calls::making::{hasher, object};
-use machine::{Choice, State, Value};
+use machine::Value;
 use names::{Base, FieldType, Primitive};
 use pool::{CallSite, ConstantTypes, Pool};
 use rules::Members;
 use std::alloc::{AllocError, Global};
-use std::collections::BTreeMap;
 use std::test::*;
 use verify::{
-    FileRead, MethodVerdict, Verdict, verify_among_under, verify_class_under,
-    verify_together_under, walk_verified,
+    FileRead, MethodVerdict, Verdict, verify_among_under, verify_class_under, verify_together_under,
 };
 
 /// The class file of a class K whose static method `f` loads the Dynamic constant of int at 11 and drops it, and then
@@ -218,49 +217,13 @@ fn memory_runs_out_for_dynamic_calls(rt: HostRuntime) {
 
 // ---- runs
 
-/// The choices of a constant that is an int, and then three times to go on.
-fn choices<'a>(alloc: Global) -> Result<Vec<Choice<'a>>, AllocError> {
-    let mut choices = Vec::new(alloc);
-    choices.push(Choice::Go {
-        branch: None,
-        answer: Some(Value::Int),
-        fresh: Vec::new(alloc),
-    })?;
-    for _ in 0..3 {
-        choices.push(on(alloc))?;
-    }
-    Ok(choices)
-}
-
-fn walk_in<'a>(alloc: Global, formed: &Formed<'_, 'a>, choices: &[Choice<'a>]) -> Walk {
-    let Ok(own) = summary_of(alloc, formed) else {
-        return Err(OUT_OF_MEMORY);
-    };
-    let list = [object(alloc), own];
-    let Ok(classes) = Rows::new(alloc, &list, hasher()) else {
-        return Err(OUT_OF_MEMORY);
-    };
-    let start = State {
-        at: 0,
-        stack: Vec::new(alloc),
-        locals: Vec::new(alloc),
-        heap: BTreeMap::new(alloc),
-    };
-    if formed.class().methods.len() != 1 {
-        return Err(0);
-    }
-    match walk_verified(alloc, formed, 0, &classes, &start, choices) {
-        Ok(walked) => Ok((walked.taken, stop_of(&walked.last))),
-        Err(fault) => Err(fault.number()),
-    }
-}
-
+/// The walk by the choice of a constant that is an int, and three to go on.
 fn walk_of_class<'a>(alloc: Global, class: &ClassFile<'a>, profile: Profile) -> Walk {
-    let Ok(choices) = choices(alloc) else {
+    let Ok(choices) = answered_first(alloc, Value::Int) else {
         return Err(OUT_OF_MEMORY);
     };
     match form_check(alloc, class) {
-        Ok(formed) => walk_in(alloc, &formed.under(profile), &choices),
+        Ok(formed) => walk_in(alloc, &formed.under(profile), RIGHT, &choices),
         Err(fault) => Err(fault.number()),
     }
 }

@@ -1,15 +1,15 @@
 //! The answer of each command on files, read or not, and how much of it a writer takes that fails.
 use answers::{AnswerFault, Command, Form, answer, one_answer};
-use classfile::Profile;
+use classfile::{CutShort, Profile};
 use format_calls::making::{K, O};
-use layout::{ReadFault, StreamFault};
+use layout::ReadFault;
 use lower_calls::making::hasher;
 use std::alloc::{AllocError, Global};
 use std::io::{self, Write};
 use std::test::*;
 
 /// A file as it was read.
-type Read = Result<Vec<u8>, StreamFault>;
+type Read = Result<Vec<u8>, CutShort>;
 
 /// Takes one byte at each write, and fails at the write that its number says.
 #[derive(Drop)]
@@ -64,23 +64,30 @@ fn laws_are_called() {
     one_answer();
 }
 
-/// K and `java/lang/Object`, as they were read.
-fn both(alloc: Global) -> Result<Vec<Read>, AllocError> {
+/// This class file and that of `java/lang/Object`, as they were read.
+fn beside_object(alloc: Global, class: &[u8]) -> Result<Vec<Read>, AllocError> {
     let mut reads = Vec::new(alloc);
-    reads.push(Ok(K.to_vec(alloc)?))?;
+    reads.push(Ok(class.to_vec(alloc)?))?;
     reads.push(Ok(O.to_vec(alloc)?))?;
     Ok(reads)
 }
 
-/// Whether a writer that takes so many bytes takes so many of this text, which the command answers with status 0, and
-/// the answer fails where they are not all.
-fn is_answered(alloc: Global, command: Command, reads: &[Read], left: usize, text: &[u8]) -> bool {
+/// Whether a writer that takes so many bytes takes so many of this text, which the command answers with this status,
+/// and the answer fails where they are not all.
+fn is_answered(
+    alloc: Global,
+    command: Command,
+    reads: &[Read],
+    left: usize,
+    expected: (u8, &[u8]),
+) -> bool {
+    let (status, text) = expected;
     let mut out = Slow {
         left,
         taken: Vec::new(alloc),
     };
     let answered = match answer(alloc, command, reads, hasher(), &mut out) {
-        Ok(status) => left >= text.len() && status == 0,
+        Ok(told) => left >= text.len() && told == status,
         Err(fault) => left < text.len() && matches!(fault, AnswerFault::WriteFailed),
     };
     answered && out.taken.as_slice() == &text[..left.min(text.len())]
@@ -115,39 +122,24 @@ fn a_writer_that_fails(rt: HostRuntime) -> Result<(), Fail> {
             b"file 1 K\nmethod f ()V verified\n",
         ),
     ];
-    let reads = both(rt.alloc())?;
+    let reads = beside_object(rt.alloc(), &K)?;
     for (command, text) in rows {
         for left in 0..120 {
-            assert!(rt; is_answered(rt.alloc(), command, &reads, left, text));
+            assert!(rt; is_answered(rt.alloc(), command, &reads, left, (0, text)));
         }
     }
     Ok(())
 }
 
+const EXPLAIN: Command = Command::Explain(Form::Plain, Profile::Default);
+
 /// K with another byte at this place, and `java/lang/Object`, as they were read.
 fn with_byte(alloc: Global, place: usize, byte: u8) -> Result<Vec<Read>, AllocError> {
-    let mut bytes = K.to_vec(alloc)?;
+    let mut bytes = K;
     if place < bytes.len() {
         bytes[place] = byte;
     }
-    let mut reads = Vec::new(alloc);
-    reads.push(Ok(bytes))?;
-    reads.push(Ok(O.to_vec(alloc)?))?;
-    Ok(reads)
-}
-
-/// Whether `explain` answers this text with status 1, or so many bytes of it where the writer takes no more.
-fn is_explained(alloc: Global, reads: &[Read], left: usize, text: &[u8]) -> bool {
-    let mut out = Slow {
-        left,
-        taken: Vec::new(alloc),
-    };
-    let command = Command::Explain(Form::Plain, Profile::Default);
-    let answered = match answer(alloc, command, reads, hasher(), &mut out) {
-        Ok(status) => left >= text.len() && status == 1,
-        Err(fault) => left < text.len() && matches!(fault, AnswerFault::WriteFailed),
-    };
-    answered && out.taken.as_slice() == &text[..left.min(text.len())]
+    beside_object(alloc, &bytes)
 }
 
 /// A method whose code is one `nop`, one whose code is one `iadd`, and a class whose name is at an index past the
@@ -164,7 +156,7 @@ fn explanations_that_are_cut(rt: HostRuntime) -> Result<(), Fail> {
     for (place, byte, text) in rows {
         let reads = with_byte(rt.alloc(), place, byte)?;
         for left in 0..200 {
-            assert!(rt; is_explained(rt.alloc(), &reads, left, text));
+            assert!(rt; is_answered(rt.alloc(), EXPLAIN, &reads, left, (1, text)));
         }
     }
     Ok(())
@@ -173,7 +165,10 @@ fn explanations_that_are_cut(rt: HostRuntime) -> Result<(), Fail> {
 /// The status and the text of `check` for a file that was not read.
 fn unread(alloc: Global, why: ReadFault) -> Result<(Result<u8, AnswerFault>, Vec<u8>), AllocError> {
     let mut reads = Vec::new(alloc);
-    reads.push(Err(StreamFault { taken: 50, why }))?;
+    reads.push(Err(CutShort {
+        bytes: Vec::new(alloc),
+        why,
+    }))?;
     let mut out: Vec<u8> = Vec::new(alloc);
     let status = answer(
         alloc,
@@ -203,35 +198,32 @@ fn files_that_are_not_read(rt: HostRuntime) -> Result<(), Fail> {
     Ok(())
 }
 
-/// Where memory runs out nothing is written, and otherwise the whole answer.
-fn is_whole_or_memory(alloc: Global) -> bool {
-    let Ok(reads) = both(alloc) else {
+/// Where memory runs out nothing is written, and otherwise an answer of this status and so many bytes.
+fn is_whole_or_memory(
+    alloc: Global,
+    command: Command,
+    reads: Result<Vec<Read>, AllocError>,
+    expected: (u8, usize),
+) -> bool {
+    let Ok(reads) = reads else {
         return true;
     };
     let mut out = Counted { taken: 0 };
-    match answer(
-        alloc,
-        Command::Check(Form::Plain),
-        &reads,
-        hasher(),
-        &mut out,
-    ) {
-        Ok(status) => status == 0 && out.taken == 3,
+    match answer(alloc, command, &reads, hasher(), &mut out) {
+        Ok(status) => (status, out.taken) == expected,
         Err(fault) => matches!(fault, AnswerFault::OutOfMemory) && out.taken == 0,
     }
 }
 
-/// Where memory runs out nothing is written, and otherwise the whole explanation of a file.
+#[test]
+fn memory_runs_out_for_an_answer(rt: HostRuntime) {
+    let reads = beside_object(rt.alloc(), &K);
+    assert!(rt; is_whole_or_memory(rt.alloc(), Command::Check(Form::Plain), reads, (0, 3)));
+}
+
+/// Where memory runs out nothing is written, and otherwise the whole explanation of so many bytes.
 fn is_explained_or_memory(alloc: Global, place: usize, byte: u8, size: usize) -> bool {
-    let Ok(reads) = with_byte(alloc, place, byte) else {
-        return true;
-    };
-    let mut out = Counted { taken: 0 };
-    let command = Command::Explain(Form::Plain, Profile::Default);
-    match answer(alloc, command, &reads, hasher(), &mut out) {
-        Ok(status) => status == 1 && out.taken == size,
-        Err(fault) => matches!(fault, AnswerFault::OutOfMemory) && out.taken == 0,
-    }
+    is_whole_or_memory(alloc, EXPLAIN, with_byte(alloc, place, byte), (1, size))
 }
 
 #[test]
@@ -239,9 +231,4 @@ fn memory_runs_out_for_an_explanation(rt: HostRuntime) {
     assert!(rt; is_explained_or_memory(rt.alloc(), 90, 0, 129));
     assert!(rt; is_explained_or_memory(rt.alloc(), 90, 0x60, 196));
     assert!(rt; is_explained_or_memory(rt.alloc(), 12, 9, 158));
-}
-
-#[test]
-fn memory_runs_out_for_an_answer(rt: HostRuntime) {
-    assert!(rt; is_whole_or_memory(rt.alloc()));
 }

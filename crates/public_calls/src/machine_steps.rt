@@ -100,11 +100,12 @@ pub fn step_of<'a>(
     }
 }
 
-/// The choice to go on, to the place of this number where there is a branch, with nothing new.
-fn go<'a>(alloc: Global, branch: Option<u16>) -> Choice<'a> {
+/// The choice to go on, to the place of this number where there is a branch, by this answer where there is one, with
+/// nothing new.
+pub fn go<'a>(alloc: Global, branch: Option<u16>, answer: Option<Value>) -> Choice<'a> {
     Choice::Go {
         branch,
-        answer: None,
+        answer,
         fresh: Vec::new(alloc),
     }
 }
@@ -154,7 +155,7 @@ fn leads(
     after: ([Slot; 2], &[Value]),
 ) -> bool {
     let bytes = catching([code, 0x00]);
-    let stepped = went(alloc, &bytes, before.0, before.1, &go(alloc, None));
+    let stepped = went(alloc, &bytes, before.0, before.1, &go(alloc, None, None));
     leads_to(stepped, after.0, after.1)
 }
 
@@ -186,13 +187,13 @@ fn outcome(alloc: Global, code: u8, choice: &Choice<'_>) -> (bool, bool, u8) {
 #[test]
 fn ends_and_faults(rt: HostRuntime) {
     let alloc = rt.alloc();
-    let on = go(alloc, None);
+    let on = go(alloc, None, None);
     assert!(rt; matches!(outcome(alloc, 0xB1, &on), (true, false, 0)));
     assert!(rt; matches!(outcome(alloc, 0x60, &on), (false, true, 0)));
     assert!(rt; matches!(outcome(alloc, 0xA9, &on), (false, true, 0)));
     assert!(rt;
         matches!(
-            outcome(alloc, 0x00, &go(alloc, Some(1))),
+            outcome(alloc, 0x00, &go(alloc, Some(1), None)),
             (false, false, 54)
         )
     );
@@ -229,7 +230,7 @@ fn exceptions_are_caught_or_not(rt: HostRuntime) {
 /// With memory enough no instruction is answered that it ran out, whatever else.
 #[test]
 fn each_step_answers(rt: HostRuntime) {
-    let on = go(rt.alloc(), None);
+    let on = go(rt.alloc(), None, None);
     for code in [
         0x00, 0x03, 0x09, 0x1B, 0x3C, 0x57, 0x5C, 0x79, 0xA7, 0xAC, 0xB1,
     ] {
@@ -248,7 +249,7 @@ fn is_next_or_memory(stepped: Stepped<'_>) -> bool {
 
 fn steps_or_memory(alloc: Global) -> bool {
     let bytes = catching([0x04, 0xAC]);
-    let stepped = went(alloc, &bytes, EMPTY, &[Value::Int], &go(alloc, None));
+    let stepped = went(alloc, &bytes, EMPTY, &[Value::Int], &go(alloc, None, None));
     is_next_or_memory(stepped)
 }
 

@@ -1,7 +1,7 @@
 //! Steps of instructions that name constants or use objects, in a method of six bytes of code.
-use crate::machine_steps::step_of;
+use crate::machine_steps::{go, step_of};
 use format_calls::making::OUT_OF_MEMORY;
-use machine::{Choice, Object, Outcome, RunType, Slot, State, Status, Value};
+use machine::{Object, Outcome, RunType, Slot, State, Status, Value};
 use names::{Base, OBJECT};
 use std::alloc::{AllocFailed, Global};
 use std::collections::BTreeMap;
@@ -91,15 +91,6 @@ fn state<'a>(alloc: Global, stack: &[Value]) -> Result<State<'a>, u8> {
     })
 }
 
-/// The choice to go on with this answer.
-fn answering<'a>(alloc: Global, answer: Option<Value>) -> Choice<'a> {
-    Choice::Go {
-        branch: None,
-        answer,
-        fresh: Vec::new(alloc),
-    }
-}
-
 /// The outcome of the first instruction of this code from this stack, by this answer.
 fn stepped<'a>(
     alloc: Global,
@@ -108,7 +99,7 @@ fn stepped<'a>(
     answer: Option<Value>,
 ) -> Result<Outcome<'a>, u8> {
     let start = state(alloc, stack)?;
-    step_of(alloc, bytes, &start, &answering(alloc, answer))
+    step_of(alloc, bytes, &start, &go(alloc, None, answer))
 }
 
 /// Whether the instruction is taken from the first stack to the second.
@@ -165,15 +156,21 @@ fn references_and_constants(rt: HostRuntime) {
     assert!(rt; faults(alloc, [0x4B, 0, 0, 0, 0], &[INT]));
 }
 
-/// `getstatic`, `putstatic`, `getfield`, `putfield`
+/// `getstatic`, `putstatic`
 #[test]
-fn fields(rt: HostRuntime) {
+fn fields_of_classes(rt: HostRuntime) {
     let alloc = rt.alloc();
     assert!(rt; takes(alloc, [0xB2, 0, 11, 0, 0], &[], Some(READY), &[READY]));
     assert!(rt; refuses(alloc, [0xB2, 0, 11, 0, 0], &[], Some(OTHER)));
     assert!(rt; faults(alloc, [0xB2, 0, 15, 0, 0], &[]));
     assert!(rt; takes(alloc, [0xB3, 0, 11, 0, 0], &[READY], None, &[]));
     assert!(rt; faults(alloc, [0xB3, 0, 11, 0, 0], &[OTHER]));
+}
+
+/// `getfield`, `putfield`
+#[test]
+fn fields_of_objects(rt: HostRuntime) {
+    let alloc = rt.alloc();
     assert!(rt; takes(alloc, [0xB4, 0, 11, 0, 0], &[READY], Some(NULL), &[NULL]));
     assert!(rt; refuses(alloc, [0xB4, 0, 11, 0, 0], &[NULL], Some(NULL)));
     assert!(rt; faults(alloc, [0xB4, 0, 11, 0, 0], &[MADE]));
@@ -182,45 +179,29 @@ fn fields(rt: HostRuntime) {
     assert!(rt; faults(alloc, [0xB5, 0, 11, 0, 0], &[OTHER, NULL]));
 }
 
-/// `invokestatic`, `invokevirtual`, `invokeinterface`, and `invokespecial` of a method that is no constructor
+/// `invokestatic`, `invokevirtual`
 #[test]
 fn calls(rt: HostRuntime) {
     let alloc = rt.alloc();
+    let (given, null) = ([READY, INT], Some(NULL));
     assert!(rt; takes(alloc, [0xB8, 0, 15, 0, 0], &[INT], Some(READY), &[READY]));
     assert!(rt; refuses(alloc, [0xB8, 0, 15, 0, 0], &[INT], Some(OTHER)));
     assert!(rt; faults(alloc, [0xB8, 0, 15, 0, 0], &[]));
-    assert!(rt;
-        takes(
-            alloc,
-            [0xB6, 0, 15, 0, 0],
-            &[READY, INT],
-            Some(NULL),
-            &[NULL]
-        )
-    );
-    assert!(rt; refuses(alloc, [0xB6, 0, 15, 0, 0], &[NULL, INT], Some(NULL)));
+    assert!(rt; takes(alloc, [0xB6, 0, 15, 0, 0], &given, null, &[NULL]));
+    assert!(rt; refuses(alloc, [0xB6, 0, 15, 0, 0], &[NULL, INT], null));
     assert!(rt; faults(alloc, [0xB6, 0, 15, 0, 0], &[OTHER, INT]));
-    assert!(rt;
-        takes(
-            alloc,
-            [0xB9, 0, 19, 2, 0],
-            &[READY, INT],
-            Some(NULL),
-            &[NULL]
-        )
-    );
-    assert!(rt; refuses(alloc, [0xB9, 0, 19, 2, 0], &[NULL, INT], Some(NULL)));
-    assert!(rt; faults(alloc, [0xB9, 0, 19, 1, 0], &[READY, INT]));
-    assert!(rt;
-        takes(
-            alloc,
-            [0xB7, 0, 15, 0, 0],
-            &[READY, INT],
-            Some(NULL),
-            &[NULL]
-        )
-    );
-    assert!(rt; refuses(alloc, [0xB7, 0, 15, 0, 0], &[READY, INT], None));
+}
+
+/// `invokeinterface`, and `invokespecial` of a method that is no constructor
+#[test]
+fn special_calls(rt: HostRuntime) {
+    let alloc = rt.alloc();
+    let (given, null) = ([READY, INT], Some(NULL));
+    assert!(rt; takes(alloc, [0xB9, 0, 19, 2, 0], &given, null, &[NULL]));
+    assert!(rt; refuses(alloc, [0xB9, 0, 19, 2, 0], &[NULL, INT], null));
+    assert!(rt; faults(alloc, [0xB9, 0, 19, 1, 0], &given));
+    assert!(rt; takes(alloc, [0xB7, 0, 15, 0, 0], &given, null, &[NULL]));
+    assert!(rt; refuses(alloc, [0xB7, 0, 15, 0, 0], &given, None));
     assert!(rt; faults(alloc, [0xB7, 0, 15, 0, 0], &[MADE, INT]));
 }
 
@@ -249,7 +230,7 @@ fn is_initialized(alloc: Global) -> bool {
     }
 }
 
-/// `aaload`, `aastore`, `iaload`, `arraylength`, `newarray`, `anewarray`, `multianewarray`
+/// `aaload`, `aastore`, `iaload`, `arraylength`
 #[test]
 fn arrays(rt: HostRuntime) {
     let alloc = rt.alloc();
@@ -269,11 +250,17 @@ fn arrays(rt: HostRuntime) {
     assert!(rt; faults(alloc, [0x2E, 0, 0, 0, 0], &[ARRAY, INT]));
     assert!(rt; takes(alloc, [0xBE, 0, 0, 0, 0], &[ARRAY], None, &[INT]));
     assert!(rt; refuses(alloc, [0xBE, 0, 0, 0, 0], &[NULL], None));
-    assert!(rt; takes(alloc, [0xBC, 10, 0, 0, 0], &[INT], Some(UNUSED), &[UNUSED]));
+}
+
+/// `newarray`, `anewarray`, `multianewarray`
+#[test]
+fn new_arrays(rt: HostRuntime) {
+    let (alloc, unused) = (rt.alloc(), Some(UNUSED));
+    assert!(rt; takes(alloc, [0xBC, 10, 0, 0, 0], &[INT], unused, &[UNUSED]));
     assert!(rt; refuses(alloc, [0xBC, 10, 0, 0, 0], &[INT], Some(ARRAY)));
-    assert!(rt; takes(alloc, [0xBD, 0, 1, 0, 0], &[INT], Some(UNUSED), &[UNUSED]));
+    assert!(rt; takes(alloc, [0xBD, 0, 1, 0, 0], &[INT], unused, &[UNUSED]));
     assert!(rt; faults(alloc, [0xC5, 0, 21, 2, 0], &[INT, INT]));
-    assert!(rt; takes(alloc, [0xC5, 0, 21, 1, 0], &[INT], Some(UNUSED), &[UNUSED]));
+    assert!(rt; takes(alloc, [0xC5, 0, 21, 1, 0], &[INT], unused, &[UNUSED]));
 }
 
 /// `checkcast`, `instanceof`

@@ -1,12 +1,12 @@
 //! Walks of methods that are verified, and of those that are not.
 use crate::machine_steps::machine_method;
-use crate::walks::{Stop, Walk, on, stop_of, walk_from};
+use crate::walks::{Stop, Walk, answered_first, on, stop_of, walk_from};
 use classfile::{ClassFile, Formed, decode, form_check};
 use format_calls::making::{K, OUT_OF_MEMORY};
 use hierarchy::{Rows, summary_of};
 use lower_calls::making::{hasher, object};
 use machine::{Choice, State, Value};
-use std::alloc::{AllocError, Global};
+use std::alloc::Global;
 use std::collections::BTreeMap;
 use std::test::*;
 use verify::{WalkFault, walk_verified, walks_are_runs};
@@ -47,7 +47,7 @@ fn law_is_called() {
 
 /// How a walk is asked for: by `walk_verified`, or by `walk` alone, which asks for no verdict.
 #[derive(Clone, Copy)]
-struct Asked {
+pub struct Asked {
     /// The offset of the state that it starts in, which is otherwise the one in which a method without arguments
     /// begins.
     from: u16,
@@ -57,7 +57,7 @@ struct Asked {
 }
 
 /// A walk of a method of a class that is as the hierarchy has it, from its beginning, where the method is verified.
-const RIGHT: Asked = Asked {
+pub const RIGHT: Asked = Asked {
     from: 0,
     listed: true,
     verified: true,
@@ -74,7 +74,7 @@ fn state_at<'a>(alloc: Global, at: u16) -> State<'a> {
 }
 
 /// The walk of the class's one method, where there are `java/lang/Object` and the class.
-fn walk_in<'a>(
+pub fn walk_in<'a>(
     alloc: Global,
     formed: &Formed<'_, 'a>,
     asked: Asked,
@@ -93,7 +93,14 @@ fn walk_in<'a>(
     }
     if !asked.verified {
         let method = machine_method(alloc, formed)?;
-        return walk_from(alloc, &method, &[], choices, &classes);
+        return walk_from(
+            alloc,
+            &method,
+            &[],
+            &BTreeMap::new(alloc),
+            choices,
+            &classes,
+        );
     }
     let start = state_at(alloc, asked.from);
     match walk_verified(alloc, formed, 0, &classes, &start, choices) {
@@ -163,23 +170,9 @@ fn walks_that_are_refused(rt: HostRuntime) {
     assert!(rt; WalkFault::OutOfMemory.number() == OUT_OF_MEMORY);
 }
 
-/// The choices of a `new` that makes its object at 0, and then three times to go on.
-fn making<'a>(alloc: Global) -> Result<Vec<Choice<'a>>, AllocError> {
-    let mut choices = Vec::new(alloc);
-    choices.push(Choice::Go {
-        branch: None,
-        answer: Some(Value::Ref(0)),
-        fresh: Vec::new(alloc),
-    })?;
-    for _ in 0..3 {
-        choices.push(on(alloc))?;
-    }
-    Ok(choices)
-}
-
-/// The walk of the class's method by these choices.
+/// The walk of the class's method by the choice of a `new` that makes its object at 0, and three to go on.
 fn makes(alloc: Global, bytes: &[u8], asked: Asked) -> Walk {
-    match making(alloc) {
+    match answered_first(alloc, Value::Ref(0)) {
         Ok(choices) => walk_of(alloc, bytes, asked, &choices),
         Err(_) => Err(OUT_OF_MEMORY),
     }

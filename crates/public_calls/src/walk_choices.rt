@@ -1,13 +1,10 @@
 //! Walks by what a call answers, a branch takes and a handler catches, and among many objects; and the arguments with
 //! which a method begins.
-use crate::machine_steps::machine_method;
-use crate::walks::on;
-use classfile::{Formed, decode, form_check};
+use crate::machine_steps::go;
+use crate::walks::{Stop, Walk, fresh, goes_by, on, raise, walk_alone, walk_of};
 use format_calls::making::OUT_OF_MEMORY;
-use hierarchy::{Classes, Rows, Summary};
-use lower_calls::making::{hasher, object, summary};
-use machine::{Choice, Last, Method, Object, RunType, Status, Value, initial, walk};
-use names::{Base, OBJECT, Primitive, THROWABLE};
+use machine::{Choice, Object, RunType, Status, Value};
+use names::{Base, Primitive, THROWABLE};
 use std::alloc::{AllocError, Global};
 use std::collections::BTreeMap;
 use std::test::*;
@@ -51,118 +48,7 @@ fn taking(class: u8) -> [u8; 100] {
     ]
 }
 
-/// Where a walk stops: at an offset, with the one item on the stack if there is one.
-#[derive(Clone, Copy, PartialEq, Eq)]
-enum Stop {
-    At(u16, Option<Value>),
-    Ended,
-    Fault,
-    NotAChoice,
-}
-
-/// How many choices were taken, and where the walk stops; or the number of a refusal.
-type Walk = Result<(usize, Stop), u8>;
-
-fn only(stack: &[Value]) -> Option<Value> {
-    match stack {
-        [value] => Some(*value),
-        _ => None,
-    }
-}
-
-fn stop_of(last: &Last<'_>) -> Stop {
-    match last {
-        Last::More(state) => Stop::At(state.at, only(&state.stack)),
-        Last::Ended => Stop::Ended,
-        Last::Fault => Stop::Fault,
-        Last::NotAChoice => Stop::NotAChoice,
-    }
-}
-
-/// The summaries of `java/lang/Object`, `java/lang/Throwable`, the classes K and A, and the interface I.
-fn known<'a>(alloc: Global) -> [Summary<'a>; 5] {
-    [
-        object(alloc),
-        summary(alloc, THROWABLE, Some(OBJECT), false),
-        summary(alloc, b"K", Some(OBJECT), false),
-        summary(alloc, b"A", Some(OBJECT), false),
-        summary(alloc, b"I", Some(OBJECT), true),
-    ]
-}
-
-/// The walk of the method by these choices, from the state in which it begins with these arguments and objects.
-fn walk_from<'a, C: Classes>(
-    alloc: Global,
-    method: &Method<'_, 'a>,
-    args: &[Value],
-    heap: &BTreeMap<u32, Object<'a>>,
-    choices: &[Choice<'a>],
-    classes: &C,
-) -> Walk {
-    let start = match initial(alloc, method, args, heap, classes) {
-        Ok(start) => start,
-        Err(fault) => return Err(fault.number()),
-    };
-    match walk(alloc, method, classes, &start, choices) {
-        Ok(walked) => Ok((walked.taken, stop_of(&walked.last))),
-        Err(fault) => Err(fault.number()),
-    }
-}
-
-fn walk_in<'a>(
-    alloc: Global,
-    formed: &Formed<'_, 'a>,
-    args: &[Value],
-    heap: &BTreeMap<u32, Object<'a>>,
-    choices: &[Choice<'a>],
-) -> Walk {
-    let method = machine_method(alloc, formed)?;
-    let list = known(alloc);
-    match Rows::new(alloc, &list, hasher()) {
-        Ok(classes) => walk_from(alloc, &method, args, heap, choices, &classes),
-        Err(fault) => Err(fault.number()),
-    }
-}
-
-/// The walk of the one method of the class that these bytes are.
-fn walk_of<'a>(
-    alloc: Global,
-    bytes: &'a [u8],
-    args: &[Value],
-    heap: &BTreeMap<u32, Object<'a>>,
-    choices: &[Choice<'a>],
-) -> Walk {
-    let class = match decode(alloc, bytes) {
-        Ok(class) => class,
-        Err(fault) => return Err(fault.number()),
-    };
-    match form_check(alloc, &class) {
-        Ok(formed) => walk_in(alloc, &formed, args, heap, choices),
-        Err(fault) => Err(fault.number()),
-    }
-}
-
-/// A new object of the class at 0, if one is named.
-fn fresh<'a>(
-    alloc: Global,
-    class: Option<&'a [u8]>,
-) -> Result<Vec<(u32, RunType<'a>)>, AllocError> {
-    let mut fresh = Vec::new(alloc);
-    if let Some(name) = class {
-        fresh.push((0, RunType::Class(name)))?;
-    }
-    Ok(fresh)
-}
-
-/// The walk of the class's method by one choice, where the method has no arguments and there are no objects.
-fn goes<'a>(alloc: Global, bytes: &'a [u8], choice: Result<Choice<'a>, AllocError>) -> Walk {
-    match choice {
-        Ok(choice) => walk_of(alloc, bytes, &[], &BTreeMap::new(alloc), &[choice]),
-        Err(_) => Err(OUT_OF_MEMORY),
-    }
-}
-
-/// The choice to go on with this answer, after an object of the class came to be at 0.
+/// The choice to go on with this answer, after an object of the class came to be at 7.
 fn answer<'a>(
     alloc: Global,
     value: Value,
@@ -175,54 +61,35 @@ fn answer<'a>(
     })
 }
 
-/// The choice to raise a new `java/lang/Throwable`, caught by the entry of this place.
-fn raise<'a>(alloc: Global, entry: Option<u16>) -> Result<Choice<'a>, AllocError> {
-    Ok(Choice::Raise {
-        address: 0,
-        fresh: fresh(alloc, Some(THROWABLE))?,
-        entry,
-    })
-}
-
 /// A call answers null and each object of its type, and may raise.
 #[test]
 fn walks_by_what_a_call_answers(rt: HostRuntime) {
     let alloc = rt.alloc();
-    let null = goes(alloc, &CALLING, answer(alloc, Value::Null, None));
+    let null = goes_by(alloc, &CALLING, answer(alloc, Value::Null, None));
     assert!(rt; null == Ok((1, Stop::At(3, Some(Value::Null)))));
-    let own = goes(alloc, &CALLING, answer(alloc, Value::Ref(0), Some(b"A")));
-    assert!(rt; own == Ok((1, Stop::At(3, Some(Value::Ref(0))))));
-    let other = goes(
+    let own = goes_by(alloc, &CALLING, answer(alloc, Value::Ref(7), Some(b"A")));
+    assert!(rt; own == Ok((1, Stop::At(3, Some(Value::Ref(7))))));
+    let other = goes_by(
         alloc,
         &CALLING,
-        answer(alloc, Value::Ref(0), Some(THROWABLE)),
+        answer(alloc, Value::Ref(7), Some(THROWABLE)),
     );
     assert!(rt; other == Ok((0, Stop::NotAChoice)));
-    assert!(rt; goes(alloc, &CALLING, raise(alloc, None)) == Ok((1, Stop::Ended)));
+    let raised = goes_by(alloc, &CALLING, raise(alloc, Some(THROWABLE), None));
+    assert!(rt; raised == Ok((1, Stop::Ended)));
 }
 
 /// At the handler the raised object is alone on the stack.
 #[test]
 fn walk_to_a_handler(rt: HostRuntime) {
     let alloc = rt.alloc();
-    let caught = goes(alloc, &HANDLING, raise(alloc, Some(0)));
-    assert!(rt; caught == Ok((1, Stop::At(2, Some(Value::Ref(0))))));
+    let caught = goes_by(alloc, &HANDLING, raise(alloc, Some(THROWABLE), Some(0)));
+    assert!(rt; caught == Ok((1, Stop::At(2, Some(Value::Ref(7))))));
 }
 
 /// The walk over `iconst_0` and by this way of `ifeq`.
 fn branches(alloc: Global, to: u16) -> Walk {
-    let way = Choice::Go {
-        branch: Some(to),
-        answer: None,
-        fresh: Vec::new(alloc),
-    };
-    walk_of(
-        alloc,
-        &BRANCHING,
-        &[],
-        &BTreeMap::new(alloc),
-        &[on(alloc), way],
-    )
+    walk_alone(alloc, &BRANCHING, &[on(alloc), go(alloc, Some(to), None)])
 }
 
 /// A branch goes both ways, and nowhere else.
@@ -287,11 +154,7 @@ fn rounds<'a>(alloc: Global, count: usize) -> Result<Vec<Choice<'a>>, AllocError
     let mut choices = Vec::new(alloc);
     for _ in 0..count {
         choices.push(on(alloc))?;
-        choices.push(Choice::Go {
-            branch: Some(0),
-            answer: None,
-            fresh: Vec::new(alloc),
-        })?;
+        choices.push(go(alloc, Some(0), None))?;
     }
     Ok(choices)
 }

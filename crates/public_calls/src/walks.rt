@@ -1,10 +1,12 @@
 //! Walks of the machine, from states in which a method begins.
-use crate::machine_steps::machine_method;
-use classfile::{ClassFile, Formed, decode, form_check};
+use crate::machine_steps::{go, machine_method};
+use classfile::{Formed, decode, form_check};
 use format_calls::making::{CATCHING, K, OUT_OF_MEMORY, catching};
-use hierarchy::{Classes, Rows};
+use hierarchy::{Classes, Rows, Summary};
 use lower_calls::making::{hasher, object, summary};
-use machine::{Choice, Last, Method, RunType, StepFault, Value, Walked, initial, is_initial, walk};
+use machine::{
+    Choice, Last, Method, Object, RunType, StepFault, Value, Walked, initial, is_initial, walk,
+};
 use names::{OBJECT, THROWABLE};
 use std::alloc::{AllocError, Global};
 use std::collections::BTreeMap;
@@ -13,8 +15,8 @@ use std::test::*;
 /// Where a walk stops.
 #[derive(Clone, Copy, PartialEq, Eq)]
 pub enum Stop {
-    /// At this offset, all choices being used up.
-    At(u16),
+    /// At this offset, all choices being used up, with the one item on the stack if there is one.
+    At(u16, Option<Value>),
     Ended,
     Fault,
     NotAChoice,
@@ -23,9 +25,16 @@ pub enum Stop {
 /// How many choices were taken, and where the walk stops; or the number of a refusal.
 pub type Walk = Result<(usize, Stop), u8>;
 
+fn only(stack: &[Value]) -> Option<Value> {
+    match stack {
+        [value] => Some(*value),
+        _ => None,
+    }
+}
+
 pub fn stop_of(last: &Last<'_>) -> Stop {
     match last {
-        Last::More(state) => Stop::At(state.at),
+        Last::More(state) => Stop::At(state.at, only(&state.stack)),
         Last::Ended => Stop::Ended,
         Last::Fault => Stop::Fault,
         Last::NotAChoice => Stop::NotAChoice,
@@ -39,88 +48,118 @@ fn told(walked: Result<Walked<'_>, StepFault>) -> Walk {
     }
 }
 
-/// The walk of a method by these choices from the state in which it begins with these arguments, with no object.
+/// The walk of a method by these choices, from the state in which it begins with these arguments and objects.
 pub fn walk_from<'a, C: Classes>(
     alloc: Global,
     method: &Method<'_, 'a>,
     args: &[Value],
+    heap: &BTreeMap<u32, Object<'a>>,
     choices: &[Choice<'a>],
     classes: &C,
 ) -> Walk {
-    match initial(alloc, method, args, &BTreeMap::new(alloc), classes) {
+    match initial(alloc, method, args, heap, classes) {
         Ok(start) => told(walk(alloc, method, classes, &start, choices)),
         Err(fault) => Err(fault.number()),
     }
 }
 
-/// The walk of the one method of a class, where there are `java/lang/Object`, `java/lang/Throwable` and the class K.
+/// The summaries of `java/lang/Object`, `java/lang/Throwable`, the classes K and A, and the interface I.
+fn known<'a>(alloc: Global) -> [Summary<'a>; 5] {
+    [
+        object(alloc),
+        summary(alloc, THROWABLE, Some(OBJECT), false),
+        summary(alloc, b"K", Some(OBJECT), false),
+        summary(alloc, b"A", Some(OBJECT), false),
+        summary(alloc, b"I", Some(OBJECT), true),
+    ]
+}
+
+/// The walk of the one method of a class, where there are these classes.
 fn walk_in<'a>(
     alloc: Global,
     formed: &Formed<'_, 'a>,
     args: &[Value],
+    heap: &BTreeMap<u32, Object<'a>>,
     choices: &[Choice<'a>],
 ) -> Walk {
-    let list = [
-        object(alloc),
-        summary(alloc, THROWABLE, Some(OBJECT), false),
-        summary(alloc, b"K", Some(OBJECT), false),
-    ];
     let method = machine_method(alloc, formed)?;
+    let list = known(alloc);
     match Rows::new(alloc, &list, hasher()) {
-        Ok(classes) => walk_from(alloc, &method, args, choices, &classes),
-        Err(fault) => Err(fault.number()),
-    }
-}
-
-fn walk_of_class<'a>(
-    alloc: Global,
-    class: &ClassFile<'a>,
-    args: &[Value],
-    choices: &[Choice<'a>],
-) -> Walk {
-    match form_check(alloc, class) {
-        Ok(formed) => walk_in(alloc, &formed, args, choices),
+        Ok(classes) => walk_from(alloc, &method, args, heap, choices, &classes),
         Err(fault) => Err(fault.number()),
     }
 }
 
 /// The walk of the one method of the class that these bytes are.
-fn walk_of<'a>(alloc: Global, bytes: &'a [u8], args: &[Value], choices: &[Choice<'a>]) -> Walk {
-    match decode(alloc, bytes) {
-        Ok(class) => walk_of_class(alloc, &class, args, choices),
+pub fn walk_of<'a>(
+    alloc: Global,
+    bytes: &'a [u8],
+    args: &[Value],
+    heap: &BTreeMap<u32, Object<'a>>,
+    choices: &[Choice<'a>],
+) -> Walk {
+    let class = match decode(alloc, bytes) {
+        Ok(class) => class,
+        Err(fault) => return Err(fault.number()),
+    };
+    match form_check(alloc, &class) {
+        Ok(formed) => walk_in(alloc, &formed, args, heap, choices),
         Err(fault) => Err(fault.number()),
+    }
+}
+
+/// The walk of a method that takes no arguments, where there are no objects.
+pub fn walk_alone<'a>(alloc: Global, bytes: &'a [u8], choices: &[Choice<'a>]) -> Walk {
+    walk_of(alloc, bytes, &[], &BTreeMap::new(alloc), choices)
+}
+
+/// That walk by one choice.
+pub fn goes_by<'a>(alloc: Global, bytes: &'a [u8], choice: Result<Choice<'a>, AllocError>) -> Walk {
+    match choice {
+        Ok(choice) => walk_alone(alloc, bytes, &[choice]),
+        Err(_) => Err(OUT_OF_MEMORY),
     }
 }
 
 /// The choice to go on, where there is no branch and no answer, with nothing new.
 pub fn on<'a>(alloc: Global) -> Choice<'a> {
-    Choice::Go {
-        branch: None,
-        answer: None,
-        fresh: Vec::new(alloc),
-    }
+    go(alloc, None, None)
 }
 
-/// The choice to raise what is at 7, after a `java/lang/Throwable` came to be there if there is one, caught by the
-/// entry of this place.
-fn raise<'a>(alloc: Global, is_there: bool, entry: Option<u16>) -> Result<Choice<'a>, AllocError> {
-    let mut fresh = Vec::new(alloc);
-    if is_there {
-        fresh.push((7, RunType::Class(THROWABLE)))?;
+/// The choice to go on with this answer, and then three to go on.
+pub fn answered_first<'a>(alloc: Global, answer: Value) -> Result<Vec<Choice<'a>>, AllocError> {
+    let mut choices = Vec::new(alloc);
+    choices.push(go(alloc, None, Some(answer)))?;
+    for _ in 0..3 {
+        choices.push(on(alloc))?;
     }
+    Ok(choices)
+}
+
+/// A new object of the class at 7, if one is named.
+pub fn fresh<'a>(
+    alloc: Global,
+    class: Option<&'a [u8]>,
+) -> Result<Vec<(u32, RunType<'a>)>, AllocError> {
+    let mut fresh = Vec::new(alloc);
+    if let Some(name) = class {
+        fresh.push((7, RunType::Class(name)))?;
+    }
+    Ok(fresh)
+}
+
+/// The choice to raise what is at 7, after an object of the class came to be there if one is named, caught by the entry
+/// of this place.
+pub fn raise<'a>(
+    alloc: Global,
+    class: Option<&'a [u8]>,
+    entry: Option<u16>,
+) -> Result<Choice<'a>, AllocError> {
     Ok(Choice::Raise {
         address: 7,
-        fresh,
+        fresh: fresh(alloc, class)?,
         entry,
     })
-}
-
-/// Whether the walk of the class's method by a raise, of what is there or is not and caught so, is this one.
-fn raises(alloc: Global, bytes: &[u8], raised: (bool, Option<u16>), wanted: (usize, Stop)) -> bool {
-    match raise(alloc, raised.0, raised.1) {
-        Ok(choice) => walk_of(alloc, bytes, &[], &[choice]) == Ok(wanted),
-        Err(_) => false,
-    }
 }
 
 /// So many choices to go on.
@@ -132,10 +171,10 @@ fn choices<'a>(alloc: Global, count: usize) -> Result<Vec<Choice<'a>>, AllocErro
     Ok(choices)
 }
 
-/// The walk of the class's method by so many choices to go on, without arguments.
+/// The walk of the class's method by so many choices to go on.
 fn goes(alloc: Global, bytes: &[u8], count: usize) -> Walk {
     match choices(alloc, count) {
-        Ok(choices) => walk_of(alloc, bytes, &[], &choices),
+        Ok(choices) => walk_alone(alloc, bytes, &choices),
         Err(_) => Err(OUT_OF_MEMORY),
     }
 }
@@ -144,11 +183,11 @@ fn goes(alloc: Global, bytes: &[u8], count: usize) -> Walk {
 #[test]
 fn walks_that_end(rt: HostRuntime) {
     let alloc = rt.alloc();
-    assert!(rt; goes(alloc, &K, 0) == Ok((0, Stop::At(0))));
+    assert!(rt; goes(alloc, &K, 0) == Ok((0, Stop::At(0, None))));
     assert!(rt; goes(alloc, &K, 1) == Ok((1, Stop::Ended)));
     assert!(rt; goes(alloc, &K, 2) == Ok((1, Stop::Ended)));
     let two = catching([0x04, 0xB1]);
-    assert!(rt; goes(alloc, &two, 1) == Ok((1, Stop::At(1))));
+    assert!(rt; goes(alloc, &two, 1) == Ok((1, Stop::At(1, Some(Value::Int)))));
     assert!(rt; goes(alloc, &two, 2) == Ok((2, Stop::Ended)));
 }
 
@@ -158,21 +197,30 @@ fn walks_that_stop(rt: HostRuntime) {
     let alloc = rt.alloc();
     assert!(rt; goes(alloc, &catching([0x57, 0xB1]), 1) == Ok((0, Stop::Fault)));
     assert!(rt; goes(alloc, &catching([0x00, 0x57]), 2) == Ok((1, Stop::Fault)));
-    assert!(rt; raises(alloc, &K, (false, None), (0, Stop::NotAChoice)));
+    assert!(rt; goes_by(alloc, &K, raise(alloc, None, None)) == Ok((0, Stop::NotAChoice)));
 }
 
 /// An object that is raised is caught, and the walk goes on at the handler.
 #[test]
 fn walks_that_catch(rt: HostRuntime) {
     let alloc = rt.alloc();
-    assert!(rt; raises(alloc, &CATCHING, (true, Some(0)), (1, Stop::At(1))));
-    assert!(rt; raises(alloc, &CATCHING, (true, None), (1, Stop::Ended)));
+    let caught = goes_by(alloc, &CATCHING, raise(alloc, Some(THROWABLE), Some(0)));
+    assert!(rt; caught == Ok((1, Stop::At(1, Some(Value::Ref(7))))));
+    let uncaught = goes_by(alloc, &CATCHING, raise(alloc, Some(THROWABLE), None));
+    assert!(rt; uncaught == Ok((1, Stop::Ended)));
 }
 
 /// A static method without parameters begins with no argument.
 #[test]
 fn beginnings_that_are_none(rt: HostRuntime) {
-    assert!(rt; walk_of(rt.alloc(), &K, &[Value::Null], &[]) == Err(55));
+    let begun = walk_of(
+        rt.alloc(),
+        &K,
+        &[Value::Null],
+        &BTreeMap::new(rt.alloc()),
+        &[],
+    );
+    assert!(rt; begun == Err(55));
 }
 
 /// Whether the one method of the class begins in the state that `initial` answers, and not one step further.

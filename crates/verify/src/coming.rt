@@ -59,7 +59,7 @@ pub struct FramesAt<'a> {
     pub coming: Option<Frame<'a>>,
     /// The frame that the stack map declares there, if it declares one.
     pub declared: Option<Frame<'a>>,
-    /// What is wrong, where the reason is about a comparison of types or an entry of a table, and it is found.
+    /// The comparison of types or the entry of a table that the reason is about, where it is found.
     pub detail: Option<Detail<'a>>,
 }
 

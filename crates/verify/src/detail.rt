@@ -1,5 +1,5 @@
-//! What is wrong where a method is refused, by the reason: the comparison of types that fails, or that asks for a class
-//! that is missing, or an entry of the exception table.
+//! The detail at fault where a method is refused, by the reason: the comparison of types that fails, or that asks for a
+//! class that is missing, or an entry of the exception table.
 ghost use Rattle.std.specs.Prelude.{◌≡◌, ◌⊎◌, ◌≢◌, Some, None, length, option_map, MatchResult, IfOk, IfSome};
 ghost use Rattle.insn.specs.Views.{act_view};
 ghost use Rattle.frames.specs.Conditions.{Conditions, least};
@@ -30,8 +30,8 @@ use rules::{
 };
 use std::alloc::AllocError;
 
-/// What is wrong where a method is refused: the comparison that fails, or that asks for a class that is missing (77),
-/// or an entry of the exception table or of the stack map.
+/// The detail at fault where a method is refused: the comparison that fails, or that asks for a class that is missing
+/// (77), or an entry of the exception table or of the stack map.
 #[derive(Clone, Copy, Debug)]
 pub enum Detail<'a> {
     /// The frame that comes to the instruction is compared with the one that is declared there: 69, 77.
@@ -343,8 +343,8 @@ fn unknown_if<'a, C: Classes>(
     }
 }
 
-/// What is wrong at the instruction at which a method is refused, with the frame that comes there, the one that is
-/// declared there, and the one before the instruction. None where the reason is about nothing of these.
+/// The detail at fault at the instruction at which a method is refused, with the frame that comes there, the one that
+/// is declared there, and the one before the instruction. None where the reason is about nothing of these.
 pub fn detail_at<'a, C: Classes>(
     body: &Body<'_, 'a, C>,
     refused: RefusedAt<'a>,

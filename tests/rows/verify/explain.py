@@ -2,8 +2,8 @@
 from dataclasses import replace
 
 from rows.verify.reasons import faults, reasons
-from tools.assembler import class_info, code_of, integer, long, name_and_type, reference, u1, u2, u4, utf8
-from tools.class_k import K, OBJECT_CLASS, code_f, method_f, with_constants
+from tools.assembler import attribute, class_info, code_of, integer, long, member, name_and_type, reference, u1, u2, u4, utf8
+from tools.class_k import K, OBJECT_CLASS, code_f, method_f, with_constant, with_constants
 
 # For each method: its lines, with `|` between them. Its frames are built from its code in docs/REFUSALS.md: the
 # parameters of its descriptor are in the locals, and the instructions in front have put their values on the stack. No
@@ -74,8 +74,13 @@ SENTENCES = """
 53 NotANew: an entry names an uninitialized object by the offset of no new
 81 FinalSuper: the superclass of the class is final
 """
-# The part of K where a rule of well-formed classes is broken, by the number of the rule.
+# The part of K in which the bytes of its example are at fault or break a rule, by the number of the refusal.
 PARTS = {
+    2: ["constant 5 Utf8"],
+    3: ["constant 2 Utf8"],
+    7: ["constant 1"],
+    12: ["method 0", "attribute 0"],
+    14: ["method 0", "attribute 0"],
     20: ["constant 1 Class #9"],
     21: ["constant 1 Class #1"],
     22: ["constant 1 Class #2 ["],
@@ -159,6 +164,59 @@ def constants():
         yield f"no constant at {index}", [data, OBJECT_CLASS], text([*OF_CONSTANT, f"0 new #{index}", *EMPTY])
 
 
+def faulty():
+    """Files whose bytes are at fault: what each is, its bytes, the line, and those of the part in which the fault lies."""
+    data, empty = K.data(), attribute(5, b"")
+    for end, at, part in (
+        (9, 8, []),
+        (10, 10, ["constant 1"]),
+        (12, 11, ["constant 1 Class"]),
+        (39, 39, ["constant 5"]),
+        (40, 40, ["constant 5 Utf8"]),
+        (48, 46, ["constant 6 Utf8"]),
+        (57, 56, []),
+        (63, 62, []),
+        (65, 64, []),
+        (67, 66, []),
+        (68, 68, ["method 0"]),
+        (75, 74, ["method 0"]),
+        (76, 76, ["method 0", "attribute 0"]),
+        (90, 82, ["method 0", "attribute 0"]),
+        (95, 95, []),
+    ):
+        yield f"K cut behind {end} bytes", data[:end], f"refused 2 at {at}", part
+    # the second index of a Long has no bytes
+    for pool, line, part in (
+        ("0002 05", "refused 7 at 10 tag 5", ["constant 1 Long"]),
+        ("0002 06", "refused 7 at 10 tag 6", ["constant 1 Double"]),
+        ("0004 05 0000000000000001 02", "refused 7 at 19 tag 2", ["constant 3"]),
+        ("0004 05 0000000000000001 0100", "refused 2 at 20", ["constant 3 Utf8"]),
+        ("0003 0f0a", "refused 2 at 12", ["constant 1 MethodHandle"]),
+    ):
+        yield f"a pool {pool}", data[:8] + bytes.fromhex(pool), line, part
+    yield "a handle of kind 10", data[:8] + bytes.fromhex("0002 0f0a0001") + data[56:], "refused 7 at 11 tag 10", ["constant 1 MethodHandle"]
+    yield "a text of C1 behind K", with_constants(utf8(b"K\xc1")).data(), "refused 3 at 60", ["constant 8 Utf8"]
+    # a text before a cut is not the part that is cut
+    yield "a text of C0 and a cut", with_constant(2, utf8(b"\xc0")).data()[:75], "refused 2 at 74", ["method 0"]
+    fields = replace(K, fields=[member(0, 5, 6, empty), member(0, 5, 6, empty, empty)]).data()
+    for end, at, part in (
+        (79, 76, ["field 0", "attribute 0"]),
+        (81, 80, ["field 1"]),
+        (95, 94, ["field 1", "attribute 1"]),
+        (101, 100, []),
+        (103, 102, ["method 0"]),
+    ):
+        yield f"fields cut behind {end} bytes", fields[:end], f"refused 2 at {at}", part
+    attributes = replace(K, attributes=[empty, attribute(5, b"xyz")]).data()
+    yield "an attribute of the class that is cut", attributes[:-1], "refused 2 at 109", ["attribute 1"]
+    yield "attributes of the class and a byte more", attributes + b"\0", "refused 13 at 112", []
+    sources = with_constants(utf8("SourceFile"))
+    yield "a SourceFile of three bytes", replace(sources, attributes=[empty, attribute(8, bytes(3))]).data(), "refused 12 at 116", ["attribute 1"]
+    numbered = with_constants(utf8("LineNumberTable"))
+    nested = replace(numbered, methods=[method_f(empty, code_f(nested=[empty, attribute(8, bytes(3))]))]).data()
+    yield "a LineNumberTable of three bytes in a Code", nested, f"refused 12 at {nested.index(attribute(8, bytes(3)))}", ["method 0", "attribute 1"]
+
+
 def explained():
     """Each row: what it is, the files, and the whole text that `explain` prints."""
     for (what, files, _), lines in zip(reasons(), METHODS.strip().splitlines(), strict=True):
@@ -173,5 +231,9 @@ def explained():
             yield what, files, of_code(number, line)
         else:
             yield what, files, text([line, OF_NUMBER[number]])
+    for what, data, line, part in faulty():
+        lines = [line, OF_NUMBER[int(line.split()[1])], *part]
+        yield what, [data, OBJECT_CLASS], text([f"class {lines[0]}", *lines[1:]])
+        yield f"{what}, known", [K.data(), OBJECT_CLASS, data], text([f"known 2 {lines[0]}", *lines[1:]])
     yield from constants()
     yield "a method that is verified", [K.data(), OBJECT_CLASS], ""

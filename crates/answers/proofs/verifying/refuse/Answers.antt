@@ -1,9 +1,9 @@
-use Rattle.std.proofs.Common.{◌≡◌, ◌∙◌, inl, inr, map, Err, ap, subst}
+use Rattle.std.proofs.Common.{◌≡◌, ◌∙◌, inl, inr, map, Err, Some, slice_get, sym, ap, subst}
 use Rattle.verify.specs.declared.among.AmongFault.TheVariants.{Refused, KnownRefused, NoHierarchy, FinalSuper}
 use Rattle.verify.specs.Among.{ReportsAmong}
-use Rattle.answers.specs.Files.{read_view, refusal_status}
+use Rattle.answers.specs.Files.{file_view, read_view, reads_of, refusal_status}
 use Rattle.answers.specs.Verdicts.{class_object, class_refusal, known_object, known_refusal, hierarchy_told, final_super_told, IsTold, VerifySays}
-use Rattle.answers.proofs.Refused.{read_there}
+use Rattle.answers.proofs.Refused.{file_there}
 use Rattle.answers.proofs.Tellings.{answered_more}
 use Rattle.answers.proofs.verifying.refuse.Goals as goal
 
@@ -11,10 +11,10 @@ pub returns-in-Refused : goal.returns-in-Refused
 returns-in-Refused g c = λ profile told.
     let held = g.W.Write.contents in
     let read = read_view c.args.read.now in
-    let known = map read_view c.args.known.now in
+    let known = reads_of (map file_view c.args.known.now) in
     let fault = c.in-Refused.fault in
     let why : ReportsAmong profile read known (Err (Refused fault)) = subst (λ e. ReportsAmong profile read known (Err e)) c.in-Refused.is told in
-    answered_more (λ t s. IsTold c.args.manner read fault (λ form. class_refusal form fault) (class_object fault) t × (s ≡ refusal_status fault)) (VerifySays c.args.manner profile read known)
+    answered_more (λ t s. IsTold c.args.manner (file_view c.args.read.now) fault (λ form. class_refusal form fault) (class_object fault) t × (s ≡ refusal_status fault)) (VerifySays c.args.manner profile (file_view c.args.read.now) (map file_view c.args.known.now))
     (λ text status p. inl (fault, why, p.0, p.1))
     (held c.args.out.now) (held c.refuse_class.new.out) c.refuse_class.result c.refuse_class.ensures
 
@@ -22,14 +22,15 @@ pub returns-in-KnownRefused : goal.returns-in-KnownRefused
 returns-in-KnownRefused g c = λ profile told.
     let held = g.W.Write.contents in
     let read = read_view c.args.read.now in
-    let known = map read_view c.args.known.now in
+    let known = reads_of (map file_view c.args.known.now) in
     let number = c.in-KnownRefused.number in
     let fault = c.in-KnownRefused.fault in
     let why : ReportsAmong profile read known (Err (KnownRefused number fault)) = subst (λ e. ReportsAmong profile read known (Err e)) c.in-KnownRefused.is told in
     let (class, i, formed, counted, first) = why in
     let here = c.index-known-number.result in
-    let same : read_view here ≡ first.read = ap read_view c.index-known-number.is ∙ read_there read_view c.args.known.now i number here first.read counted first.here in
-    answered_more (λ t s. IsTold c.args.manner (read_view here) fault (λ form. known_refusal form number fault) (known_object number fault) t × (s ≡ refusal_status fault)) (VerifySays c.args.manner profile read known)
+    let there : slice_get (map file_view c.args.known.now) i ≡ Some (file_view here) =
+    file_there file_view c.args.known.now i number here first.read counted first.here ∙ ap (λ f. Some (file_view f)) (sym c.index-known-number.is) in
+    answered_more (λ t s. IsTold c.args.manner (file_view here) fault (λ form. known_refusal form number fault) (known_object number fault) t × (s ≡ refusal_status fault)) (VerifySays c.args.manner profile (file_view c.args.read.now) (map file_view c.args.known.now))
     (λ text status p. inr (
       class,
       formed,
@@ -37,7 +38,9 @@ returns-in-KnownRefused g c = λ profile told.
         i,
         fault,
         first,
-        subst (λ n. IsTold c.args.manner first.read fault (λ form. known_refusal form n fault) (known_object n fault) text) counted (subst (λ r. IsTold c.args.manner r fault (λ form. known_refusal form number fault) (known_object number fault) text) same p.0),
+        file_view here,
+        there,
+        subst (λ n. IsTold c.args.manner (file_view here) fault (λ form. known_refusal form n fault) (known_object n fault) text) counted p.0,
         p.1,
       ),
     ))
@@ -47,11 +50,11 @@ pub returns-in-NoHierarchy : goal.returns-in-NoHierarchy
 returns-in-NoHierarchy g c = λ profile told.
     let held = g.W.Write.contents in
     let read = read_view c.args.read.now in
-    let known = map read_view c.args.known.now in
+    let known = reads_of (map file_view c.args.known.now) in
     let fault = c.in-NoHierarchy.fault in
     let why : ReportsAmong profile read known (Err (NoHierarchy fault)) = subst (λ e. ReportsAmong profile read known (Err e)) c.in-NoHierarchy.is told in
     let (class, cs, formed, all, other, is) = why in
-    answered_more (λ t s. (t ≡ hierarchy_told c.args.manner fault) × (s ≡ 1)) (VerifySays c.args.manner profile read known)
+    answered_more (λ t s. (t ≡ hierarchy_told c.args.manner fault) × (s ≡ 1)) (VerifySays c.args.manner profile (file_view c.args.read.now) (map file_view c.args.known.now))
     (λ text status p. inr (class, formed, inr (cs, all, inl (fault, other, is, p.0, p.1))))
     (held c.args.out.now) (held c.tell.new.out) c.tell.result c.tell.ensures
 
@@ -59,9 +62,9 @@ pub returns-in-FinalSuper : goal.returns-in-FinalSuper
 returns-in-FinalSuper g c = λ profile told.
     let held = g.W.Write.contents in
     let read = read_view c.args.read.now in
-    let known = map read_view c.args.known.now in
+    let known = reads_of (map file_view c.args.known.now) in
     let why : ReportsAmong profile read known (Err FinalSuper) = subst (λ e. ReportsAmong profile read known (Err e)) c.in-FinalSuper.is told in
     let (class, cs, formed, all, hierarchy, final) = why in
-    answered_more (λ t s. (t ≡ final_super_told c.args.manner) × (s ≡ 1)) (VerifySays c.args.manner profile read known)
+    answered_more (λ t s. (t ≡ final_super_told c.args.manner) × (s ≡ 1)) (VerifySays c.args.manner profile (file_view c.args.read.now) (map file_view c.args.known.now))
     (λ text status p. inr (class, formed, inr (cs, all, inr (hierarchy, inl (final, p.0, p.1)))))
     (held c.args.out.now) (held c.tell-in-FinalSuper.new.out) c.tell-in-FinalSuper.result c.tell-in-FinalSuper.ensures

@@ -1,6 +1,6 @@
 use Rattle.std.proofs.Common.{◌≡◌, ◌∙◌, ap, sym, subst}
 use Rattle.answers.specs.Answers.{Answered}
-use Rattle.answers.specs.Files.{read_view, refusal_status}
+use Rattle.answers.specs.Files.{file_view, refusal_status}
 use Rattle.answers.specs.Verdicts.{class_object, class_refusal, IsTold, IsExplained}
 use Rattle.answers.specs.declared.command.Form.{Form}
 use Rattle.answers.specs.declared.manner.Manner.{Manner}
@@ -11,13 +11,13 @@ pub returns-in-Plain : goal.returns-in-Plain
 returns-in-Plain g c =
     let held = g.W.Write.contents in
     let fault = c.args.fault in
-    subst (λ (m : Manner). Answered (λ t s. IsTold m (read_view c.args.read.now) fault (λ form. class_refusal form c.args.fault) (class_object c.args.fault) t × (s ≡ refusal_status fault)) (held c.args.out.now) (held c.explain_file.new.out) c.explain_file.result)
+    subst (λ (m : Manner). Answered (λ t s. IsTold m (file_view c.args.read.now) fault (λ form. class_refusal form c.args.fault) (class_object c.args.fault) t × (s ≡ refusal_status fault)) (held c.args.out.now) (held c.explain_file.new.out) c.explain_file.result)
     (sym (c.in-Explained.is ∙ ap Explained c.in-Plain.is))
-    (subst (λ (form : Form). Answered (λ t s. IsExplained (read_view c.args.read.now) fault (class_refusal form fault) t × (s ≡ refusal_status fault)) (held c.args.out.now) (held c.explain_file.new.out) c.explain_file.result) c.in-Plain.is c.explain_file.ensures)
+    (subst (λ (form : Form). Answered (λ t s. IsExplained (file_view c.args.read.now) fault (class_refusal form fault) t × (s ≡ refusal_status fault)) (held c.args.out.now) (held c.explain_file.new.out) c.explain_file.result) c.in-Plain.is c.explain_file.ensures)
 
 pub returns-in-Json : goal.returns-in-Json
 returns-in-Json g c =
     let held = g.W.Write.contents in
     let fault = c.args.fault in
-    subst (λ (m : Manner). Answered (λ t s. IsTold m (read_view c.args.read.now) fault (λ form. class_refusal form c.args.fault) (class_object c.args.fault) t × (s ≡ refusal_status fault)) (held c.args.out.now) (held c.explain_object.new.out) c.explain_object.result)
+    subst (λ (m : Manner). Answered (λ t s. IsTold m (file_view c.args.read.now) fault (λ form. class_refusal form c.args.fault) (class_object c.args.fault) t × (s ≡ refusal_status fault)) (held c.args.out.now) (held c.explain_object.new.out) c.explain_object.result)
     (sym (c.in-Explained.is ∙ ap Explained c.in-Json.is)) c.explain_object.ensures

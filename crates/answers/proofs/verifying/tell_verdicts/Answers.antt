@@ -1,4 +1,4 @@
-use Rattle.std.proofs.Common.{◌≡◌, ◌∙◌, ◌∷◌, Ok, Err, map, inr, ap, sym, subst}
+use Rattle.std.proofs.Common.{◌≡◌, ◌∙◌, ◌∷◌, Ok, Err, length, map, inr, ap, sym, subst}
 use Rattle.std.proofs.lemmas.List.{length-map}
 use Rattle.std.specs.List.{flat_map}
 use Rattle.classfile.specs.CodeMethods.{judged}
@@ -6,10 +6,10 @@ use Rattle.hierarchy.specs.ClassSummary.{summary_of}
 use Rattle.verify.specs.Files.{read_of}
 use Rattle.verify.specs.Among.{ReportsAmong}
 use Rattle.verify.specs.Reports.{IsReport}
-use Rattle.answers.specs.Files.{read_view, CountsKnown}
+use Rattle.answers.specs.Files.{file_view, read_view, reads_of, CountsKnown}
 use Rattle.answers.specs.Verdicts.{verdict_line, VerifySays}
 use Rattle.answers.specs.declared.manner.Manner.TheVariants.{Told}
-use Rattle.answers.proofs.Refused.{counted}
+use Rattle.answers.proofs.Refused.{counted, viewed}
 use Rattle.answers.proofs.Tellings.{answered_more}
 use Rattle.answers.proofs.verifying.tell_verdicts.Goals as goal
 
@@ -17,9 +17,9 @@ pub returns-in-Ok-verify_among_under : goal.returns-in-Ok-verify_among_under
 returns-in-Ok-verify_among_under g c =
     let held = g.W.Write.contents in
     let read = read_view c.args.read.now in
-    let known = map read_view c.args.known.now in
+    let known = reads_of (map file_view c.args.known.now) in
     let report = c.in-Ok-verify_among_under.found in
-    let same : map read_of c.deref.result.now ≡ known = ap (map read_of) c.deref.ensures.value ∙ c.in-Ok.ensures.found in
+    let same : map read_of c.deref.result.now ≡ known = ap (map read_of) c.deref.ensures.value ∙ c.in-Ok.ensures.found ∙ viewed c.args.known.now in
     let told : ReportsAmong c.args.profile read known (Ok report) =
     subst (λ r. ReportsAmong c.args.profile r known (Ok report)) c.file_read.ensures
     (subst (λ k. ReportsAmong c.args.profile (read_of c.file_read.result) k (Ok report)) same c.in-Ok-verify_among_under.ensures) in
@@ -27,27 +27,27 @@ returns-in-Ok-verify_among_under g c =
     let rs = c.deref-in-Ok-verify_among_under.result.now in
     let here : IsReport (map summary_of (class ∷ cs)) (judged c.args.profile class) rs = subst (IsReport (map summary_of (class ∷ cs)) (judged c.args.profile class)) (sym c.deref-in-Ok-verify_among_under.ensures.value) is in
     let manner = Told c.args.form in
-    answered_more (λ t s. (t ≡ flat_map (verdict_line c.args.form) rs) × (s ≡ c.status.result)) (VerifySays manner c.args.profile read known)
+    answered_more (λ t s. (t ≡ flat_map (verdict_line c.args.form) rs) × (s ≡ c.status.result)) (VerifySays manner c.args.profile (file_view c.args.read.now) (map file_view c.args.known.now))
     (λ text status p. inr (class, formed, inr (cs, all, inr (hierarchy, inr (fine, (rs, here, p.0, p.1 ∙ c.status.ensures))))))
     (held c.args.out.now) (held c.tell.new.out) c.tell.result c.tell.ensures
 
 pub refuse-requires : goal.refuse-requires
 refuse-requires g c =
     let read = read_view c.args.read.now in
-    let known = map read_view c.args.known.now in
+    let known = reads_of (map file_view c.args.known.now) in
     let fault = c.in-Err-verify_among_under.fault in
-    let same : map read_of c.deref.result.now ≡ known = ap (map read_of) c.deref.ensures.value ∙ c.in-Ok.ensures.found in
+    let same : map read_of c.deref.result.now ≡ known = ap (map read_of) c.deref.ensures.value ∙ c.in-Ok.ensures.found ∙ viewed c.args.known.now in
     let told : ReportsAmong c.args.profile read known (Err fault) =
     subst (λ r. ReportsAmong c.args.profile r known (Err fault)) c.file_read.ensures
     (subst (λ k. ReportsAmong c.args.profile (read_of c.file_read.result) k (Err fault)) same c.in-Err-verify_among_under.ensures) in
-    subst (CountsKnown fault) (length-map c.args.known.now read_view) (counted c.args.profile read known fault told)
+    subst (CountsKnown fault) (ap length (sym (viewed c.args.known.now)) ∙ length-map c.args.known.now read_view) (counted c.args.profile read known fault told)
 
 pub returns : goal.returns
 returns g c =
     let read = read_view c.args.read.now in
-    let known = map read_view c.args.known.now in
+    let known = reads_of (map file_view c.args.known.now) in
     let fault = c.in-Err-verify_among_under.fault in
-    let same : map read_of c.deref.result.now ≡ known = ap (map read_of) c.deref.ensures.value ∙ c.in-Ok.ensures.found in
+    let same : map read_of c.deref.result.now ≡ known = ap (map read_of) c.deref.ensures.value ∙ c.in-Ok.ensures.found ∙ viewed c.args.known.now in
     c.refuse.ensures c.args.profile
     (subst (λ r. ReportsAmong c.args.profile r known (Err fault)) c.file_read.ensures
     (subst (λ k. ReportsAmong c.args.profile (read_of c.file_read.result) k (Err fault)) same c.in-Err-verify_among_under.ensures))

@@ -1,0 +1,4 @@
+pub mod Given
+pub mod Knowing
+pub mod Answering
+pub mod Walking

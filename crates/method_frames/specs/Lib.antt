@@ -1,0 +1,2 @@
+pub mod TypeRows
+pub mod private

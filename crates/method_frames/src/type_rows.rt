@@ -1,0 +1,147 @@
+//! Rows of types: of the running frame of a method, and of its declared frames.
+
+use blocks::{Arena, Row};
+use frames::both;
+use hierarchy::{Answer, Classes};
+use std::alloc::{AllocError, Global};
+use std::hash::BuildHasher;
+use std::marker::Model;
+use type_numbers::TypeNumbers;
+
+/// Rows of types by their numbers, such as the local variables of the frames of one method (JVMS 4.10.1.2): the row of the
+/// running frame, and those of the declared frames.
+///
+/// Rows share what they have in common ([`Arena`]). A running row that was seen to fit a declared one is compared with it
+/// again only where it changed, so that a comparison takes time for what changed and not for the length of a row.
+#[derive(Drop)]
+pub struct TypeRows<'t, 'n, C: Classes, S: BuildHasher> {
+    types: &'t TypeNumbers<'t, 'n, C, S>,
+    rows: Arena,
+}
+
+impl<'t, 'n, C: Classes, S: BuildHasher> Model for TypeRows<'t, 'n, C, S> {
+    ghost use Rattle.method_frames.specs.TypeRows.{NumberedRows};
+    ghost use Rattle.method_frames.specs.private.Known.{AreKnown};
+
+    ghost Value = { NumberedRows };
+
+    ghost view = { λ x. record {
+      types = x.types.now;
+      running = x.rows.running;
+      declared = x.rows.declared;
+    } };
+
+    ghost invariant = { λ x. AreKnown (x.types.now) x.rows };
+}
+
+impl<'t, 'n, C: Classes, S: BuildHasher> TypeRows<'t, 'n, C, S> {
+    ghost use Rattle.std.specs.Prelude.{◌≡◌, ◌<◌, ◌∷◌, ◌++◌, [], length, replicate, slice_index, slice_set, IfOk, OnOk, OnErr};
+    ghost use Rattle.hierarchy.specs.Answer.{outcome_of};
+    ghost use Rattle.frames.specs.Assignable.{type_answer};
+    ghost use Rattle.frames.specs.FrameAssignable.{list_answer};
+    ghost use Rattle.type_numbers.specs.Numbers.{IsGiven};
+    ghost use Rattle.type_numbers.specs.Decoding.{type_by, types_by};
+    ghost use Rattle.method_frames.specs.TypeRows.{declared_in};
+
+    /// Rows with so many places; the running one holds Top throughout.
+    pub fn new(
+        alloc: Global,
+        types: &'t TypeNumbers<'t, 'n, C, S>,
+        count: u16,
+    ) -> Result<TypeRows<'t, 'n, C, S>, AllocError>
+        ensures { IfOk result (λ x. x ≡ record {
+          types = types.now;
+          running = replicate count 0;
+          declared = [];
+        }) }
+    {
+        Ok(TypeRows {
+            types,
+            rows: Arena::new(alloc, count)?,
+        })
+    }
+
+    /// The number at a place of the running row.
+    pub fn get(&self, place: usize) -> u32
+        requires { place < length self.now.running }
+        ensures number { result ≡ slice_index self.now.running place }
+        ensures given { IsGiven self.now.types result }
+    {
+        self.rows.get(place)
+    }
+
+    /// Puts a type, by its number, at a place of the running row. The only refusal is 1, where memory runs out; a number
+    /// that is there already takes none.
+    pub fn set(&mut self, place: usize, number: u32) -> Result<(), AllocError>
+        requires place { place < length self.old.running }
+        requires given { IsGiven self.old.types number }
+        ensures ok { OnOk result (self.new ≡ record self.old { running = slice_set self.old.running place number }) }
+        ensures err { OnErr result (self.new ≡ self.old) }
+    {
+        self.rows.set(place, number)
+    }
+
+    /// Declares a row that holds what the running one does. The only refusal is 1.
+    pub fn declare(&mut self) -> Result<Row, AllocError>
+        ensures place { IfOk result (λ row. row ≡ length self.old.declared) }
+        ensures ok { OnOk result (self.new
+            ≡ record self.old { declared = self.old.declared ++ self.old.running ∷ [] }) }
+        ensures err { OnErr result (self.new ≡ self.old) }
+    {
+        self.rows.declare()
+    }
+
+    /// The running row becomes a declared one. Takes no memory, and no more time for a long row.
+    pub fn take(&mut self, row: Row)
+        requires { row < length self.old.declared }
+        ensures { self.new ≡ record self.old { running = declared_in self.old row } }
+    {
+        self.rows.take(row)
+    }
+
+    /// The answer for the types at one place of the running row and of a declared one.
+    fn answer_at(&self, row: Row, place: usize) -> Answer<'n>
+        requires row { row < length self.now.declared }
+        requires place { place < length self.now.running }
+        ensures { let s = self.now.types in outcome_of result ≡ type_answer s.classes
+            (type_by s (slice_index self.now.running place)) (type_by s (slice_index (declared_in self.now row) place)) }
+    {
+        let from = self.rows.get(place);
+        let to = self.rows.get_declared(row, place);
+        self.types.assignable(from, to)
+    }
+
+    /// The answer for the places that are not known to fit, the first ones first.
+    fn answer_anew(&self, row: Row) -> Answer<'n>
+        requires row { row < length self.now.declared }
+        ensures { let s = self.now.types in outcome_of result ≡ list_answer (type_answer s.classes)
+            (types_by s self.now.running) (types_by s (declared_in self.now row)) }
+    {
+        let mut so_far = Answer::Yes;
+        let mut from = 0;
+        while let Some(place) = self.rows.first_undecided(row, from) {
+            let answer = self.answer_at(row, place);
+            if let Answer::No = answer {
+                return Answer::No;
+            }
+            so_far = both(so_far, answer);
+            from = place + 1;
+        }
+        so_far
+    }
+
+    /// Whether the types of the running row may stand where those of a declared one are wanted (JVMS 4.10.1.4): no before
+    /// missing, and then the first class that is missing. Takes no memory.
+    pub fn answer(&mut self, row: Row) -> Answer<'n>
+        requires row { row < length self.old.declared }
+        ensures same { self.new ≡ self.old }
+        ensures told { let s = self.old.types in outcome_of result ≡ list_answer (type_answer s.classes)
+            (types_by s self.old.running) (types_by s (declared_in self.old row)) }
+    {
+        let answer = self.answer_anew(row);
+        if let Answer::Yes = answer {
+            self.rows.note_fit(row);
+        }
+        answer
+    }
+}
