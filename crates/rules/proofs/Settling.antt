@@ -9,7 +9,9 @@ use Rattle.hierarchy.specs.declared.answer.Answer.{Answer}
 use Rattle.hierarchy.specs.declared.answer.Answer.TheVariants.{Yes, No, Missing}
 use Rattle.hierarchy.specs.Class.{ClassFact}
 use Rattle.hierarchy.specs.Answer.{Outcome, yes, no, missing, outcome_of}
+use Rattle.insn.specs.declared.operation.Act as program
 use Rattle.insn.specs.Meanings.{Act}
+use Rattle.insn.specs.Views.{act_view}
 use Rattle.insn.specs.Acts.{StackForm}
 use Rattle.insn.specs.Stacks.{beneath, rearranged, units_taken}
 use Rattle.frames.specs.declared.vtype.VType.{VType}
@@ -20,7 +22,7 @@ use Rattle.frames.specs.Conditions.{Reason as Refusing, reason, Conditions, leas
 use Rattle.rules.specs.declared.reason.Reason.{Reason}
 use Rattle.rules.specs.declared.reason.Reason.TheVariants.{OutOfMemory}
 use Rattle.rules.specs.TypingRules.{ExpectedType, pops, loads, stores, rearranges, refuses, TypingRule, where_judged, where_allowed, where_bootstrapped}
-use Rattle.rules.specs.Table.{return_nothing}
+use Rattle.rules.specs.Table.{return_nothing, typing_rule}
 use Rattle.rules.specs.After.{or_top, local_of, after, with_stack, top_of, rest_of, stored, stored_type, form_for, rearranged_by}
 use Rattle.rules.specs.Rules.{is_short, operands, accepts, is_outside, gives_frame, is_too_wide, conditions}
 use Rattle.rules.specs.Outcomes.{Done, Took, TookOff, pushed, settled}
@@ -281,6 +283,12 @@ returned m at p cs f now r e d = subst (λ q. Done (conditions cs m at q f) (aft
 
 pub by_typing_rule : (m : Method Act) (at : ℕ) (p q : TypingRule) (cs : List ClassFact) (f now : FrameFact) (r : Result Unit Reason) → p ≡ q → Done (conditions cs m at q f) (after m at q f) now r → Done (conditions cs m at p f) (after m at p f) now r
 by_typing_rule m at p q cs f now r e d = subst (λ z. Done (conditions cs m at z f) (after m at z f) now r) (sym e) d
+
+-- by the typing rule of what an instruction is seen to do
+pub by_act : (m : Method Act) (at : ℕ) (a b : program.Act) (cs : List ClassFact) (f now : FrameFact) (r : Result Unit Reason) → a ≡ b
+    → Done (conditions cs m at (typing_rule m (act_view b)) f) (after m at (typing_rule m (act_view b)) f) now r
+    → Done (conditions cs m at (typing_rule m (act_view a)) f) (after m at (typing_rule m (act_view a)) f) now r
+by_act m at a b cs f now r e d = by_typing_rule m at _ _ cs f now r (ap (λ x. typing_rule m (act_view x)) e) d
 
 -- where the typing rule is allowed
 pub by_allowed : (m : Method Act) (at : ℕ) (p : TypingRule) (b : Bool) (q : TypingRule) (cs : List ClassFact) (f now : FrameFact) (r : Result Unit Reason) → p ≡ where_allowed b q → b ≡ true → Done (conditions cs m at q f) (after m at q f) now r → Done (conditions cs m at p f) (after m at p f) now r
