@@ -38,7 +38,10 @@ pub struct CodeMethod<'c, 'a> {
     pub result_type: Option<FieldType<'a>>,
     /// Whether `invokedynamic` and dynamic constants are judged (JVMS 4.4.10); otherwise they are refused.
     pub dynamic: bool,
-    pub ghost is_method: { IsMethod (record { file = class_view class.now; dynamic = dynamic }) number (code_view code.now) is_static is_init (option_map type_of result_type) } by { is_method_prop (record { file = class_view class.now; dynamic = dynamic }) number (code_view code.now) is_static is_init (option_map type_of result_type) },
+    pub ghost is_method: { IsMethod (record { file = class_view class.now; dynamic = dynamic }) number
+        (code_view code.now) is_static is_init (option_map type_of result_type) } by {
+        is_method_prop (record { file = class_view class.now; dynamic = dynamic }) number
+        (code_view code.now) is_static is_init (option_map type_of result_type) },
 }
 
 impl<'a> Member<'a> {

@@ -43,7 +43,9 @@ pub struct AttributeLayout<'t> {
 /// The layouts of a table that is written as `NAME MAJOR ONCE COUNTED [COLUMN, COLUMN];`, one a line.
 macro_rules! attributes {
     ($($name:literal $major:literal $once:literal $counted:literal [$($column:ident),*];)*) => {
-        [$(AttributeLayout { name: $name, first_major: $major, once: $once, counted: $counted, columns: &[$(Column::$column),*] }),*]
+        [$(AttributeLayout {
+            name: $name, first_major: $major, once: $once, counted: $counted, columns: &[$(Column::$column),*]
+        }),*]
     };
 }
 

@@ -29,7 +29,7 @@
 //! | `profile` | [`Profile`], how the methods of a class are judged |
 //! | `form_fault` | [`FormRule`], [`Place`] and [`FormFault`] |
 //! | `constant_form`, `class_form`, `member_form`, `attribute_form` | which rule is broken at a place |
-//! | `number_form`, `repeated_attributes` | which rule is broken by an index in an attribute of numbers, and whether one stands twice |
+//! | `number_form`, `repeated_attributes` | which rule an index in an attribute of numbers breaks, and whether an attribute stands twice |
 //! | `record_form` | which rule is broken by the attributes of a class |
 //! | `attribute_fault` | [`attribute_at_fault`], which attribute breaks the rule at a place |
 //! | `text_forms` | the forms of each text of the pool, judged once |

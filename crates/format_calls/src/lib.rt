@@ -1,11 +1,11 @@
-//! The tests of the public calls of `layout`, `names`, `pool`, `classfile` and `insn`. They stand in a crate of their own,
-//! so that each library is proved once and not a second time with its tests; `lower_calls` and `public_calls` have those
-//! of the libraries above, so that the three can be proved beside each other.
+//! The tests of the public calls of `layout`, `names`, `pool`, `classfile` and `insn`. They stand in a crate of their
+//! own, so that each library is proved once and not a second time with its tests; `lower_calls` and `public_calls` have
+//! those of the libraries above, so that the three can be proved beside each other.
 //!
 //! | File | What it tests |
 //! |---|---|
 //! | `parts` | `layout`: numbers, lists, and what is written part by part |
-//! | `streams` | `layout` and `classfile`: what is read of readers that hand their bytes out in pieces, end early or fail |
+//! | `streams` | `layout` and `classfile`: readers that hand their bytes out in pieces, end early or fail |
 //! | `texts` | `names`: texts, names and descriptors |
 //! | `text_blocks` | `names`: texts of lengths around those that lanes take, with each wrong part at each place |
 //! | `constant_pools` | `pool`: pools, and look-ups in them |

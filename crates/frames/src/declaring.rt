@@ -61,7 +61,8 @@ fn declare_one<'a, S: Starts>(
     ensures small { IfOk result (λ r. IfOk r (λ f. f.at < 65536)) }
     ensures declares { IfOk result
         (Declares limits.now.pool.now
-        (S.code limits.now.starts.now) limits.now.max_locals limits.now.max_stack chains.old.links.items chains.new.links.items behind before (entry_of entry.now)) }
+        (S.code limits.now.starts.now) limits.now.max_locals limits.now.max_stack
+        chains.old.links.items chains.new.links.items behind before (entry_of entry.now)) }
 {
     let at = behind + u32::from(delta(entry));
     let frame = frame_after(chains, before, at, entry, constants)?;

@@ -121,8 +121,8 @@ fn is_unmet<'a, C: Classes>(
     }
 }
 
-/// Whether a store of the `int` on the stack to the local variable 1 is seen there, and the local is top again when that
-/// is put back.
+/// Whether a store of the `int` on the stack to the local variable 1 is seen there, and the local is top again when
+/// that is put back.
 fn stores_in<'a, C: Classes>(env: &Env<'_, '_, 'a, C>, frame: &mut Working<'a>) -> Judged<'a> {
     let act = Act::Store {
         kind: Kind::Int,

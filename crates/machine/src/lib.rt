@@ -14,7 +14,7 @@
 //! - `stepping`: a step.
 //! - `beginnings`, `held`: states in which a method may begin, and values read back from local variables.
 //! - `walks`: steps by a list of choices.
-//! - `laws`: what guards the definitions, in words of its own.
+//! - `laws`: laws that guard the definitions, in the words of `specs/ByAct.antt` and `specs/ByType.antt`.
 //!
 //! Definitions:
 //!
@@ -25,7 +25,8 @@
 //! - `specs/Steps.antt`: what comes of an instruction and a choice.
 //! - `specs/Runs.antt`: initial states and runs.
 //! - `specs/Walks.antt`: walks by a list of choices.
-//! - `specs/Breadth.antt`, `specs/Pushes.antt`: laws of steps: nothing is left out, nothing else happens, and what stands on the stack behind them.
+//! - `specs/Breadth.antt`, `specs/Pushes.antt`: laws of steps: nothing is left out, nothing else happens, and what
+//!   stands on the stack behind them.
 //! - `specs/Uses.antt`: a law of the objects that an instruction uses.
 //! - `specs/RunBreadth.antt`: laws of initial states and runs.
 //! - `specs/ByAct.antt`, `specs/ByType.antt`: the words in which laws speak.

@@ -6,7 +6,7 @@
 //!
 //! - `constant`: what stands at an index
 //! - `constant_pool`: the pool as one value, and as a part
-//! - `constant_types`: what a class, a field, a method, a computed constant or a call site is to the instructions that name it
+//! - `constant_types`: the types of a class, a field, a method, a computed constant or a call site, for instructions
 //! - `fault`: why a look-up fails
 //! - `kind`: the kinds of a method handle's reference
 //! - `laws`: what the look-ups find, by what stands where, without code

@@ -1,5 +1,5 @@
-//! The part of a class file at a place, and the attribute of it that is at fault, by its lines or by fields of an object
-//! of JSON.
+//! The part of a class file at a place, and the attribute of it that is at fault, by its lines or by fields of an
+//! object of JSON.
 ghost use Rattle.std.specs.Prelude.{◌≡◌, [], map, slice_get};
 ghost use Rattle.std.specs.Option.{option_map_or};
 ghost use Rattle.classfile.specs.Views.{member_view, class_view};

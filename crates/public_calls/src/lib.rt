@@ -10,7 +10,7 @@
 //! | `verified_files` | `verify`: verdicts on the classes that files are, alone, among known ones and in play |
 //! | `judged_files` | `verify`: verdicts on the classes that many files are, each among all of them |
 //! | `classes_in_play` | `verify`: reports on classes that run together |
-//! | `dynamic_calls` | `pool`, `rules`, `verify`: dynamic calls and constants, looked up, judged by a profile, and run |
+//! | `dynamic_calls` | `pool`, `rules`, `verify`: dynamic calls and constants, looked up, judged and run |
 //! | `verified_walks` | `verify`: walks of the machine through methods that are verified |
 //! | `file_answers` | `answers`: what each command answers of files, read or not |
 //! | `command_lines` | `command_line`: what a line asks for, and what the program complains of |

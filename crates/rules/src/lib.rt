@@ -12,8 +12,8 @@
 //! - `ways`: where an instruction goes, whether it is plain, and whether it leaves the locals as they are.
 //! - `kept_items`: how many items of the stack an instruction leaves as they are.
 //! - `replacing`: the uninitialized object whose type an instruction replaces in the locals.
-//! - `expected_types`: the expected types of all that an instruction takes; `unmet`: the first of them that a frame does
-//!   not meet, and the first of which that is not known.
+//! - `expected_types`: the expected types of all that an instruction takes; `unmet`: the first of them that a frame
+//!   does not meet, and the first of which that is not known.
 //!
 //! Instructions, family by family:
 //!

@@ -82,8 +82,8 @@ fn absent_operand<'a>(
     }
 }
 
-/// The first operand, from the top down, of which the answer is the one that is looked for. So many others stand beneath
-/// them.
+/// The first operand, from the top down, of which the answer is the one that is looked for. So many others stand
+/// beneath them.
 fn sought_operand<'a, C: Classes>(
     sought: Sought,
     below: usize,
@@ -204,8 +204,8 @@ fn sought_local<'a, C: Classes>(
     classes: &C,
 ) -> Option<Unmet<'a>>
     ensures { option_map unmet_of result
-        ≡ sought_local (is_sought sought) (C.content classes.now) (method_view method.now) (option_map local_view local.entry)
-        (frame_of frame.now) }
+        ≡ sought_local (is_sought sought) (C.content classes.now) (method_view method.now)
+        (option_map local_view local.entry) (frame_of frame.now) }
 {
     let Some(local) = local else {
         return None;

@@ -26,7 +26,7 @@ use Rattle.rules.specs.Reasons.{reason_view}
 use Rattle.verify.specs.TypeSafety.{IsTypeSafe}
 use Rattle.verify.specs.Verdict.{verified, told_of, verdict}
 use Rattle.verify.specs.ClassMethods.{IsMethod, IsTypeSafeIn}
-use Rattle.verify.specs.Steps.{RefusesCode, Gives}
+use Rattle.verify.specs.private.JudgingSteps.{RefusesCode, Gives}
 use Rattle.verify.specs.Listed.{IsListed}
 use Rattle.verify.specs.Answers.{HasBadCode, HasVerdict, HasRefusal, IsRefused, AnswersCode, Answers, VerifiesTypeSafe, VerifiedIsSafe}
 use Rattle.verify.proofs.Decoded.{decoded_rise, decoded_begins}

@@ -20,7 +20,7 @@ use Rattle.verify.specs.declared.verdict.Verdict.TheVariants.{Verified, NoCode, 
 use Rattle.verify.specs.declared.report.MethodVerdict.{MethodVerdict}
 use Rattle.verify.specs.Verdict as verdicts
 use Rattle.verify.specs.Verdict.{verified, told_of, verdict}
-use Rattle.verify.specs.Steps.{place_of}
+use Rattle.verify.specs.Answers.{place_of}
 use Rattle.verify.specs.Answers.{HasBadCode, HasVerdict, HasRefusal, IsRefused}
 use Rattle.verify.specs.Reports.{IsReported}
 use Rattle.verify.specs.declared.coming.TheConstants.{MOST_KEPT}

@@ -28,7 +28,7 @@ use Rattle.rules.specs.declared.reason.Reason.{Reason as RuleReason}
 use Rattle.rules.specs.declared.reason.Reason.TheVariants.{OutOfMemory}
 use Rattle.verify.specs.TypeSafety.{Frames}
 use Rattle.verify.specs.Verdict.{Verdict, refused, told_of, refused_or, at_conditions, entry, entered, arrives, passes}
-use Rattle.verify.specs.Steps.{Enters}
+use Rattle.verify.specs.private.JudgingSteps.{Enters}
 use Rattle.verify.proofs.Going.{ways}
 
 -- ---- the number of locals stays

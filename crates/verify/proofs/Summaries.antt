@@ -8,7 +8,7 @@ use Rattle.hierarchy.specs.declared.summary.Kind.TheVariants.{Field, Method}
 use Rattle.hierarchy.specs.declared.summary.MemberSummary.{MemberSummary}
 use Rattle.hierarchy.specs.Class.{MemberFact, ClassFact}
 use Rattle.hierarchy.specs.Summary.{member_of}
-use Rattle.verify.specs.Listed.{same_flag, same_kind, same_member, same_members, same_name, same_fact}
+use Rattle.verify.specs.private.SameSummaries.{same_flag, same_kind, same_member, same_members, same_name, same_fact}
 
 -- ---- the same, where the test holds
 

@@ -5,6 +5,7 @@ use Rattle.classfile.specs.Methods.{JudgedClass, Method, method_of}
 use Rattle.classfile.specs.MethodParts.{code_at}
 use Rattle.hierarchy.specs.Class.{ClassFact}
 use Rattle.insn.specs.declared.fault.CodeFault.{CodeFault}
+use Rattle.insn.specs.declared.fault.CodeFault.TheVariants as codes
 use Rattle.insn.specs.Faults.{code_fault_number}
 use Rattle.insn.specs.Instructions.{Instruction}
 use Rattle.insn.specs.Code.{SpellsCode, FaultyCode}
@@ -22,8 +23,21 @@ use Rattle.verify.specs.TypeSafety.{IsTypeSafe}
 use Rattle.verify.specs.Verdict as verdicts
 use Rattle.verify.specs.Verdict.{verified, told_of, verdict}
 use Rattle.verify.specs.ClassMethods.{IsMethod, IsTypeSafeIn, IsSafeIn}
-use Rattle.verify.specs.Steps.{place_of}
 use Rattle.verify.specs.Listed.{IsListed}
+
+-- the number of the fault for which there is no verdict
+abbrev pub verify_fault_number : VerifyFault → ℕ
+verify_fault_number OutOfMemory = 1
+verify_fault_number NotInHierarchy = 80
+
+-- where the instruction begins that is at fault
+abbrev pub place_of : CodeFault → ℕ
+place_of codes.OutOfMemory = 0
+place_of (codes.BadOpcode at) = at
+place_of (codes.CutInstruction at) = at
+place_of (codes.BadSwitch at) = at
+place_of (codes.BadWide at) = at
+place_of (codes.NonZeroByte at) = at
 
 -- Its bytes are no code: 79 where the first instruction at fault begins, with the number of its fault.
 pub record HasBadCode (c : JudgedClass) (number : ℕ) (at : ℕ) (why : Reason) : Type 0 where

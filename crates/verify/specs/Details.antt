@@ -1,5 +1,6 @@
--- The detail at fault where a method is refused, by the number of the reason: the comparison of types that fails, or that
--- asks for a class that is missing, or an entry of the exception table or of the stack map (JVMS 4.7.3, 4.7.4, 4.10.1).
+-- The detail at fault where a method is refused, by the number of the reason: the comparison of types that fails, or
+-- that asks for a class that is missing, or an entry of the exception table or of the stack map (JVMS 4.7.3, 4.7.4,
+-- 4.10.1).
 use Rattle.std.specs.Prelude.{ℕ, Bool, false, ◌||◌, nat_eq, List, Option, Some, None, option_map, Result, Ok, Err, if◌then◌else◌}
 use Rattle.std.specs.Option.{option_or, option_and_then}
 use Rattle.layout.specs.declared.fault.ReadFault.{ReadFault}

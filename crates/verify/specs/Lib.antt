@@ -13,7 +13,6 @@ pub mod VerdictLaws
 pub mod ClassMethods
 pub mod Refusals
 pub mod Breaks
-pub mod Steps
 pub mod Listed
 pub mod FinalSuper
 pub mod Answers

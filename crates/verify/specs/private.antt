@@ -6,12 +6,14 @@ pub mod EachSteps
 pub mod ExceptionTables
 pub mod FileSteps
 pub mod Handling
+pub mod JudgingSteps
 pub mod Keeping
 pub mod Known
 pub mod MetNames
 pub mod PlaceSets
 pub mod PlaySteps
 pub mod Representatives
+pub mod SameSummaries
 pub mod Targets
 pub mod TogetherSteps
 pub mod Turns

@@ -7,7 +7,7 @@ ghost use Rattle.rules.specs.Held.{held};
 ghost use Rattle.rules.specs.Reasons.{reason_number, reason_view};
 ghost use Rattle.verify.specs.Verdict.{answer_conditions};
 ghost use Rattle.rules.specs.Outcomes.{Judges};
-ghost use Rattle.verify.specs.Steps.{Enters};
+ghost use Rattle.verify.specs.private.JudgingSteps.{Enters};
 ghost use Rattle.verify.specs.private.Known.{IsKnown};
 
 use crate::known::Known;

@@ -17,7 +17,7 @@ ghost use Rattle.rules.specs.Held.{held};
 ghost use Rattle.rules.specs.Naming.{IsNamed};
 ghost use Rattle.verify.specs.InitialFrames.{initial_frame};
 ghost use Rattle.verify.specs.Verdict.{at_conditions, code_judged, is_covered};
-ghost use Rattle.verify.specs.Steps.{Enters, Gives, aside_conditions};
+ghost use Rattle.verify.specs.private.JudgingSteps.{Enters, Gives, aside_conditions};
 ghost use Rattle.verify.specs.private.Known.{IsKnown};
 ghost use Rattle.verify.specs.private.Handling.{AreAhead, Follows};
 ghost use Rattle.verify.specs.TypeSafety.{Frames};

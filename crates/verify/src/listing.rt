@@ -4,7 +4,8 @@ ghost use Rattle.classfile.specs.Views.{class_view};
 ghost use Rattle.hierarchy.specs.Class.{class_of};
 ghost use Rattle.hierarchy.specs.Rules.{IsHierarchy};
 ghost use Rattle.hierarchy.specs.Summary.{member_of, fact_of};
-ghost use Rattle.verify.specs.Listed.{IsListed, same_name, same_kind, same_member, same_members, same_fact};
+ghost use Rattle.verify.specs.Listed.{IsListed};
+ghost use Rattle.verify.specs.private.SameSummaries.{same_name, same_kind, same_member, same_members, same_fact};
 
 use classfile::Formed;
 use hierarchy::{Classes, Kind, MemberSummary, Summary, summary_of};

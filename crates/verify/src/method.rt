@@ -16,7 +16,7 @@ ghost use Rattle.frames.specs.MarkedCode.{code_in};
 ghost use Rattle.verify.specs.declared.verdict.VerifyFault.TheVariants.{OutOfMemory};
 ghost use Rattle.verify.specs.InitialFrames.{initial_frame};
 ghost use Rattle.verify.specs.Verdict.{with_frames, verdict};
-ghost use Rattle.verify.specs.Steps.{Gives};
+ghost use Rattle.verify.specs.private.JudgingSteps.{Gives};
 ghost use Rattle.verify.specs.Listed.{IsListed};
 ghost use Rattle.verify.specs.Answers.{AnswersCode, Answers, VerifiesTypeSafe, VerifiedIsSafe};
 

@@ -6,7 +6,7 @@ ghost use Rattle.rules.specs.declared.reason.Reason.TheVariants.{OutOfMemory};
 ghost use Rattle.rules.specs.Reasons.{reason_view};
 ghost use Rattle.verify.specs.Verdict as verdicts;
 ghost use Rattle.verify.specs.Verdict.{told_of};
-ghost use Rattle.verify.specs.Steps.{Gives, RefusesCode};
+ghost use Rattle.verify.specs.private.JudgingSteps.{Gives, RefusesCode};
 
 use crate::verdict::{Verdict, VerifyFault};
 use classfile::{CodeAttr, NestedAttribute};

@@ -11,7 +11,7 @@ ghost use Rattle.rules.specs.Bodies.{method_view};
 ghost use Rattle.verify.specs.declared.verdict.VerifyFault.TheVariants.{OutOfMemory};
 ghost use Rattle.verify.specs.InitialFrames.{initial_types};
 ghost use Rattle.verify.specs.Verdict.{frames_declared};
-ghost use Rattle.verify.specs.Steps.{TellsFrames};
+ghost use Rattle.verify.specs.private.JudgingSteps.{TellsFrames};
 ghost use Rattle.verify.specs.Details.{refused_detail, faulty_detail, map_detail, detail_of};
 
 use crate::detail::Detail;

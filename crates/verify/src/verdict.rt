@@ -1,6 +1,6 @@
 //! The verdict on a method.
 ghost use Rattle.std.specs.Prelude.{◌≡◌};
-ghost use Rattle.verify.specs.Steps.{verify_fault_number};
+ghost use Rattle.verify.specs.Answers.{verify_fault_number};
 
 use rules::Reason;
 use std::alloc::{AllocError, AllocFailed};

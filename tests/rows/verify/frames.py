@@ -160,7 +160,7 @@ CODES = {
     "dead": ("return; nop; return", "", "70 at 1", "1 nop", ""),
     "entry": ("iconst_0; return", "1 same", "69 at 1", "1 return", "locals / stack int / declared locals / declared stack / stack: items that come 1, declared 0"),
 }
-# What is said of the fault of a stack map, by its number.
+# The line on the fault of a stack map, by its number.
 FAULTS = {
     2: "2 EndsEarly: the stack map ends within an entry",
     12: "12 AttributeLength: bytes stand behind the last entry",

@@ -9,7 +9,7 @@ use Rattle.rules.specs.Reasons.{reason_number}
 use Rattle.rules.specs.Held.{held}
 use Rattle.verify.specs.InitialFrames.{initial_types, initial_frame}
 use Rattle.verify.specs.Verdict.{frames_declared}
-use Rattle.verify.specs.Steps.{TellsFrames}
+use Rattle.verify.specs.private.JudgingSteps.{TellsFrames}
 use Rattle.verify.specs.Coming.{FramesFact, frames_view}
 use Rattle.verify.proofs.Judged.{room_as, when_some}
 use Rattle.verify.proofs.Meeting.{started, started_length, frames_are}

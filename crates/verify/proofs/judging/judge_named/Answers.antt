@@ -10,7 +10,7 @@ use Rattle.rules.specs.Outcomes.{Done, Judges}
 use Rattle.rules.specs.Table.{typing_rule}
 use Rattle.rules.specs.Ways.{branch_offsets}
 use Rattle.verify.specs.private.Known.{IsKnown}
-use Rattle.verify.specs.Steps.{aside_conditions}
+use Rattle.verify.specs.private.JudgingSteps.{aside_conditions}
 use Rattle.verify.specs.Verdict.{target_conditions}
 use Rattle.verify.proofs.Onward.{keeps_length}
 use Rattle.verify.proofs.Going.{ways}

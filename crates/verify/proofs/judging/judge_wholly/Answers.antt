@@ -17,7 +17,7 @@ use Rattle.rules.specs.Table.{typing_rule}
 use Rattle.rules.specs.Ways.{goes_on}
 use Rattle.rules.specs.declared.reason.Reason.{Reason}
 use Rattle.verify.specs.private.Handling.{Follows}
-use Rattle.verify.specs.Steps.{aside_conditions}
+use Rattle.verify.specs.private.JudgingSteps.{aside_conditions}
 use Rattle.verify.specs.Verdict.{at_conditions, before_conditions, handler_conditions, is_covered}
 use Rattle.verify.proofs.Comparing.{flag_kept}
 use Rattle.verify.proofs.InTurn.{on_ok, when_ok}

@@ -1,6 +1,6 @@
 use Rattle.std.proofs.Common.{◌≡◌, drop, map}
 use Rattle.hierarchy.specs.Summary.{member_of}
-use Rattle.verify.specs.Listed.{same_members}
+use Rattle.verify.specs.private.SameSummaries.{same_members}
 use Rattle.verify.proofs.listing.same_members.Given as goal
 
 abbrev pub invariant-loop-i : goal.invariant-loop-i

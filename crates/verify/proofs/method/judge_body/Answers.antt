@@ -7,7 +7,7 @@ use Rattle.frames.specs.Slots.{in_locals}
 use Rattle.rules.specs.Bodies.{method_view}
 use Rattle.rules.specs.Table.{typing_rule}
 use Rattle.verify.specs.Verdict.{verdict, told_of, frames_declared}
-use Rattle.verify.specs.Steps.{Gives, TellsFrames}
+use Rattle.verify.specs.private.JudgingSteps.{Gives, TellsFrames}
 use Rattle.verify.proofs.Judged.{too_narrow, with_declared, map_told, room_as, when_none, when_some}
 use Rattle.verify.proofs.method.judge_body.Goals as goal
 

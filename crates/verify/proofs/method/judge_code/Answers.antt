@@ -7,7 +7,7 @@ use Rattle.rules.specs.Table.{typing_rule}
 use Rattle.verify.specs.private.ExceptionTables.{entry_view, JudgesTable}
 use Rattle.verify.specs.private.Handling.{Follows}
 use Rattle.verify.specs.Verdict.{told_of, table_judged, code_judged}
-use Rattle.verify.specs.Steps.{Gives}
+use Rattle.verify.specs.private.JudgingSteps.{Gives}
 use Rattle.verify.proofs.method.judge_code.Goals as goal
 
 pub returns-in-Err-clause-judged : goal.returns-in-Err-clause-judged

@@ -1,4 +1,4 @@
--- The answers of the steps of the verifier.
+-- The answers of the steps of the pass over a method.
 use Rattle.std.specs.Prelude.{◌≡◌, ◌≢◌, ◌⊎◌, ◌&&◌, ◌++◌, ◌∷◌, [], ℕ, Bool, List, Some, None, Option, Result, Ok, Err, MatchResult}
 use Rattle.classfile.specs.Methods.{Method}
 use Rattle.hierarchy.specs.Class.{ClassFact}
@@ -24,10 +24,7 @@ use Rattle.verify.specs.declared.verdict.VerifyFault.TheVariants as faults
 use Rattle.verify.specs.Verdict as verdicts
 use Rattle.verify.specs.Verdict.{verified, MapRefusal, map_fault_number, told_of, entry, entered, before_conditions, is_covered}
 use Rattle.verify.specs.TypeSafety.{Frames}
-
-abbrev pub verify_fault_number : VerifyFault → ℕ
-verify_fault_number faults.OutOfMemory = 1
-verify_fault_number faults.NotInHierarchy = 80
+use Rattle.verify.specs.Answers.{place_of}
 
 -- a frame comes to a start, where this one is declared, and this one goes on; or this is the reason against it, or
 -- memory ran out
@@ -42,15 +39,6 @@ pub record Enters (classes : List ClassFact) (falls : Bool) (f : FrameFact) (dec
 abbrev pub TellsFrames : Result Frames MapRefusal → Result DeclaredFrames ℕ → Type 0
 TellsFrames answer (Ok t) = answer ≡ Ok (frames_in t)
 TellsFrames answer (Err number) = (why : MapRefusal) × (answer ≡ Err why) × (number ≡ map_fault_number why)
-
--- where the instruction begins that is at fault
-abbrev pub place_of : CodeFault → ℕ
-place_of codes.OutOfMemory = 0
-place_of (codes.BadOpcode at) = at
-place_of (codes.CutInstruction at) = at
-place_of (codes.BadSwitch at) = at
-place_of (codes.BadWide at) = at
-place_of (codes.NonZeroByte at) = at
 
 -- 79 there, with the fault's number; or memory ran out
 pub record RefusesCode (fault : CodeFault) (r : Result Verdict VerifyFault) : Type 0 where
