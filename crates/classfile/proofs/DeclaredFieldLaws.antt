@@ -7,7 +7,7 @@ use Rattle.std.specs.Str.{bytes_eq}
 use Rattle.pool.specs.declared.fault.PoolFault.{PoolFault}
 use Rattle.pool.specs.Entries.{Entry}
 use Rattle.pool.specs.Lookups.{Named, named, text_at, and_then}
-use Rattle.pool.specs.Members.{found}
+use Rattle.pool.specs.ConstantMeanings.{found}
 use Rattle.classfile.specs.Values.{Member}
 use Rattle.classfile.specs.Indices.{on_found}
 use Rattle.classfile.specs.MemberForm.{are_same, is_among}

@@ -4,7 +4,7 @@ use Rattle.std.specs.Option.{option_and_then}
 use Rattle.pool.specs.declared.fault.PoolFault.{PoolFault}
 use Rattle.pool.specs.Entries.{Entry, Utf8, Integer, Float, Long, Double, Class, String, Fieldref, Methodref, InterfaceMethodref, NameAndType, MethodHandle, MethodType, Dynamic, InvokeDynamic, Unusable}
 use Rattle.pool.specs.Lookups.{FieldOf, Named, named, and_then, entry_at, class_name_at, name_and_type_in, name_and_type_at, member, field_ref_in, field_ref_at}
-use Rattle.pool.specs.Members.{found, constant_at}
+use Rattle.pool.specs.ConstantMeanings.{found, constant_at}
 use Rattle.classfile.specs.Indices.{on_found}
 use Rattle.classfile.specs.DeclaredFields.{is_field_of, type_index, both_indices, text_indices}
 use Rattle.classfile.proofs.SeenLaws.{parts}

@@ -17,7 +17,7 @@ use Rattle.pool.specs.declared.fault.PoolFault.{PoolFault}
 use Rattle.pool.specs.Entries.{Entry}
 use Rattle.pool.specs.Lookups as lookups
 use Rattle.pool.specs.Lookups.{named, text_at}
-use Rattle.pool.specs.Members.{found, class_at}
+use Rattle.pool.specs.ConstantMeanings.{found, class_at}
 use Rattle.classfile.specs.declared.form_fault.Place.TheVariants as places
 use Rattle.classfile.specs.declared.indices.ConstantKind.TheVariants as kinds
 use Rattle.classfile.specs.Values.{of_parts, of_numbers, raw, Handler, CodeBody, Attribute, Member, Class}

@@ -11,7 +11,7 @@ use Rattle.names.specs.Reading.{method_answer}
 use Rattle.pool.specs.declared.fault.PoolFault.{PoolFault}
 use Rattle.pool.specs.Entries.{Entry}
 use Rattle.pool.specs.Lookups.{text_at}
-use Rattle.pool.specs.Members.{found, class_at}
+use Rattle.pool.specs.ConstantMeanings.{found, class_at}
 use Rattle.classfile.specs.Values.{CodeBody, Attribute, Member}
 use Rattle.classfile.specs.Flags.{has, STATIC}
 use Rattle.classfile.specs.Methods.{JudgedClass, Method, judged_bootstraps, ExceptionEntry, code_of, class_named, superclass_of, declared_fields, exception_entries, stack_map_of, member_type, method_with, method_from, method_of}

@@ -3,7 +3,7 @@ use Rattle.std.specs.Prelude.{ℕ, nat_eq, Bool, false, List, Option, Some, None
 use Rattle.std.specs.Option.{option_and_then}
 use Rattle.pool.specs.Entries.{Entry, Fieldref, NameAndType}
 use Rattle.pool.specs.Lookups.{Named, named, entry_at, field_ref_at}
-use Rattle.pool.specs.Members.{constant_at}
+use Rattle.pool.specs.ConstantMeanings.{constant_at}
 use Rattle.classfile.specs.declared.class_file.ClassFile.{ClassFile}
 use Rattle.classfile.specs.Indices.{on_found}
 use Rattle.classfile.specs.Methods.{is_declared, declared_fields}

@@ -5,7 +5,7 @@ use Rattle.std.specs.Option.{option_and_then}
 use Rattle.std.specs.Coded.{Coded, Coded-set, codes}
 use Rattle.names.specs.Descriptors.{FieldDescriptor, MethodDescriptor}
 use Rattle.names.specs.DescriptorCodes.{coded_type}
-use Rattle.pool.specs.Members.{class_at}
+use Rattle.pool.specs.ConstantMeanings.{class_at}
 use Rattle.classfile.specs.Values.{CodeBody, Class}
 use Rattle.classfile.specs.Methods.{JudgedClass, Method, judged_bootstraps, class_named, superclass_of, declared_fields, exception_entries, stack_map_of, code_of, member_type, method_of}
 

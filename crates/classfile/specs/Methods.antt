@@ -7,7 +7,7 @@ use Rattle.names.specs.StandardNames.{init_name, object_name, throwable_name}
 use Rattle.names.specs.Reading.{method_answer}
 use Rattle.pool.specs.Entries.{Entry}
 use Rattle.pool.specs.Lookups.{Named, text_at}
-use Rattle.pool.specs.Members.{found, class_at, FieldConstant}
+use Rattle.pool.specs.ConstantMeanings.{found, class_at, FieldConstant}
 use Rattle.classfile.specs.Bootstraps.{BootstrapMethod, bootstraps_of}
 use Rattle.classfile.specs.Flags.{has, STATIC}
 use Rattle.classfile.specs.Values.{of_parts, of_numbers, raw, Handler, Nested, CodeBody, Attribute, Member, Class}

@@ -5,7 +5,7 @@ ghost use Rattle.names.specs.Descriptors.{MethodDescriptor};
 ghost use Rattle.names.specs.Reading.{method_answer};
 ghost use Rattle.names.specs.Types.{type_of};
 ghost use Rattle.pool.specs.Lookups.{text_at};
-ghost use Rattle.pool.specs.Members.{found};
+ghost use Rattle.pool.specs.ConstantMeanings.{found};
 ghost use Rattle.classfile.specs.Methods.{code_of};
 ghost use Rattle.classfile.specs.MethodParts.{code_at, IsMethod, is_method_prop};
 ghost use Rattle.classfile.specs.Views.{attribute_view, code_view, class_view};

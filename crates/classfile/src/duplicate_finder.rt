@@ -6,7 +6,7 @@ ghost use Rattle.classfile.specs.Indices.{on_text};
 ghost use Rattle.classfile.specs.MemberForm.{are_same, on_member, is_among};
 ghost use Rattle.classfile.specs.Views.{member_view};
 ghost use Rattle.pool.specs.Lookups.{named};
-ghost use Rattle.pool.specs.Members.{found};
+ghost use Rattle.pool.specs.ConstantMeanings.{found};
 ghost use Rattle.pool.specs.Views.{name_and_type_view};
 
 use crate::member::Member;

@@ -24,12 +24,12 @@
 //! | `decoding`, `encoding` | the two calls |
 //! | `outline`, `reading` | [`read_class`], and how far a class reaches in a stream |
 //! | `file_parts`, `skipping` | [`fault_part`], in which part of a file a fault of its bytes lies |
-//! | `laws` | that they undo one another |
 //! | `form` | [`form_check`], [`Formed`], and the places one after the other |
 //! | `profile` | [`Profile`], how the methods of a class are judged |
 //! | `form_fault` | [`FormRule`], [`Place`] and [`FormFault`] |
 //! | `constant_form`, `class_form`, `member_form`, `attribute_form` | which rule is broken at a place |
-//! | `number_form`, `repeated_attributes` | which rule an index in an attribute of numbers breaks, and whether an attribute stands twice |
+//! | `number_form` | which rule is broken by an index in an attribute of numbers |
+//! | `repeated_attributes` | whether an attribute stands twice |
 //! | `record_form` | which rule is broken by the attributes of a class |
 //! | `attribute_fault` | [`attribute_at_fault`], which attribute breaks the rule at a place |
 //! | `text_forms` | the forms of each text of the pool, judged once |
@@ -38,7 +38,7 @@
 //! | `member_keys` | the names and descriptors that were met |
 //! | `text_numbers` | a number for each text of the pool, the same exactly for equal texts |
 //! | `own_fields` | whether the class declares a field |
-//! | `form_laws` | what the rules mean, and that there is one first fault |
+//! | `laws` | the two calls undo one another; the meaning of the rules of well-formed classes, and one first fault |
 #![tactic(auto)]
 
 mod attribute;
@@ -59,7 +59,6 @@ mod file_parts;
 pub mod flags;
 mod form;
 mod form_fault;
-mod form_laws;
 mod indices;
 mod laws;
 mod layouts;
@@ -95,13 +94,11 @@ pub use encoding::encode;
 pub use file_parts::{FilePart, fault_part};
 pub use form::{Formed, form_check};
 pub use form_fault::{FormFault, FormRule, Place};
-pub use form_laws::{
-    formed_has_names, formed_or_faulty, least_rule_is_told, method_is_told, no_fault_in_formed,
-    one_first_fault, tests_are_forms,
-};
 pub use laws::{
-    body_spells_rows, class_is_outline, class_or_fault, no_fault_in_class, one_class, one_fault,
-    one_outline, one_spelling, outline_or_fault, part_is_found,
+    body_spells_rows, class_is_outline, class_or_fault, formed_has_names, formed_or_faulty,
+    least_rule_is_told, method_is_told, no_fault_in_class, no_fault_in_formed, one_class,
+    one_fault, one_first_fault, one_outline, one_spelling, outline_or_fault, part_is_found,
+    tests_are_forms,
 };
 pub use layouts::{AttributeLayout, Column};
 pub use member::Member;

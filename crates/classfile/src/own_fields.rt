@@ -1,7 +1,7 @@
 //! The fields that a class declares itself (JVMS 4.5).
 ghost use Rattle.std.specs.Prelude.{◌≡◌, true, [], map, Ok, IfOk};
 ghost use Rattle.pool.specs.Lookups.{text_at, class_name_at, FieldOf, field_ref_at};
-ghost use Rattle.pool.specs.Members.{found};
+ghost use Rattle.pool.specs.ConstantMeanings.{found};
 ghost use Rattle.pool.specs.Views.{view};
 ghost use Rattle.classfile.specs.Methods.{is_declared, texts, declared_fields};
 ghost use Rattle.classfile.specs.DeclaredFields.{has_named, both_indices, text_indices, type_index, declares, names_class};

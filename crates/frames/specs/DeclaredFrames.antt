@@ -2,7 +2,7 @@
 use Rattle.std.specs.Prelude.{ℕ, ◌+◌, ◌-◌, Bool, true, false, not, ◌||◌, nat_lt, List, [], ◌∷◌, ◌++◌, map, reverse, take, length, Option, Some, None, Result, Ok, Err}
 use Rattle.pool.specs.Entries.{Entry, Class}
 use Rattle.pool.specs.Lookups.{entry_at}
-use Rattle.pool.specs.Members.{class_at}
+use Rattle.pool.specs.ConstantMeanings.{class_at}
 use Rattle.names.specs.ReferenceTypes.{ReferenceType}
 use Rattle.pool.specs.declared.fault.PoolFault.{PoolFault}
 use Rattle.insn.specs.Meanings.{Act, New}

@@ -1,7 +1,7 @@
 //! The classes that entries of a stack map name by the constant pool. The name of an array class is read once.
 ghost use Rattle.std.specs.Prelude.{◌≡◌, IfOk};
 ghost use Rattle.pool.specs.Lookups.{entry_at};
-ghost use Rattle.pool.specs.Members.{class_at};
+ghost use Rattle.pool.specs.ConstantMeanings.{class_at};
 ghost use Rattle.frames.specs.VerificationType.{type_of};
 ghost use Rattle.frames.specs.MapViews.{info_of};
 ghost use Rattle.frames.specs.DeclaredFrames.{is_absent, is_other, object_type, type_given};

@@ -3,7 +3,7 @@ use Rattle.std.proofs.Common.{◌≡◌, ℕ, zero, suc, ◌+◌, Bool, true, fa
 use Rattle.names.specs.declared.base.Primitive.{Primitive}
 use Rattle.names.specs.Descriptors.{FieldDescriptor, primitive, class as class_descriptor, array as array_descriptor}
 use Rattle.names.specs.ReferenceTypes.{ReferenceType, class_type, array_type}
-use Rattle.pool.specs.Members.{class_at, FieldConstant, field_at, MethodConstant, method_at, CallSite, call_site_at}
+use Rattle.pool.specs.ConstantMeanings.{class_at, FieldConstant, field_at, MethodConstant, method_at, CallSite, call_site_at}
 use Rattle.classfile.specs.Methods.{Method, is_own_field}
 use Rattle.hierarchy.specs.World.{World}
 use Rattle.insn.specs.Meanings as acts

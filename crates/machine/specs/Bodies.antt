@@ -1,7 +1,7 @@
 -- The method that runs, as the program keeps it.
 use Rattle.std.specs.Prelude.{◌≡◌, ℕ, List, map, length, Some, option_map}
 use Rattle.names.specs.Types.{type_of}
-use Rattle.pool.specs.Members.{class_at}
+use Rattle.pool.specs.ConstantMeanings.{class_at}
 use Rattle.pool.specs.Entries.{Entry}
 use Rattle.classfile.specs.Values.{Handler}
 use Rattle.classfile.specs.Methods.{Method, ExceptionEntry, judged_bootstraps, stack_map_of, class_named, superclass_of, declared_fields, caught_type}

@@ -8,7 +8,7 @@ use Rattle.names.specs.ReferenceTypes.{ReferenceType, class_type, array_type, de
 use Rattle.names.specs.StandardNames.{object_name, init_name, throwable_name, string_name, class_name, method_type_name, method_handle_name}
 use Rattle.pool.specs.Entries as entries
 use Rattle.pool.specs.Entries.{Entry}
-use Rattle.pool.specs.Members.{constant_at, class_at, FieldConstant, field_at, MethodConstant, method_at, dynamic_type_at, CallSite, call_site_at}
+use Rattle.pool.specs.ConstantMeanings.{constant_at, class_at, FieldConstant, field_at, MethodConstant, method_at, dynamic_type_at, CallSite, call_site_at}
 use Rattle.classfile.specs.Methods.{Method, is_own_field}
 use Rattle.classfile.specs.Naming.{begins_with}
 use Rattle.insn.specs.declared.operation.Kind.{Kind}

@@ -6,7 +6,7 @@ use Rattle.names.specs.ReferenceTypes.{ReferenceType}
 use Rattle.names.specs.StandardNames.{init_name}
 use Rattle.pool.specs.Entries as entries
 use Rattle.pool.specs.Entries.{Entry}
-use Rattle.pool.specs.Members.{constant_at, MethodConstant, method_at, CallSite, call_site_at}
+use Rattle.pool.specs.ConstantMeanings.{constant_at, MethodConstant, method_at, CallSite, call_site_at}
 use Rattle.classfile.specs.Methods.{Method}
 use Rattle.hierarchy.specs.World.{World}
 use Rattle.insn.specs.declared.operation.Kind.{Kind}

@@ -5,7 +5,7 @@
 use Rattle.std.specs.Prelude.{◌≡◌, ℕ, true, List, [], ◌∷◌, ◌++◌, length, slice_get, Option, Some, None, ◌⊎◌}
 use Rattle.names.specs.Descriptors.{FieldDescriptor, primitive, class, array}
 use Rattle.names.specs.ReferenceTypes.{ReferenceType}
-use Rattle.pool.specs.Members.{FieldConstant, field_at, MethodConstant, method_at, CallSite, call_site_at}
+use Rattle.pool.specs.ConstantMeanings.{FieldConstant, field_at, MethodConstant, method_at, CallSite, call_site_at}
 use Rattle.classfile.specs.Methods.{Method, is_own_field}
 use Rattle.hierarchy.specs.World.{World}
 use Rattle.insn.specs.Meanings as acts

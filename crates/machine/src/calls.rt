@@ -3,7 +3,7 @@ ghost use Rattle.std.specs.Prelude.{◌≡◌, ◌++◌, [], ◌∷◌, length, 
 ghost use Rattle.names.specs.Descriptors.{MethodDescriptor, method_width};
 ghost use Rattle.names.specs.ReferenceTypes.{class_type, is_class_type};
 ghost use Rattle.names.specs.Types.{type_of, method_of};
-ghost use Rattle.pool.specs.Members.{method_at, call_site_at};
+ghost use Rattle.pool.specs.ConstantMeanings.{method_at, call_site_at};
 ghost use Rattle.machine.specs.Effects.{of_type, arguments_on, reply_of, is_init_name, may_name, call_of, call_on, invoke_static, invoke_virtual, may_invoke_interface, invoke_interface, constructor_call, special_call, invoke_special, is_special_name, invoke_dynamic};
 ghost use Rattle.machine.specs.private.Constants.{constant_view, site_view};
 ghost use Rattle.machine.specs.private.EffectViews.{demand_view, demands_view, reply_view, effect_view};

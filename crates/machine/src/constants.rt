@@ -3,7 +3,7 @@ ghost use Rattle.std.specs.Prelude.{◌≡◌, IfOk, IfSome, Ok, option_map, fal
 ghost use Rattle.names.specs.Descriptors.{method_width};
 ghost use Rattle.names.specs.ReferenceTypes.{array_of, reference_type};
 ghost use Rattle.names.specs.Types.{type_of, method_of};
-ghost use Rattle.pool.specs.Members.{class_at, field_at, method_at, dynamic_type_at, call_site_at};
+ghost use Rattle.pool.specs.ConstantMeanings.{class_at, field_at, method_at, dynamic_type_at, call_site_at};
 ghost use Rattle.machine.specs.private.Constants.{field_view, constant_view, site_view};
 ghost use Rattle.machine.specs.Views.{run_type_view};
 

@@ -1,7 +1,7 @@
 //! Objects, arrays and casts (JVMS 6.5).
 ghost use Rattle.std.specs.Prelude.{◌≡◌, ◌<◌, IfOk};
 ghost use Rattle.names.specs.ReferenceTypes.{array_type, descriptor_of, dimensions_of};
-ghost use Rattle.pool.specs.Members.{class_at};
+ghost use Rattle.pool.specs.ConstantMeanings.{class_at};
 ghost use Rattle.machine.specs.Effects.{new_object, new_array, new_reference_array, new_multi_array, check_cast, instance_of, sizes};
 ghost use Rattle.machine.specs.private.EffectViews.{demands_view, effect_view};
 ghost use Rattle.machine.specs.Views.{run_type_view};

@@ -6,7 +6,7 @@ ghost use Rattle.names.specs.StandardNames.{object_name};
 ghost use Rattle.insn.specs.Stacks.{computed_as};
 ghost use Rattle.insn.specs.declared.operation.Kind.TheVariants as kinds;
 ghost use Rattle.names.specs.Types.{type_of};
-ghost use Rattle.pool.specs.Members.{constant_at, dynamic_type_at};
+ghost use Rattle.pool.specs.ConstantMeanings.{constant_at, dynamic_type_at};
 ghost use Rattle.insn.specs.Branching.{branches_view};
 ghost use Rattle.insn.specs.Views.{act_view};
 ghost use Rattle.machine.specs.Effects.{of_kind, of_type, some_array_for, gives_answer, objects, operates, reads, writes, no_reply, effect, return_number, return_reference, return_nothing, demands_of_kinds, load_dynamic, load_constant, load_wide_constant};

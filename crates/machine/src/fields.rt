@@ -1,6 +1,6 @@
 //! Fields (JVMS 6.5).
 ghost use Rattle.std.specs.Prelude.{◌≡◌, IfOk};
-ghost use Rattle.pool.specs.Members.{field_at};
+ghost use Rattle.pool.specs.ConstantMeanings.{field_at};
 ghost use Rattle.machine.specs.Effects.{get_static, put_static, get_field, put_field, target_of};
 ghost use Rattle.machine.specs.private.Constants.{field_view};
 ghost use Rattle.machine.specs.private.EffectViews.{demand_view, effect_view};

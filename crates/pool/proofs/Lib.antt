@@ -1,4 +1,4 @@
 pub mod Loop
 pub mod Writes
 pub mod LookupLaws
-pub mod MissingLaws
+pub mod RefusedLookups

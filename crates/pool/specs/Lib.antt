@@ -4,8 +4,8 @@ pub mod EntryLaws
 pub mod Views
 pub mod Refusals
 pub mod Lookups
-pub mod Members
-pub mod Missing
-pub mod MemberViews
+pub mod ConstantMeanings
+pub mod RefusedLookups
+pub mod ConstantViews
 pub mod TextPlaces
 pub mod private

@@ -5,8 +5,8 @@ ghost use Rattle.names.specs.Types.{type_of, method_of};
 ghost use Rattle.names.specs.Reading.{field_answer, method_answer};
 ghost use Rattle.names.specs.ReferenceTypes.{reference_type};
 ghost use Rattle.names.specs.References.{reference_view};
-ghost use Rattle.pool.specs.Members.{found, class_at, field_at, field_constant, method_at, method_constant, dynamic_type_at, call_site, call_site_at};
-ghost use Rattle.pool.specs.MemberViews.{field_constant_view, method_constant_view, call_site_view};
+ghost use Rattle.pool.specs.ConstantMeanings.{found, class_at, field_at, field_constant, method_at, method_constant, dynamic_type_at, call_site, call_site_at};
+ghost use Rattle.pool.specs.ConstantViews.{field_constant_view, method_constant_view, call_site_view};
 ghost use Rattle.pool.specs.TextPlaces.{StandsIn, StandIn, named_view, member_view, method_view};
 
 use crate::constant_pool::Pool;

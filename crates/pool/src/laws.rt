@@ -4,7 +4,7 @@ ghost use Rattle.std.specs.Prelude.{◌≡◌, ◌↔◌, ℕ, List, Ok};
 ghost use Rattle.pool.specs.Entries.{Entry};
 ghost use Rattle.pool.specs.Lookups.{entry_at, text_at, class_name_at, name_and_type_at, field_ref_at, method_ref_at, dynamic_at, invoke_dynamic_at};
 ghost use Rattle.pool.specs.Lookups.{Named, FieldOf, MethodOf, StandsAt, HasText, HasClassName, HasNameAndType, HasField, HasMethod, HasDynamic, HasInvokeDynamic};
-ghost use Rattle.pool.specs.Missing.{RefusedAreMissing, OneIsMissing};
+ghost use Rattle.pool.specs.RefusedLookups.{RefusedAreMissing, OneIsMissing};
 
 /// A look-up finds exactly what stands where its indices lead.
 pub fn found_where_it_stands()

@@ -4,6 +4,7 @@
 //! `specs/Entries.antt`, `specs/Lookups.antt`). The one type to know is [`Pool`]: as a
 //! [`Part`](layout::Part) it is read and written, and [`Pool::get`] and its kin look up in it.
 //!
+//! - `class_types`: the type that a Class constant names
 //! - `constant`: what stands at an index
 //! - `constant_pool`: the pool as one value, and as a part
 //! - `constant_types`: the types of a class, a field, a method, a computed constant or a call site, for instructions
@@ -11,12 +12,12 @@
 //! - `kind`: the kinds of a method handle's reference
 //! - `laws`: what the look-ups find, by what stands where, without code
 //! - `lookups`: what stands at an index, and to which texts it leads
-//! - `members`: the type that a class constant names
 //! - `reading`: bytes to constants
 //! - `reference`: what a NameAndType, a Fieldref, a method's reference and an InvokeDynamic lead to
 //! - `writing`: constants to bytes
 #![tactic(auto)]
 
+mod class_types;
 mod constant;
 mod constant_pool;
 mod constant_types;
@@ -24,7 +25,6 @@ mod fault;
 mod kind;
 mod laws;
 mod lookups;
-mod members;
 mod reading;
 mod reference;
 mod writing;

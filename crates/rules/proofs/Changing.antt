@@ -3,7 +3,7 @@ use Rattle.std.proofs.Common.{◌≡◌, ℕ, zero, suc, ◌∷◌, Bool, true, 
 use Rattle.std.specs.Prelude.{◌&&◌, not, option_and_then}
 use Rattle.std.proofs.lemmas.List.{length-map}
 use Rattle.names.specs.ReferenceTypes.{ReferenceType, class_type, array_type, is_class_type}
-use Rattle.pool.specs.Members.{MethodConstant, class_at, method_at}
+use Rattle.pool.specs.ConstantMeanings.{MethodConstant, class_at, method_at}
 use Rattle.classfile.specs.Methods.{Method}
 use Rattle.insn.specs.Meanings.{Act}
 use Rattle.insn.specs.Meanings as acts

@@ -5,7 +5,7 @@ use Rattle.names.specs.Descriptors.{FieldDescriptor, field_width}
 use Rattle.names.specs.ReferenceTypes.{ReferenceType, class_type, array_type}
 use Rattle.pool.specs.Entries as entries
 use Rattle.pool.specs.Entries.{Entry}
-use Rattle.pool.specs.Members.{FieldConstant}
+use Rattle.pool.specs.ConstantMeanings.{FieldConstant}
 use Rattle.classfile.specs.Bootstraps.{has_bootstrap}
 use Rattle.classfile.specs.Methods.{Method}
 use Rattle.insn.specs.Meanings.{Act}

@@ -12,7 +12,7 @@ use Rattle.names.specs.ReferenceTypes.{ReferenceType, class_type, array_type, be
 use Rattle.pool.specs.declared.fault.PoolFault.{PoolFault}
 use Rattle.pool.specs.Entries.{Entry, Class, Fieldref, Methodref, NameAndType}
 use Rattle.pool.specs.Lookups.{FieldOf, MethodOf, class_name_at, field_ref_at, method_ref_at, StandsAt, HasMember, methodref}
-use Rattle.pool.specs.Members.{found, constant_at, FieldConstant, field_of_class, field_constant, field_at, MethodConstant, method_of_class, method_constant, method_at}
+use Rattle.pool.specs.ConstantMeanings.{found, constant_at, FieldConstant, field_of_class, field_constant, field_at, MethodConstant, method_of_class, method_constant, method_at}
 use Rattle.pool.proofs.LookupLaws.{stands_entry, stands_text, stands_class, field_stands, method_stands}
 use Rattle.classfile.specs.declared.class_file.ClassFile.{ClassFile}
 use Rattle.classfile.specs.Indices.{on_found}

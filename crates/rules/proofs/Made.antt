@@ -5,7 +5,7 @@ use Rattle.std.specs.Prelude.{not, ◌&&◌}
 use Rattle.names.specs.Descriptors.{FieldDescriptor}
 use Rattle.names.specs.ReferenceTypes.{ReferenceType, class_type, array_type, is_class_type}
 use Rattle.classfile.specs.Methods.{Method, class_named}
-use Rattle.pool.specs.Members.{MethodConstant, class_at, method_at}
+use Rattle.pool.specs.ConstantMeanings.{MethodConstant, class_at, method_at}
 use Rattle.insn.specs.Meanings as acts
 use Rattle.insn.specs.Meanings.{Act}
 use Rattle.insn.specs.Stacks.{beneath}

@@ -7,8 +7,8 @@ use Rattle.names.specs.declared.references.RefType.{RefType}
 use Rattle.pool.specs.declared.reference.FieldConstant.{FieldConstant}
 use Rattle.names.specs.declared.descriptor.FieldType.{FieldType}
 use Rattle.names.specs.Types.{type_of}
-use Rattle.pool.specs.Members.{class_at, field_at, method_at, dynamic_type_at, call_site_at}
-use Rattle.pool.specs.MemberViews.{field_constant_view, method_constant_view, call_site_view}
+use Rattle.pool.specs.ConstantMeanings.{class_at, field_at, method_at, dynamic_type_at, call_site_at}
+use Rattle.pool.specs.ConstantViews.{field_constant_view, method_constant_view, call_site_view}
 use Rattle.classfile.specs.Methods.{Method}
 use Rattle.insn.specs.Meanings as acts
 use Rattle.insn.specs.Views.{act_view}

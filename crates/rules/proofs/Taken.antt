@@ -7,7 +7,7 @@ use Rattle.names.specs.ReferenceTypes.{ReferenceType, class_type, array_type, is
 use Rattle.pool.specs.Entries as entries
 use Rattle.pool.specs.Entries.{Entry}
 use Rattle.classfile.specs.Bootstraps.{has_bootstrap}
-use Rattle.pool.specs.Members.{constant_at, class_at, field_at, method_at, dynamic_type_at, call_site_at, FieldConstant, MethodConstant, CallSite}
+use Rattle.pool.specs.ConstantMeanings.{constant_at, class_at, field_at, method_at, dynamic_type_at, call_site_at, FieldConstant, MethodConstant, CallSite}
 use Rattle.classfile.specs.Methods.{Method}
 use Rattle.insn.specs.Acts.{StackForm, stack_forms, numeric_row}
 use Rattle.insn.specs.Meanings as acts

@@ -2,8 +2,8 @@
 use Rattle.std.proofs.Common.{◌≡◌, ◌∙◌, ℕ, true, false, if◌then◌else◌, List, [], ◌∷◌, length, Option, Some, option_map, Result, refl, sym, ap, subst, arith}
 use Rattle.std.specs.Option.{option_and_then, option_map_or}
 use Rattle.names.specs.ReferenceTypes.{ReferenceType, class_type, array_type, is_class_type}
-use Rattle.pool.specs.Members.{FieldConstant, field_at, MethodConstant, method_at}
-use Rattle.pool.specs.MemberViews.{field_constant_view, method_constant_view}
+use Rattle.pool.specs.ConstantMeanings.{FieldConstant, field_at, MethodConstant, method_at}
+use Rattle.pool.specs.ConstantViews.{field_constant_view, method_constant_view}
 use Rattle.pool.specs.declared.reference.FieldConstant.{FieldConstant as RawField}
 use Rattle.pool.specs.declared.reference.MethodConstant.{MethodConstant as RawMethod}
 use Rattle.classfile.specs.Methods.{Method}

@@ -9,7 +9,7 @@ use Rattle.names.specs.ReferenceTypes.{ReferenceType, class_type, array_type, de
 use Rattle.names.specs.StandardNames.{object_name, init_name, string_name, class_name, method_type_name, method_handle_name}
 use Rattle.pool.specs.Entries as entries
 use Rattle.pool.specs.Entries.{Entry}
-use Rattle.pool.specs.Members.{FieldConstant, MethodConstant, CallSite}
+use Rattle.pool.specs.ConstantMeanings.{FieldConstant, MethodConstant, CallSite}
 use Rattle.classfile.specs.Bootstraps.{has_bootstrap}
 use Rattle.classfile.specs.Methods.{Method, is_own_field}
 use Rattle.classfile.specs.Naming.{begins_with}

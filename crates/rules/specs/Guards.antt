@@ -5,7 +5,7 @@ use Rattle.names.specs.ReferenceTypes.{class_type}
 use Rattle.pool.specs.declared.fault.PoolFault.{PoolFault}
 use Rattle.pool.specs.Entries.{Entry, Class, Fieldref, Methodref, NameAndType}
 use Rattle.pool.specs.Lookups.{entry_at, text_at}
-use Rattle.pool.specs.Members.{constant_at, class_at, FieldConstant, field_at, MethodConstant, method_at}
+use Rattle.pool.specs.ConstantMeanings.{constant_at, class_at, FieldConstant, field_at, MethodConstant, method_at}
 use Rattle.classfile.specs.declared.class_file.ClassFile.{ClassFile}
 use Rattle.classfile.specs.Indices.{on_found}
 use Rattle.classfile.specs.Methods.{Method, class_named}

@@ -5,9 +5,9 @@ use Rattle.names.specs.References.{reference_view}
 use Rattle.names.specs.Types.{type_of}
 use Rattle.names.specs.declared.descriptor.FieldType.{FieldType}
 use Rattle.names.specs.declared.references.RefType.{RefType}
-use Rattle.pool.specs.Members.{constant_at, class_at, field_at, method_at, dynamic_type_at, call_site_at}
-use Rattle.pool.specs.Members as members
-use Rattle.pool.specs.MemberViews.{field_constant_view, method_constant_view, call_site_view}
+use Rattle.pool.specs.ConstantMeanings.{constant_at, class_at, field_at, method_at, dynamic_type_at, call_site_at}
+use Rattle.pool.specs.ConstantMeanings as meanings
+use Rattle.pool.specs.ConstantViews.{field_constant_view, method_constant_view, call_site_view}
 use Rattle.pool.specs.declared.reference.FieldConstant.{FieldConstant}
 use Rattle.pool.specs.declared.reference.MethodConstant.{MethodConstant}
 use Rattle.pool.specs.declared.reference.CallSite.{CallSite}
@@ -59,7 +59,7 @@ abbrev pub names_nothing : Act → Bool
 names_nothing a = names_no_member a && is_none (loaded_index a) && is_none (site_index a)
 
 -- the field of the class itself that `putfield` sets in an instance initialization method
-abbrev pub is_own : methods.Method Act → Option members.FieldConstant → Bool
+abbrev pub is_own : methods.Method Act → Option meanings.FieldConstant → Bool
 is_own m (Some f) = m.is_init && is_own_field m f
 is_own m None = false
 

@@ -4,7 +4,7 @@ use Rattle.std.specs.Prelude.{ℕ, Bool, false, if◌then◌else◌, List, [], �
 use Rattle.std.specs.Option.{option_and_then, option_map_or}
 use Rattle.names.specs.Descriptors.{FieldDescriptor}
 use Rattle.names.specs.ReferenceTypes.{ReferenceType, class_type}
-use Rattle.pool.specs.Members.{FieldConstant, field_at, MethodConstant, method_at}
+use Rattle.pool.specs.ConstantMeanings.{FieldConstant, field_at, MethodConstant, method_at}
 use Rattle.classfile.specs.Methods.{Method}
 use Rattle.hierarchy.specs.declared.summary.Kind.TheVariants as kinds
 use Rattle.hierarchy.specs.Class.{ClassFact}

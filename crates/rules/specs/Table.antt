@@ -3,7 +3,7 @@ use Rattle.std.specs.Prelude.{ℕ, true, false, if◌then◌else◌, List, [], �
 use Rattle.names.specs.Descriptors.{FieldDescriptor, primitive, class as class_descriptor, array as array_descriptor}
 use Rattle.names.specs.ReferenceTypes.{class_type, array_type}
 use Rattle.names.specs.StandardNames.{object_name, throwable_name}
-use Rattle.pool.specs.Members.{constant_at, class_at, field_at, method_at, dynamic_type_at, call_site_at}
+use Rattle.pool.specs.ConstantMeanings.{constant_at, class_at, field_at, method_at, dynamic_type_at, call_site_at}
 use Rattle.classfile.specs.Methods.{Method}
 use Rattle.insn.specs.declared.operation.Kind.{Kind}
 use Rattle.insn.specs.declared.operation.Kind.TheVariants as kinds

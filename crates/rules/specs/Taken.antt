@@ -1,6 +1,6 @@
 -- How many items of the stack an instruction takes, and the items beneath them, which stay.
 use Rattle.std.specs.Prelude.{◌≡◌, ℕ, ◌+◌, ◌<◌, false, max, List, [], ◌∷◌, length, Option, Some, None}
-use Rattle.pool.specs.Members.{MethodConstant, CallSite}
+use Rattle.pool.specs.ConstantMeanings.{MethodConstant, CallSite}
 use Rattle.insn.specs.Acts.{StackForm}
 use Rattle.insn.specs.Meanings as acts
 use Rattle.insn.specs.Meanings.{Act}

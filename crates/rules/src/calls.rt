@@ -2,7 +2,7 @@
 ghost use Rattle.std.specs.Prelude.{◌≡◌, ◌&&◌, ℕ, not, true, [], map, option_map, option_to_list, IfOk};
 ghost use Rattle.names.specs.Types.{type_of, method_of};
 ghost use Rattle.names.specs.ReferenceTypes.{is_class_type};
-ghost use Rattle.pool.specs.MemberViews.{method_constant_view, call_site_view};
+ghost use Rattle.pool.specs.ConstantViews.{method_constant_view, call_site_view};
 ghost use Rattle.rules.specs.TypingRules.{arguments_on, pops, result_types, expected_of};
 ghost use Rattle.rules.specs.Constants.{is_init_name, may_name, has_room_for_receiver, may_invoke_interface, invoke_static, invoke_virtual, invoke_interface, is_special_name, dynamic_call, invoke_dynamic};
 ghost use Rattle.rules.specs.After.{after};

@@ -1,7 +1,7 @@
 //! Instructions that load constants.
 ghost use Rattle.std.specs.Prelude.{◌≡◌, ℕ, option_map};
 ghost use Rattle.names.specs.Types.{type_of};
-ghost use Rattle.pool.specs.Members.{constant_at};
+ghost use Rattle.pool.specs.ConstantMeanings.{constant_at};
 ghost use Rattle.rules.specs.Constants.{is_bootstrapped, load_dynamic, load_constant, load_wide_constant};
 ghost use Rattle.rules.specs.TypingRules.{where_judged};
 ghost use Rattle.rules.specs.After.{after};

@@ -1,7 +1,7 @@
 //! Calls of constructors by `invokespecial`.
 ghost use Rattle.std.specs.Prelude.{◌≡◌, ℕ, [], option_map};
 ghost use Rattle.classfile.specs.Methods.{is_name};
-ghost use Rattle.pool.specs.MemberViews.{method_constant_view};
+ghost use Rattle.pool.specs.ConstantViews.{method_constant_view};
 ghost use Rattle.frames.specs.VerificationType.{type_of};
 ghost use Rattle.rules.specs.TypingRules.{arguments_on, constructs};
 ghost use Rattle.rules.specs.Table.{class_made_at};

@@ -1,7 +1,7 @@
 //! The class that declares the method (the current class), and its superclass.
 ghost use Rattle.std.specs.Prelude.{◌≡◌, [], option_map};
 ghost use Rattle.classfile.specs.Methods.{class_named};
-ghost use Rattle.pool.specs.Members.{class_at};
+ghost use Rattle.pool.specs.ConstantMeanings.{class_at};
 ghost use Rattle.rules.specs.Bodies.{method_view};
 
 use classfile::CodeMethod;

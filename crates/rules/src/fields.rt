@@ -1,6 +1,6 @@
 //! Instructions that read and write fields.
 ghost use Rattle.std.specs.Prelude.{◌≡◌, ℕ, Some, option_map};
-ghost use Rattle.pool.specs.MemberViews.{field_constant_view};
+ghost use Rattle.pool.specs.ConstantViews.{field_constant_view};
 ghost use Rattle.rules.specs.Constants.{get_static, put_static, get_field, put_field, target_of};
 ghost use Rattle.rules.specs.After.{after};
 ghost use Rattle.rules.specs.Rules.{conditions};

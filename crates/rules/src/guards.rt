@@ -3,7 +3,7 @@
 ghost use Rattle.std.specs.Prelude.{◌≡◌, true, false, [], List, option_map, slice_get, Some, IfOk, IfSome};
 ghost use Rattle.names.specs.References.{reference_view};
 ghost use Rattle.pool.specs.Entries.{Entry};
-ghost use Rattle.pool.specs.Members.{constant_at};
+ghost use Rattle.pool.specs.ConstantMeanings.{constant_at};
 ghost use Rattle.pool.specs.Views.{view};
 ghost use Rattle.classfile.specs.declared.class_file.ClassFile.{ClassFile};
 ghost use Rattle.hierarchy.specs.Class.{ClassFact};

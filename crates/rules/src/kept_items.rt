@@ -3,7 +3,7 @@ ghost use Rattle.std.specs.Prelude.{◌≡◌, ◌≤◌, ◌<◌, ℕ, true, fa
 ghost use Rattle.insn.specs.Views.{act_view};
 ghost use Rattle.frames.specs.Objects.{is_initialized};
 ghost use Rattle.frames.specs.OperandStacks.{item};
-ghost use Rattle.pool.specs.MemberViews.{method_constant_view, call_site_view};
+ghost use Rattle.pool.specs.ConstantViews.{method_constant_view, call_site_view};
 ghost use Rattle.insn.specs.Stacks.{beneath};
 ghost use Rattle.rules.specs.After.{after, top_of};
 ghost use Rattle.rules.specs.Bodies.{method_view};

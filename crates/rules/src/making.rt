@@ -1,6 +1,6 @@
 //! `new`
 ghost use Rattle.std.specs.Prelude.{◌≡◌, ℕ, List};
-ghost use Rattle.pool.specs.Members.{class_at};
+ghost use Rattle.pool.specs.ConstantMeanings.{class_at};
 ghost use Rattle.hierarchy.specs.Class.{ClassFact};
 ghost use Rattle.rules.specs.TypingRules.{makes};
 ghost use Rattle.rules.specs.Constants.{new_object};

@@ -1,7 +1,7 @@
 //! Whether an instruction calls a constructor on the own object.
 ghost use Rattle.std.specs.Prelude.{◌≡◌, ◌&&◌, ℕ, List, [], not, drop, length, option_map};
 ghost use Rattle.names.specs.ReferenceTypes.{is_class_type};
-ghost use Rattle.pool.specs.MemberViews.{method_constant_view};
+ghost use Rattle.pool.specs.ConstantViews.{method_constant_view};
 ghost use Rattle.insn.specs.Stacks.{beneath};
 ghost use Rattle.insn.specs.Views.{act_view};
 ghost use Rattle.frames.specs.DeclaredFrames.{is_uninit_this};

@@ -1,7 +1,7 @@
 //! `invokespecial`
 ghost use Rattle.std.specs.Prelude.{◌≡◌, ◌&&◌, ℕ, not, [], ◌∷◌, option_map};
 ghost use Rattle.names.specs.ReferenceTypes.{is_class_type};
-ghost use Rattle.pool.specs.MemberViews.{method_constant_view};
+ghost use Rattle.pool.specs.ConstantViews.{method_constant_view};
 ghost use Rattle.rules.specs.TypingRules.{arguments_on, calls_special, expected_class, result_types};
 ghost use Rattle.rules.specs.Constants.{constructor_call, has_room_for_receiver, invoke_special, may_name, special_call};
 ghost use Rattle.rules.specs.After.{after};

@@ -13,7 +13,7 @@ use Rattle.pool.specs.declared.fault.PoolFault.TheVariants.{WrongKind}
 use Rattle.pool.specs.Entries.{Entry}
 use Rattle.pool.specs.Entries as entries
 use Rattle.pool.specs.Lookups.{Named, FieldOf, and_then, entry_at, text_at, class_name_in, class_name_at, named, name_and_type_in, name_and_type_at, member}
-use Rattle.pool.specs.Members.{found, field_of_class, field_constant}
+use Rattle.pool.specs.ConstantMeanings.{found, field_of_class, field_constant}
 use Rattle.pool.specs.Views.{view}
 use Rattle.hierarchy.proofs.Names.{none_some, some_same}
 use Rattle.frames.specs.VerificationType.{VerificationType, class as of_class}

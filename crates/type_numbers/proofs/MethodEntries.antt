@@ -7,7 +7,7 @@ use Rattle.names.specs.Reading.{method_answer}
 use Rattle.pool.specs.declared.fault.PoolFault.{PoolFault}
 use Rattle.pool.specs.Entries.{Entry}
 use Rattle.pool.specs.Lookups.{FieldOf, MethodOf, and_then, member, method, methodref, text_at}
-use Rattle.pool.specs.Members.{MethodConstant, found, method_of_class, method_constant}
+use Rattle.pool.specs.ConstantMeanings.{MethodConstant, found, method_of_class, method_constant}
 use Rattle.hierarchy.proofs.Names.{none_some}
 use Rattle.frames.specs.Slots.{to_reference}
 use Rattle.type_numbers.specs.declared.method_numbers.MethodNumbers.{MethodNumbers}

@@ -11,7 +11,7 @@ use Rattle.names.specs.Types.{type_of}
 use Rattle.names.specs.declared.descriptor.FieldType.{FieldType}
 use Rattle.pool.specs.Entries.{Entry}
 use Rattle.pool.specs.Lookups.{text_at}
-use Rattle.pool.specs.Members.{found}
+use Rattle.pool.specs.ConstantMeanings.{found}
 use Rattle.frames.specs.VerificationType.{VerificationType}
 use Rattle.frames.specs.Slots.{descriptor_type}
 use Rattle.type_numbers.specs.declared.method_numbers.DescriptorNumbers.{DescriptorNumbers}

@@ -7,7 +7,7 @@ use Rattle.pool.specs.declared.fault.PoolFault.{PoolFault}
 use Rattle.pool.specs.Entries.{Entry}
 use Rattle.pool.specs.Entries as entries
 use Rattle.pool.specs.Lookups.{and_then, entry_at, named, name_and_type_in, name_and_type_at, text_at}
-use Rattle.pool.specs.Members.{CallSite, found, dynamic_type, call_site, site_with}
+use Rattle.pool.specs.ConstantMeanings.{CallSite, found, dynamic_type, call_site, site_with}
 use Rattle.hierarchy.proofs.Names.{none_some, some_same}
 use Rattle.type_numbers.specs.declared.method_numbers.MethodNumbers.{MethodNumbers}
 use Rattle.type_numbers.specs.declared.named_constant.NamedConstant.TheVariants.{Other}

@@ -8,7 +8,7 @@ use Rattle.std.proofs.lemmas.Option.{slice_get_within, slice_get_read, get_or_fr
 use Rattle.pool.specs.declared.fault.PoolFault.{PoolFault}
 use Rattle.pool.specs.declared.fault.PoolFault.TheVariants.{BadIndex}
 use Rattle.pool.specs.Lookups.{text_at, entry_at, and_then, usable, text_in}
-use Rattle.pool.specs.Members.{found}
+use Rattle.pool.specs.ConstantMeanings.{found}
 use Rattle.type_numbers.specs.declared.text_numbers.Form.{Form}
 use Rattle.type_numbers.specs.declared.text_numbers.TextNumbers.{TextNumbers}
 use Rattle.pool.specs.Entries.{Entry}

@@ -13,7 +13,7 @@ use Rattle.pool.specs.Views.{view, views}
 use Rattle.pool.specs.Entries.{Entry}
 use Rattle.pool.specs.Entries as entries
 use Rattle.pool.specs.Lookups.{and_then, usable, entry_at, class_name_in, class_name_at, field_ref_in, field_ref_at, method_ref_in, method_ref_at, dynamic_in, dynamic_at, invoke_dynamic_in, invoke_dynamic_at}
-use Rattle.pool.specs.Members.{found, field_constant, method_constant, dynamic_type, call_site}
+use Rattle.pool.specs.ConstantMeanings.{found, field_constant, method_constant, dynamic_type, call_site}
 use Rattle.frames.specs.Slots.{to_reference, descriptor_type}
 use Rattle.hierarchy.proofs.Names.{slice_none, some_same}
 use Rattle.type_numbers.specs.declared.constant_table.ConstantTable.{ConstantTable}

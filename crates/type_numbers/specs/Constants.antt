@@ -6,7 +6,7 @@ use Rattle.names.specs.ReferenceTypes.{ReferenceType}
 use Rattle.names.specs.StandardNames.{string_name, class_name, method_type_name, method_handle_name}
 use Rattle.pool.specs.Entries as entries
 use Rattle.pool.specs.Entries.{Entry}
-use Rattle.pool.specs.Members.{FieldConstant, MethodConstant, CallSite, constant_at, class_at, field_at, method_at, dynamic_type_at, call_site_at}
+use Rattle.pool.specs.ConstantMeanings.{FieldConstant, MethodConstant, CallSite, constant_at, class_at, field_at, method_at, dynamic_type_at, call_site_at}
 use Rattle.frames.specs.VerificationType.{VerificationType, int, float, long, double, class}
 use Rattle.frames.specs.Slots.{to_reference, descriptor_type}
 use Rattle.type_numbers.specs.declared.constant_table.ConstantTable.{ConstantTable}

@@ -6,7 +6,7 @@ use Rattle.names.specs.Descriptors.{MethodDescriptor}
 use Rattle.names.specs.Reading.{method_answer}
 use Rattle.pool.specs.Entries.{Entry}
 use Rattle.pool.specs.Lookups.{text_at}
-use Rattle.pool.specs.Members.{found}
+use Rattle.pool.specs.ConstantMeanings.{found}
 use Rattle.frames.specs.VerificationType.{VerificationType}
 use Rattle.frames.specs.Slots.{descriptor_type}
 use Rattle.type_numbers.specs.declared.method_numbers.MethodNumbers.{MethodNumbers}

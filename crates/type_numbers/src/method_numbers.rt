@@ -4,7 +4,7 @@ ghost use Rattle.names.specs.Reading.{method_answer};
 ghost use Rattle.names.specs.Types.{method_of, type_of};
 ghost use Rattle.frames.specs.Slots.{descriptor_type};
 ghost use Rattle.pool.specs.Lookups.{text_at};
-ghost use Rattle.pool.specs.Members.{found};
+ghost use Rattle.pool.specs.ConstantMeanings.{found};
 ghost use Rattle.type_numbers.specs.Numbers.{Numbering, Extends, IsNumberOf};
 ghost use Rattle.type_numbers.specs.MethodNumbers.{AreDescriptors, AreNumbers, AreTypes, AreTypesOf, GoesOn, arguments_in, method_in, row_of};
 

@@ -1,18 +1,10 @@
 pub mod safety
 pub mod Declared
 pub mod Reasons
-pub mod Passing
-pub mod Following
 pub mod Meeting
-pub mod Shown
 pub mod FramesFound
 pub mod Counted
 pub mod Premises
-pub mod Verdicts
-pub mod Refusing
-mod Refused
-pub mod MapFaults
-mod Breaks
 pub mod MapReading
 pub mod Decoded
 pub mod Caught
@@ -31,15 +23,9 @@ pub mod Detailed
 pub mod Onward
 pub mod Parameters
 pub mod Summaries
-pub mod Judged
 pub mod Kept
 pub mod Replacing
 pub mod MethodCode
-pub mod Answering
-pub mod OneVerdict
-mod Examples
-mod BranchExamples
-mod ObjectExamples
 pub mod Named
 pub mod Formed
 pub mod Playing
@@ -47,3 +33,5 @@ pub mod FilesInPlay
 pub mod Walking
 pub mod Standings
 pub mod OneMore
+pub mod verdicts
+pub mod examples

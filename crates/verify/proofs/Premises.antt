@@ -22,7 +22,7 @@ use Rattle.verify.specs.TypeSafety.{Frames, HasEntries, Declares, IsSoundEntry}
 use Rattle.verify.specs.Verdict.{MapRefusal, Verdict, verified, refused_or, all_entries, entries_read, or_undeclared, frames_of, frames_declared, is_end, table_conditions, table_judged}
 use Rattle.verify.proofs.Declared.{none_least}
 use Rattle.verify.proofs.Reasons.{none_told, not_refused, answer_yes, yes_none}
-use Rattle.verify.proofs.Passing.{AreApart}
+use Rattle.verify.proofs.verdicts.Passing.{AreApart}
 
 -- ---- offsets that rise
 

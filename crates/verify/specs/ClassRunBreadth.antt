@@ -7,7 +7,7 @@ use Rattle.std.specs.Prelude.{◌≡◌, ℕ, suc, ◌+◌, ◌-◌, Bool, true,
 use Rattle.names.specs.Descriptors.{class}
 use Rattle.names.specs.ReferenceTypes.{ReferenceType, class_type}
 use Rattle.names.specs.StandardNames.{init_name}
-use Rattle.pool.specs.Members.{MethodConstant, method_at}
+use Rattle.pool.specs.ConstantMeanings.{MethodConstant, method_at}
 use Rattle.classfile.specs.Methods.{JudgedClass, Method, own_receiver, receiver_of}
 use Rattle.hierarchy.specs.World.{World}
 use Rattle.insn.specs.Meanings as acts

@@ -2,7 +2,7 @@
 -- methods are type-safe are safe.
 use Rattle.std.specs.Prelude.{◌≡◌, ℕ, List, Some}
 use Rattle.pool.specs.Lookups.{text_at}
-use Rattle.pool.specs.Members.{found}
+use Rattle.pool.specs.ConstantMeanings.{found}
 use Rattle.classfile.specs.Methods.{JudgedClass, Method}
 use Rattle.hierarchy.specs.World.{World}
 use Rattle.hierarchy.specs.Class.{ClassFact}

@@ -3,7 +3,7 @@
 use Rattle.std.specs.Prelude.{◌≡◌, ◌⊎◌, ℕ, Bool, true, false, nat_eq, bytes_eq, if◌then◌else◌, List, [], ◌∷◌, ◌++◌, length, slice_get, Option, Some, None, option_map}
 use Rattle.names.specs.ReferenceTypes.{ReferenceType, class_type}
 use Rattle.names.specs.StandardNames.{init_name}
-use Rattle.pool.specs.Members.{MethodConstant, method_at}
+use Rattle.pool.specs.ConstantMeanings.{MethodConstant, method_at}
 use Rattle.classfile.specs.Methods.{Method, Receiver, own_receiver, receiver_of}
 use Rattle.hierarchy.specs.World.{World}
 use Rattle.insn.specs.Meanings as acts

@@ -1,7 +1,7 @@
 -- Words of the code's own steps: nothing that a reader must believe rests on them.
 -- Constants as the program keeps them.
 use Rattle.names.specs.Types.{type_of, method_of}
-use Rattle.pool.specs.Members.{FieldConstant, MethodConstant, CallSite}
+use Rattle.pool.specs.ConstantMeanings.{FieldConstant, MethodConstant, CallSite}
 use Rattle.machine.specs.declared.constants.FieldConstant.{FieldConstant as RawField}
 use Rattle.machine.specs.declared.constants.MethodConstant.{MethodConstant as RawMethod}
 use Rattle.machine.specs.declared.constants.CallSite.{CallSite as RawSite}

@@ -6,7 +6,7 @@ use Rattle.names.specs.ReferenceTypes.{ReferenceType, reference_type}
 use Rattle.pool.specs.Entries.{Entry}
 use Rattle.pool.specs.Entries as entries
 use Rattle.pool.specs.Lookups.{text_at, name_and_type_at, member, method}
-use Rattle.pool.specs.Members.{FieldConstant, MethodConstant, CallSite, found, constant_at, field_constant, method_constant, dynamic_type, call_site}
+use Rattle.pool.specs.ConstantMeanings.{FieldConstant, MethodConstant, CallSite, found, constant_at, field_constant, method_constant, dynamic_type, call_site}
 use Rattle.type_numbers.specs.declared.method_numbers.MethodNumbers.{MethodNumbers}
 use Rattle.type_numbers.specs.declared.named_constant.NamedConstant.{NamedConstant}
 use Rattle.type_numbers.specs.declared.named_constant.NamedConstant.TheVariants.{Other, Class, Field, Method, Loaded, Dynamic, Site}

@@ -6,7 +6,7 @@ use Rattle.names.specs.ReferenceTypes.{reference_type}
 use Rattle.names.specs.StandardNames.{string_name, class_name, method_type_name, method_handle_name}
 use Rattle.pool.specs.Entries.{Entry}
 use Rattle.pool.specs.Lookups.{text_at}
-use Rattle.pool.specs.Members.{found}
+use Rattle.pool.specs.ConstantMeanings.{found}
 use Rattle.frames.specs.VerificationType.{VerificationType, class}
 use Rattle.frames.specs.Slots.{to_reference, descriptor_type}
 use Rattle.type_numbers.specs.declared.loaded_numbers.LoadedNumbers.{LoadedNumbers}

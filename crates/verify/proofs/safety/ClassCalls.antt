@@ -4,7 +4,7 @@ use Rattle.std.specs.Str.{bytes_eq}
 use Rattle.names.specs.Descriptors.{FieldDescriptor, primitive, class, array}
 use Rattle.names.specs.ReferenceTypes.{ReferenceType, class_type, array_type, is_class_type}
 use Rattle.names.specs.StandardNames.{init_name}
-use Rattle.pool.specs.Members.{MethodConstant, method_at}
+use Rattle.pool.specs.ConstantMeanings.{MethodConstant, method_at}
 use Rattle.classfile.specs.Methods.{Method}
 use Rattle.hierarchy.specs.World.{World}
 use Rattle.insn.specs.Meanings as acts

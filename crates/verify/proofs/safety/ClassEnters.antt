@@ -7,7 +7,7 @@ use Rattle.names.specs.ReferenceTypes.{ReferenceType, class_type, array_type}
 use Rattle.names.specs.StandardNames.{init_name, object_name}
 use Rattle.names.specs.Reading.{method_answer}
 use Rattle.pool.specs.Lookups.{MethodOf, method_ref_at}
-use Rattle.pool.specs.Members.{found, MethodConstant, method_of_class, method_constant}
+use Rattle.pool.specs.ConstantMeanings.{found, MethodConstant, method_of_class, method_constant}
 use Rattle.names.specs.ReferenceTypes.{reference_type}
 use Rattle.classfile.specs.Methods.{Method, Receiver, no_receiver, ready_receiver, own_receiver, receiver_of}
 use Rattle.hierarchy.specs.World.{World, IsSubclassIn, same}

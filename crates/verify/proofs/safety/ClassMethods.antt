@@ -13,7 +13,7 @@ use Rattle.names.specs.Reading.{is_deep, whole, read_method, limited_method, fie
 use Rattle.pool.specs.declared.fault.PoolFault.{PoolFault}
 use Rattle.pool.specs.Entries.{Entry}
 use Rattle.pool.specs.Lookups.{text_at, class_name_at}
-use Rattle.pool.specs.Members.{found, class_at}
+use Rattle.pool.specs.ConstantMeanings.{found, class_at}
 use Rattle.classfile.specs.Flags.{has, STATIC}
 use Rattle.classfile.specs.Values.{CodeBody, Member}
 use Rattle.classfile.specs.Methods as methods

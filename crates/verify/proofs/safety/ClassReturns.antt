@@ -4,7 +4,7 @@ use Rattle.names.specs.Descriptors.{FieldDescriptor, primitive, class, array, fi
 use Rattle.names.specs.ReferenceTypes.{ReferenceType, class_type, array_type, dimensions_of, descriptor_of, is_class_type}
 use Rattle.pool.specs.Entries as entries
 use Rattle.pool.specs.Entries.{Entry}
-use Rattle.pool.specs.Members.{FieldConstant, MethodConstant, constant_at, class_at, field_at, method_at, dynamic_type_at, CallSite, call_site_at}
+use Rattle.pool.specs.ConstantMeanings.{FieldConstant, MethodConstant, constant_at, class_at, field_at, method_at, dynamic_type_at, CallSite, call_site_at}
 use Rattle.names.specs.declared.base.Primitive.{Primitive}
 use Rattle.classfile.specs.Methods.{Method}
 use Rattle.hierarchy.specs.World.{World}

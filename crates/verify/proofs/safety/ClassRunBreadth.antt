@@ -2,7 +2,7 @@
 use Rattle.std.proofs.Common.{◌≡◌, ℕ, zero, suc, ◌+◌, ◌-◌, Bool, true, false, nat_eq, List, [], ◌∷◌, ◌++◌, length, drop, slice_get, Option, Some, None, option_map, ◌⊎◌, inl, inr, if◌then◌else◌, sym, ap, refl, ◌∙◌, subst, arith, eqb-true, eq-eqb}
 use Rattle.names.specs.Descriptors.{FieldDescriptor, primitive, class, array}
 use Rattle.names.specs.ReferenceTypes.{ReferenceType}
-use Rattle.pool.specs.Members.{MethodConstant}
+use Rattle.pool.specs.ConstantMeanings.{MethodConstant}
 use Rattle.classfile.specs.Methods.{Method, Receiver, no_receiver, ready_receiver, own_receiver, receiver_of}
 use Rattle.hierarchy.specs.World.{World}
 use Rattle.insn.specs.Meanings as acts

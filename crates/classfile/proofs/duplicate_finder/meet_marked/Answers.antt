@@ -2,7 +2,7 @@ use Rattle.std.proofs.Common.{◌≡◌, ◌∙◌, ◌<◌, Bool, true, false, 
 use Rattle.std.specs.Prelude.{slice_index_or, slice_set}
 use Rattle.pool.specs.declared.fault.PoolFault.{PoolFault}
 use Rattle.pool.specs.Lookups.{Named, named}
-use Rattle.pool.specs.Members.{found}
+use Rattle.pool.specs.ConstantMeanings.{found}
 use Rattle.pool.specs.Views.{name_and_type_view}
 use Rattle.classfile.specs.private.DuplicateFinder.{mark, MeetsMarked}
 use Rattle.classfile.specs.Views.{member_view}

@@ -1,5 +1,5 @@
 use Rattle.std.proofs.Common.{[]}
-use Rattle.pool.proofs.MissingLaws.{text_missing, class_missing, named_missing, name_and_type_missing, field_missing, method_missing, dynamic_missing, invoke_dynamic_missing, one_missing}
+use Rattle.pool.proofs.RefusedLookups.{text_missing, class_missing, named_missing, name_and_type_missing, field_missing, method_missing, dynamic_missing, invoke_dynamic_missing, one_missing}
 use Rattle.pool.proofs.laws.refused_where_nothing_fits.Goals as goal
 
 pub returns-clause-refused : goal.returns-clause-refused

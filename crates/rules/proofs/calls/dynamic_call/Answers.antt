@@ -1,6 +1,6 @@
 use Rattle.std.proofs.Common.{rules, tests, ◌≡◌, true, refl, ap}
 use Rattle.std.specs.Prelude.{not, option_map}
-use Rattle.pool.specs.MemberViews.{call_site_view}
+use Rattle.pool.specs.ConstantViews.{call_site_view}
 use Rattle.rules.specs.TypingRules.{call_of, where_bootstrapped}
 use Rattle.rules.specs.Bodies.{method_view}
 use Rattle.rules.specs.Constants.{is_special_name, dynamic_call}

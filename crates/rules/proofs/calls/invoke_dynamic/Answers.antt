@@ -1,6 +1,6 @@
 use Rattle.std.proofs.Common.{refl}
 use Rattle.std.specs.Prelude.{option_map}
-use Rattle.pool.specs.MemberViews.{call_site_view}
+use Rattle.pool.specs.ConstantViews.{call_site_view}
 use Rattle.rules.specs.Bodies.{method_view}
 use Rattle.rules.specs.Constants.{dynamic_call, invoke_dynamic}
 use Rattle.rules.specs.Held.{held}

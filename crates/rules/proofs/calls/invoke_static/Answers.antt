@@ -1,7 +1,7 @@
 use Rattle.std.proofs.Common.{ap, sym}
 use Rattle.std.specs.Prelude.{not, ◌&&◌, option_map}
 use Rattle.names.specs.ReferenceTypes.{is_class_type}
-use Rattle.pool.specs.MemberViews.{method_constant_view}
+use Rattle.pool.specs.ConstantViews.{method_constant_view}
 use Rattle.rules.specs.Bodies.{method_view}
 use Rattle.rules.specs.Constants.{is_init_name, may_name, static_call, invoke_static}
 use Rattle.rules.specs.Held.{held}

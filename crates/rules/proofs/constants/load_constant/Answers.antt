@@ -2,7 +2,7 @@ use Rattle.std.proofs.Common.{◌≡◌, ◌∙◌, Bool, Some, sym, ap}
 use Rattle.std.specs.Prelude.{option_map}
 use Rattle.names.specs.Types.{type_of}
 use Rattle.pool.specs.Entries as entries
-use Rattle.pool.specs.Members.{found, constant_at}
+use Rattle.pool.specs.ConstantMeanings.{found, constant_at}
 use Rattle.pool.specs.Views.{view}
 use Rattle.classfile.specs.Bootstraps.{has_bootstrap}
 use Rattle.rules.specs.Bodies.{method_view}

@@ -3,7 +3,7 @@ use Rattle.std.specs.Prelude.{option_map}
 use Rattle.std.proofs.lemmas.List.{length-map, length-reverse}
 use Rattle.frames.specs.declared.vtype.VType.{VType}
 use Rattle.frames.specs.VerificationType.{VerificationType, type_of}
-use Rattle.pool.specs.MemberViews.{method_constant_view}
+use Rattle.pool.specs.ConstantViews.{method_constant_view}
 use Rattle.insn.specs.Views.{act_view}
 use Rattle.insn.specs.Stacks.{beneath}
 use Rattle.rules.specs.After.{top_of}

@@ -1,6 +1,6 @@
 use Rattle.std.proofs.Common.{sym, ap, ◌∙◌}
 use Rattle.std.specs.Prelude.{option_map}
-use Rattle.pool.specs.Members.{class_at}
+use Rattle.pool.specs.ConstantMeanings.{class_at}
 use Rattle.rules.specs.Bodies.{method_view}
 use Rattle.rules.specs.Constants.{new_object}
 use Rattle.rules.specs.Held.{held}

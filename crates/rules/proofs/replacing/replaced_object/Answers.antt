@@ -2,7 +2,7 @@ use Rattle.std.proofs.Common.{◌≡◌, ◌∙◌, map, length, ap, sym, arith}
 use Rattle.std.specs.Prelude.{drop, option_map}
 use Rattle.std.proofs.lemmas.List.{length-map}
 use Rattle.names.specs.Types.{type_of}
-use Rattle.pool.specs.MemberViews.{method_constant_view}
+use Rattle.pool.specs.ConstantViews.{method_constant_view}
 use Rattle.insn.specs.Views.{act_view}
 use Rattle.rules.specs.Bodies.{method_view}
 use Rattle.rules.specs.After.{top_of}

@@ -5,7 +5,7 @@ use Rattle.rules.specs.Table.{typing_rule, return_nothing}
 use Rattle.rules.specs.Bodies.{method_view}
 use Rattle.rules.proofs.Settling.{returned, by_typing_rule}
 use Rattle.std.specs.Prelude.{Bool}
-use Rattle.pool.specs.Members.{constant_at, call_site_at}
+use Rattle.pool.specs.ConstantMeanings.{constant_at, call_site_at}
 use Rattle.rules.specs.Constants.{get_static, put_static, get_field, put_field, invoke_static, invoke_virtual, invoke_special, invoke_interface, invoke_dynamic, load_constant, load_wide_constant, new_reference_array, new_multi_array, check_cast, instance_of}
 use Rattle.rules.proofs.NamedParts.{class_is, field_is, method_is, computed_is, site_is, bootstrapped_is}
 use Rattle.rules.proofs.Plainly.{plain_else}

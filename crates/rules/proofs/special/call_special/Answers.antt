@@ -1,7 +1,7 @@
 use Rattle.std.proofs.Common.{[], ◌∷◌, refl, sym, ◌∙◌}
 use Rattle.std.specs.Prelude.{◌&&◌}
 use Rattle.names.specs.ReferenceTypes.{is_class_type}
-use Rattle.pool.specs.MemberViews.{method_constant_view}
+use Rattle.pool.specs.ConstantViews.{method_constant_view}
 use Rattle.rules.specs.Bodies.{method_view}
 use Rattle.rules.specs.Constants.{has_room_for_receiver, may_name, special_call}
 use Rattle.rules.specs.Held.{held}

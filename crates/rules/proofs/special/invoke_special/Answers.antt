@@ -1,7 +1,7 @@
 use Rattle.std.proofs.Common.{sym, ap, ◌∙◌}
 use Rattle.std.specs.Prelude.{option_map}
 use Rattle.std.proofs.lemmas.Bool.{cond-true, cond-false}
-use Rattle.pool.specs.MemberViews.{method_constant_view}
+use Rattle.pool.specs.ConstantViews.{method_constant_view}
 use Rattle.rules.specs.Bodies.{method_view}
 use Rattle.rules.specs.Constants.{constructor_call, invoke_special, is_init_name, special_call}
 use Rattle.rules.specs.Held.{held}

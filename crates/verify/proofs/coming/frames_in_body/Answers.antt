@@ -11,7 +11,7 @@ use Rattle.verify.specs.InitialFrames.{initial_types, initial_frame}
 use Rattle.verify.specs.Verdict.{frames_declared}
 use Rattle.verify.specs.private.JudgingSteps.{TellsFrames}
 use Rattle.verify.specs.Coming.{FramesFact, frames_view}
-use Rattle.verify.proofs.Judged.{room_as, when_some}
+use Rattle.verify.proofs.verdicts.Judged.{room_as, when_some}
 use Rattle.verify.proofs.Meeting.{started, started_length, frames_are}
 use Rattle.verify.proofs.coming.frames_in_body.Goals as goal
 

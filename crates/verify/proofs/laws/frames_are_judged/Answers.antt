@@ -1,4 +1,4 @@
-use Rattle.verify.proofs.Shown.{frames_are_judged}
+use Rattle.verify.proofs.verdicts.Shown.{frames_are_judged}
 use Rattle.verify.proofs.laws.frames_are_judged.Goals as goal
 
 pub returns : goal.returns

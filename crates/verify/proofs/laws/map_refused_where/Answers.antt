@@ -1,4 +1,4 @@
-use Rattle.verify.proofs.MapFaults.{map_refused_where}
+use Rattle.verify.proofs.verdicts.MapFaults.{map_refused_where}
 use Rattle.verify.proofs.laws.map_refused_where.Goals as goal
 
 pub returns : goal.returns

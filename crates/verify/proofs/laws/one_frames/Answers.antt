@@ -1,4 +1,4 @@
-use Rattle.verify.proofs.OneVerdict.{one_frames}
+use Rattle.verify.proofs.verdicts.OneVerdict.{one_frames}
 use Rattle.verify.proofs.laws.one_frames.Goals as goal
 
 pub returns : goal.returns

@@ -1,4 +1,4 @@
-use Rattle.verify.proofs.OneVerdict.{one_report}
+use Rattle.verify.proofs.verdicts.OneVerdict.{one_report}
 use Rattle.verify.proofs.laws.one_report.Goals as goal
 
 pub returns : goal.returns

@@ -1,4 +1,4 @@
-use Rattle.verify.proofs.Breaks.{conditions_are_fields, refused_breaks, map_refused_breaks}
+use Rattle.verify.proofs.verdicts.Breaks.{conditions_are_fields, refused_breaks, map_refused_breaks}
 use Rattle.verify.proofs.laws.refused_breaks.Goals as goal
 
 pub returns-clause-fields : goal.returns-clause-fields

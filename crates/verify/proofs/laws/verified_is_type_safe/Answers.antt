@@ -1,4 +1,4 @@
-use Rattle.verify.proofs.Verdicts.{verified_is_type_safe}
+use Rattle.verify.proofs.verdicts.Verdicts.{verified_is_type_safe}
 use Rattle.verify.proofs.laws.verified_is_type_safe.Goals as goal
 
 pub returns : goal.returns

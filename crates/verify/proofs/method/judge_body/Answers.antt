@@ -8,7 +8,7 @@ use Rattle.rules.specs.Bodies.{method_view}
 use Rattle.rules.specs.Table.{typing_rule}
 use Rattle.verify.specs.Verdict.{verdict, told_of, frames_declared}
 use Rattle.verify.specs.private.JudgingSteps.{Gives, TellsFrames}
-use Rattle.verify.proofs.Judged.{too_narrow, with_declared, map_told, room_as, when_none, when_some}
+use Rattle.verify.proofs.verdicts.Judged.{too_narrow, with_declared, map_told, room_as, when_none, when_some}
 use Rattle.verify.proofs.method.judge_body.Goals as goal
 
 pub returns-in_default-clause-judged : goal.returns-in_default-clause-judged

@@ -9,7 +9,7 @@ use Rattle.insn.specs.Offsets.{acts}
 use Rattle.insn.specs.Readings.{instructions_in}
 use Rattle.verify.proofs.MethodCode.{little_code}
 use Rattle.verify.proofs.Decoded.{read_spelled}
-use Rattle.verify.proofs.Answering.{bad_code, given}
+use Rattle.verify.proofs.verdicts.Answering.{bad_code, given}
 use Rattle.verify.proofs.method.verify_code.Goals as goal
 
 pub judge_body-requires-clause-few : goal.judge_body-requires-clause-few

@@ -3,7 +3,7 @@ use Rattle.classfile.specs.CodeMethods.{judged_class}
 use Rattle.classfile.specs.Views.{class_view}
 use Rattle.classfile.specs.WellFormed.{WellFormed}
 use Rattle.verify.specs.Answers.{AnswersCode}
-use Rattle.verify.proofs.Answering.{answers_code}
+use Rattle.verify.proofs.verdicts.Answering.{answers_code}
 use Rattle.verify.proofs.method.verify_listed.Goals as goal
 
 pub returns-in-Some-clause-answered : goal.returns-in-Some-clause-answered

@@ -1,5 +1,5 @@
 use Rattle.classfile.specs.CodeMethods.{judged_class}
-use Rattle.verify.proofs.Answering.{only_then, safe_then}
+use Rattle.verify.proofs.verdicts.Answering.{only_then, safe_then}
 use Rattle.verify.proofs.method.verify_method.Goals as goal
 
 pub verify_listed-requires-clause-listed : goal.verify_listed-requires-clause-listed

@@ -7,7 +7,7 @@ use Rattle.classfile.proofs.FormedNames.{both_named}
 use Rattle.classfile.proofs.Places.{viewed_at}
 use Rattle.verify.specs.Answers.{Answers}
 use Rattle.verify.specs.Reports.{IsReported}
-use Rattle.verify.proofs.Answering.{only_then, safe_then}
+use Rattle.verify.proofs.verdicts.Answering.{only_then, safe_then}
 use Rattle.verify.proofs.Named.{texts_there, is_found, names_of}
 use Rattle.verify.proofs.report.report_on.Goals as goal
 

@@ -1,7 +1,7 @@
 use Rattle.std.proofs.Common.{◌∙◌, sym, ap}
 use Rattle.std.specs.Prelude.{Bool, option_map}
 use Rattle.names.specs.References.{reference_view}
-use Rattle.pool.specs.Members.{constant_at, class_at, field_at, dynamic_type_at, call_site_at}
+use Rattle.pool.specs.ConstantMeanings.{constant_at, class_at, field_at, dynamic_type_at, call_site_at}
 use Rattle.insn.specs.Views.{act_view}
 use Rattle.rules.specs.TypingRules.{number}
 use Rattle.rules.specs.Table.{typing_rule}

@@ -4,7 +4,7 @@ use Rattle.names.specs.Types.{type_of, method_of}
 use Rattle.pool.specs.declared.reference.FieldConstant.{FieldConstant as RawField}
 use Rattle.pool.specs.declared.reference.MethodConstant.{MethodConstant as RawMethod}
 use Rattle.pool.specs.declared.reference.CallSite.{CallSite as RawSite}
-use Rattle.pool.specs.Members.{FieldConstant, MethodConstant, CallSite}
+use Rattle.pool.specs.ConstantMeanings.{FieldConstant, MethodConstant, CallSite}
 
 abbrev pub field_constant_view : RawField → FieldConstant
 field_constant_view f = record {

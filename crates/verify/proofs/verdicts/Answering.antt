@@ -30,7 +30,7 @@ use Rattle.verify.specs.private.JudgingSteps.{RefusesCode, Gives}
 use Rattle.verify.specs.Listed.{IsListed}
 use Rattle.verify.specs.Answers.{HasBadCode, HasVerdict, HasRefusal, IsRefused, AnswersCode, Answers, VerifiesTypeSafe, VerifiedIsSafe}
 use Rattle.verify.proofs.Decoded.{decoded_rise, decoded_begins}
-use Rattle.verify.proofs.Verdicts.{verified_is_type_safe, type_safe_is_verified}
+use Rattle.verify.proofs.verdicts.Verdicts.{verified_is_type_safe, type_safe_is_verified}
 use Rattle.verify.proofs.safety.OneMethod.{methods_are_safe}
 use Rattle.verify.proofs.MethodCode.{code_is, has_code, some_code}
 

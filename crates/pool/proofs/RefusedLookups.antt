@@ -5,7 +5,7 @@ use Rattle.pool.specs.declared.fault.PoolFault.{PoolFault}
 use Rattle.pool.specs.declared.fault.PoolFault.TheVariants.{BadIndex, WrongKind}
 use Rattle.pool.specs.Entries.{Entry, Utf8, Class, NameAndType, Fieldref, Methodref, InterfaceMethodref, Dynamic, InvokeDynamic, Unusable}
 use Rattle.pool.specs.Lookups.{and_then, usable, entry_at, text_in, text_at, class_name_in, class_name_at, Named, named, name_and_type_in, name_and_type_at, FieldOf, member, field_ref_in, field_ref_at, MethodOf, method, method_ref_in, method_ref_at, dynamic_in, dynamic_at, invoke_dynamic_in, invoke_dynamic_at, StandsAt}
-use Rattle.pool.specs.Missing.{Wanted, a_text, a_class, a_name_and_type, a_field, a_method, a_dynamic, an_invoke_dynamic, Step, leads, IsFirstMissing, nothing, unfit, behind}
+use Rattle.pool.specs.RefusedLookups.{Wanted, a_text, a_class, a_name_and_type, a_field, a_method, a_dynamic, an_invoke_dynamic, Step, leads, IsFirstMissing, nothing, unfit, behind}
 use Rattle.pool.proofs.LookupLaws.{entry_stands, stands_entry, text_stands, class_stands}
 
 -- ---- two steps

@@ -16,10 +16,10 @@ use Rattle.verify.specs.TypeSafety.{Frames}
 use Rattle.verify.specs.Verdict.{Verdict, refused, refused_or, at_conditions, entry, entered, arrives, passes, code_judged, table_judged, with_frames, verdict}
 use Rattle.verify.specs.Refusals.{Reaches, BreaksRule, BreaksFrame, BreaksFirst, BreaksTable, HasNoRoom, BreaksCode, BreaksWithFrames, RefusedWhere}
 use Rattle.verify.proofs.Reasons.{none_told}
-use Rattle.verify.proofs.Passing.{IsFineIn, at_first}
-use Rattle.verify.proofs.Following.{comes_none, fine_behind, none_here, at_next}
+use Rattle.verify.proofs.verdicts.Passing.{IsFineIn, at_first}
+use Rattle.verify.proofs.verdicts.Following.{comes_none, fine_behind, none_here, at_next}
 use Rattle.verify.proofs.Premises.{not_at, rising_apart, first_at_zero, there_frames, sound_front, sound_table}
-use Rattle.verify.proofs.Refusing.{Fails, refused_why}
+use Rattle.verify.proofs.verdicts.Refusing.{Fails, refused_why}
 
 no_act : {A : Type 0} (act : Act) → None ≡ Some act → A
 no_act act e = cc

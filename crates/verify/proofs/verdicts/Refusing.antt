@@ -15,7 +15,7 @@ use Rattle.verify.specs.TypeSafety.{Frames, IsTypeSafeAt, IsSoundEntry}
 use Rattle.verify.specs.Verdict.{MapRefusal, Verdict, refused, refused_or, at_conditions, entry, entered, arrives, passes, code_judged, table_conditions, table_judged, with_frames, frames_declared, verdict}
 use Rattle.verify.specs.Refusals.{Reaches, BreaksRule, BreaksFrame, BreaksFirst, BreaksTable, HasNoRoom, BreaksCode, BreaksWithFrames}
 use Rattle.verify.proofs.Declared.{none_least}
-use Rattle.verify.proofs.Passing.{IsFineIn, came, own_of, wider, fine_each, wider_head, comes_in}
+use Rattle.verify.proofs.verdicts.Passing.{IsFineIn, came, own_of, wider, fine_each, wider_head, comes_in}
 use Rattle.verify.proofs.Premises.{not_at, rising_apart, first_at_zero, frames_there, sound_of}
 
 -- which part has refused

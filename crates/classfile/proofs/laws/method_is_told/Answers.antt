@@ -3,7 +3,7 @@ use Rattle.std.specs.Option.{option_map}
 use Rattle.classfile.specs.CodeMethods.{class_of}
 use Rattle.classfile.specs.Views.{code_view}
 use Rattle.classfile.proofs.MethodLaws.{method_says}
-use Rattle.classfile.proofs.form_laws.method_is_told.Goals as goal
+use Rattle.classfile.proofs.laws.method_is_told.Goals as goal
 
 pub returns : goal.returns
 returns g c = λ code.

@@ -15,7 +15,7 @@ use Rattle.rules.specs.After.{after}
 use Rattle.verify.specs.TypeSafety.{Frames, Comes}
 use Rattle.verify.specs.Verdict.{verified, refused_or, answer_conditions, at_conditions, entry, entered, arrives, passes}
 use Rattle.verify.proofs.Reasons.{none_told, yes_none, IsFine, of_fine}
-use Rattle.verify.proofs.Passing.{AreApart, at_first, IsFineIn}
+use Rattle.verify.proofs.verdicts.Passing.{AreApart, at_first, IsFineIn}
 
 module _ (typing_rule : TypingRules) (classes : List ClassFact) (m : Method Act) (frames : Frames) (table : ℕ → FrameFact) where
   same_frame : (a b : FrameFact) → Some a ≡ Some b → a ≡ b

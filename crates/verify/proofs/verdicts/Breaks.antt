@@ -25,8 +25,8 @@ use Rattle.verify.specs.Verdict.{told_of, answer_conditions, is_end, table_condi
 use Rattle.verify.specs.Refusals.{BreaksRule, BreaksFrame, BreaksFirst, BreaksTable, HasNoRoom, BreaksCode, BreaksWithFrames}
 use Rattle.verify.specs.Breaks.{Holds, HasNoFrame, Meets, Target, Covering, Breaks, rule, no_frame_at_target, not_assignable_at_target, missing_at_target, Guarded, protected_member, missing_object, no_frame_at_handler, not_assignable_at_handler, missing_at_handler, falls_off, constructor_covered, BreaksAt, not_assignable, missing_there, no_frame, BreaksEntry, covers_nothing, no_start, no_end, no_handler, no_handler_frame, no_throwable, missing_class, AreFields, ConditionsAreFields, IsLeast, BreaksDeclared, at_entry, at_beginning, at_frame, at_instruction, BreaksMethod, no_room, with_frames, RefusedBreaks, MapRefusedBreaks}
 use Rattle.verify.proofs.Declared.{none_least}
-use Rattle.verify.proofs.MapFaults.{map_refused_where}
-use Rattle.verify.proofs.Refusing.{refused_why}
+use Rattle.verify.proofs.verdicts.MapFaults.{map_refused_where}
+use Rattle.verify.proofs.verdicts.Refusing.{refused_why}
 
 -- ---- what holds in lists of conditions
 

@@ -12,8 +12,8 @@ use Rattle.verify.specs.TypeSafety.{Frames, Declares, Comes, IsTypeSafeBy}
 use Rattle.verify.specs.Verdict.{MapRefusal, verified, refused, code_judged, table_judged, with_frames, frames_declared, verdict}
 use Rattle.verify.specs.VerdictLaws.{VerifiedIsTypeSafe, TypeSafeIsVerified}
 use Rattle.verify.proofs.Declared.{good_frames}
-use Rattle.verify.proofs.Passing.{comes_in, came, tail_of, enters_of, own_of, HasTable, has_table, IsFineIn}
-use Rattle.verify.proofs.Following.{comes_none, onward, passes_all}
+use Rattle.verify.proofs.verdicts.Passing.{comes_in, came, tail_of, enters_of, own_of, HasTable, has_table, IsFineIn}
+use Rattle.verify.proofs.verdicts.Following.{comes_none, onward, passes_all}
 use Rattle.verify.proofs.Premises.{rising_apart, first_at_zero, frames_there, there_frames, table_sound, sound_table}
 
 module _ (typing_rule : TypingRules) (classes : List ClassFact) (m : Method Act) (rise : StartsRise 0 m.code) where

@@ -5,7 +5,7 @@ use Rattle.names.specs.Reading.{field_answer, method_answer}
 use Rattle.classfile.specs.Naming.{is_field_descriptor, is_method_descriptor, is_void_descriptor, has_no_result}
 use Rattle.classfile.specs.FormLaws.{SpellsSomeField, SpellsSomeMethod, SpellsSomeVoidMethod}
 use Rattle.classfile.proofs.NamingLaws.{class_name_is, is_class_name_so, unqualified_is, is_unqualified_so, method_name_is, is_method_name_so, ok_value, void_value}
-use Rattle.classfile.proofs.form_laws.tests_are_forms.Goals as goal
+use Rattle.classfile.proofs.laws.tests_are_forms.Goals as goal
 
 pub returns-clause-names : goal.returns-clause-names
 returns-clause-names c = record {

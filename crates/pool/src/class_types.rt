@@ -1,7 +1,7 @@
 //! The types that Class constants name.
 ghost use Rattle.std.specs.Prelude.{◌≡◌, option_map};
 ghost use Rattle.names.specs.References.{reference_view};
-ghost use Rattle.pool.specs.Members.{class_at};
+ghost use Rattle.pool.specs.ConstantMeanings.{class_at};
 
 use crate::constant_pool::Pool;
 use names::{RefType, reference_type};

@@ -1,0 +1,4 @@
+-- Worked examples, for the eye: nothing stands on them.
+mod PlainExamples
+mod BranchExamples
+mod ObjectExamples
