@@ -6,7 +6,7 @@ use Rattle.std.proofs.lemmas.List.{at_drop_more, drop_all}
 use Rattle.classfile.specs.Methods.{code_of}
 use Rattle.classfile.specs.Values.{CodeBody, Member}
 use Rattle.verify.specs.declared.report.MethodVerdict.{MethodVerdict}
-use Rattle.verify.specs.declared.coming.FramesAt.{FramesAt}
+use Rattle.verify.specs.declared.frames_at.FramesAt.{FramesAt}
 use Rattle.verify.specs.Coming.{FramesFact, frames_view}
 use Rattle.answers.specs.Explanations.{explanations}
 

@@ -22,7 +22,7 @@ use Rattle.verify.specs.declared.verdict.Verdict.{Verdict}
 use Rattle.verify.specs.declared.verdict.Verdict.TheVariants.{Verified, NoCode, Refused}
 use Rattle.verify.specs.declared.report.MethodVerdict.{MethodVerdict}
 use Rattle.verify.specs.OneVerdict.{AreSameVerdict, IsSameLine, IsSameReport}
-use Rattle.verify.specs.declared.coming.FramesAt.{FramesAt}
+use Rattle.verify.specs.declared.frames_at.FramesAt.{FramesAt}
 use Rattle.verify.specs.Coming.{FramesFact, frames_view}
 use Rattle.printing.specs.Faults.{at_text}
 use Rattle.printing.specs.Names.{name_text, spelled_text}

@@ -14,7 +14,7 @@ use Rattle.printing.specs.Json.{Field, fields_then, fields_behind, object_end}
 use Rattle.verify.specs.declared.verdict.Verdict.{Verdict}
 use Rattle.verify.specs.declared.verdict.Verdict.TheVariants.{Verified, NoCode, Refused}
 use Rattle.verify.specs.declared.report.MethodVerdict.{MethodVerdict}
-use Rattle.verify.specs.declared.coming.FramesAt.{FramesAt}
+use Rattle.verify.specs.declared.frames_at.FramesAt.{FramesAt}
 use Rattle.verify.specs.Coming.{FramesFact, before, frames_view}
 use Rattle.answers.specs.Sentences.{reason_lines, reason_sentence_fields}
 use Rattle.answers.specs.Details.{sought_by, is_arriving, entry_of, detail_line_of, detail_fields_of}

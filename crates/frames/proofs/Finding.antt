@@ -13,7 +13,7 @@ use Rattle.frames.specs.FrameFact.{FrameFact}
 use Rattle.frames.specs.Slots.{in_locals, all_locals}
 use Rattle.frames.specs.DeclaredViews.{locals_at, fact_of, facts_of, IsInside}
 use Rattle.frames.specs.declared.chain.Link.{Link}
-use Rattle.frames.specs.declared.after.FrameTops.{FrameTops}
+use Rattle.frames.specs.declared.frame_tops.FrameTops.{FrameTops}
 use Rattle.frames.proofs.Judging.{units_in_locals}
 
 abbrev none : FrameTops

@@ -11,7 +11,7 @@ use Rattle.frames.specs.DeclaredViews.{locals_at, fact_of, IsInside}
 use Rattle.frames.specs.DeclaredTables.{declared_view, AreOfOne, AreKept}
 use Rattle.frames.specs.Locals.{local, locals_in}
 use Rattle.frames.specs.declared.chain.Link.{Link}
-use Rattle.frames.specs.declared.after.FrameTops.{FrameTops}
+use Rattle.frames.specs.declared.frame_tops.FrameTops.{FrameTops}
 use Rattle.frames.specs.declared.locals.Locals.{Locals}
 use Rattle.frames.specs.declared.declared_frames.Declared.{Declared}
 use Rattle.frames.proofs.TypeChains.{types_step}

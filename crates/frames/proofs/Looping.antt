@@ -17,7 +17,7 @@ use Rattle.frames.specs.DeclaredViews.{locals_at, fact_of, facts_of, IsInside, A
 use Rattle.frames.specs.RefusedEntries.{RefusedFact, refused_before, refused_from}
 use Rattle.frames.specs.private.Judging.{told, front_of, against, Declared}
 use Rattle.frames.specs.declared.chain.Link.{Link}
-use Rattle.frames.specs.declared.after.FrameTops.{FrameTops}
+use Rattle.frames.specs.declared.frame_tops.FrameTops.{FrameTops}
 use Rattle.frames.specs.declared.frame_fault.FrameFault.{FrameFault}
 use Rattle.frames.proofs.TypeChains.{get_cases, types_kept}
 use Rattle.frames.proofs.Leaving.{locals_kept}

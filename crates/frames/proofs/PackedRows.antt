@@ -3,7 +3,7 @@ use Rattle.std.proofs.Common.{◌≡◌, ◌∙◌, ℕ, ◌+◌, ◌<◌, ◌�
 use lib.Lanes.{chunk}
 use Rattle.hierarchy.specs.Class.{ClassFact}
 use Rattle.hierarchy.specs.Answer.{Outcome, yes, no}
-use Rattle.frames.specs.declared.packed.Packed.{Packed}
+use Rattle.frames.specs.declared.packed_frame.Packed.{Packed}
 use Rattle.frames.specs.FrameFact.{frame_of}
 use Rattle.frames.specs.FrameAssignable.{both, frame_answer}
 use Rattle.frames.specs.Meaning.{IsAlike}

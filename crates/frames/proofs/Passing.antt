@@ -8,7 +8,7 @@ use Rattle.frames.specs.DeclaredViews.{locals_at, fact_of}
 use Rattle.frames.specs.DeclaredTables.{declared_view, AreOfOne}
 use Rattle.frames.specs.Fitting.{AreSameBut}
 use Rattle.frames.specs.declared.chain.Link.{Link}
-use Rattle.frames.specs.declared.after.FrameTops.{FrameTops}
+use Rattle.frames.specs.declared.frame_tops.FrameTops.{FrameTops}
 use Rattle.frames.specs.declared.declared_frames.Declared.{Declared}
 use Rattle.frames.proofs.Finding.{locals_filled}
 use Rattle.frames.proofs.Sharing.{types_on}

@@ -8,7 +8,7 @@ use Rattle.frames.specs.FrameFact.{FrameFact}
 use Rattle.frames.specs.DeclaredFrames.{has_uninit_this, locals_of, stack_of}
 use Rattle.frames.specs.TypeChains.{types_at}
 use Rattle.frames.specs.declared.chain.Link.{Link}
-use Rattle.frames.specs.declared.after.FrameTops.{FrameTops}
+use Rattle.frames.specs.declared.frame_tops.FrameTops.{FrameTops}
 
 -- locals as entries from 0 up, by the place of the last
 unfoldable pub locals_at : List Link → ℕ → List VerificationType

@@ -3,7 +3,7 @@
 use Rattle.std.specs.Prelude.{◌≡◌, List, [], ◌∷◌}
 use Rattle.hierarchy.specs.Class.{ClassFact}
 use Rattle.hierarchy.specs.Answer.{Outcome, yes}
-use Rattle.frames.specs.declared.packed.Packed.{Packed}
+use Rattle.frames.specs.declared.packed_frame.Packed.{Packed}
 use Rattle.frames.specs.FrameFact.{frame_of}
 use Rattle.frames.specs.FrameAssignable.{both}
 use Rattle.frames.specs.Meaning.{slot_answers}

@@ -6,10 +6,10 @@ ghost use Rattle.insn.specs.Offsets.{StartsRise};
 ghost use Rattle.frames.specs.Rising.{StartsRise-prop};
 ghost use Rattle.frames.specs.DeclaredViews.{IsInside, AreInside, facts_of};
 
-use crate::after::FrameTops;
 use crate::chain::TypeChains;
-use crate::compare_frames::both;
 use crate::frame::Frame;
+use crate::frame_assignability::both;
+use crate::frame_tops::FrameTops;
 use crate::locals::Locals;
 use crate::vtype::VType;
 use crate::walking::{chain_assignable, write_locals, write_stack};

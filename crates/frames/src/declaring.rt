@@ -8,10 +8,10 @@ ghost use Rattle.frames.specs.private.Judging.{Declares, AreDeclared, refused_by
 ghost use Rattle.frames.specs.RefusedEntries.{refused_entry, refused_of};
 ghost use Rattle.frames.specs.DeclaredTables.{IsDeclared, locals_in};
 
-use crate::after::{FrameTops, frame_after};
 use crate::chain::TypeChains;
 use crate::declared_frames::DeclaredFrames;
 use crate::frame_fault::FrameFault;
+use crate::frame_tops::{FrameTops, frame_after};
 use crate::refusing::{Limits, judge};
 use crate::stack_map::MapEntry;
 use crate::starts::Starts;

@@ -6,8 +6,8 @@ ghost use Rattle.frames.specs.FrameFact.{frame_of};
 ghost use Rattle.frames.specs.FrameAssignable.{slot_answer};
 ghost use Rattle.frames.specs.Differences.{is_sought, first_mismatch, first_local, first_item, mismatch_of, stack_difference, first_difference, first_missing, difference_of};
 
-use crate::compare_frames::{keeps_flag, slot_assignable};
 use crate::frame::Frame;
+use crate::frame_assignability::{keeps_flag, slot_assignable};
 use crate::vtype::VType;
 use hierarchy::{Answer, Classes};
 

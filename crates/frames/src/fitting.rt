@@ -3,8 +3,8 @@ ghost use Rattle.std.specs.Prelude.{◌≡◌, length, map, true, IfSome};
 ghost use Rattle.frames.specs.VerificationType.{type_of};
 ghost use Rattle.frames.specs.TypeChains.{types_at, FitsAt};
 
+use crate::assignability::assignable;
 use crate::chain::TypeChains;
-use crate::compare::assignable;
 use crate::declared_frames::{Declared, DeclaredFrames};
 use crate::vtype::VType;
 use crate::walking::{at_or_top, chain_assignable};

@@ -2,16 +2,16 @@
 //! answers in specs/Assignable.antt and specs/FrameAssignable.antt (JVMS 4.10.1.2 and 4.10.1.4), and the formats in
 //! specs/StackMaps.antt (4.7.4). The calls to know are [`frame_assignable`] and [`read_map`].
 //!
-//! - `after`: the locals and the stack that an entry of a stack map leaves.
+//! - `frame_tops`: the locals and the stack that an entry of a stack map leaves.
 //! - `chain`: types that share what lies below, as the locals of entries do.
 //! - `code_starts`: where the instructions of a method's code begin, byte by byte.
-//! - `compare`: one type to another.
-//! - `compare_frames`: one frame to another.
+//! - `assignability`: one type to another.
+//! - `frame_assignability`: one frame to another.
 //! - `constants`: the classes that entries name by the constant pool.
 //! - `declared_frames`: the frames that a stack map declares.
 //! - `declaring`: these frames made from the entries, and the first entry that is refused.
 //! - `difference`: what differs first of two frames, and where a class is missing first.
-//! - `faulty`: the entry that bytes do not spell.
+//! - `faulty_entry`: the entry that bytes do not spell.
 //! - `fitting`: which declared frames running locals are known to fit.
 //! - `frame`: frames.
 //! - `frame_fault`: why an entry is refused.
@@ -23,31 +23,31 @@
 //! - `naming`: the types of what descriptors and Class constants name.
 //! - `objects`: objects that are not initialized.
 //! - `operand_stack`: the operand stack of a running frame.
-//! - `packed`: frames with their slots, compared by lanes.
+//! - `packed_frame`: frames with their slots, compared by lanes.
 //! - `packing`: types as slots of four bytes.
 //! - `refusing`: an entry judged.
 //! - `stack_fitting`: which declared frames a running stack is known to fit.
 //! - `stack_map`: stack maps, and `read_map`.
 //! - `starts`: where instructions begin.
-//! - `undecided`: where equal slots do not decide.
+//! - `slot_comparison`: where equal slots do not decide.
 //! - `vtype`: verification types.
 //! - `walking`: chains gone through.
 //! - `whole_frames`: declared frames with all their locals.
 #![tactic(auto)]
 
-mod after;
+mod assignability;
 mod chain;
 mod code_starts;
-mod compare;
-mod compare_frames;
 mod constants;
 mod declared_frames;
 mod declaring;
 mod difference;
-mod faulty;
+mod faulty_entry;
 mod fitting;
 mod frame;
+mod frame_assignability;
 mod frame_fault;
+mod frame_tops;
 mod holders;
 pub mod laws;
 mod locals;
@@ -57,38 +57,38 @@ mod moves;
 mod naming;
 mod objects;
 mod operand_stack;
-mod packed;
+mod packed_frame;
 mod packing;
 mod refusing;
+mod slot_comparison;
 mod stack_fitting;
 mod stack_map;
 mod starts;
-mod undecided;
 mod vtype;
 mod walking;
 mod whole_frames;
 
+pub use assignability::assignable;
 pub use code_starts::CodeStarts;
-pub use compare::assignable;
-pub use compare_frames::{both, frame_assignable, width};
 pub use declared_frames::{Declared, DeclaredFrames};
 pub use declaring::{RefusedEntry, declare, refused_entry};
 pub use difference::{Difference, Mismatch, Sought, first_difference, first_missing, is_sought};
-pub use faulty::faulty_entry;
+pub use faulty_entry::faulty_entry;
 pub use fitting::Fitting;
 pub use frame::Frame;
+pub use frame_assignability::{both, frame_assignable, width};
 pub use frame_fault::FrameFault;
 pub use holders::Holder;
 pub use locals::Locals;
 pub use naming::{array_of, held_by, number_type, reference_to};
 pub use objects::{is_made_at, is_object, is_own};
 pub use operand_stack::OperandStack;
-pub use packed::{Packed, packed_assignable};
+pub use packed_frame::{Packed, packed_assignable};
 pub use packing::pack;
 pub use refusing::Limits;
+pub use slot_comparison::{ABSENT, first_undecided};
 pub use stack_fitting::StackFitting;
 pub use stack_map::{MapEntry, StackMap, TypeInfo, read_map};
 pub use starts::Starts;
-pub use undecided::{ABSENT, first_undecided};
 pub use vtype::VType;
 pub use whole_frames::declared;

@@ -4,7 +4,7 @@ ghost use Rattle.names.specs.Descriptors.{base_of, dimensioned};
 ghost use Rattle.frames.specs.Packing.{slot, element_code, class_slot, array_slot, slot_of};
 ghost use Rattle.frames.specs.VerificationType.{type_of};
 
-use crate::undecided::ABSENT;
+use crate::slot_comparison::ABSENT;
 use crate::vtype::VType;
 use hierarchy::Classes;
 use names::{Base, Primitive};

@@ -7,10 +7,10 @@ ghost use Rattle.frames.specs.TypeChains.{types_at};
 ghost use Rattle.frames.specs.DeclaredViews.{locals_at};
 ghost use Rattle.frames.specs.private.Judging.{is_wrong, told};
 
-use crate::after::FrameTops;
 use crate::chain::TypeChains;
 use crate::constants::{is_absent, is_other};
 use crate::frame_fault::FrameFault;
+use crate::frame_tops::FrameTops;
 use crate::stack_map::{MapEntry, TypeInfo};
 use crate::starts::Starts;
 use pool::Pool;

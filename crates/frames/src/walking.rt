@@ -8,7 +8,7 @@ ghost use Rattle.frames.specs.Locals.{local};
 ghost use Rattle.frames.specs.TypeChains.{types_at, chain_answer, place, IsOn, one_set, AreBelow, AreTopFrom, AreOfChain};
 
 use crate::chain::TypeChains;
-use crate::compare_frames::{both, slot_assignable, width};
+use crate::frame_assignability::{both, slot_assignable, width};
 use crate::locals::Locals;
 use crate::vtype::VType;
 use hierarchy::{Answer, Classes};

@@ -10,7 +10,7 @@ use Rattle.std.proofs.lemmas.Bool.{false≢true}
 use Rattle.std.proofs.lemmas.List.{take_more, get_or-map, length-map, length-append, length-take-le}
 use Rattle.std.proofs.lemmas.Option.{slice_get_within, slice_get-get_or, slice_get-map}
 use Rattle.std.proofs.lemmas.Slice.Eq.{bytes_eq-Decides}
-use Rattle.hierarchy.specs.declared.nearest.MemberRef.{MemberRef}
+use Rattle.hierarchy.specs.declared.member_references.MemberRef.{MemberRef}
 use Rattle.hierarchy.specs.declared.spot.Spot.{Spot}
 use Rattle.hierarchy.specs.private.Above.{class_above, upward, classes_above, names_above, names_of, number_of, ArePlaces}
 use Rattle.hierarchy.specs.Answer.{on_chain}

@@ -1,7 +1,7 @@
 -- The facts that the program's summaries of classes and members, and its references, stand for (JVMS 4.1, 4.5, 4.6,
 -- 5.4.3).
 use Rattle.std.specs.Prelude.{List, map, option_map}
-use Rattle.hierarchy.specs.declared.nearest.MemberRef.{MemberRef}
+use Rattle.hierarchy.specs.declared.member_references.MemberRef.{MemberRef}
 use Rattle.hierarchy.specs.declared.summary.MemberSummary.{MemberSummary}
 use Rattle.hierarchy.specs.declared.summary.Summary.{Summary}
 use Rattle.hierarchy.specs.Class.{MemberFact, ClassFact}

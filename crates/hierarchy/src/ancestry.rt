@@ -6,9 +6,9 @@ ghost use Rattle.hierarchy.specs.Class.{ClassFact};
 ghost use Rattle.hierarchy.specs.Rules.{IsHierarchy};
 ghost use Rattle.hierarchy.specs.Summary.{fact_of};
 
-use crate::above::class_above;
 use crate::classes::Classes;
 use crate::summary::Summary;
+use crate::superclasses::class_above;
 use std::alloc::{AllocError, Global};
 use std::collections::BTreeMap;
 

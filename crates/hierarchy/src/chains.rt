@@ -5,11 +5,11 @@ ghost use Rattle.hierarchy.specs.Faults.{FaultOf};
 ghost use Rattle.hierarchy.specs.Rules.{IsHierarchy};
 
 use crate::answer::Answer;
-use crate::checked::checked_index;
+use crate::checked_classes::checked_index;
 use crate::classes::Classes;
 use crate::fault::HierarchyFault;
 use crate::index::Index;
-use crate::nearest::MemberRef;
+use crate::member_references::MemberRef;
 use crate::places::short;
 use crate::summary::Summary;
 use std::alloc::{AllocError, Global};

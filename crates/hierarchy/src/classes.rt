@@ -9,7 +9,7 @@ ghost use Rattle.hierarchy.specs.Rules.{IsHierarchy};
 ghost use Rattle.hierarchy.specs.Answer.{SubclassAnswer, outcome_of};
 
 use crate::answer::Answer;
-use crate::nearest::MemberRef;
+use crate::member_references::MemberRef;
 use crate::summary::Summary;
 use std::alloc::{AllocError, Global};
 

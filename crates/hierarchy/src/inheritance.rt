@@ -11,14 +11,14 @@ ghost use Rattle.hierarchy.specs.Rules.{IsHierarchy};
 ghost use Rattle.hierarchy.specs.Summary.{fact_of, member_of, reference_of};
 ghost use Rattle.hierarchy.specs.private.Versions.{AreVersions, IsVersion};
 
-use crate::above::class_above;
 use crate::ancestry::{Ancestry, ancestry_of};
 use crate::classes::Classes;
 use crate::member_numbers::MemberNumbers;
-use crate::nearest::MemberRef;
+use crate::member_references::MemberRef;
 use crate::package::package_of;
 use crate::starts::number_of;
 use crate::summary::Summary;
+use crate::superclasses::class_above;
 use crate::versions::Versions;
 use std::alloc::{AllocError, Global};
 use std::collections::BTreeMap;

@@ -11,13 +11,13 @@
 //! - `places`: places in a list of classes.
 //! - `rules`: the rules that a single class may break, and the first class that does.
 //! - `cycles`: the first class that stands on the chain of its own superclasses.
-//! - `checked`: a list of classes that keeps the rules.
+//! - `checked_classes`: a list of classes that keeps the rules.
 //! - `chains`: classes by a walk along their superclasses.
 //! - `skips`: skips up the chain of superclasses, by doubled steps.
 //! - `row_table`: rows of ancestors, one behind the other.
 //! - `rows`: classes by rows of ancestors.
-//! - `nearest`: references to members that are protected and of another package.
-//! - `above`: the classes above a class.
+//! - `member_references`: references to members that are protected and of another package.
+//! - `superclasses`: the classes above a class.
 //! - `spot`: members by numbers of their texts, at a class above.
 //! - `starts`: where references begin to look for declarations.
 //! - `flags`: declarations of the classes above, and the first from a class upward.
@@ -26,16 +26,15 @@
 //! - `member_key`: members by numbers of their texts.
 //! - `member_numbers`: numbers of members, by kind, name and descriptor.
 //! - `inheritance`: what classes inherit, found for many at once.
-//! - `prepared`: classes with what some of them inherit.
+//! - `prepared_classes`: classes with what some of them inherit.
 //! - `package`: packages of classes.
 //! - `laws`: what holds of faults, chains and worlds.
 #![tactic(auto)]
 
-mod above;
 mod ancestry;
 mod answer;
 mod chains;
-mod checked;
+mod checked_classes;
 mod class_summary;
 mod classes;
 mod cycles;
@@ -46,10 +45,10 @@ mod inheritance;
 pub mod laws;
 mod member_key;
 mod member_numbers;
-mod nearest;
+mod member_references;
 mod package;
 mod places;
-mod prepared;
+mod prepared_classes;
 mod row_table;
 mod rows;
 mod rules;
@@ -57,6 +56,7 @@ mod skips;
 mod spot;
 mod starts;
 mod summary;
+mod superclasses;
 mod versions;
 
 pub use answer::Answer;
@@ -65,7 +65,7 @@ pub use class_summary::{name_of, summary_of};
 pub use classes::Classes;
 pub use cycles::twice_as_far;
 pub use fault::HierarchyFault;
-pub use nearest::{MemberRef, guarded};
-pub use prepared::Prepared;
+pub use member_references::{MemberRef, guarded};
+pub use prepared_classes::Prepared;
 pub use rows::Rows;
 pub use summary::{Kind, MemberSummary, Summary};

@@ -9,11 +9,11 @@ ghost use Rattle.hierarchy.specs.Ancestors.{IsAncestor};
 ghost use Rattle.hierarchy.specs.Rows.{AncestorAnswer, AreRows, IsDepth, IsLookedUp};
 
 use crate::answer::Answer;
-use crate::checked::checked_index;
+use crate::checked_classes::checked_index;
 use crate::classes::Classes;
 use crate::fault::HierarchyFault;
 use crate::index::Index;
-use crate::nearest::MemberRef;
+use crate::member_references::MemberRef;
 use crate::places::short;
 use crate::row_table::{RowTable, has_entry, rows_of};
 use crate::skips::skips_up;

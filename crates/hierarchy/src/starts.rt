@@ -3,7 +3,7 @@ ghost use Rattle.std.specs.Prelude.{◌≡◌, map, IfOk, OnOk};
 ghost use Rattle.hierarchy.specs.private.Flags.{AreNumbers, GetsNumber, KeepNumbers, IsStart, AreStarts};
 ghost use Rattle.hierarchy.specs.Summary.{reference_of};
 
-use crate::nearest::MemberRef;
+use crate::member_references::MemberRef;
 use crate::spot::Spot;
 use std::alloc::{AllocError, Global};
 use std::collections::BTreeMap;

@@ -17,7 +17,7 @@ use crate::body::Method;
 use crate::choosing::StepFault;
 use crate::fitting::fits_reference;
 use crate::heaps::{are_objects, copy_of};
-use crate::held::take_values;
+use crate::held_values::take_values;
 use crate::items::{Slot, Value, is_wide_value};
 use crate::objects::{Object, RunType, Status};
 use crate::operands::{demand_of, has_room, meets};

@@ -12,7 +12,6 @@ ghost use Rattle.machine.specs.Bodies.{method_view};
 ghost use Rattle.machine.specs.Effects.{moves, demands_of, reply_units, falls, targets};
 ghost use Rattle.machine.specs.Views.{value_view, stack_of, locals_of, heap_view, state_view};
 
-use crate::below::is_below;
 use crate::body::Method;
 use crate::effect::{Demand, Effect, Operation, Reply};
 use crate::heaps::has_no_this;
@@ -24,6 +23,7 @@ use crate::operands::{
 use crate::snapshot::State;
 use crate::stacking::{beneath, item, rearranged};
 use crate::starts::{all_begin, all_lead};
+use crate::subtypes::is_below;
 use hierarchy::Classes;
 use insn::{BranchTargets, Branches, Kind, StackOperator};
 use names::{OBJECT, THROWABLE};

@@ -8,10 +8,10 @@ ghost use Rattle.machine.specs.Values.{reference};
 ghost use Rattle.machine.specs.Heap.{ready, this, object, IsArrayFor, IsReference, FitsReference, FitsArray, FitsArrayFor, IsThis};
 ghost use Rattle.machine.specs.Views.{value_view, run_type_view, heap_view};
 
-use crate::below::is_below;
 use crate::heaps::ready_type;
 use crate::items::Value;
 use crate::objects::{Object, RunType, Status};
+use crate::subtypes::is_below;
 use hierarchy::Classes;
 use insn::takes_array;
 use names::{Base, FieldType, Primitive};

@@ -10,9 +10,9 @@
 //! - `effect`, `effects`, `fields`, `calls`, `creations`: what an instruction does.
 //! - `fitting`, `operands`, `demands`: which values fit which types, and when a state is no fault.
 //! - `stacking`, `storing`, `execution`, `completion`: what comes of an instruction.
-//! - `below`, `heaps`, `raising`: run-time types, objects by their addresses, and what is raised.
+//! - `subtypes`, `heaps`, `raising`: run-time types, objects by their addresses, and what is raised.
 //! - `stepping`: a step.
-//! - `beginnings`, `held`: states in which a method may begin, and values read back from local variables.
+//! - `beginnings`, `held_values`: states in which a method may begin, and values read back from local variables.
 //! - `walks`: steps by a list of choices.
 //! - `laws`: laws that guard the definitions, in the words of `specs/ByAct.antt` and `specs/ByType.antt`.
 //!
@@ -36,7 +36,6 @@
 #![tactic(auto)]
 
 mod beginnings;
-mod below;
 mod body;
 mod calls;
 mod choosing;
@@ -50,7 +49,7 @@ mod execution;
 mod fields;
 mod fitting;
 mod heaps;
-mod held;
+mod held_values;
 mod items;
 pub mod laws;
 mod making;
@@ -63,6 +62,7 @@ mod stacking;
 mod starts;
 mod stepping;
 mod storing;
+mod subtypes;
 mod walks;
 
 pub use beginnings::{initial, is_initial};

@@ -9,7 +9,6 @@ ghost use Rattle.machine.specs.Bodies.{method_view};
 ghost use Rattle.machine.specs.private.Happening.{CatchesBy, Raises};
 ghost use Rattle.machine.specs.Views.{stack_of, run_type_view, heap_view, fresh_view, state_view};
 
-use crate::below::is_below;
 use crate::body::Method;
 use crate::choosing::{Outcome, StepFault};
 use crate::heaps::ready_type;
@@ -17,6 +16,7 @@ use crate::items::Value;
 use crate::objects::{Object, RunType};
 use crate::snapshot::{State, with_fresh};
 use crate::starts::covers;
+use crate::subtypes::is_below;
 use hierarchy::Classes;
 use names::THROWABLE;
 use std::alloc::{AllocError, Global};

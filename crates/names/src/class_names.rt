@@ -4,7 +4,7 @@ ghost use Rattle.std.specs.Prelude.{◌≡◌, ◌+◌, ◌-◌, ◌≤◌, true
 ghost use Rattle.names.specs.Forms.{AreJoinedBetween};
 ghost use Rattle.names.specs.Names.{IsClassName};
 
-use crate::plain::is_plain;
+use crate::plain_bytes::is_plain;
 use std::simd::prelude::*;
 
 /// Whether each of sixteen bytes from a place on is seen to be one of a class name that the byte behind it may follow.

@@ -4,9 +4,9 @@ ghost use Rattle.std.specs.Prelude.{◌≡◌, ◌↔◌, IsTrue};
 ghost use Rattle.names.specs.Names.{IsUnqualifiedName, IsMethodName, IsClassName};
 ghost use Rattle.names.specs.Forms.{AreNameForms};
 
-use crate::by_lanes::are_all;
+use crate::lanes::are_all;
 use crate::name::{is_angle, is_name_byte};
-use crate::plain::{Plain, is_plain};
+use crate::plain_bytes::{Plain, is_plain};
 use crate::text::Text;
 
 /// The forms of names that a text has (JVMS 4.2).

@@ -6,7 +6,7 @@ ghost use Rattle.names.specs.Reading.{mapped, goes_on, ends_class_name, read_cla
 ghost use Rattle.names.specs.Texts.{spelling};
 
 use crate::class_names::is_seen_as_class_name;
-use crate::plain::plain_end;
+use crate::plain_bytes::plain_end;
 use crate::text::Text;
 
 /// Whether the byte may stand in an unqualified name.

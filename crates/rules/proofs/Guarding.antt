@@ -20,7 +20,7 @@ use Rattle.classfile.specs.Methods.{class_named}
 use Rattle.classfile.specs.MethodParts.{or_empty}
 use Rattle.hierarchy.specs.declared.summary.Kind.{Kind}
 use Rattle.hierarchy.specs.declared.summary.Kind.TheVariants as kinds
-use Rattle.hierarchy.specs.declared.nearest.MemberRef.{MemberRef}
+use Rattle.hierarchy.specs.declared.member_references.MemberRef.{MemberRef}
 use Rattle.hierarchy.specs.Class.{ClassFact}
 use Rattle.hierarchy.specs.Nearest.{MemberReference, is_guarded}
 use Rattle.hierarchy.specs.Summary.{reference_of}

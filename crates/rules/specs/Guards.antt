@@ -12,7 +12,7 @@ use Rattle.classfile.specs.Methods.{Method, class_named}
 use Rattle.classfile.specs.MethodParts.{or_empty}
 use Rattle.hierarchy.specs.declared.summary.Kind.{Kind}
 use Rattle.hierarchy.specs.declared.summary.Kind.TheVariants as kinds
-use Rattle.hierarchy.specs.declared.nearest.MemberRef.{MemberRef}
+use Rattle.hierarchy.specs.declared.member_references.MemberRef.{MemberRef}
 use Rattle.hierarchy.specs.Class.{ClassFact}
 use Rattle.hierarchy.specs.Nearest.{MemberReference, is_guarded}
 use Rattle.hierarchy.specs.Summary.{reference_of}
@@ -20,7 +20,7 @@ use Rattle.insn.specs.Meanings.{Act}
 use Rattle.rules.specs.declared.guards.Guards.{Guards}
 use Rattle.rules.specs.declared.guards.Key.{Key}
 use Rattle.rules.specs.declared.guards.References.{References}
-use Rattle.rules.specs.declared.protected.Use as uses
+use Rattle.rules.specs.declared.protected_members.Use as uses
 use Rattle.rules.specs.Protected.{Use, field_reference, method_reference, used_by}
 
 -- the name of the class itself

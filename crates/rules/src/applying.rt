@@ -14,7 +14,7 @@ use crate::class_constants::ClassConstants;
 use crate::environment::Env;
 use crate::merging::first_reason;
 use crate::own_object::constructs_own;
-use crate::protected::check_member;
+use crate::protected_members::check_member;
 use crate::reason::Reason;
 use crate::running::run;
 use crate::ways::{branches, falls};

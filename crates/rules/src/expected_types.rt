@@ -24,7 +24,7 @@ use crate::expected::{ExpectedType, expected_of, throwable};
 use crate::families::{number_of_result, reference_of_result};
 use crate::fields::target_of;
 use crate::naming::Named;
-use crate::special::{may_call_special, may_construct_by};
+use crate::special_calls::{may_call_special, may_construct_by};
 use crate::stacks::units_taken;
 use classfile::CodeMethod;
 use insn::{Act, Kind, NumericOperator, StackOperator, computed_as};

@@ -25,7 +25,7 @@
 //! - `constants`: instructions that load constants.
 //! - `fields`: instructions that read and write fields.
 //! - `calls`: instructions that call methods, all but `invokespecial`.
-//! - `special`: `invokespecial`; `constructing`: its calls of `<init>`.
+//! - `special_calls`: `invokespecial`; `constructing`: its calls of `<init>`.
 //! - `own_object`: whether a constructor is called on the own object.
 //! - `making`: `new`.
 //! - `arrays`: instructions that make arrays and read and write their elements; `checkcast` and `instanceof`.
@@ -36,7 +36,7 @@
 //! - `class_constants`: the constants of a class, with the types and members that its instructions name by them.
 //! - `members`: the members among these.
 //! - `guards`: which constants name guarded members.
-//! - `protected`: on which objects guarded members may be used.
+//! - `protected_members`: on which objects guarded members may be used.
 //! - `declaring_class`: the class that declares the method (the current class), and its superclass.
 //!
 //! Definitions:
@@ -80,12 +80,12 @@ mod merging;
 mod naming;
 mod operands;
 mod own_object;
-mod protected;
+mod protected_members;
 mod reason;
 mod replacing;
 mod running;
 mod slots;
-mod special;
+mod special_calls;
 mod stacks;
 mod stores;
 mod unmet;
@@ -103,7 +103,7 @@ pub use members::Members;
 pub use merging::{first_reason, together};
 pub use naming::Named;
 pub use own_object::constructs_own;
-pub use protected::check_member;
+pub use protected_members::check_member;
 pub use reason::Reason;
 pub use replacing::replaced_object;
 pub use running::{run, run_plain};

@@ -19,7 +19,7 @@ ghost use Rattle.rules.specs.Ways.{special_index};
 
 use crate::calls::{is_init, is_of_class};
 use crate::naming::Named;
-use crate::special::may_construct_by;
+use crate::special_calls::may_construct_by;
 use crate::working::Working;
 use classfile::CodeMethod;
 use frames::{VType, is_own};

@@ -27,7 +27,7 @@ use crate::fields::{get_field, get_static, put_field, put_static};
 use crate::making::new_object;
 use crate::naming::Named;
 use crate::reason::Reason;
-use crate::special::invoke_special;
+use crate::special_calls::invoke_special;
 use crate::stacks::rearranges;
 use crate::stores::{stores_number, stores_reference};
 use crate::working::Working;

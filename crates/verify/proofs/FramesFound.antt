@@ -13,7 +13,7 @@ use Rattle.insn.specs.Meanings.{Act}
 use Rattle.insn.specs.Offsets.{acts}
 use Rattle.insn.proofs.CodeLaws.{code_or_fault}
 use Rattle.rules.specs.Table.{typing_rule}
-use Rattle.verify.specs.declared.coming.FramesAt.{FramesAt}
+use Rattle.verify.specs.declared.frames_at.FramesAt.{FramesAt}
 use Rattle.verify.specs.declared.verdict.VerifyFault.{VerifyFault}
 use Rattle.verify.specs.Coming.{no_frames, frames_at, frames_view, HasNoInstructions, AreFramesOf}
 

@@ -22,8 +22,8 @@ use Rattle.verify.specs.InitialFrames.{initial_types, initial_frame}
 use Rattle.verify.specs.TypeSafety.{Frames}
 use Rattle.verify.specs.Details.{DetailFact, detail_at, map_detail, detail_of}
 use Rattle.verify.specs.Verdict.{MapRefusal, frames_declared}
-use Rattle.verify.specs.declared.coming.TheConstants.{MOST_KEPT}
-use Rattle.verify.specs.declared.coming.FramesAt.{FramesAt}
+use Rattle.verify.specs.declared.frames_at.TheConstants.{MOST_KEPT}
+use Rattle.verify.specs.declared.frames_at.FramesAt.{FramesAt}
 use Rattle.verify.specs.declared.verdict.Verdict.{Verdict}
 use Rattle.verify.specs.declared.verdict.Verdict.TheVariants.{Verified, NoCode, Refused}
 use Rattle.verify.specs.declared.report.MethodVerdict.{MethodVerdict}

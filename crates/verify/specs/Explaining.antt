@@ -2,9 +2,9 @@
 use Rattle.std.specs.Prelude.{Bool, true, false, List}
 use Rattle.classfile.specs.Methods.{JudgedClass}
 use Rattle.hierarchy.specs.Class.{ClassFact}
-use Rattle.verify.specs.declared.coming.FramesAt.{FramesAt}
+use Rattle.verify.specs.declared.frames_at.FramesAt.{FramesAt}
 use Rattle.verify.specs.declared.report.MethodVerdict.{MethodVerdict}
-use Rattle.verify.specs.declared.explained.Explained.{Explained}
+use Rattle.verify.specs.declared.explanation.Explained.{Explained}
 use Rattle.verify.specs.Reports.{IsReport}
 use Rattle.verify.specs.Coming.{AreFramed}
 

@@ -8,7 +8,7 @@ use Rattle.verify.specs.declared.verdict.Verdict.TheVariants.{Verified, NoCode, 
 use Rattle.verify.specs.declared.report.MethodVerdict.{MethodVerdict}
 use Rattle.verify.specs.Answers.{Answers}
 use Rattle.verify.specs.Reports.{IsReport}
-use Rattle.verify.specs.declared.coming.FramesAt.{FramesAt}
+use Rattle.verify.specs.declared.frames_at.FramesAt.{FramesAt}
 use Rattle.verify.specs.Coming.{frames_view, AreFramed}
 
 -- two verdicts say the same: of refusals the offset, the number, the missing class by its name, and the fault behind 78

@@ -11,7 +11,7 @@ ghost use Rattle.verify.specs.Explaining.{IsExplained};
 ghost use Rattle.verify.specs.private.AmongSteps.{Adds, BeginWith, ExplainsSummaries, ExplainsFormed};
 ghost use Rattle.verify.specs.declared.among.AmongFault.TheVariants.{OutOfMemory};
 
-use crate::explained::{Explained, explain_listed};
+use crate::explanation::{Explained, explain_listed};
 use crate::files::{FileFault, FileRead, class_in, formed, summary_in};
 use crate::final_super::has_final_super;
 use crate::report::Report;

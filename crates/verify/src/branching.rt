@@ -10,7 +10,7 @@ ghost use Rattle.verify.specs.private.Targets.{IsPlace, Compares};
 ghost use Rattle.verify.specs.private.Known.{IsKnown};
 
 use crate::flow::check_answer;
-use crate::known::Known;
+use crate::known_facts::Known;
 use crate::place_set::PlaceSet;
 use frames::{Declared, DeclaredFrames};
 use hierarchy::Classes;

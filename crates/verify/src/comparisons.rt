@@ -1,6 +1,6 @@
 //! Which comparisons with declared frames need not be made, since the running frame is known to fit.
 use crate::handlers::Handlers;
-use crate::known::Known;
+use crate::known_facts::Known;
 use crate::place_set::PlaceSet;
 
 /// Facts about the running frame, and the declared frames with which it was compared.

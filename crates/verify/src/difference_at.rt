@@ -23,7 +23,7 @@ use crate::body::Body;
 use crate::branching::declared_at;
 use crate::catching::frame_answer;
 use crate::exceptions::Entry;
-use crate::known::Known;
+use crate::known_facts::Known;
 use crate::local_facts::KnownLocals;
 use crate::place_set::PlaceSet;
 use crate::stack_maps::copy_of;

@@ -10,7 +10,7 @@ ghost use Rattle.rules.specs.Outcomes.{Judges};
 ghost use Rattle.verify.specs.private.JudgingSteps.{Enters};
 ghost use Rattle.verify.specs.private.Known.{IsKnown};
 
-use crate::known::Known;
+use crate::known_facts::Known;
 use frames::{Declared, DeclaredFrames};
 use hierarchy::{Answer, Classes};
 use rules::{Reason, Working};

@@ -8,7 +8,7 @@
 //! - `final_super`: whether the superclass of a class is final; `listing`: whether a hierarchy has a class as it is.
 //! - `play`: the reports on classes whose methods may call each other; `met_names`: the names of the classes before
 //!   one.
-//! - `explained`: a report, with the frames at the instructions at which methods are refused; `coming`: these
+//! - `explanation`: a report, with the frames at the instructions at which methods are refused; `frames_at`: these
 //!   frames; `detail`: what is wrong there, by the reason; `difference_at`: how a frame that leads to a target or a
 //!   handler differs from the one that is declared there.
 //!
@@ -30,7 +30,7 @@
 //!
 //! The pass compares the running frame with a declared one only where they may differ since the last comparison:
 //!
-//! - `known`: facts about the running frame; `local_facts`: facts about its locals.
+//! - `known_facts`: facts about the running frame; `local_facts`: facts about its locals.
 //! - `comparisons`: these facts, and the declared frames with which the running frame was compared; `place_set`: sets
 //!   of declared frames.
 //! - `representatives`: handlers that stand for others, since their frames have the same locals.
@@ -47,21 +47,21 @@ mod among;
 mod body;
 mod branching;
 mod catching;
-mod coming;
 mod comparisons;
 mod detail;
 mod difference_at;
 mod each;
 mod exceptions;
-mod explained;
+mod explanation;
 mod files;
 mod final_super;
 mod flow;
+mod frames_at;
 mod gathering;
 mod handlers;
 mod initial;
 mod judging;
-mod known;
+mod known_facts;
 mod laws;
 mod listing;
 mod local_facts;
@@ -80,12 +80,12 @@ mod verdict;
 mod verified_walk;
 
 pub use among::{AmongFault, explain_among_under, verify_among, verify_among_under};
-pub use coming::FramesAt;
 pub use detail::Detail;
 pub use difference_at::DifferenceAt;
 pub use each::{EachFault, Judgement, verify_each};
-pub use explained::Explained;
+pub use explanation::Explained;
 pub use files::{FileFault, FileRead, class_file};
+pub use frames_at::FramesAt;
 pub use laws::{
     class_run_breadth, fits_breadth, frames_are_judged, map_refused_where, one_frames, one_report,
     one_verdict, refused_breaks, refused_where, type_safe_is_verified, verified_is_type_safe,

@@ -26,7 +26,7 @@ use crate::exceptions::{check_table, exceptions};
 use crate::handlers::Handlers;
 use crate::initial::{begins_uninitialized, initial_locals, initial_types};
 use crate::judging::pass;
-use crate::known::Known;
+use crate::known_facts::Known;
 use crate::listing::is_listed;
 use crate::place_set::PlaceSet;
 use crate::refusal::{refuse, refuse_code};

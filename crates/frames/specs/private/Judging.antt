@@ -14,7 +14,7 @@ use Rattle.frames.specs.TypeChains.{types_at}
 use Rattle.frames.specs.DeclaredViews.{locals_at, facts_of, AreInside, Made}
 use Rattle.frames.specs.RefusedEntries.{RefusedFact, refused_of}
 use Rattle.frames.specs.declared.chain.Link.{Link}
-use Rattle.frames.specs.declared.after.FrameTops.{FrameTops}
+use Rattle.frames.specs.declared.frame_tops.FrameTops.{FrameTops}
 use Rattle.frames.specs.declared.declaring.RefusedEntry.{RefusedEntry}
 use Rattle.frames.specs.declared.frame_fault.FrameFault.{FrameFault}
 use Rattle.frames.specs.declared.refusing.Wrong.{Wrong}

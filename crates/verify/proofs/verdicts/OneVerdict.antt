@@ -23,8 +23,8 @@ use Rattle.verify.specs.Verdict.{verified, told_of, verdict}
 use Rattle.verify.specs.Answers.{place_of}
 use Rattle.verify.specs.Answers.{HasBadCode, HasVerdict, HasRefusal, IsRefused}
 use Rattle.verify.specs.Reports.{IsReported}
-use Rattle.verify.specs.declared.coming.TheConstants.{MOST_KEPT}
-use Rattle.verify.specs.declared.coming.FramesAt.{FramesAt}
+use Rattle.verify.specs.declared.frames_at.TheConstants.{MOST_KEPT}
+use Rattle.verify.specs.declared.frames_at.FramesAt.{FramesAt}
 use Rattle.verify.specs.Coming.{FramesFact, frames_at, frames_view, HasFrames, HasNoInstructions, AreFramesOf, IsFramed, IsFramedIf, AreFramed, size_before}
 use Rattle.verify.specs.OneVerdict.{AreSameVerdict, OneVerdict, IsSameLine, IsSameReport, OneReport, OneFrames}
 use Rattle.rules.proofs.Lesser.{view_number}

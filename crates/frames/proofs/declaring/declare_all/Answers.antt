@@ -2,7 +2,7 @@ use Rattle.std.proofs.Common.{refl, ◌≡◌, ◌<◌, ◌∙◌, [], ◌∷◌
 use Rattle.std.proofs.lemmas.List.{drop_more, nil_from_length, length-append, length-drop}
 use Rattle.frames.specs.MapViews.{entry_of}
 use Rattle.frames.specs.declared.stack_map.MapEntry.{MapEntry as Held}
-use Rattle.frames.specs.declared.after.FrameTops.{FrameTops}
+use Rattle.frames.specs.declared.frame_tops.FrameTops.{FrameTops}
 use Rattle.frames.specs.Conditions.{reason}
 use Rattle.frames.specs.FrameReasons.{frame_fault_number}
 use Rattle.frames.specs.DeclaredFrames.{declared_frames}

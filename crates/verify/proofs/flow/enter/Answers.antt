@@ -1,7 +1,7 @@
 use Rattle.std.proofs.Common.{sym, subst}
 use Rattle.rules.specs.Held.{held}
 use Rattle.verify.specs.private.Known.{IsKnown}
-use Rattle.verify.specs.declared.known.Known.{Known}
+use Rattle.verify.specs.declared.known_facts.Known.{Known}
 use Rattle.verify.proofs.flow.enter.Goals as goal
 use Rattle.verify.proofs.flow.enter.Goals.{then-comes-2+in_ok-check_answer, else-comes-2}
 
