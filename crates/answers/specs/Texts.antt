@@ -9,7 +9,7 @@ use Rattle.verify.specs.declared.files.FileFault.TheVariants.{OutOfMemory, Unrea
 use Rattle.answers.specs.declared.command.Form.{Form}
 use Rattle.answers.specs.declared.command.Form.TheVariants.{Plain, Json}
 
--- why a file is no class that is well formed
+-- why a file is not a well-formed class
 abbrev pub refusal_text : FileFault → List ℕ
 refusal_text OutOfMemory = codes "1"
 refusal_text (Unread fault) = fault_text fault

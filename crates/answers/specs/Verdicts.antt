@@ -249,7 +249,7 @@ KnownSays manner c known text status =
     ⊎ ((cs : List Class) × AreFormed (reads_of known) cs
     × HierarchySays manner (map summary_of (c.file ∷ cs)) c text status)
 
--- the answer to `verify` and to `explain`, by a profile: why the file is no class that is well formed, or the answer
+-- the answer to `verify` and to `explain`, by a profile: why the file is not a well-formed class, or the answer
 -- about its class
 abbrev pub VerifySays : Manner → Profile → File → List File → List ℕ → ℕ → Type 0
 VerifySays manner profile file known text status =

@@ -1,4 +1,4 @@
-//! Why there is no answer.
+//! Why an answer was not written as a whole.
 ghost use Rattle.std.specs.Prelude.{◌≡◌};
 
 use printing::WriteFailed;

@@ -1,4 +1,4 @@
-//! Why a file is no class that is well formed.
+//! Why a file is not a well-formed class.
 ghost use Rattle.std.specs.Prelude.{◌≡◌};
 ghost use Rattle.printing.specs.Json.{fields_then};
 ghost use Rattle.answers.specs.Texts.{refusal_text, refusal_fields, refusal_line};
@@ -12,7 +12,7 @@ use printing::{
 use std::io::Write;
 use verify::FileFault;
 
-/// Why a file is no class that is well formed, as it is written.
+/// Why a file is not a well-formed class, as it is written.
 #[derive(Clone, Copy)]
 pub struct Refusal(pub FileFault);
 
@@ -45,7 +45,7 @@ impl Print for Refusal {
     }
 }
 
-/// Why a file is no class that is well formed, as fields of an object, and then the text behind them.
+/// Why a file is not a well-formed class, as fields of an object, and then the text behind them.
 #[derive(Clone, Copy)]
 pub struct RefusalFields<B>(pub FileFault, pub B);
 

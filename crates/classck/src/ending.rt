@@ -11,9 +11,9 @@ use std::alloc::{AllocError, AllocFailed};
 /// Why the program ends with status 2.
 #[derive(Drop)]
 pub enum Ending {
-    /// The line is wrong, or asks for help.
+    /// The command line is invalid, or asks for help.
     Line(clap::Error),
-    /// A word of the line is no UTF-8.
+    /// A word of the line is not a UTF-8.
     NoText,
     /// Something else went wrong.
     Fault(MainFault),

@@ -6,7 +6,7 @@ use Rattle.std.specs.Str.{bytes_eq}
 use Rattle.classfile.specs.Numbers.{Numbers, first_column}
 use Rattle.classfile.specs.Values.{of_parts, of_numbers, raw, Component, ClassAttribute}
 
--- the components that an attribute holds; one that is no Record has none
+-- the components that an attribute holds; one that is not a Record has none
 abbrev pub components_of : ClassAttribute → List Component
 components_of (of_parts name components) = components
 components_of (of_numbers name numbers) = []

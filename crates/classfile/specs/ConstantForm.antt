@@ -76,7 +76,7 @@ has_bad pool class named = is_bad pool class || is_bad pool named
 unfoldable pub has_other : List Entry → ℕ → ℕ → Bool
 has_other pool class named = is_other pool kinds.Class class || is_other pool kinds.NameAndType named
 
--- the class has fields, so it is no array
+-- the class has fields, so it is not an array
 abbrev pub field_conditions : List Entry → ℕ → ℕ → List Condition
 field_conditions pool class named =
     (BadIndex, has_bad pool class named)
@@ -93,7 +93,7 @@ method_conditions pool class named =
     ∷ (BadDescriptor, is_no_method_of_class pool named)
     ∷ []
 
--- the class is an interface, so it is no array
+-- the class is an interface, so it is not an array
 abbrev pub interface_method_conditions : List Entry → ℕ → ℕ → List Condition
 interface_method_conditions pool class named =
     (BadIndex, has_bad pool class named)

@@ -1,4 +1,4 @@
-//! The attribute of a class, a field or a method that breaks the rule that is told there (JVMS 4.7).
+//! The attribute of a class, a field or a method that breaks the rule that is reported there (JVMS 4.7).
 ghost use Rattle.std.specs.Prelude.{◌≡◌, map, position, slice_get, None};
 ghost use Rattle.std.specs.Option.{option_map_or};
 ghost use Rattle.classfile.specs.AttributeFault.{attribute_breaks, class_attribute_breaks, second, second_of_layout, lesser, least, repeated_at, twice_at, member_attribute_at, class_attribute_at, attribute_at_fault, name_in, member_name_in, attribute_name};

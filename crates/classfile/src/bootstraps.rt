@@ -239,7 +239,7 @@ impl<'c, 'a> Bootstraps<'c, 'a> {
 
     /// Whether the class has a bootstrap method of this number, which counts from 0, whose handle is a MethodHandle and
     /// whose static arguments may be loaded (JVMS 4.4.10, 4.7.23). A call takes the same time however many there are,
-    /// but that the first looks at each once. The only refusal is want of memory.
+    /// but that the first looks at each once. It fails only if memory runs out.
     #[tactic(auto, unfolding(crate::specs::Bootstraps::has_bootstrap))]
     pub fn has(&mut self, number: u16) -> Result<bool, AllocError>
         ensures same { self.new ≡ self.old }

@@ -58,7 +58,7 @@ pub fn is_array_class(pool: &Pool<'_>, index: u16) -> bool
     }
 }
 
-/// Whether the index leads to a text that is no unqualified name.
+/// Whether the index leads to a text that is not an unqualified name.
 #[tactic(auto, unfolding(crate::specs::ConstantForm::is_no_unqualified_name))]
 pub fn is_no_unqualified_name(pool: &Pool<'_>, forms: &mut TextForms, index: u16) -> bool
     requires { AreForms pool.now forms.now }
@@ -71,7 +71,7 @@ pub fn is_no_unqualified_name(pool: &Pool<'_>, forms: &mut TextForms, index: u16
     }
 }
 
-/// Whether the index leads to a text that is no descriptor of a field.
+/// Whether the index leads to a text that is not a descriptor of a field.
 #[tactic(auto, unfolding(crate::specs::ConstantForm::is_no_field_descriptor))]
 pub fn is_no_field_descriptor(pool: &Pool<'_>, forms: &mut TextForms, index: u16) -> bool
     requires { AreForms pool.now forms.now }

@@ -70,7 +70,7 @@ pub enum Place {
 /// Why a class file is not well formed.
 #[derive(Clone, Copy, Debug, PartialEq, Eq, Error)]
 pub enum FormFault {
-    /// 1: memory ran out. It may stand in the place of any other answer.
+    /// 1: memory ran out. It may stand in place of any other answer.
     #[error("refused 1")]
     OutOfMemory,
     /// 20 to 30: the rule is broken at the place.

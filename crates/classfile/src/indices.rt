@@ -91,7 +91,7 @@ pub fn lacks_unless_zero(pool: &Pool<'_>, kind: ConstantKind, index: u16) -> boo
     index != 0 && lacks(pool, kind, index)
 }
 
-/// The rule that is told of indices that break one: 20 where one may not be looked up.
+/// The rule that is reported for indices that break one: 20 where one may not be looked up.
 pub fn index_rule(bad: bool) -> FormRule
     ensures { result ≡ (if bad then BadIndex else WrongKind) }
 {

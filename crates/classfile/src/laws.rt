@@ -64,7 +64,7 @@ pub fn part_is_found()
     ensures { PartIsFound }
 {}
 
-/// The rule that is told of a place has the least number of those that are broken there.
+/// The rule that is reported for a place has the least number of those that are broken there.
 pub fn least_rule_is_told()
     ensures some { LeastIsTold }
     ensures none { NoneIsTold }

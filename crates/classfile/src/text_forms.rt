@@ -126,7 +126,7 @@ impl TextForm for NameForm {
     }
 }
 
-/// A text that begins with a `(` is no field's descriptor, and no other is a method's (JVMS 4.3).
+/// A text that begins with a `(` is not a field's descriptor, and no other is a method's (JVMS 4.3).
 impl TextForm for DescriptorForm {
     ghost use Rattle.classfile.specs.private.TextForms.{descriptor_form_of};
 

@@ -1,4 +1,4 @@
-//! Why there is no answer.
+//! Why the program ends without an answer.
 
 use thiserror::Error;
 

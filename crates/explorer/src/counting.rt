@@ -54,7 +54,7 @@ pub enum Trouble {
     /// Memory ran out.
     #[error("no memory")]
     Memory,
-    /// There is no first file, or a file is no class that is well formed.
+    /// There is no first file, or a file is not a well-formed class.
     #[error("no class")]
     NoClass,
     /// The classes are no hierarchy.
@@ -155,7 +155,7 @@ fn has_code_of(class: &ClassFile<'_>, other: &ClassFile<'_>, number: usize) -> b
     }
 }
 
-/// Whether the method of a number is verified; none where it has no code, or the classes have another in the place of
+/// Whether the method of a number is verified; none where it has no code, or the classes have another in place of
 /// its class.
 fn is_verified<C: Classes>(
     alloc: Global,

@@ -113,7 +113,7 @@ fn with_a_field(alloc: Global) -> Option<ClassFile<'static>> {
     Some(class)
 }
 
-/// Whether the Class constant 3 is no Fieldref of the class.
+/// Whether the Class constant 3 is not a Fieldref of the class.
 fn is_no_field(alloc: Global, class: &ClassFile<'_>) -> bool {
     let mut fields = OwnFields::new(alloc, class);
     !fields.names_class(3) && matches!(fields.declares(3), Ok(false))

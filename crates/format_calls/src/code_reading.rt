@@ -158,7 +158,7 @@ fn instructions_by_what_they_mean(rt: HostRuntime) {
     assert!(rt; first_act(rt.alloc(), &[]).is_none());
 }
 
-/// The code is `iconst_0`, `iload 1`, `new` of constant 2 and a byte that is no opcode.
+/// The code is `iconst_0`, `iload 1`, `new` of constant 2 and a byte that is not an opcode.
 #[test]
 fn instructions_by_where_they_begin(rt: HostRuntime) {
     let mut starts = Instructions::new(&[0x03, 0x15, 1, 0xBB, 0, 2, 0xCA]);

@@ -24,7 +24,7 @@ const LONGER: [([u8; 3], usize); 3] = [
     ([0xED, 0xA0, 0x80], 3),
 ];
 
-/// Puts three bytes in the place of those at a place, as far as there are so many.
+/// Puts three bytes in place of those at a place, as far as there are so many.
 fn put(bytes: &mut [u8; 100], part: [u8; 3], place: usize) {
     for (n, b) in part.into_iter().enumerate() {
         let at = place.saturating_add(n);

@@ -17,7 +17,7 @@ use Rattle.frames.specs.StackMaps.{TypeInfo, top, integer, float, double, long, 
 
 -- ---- types
 
--- a constant that is no class stands for no type; its entry is refused
+-- a constant that is not a class stands for no type; its entry is refused
 abbrev pub object_type : Option ReferenceType → VerificationType
 object_type None = types.top
 object_type (Some type) = to_reference type

@@ -19,7 +19,7 @@ use std::alloc::{AllocError, Global};
 pub enum StartKind {
     /// No instruction begins there.
     Inside,
-    /// An instruction begins there that is no `new`.
+    /// An instruction begins there that is not a `new`.
     Start,
     /// A `new` begins there.
     New {

@@ -35,7 +35,7 @@ pub enum FrameFault {
 }
 
 impl FrameFault {
-    /// The number by which this fault is told.
+    /// The number of this fault.
     pub fn number(&self) -> u8
         ensures { result ≡ frame_fault_number self.now }
     {

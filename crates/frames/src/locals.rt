@@ -160,7 +160,7 @@ impl<'a> Locals<'a> {
         }
     }
 
-    /// Puts a type, which is of no such object, in the place of an object which is not initialized.
+    /// Puts a type, which is of no such object, in place of an object which is not initialized.
     pub fn replace(&mut self, object: &VType<'a>, by: VType<'a>)
         requires { number_of (type_of by) ≡ None }
         ensures { (i : ℕ) → local self.new i ≡ replaced (type_of object.now) (type_of by.entry) (local self.old i) }

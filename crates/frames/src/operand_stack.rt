@@ -88,7 +88,7 @@ fn give<'a>(place: usize, t: VType<'a>, types: &mut Vec<VType<'a>>)
     types[place] = t;
 }
 
-/// Puts a type in the place of an object which is not initialized, at the places that came to hold it.
+/// Puts a type in place of an object which is not initialized, at the places that came to hold it.
 fn replace_listed<'a>(
     object: &VType<'a>,
     by: VType<'a>,
@@ -255,7 +255,7 @@ impl<'a> OperandStack<'a> {
         first
     }
 
-    /// Puts a type, which is of no such object, in the place of an object which is not initialized.
+    /// Puts a type, which is of no such object, in place of an object which is not initialized.
     pub fn replace(&mut self, object: &VType<'a>, by: VType<'a>)
         requires none { number_of (type_of by) ≡ None }
         requires narrow { width_of (type_of by) ≡ 1 }

@@ -77,12 +77,12 @@ FaultOf classes fault = Breaks classes fault × KeepsBefore classes (number_of f
 abbrev pub RulesMakeHierarchies : Type 0
 RulesMakeHierarchies = (classes : List ClassFact) → IsHierarchy classes ↔ ((rule : Rule) → Keeps classes rule)
 
--- a list that is refused is no hierarchy, want of memory aside
+-- a list that is refused is not a hierarchy, apart from memory running out
 abbrev pub FaultsBreakRules : Type 0
 FaultsBreakRules = (classes : List ClassFact) (fault : HierarchyFault) → fault ≢ OutOfMemory → FaultOf classes fault
     → IsHierarchy classes → ⊥
 
--- a list has one fault at most, want of memory aside, and it names one class
+-- a list has one fault at most, apart from memory running out, and it names one class
 abbrev pub OneFault : Type 0
 OneFault =
     (classes : List ClassFact) (fault other : HierarchyFault) → fault ≢ OutOfMemory → other ≢ OutOfMemory

@@ -52,7 +52,7 @@ fn place_after(places: &[Option<usize>], place: Option<usize>) -> Option<usize>
 }
 
 /// The table for twice as many steps, of a table that leads from each place to the one so many steps on, where there is
-/// one. Want of memory is the only refusal.
+/// one. It fails only if memory runs out.
 pub fn twice_as_far(
     alloc: Global,
     places: &[Option<usize>],

@@ -25,7 +25,7 @@ pub enum HierarchyFault<'a> {
     /// 43: `java/lang/Object` is absent, is an interface, or has a superclass.
     #[error("java/lang/Object is missing or wrong")]
     NoObject,
-    /// 44: `java/lang/Cloneable` or `java/io/Serializable` is in the list and is no interface.
+    /// 44: `java/lang/Cloneable` or `java/io/Serializable` is in the list and is not an interface.
     #[error("an interface of arrays is a class")]
     BadArrayInterface { name: &'a [u8] },
     /// 45: the list has more than 65,535 classes.

@@ -44,12 +44,12 @@ pub fn rules_make_hierarchies()
     ensures { RulesMakeHierarchies }
 {}
 
-/// A list of classes that has a fault is no hierarchy, want of memory aside.
+/// A list of classes that has a fault is not a hierarchy, apart from memory running out.
 pub fn faults_break_rules()
     ensures { FaultsBreakRules }
 {}
 
-/// A list of classes has one fault at most, want of memory aside, and the fault names one class.
+/// A list of classes has one fault at most, apart from memory running out, and the fault names one class.
 pub fn one_hierarchy_fault()
     ensures { OneFault }
 {}

@@ -33,7 +33,7 @@ impl<'k, C: Classes> Prepared<'k, C> {
     /// Finds what the classes of these names inherit. A name that no class has is passed over.
     ///
     /// The time and the memory are those of these classes, of all that stand above them, and of their members, times a
-    /// logarithm, however long the chains of superclasses are. The only refusal is want of memory.
+    /// logarithm, however long the chains of superclasses are. It fails only if memory runs out.
     pub fn new(
         alloc: Global,
         classes: &'k C,

@@ -64,7 +64,7 @@ impl<'s, 'a, S: BuildHasher + Drop> Rows<'s, 'a, S> {
     ///
     /// Names are found by their hashes: n classes take time n log n, unless the hasher gives most of their names one
     /// hash, as each hasher does for some names that are known beforehand, and then n². Which one is handed in is the
-    /// caller's choice; `RandomState` keeps its hashes from those who make class files.
+    /// caller's choice; `RandomState` hides its hashes from those who make class files.
     ///
     /// Refused as by [`Chains::new`](crate::Chains::new): 40 to 46, and 1 where there was no memory left.
     pub fn new(

@@ -39,7 +39,7 @@ fn list_of<'a>(
     Ok(list)
 }
 
-/// Asks for 12,345 bytes, as nothing else does, and gives them back: who counts memory sees the moment.
+/// Asks for 12,345 bytes, as nothing else does, and gives them back, so that whoever counts memory sees the moment.
 fn mark(alloc: Global) {
     let _marks: Result<Vec<u8>, AllocError> = Vec::with_capacity(alloc, 12345);
 }

@@ -69,7 +69,7 @@ passed_units Dup2X1 = 1
 passed_units Dup2X2 = 2
 passed_units Swap = 1
 
--- The items that then stand where those on top and those passed over stood: nothing in the place of those on top, a
+-- The items that then stand where those on top and those passed over stood: nothing in place of those on top, a
 -- copy of them beneath those passed over, or both in the other order.
 abbrev pub moved_by : {A : Type 0} → StackOperator → List A → List A → List A
 moved_by Pop top passed = passed

@@ -12,7 +12,7 @@ pub enum CodeFault {
     /// 1: memory ran out.
     #[error("refused 1")]
     OutOfMemory,
-    /// 31: the byte is no opcode (202 to 255).
+    /// 31: the byte is not an opcode (202 to 255).
     #[error("refused 31 at {at}")]
     BadOpcode { at: usize },
     /// 32: the code ends inside the instruction.
@@ -22,7 +22,7 @@ pub enum CodeFault {
     /// or keys that do not rise.
     #[error("refused 33 at {at}")]
     BadSwitch { at: usize },
-    /// 34: what follows `wide` is no opcode that it modifies.
+    /// 34: what follows `wide` is not an opcode that it modifies.
     #[error("refused 34 at {at}")]
     BadWide { at: usize },
     /// 35: a byte of `invokeinterface` or `invokedynamic` that must be 0 is not.
@@ -31,7 +31,7 @@ pub enum CodeFault {
 }
 
 impl CodeFault {
-    /// The number by which this fault is told.
+    /// The number of this fault.
     pub fn number(&self) -> u8
         ensures { result ≡ code_fault_number self.now }
     {

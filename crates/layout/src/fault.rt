@@ -15,11 +15,11 @@ pub enum ReadFault {
     /// 2: the number or part that begins at `at` is not whole.
     #[error("refused 2 at {at}")]
     EndsEarly { at: usize },
-    /// 3: a text is no modified UTF-8 (JVMS 4.4.7); `at` is the first byte of the first unit
+    /// 3: a text is not modified UTF-8 (JVMS 4.4.7); `at` is the first byte of the first unit
     /// without a spelling.
     #[error("refused 3 at {at}")]
     BadText { at: usize },
-    /// 7: the tag at `at` is no tag of a constant, or may not stand there (JVMS 4.4), or the byte
+    /// 7: the tag at `at` is not a tag of a constant, or may not stand there (JVMS 4.4), or the byte
     /// there is no kind of a method handle (JVMS 4.4.8); `tag` is that byte.
     #[error("refused 7 at {at} tag {tag}")]
     BadTag { at: usize, tag: u8 },
@@ -45,16 +45,16 @@ pub enum ReadFault {
     /// 16: the count of the constant pool, which stands at `at`, is 0 (JVMS 4.1).
     #[error("refused 16 at {at}")]
     BadPoolCount { at: usize },
-    /// 47: the byte at `at` is no type of a stack map frame (JVMS 4.7.4).
+    /// 47: the byte at `at` is not a type of a stack map frame (JVMS 4.7.4).
     #[error("refused 47 at {at}")]
     BadFrameType { at: usize },
-    /// 48: the byte at `at` is no tag of a verification type (JVMS 4.7.4).
+    /// 48: the byte at `at` is not a tag of a verification type (JVMS 4.7.4).
     #[error("refused 48 at {at}")]
     BadTypeTag { at: usize },
 }
 
 impl ReadFault {
-    /// The number by which this fault is told.
+    /// The number of this fault.
     pub fn number(&self) -> u8
         ensures { result ≡ read_fault_number self.now }
     {
@@ -86,7 +86,7 @@ pub struct StreamFault {
     pub why: ReadFault,
 }
 
-/// Why a value is not written. Where both 17 and 18 hold, 17 is told.
+/// Why a value is not written. Where both 17 and 18 hold, 17 is reported.
 #[derive(Clone, Copy, Debug, PartialEq, Eq, Error)]
 pub enum WriteFault {
     /// 1: memory ran out.
@@ -102,7 +102,7 @@ pub enum WriteFault {
 }
 
 impl WriteFault {
-    /// The number by which this fault is told.
+    /// The number of this fault.
     pub fn number(&self) -> u8
         ensures { result ≡ write_fault_number self.now }
     {

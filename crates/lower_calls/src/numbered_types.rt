@@ -216,7 +216,7 @@ fn is_method<'n, C: Classes, S: BuildHasher + Drop>(
     Ok(fits && fine && descriptors.into_row().len() == types.count)
 }
 
-/// Whether the text at 4 of that pool is no descriptor of a method, and no text is at 5.
+/// Whether the text at 4 of that pool is not a descriptor of a method, and no text is at 5.
 fn are_no_methods<'n, C: Classes, S: BuildHasher + Drop>(
     alloc: Global,
     pool: &Pool<'n>,

@@ -71,7 +71,7 @@ fn refusal<'a>(alloc: Global, classes: &[Summary<'a>]) -> Option<HierarchyFault<
     Chains::new(alloc, classes, hasher()).err()
 }
 
-/// Whether an interface below another class than `java/lang/Object`, which is no class file, is refused for that.
+/// Whether an interface below another class than `java/lang/Object`, which is not a class file, is refused for that.
 fn is_refused(alloc: Global) -> bool {
     let list = [
         object(alloc),

@@ -48,7 +48,7 @@ Passes world heap None vs = Unit {0}
 Passes world heap (Some type) [] = ⊥
 Passes world heap (Some type) (v ∷ vs) = IsOf world heap (descriptor_of type) v
 
--- The instruction may go on: it is no return and no athrow, what only raises where it is null is not, and a cast
+-- The instruction may go on: it is neither a return nor an athrow, what only raises where it is null is not, and a cast
 -- passes.
 abbrev pub MayGoOn : World → Method Act → Act → State → Type 0
 MayGoOn world m act s =

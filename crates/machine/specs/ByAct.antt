@@ -56,7 +56,7 @@ is_store _ = false
 
 -- ---- what is called
 
--- a method that is no instance initialization method (2.9.1)
+-- a method that is not an instance initialization method (2.9.1)
 abbrev pub other_than_init : Option MethodConstant → Option MethodConstant
 other_than_init (Some c) = if bytes_eq c.name init_name then None else Some c
 other_than_init None = None
@@ -88,7 +88,7 @@ abbrev pub cast_to : Method Act → Act → Option ReferenceType
 cast_to m (acts.CheckCast i) = class_at m.constant_pool i
 cast_to m _ = None
 
--- ---- what it answers, in the place of so many operands
+-- ---- what it answers, in place of so many operands
 
 pub data Asks : Type 0 where
   nothing : Asks

@@ -121,7 +121,7 @@ abbrev pub EndsReady : {A : Type 0} → Method A → Effect → State → Type 0
 EndsReady m ends s = m.is_init ≡ true → HasNoThis s.heap
 EndsReady m _ s = Unit {0}
 
--- ---- a state that is no fault, in five parts
+-- ---- a state that is not a fault, in five parts
 
 -- the operands and local variables are there, and of their types
 pub record HasOperandsBy (effect : Effects) (world : World) (m : Method Act) (s : State) (act : Act) : Type 0 where

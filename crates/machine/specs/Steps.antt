@@ -1,4 +1,5 @@
--- The steps of the machine (JVMS 2.10, 2.11, 6.5): what an instruction does at a state that is no fault, by a choice.
+-- The steps of the machine (JVMS 2.10, 2.11, 6.5): what an instruction does, by a choice, at a state that is not a
+-- fault.
 use Rattle.std.specs.Prelude.{◌≡◌, ℕ, ℤ, pos, true, List, [], ◌∷◌, ◌++◌, slice_get, Option, Some, None, ◌⊎◌}
 use Rattle.names.specs.Descriptors.{FieldDescriptor}
 use Rattle.names.specs.ReferenceTypes.{ReferenceType, class_type, array_type}
@@ -149,7 +150,7 @@ pub record IsCaught (world : World) (m : Method Act) (s : State)
   pub catches : IsBelow world raised.type by_entry.caught
   pub result : t ≡ moved_with s by_entry.handler (reference address ∷ []) (with_fresh s.heap fresh)
 
--- what comes of a choice, at a state that is no fault
+-- what comes of a choice, at a state that is not a fault
 abbrev pub HappensBy : Effects → World → Method Act → State → Choice → Outcome → Type 0
 HappensBy effect world m s (go branch answer fresh) (goes_on t) = IsNoFaultBy effect world m s
     × StepsBy effect world m s branch answer fresh t

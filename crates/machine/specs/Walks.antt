@@ -14,7 +14,7 @@ pub data Stop : Type 0 where
   returned : Stop
   -- the state is a fault
   fault : Stop
-  -- nothing comes of the next choice, at a state that is no fault
+  -- nothing comes of the next choice, at a state that is not a fault
   no_choice : Stop
 
 -- By these choices the method comes from a state to a stop; so many of the choices lead to a state or to the method's

@@ -329,7 +329,7 @@ pub fn initial<'a, C: Classes>(
 }
 
 /// Whether the method begins in this state, in the world that has these classes and no other (JVMS 2.6.1, 4.10.1.6).
-/// Its code is not looked at. The only refusal is want of memory.
+/// Its code is not looked at. It fails only if memory runs out.
 pub fn is_initial<'a, C: Classes>(
     alloc: Global,
     method: &CodeMethod<'_, 'a>,

@@ -47,7 +47,7 @@ pub enum StepFault {
     /// 1: memory ran out.
     #[error("refused 1")]
     OutOfMemory,
-    /// 54: the state is no fault, and nothing comes of this choice there.
+    /// 54: the state is not a fault, and nothing comes of this choice there.
     #[error("refused 54")]
     NotAChoice,
     /// 55: the method begins with no such values and objects.
@@ -56,7 +56,7 @@ pub enum StepFault {
 }
 
 impl StepFault {
-    /// The number by which this fault is told.
+    /// The number of this fault.
     pub fn number(&self) -> u8
         ensures { result ≡ fault_number self.now }
     {

@@ -4,7 +4,7 @@ ghost use Rattle.machine.specs.Pushes.{StackBounds};
 ghost use Rattle.machine.specs.RunBreadth.{StartBreadth, RunBreadth};
 ghost use Rattle.machine.specs.Uses.{ObjectsAreInitialized, OperandsAreInitialized};
 
-/// At a state that is no fault an instruction goes each way with each answer of its type, and each Throwable may be
+/// At a state that is not a fault an instruction goes each way with each answer of its type, and each Throwable may be
 /// raised, whatever objects come into being meanwhile.
 pub fn step_breadth()
     ensures { StepBreadth }

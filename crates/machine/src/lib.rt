@@ -8,7 +8,7 @@
 //! - `starts`: the instruction at an offset.
 //! - `constants`, `own_class`: what constants name, and what the class file says of the method's class.
 //! - `effect`, `effects`, `fields`, `calls`, `creations`: what an instruction does.
-//! - `fitting`, `operands`, `demands`: which values fit which types, and when a state is no fault.
+//! - `fitting`, `operands`, `demands`: which values fit which types, and when a state is not a fault.
 //! - `stacking`, `storing`, `execution`, `completion`: what comes of an instruction.
 //! - `subtypes`, `heaps`, `raising`: run-time types, objects by their addresses, and what is raised.
 //! - `stepping`: a step.
@@ -21,7 +21,7 @@
 //! - `specs/Values.antt`: values, local variables and stacks.
 //! - `specs/Heap.antt`: objects, and which values fit which types.
 //! - `specs/Effects.antt`: what each instruction takes, gives and does.
-//! - `specs/Demands.antt`: when a state is no fault.
+//! - `specs/Demands.antt`: when a state is not a fault.
 //! - `specs/Steps.antt`: what comes of an instruction and a choice.
 //! - `specs/Runs.antt`: initial states and runs.
 //! - `specs/Walks.antt`: walks by a list of choices.

@@ -22,7 +22,7 @@ pub enum Last<'a> {
     Ended,
     /// The state does not meet what its instruction demands.
     Fault,
-    /// The state is no fault, and nothing comes of the next choice there.
+    /// The state is not a fault, and nothing comes of the next choice there.
     NotAChoice,
 }
 

@@ -17,7 +17,7 @@ pub record IsBeginning (IsWhole : List ℕ → Type 0) (front : List ℕ) : Type
   pub more : List ℕ
   pub whole : IsWhole (front ++ more)
 
--- behind a beginning stands a byte with which it is no beginning any more, or nothing although it is not whole
+-- behind a beginning stands a byte with which it is no longer a beginning, or nothing although it is not whole
 abbrev pub IsStuck : (List ℕ → Type 0) → List ℕ → List ℕ → Type 0
 IsStuck IsWhole front [] = ¬ IsWhole front
 IsStuck IsWhole front (b ∷ rest) = ¬ IsBeginning IsWhole (front ++ b ∷ [])

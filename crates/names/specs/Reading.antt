@@ -60,7 +60,7 @@ abbrev pub primitive_before : Option Primitive → ℕ → List ℕ → Reading 
 primitive_before None b bytes = outside (b ∷ bytes)
 primitive_before (Some p) b bytes = found (primitive p) bytes
 
--- a type that is no array
+-- a type that is not an array
 unfoldable pub read_base : List ℕ → Reading FieldDescriptor
 read_base [] = outside []
 read_base (b ∷ bytes) = if nat_eq b class_letter then mapped class (read_class true bytes)

@@ -12,7 +12,7 @@ use std::alloc::{AllocError, Global};
 /// `base`, or with none `base` itself.
 #[derive(Clone, Copy, Debug, PartialEq, Eq)]
 pub struct FieldType<'a> {
-    /// How many dimensions the array has, 0 where the type is no array.
+    /// How many dimensions the array has, 0 where the type is not an array.
     pub dims: u8,
     /// The type below the dimensions.
     pub base: Base<'a>,

@@ -8,13 +8,13 @@ use thiserror::Error;
 /// The refusals of this crate. Their numbers are those of the whole product.
 #[derive(Clone, Copy, Debug, PartialEq, Eq, Error)]
 pub enum NameFault {
-    /// 1: memory ran out. It may stand in the place of any other answer of a call that takes memory.
+    /// 1: memory ran out. It may stand in place of any other answer of a call that takes memory.
     #[error("refused 1")]
     OutOfMemory,
     /// 3: the byte at this place begins a unit that has no right spelling there (JVMS 4.4.7).
     #[error("refused 3 at {at}")]
     BadText { at: usize },
-    /// 4: the text is no descriptor (JVMS 4.3). It is no beginning of one with the byte at this place,
+    /// 4: the text is not a descriptor (JVMS 4.3). It is no beginning of one with the byte at this place,
     /// which is the text's length where the text ends early.
     #[error("refused 4 at {at}")]
     BadDescriptor { at: usize },

@@ -17,7 +17,7 @@ pub struct Parameters<'a> {
 
 /// The parameters that a method descriptor names, forwards and without a list of them (JVMS 4.3.3). Takes no memory.
 ///
-/// If the text is no method descriptor, they end where no type of at most 255 dimensions stands:
+/// If the text is not a method descriptor, they end where no type of at most 255 dimensions stands:
 /// [`method_type`](crate::method_type) tells whether it is one.
 pub fn parameter_types(text: Text<'_>) -> Parameters<'_>
     // If the text is a descriptor: all its parameters in their order.

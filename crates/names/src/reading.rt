@@ -161,7 +161,7 @@ fn judge_field(bytes: &[u8]) -> Result<FieldType<'_>, NameFault>
 
 /// The type that a field descriptor names (JVMS 4.3.2). Takes no memory.
 ///
-/// Refuses by 4 a text that is no field descriptor, and by 5 one with more than 255 dimensions.
+/// Refuses by 4 a text that is not a field descriptor, and by 5 one with more than 255 dimensions.
 pub fn field_type(text: Text<'_>) -> Result<FieldType<'_>, NameFault>
     // A type exactly where the text is its descriptor, and its dimensions are at most 255.
     ensures found { IfOk result (λ f. SpellsField text.entry.bytes.now (type_of f)) }
@@ -339,7 +339,7 @@ fn judge_method<'a>(
 
 /// The types that a method descriptor names (JVMS 4.3.3); `receiver` where the method has one.
 ///
-/// Refuses by 4 a text that is no method descriptor, by 5 one in which a type has more than 255
+/// Refuses by 4 a text that is not a method descriptor, by 5 one in which a type has more than 255
 /// dimensions, and by 6 one whose parameters take more than 255 units with the receiver: by the least
 /// of these numbers that holds. 1 where memory runs out.
 pub fn method_type(
@@ -418,7 +418,7 @@ fn judge_result(bytes: &[u8]) -> Option<FieldType<'_>>
 
 /// The type of the result that a method descriptor names, `None` standing for `V` (JVMS 4.3.3). Takes no memory.
 ///
-/// `None` stands as well for a text that is no method descriptor, and for a result of more than 255 dimensions:
+/// `None` stands as well for a text that is not a method descriptor, and for a result of more than 255 dimensions:
 /// [`method_type`] tells these apart.
 pub fn result_type(text: Text<'_>) -> Option<FieldType<'_>>
     // If the text is a descriptor: the result.

@@ -30,7 +30,7 @@ fn array_of(t: FieldType<'_>) -> Option<RefType<'_>>
 }
 
 /// The type that the text of a Class constant names (JVMS 4.4.1): an array's by its descriptor, any other by the name
-/// of a class. None where a text that begins like an array's is no descriptor of one. Takes no memory.
+/// of a class. None where a text that begins like an array's is not a descriptor of one. Takes no memory.
 pub fn reference_type(text: Text<'_>) -> Option<RefType<'_>>
     ensures { option_map reference_view result ≡ reference_type text.entry.bytes.now }
 {
@@ -63,7 +63,7 @@ impl<'a> FieldType<'a> {
 }
 
 impl RefType<'_> {
-    /// How many dimensions the array has, 0 where the type is no array. Takes no memory.
+    /// How many dimensions the array has, 0 where the type is not an array. Takes no memory.
     #[tactic(auto, using(crate::proofs::Written::dimensions_of_dimensioned))]
     pub fn dimensions(&self) -> u8
         ensures { result ≡ dimensions_of (reference_view self.now) }

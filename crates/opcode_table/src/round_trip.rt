@@ -32,7 +32,7 @@ impl fmt::Display for Count {
 /// Why a class's code is not what it was.
 #[derive(Clone, Copy, Debug, Error)]
 pub enum Difference {
-    /// It is no class file.
+    /// It is not a class file.
     #[error("no class: {0}")]
     NoClass(ReadFault),
     /// A method's code is too long.

@@ -242,7 +242,7 @@ impl<'p, 'a> ConstantTypes<'p, 'a> {
         }
     }
     /// The type of the constant that the Dynamic at this index has computed (JVMS 4.4.10); none where another constant
-    /// stands there, or its descriptor is no field's.
+    /// stands there, or its descriptor is not a field's.
     pub fn dynamic_type(&mut self, index: u16) -> Result<Option<FieldType<'a>>, AllocError>
         ensures same { self.new ≡ self.old }
         ensures found { IfOk result (λ o. option_map type_of o ≡ dynamic_type_at self.old index) }
@@ -254,7 +254,7 @@ impl<'p, 'a> ConstantTypes<'p, 'a> {
     }
 
     /// The call site that the InvokeDynamic at this index names (JVMS 4.4.10); none where another constant stands
-    /// there, or its descriptor is no method's.
+    /// there, or its descriptor is not a method's.
     pub fn call_site(&mut self, index: u16) -> Result<Option<CallSite<'a>>, AllocError>
         ensures same { self.new ≡ self.old }
         ensures found { IfOk result (λ o. option_map call_site_view o ≡ call_site_at self.old index) }

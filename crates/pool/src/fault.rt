@@ -17,7 +17,7 @@ pub enum PoolFault {
 }
 
 impl PoolFault {
-    /// The number by which this fault is told.
+    /// The number of this fault.
     pub fn number(&self) -> u8
         ensures { result ≡ pool_fault_number self.now }
     {

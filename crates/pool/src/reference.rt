@@ -40,7 +40,7 @@ pub struct MethodRef<'a> {
 /// A Fieldref whose texts are of their forms (JVMS 4.4.2).
 #[derive(Clone, Copy)]
 pub struct FieldConstant<'a> {
-    /// The name of the class that is asked for the field, which is no array.
+    /// The name of the class that is asked for the field, which is not an array.
     pub class: &'a [u8],
     /// The field's name.
     pub name: &'a [u8],

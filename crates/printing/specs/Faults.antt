@@ -32,7 +32,7 @@ place_text Class = codes " class"
 place_text (Field n) = codes " field " ++ decimal n
 place_text (Method n) = codes " method " ++ decimal n
 
--- why code is no list of instructions
+-- why code is not a list of instructions
 abbrev pub code_fault_text : CodeFault → List ℕ
 code_fault_text code.OutOfMemory = codes "1"
 code_fault_text (code.BadOpcode at) = codes "31" ++ at_text at

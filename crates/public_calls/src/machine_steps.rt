@@ -183,7 +183,7 @@ fn outcome(alloc: Global, code: u8, choice: &Choice<'_>) -> (bool, bool, u8) {
 }
 
 /// A `return` ends the method; an instruction that misses an operand, and one that is not verified, is a fault; a
-/// branch is no choice for `nop`.
+/// branch is not a choice for `nop`.
 #[test]
 fn ends_and_faults(rt: HostRuntime) {
     let alloc = rt.alloc();

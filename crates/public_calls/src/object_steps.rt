@@ -192,7 +192,7 @@ fn calls(rt: HostRuntime) {
     assert!(rt; faults(alloc, [0xB6, 0, 15, 0, 0], &[OTHER, INT]));
 }
 
-/// `invokeinterface`, and `invokespecial` of a method that is no constructor
+/// `invokeinterface`, and `invokespecial` of a method that is not a constructor
 #[test]
 fn special_calls(rt: HostRuntime) {
     let alloc = rt.alloc();

@@ -22,7 +22,7 @@ pub fn malformed() -> [u8; 97] {
     bytes
 }
 
-/// K with `nop` in the place of the `return` of its method, so that code runs off its end.
+/// K with `nop` in place of the `return` of its method, so that code runs off its end.
 pub fn falling() -> [u8; 97] {
     let mut bytes = K;
     bytes[90] = 0;

@@ -11,7 +11,7 @@ use std::collections::BTreeMap;
 use std::test::*;
 use verify::{WalkFault, walk_verified, walks_are_runs};
 
-/// The class file of K with a native method in the place of `f`.
+/// The class file of K with a native method in place of `f`.
 const NATIVE: [u8; 78] = [
     0xCA, 0xFE, 0xBA, 0xBE, 0, 0, 0, 0x34, 0, 8, 7, 0, 2, 1, 0, 1, 0x4B, 7, 0, 4, 1, 0, 0x10, 0x6A,
     0x61, 0x76, 0x61, 0x2F, 0x6C, 0x61, 0x6E, 0x67, 0x2F, 0x4F, 0x62, 0x6A, 0x65, 0x63, 0x74, 1, 0,

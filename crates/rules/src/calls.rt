@@ -105,7 +105,7 @@ pub fn may_name(major: u16, called: &MethodConstant<'_>) -> bool
     !called.interface || major > 51
 }
 
-/// Whether the class that is asked for the method is no array.
+/// Whether the class that is asked for the method is not an array.
 pub fn is_of_class(called: &MethodConstant<'_>) -> bool
     ensures { result ≡ is_class_type (method_constant_view called.now).class }
 {

@@ -8,7 +8,7 @@ use classfile::CodeMethod;
 use names::RefType;
 use pool::Pool;
 
-/// The name of the class that the Class constant of an index names, which is no array.
+/// The name of the class that the Class constant of an index names, which is not an array.
 pub fn class_named<'a>(pool: &Pool<'a>, index: u16) -> Option<&'a [u8]>
     ensures { option_map (λ n. n.now) result ≡ class_named (class_at pool.now index) }
 {

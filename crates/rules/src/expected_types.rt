@@ -327,8 +327,8 @@ fn of_constructor_call<'a>(
     })
 }
 
-/// The arguments of a method that is no constructor, on an object of the current class, where `invokespecial` may name
-/// it.
+/// The arguments of a method that is not a constructor, on an object of the current class, where `invokespecial` may
+/// name it.
 fn of_own_call<'a>(
     alloc: Global,
     method: &CodeMethod<'_, 'a>,

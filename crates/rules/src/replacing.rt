@@ -18,9 +18,9 @@ use classfile::CodeMethod;
 use frames::VType;
 use insn::Act;
 
-/// The uninitialized object whose type an instruction that is no store replaces in the locals, if it replaces one (JVMS
-/// 4.10.1.9): a `new` forgets the object that it made before, and a constructor initializes the object on which it is
-/// called.
+/// The uninitialized object whose type an instruction that is not a store replaces in the locals, if it replaces one
+/// (JVMS 4.10.1.9): a `new` forgets the object that it made before, and a constructor initializes the object on which
+/// it is called.
 pub fn replaced_object<'a>(
     method: &CodeMethod<'_, 'a>,
     at: u16,

@@ -26,7 +26,7 @@ use hierarchy::{Answer, Classes};
 use names::RefType;
 use pool::MethodConstant;
 
-/// A method that is no constructor, of a class that the current class is assignable to, called on an object of the
+/// A method that is not a constructor, of a class that the current class is assignable to, called on an object of the
 /// current class.
 fn calls_special<'a, C: Classes>(
     method: &CodeMethod<'_, 'a>,
@@ -62,7 +62,7 @@ fn calls_special<'a, C: Classes>(
     }
 }
 
-/// Whether `invokespecial` may name a method that is no constructor.
+/// Whether `invokespecial` may name a method that is not a constructor.
 pub fn may_call_special(major: u16, called: &MethodConstant<'_>) -> bool
     ensures { let c = method_constant_view called.now in
         result ≡ (is_class_type c.class && (has_room_for_receiver c && may_name major c.interface)) }
@@ -101,7 +101,7 @@ fn call_constructor<'a, S: Starts, C: Classes>(
     }
 }
 
-/// `invokespecial` of a method that is no constructor.
+/// `invokespecial` of a method that is not a constructor.
 fn call_special<'a, C: Classes>(
     method: &CodeMethod<'_, 'a>,
     called: &MethodConstant<'a>,

@@ -52,8 +52,8 @@ pub fn stored_to(act: &Act<'_>) -> Option<u16>
     }
 }
 
-/// Whether an instruction with this act is plain: it goes on to the next one and nowhere else, is no `new`, and names
-/// no class, field, method, dynamic constant or call site that is looked up.
+/// Whether an instruction with this act is plain: it goes on to the next one and nowhere else, is not a `new`, and
+/// names no class, field, method, dynamic constant or call site that is looked up.
 pub fn is_plain(act: &Act<'_>) -> bool
     ensures { result ≡ is_plain (act_view act.now) }
 {

@@ -123,7 +123,7 @@ pub data BreaksEntry (classes : List ClassFact) (m : Method Act) (frames : Frame
   no_end : why ≡ reason 72 → (IsStart m.code e.to ⊎ (e.to ≡ m.code_length) → ⊥) → BreaksEntry classes m frames e why
   no_handler : why ≡ reason 72 → (IsStart m.code e.handler → ⊥) → BreaksEntry classes m frames e why
   no_handler_frame : why ≡ reason 72 → HasNoFrame frames e.handler → BreaksEntry classes m frames e why
-  -- and it catches what is no Throwable
+  -- and it catches what is not a Throwable
   no_throwable : why ≡ reason 72 → type_answer classes (to_reference e.caught) (class throwable_name) ≡ no
       → BreaksEntry classes m frames e why
   missing_class : (name : List ℕ) → why ≡ class_missing name

@@ -28,7 +28,7 @@ abbrev pub IsFormed : Read → Class → Type 0
 IsFormed (Ok bytes) c = IsClass bytes c × WellFormed c
 IsFormed (Err fault) c = ⊥
 
--- The file is none for this reason: it could not be read; it is no class; or the class breaks this rule first.
+-- The file is none for this reason: it could not be read; it is not a class; or the class breaks this rule first.
 abbrev pub IsRefused : Read → FileFault → Type 0
 IsRefused (Err fault) (Unread e) = fault ≡ e
 IsRefused (Ok bytes) (NoClass e) = ClassFault bytes e

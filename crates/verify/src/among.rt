@@ -27,10 +27,10 @@ pub enum AmongFault<'a> {
     /// 1: memory ran out.
     #[error("refused 1")]
     OutOfMemory,
-    /// The file is no class that is well formed.
+    /// The file is not a well-formed class.
     #[error("class {0}")]
     Refused(FileFault),
-    /// The known file of this number, which counts from 1, is no class that is well formed; the known files before it
+    /// The known file of this number, which counts from 1, is not a well-formed class; the known files before it
     /// are.
     #[error("known {number} {fault}")]
     KnownRefused { number: usize, fault: FileFault },
@@ -118,7 +118,7 @@ fn explain_formed<'a, S: BuildHasher + Drop>(
 }
 
 /// The verdicts on the methods of a class, in the order of the file (JVMS 4.10.1), under the hierarchy of this class
-/// and the known ones. A file that could not be read is refused like one that is no class.
+/// and the known ones. A file that could not be read is refused like one that is not a class.
 ///
 /// The first of these refusals that holds is returned: the class is refused by its reading, by
 /// [`decode`](classfile::decode) or by [`form_check`](classfile::form_check); one of the known files is refused in this

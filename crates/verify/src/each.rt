@@ -25,7 +25,7 @@ use thiserror::Error;
 pub enum Judgement<'a> {
     /// The verdicts on the methods of the class of this name.
     Reported { name: &'a [u8], report: Report<'a> },
-    /// It is no class that is well formed.
+    /// It is not a well-formed class.
     Refused(FileFault),
     /// 80: the hierarchy has no class with exactly the summary of this one.
     NotInHierarchy { name: &'a [u8] },

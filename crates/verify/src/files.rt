@@ -19,7 +19,7 @@ pub enum FileRead<'a> {
     Unread(ReadFault),
 }
 
-/// Why a file is no class that is well formed.
+/// Why a file is not a well-formed class.
 #[derive(Clone, Copy, Debug, Error)]
 pub enum FileFault {
     /// 1: memory ran out.
@@ -78,7 +78,7 @@ pub fn class_file<'a>(alloc: Global, read: FileRead<'a>) -> Result<ClassFile<'a>
     Ok(class)
 }
 
-/// The summary of the class in a file; or why the file is no class that is well formed.
+/// The summary of the class in a file; or why the file is not a well-formed class.
 pub fn summary_in<'a>(alloc: Global, read: FileRead<'a>) -> Result<Summary<'a>, FileFault>
     ensures { Summarises (read_of read.entry) result }
 {

@@ -168,7 +168,7 @@ impl Representatives {
         Ok(())
     }
 
-    /// Gives the handlers of these entries representatives, in the place of others.
+    /// Gives the handlers of these entries representatives, in place of others.
     pub fn become_those_of(
         &mut self,
         entries: &[Entry<'_>],

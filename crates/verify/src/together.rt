@@ -27,7 +27,7 @@ pub enum TogetherFault<'a> {
     /// 1: memory ran out.
     #[error("refused 1")]
     OutOfMemory,
-    /// The file of this number is no class that is well formed; those before it are.
+    /// The file of this number is not a well-formed class; those before it are.
     #[error("class {number} {fault}")]
     Refused {
         number: usize,
@@ -91,7 +91,7 @@ struct Decoded<'a> {
     fault: Option<TogetherFault<'a>>,
 }
 
-/// Decodes the files in turn, up to the first that is no class.
+/// Decodes the files in turn, up to the first that is not a class.
 fn decode_all<'a>(alloc: Global, files: &[FileRead<'a>]) -> Result<Decoded<'a>, AllocError>
     ensures { IfOk result (λ d. DecodesAll (map read_of files.now) (views d.classes.items) d.fault) }
 {
@@ -239,7 +239,7 @@ fn reports_decoded<'a, S: BuildHasher + Drop>(
 
 /// The reports on the classes in these files, in the order of the files, where all of them are in play together: under
 /// the hierarchy of these classes, as [`verify_play`](crate::verify_play) answers. A file that could not be read is
-/// refused like one that is no class.
+/// refused like one that is not a class.
 ///
 /// The first of these refusals that holds is returned: a file is refused by its reading, by
 /// [`decode`](classfile::decode) or by [`form_check`](classfile::form_check), the first that is; [`Rows::new`] refuses

@@ -44,7 +44,7 @@ pub record KeepVersions (old new : Versions) : Type 0 where
   pub stays : (v : ℕ) → IsVersion old v → IsVersion new v
   pub same : (v : ℕ) → IsVersion old v → (j : ℕ) → value_at new v j ≡ value_at old v j
 
--- in the place of a value stands the class's own where its member is protected, and 0 where it is not
+-- in place of a value stands the class's own where its member is protected, and 0 where it is not
 abbrev pub declared_value : ℕ → Option MemberFact → ℕ → ℕ
 declared_value own None v = v
 declared_value own (Some m) v = if m.is_protected then own else 0

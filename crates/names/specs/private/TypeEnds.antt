@@ -33,7 +33,7 @@ is_letter b = is_some (primitive_of b)
 abbrev pub units_of : ℕ → ℕ
 units_of first = if nat_eq first 68 || nat_eq first 74 then 2 else 1
 
--- a type that is no array begins at one place and ends at the other
+-- a type that is not an array begins at one place and ends at the other
 pub record ReadsBase (bytes : List ℕ) (at end : ℕ) : Type 0 where
   pub type : FieldDescriptor
   pub within : end ≤ length bytes
