@@ -11,7 +11,7 @@ use hierarchy::HierarchyFault;
 use printing::{More, Number, Object, Print, Quoted, Then, WriteFailed};
 use std::io::Write;
 
-/// The refusal of a class and its known classes that are no hierarchy.
+/// The refusal of a class and its known classes that do not make a hierarchy.
 #[derive(Clone, Copy)]
 pub struct HierarchyTold<'a> {
     pub manner: Manner,

@@ -42,7 +42,7 @@ fn both<R: Read>(
     bytes(reading, reader, second)
 }
 
-/// That the tag which was just read may not stand where it does.
+/// The refusal of the tag that was just read, which may not stand where it does.
 fn bad_tag(reading: &Reading, tag: u8) -> StreamFault
     requires { 0 < length reading.now.bytes }
     ensures { result ≡ record { taken = length reading.now.bytes; why = BadTag (length reading.now.bytes - 1) tag } }

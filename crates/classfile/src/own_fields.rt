@@ -200,8 +200,8 @@ impl<'c, 'a> OwnFields<'c, 'a> {
 
     /// Whether a Fieldref stands at this index that leads to texts, and the class declares a field, static or not, of
     /// its name and its descriptor (JVMS 4.4.2). A call takes the same time however many fields there are and however
-    /// long the texts, but that the first may read each field once, and a long text is read once at each index. The
-    /// only refusal is want of memory.
+    /// long the texts, but that the first may read each field once, and a long text is read once at each index. It
+    /// fails only if memory runs out.
     pub fn declares(&mut self, field: u16) -> Result<bool, AllocError>
         ensures same { self.new ≡ self.old }
         ensures declared { IfOk result (λ b. b ≡ declares self.old field) }

@@ -74,8 +74,8 @@ pub fn name_of<'a>(formed: &Formed<'_, 'a>) -> &'a [u8]
 }
 
 /// The summary of a class: its name, that of its superclass, whether it is an interface and final, and its fields and
-/// then its methods in the order of the file (JVMS 4.1, 4.5, 4.6). All texts are parts of the bytes of the class. The
-/// only refusal is want of memory.
+/// then its methods in the order of the file (JVMS 4.1, 4.5, 4.6). All texts are parts of the bytes of the class. It
+/// fails only if memory runs out.
 pub fn summary_of<'a>(alloc: Global, formed: &Formed<'_, 'a>) -> Result<Summary<'a>, AllocError>
     ensures { IfOk result (λ s. fact_of s ≡ summary_of (class_view formed.now.class.now)) }
 {
