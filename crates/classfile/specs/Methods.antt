@@ -126,6 +126,11 @@ entry_with h (Some caught) (Some others) =
     Some (record { from = h.start_pc; to = h.end_pc; handler = h.handler_pc; caught = caught } ∷ others)
 entry_with h _ _ = None
 
+-- the entry that an item of an exception table is
+pub record IsEntry (pool : List Entry) (h : Handler) (e : ExceptionEntry) : Type 0 where
+  pub caught : caught_type pool h.catch_type ≡ Some e.caught
+  pub is : e ≡ record { from = h.start_pc; to = h.end_pc; handler = h.handler_pc; caught = e.caught }
+
 abbrev pub exception_entries : List Entry → List Handler → Option (List ExceptionEntry)
 exception_entries pool [] = Some []
 exception_entries pool (h ∷ hs) = entry_with h (caught_type pool h.catch_type) (exception_entries pool hs)

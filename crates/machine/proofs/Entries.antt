@@ -5,6 +5,7 @@ use Rattle.std.specs.List.{list_any}
 use Rattle.std.proofs.Common.{◌≡◌, ℕ, ◌+◌, ◌<◌, ◌≤◌, Bool, true, false, List, [], ◌∷◌, ◌++◌, length, get_or, drop, map, slice_get, Option, Some, None, refl, sym, ◌∙◌, ap, arith}
 use Rattle.std.proofs.lemmas.Bool.Decides.{nat_tests}
 use Rattle.std.proofs.lemmas.List.{drop_more, drop_all, append_assoc, append-nil, map-append}
+use Rattle.names.specs.ReferenceTypes.{ReferenceType}
 use Rattle.pool.specs.Entries.{Entry}
 use Rattle.classfile.specs.AttributeForm.{on_body, has_bad_length, have_bad_length}
 use Rattle.classfile.specs.MethodParts.{code_at}
@@ -16,16 +17,16 @@ use Rattle.classfile.specs.declared.code.ExceptionHandler.{ExceptionHandler}
 use Rattle.classfile.specs.declared.form_fault.Place.TheVariants as places
 use Rattle.classfile.specs.Values.{of_parts, of_numbers, raw, Handler, CodeBody, Attribute, Member, Class}
 use Rattle.classfile.specs.Views.{handler_view}
-use Rattle.classfile.specs.Methods.{ExceptionEntry, caught_type, entry_with, exception_entries, code_of}
+use Rattle.classfile.specs.Methods.{ExceptionEntry, IsEntry, caught_type, entry_with, exception_entries, code_of}
 use Rattle.machine.specs.declared.body.ExceptionEntry.{ExceptionEntry as RawEntry}
-use Rattle.machine.specs.Bodies.{IsEntry, entry_view}
+use Rattle.machine.specs.Bodies.{entry_view}
 
 -- these, and then those, if they are there
 abbrev pub onto : List ExceptionEntry → Option (List ExceptionEntry) → Option (List ExceptionEntry)
 onto xs None = None
 onto xs (Some ys) = Some (xs ++ ys)
 
-onto_entry : (xs : List ExceptionEntry) (h : Handler) (e : ExceptionEntry) (c : _) (o : Option (List ExceptionEntry)) → c ≡ Some e.caught → e ≡ record { from = h.start_pc; to = h.end_pc; handler = h.handler_pc; caught = e.caught }
+pub onto_entry : (xs : List ExceptionEntry) (h : Handler) (e : ExceptionEntry) (c : Option ReferenceType) (o : Option (List ExceptionEntry)) → c ≡ Some e.caught → e ≡ record { from = h.start_pc; to = h.end_pc; handler = h.handler_pc; caught = e.caught }
     → onto xs (entry_with h c o) ≡ onto (xs ++ e ∷ []) o
 onto_entry xs h e c None is same = ap (λ z. onto xs (entry_with h z None)) is
 onto_entry xs h e c (Some ys) is same =

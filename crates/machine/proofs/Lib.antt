@@ -22,5 +22,5 @@ mod Deciding
 mod Writes
 mod Raised
 mod Chosen
-mod Entries
+pub mod Entries
 pub mod Targets

@@ -1,10 +1,8 @@
 -- The method that runs, as the program keeps it.
-use Rattle.std.specs.Prelude.{◌≡◌, ℕ, List, map, length, Some, option_map}
+use Rattle.std.specs.Prelude.{ℕ, List, map, length, option_map}
 use Rattle.names.specs.Types.{type_of}
 use Rattle.pool.specs.ConstantMeanings.{class_at}
-use Rattle.pool.specs.Entries.{Entry}
-use Rattle.classfile.specs.Values.{Handler}
-use Rattle.classfile.specs.Methods.{Method, ExceptionEntry, judged_bootstraps, stack_map_of, class_named, superclass_of, declared_fields, caught_type}
+use Rattle.classfile.specs.Methods.{Method, ExceptionEntry, judged_bootstraps, stack_map_of, class_named, superclass_of, declared_fields}
 use Rattle.classfile.specs.MethodParts.{or_empty, params_at}
 use Rattle.classfile.specs.Views.{class_view, code_view}
 use Rattle.insn.specs.declared.instruction.Insn as insns
@@ -17,11 +15,6 @@ use Rattle.machine.specs.Views.{run_type_view}
 
 abbrev pub entry_view : RawEntry → ExceptionEntry
 entry_view e = record { from = e.from; to = e.to; handler = e.handler; caught = run_type_view e.caught }
-
--- the entry of the exception table that an item of it is
-pub record IsEntry (pool : List Entry) (h : Handler) (e : ExceptionEntry) : Type 0 where
-  pub caught : caught_type pool h.catch_type ≡ Some e.caught
-  pub is : e ≡ record { from = h.start_pc; to = h.end_pc; handler = h.handler_pc; caught = e.caught }
 
 abbrev pub code_of : List (ℕ × insns.Insn) → List (ℕ × Act)
 code_of list = acts (views list)

@@ -2,7 +2,7 @@
 ghost use Rattle.std.specs.Prelude.{◌≡◌, ℕ, List, None, Some, IfOk, IfErr, IfSome, IsSome, MatchOption, map, option_map};
 ghost use Rattle.classfile.specs.CodeMethods.{judged_class};
 ghost use Rattle.classfile.specs.MethodParts.{code_at};
-ghost use Rattle.classfile.specs.Methods.{caught_type, exception_entries, method_of};
+ghost use Rattle.classfile.specs.Methods.{IsEntry, caught_type, exception_entries, method_of};
 ghost use Rattle.classfile.specs.Views.{class_view, code_view, handler_view};
 ghost use Rattle.classfile.specs.Values.{CodeBody};
 ghost use Rattle.insn.specs.Instructions.{Instruction};
@@ -10,7 +10,7 @@ ghost use Rattle.insn.specs.declared.fault.CodeFault.TheVariants.{OutOfMemory};
 ghost use Rattle.insn.specs.Code.{FaultyCode, SpellsCode, UnlessMemory};
 ghost use Rattle.insn.specs.Offsets.{StartsRise};
 ghost use Rattle.insn.specs.Views.{views};
-ghost use Rattle.machine.specs.Bodies.{IsEntry, code_of, entry_view, method_view};
+ghost use Rattle.machine.specs.Bodies.{code_of, entry_view, method_view};
 ghost use Rattle.machine.specs.Views.{run_type_view};
 
 use crate::body::{ExceptionEntry, Method};

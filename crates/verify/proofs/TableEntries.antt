@@ -1,12 +1,10 @@
 -- The entries of an exception table, as they are made and as they are judged.
 use Rattle.std.proofs.Common.{◌≡◌, ◌⊎◌, ℕ, zero, suc, ◌+◌, ◌≤◌, ◌<◌, Bool, true, false, not, nat_lt, ◌&&◌, List, [], ◌∷◌, ◌++◌, length, map, get_or, drop, Option, Some, None, Result, Ok, Err, refl, sym, ◌∙◌, ap, subst, arith, inl, inr, slice_get}
 use Rattle.std.proofs.lemmas.Bool.Decides.{nat_tests}
-use Rattle.std.proofs.lemmas.List.{drop_more, drop_all, append_assoc, append-nil, map-append}
+use Rattle.std.proofs.lemmas.List.{drop_more, drop_all, append-nil, map-append}
 use Rattle.names.specs.StandardNames.{throwable_name}
-use Rattle.names.specs.ReferenceTypes.{ReferenceType}
 use Rattle.pool.specs.Entries as entries
 use Rattle.classfile.specs.declared.code.ExceptionHandler.{ExceptionHandler}
-use Rattle.classfile.specs.Values.{Handler}
 use Rattle.classfile.specs.Views.{handler_view}
 use Rattle.classfile.specs.Methods.{Method, ExceptionEntry, caught_type, entry_with, exception_entries}
 use Rattle.hierarchy.specs.Class.{ClassFact}
@@ -21,24 +19,14 @@ use Rattle.frames.specs.Conditions.{reason, number_of, Conditions, lesser, least
 use Rattle.rules.specs.declared.reason.Reason.{Reason}
 use Rattle.rules.specs.declared.reason.Reason.TheVariants.{OutOfMemory, BadException}
 use Rattle.rules.specs.Reasons.{reason_view}
+use Rattle.machine.proofs.Entries.{onto, onto_entry}
 use Rattle.verify.specs.declared.exceptions.Entry.{Entry}
 use Rattle.verify.specs.TypeSafety.{Frames}
 use Rattle.verify.specs.Verdict.{Verdict, refused, refused_or, answer_conditions, is_end, table_conditions, table_judged}
 use Rattle.rules.specs.Outcomes.{Judges}
-use Rattle.verify.specs.private.ExceptionTables.{entry_view, IsEntry, AreNumbered, has_places, JudgesTable}
+use Rattle.verify.specs.private.ExceptionTables.{entry_view, IsEntryAt, AreNumbered, has_places, JudgesTable}
 
 -- ---- as they are made
-
--- these, and then those, if they are there
-abbrev pub onto : List ExceptionEntry → Option (List ExceptionEntry) → Option (List ExceptionEntry)
-onto xs None = None
-onto xs (Some ys) = Some (xs ++ ys)
-
-onto_entry : (xs : List ExceptionEntry) (h : Handler) (e : ExceptionEntry) (c : Option ReferenceType) (o : Option (List ExceptionEntry)) → c ≡ Some e.caught
-    → e ≡ record { from = h.start_pc; to = h.end_pc; handler = h.handler_pc; caught = e.caught } → onto xs (entry_with h c o) ≡ onto (xs ++ e ∷ []) o
-onto_entry xs h e c None is same = ap (λ z. onto xs (entry_with h z None)) is
-onto_entry xs h e c (Some ys) is same =
-    ap (λ z. onto xs (entry_with h z (Some ys))) is ∙ ap (λ z. Some (xs ++ z ∷ ys)) (sym same) ∙ ap Some (sym (append_assoc xs (e ∷ []) ys))
 
 none_numbered : AreNumbered []
 none_numbered place e i = cc
@@ -75,12 +63,12 @@ module _ (pool : List entries.Entry) (table : List ExceptionHandler) where
         let next = numbered_more ys (n + 1) e later (λ p z r. let z_is = k (suc p) z r in omega (arith, z_is)) place x s in
         omega (arith, next)
 
-    pub made_more : (now : List Entry) (e : Entry) → now ≡ was ++ e ∷ [] → (n : ℕ) → n ≡ length was → IsEntry pool (handler_view (get_or table i d)) n e → Made pool table (i + 1) now
+    pub made_more : (now : List Entry) (e : Entry) → now ≡ was ++ e ∷ [] → (n : ℕ) → n ≡ length was → IsEntryAt pool (handler_view (get_or table i d)) n e → Made pool table (i + 1) now
     made_more now e pushed n len is = record {
       all =
           made.all
           ∙ ap (onto (map entry_view was)) here
-          ∙ onto_entry (map entry_view was) (handler_view (get_or table i d)) (entry_view e) (caught_type pool (get_or table i d).catch_type) (exception_entries pool (map handler_view (drop (i + 1) table))) is.caught is.is
+          ∙ onto_entry (map entry_view was) (handler_view (get_or table i d)) (entry_view e) (caught_type pool (get_or table i d).catch_type) (exception_entries pool (map handler_view (drop (i + 1) table))) is.entry.caught is.entry.is
           ∙ ap (λ z. onto z (exception_entries pool (map handler_view (drop (i + 1) table)))) (sym (ap (map entry_view) pushed ∙ map-append entry_view was (e ∷ [])));
       numbered = subst AreNumbered (sym pushed) (λ place x s.
           let first : e.place ≡ 0 + length was = let q = is.numbered in omega (arith, q, len) in

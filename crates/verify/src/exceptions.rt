@@ -11,7 +11,7 @@ ghost use Rattle.verify.specs.DifferencesAt.{first_refused, first_covering};
 ghost use Rattle.verify.specs.Verdict.{is_end, table_conditions};
 ghost use Rattle.rules.specs.Outcomes.{Judges};
 ghost use Rattle.rules.specs.declared.reason.Reason.TheVariants.{OutOfMemory};
-ghost use Rattle.verify.specs.private.ExceptionTables.{entry_view, IsEntry, AreNumbered, has_places, JudgesTable};
+ghost use Rattle.verify.specs.private.ExceptionTables.{entry_view, IsEntryAt, AreNumbered, has_places, JudgesTable};
 
 use crate::body::Body;
 use crate::flow::check_answer;
@@ -51,7 +51,7 @@ fn caught_type<'a>(pool: &Pool<'a>, index: u16) -> Option<RefType<'a>>
 /// The entry of an item of the table, with the type that it catches.
 fn entry_of<'a>(pool: &Pool<'a>, handler: &ExceptionHandler, place: usize) -> Option<Entry<'a>>
     ensures { MatchOption result (caught_type pool.now handler.now.catch_type ≡ None)
-        (IsEntry pool.now (handler_view handler.now) place) }
+        (IsEntryAt pool.now (handler_view handler.now) place) }
 {
     let caught = caught_type(pool, handler.catch_type)?;
     Some(Entry {

@@ -4,7 +4,7 @@ use Rattle.std.specs.Prelude.{◌≡◌, ◌⊎◌, ◌&&◌, ℕ, Bool, nat_lt,
 use Rattle.names.specs.References.{reference_view}
 use Rattle.pool.specs.Entries as entries
 use Rattle.classfile.specs.Values.{Handler}
-use Rattle.classfile.specs.Methods.{Method, ExceptionEntry, caught_type}
+use Rattle.classfile.specs.Methods.{Method, ExceptionEntry, IsEntry}
 use Rattle.hierarchy.specs.Class.{ClassFact}
 use Rattle.insn.specs.Meanings.{Act}
 use Rattle.insn.specs.Offsets.{has_offset}
@@ -18,16 +18,9 @@ use Rattle.verify.specs.Verdict.{Verdict, refused, is_end, table_judged}
 abbrev pub entry_view : Entry → ExceptionEntry
 entry_view e = record { from = e.from; to = e.to; handler = e.handler; caught = reference_view e.caught }
 
--- the entry of the exception table that an item of it is
-pub record IsEntry (pool : List entries.Entry) (h : Handler) (place : ℕ) (e : Entry) : Type 0 where
-  pub caught : caught_type pool h.catch_type ≡ Some (reference_view e.caught)
-  pub is : entry_view e ≡ record {
-    from = h.start_pc;
-    to = h.end_pc;
-    handler = h.handler_pc;
-    caught =
-        reference_view e.caught;
-  }
+-- the entry that the item at a place of the exception table is
+pub record IsEntryAt (pool : List entries.Entry) (h : Handler) (place : ℕ) (e : Entry) : Type 0 where
+  pub entry : IsEntry pool h (entry_view e)
   pub numbered : e.place ≡ place
 
 -- each has the number of its place
