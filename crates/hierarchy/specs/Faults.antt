@@ -68,7 +68,7 @@ fault_class (BadArrayInterface name) = Some name.now
 fault_class TooManyClasses = None
 fault_class (InterfaceSuper name) = Some name.now
 
--- Want of memory, of which nothing is said; or the rule is broken, and none before it is.
+-- Memory ran out, of which nothing is said; or the rule is broken, and none before it is.
 abbrev pub FaultOf : List ClassFact → HierarchyFault → Type 0
 FaultOf classes OutOfMemory = Unit {0}
 FaultOf classes fault = Breaks classes fault × KeepsBefore classes (number_of fault)

@@ -1,4 +1,4 @@
--- The answer of a call that reads, by a format. A call that takes memory may answer want of memory (1) in place of any
+-- The answer of a call that reads, by a format. A call that takes memory may say that it ran out (1) in place of any
 -- other answer; a word with `Unless` in its name says so.
 use Rattle.std.specs.Prelude.{refl, ◌≡◌, ℕ, Result, Ok, Err, length, nat_eq, if◌then◌else◌, List}
 use Rattle.layout.specs.Place.{Place}
@@ -18,7 +18,7 @@ abbrev pub Reads : {X V : Type 0} → Format V → (X → V) → Place → Place
 Reads f view old new (Ok x) = reads f old.at old.rest ≡ Ok (view x, new)
 Reads f view old new (Err e) = (reads f old.at old.rest ≡ Err e) × (new ≡ old)
 
--- A call that takes memory and reads by the format: want of memory may stand in place of any other answer.
+-- A call that takes memory and reads by the format: that memory ran out may stand in place of any other answer.
 abbrev pub ReadsUnlessMemory : {X V : Type 0} → Format V → (X → V) → Place → Place → Result X ReadFault → Type 0
 ReadsUnlessMemory f view old new (Ok x) = reads f old.at old.rest ≡ Ok (view x, new)
 ReadsUnlessMemory f view old new (Err e) = UnlessMemory e (reads f old.at old.rest ≡ Err e) × (new ≡ old)

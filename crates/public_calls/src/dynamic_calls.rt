@@ -115,7 +115,7 @@ fn are_found<'a>(alloc: Global, formed: &Formed<'_, 'a>) -> Result<bool, AllocEr
     }
 }
 
-/// Whether all is found in the class that these bytes are; want of memory counts as well.
+/// Whether all is found in the class that these bytes are; an answer that memory ran out counts as well.
 fn is_found_or_memory(alloc: Global, bytes: &[u8]) -> bool {
     let Ok(class) = decode(alloc, bytes) else {
         return true;
@@ -151,7 +151,7 @@ fn number_of(methods: &[MethodVerdict<'_>]) -> u8 {
     }
 }
 
-/// The answers on the class that these bytes are, by its bytes and by its file; each is a number, of want of memory 1.
+/// The answers on the class that these bytes are, by its bytes and by its file; each is a number, 1 where memory ran out.
 fn answers(alloc: Global, profile: Profile, bytes: &[u8]) -> (u8, u8) {
     let known = [FileRead::Bytes(&O)];
     let among = match verify_among_under(alloc, profile, FileRead::Bytes(bytes), &known, hasher()) {

@@ -184,7 +184,7 @@ fn final_superclass(rt: HostRuntime) {
     assert!(rt; is_k_refused_below_final(rt.alloc()));
 }
 
-/// Whether the class that these bytes are is written as they are, and reported of; want of memory aside.
+/// Whether the class that these bytes are is written as they are, and reported of; unless memory ran out.
 fn is_written_and_reported(alloc: Global, bytes: &[u8]) -> bool {
     let Ok(class) = decode(alloc, bytes) else {
         return false;
