@@ -4,7 +4,7 @@ ghost use Rattle.std.specs.Prelude.{◌≡◌, ◌↔◌, IsTrue};
 ghost use Rattle.names.specs.Names.{IsUnqualifiedName, IsMethodName, IsClassName};
 ghost use Rattle.names.specs.Forms.{AreNameForms};
 
-use crate::lanes::are_all;
+use crate::byte_lanes::are_all;
 use crate::name::{is_angle, is_name_byte};
 use crate::plain_bytes::{Plain, is_plain};
 use crate::text::Text;

@@ -10,7 +10,7 @@
 //! - `name`: whether a text is a class name, a field's name or a method's name.
 //! - `forms`: the three of them in one pass.
 //! - `class_names`: most class names, told by lanes.
-//! - `lanes`: bytes of one kind, sixteen or eight at a time.
+//! - `byte_lanes`: bytes of one kind, sixteen or eight at a time.
 //! - `one_byte_units`: bytes that spell a unit each.
 //! - `plain_bytes`: where bytes end with which each name goes on, as most do.
 //! - `base`, `descriptor`: the types that descriptors name, their widths, and their texts.
@@ -25,12 +25,12 @@
 #![tactic(auto)]
 
 mod base;
+mod byte_lanes;
 mod class_names;
 mod descriptor;
 mod fault;
 mod field_descriptor;
 mod forms;
-mod lanes;
 mod name;
 mod name_run;
 mod one_byte_units;
@@ -44,11 +44,11 @@ mod text;
 mod type_end;
 
 pub use base::{Base, Primitive};
+pub use byte_lanes::first_set;
 pub use descriptor::{FieldType, MethodType};
 pub use fault::NameFault;
 pub use field_descriptor::is_field_descriptor;
 pub use forms::{NameForms, name_forms};
-pub use lanes::first_set;
 pub use name::{is_class_name, is_field_name, is_method_name, names_by_units};
 pub use parameters::{Parameters, parameter_types};
 pub use reading::{

@@ -4,7 +4,7 @@ ghost use Rattle.std.specs.Prelude.{◌≡◌, ◌+◌, ◌≤◌, true, length}
 ghost use Rattle.names.specs.Units.{is_single};
 ghost use Rattle.names.specs.Forms.{AreIn};
 
-use crate::lanes::{ByLanes, first_set};
+use crate::byte_lanes::{ByLanes, first_set};
 use std::simd::prelude::*;
 
 /// Bytes that spell a unit each, as a kind.

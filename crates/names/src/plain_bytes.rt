@@ -3,7 +3,7 @@
 ghost use Rattle.std.specs.Prelude.{◌≡◌, ◌+◌, ◌≤◌, true, length};
 ghost use Rattle.names.specs.Forms.{is_plain, ArePlainIn, IsPlainUpTo};
 
-use crate::lanes::{ByLanes, first_set};
+use crate::byte_lanes::{ByLanes, first_set};
 use std::simd::prelude::*;
 
 /// For each byte whether it is none of `.`, `/`, `;`, `<`, `>` and `[`.

@@ -7,8 +7,8 @@ ghost use Rattle.names.specs.UnitsLeft.{units_left};
 ghost use Rattle.names.specs.Texts.{IsText, FirstBad, AreUnits, unit, spelling};
 ghost use Rattle.names.specs.declared.fault.NameFault.TheVariants.{BadText, OutOfMemory};
 
+use crate::byte_lanes::are_few;
 use crate::fault::NameFault;
-use crate::lanes::are_few;
 use crate::one_byte_units::{Single, is_single, single_in_block};
 use std::alloc::{AllocError, Global};
 
