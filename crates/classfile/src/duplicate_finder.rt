@@ -55,7 +55,7 @@ impl<'a> DuplicateFinder<'a> {
     {
         match self {
             DuplicateFinder::Few(marks) => Ok(meet_marked(marks, pool, earlier, member)),
-            DuplicateFinder::Many(signatures) => signatures.meet_member(pool, member),
+            DuplicateFinder::Many(keys) => keys.meet_member(pool, member),
         }
     }
 }

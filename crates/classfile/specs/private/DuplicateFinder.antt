@@ -26,7 +26,7 @@ AreMarked pool members marks = (x : Named) → is_among pool members x ≡ true 
 -- these members were met
 abbrev pub WereMet : List Entry → List Member → DuplicateFinder → Type 0
 WereMet pool members (Few marks) = AreMarked pool members marks
-WereMet pool members (Many signatures) = AreSeen pool members signatures
+WereMet pool members (Many keys) = AreSeen pool members keys
 
 -- a member was met, behind few others
 pub record MeetsMarked (pool : List Entry) (earlier : List Member) (m : Member) (marks : List Bool)
