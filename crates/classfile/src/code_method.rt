@@ -39,9 +39,8 @@ pub struct CodeMethod<'c, 'a> {
     /// Whether `invokedynamic` and dynamic constants are judged (JVMS 4.4.10); otherwise they are refused.
     pub dynamic: bool,
     pub ghost is_method: { IsMethod (record { file = class_view class.now; dynamic = dynamic }) number
-        (code_view code.now) is_static is_init (option_map type_of result_type) } by {
-        is_method_prop (record { file = class_view class.now; dynamic = dynamic }) number
-        (code_view code.now) is_static is_init (option_map type_of result_type) },
+        (code_view code.now) is_static is_init (option_map type_of result_type) } by { is_method_prop (record { file = class_view class.now; dynamic = dynamic }) number
+            (code_view code.now) is_static is_init (option_map type_of result_type) },
 }
 
 impl<'a> Member<'a> {

@@ -69,20 +69,17 @@ pub trait Part<'a>: Sized {
 
     // No spelling begins another, and no bytes spell two values.
     ghost one_value: { (v w : View) (a b x : List ℕ)
-        → Spells format a v → Spells format b w → a ≡ b ++ x → (x ≡ []) × (v ≡ w) } = {
-        λ v w a b x. one_reading format a b x v w };
+        → Spells format a v → Spells format b w → a ≡ b ++ x → (x ≡ []) × (v ≡ w) } = { λ v w a b x. one_reading format a b x v w };
 
     // A value that is read is spelled by the bytes that were taken.
     ghost read_is_spelled: { (at : ℕ) (bytes : List ℕ) (x : View × Place)
         → reads format at bytes ≡ Ok x
-        → (first : List ℕ) × Spells format first x.0 × Took first (record { at = at; rest = bytes }) x.1 } = {
-        reads_spells format };
+        → (first : List ℕ) × Spells format first x.0 × Took first (record { at = at; rest = bytes }) x.1 } = { reads_spells format };
 
     // A value that is spelled in front is read.
     ghost spelled_is_read: { (at : ℕ) (first others : List ℕ) (v : View)
         → Spells format first v
-        → reads format at (first ++ others) ≡ Ok (v, record { at = at + length first; rest = others }) } = {
-        spelled_reads format };
+        → reads format at (first ++ others) ≡ Ok (v, record { at = at + length first; rest = others }) } = { spelled_reads format };
 
     // A refusal is the first fault, and the first fault is the refusal.
     ghost refused_is_fault: { (at : ℕ) (bytes : List ℕ) (e : ReadFault)
