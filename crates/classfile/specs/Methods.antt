@@ -1,5 +1,5 @@
 -- A method with code as its instructions see it (JVMS 4.6, 4.7.3): what its class file says, constants looked up.
-use Rattle.std.specs.Prelude.{ℕ, Bool, false, not, ◌&&◌, ◌||◌, nat_eq, nat_le, nat_lt, bytes_eq, List, [], ◌∷◌, Option, Some, None, if◌then◌else◌, slice_get, length}
+use Rattle.std.specs.Prelude.{◌≡◌, ℕ, Bool, false, not, ◌&&◌, ◌||◌, nat_eq, nat_le, nat_lt, bytes_eq, List, [], ◌∷◌, Option, Some, None, if◌then◌else◌, slice_get, length}
 use Rattle.std.specs.Option.{option_and_then}
 use Rattle.names.specs.Descriptors.{MethodDescriptor}
 use Rattle.names.specs.ReferenceTypes.{ReferenceType, class_type}
