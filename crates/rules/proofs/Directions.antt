@@ -1,5 +1,5 @@
--- Where the typing rule of an instruction goes: as its act says, whatever the method. And no typing rule refuses by
--- itself for an operand or a local variable.
+-- Where the typing rule of an instruction goes: as its act says, whatever the method. And the numbers by which
+-- it refuses an instruction in each frame.
 use Rattle.std.proofs.Common.{◌≡◌, ◌∙◌, ℕ, Bool, true, false, List, [], ◌∷◌, Option, Some, None, refl, sym, if◌then◌else◌}
 use Rattle.names.specs.declared.base.Primitive.{Primitive}
 use Rattle.names.specs.Descriptors.{FieldDescriptor, MethodDescriptor, primitive, class as class_descriptor, array as array_descriptor, field_width}
@@ -22,13 +22,13 @@ use Rattle.rules.specs.Constants.{is_bootstrapped, load_dynamic, load_constant, 
 use Rattle.rules.specs.Table.{typing_rule, return_number, return_reference, return_nothing, leaves_with}
 use Rattle.rules.specs.Ways.{goes_on, branch_offsets}
 
--- 61 to 63
-abbrev pub is_of_taken : ℕ → Bool
-is_of_taken n = nat_eq n 61 || (nat_eq n 62 || nat_eq n 63)
+-- 60, 66, 76 and 90: of an instruction that has no rule, of its constant, and of its kind of return
+abbrev pub is_of_table : ℕ → Bool
+is_of_table n = nat_eq n 60 || (nat_eq n 66 || (nat_eq n 76 || nat_eq n 90))
 
--- a typing rule does not refuse by itself for what the instruction takes
+-- where a typing rule refuses by itself, it does so by one of these numbers
 abbrev pub is_else : TypingRule → Bool
-is_else (refuses n) = not (is_of_taken n)
+is_else (refuses n) = is_of_table n
 is_else _ = true
 
 -- a typing rule that goes on and branches nowhere

@@ -1,11 +1,12 @@
 -- Where an instruction is refused for an operand or a local variable, the first that the frame has not is found.
-use Rattle.std.proofs.Common.{◌≡◌, ◌⊎◌, ◌∙◌, ℕ, suc, ◌+◌, length, is_none, eqb-true, eq-eqb, Bool, true, false, ◌||◌, not, is_some, nat_eq, nat_lt, List, [], ◌∷◌, Option, Some, None, refl, sym, ap, inl, inr, true≢false, if◌then◌else◌}
+use Rattle.std.proofs.Common.{◌≡◌, ◌⊎◌, ◌∙◌, ℕ, suc, ◌+◌, length, is_none, eqb-true, eq-eqb, Bool, true, false, ◌||◌, ◌&&◌, not, is_some, nat_eq, nat_lt, List, [], ◌∷◌, Option, Some, None, refl, sym, ap, inl, inr, true≢false, if◌then◌else◌}
 use Rattle.std.specs.Option.{option_or, option_map}
 use Rattle.classfile.specs.Methods.{Method}
 use Rattle.hierarchy.specs.Class.{ClassFact}
 use Rattle.hierarchy.specs.Answer.{Outcome, yes, no, missing}
 use Rattle.insn.specs.declared.operation.Kind.TheVariants.{Int}
 use Rattle.insn.specs.Meanings.{Act}
+use Rattle.insn.specs.Offsets.{IsAmong}
 use Rattle.insn.specs.Stacks.{beneath, units_taken}
 use Rattle.frames.specs.VerificationType.{VerificationType, top, int, float, long, double, null, class, array, uninit_this, uninit}
 use Rattle.frames.specs.FrameFact.{FrameFact}
@@ -18,22 +19,22 @@ use Rattle.frames.specs.Differences.{is_no}
 use Rattle.frames.proofs.Differences.{no_both, some_map, some_flag, the_some}
 use Rattle.rules.specs.TypingRules.{ExpectedType, number, any_reference, TypingRule, pops, loads, stores, counts, rearranges, loads_element, makes, constructs, calls_special, returns, refuses}
 use Rattle.rules.specs.Table.{typing_rule, object_array}
-use Rattle.rules.specs.After.{form_for, top_of, local_of}
-use Rattle.rules.specs.Rules.{accepts, is_short, operands, operand_conditions, is_outside, local_answer, local_conditions, is_on_stack, may_construct, special_conditions, family}
+use Rattle.rules.specs.After.{form_for, top_of, local_of, after}
+use Rattle.rules.specs.Rules.{accepts, is_short, operands, operand_conditions, is_outside, local_answer, local_conditions, is_on_stack, may_construct, special_conditions, family, gives_frame, is_too_wide}
 use Rattle.rules.specs.Rules as rules
 use Rattle.rules.specs.ExpectedTypes.{ExpectedTypes, ExpectedLocal, expected_types}
 use Rattle.rules.specs.Unmet.{UnmetFact, OperandFact, operand, receiver, local, units, absent_operand, sought_operand, operand_of, first_of, absent_receiver, wrong_receiver, sought_local, absent_units, receivers, count_of, receiver_in, absent, wrong, first_unmet}
 use Rattle.rules.specs.UnmetLaws.{HasNoForm, of_no_form, still_there, IsFound, RefusedIsFound, UnmetIsFound}
-use Rattle.rules.proofs.Directions.{is_of_taken, is_else, way_of}
+use Rattle.rules.proofs.Directions.{is_of_table, is_else, way_of}
 
 -- ---- the least reason is one of those that hold
 
-abbrev has_number : ℕ → Reason → Bool
+abbrev pub has_number : ℕ → Reason → Bool
 has_number n (reason other) = nat_eq other n
 has_number n _ = false
 
 -- a condition with this number holds
-abbrev holds : ℕ → Conditions → Bool
+abbrev pub holds : ℕ → Conditions → Bool
 holds n [] = false
 holds n (c ∷ cs) = if has_number n c.0 then (c.1 || holds n cs) else holds n cs
 
@@ -79,6 +80,13 @@ least_holds n (c ∷ cs) e = by c.1 refl e (least_holds n cs)
         → holds n (c ∷ cs) ≡ true
     by true h k others = let same : lesser c.0 (least cs) ≡ reason n = cc in either same h others (lesser_either c.0 (least cs))
     by false h k others = holds_there n c cs (others k)
+
+-- a reason that is among those that hold
+pub among_holds : (n : ℕ) (cs : Conditions) → IsAmong {A = Reason × Bool} (reason n, true) cs → holds n cs ≡ true
+among_holds n [] h = elim h [ ]
+among_holds n (c ∷ cs) (inl e) =
+    holds_here n c cs (sym (ap (λ (x : Reason × Bool). has_number n x.0) e) ∙ number_itself n) (sym (ap (λ (x : Reason × Bool). x.1) e))
+among_holds n (c ∷ cs) (inr h) = holds_there n c cs (among_holds n cs h)
 
 -- ---- conditions on operands and on local variables
 
@@ -148,11 +156,11 @@ wrong_object m name count (t ∷ ts) h = inr (by (may_construct m name t) h)
 
 -- ---- all that an instruction takes
 
-or_first : {A : Type 0} (a b : Option A) → is_some a ≡ true → is_some (option_or a b) ≡ true
+pub or_first : {A : Type 0} (a b : Option A) → is_some a ≡ true → is_some (option_or a b) ≡ true
 or_first None b h = absurd (true≢false (sym h))
 or_first (Some x) b h = refl
 
-or_second : {A : Type 0} (a b : Option A) → is_some b ≡ true → is_some (option_or a b) ≡ true
+pub or_second : {A : Type 0} (a b : Option A) → is_some b ≡ true → is_some (option_or a b) ≡ true
 or_second None b h = h
 or_second (Some x) b h = refl
 
@@ -160,16 +168,16 @@ abbrev constructing : List ℕ → List ExpectedType → ExpectedTypes
 constructing name ws = expected_types (constructs name ws)
 
 -- a reason of another number
-refused_else : (n k : ℕ) → is_of_taken k ≡ true → not (is_of_taken n) ≡ true → holds k ((reason n, true) ∷ []) ≡ true → ⊥
+refused_else : (n k : ℕ) → is_of_table k ≡ false → is_of_table n ≡ true → holds k ((reason n, true) ∷ []) ≡ true → ⊥
 refused_else n k t e h = by (nat_eq n k) refl h
   where
     by : (b : Bool) → nat_eq n k ≡ b → (if b then true else false) ≡ true → ⊥
-    by true q r = true≢false (sym e ∙ ap not (ap is_of_taken (eqb-true n k q) ∙ t))
+    by true q r = true≢false (sym e ∙ ap is_of_table (eqb-true n k q) ∙ t)
     by false q r = true≢false (sym r)
 
 module _ (classes : List ClassFact) (m : Method Act) (at : ℕ) (f : FrameFact) where
   module _ (x : ExpectedTypes) where
-    abbrev is_found : Type 0
+    abbrev pub is_found : Type 0
     is_found = is_some (first_unmet classes m x f) ≡ true
 
     of_local : is_some (sought_local is_no classes m x.local f) ≡ true → is_found
@@ -219,7 +227,7 @@ module _ (classes : List ClassFact) (m : Method Act) (at : ℕ) (f : FrameFact) 
       by true e = absurd (true≢false (sym e))
       by false e = two_short (is_short ws f.stack) (operands classes ws f.stack) (both (operands classes ws f.stack) own) e
 
-  found_missing : (p : TypingRule) → is_else p ≡ true → holds 61 (family classes m at p f) ≡ true → is_found (expected_types p)
+  pub found_missing : (p : TypingRule) → is_else p ≡ true → holds 61 (family classes m at p f) ≡ true → is_found (expected_types p)
   found_missing (pops ws gs offsets on) e h = operands_missing (expected_types (pops ws gs offsets on)) h
   found_missing (loads w n k) e h = absurd (true≢false (sym h ∙ none_missing 61 (local_answer classes m w n k f)))
   found_missing (stores w n k) e h = operands_missing (expected_types (stores w n k)) h
@@ -258,7 +266,7 @@ module _ (classes : List ClassFact) (m : Method Act) (at : ℕ) (f : FrameFact) 
       by true e = absurd (true≢false (sym e))
       by false e = sym (same_no (operands classes ws f.stack)) ∙ two_no (is_short ws f.stack) (operands classes ws f.stack) (both (operands classes ws f.stack) own) e
 
-  found_wrong : (p : TypingRule) → is_else p ≡ true → holds 62 (family classes m at p f) ≡ true → is_found (expected_types p) ⊎ HasNoForm at p f
+  pub found_wrong : (p : TypingRule) → is_else p ≡ true → holds 62 (family classes m at p f) ≡ true → is_found (expected_types p) ⊎ HasNoForm at p f
   found_wrong (pops ws gs offsets on) e h = inl (operands_wrong (expected_types (pops ws gs offsets on)) h)
   found_wrong (loads w n k) e h = absurd (true≢false (sym h ∙ none_missing 62 (local_answer classes m w n k f)))
   found_wrong (stores w n k) e h = inl (operands_wrong (expected_types (stores w n k)) h)
@@ -305,7 +313,7 @@ module _ (classes : List ClassFact) (m : Method Act) (at : ℕ) (f : FrameFact) 
   operands_local : (ws : List ExpectedType) → holds 63 (operand_conditions classes ws f.stack) ≡ true → ⊥
   operands_local ws h = two_local (is_short ws f.stack) (operands classes ws f.stack) (operands classes ws f.stack) h
 
-  found_local : (p : TypingRule) → is_else p ≡ true → holds 63 (family classes m at p f) ≡ true → is_found (expected_types p)
+  pub found_local : (p : TypingRule) → is_else p ≡ true → holds 63 (family classes m at p f) ≡ true → is_found (expected_types p)
   found_local (pops ws gs offsets on) e h = absurd (operands_local ws h)
   found_local (loads w n k) e h = of_local (expected_types (loads w n k)) (local_wrong w n k h)
   found_local (stores w n k) e h = absurd (operands_local (w ∷ []) h)
@@ -336,6 +344,74 @@ module _ (classes : List ClassFact) (m : Method Act) (at : ℕ) (f : FrameFact) 
     wrong = λ h. told_or p (found_wrong p e (least_holds 62 (all p) h));
     local = λ h. told (expected_types p) (found_local p e (least_holds 63 (all p) h));
   }
+
+-- ---- numbers that no rule has
+
+pub record IsOfNoRule (k : ℕ) : Type 0 where
+  pub not_missing : nat_eq 61 k ≡ false
+  pub not_wrong : nat_eq 62 k ≡ false
+  pub not_local : nat_eq 63 k ≡ false
+  pub not_outside : nat_eq 64 k ≡ false
+  pub not_over : nat_eq 65 k ≡ false
+  pub not_constant : nat_eq 66 k ≡ false
+  pub not_ready : nat_eq 74 k ≡ false
+  pub not_of_table : is_of_table k ≡ false
+
+module _ (k : ℕ) (x : IsOfNoRule k) where
+  past : (n : ℕ) (b : Bool) (cs : Conditions) → nat_eq n k ≡ false → holds k ((reason n, b) ∷ cs) ≡ true → holds k cs ≡ true
+  past n b cs e h = let same : holds k ((reason n, b) ∷ cs) ≡ holds k cs = rw e refl in sym same ∙ h
+
+  nothing_left : holds k [] ≡ true → ⊥
+  nothing_left h = true≢false (sym h)
+
+  missing_left : (o : Outcome) → holds k (missing_if o ∷ []) ≡ true → ⊥
+  missing_left o h = true≢false (sym h ∙ none_missing k o)
+
+  operands_none : (s : Bool) (o p : Outcome) → holds k ((reason 61, s) ∷ (reason 62, conditions.is_no o) ∷ missing_if p ∷ []) ≡ true → ⊥
+  operands_none s o p h =
+      missing_left p (past 62 (conditions.is_no o) (missing_if p ∷ []) x.not_wrong
+      (past 61 s ((reason 62, conditions.is_no o) ∷ missing_if p ∷ []) x.not_missing h))
+
+  locals_none : (a b : Bool) (o : Outcome) → holds k ((reason 63, a) ∷ (reason 64, b) ∷ missing_if o ∷ []) ≡ true → ⊥
+  locals_none a b o h =
+      missing_left o (past 64 b (missing_if o ∷ []) x.not_outside (past 63 a ((reason 64, b) ∷ missing_if o ∷ []) x.not_local h))
+
+  module _ (classes : List ClassFact) (m : Method Act) (at : ℕ) (f : FrameFact) where
+    special_none : (own : Outcome) (ws : List ExpectedType) → holds k (special_conditions classes own ws f.stack) ≡ true → ⊥
+    special_none own ws h = by (conditions.is_no own) h
+      where
+        by : (b : Bool) → holds k (if b then (reason 66, true) ∷ [] else (reason 61, is_short ws f.stack) ∷ (reason 62, conditions.is_no (operands classes ws f.stack)) ∷ missing_if (both (operands classes ws f.stack) own) ∷ []) ≡ true
+            → ⊥
+        by true e = nothing_left (past 66 true [] x.not_constant e)
+        by false e = operands_none (is_short ws f.stack) (operands classes ws f.stack) (both (operands classes ws f.stack) own) e
+
+    taken_none : (ws : List ExpectedType) → holds k (operand_conditions classes ws f.stack) ≡ true → ⊥
+    taken_none ws h = operands_none (is_short ws f.stack) (operands classes ws f.stack) (operands classes ws f.stack) h
+
+    local_none : (w : ExpectedType) (n j : ℕ) → holds k (local_conditions classes m w n j f) ≡ true → ⊥
+    local_none w n j h = locals_none (conditions.is_no (local_answer classes m w n j f)) (is_outside m n j) (local_answer classes m w n j f) h
+
+    family_none : (p : TypingRule) → is_else p ≡ true → holds k (family classes m at p f) ≡ true → ⊥
+    family_none (pops ws gs offsets on) e h = taken_none ws h
+    family_none (loads w n j) e h = local_none w n j h
+    family_none (stores w n j) e h = taken_none (w ∷ []) (past 64 (is_outside m n j) (operand_conditions classes (w ∷ []) f.stack) x.not_outside h)
+    family_none (counts n) e h = local_none (number Int) n 1 h
+    family_none (rearranges forms) e h =
+        nothing_left (past 62 (is_none (form_for forms f.stack)) [] x.not_wrong
+        (past 61 (nat_lt (units_of f.stack) (units_taken forms)) ((reason 62, is_none (form_for forms f.stack)) ∷ []) x.not_missing h))
+    family_none loads_element e h = taken_none (number Int ∷ object_array ∷ []) h
+    family_none (makes name) e h = nothing_left (past 62 (is_on_stack at f.stack) [] x.not_wrong h)
+    family_none (constructs name ws) e h =
+        let object = not (may_construct m name (top_of (beneath ws f.stack))) in
+        taken_none ws (past 62 object (operand_conditions classes ws f.stack) x.not_wrong
+        (past 61 (is_short (any_reference ∷ ws) f.stack) ((reason 62, object) ∷ operand_conditions classes ws f.stack) x.not_missing h))
+    family_none (calls_special type ws gs) e h = special_none (type_answer classes (class m.class) (to_reference type)) ws h
+    family_none returns e h = nothing_left (past 74 (m.is_init && f.flag) [] x.not_ready h)
+    family_none (refuses n) e h = refused_else n k x.not_of_table e h
+
+    pub rule_none : (p : TypingRule) → is_else p ≡ true → holds k (rules.conditions classes m at p f) ≡ true → ⊥
+    rule_none p e h =
+        family_none p e (past 65 (gives_frame (family classes m at p f) && is_too_wide m (after m at p f)) (family classes m at p f) x.not_over h)
 
 pub unmet_is_found : UnmetIsFound
 unmet_is_found classes m at act f = refused_found classes m at f (typing_rule m act) (way_of m act).elsewise
