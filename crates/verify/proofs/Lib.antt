@@ -12,7 +12,10 @@ pub mod Verdicts
 pub mod Refusing
 mod Refused
 pub mod MapFaults
-mod Breaks
+pub mod Breaks
+pub mod FullFrames
+pub mod FoundPlaces
+pub mod ToldDetails
 pub mod MapReading
 pub mod Decoded
 pub mod Caught
