@@ -31,18 +31,18 @@ module _ (sought : Outcome → Bool) (f : VerificationType → VerificationType 
 
 -- ---- a difference is there exactly where the answer is no
 
-no_both : (a b : Outcome) → is_no (both a b) ≡ (is_no a || is_no b)
+pub no_both : (a b : Outcome) → is_no (both a b) ≡ (is_no a || is_no b)
 no_both yes b = refl
 no_both no b = refl
 no_both (missing name) yes = refl
 no_both (missing name) no = refl
 no_both (missing name) (missing _) = refl
 
-some_or : {A : Type 0} (a b : Option A) → is_some (option_or a b) ≡ (is_some a || is_some b)
+pub some_or : {A : Type 0} (a b : Option A) → is_some (option_or a b) ≡ (is_some a || is_some b)
 some_or None b = refl
 some_or (Some x) b = refl
 
-some_map : {A B : Type 0} (k : A → B) (a : Option A) → is_some (option_map k a) ≡ is_some a
+pub some_map : {A B : Type 0} (k : A → B) (a : Option A) → is_some (option_map k a) ≡ is_some a
 some_map k None = refl
 some_map k (Some x) = refl
 
@@ -50,7 +50,7 @@ some_if : {A : Type 0} (b : Bool) (x : A) (o : Option A) → is_some (if b then 
 some_if true x o = refl
 some_if false x o = refl
 
-some_flag : (b : Bool) (d : DifferenceFact) → is_some (if b then Some d else None) ≡ b
+pub some_flag : {A : Type 0} (b : Bool) (d : A) → is_some (if b then Some d else None) ≡ b
 some_flag true d = refl
 some_flag false d = refl
 
@@ -103,7 +103,7 @@ the_no yes e = absurd (true≢false (sym e))
 the_no no e = refl
 the_no (missing name) e = absurd (true≢false (sym e))
 
-the_some : {A : Type 0} (o : Option A) → is_some o ≡ true → (x : A) × (o ≡ Some x)
+pub the_some : {A : Type 0} (o : Option A) → is_some o ≡ true → (x : A) × (o ≡ Some x)
 the_some None e = absurd (true≢false (sym e))
 the_some (Some x) e = (x, refl)
 

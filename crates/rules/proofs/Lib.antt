@@ -9,6 +9,7 @@ pub mod Settling
 pub mod Storing
 pub mod Taking
 pub mod Directions
+pub mod FoundOperands
 pub mod Arguments
 pub mod Changing
 pub mod Replaced

@@ -18,5 +18,6 @@ pub mod Applied
 pub mod Naming
 pub mod ExpectedTypes
 pub mod Unmet
+pub mod UnmetLaws
 pub mod Protected
 pub mod Guards

@@ -52,7 +52,7 @@
 //! - `specs/Ways.antt`: where instructions go; `specs/WayLaws.antt`: that their acts alone decide it.
 //! - `specs/Taken.antt`: how many items instructions take, and which stay.
 //! - `specs/ExpectedTypes.antt`: the expected types of all that an instruction takes; `specs/Unmet.antt`: the first of
-//!   them that a frame does not meet.
+//!   them that a frame does not meet; `specs/UnmetLaws.antt`: that it is found.
 //! - `specs/Applied.antt`, `specs/Outcomes.antt`: the answers of `apply`, and of the other calls.
 //! - `specs/Views.antt`, `specs/Bodies.antt`, `specs/Held.antt`: the meaning of the code's values, of a method, and of
 //!   the running frame.
@@ -107,7 +107,7 @@ pub use protected_members::check_member;
 pub use reason::Reason;
 pub use replacing::replaced_object;
 pub use running::{run, run_plain};
-pub use unmet::{Unmet, UnmetOperand, first_unknown, first_unmet};
+pub use unmet::{Unmet, UnmetOperand, first_unknown, first_unmet, unmet_is_found};
 pub use ways::{
     branches, branches_by, falls, goes_on, is_plain, keeps_locals, stored_to,
     typing_rules_go_as_acts,

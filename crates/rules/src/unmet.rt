@@ -11,6 +11,7 @@ ghost use Rattle.rules.specs.Bodies.{method_view};
 ghost use Rattle.rules.specs.ExpectedTypes.{local_view, types_view};
 ghost use Rattle.frames.specs.Differences.{is_no, is_missing, is_sought};
 ghost use Rattle.rules.specs.Unmet.{absent, absent_operand, absent_receiver, absent_units, first_of, first_unknown, first_unmet, found_in, operand_of, receivers, sought_local, sought_operand, unmet_of, wrong, wrong_receiver};
+ghost use Rattle.rules.specs.UnmetLaws.{UnmetIsFound};
 ghost use Rattle.rules.specs.Views.{expected_view, stack_of};
 
 use crate::constructing::may_construct;
@@ -348,3 +349,11 @@ pub fn first_unknown<'a, C: Classes>(
     let local = sought_local(Sought::Missing, method, types.local, frame, classes);
     local.or(operand_of(count, operand))
 }
+
+/// A law: where the least number against an instruction is 61 or 63, [`first_unmet`] finds something that it takes and
+/// the frame before it has not. Where it is 62, it does so too, but for two kinds: an instruction that moves items of
+/// the stack, of which those on top are of none of its forms, and a `new` whose object of an earlier pass is still on
+/// the stack.
+pub fn unmet_is_found()
+    ensures { UnmetIsFound }
+{}

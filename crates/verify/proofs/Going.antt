@@ -89,7 +89,7 @@ branch_calm ws offsets on d = λ classes m at f.
     parts_early (is_short ws f.stack) (is_too_wide m (after m at (pops ws [] offsets on) f)) (operands classes ws f.stack) (operands_decided classes ws f.stack d)
 
 branches : (a : Act) (ws : List ExpectedType) (offsets : List ℤ) (on : Bool) → goes_on a ≡ on → branch_offsets a ≡ offsets → AreDecided ws → IsWay a (pops ws [] offsets on)
-branches a ws offsets on e o d = record { way = record { falls_on = e; branches = o }; calm = inr (branch_calm ws offsets on d) }
+branches a ws offsets on e o d = record { way = record { falls_on = e; branches = o; elsewise = refl }; calm = inr (branch_calm ws offsets on d) }
 
 -- ---- typing rules that do not
 

@@ -5,6 +5,9 @@ pub mod Meeting
 pub mod FramesFound
 pub mod Counted
 pub mod Premises
+pub mod FullFrames
+pub mod FoundPlaces
+pub mod ToldDetails
 pub mod MapReading
 pub mod Decoded
 pub mod Caught

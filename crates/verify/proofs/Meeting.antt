@@ -29,7 +29,7 @@ use Rattle.verify.specs.InitialFrames.{initial_types, initial_frame, is_uninitia
 use Rattle.verify.specs.TypeSafety.{Frames, Declares}
 use Rattle.verify.specs.Verdict.{MapRefusal, frames_declared}
 use Rattle.verify.specs.Coming.{FramesFact, frames_with, before, frame_if, going, met, met_under, without_map, frames_at}
-use Rattle.verify.proofs.Declared.{good_frames}
+use Rattle.verify.proofs.Declared.{good_frames, full_length}
 use Rattle.verify.proofs.Going.{ways}
 use Rattle.verify.proofs.Premises.{not_at, frames_there}
 
@@ -163,10 +163,7 @@ started m locals flag e k =
     ∙ ap (λ (b : Bool). let x : FrameFact = record { locals = (initial_frame m).locals; stack = []; flag = b } in x) k
 
 pub started_length : (m : Method Act) → nat_lt m.max_locals (length (in_locals (initial_types m))) ≡ false → length (initial_frame m).locals ≡ m.max_locals
-started_length m e =
-    let ts = in_locals (initial_types m) in
-    let le : length ts ≤ m.max_locals = grind (arith, nat_tests, e) in
-    omega (arith, length-append ts (replicate (m.max_locals - length ts) top), length-replicate (m.max_locals - length ts) top, le)
+started_length m e = full_length m.max_locals (initial_types m) e
 
 pub frames_are : (classes : List ClassFact) (m : Method Act) (frames : Frames) (reason at : ℕ) → nat_lt m.max_locals (length (in_locals (initial_types m))) ≡ false → frames_declared m ≡ Ok frames
     → (f : FrameFact) → f ≡ initial_frame m → met typing_rule classes m frames reason m.code (Some f) at ≡ frames_at typing_rule classes m reason at

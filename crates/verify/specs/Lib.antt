@@ -21,6 +21,7 @@ pub mod DifferencesAt
 pub mod Details
 pub mod Coming
 pub mod JudgedFrames
+pub mod DetailLaws
 pub mod OneVerdict
 pub mod Files
 pub mod Explaining

@@ -1,6 +1,7 @@
 //! The meaning of the verdict on a method, and the breadth of class runs.
 ghost use Rattle.verify.specs.Breaks.{ConditionsAreFields, MapRefusedBreaks, RefusedBreaks};
 ghost use Rattle.verify.specs.Refusals.{MapRefusedWhere, RefusedWhere};
+ghost use Rattle.verify.specs.DetailLaws.{DetailsAreTold};
 ghost use Rattle.verify.specs.FitsBreadth.{FitsBreadth};
 ghost use Rattle.verify.specs.ClassRunBreadth.{ClassRunBreadth};
 ghost use Rattle.verify.specs.JudgedFrames.{FramesAreJudged};
@@ -63,6 +64,13 @@ pub fn one_frames()
 /// frame that comes to it, or the least of what is asked of the instruction in the frame before it.
 pub fn frames_are_judged()
     ensures { FramesAreJudged }
+{}
+
+/// Where a method is refused by 61 to 63, 68, 69, 72, 73 or 75, it is told what is wrong, for 62 with two exceptions: an
+/// instruction that moves items of the stack, of which those on top are of none of its forms, and a `new` whose object
+/// of an earlier pass is still on the stack.
+pub fn details_are_told()
+    ensures { DetailsAreTold }
 {}
 
 /// In the machine a type takes all values that the verifier lets it take: null, and what is of a type that is

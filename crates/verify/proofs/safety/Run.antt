@@ -73,7 +73,7 @@ module _ (h : List ClassFact) (m : Method Act) (safe : IsTypeSafe h m) (w : Worl
   sound : (own : ℕ) (site home : ℕ → ℕ) → Sound h (With (first_view w m own) site home)
   sound own site home = record { extends = x; world = world_of_hierarchy h w hh x }
 
-  good : (at : ℕ) (f : FrameFact) → at_offset safe.frames at ≡ Some f → IsGoodFrame m.code m.max_stack at f
+  good : (at : ℕ) (f : FrameFact) → at_offset safe.frames at ≡ Some f → IsGoodFrame m.code m.max_locals m.max_stack at f
   good at f here = good_frames m.constant_pool m.code m.max_locals m.max_stack None (initial_types m) safe.declares.entries safe.frames safe.declares.declared at f here
 
   arrives : (own : ℕ) (site home : ℕ → ℕ) (t : State) (q : ℕ) (f : FrameFact) → t.at ≡ q → Fits (With (first_view w m own) site home) t f → safe.table q ≡ f → IsStart m.code q → units_of f.stack ≤ m.max_stack → Inv w m own safe.table t

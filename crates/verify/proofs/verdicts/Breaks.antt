@@ -53,7 +53,7 @@ holds_apart (c ∷ cs) ds why (inr h) = elim (holds_apart cs ds why h) [
   | inr x ↦ inr x
 ]
 
-holds_front : (cs ds : Conditions) (why : Reason) → Holds cs why → Holds (cs ++ ds) why
+pub holds_front : (cs ds : Conditions) (why : Reason) → Holds cs why → Holds (cs ++ ds) why
 holds_front [] ds why h = elim h [ ]
 holds_front (c ∷ cs) ds why (inl e) = inl e
 holds_front (c ∷ cs) ds why (inr h) = inr (holds_front cs ds why h)
@@ -68,7 +68,7 @@ none_held (c ∷ cs) why n (inl e) = true_false (ap (λ (x : Condition). x.1) e 
 none_held (c ∷ cs) why n (inr h) = none_held cs why n.1 h
 
 -- the least that is told is the least of those that hold
-least_held : (cs : Conditions) (why : Reason) → least cs ≡ Some why → IsLeast (Holds cs) why
+pub least_held : (cs : Conditions) (why : Reason) → least cs ≡ Some why → IsLeast (Holds cs) why
 least_held [] why e = cc
 least_held (c ∷ cs) why e = by c.1 refl (least cs) refl e (λ r i. least_held cs r i)
   where
