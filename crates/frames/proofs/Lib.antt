@@ -19,6 +19,7 @@ pub mod Refused
 pub mod FaultyEntries
 pub mod Finding
 pub mod Comparison
+pub mod Lacking
 pub mod Writing
 pub mod Marking
 pub mod Whole

@@ -1,4 +1,4 @@
--- Places that two chains share, and what the locals of a frame say of those of another.
+-- Places that two chains share, and frames of one table.
 use Rattle.std.proofs.Common.{◌≡◌, ◌≢◌, ◌∙◌, ℕ, zero, suc, ◌+◌, ◌-◌, ◌≤◌, false, List, [], ◌∷◌, ◌++◌, map, length, get_or, Option, Some, None, IfSome, MatchOption, refl, sym, ap, subst, arith}
 use Rattle.std.proofs.lemmas.List.{length-append}
 use Rattle.hierarchy.specs.Class.{ClassFact}
@@ -12,7 +12,7 @@ use Rattle.frames.specs.FrameFact.{FrameFact}
 use Rattle.frames.specs.HeldFrames.{held_locals}
 use Rattle.frames.specs.TypeChains.{link_at, types_at, below_of, down, AreLinked, IsOn, LeadsTo, chain_answer, place}
 use Rattle.frames.specs.DeclaredViews.{locals_at, fact_of, IsInside}
-use Rattle.frames.specs.DeclaredTables.{declared_view, IsOf, AreOfOne, AreFit}
+use Rattle.frames.specs.DeclaredTables.{declared_view, IsOf, AreOfOne}
 use Rattle.frames.specs.declared.chain.Link.{Link}
 use Rattle.frames.specs.declared.declared_frames.DeclaredFrames.{DeclaredFrames}
 use Rattle.frames.specs.declared.declared_frames.Declared.{Declared}
@@ -120,7 +120,7 @@ module _ (links : List Link) where
     pub on_skip : (here : ℕ) (l : Link) → link_at links here ≡ Some l → IsOn links here l.skip
     on_skip here l e = on_further here l.below l.skip (on_below here here l.below (sym (ap below_of e)) (on_itself here)) (on_leads l.below l.skip (linked_skip links k here l e))
 
--- ---- locals of a frame that shares a place
+-- ---- two answers that fit
 
 pub both_left : (a b : Outcome) → both a b ≡ yes → a ≡ yes
 both_left yes b e = refl
@@ -136,67 +136,11 @@ both_right (missing name) yes e = refl
 both_right (missing name) no e = e
 both_right (missing name) (missing _) e = cc
 
-as_many : (f : VerificationType → VerificationType → Outcome) (xs ys : List VerificationType) → list_answer f xs ys ≡ yes → length xs ≡ length ys
-as_many f [] [] e = refl
-as_many f [] (y ∷ ys) e = cc
-as_many f (x ∷ xs) [] e = cc
-as_many f (x ∷ xs) (y ∷ ys) e = ap suc (as_many f xs ys (both_right (f x y) (list_answer f xs ys) e))
-
-lower_yes : (f : VerificationType → VerificationType → Outcome) (place : List VerificationType → ℕ) (xs us ts : List VerificationType) → chain_answer f place xs (us ++ ts) ≡ yes → chain_answer f place xs ts ≡ yes
-lower_yes f place xs [] ts e = e
-lower_yes f place xs (u ∷ us) ts e = lower_yes f place xs us ts (both_left (chain_answer f place xs (us ++ ts)) (f (get_or xs (place (us ++ ts)) top) u) e)
-
 -- ---- frames of one table
-
-module _ (d : Declared) (m : ℕ) (locals : List VType) (shared : ℕ) where
-  abbrev links : List Link
-  links = d.chains.now.links.items
-
-  -- where the locals are those of another frame, from this place down it shares them
-  abbrev pub IsShared : Option Declared → Type 0
-  IsShared kept = MatchOption kept (shared ≡ 0) (λ k. IsOn links k.tops.locals shared)
-
-  none_left : shared ≡ 0 → types_at links shared ≡ []
-  none_left e = ap (types_at links) e ∙ types_bottom links
-
-  fit_here : (h : List ClassFact) (k : Declared) → AreFit h d (held_locals locals m) k → list_answer (type_answer h) (held_locals locals m) (fact_of links k.max_locals k.tops).locals ≡ yes
-  unfolding AreOfOne declared_view
-  fit_here h k a = ap (λ (l : List Link). list_answer (type_answer h) (held_locals locals m) (fact_of l k.max_locals k.tops).locals) (sym a.of_one.0) ∙ a.answer
-
-  inside_here : (k : Declared) → AreOfOne k d → IsInside links k.max_locals k.tops
-  unfolding AreOfOne
-  inside_here k o = subst (λ (l : List Link). IsInside l k.max_locals k.tops) o.0 k.inside
-
-  fit_yes : (h : List ClassFact) (k : Declared) → AreFit h d (held_locals locals m) k → IsOn links k.tops.locals shared
-      → chain_answer (slot_answer h false) (place false) (map type_of locals) (types_at links shared) ≡ yes
-  unfolding fact_of locals_at
-  fit_yes h k a e =
-      let xs = held_locals locals m in
-      let inside = inside_here k a.of_one in
-      let on = types_on links d.chains.now.linked k.tops.locals shared e in
-      let size : k.max_locals ≡ length xs = sym (as_many (type_answer h) xs (fact_of links k.max_locals k.tops).locals (fit_here h k a) ∙ locals_filled links k.max_locals k.tops inside) in
-      sym (padded (slot_answer h false) (place false) (map type_of locals) (m - length locals) (types_at links shared))
-      ∙ lower_yes (slot_answer h false) (place false) xs on.0 (types_at links shared)
-      (ap (chain_answer (slot_answer h false) (place false) xs) (sym on.1) ∙ sym (locals_walked h xs (types_at links k.tops.locals) k.max_locals size inside.units) ∙ fit_here h k a)
-
-  pub shared_yes : (h : List ClassFact) (fits : Option Declared) → IfSome fits (AreFit h d (held_locals locals m)) → IsShared fits
-      → chain_answer (slot_answer h false) (place false) (map type_of locals) (types_at links shared) ≡ yes
-  shared_yes h None a e = ap (chain_answer (slot_answer h false) (place false) (map type_of locals)) (none_left e)
-  shared_yes h (Some k) a e = fit_yes h k a e
 
 pub are_of_one : (t : DeclaredFrames) (d e : Declared) → IsOf t d → IsOf t e → AreOfOne d e
 unfolding IsOf AreOfOne
 are_of_one t d e p q = (p.0 ∙ sym q.0, p.1 ∙ sym q.1)
-
--- what a frame answers to another, the locals answer too
-pub locals_fit : (h : List ClassFact) (f g : FrameFact) → frame_answer h f g ≡ yes → list_answer (type_answer h) f.locals g.locals ≡ yes
-locals_fit h f g e =
-    let locals = list_answer (type_answer h) f.locals g.locals in
-    let stack = stack_answer (item_answer h) f.stack g.stack in
-    both_left locals stack (both_right (flag_answer f.flag g.flag) (both locals stack) e)
-
-pub own_fit : (h : List ClassFact) (xs : List VerificationType) → list_answer (type_answer h) xs xs ≡ yes
-own_fit h xs = list_itself h xs
 
 pub same_locals : (d e : Declared) → d.tops.locals ≡ e.tops.locals → AreOfOne d e → (declared_view d).locals ≡ (declared_view e).locals
 unfolding AreOfOne declared_view fact_of

@@ -2,11 +2,7 @@
 use Rattle.std.specs.Prelude.{◌≡◌, ℕ, List, map, Result, Ok, Err, Vec}
 use Rattle.std.specs.Global.{Global}
 use Rattle.insn.specs.Offsets.{StartsRise}
-use Rattle.hierarchy.specs.Class.{ClassFact}
-use Rattle.hierarchy.specs.Answer.{yes}
 use Rattle.frames.specs.VerificationType.{VerificationType}
-use Rattle.frames.specs.Assignable.{type_answer}
-use Rattle.frames.specs.FrameAssignable.{list_answer}
 use Rattle.frames.specs.FrameFact.{FrameFact, frame_of}
 use Rattle.frames.specs.Conditions.{Reason, reason}
 use Rattle.frames.specs.FrameReasons.{frame_fault_number}
@@ -40,12 +36,6 @@ AreOfOne d e = (d.chains.now.links.items ≡ e.chains.now.links.items) × (d.max
 pub record AreKept (other : Declared) (locals : List VerificationType) (kept : Declared) : Type 0 where
   pub of_one : AreOfOne kept other
   pub same : locals ≡ (declared_view kept).locals
-
--- locals may stand where those of a frame are declared that stands in one table with another
-pub record AreFit (classes : List ClassFact) (other : Declared) (locals : List VerificationType)
-    (fits : Declared) : Type 0 where
-  pub of_one : AreOfOne fits other
-  pub answer : list_answer (type_answer classes) locals (declared_view fits).locals ≡ yes
 
 -- whole frames, each with its offset
 abbrev pub whole_frames : List (ℕ × Frame) → List (ℕ × FrameFact)

@@ -12,7 +12,7 @@ use crate::frame_assignability::both;
 use crate::frame_tops::FrameTops;
 use crate::locals::Locals;
 use crate::vtype::VType;
-use crate::walking::{chain_assignable, write_locals, write_stack};
+use crate::walking::{KnownBelow, chain_assignable, write_locals, write_stack};
 use hierarchy::{Answer, Classes};
 use std::alloc::{AllocError, Global};
 
@@ -140,17 +140,16 @@ fn may_have_flag(from: bool, to: bool) -> bool
 }
 
 impl<'n, 'a> Declared<'n, 'a> {
-    ghost use Rattle.std.specs.Prelude.{◌<◌, ◌≤◌, ◌-◌, ℕ, true, length, get_or, map, take, drop, replicate, reverse, OnOk, IfOk, IfSome, MatchOption};
+    ghost use Rattle.std.specs.Prelude.{◌<◌, ◌≤◌, ◌-◌, ℕ, List, true, length, get_or, map, take, drop, replicate, reverse, OnOk, IfOk, IfSome, MatchOption};
     ghost use Rattle.hierarchy.specs.Answer.{yes, outcome_of};
-    ghost use Rattle.frames.specs.VerificationType.{type_of, top};
+    ghost use Rattle.frames.specs.VerificationType.{VerificationType, type_of, top};
     ghost use Rattle.frames.specs.Assignable.{type_answer};
-    ghost use Rattle.frames.specs.FrameAssignable.{slot_answer, list_answer, frame_answer};
-    ghost use Rattle.frames.specs.FrameFact.{frame_of};
-    ghost use Rattle.frames.specs.HeldFrames.{held_locals, held_frame};
+    ghost use Rattle.frames.specs.FrameAssignable.{list_answer, frame_answer};
+    ghost use Rattle.frames.specs.FrameFact.{FrameFact, frame_of};
     ghost use Rattle.frames.specs.Slots.{units_of};
-    ghost use Rattle.frames.specs.TypeChains.{types_at, chain_answer, place, IsOn, AreTopFrom, AreBelow};
+    ghost use Rattle.frames.specs.TypeChains.{types_at, slots_answer, IsOn, AreTopFrom, AreBelow};
     ghost use Rattle.frames.specs.Locals.{local, locals_in};
-    ghost use Rattle.frames.specs.DeclaredTables.{declared_view, AreOfOne, AreKept, AreFit};
+    ghost use Rattle.frames.specs.DeclaredTables.{declared_view, AreOfOne, AreKept};
 
     /// Whether the own object is uninitialized.
     pub fn flag(&self) -> bool
@@ -181,16 +180,6 @@ impl<'n, 'a> Declared<'n, 'a> {
         }
     }
 
-    /// Whether locals, all beyond them being top, may stand where those of this frame are declared. Takes no memory.
-    pub fn locals_answer<C: Classes>(&self, locals: &[VType<'a>], classes: &C) -> Answer<'a>
-        requires { length locals.now ≤ length (declared_view self.now).locals }
-        ensures { let d = declared_view self.now in
-            outcome_of result ≡ list_answer (type_answer (C.content classes.now))
-            (held_locals locals.now (length d.locals)) d.locals }
-    {
-        chain_assignable(locals, self.chains, self.tops.locals, 0, false, classes)
-    }
-
     /// The type of the local variable of a number: top at the second half of a long or double, and beyond those in use.
     /// Takes no memory.
     pub fn local(&self, number: usize) -> VType<'a>
@@ -202,57 +191,44 @@ impl<'n, 'a> Declared<'n, 'a> {
         }
     }
 
-    /// Whether a frame may stand where this one is declared (JVMS 4.10.1.4): one that has these locals, all beyond them
-    /// being top, this stack from the bottom up, and this flag. Where the locals are known to fit another frame of the
-    /// same stack map, only those are compared that the two declared frames do not share, and of the stack only what
-    /// stands above a floor on its chain, from which down the items are known to fit. Takes no memory.
+    /// Whether a frame may stand where this one is declared (JVMS 4.10.1.4): one whose locals have this answer, with this
+    /// stack from the bottom up, and this flag. Of the stack only the items are compared that stand above a floor on its
+    /// chain, from which down they are known to fit. Takes no memory.
     ///
     /// The answer is that of [`frame_assignable`](crate::frame_assignable).
     pub(crate) fn assignable_from<C: Classes>(
         &self,
-        locals: &[VType<'a>],
+        locals: Answer<'a>,
         stack: &[VType<'a>],
         flag: bool,
-        fits: Option<Declared<'_, 'a>>,
         floor: usize,
         classes: &C,
     ) -> Answer<'a>
-        requires fits { IfSome fits (AreFit (C.content classes.now) self.now
-            (held_locals locals.now (length (declared_view self.now).locals))) }
-        requires floor { chain_answer (slot_answer (C.content classes.now) true) (place true) (map type_of stack.now)
-            (types_at self.now.chains.now.links.items floor) ≡ yes }
-        ensures told { let d = declared_view self.now in
-            outcome_of result ≡ frame_answer (C.content classes.now)
-            (held_frame locals.now (length d.locals) stack.now flag) d }
+        requires floor { slots_answer (C.content classes.now) true (map type_of stack.now)
+            self.now.chains.now.links.items floor ≡ yes }
+        ensures told { (types : List VerificationType) → let d = declared_view self.now in
+            let f : FrameFact = record { locals = types; stack = reverse (map type_of stack.now); flag = flag } in
+            outcome_of locals.entry ≡ list_answer (type_answer (C.content classes.now)) types d.locals
+            → outcome_of result ≡ frame_answer (C.content classes.now) f d }
         ensures items { outcome_of result ≡ yes
-            → chain_answer (slot_answer (C.content classes.now) true) (place true) (map type_of stack.now)
-            (types_at self.now.chains.now.links.items self.now.tops.stack) ≡ yes }
+            → slots_answer (C.content classes.now) true (map type_of stack.now) self.now.chains.now.links.items
+            self.now.tops.stack ≡ yes }
     {
-        if locals.len() > usize::from(self.max_locals) {
+        if !may_have_flag(flag, self.flag()) {
             return Answer::No;
         }
-        if !may_have_flag(flag, self.flag()) {
+        if let Answer::No = locals {
             return Answer::No;
         }
         if stack.len() != self.chains.sums(self.tops.stack).count {
             return Answer::No;
         }
-        let shared = self.shared(fits);
-        let answer = chain_assignable(
-            locals,
-            self.chains,
-            self.tops.locals,
-            shared,
-            false,
-            classes,
-        );
-        if let Answer::No = answer {
-            return Answer::No;
-        }
-        both(
-            answer,
-            chain_assignable(stack, self.chains, self.tops.stack, floor, true, classes),
-        )
+        let known = KnownBelow {
+            place: floor,
+            answer: Answer::Yes,
+        };
+        let items = chain_assignable(stack, self.chains, self.tops.stack, known, true, classes);
+        both(locals, items.answer)
     }
 
     /// The frame with all its locals.

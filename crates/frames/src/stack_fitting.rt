@@ -57,14 +57,14 @@ fn place_below(chains: &TypeChains<'_>, top: usize, height: usize) -> usize
 }
 
 impl StackFitting {
-    ghost use Rattle.std.specs.Prelude.{◌-◌, ◌<◌, ◌⊎◌, map, IfOk, OnOk, IfSome};
+    ghost use Rattle.std.specs.Prelude.{◌-◌, ◌<◌, ◌⊎◌, map, reverse, IfOk, OnOk, IfSome};
     ghost use Rattle.hierarchy.specs.Answer.{yes, outcome_of};
     ghost use Rattle.frames.specs.VerificationType.{type_of};
     ghost use Rattle.frames.specs.Assignable.{type_answer};
-    ghost use Rattle.frames.specs.TypeChains.{chain_answer, place};
-    ghost use Rattle.frames.specs.FrameAssignable.{slot_answer, list_answer, frame_answer};
-    ghost use Rattle.frames.specs.HeldFrames.{held_locals, held_frame};
-    ghost use Rattle.frames.specs.DeclaredTables.{declared_view, IsOf, AreFit};
+    ghost use Rattle.frames.specs.TypeChains.{slots_answer};
+    ghost use Rattle.frames.specs.FrameAssignable.{list_answer, frame_answer};
+    ghost use Rattle.frames.specs.FrameFact.{FrameFact};
+    ghost use Rattle.frames.specs.DeclaredTables.{declared_view, IsOf};
     ghost use Rattle.frames.specs.Fitting.{FitAll};
     ghost use Rattle.frames.specs.StackFitting.{HasSunk, IsStackMarked, AreLowsEarly, AreStackFitting, AreStackFittingFor, AreSameBelow, IsLast, HasLast};
     ghost use Rattle.frames.specs.declared.declared_frames.DeclaredFrames.{DeclaredFrames};
@@ -163,8 +163,7 @@ impl StackFitting {
     fn floor(&self, chains: &TypeChains<'_>, top: usize) -> usize
         ensures { (classes : List ClassFact) (t : DeclaredFrames) (items : List VerificationType)
             → t.chains.links.items ≡ chains.now.links.items → AreStackFitting classes t items self.now
-            → chain_answer (slot_answer classes true) (place true) items (types_at chains.now.links.items result)
-            ≡ yes }
+            → slots_answer classes true items chains.now.links.items result ≡ yes }
     {
         match self.moment(top) {
             Some(moment) => place_below(chains, top, self.unchanged_since(moment)),
@@ -188,31 +187,28 @@ impl StackFitting {
         self.marks[place - 1] = Some(next);
     }
 
-    /// Whether a frame may stand where one is declared (JVMS 4.10.1.4): one that has these locals, all beyond them
-    /// being top, this stack from the bottom up, and this flag. Items that are known to fit are not compared again, nor
-    /// are locals that the declared frame shares with one that they are known to fit. Takes no memory.
+    /// Whether a frame may stand where one is declared (JVMS 4.10.1.4): one whose locals have this answer, with this
+    /// stack from the bottom up, and this flag. Items that are known to fit are not compared again. Takes no memory.
     pub fn answer<'a, C: Classes>(
         &mut self,
         declared: &Declared<'_, 'a>,
-        locals: &[VType<'a>],
+        locals: Answer<'a>,
         stack: &[VType<'a>],
         flag: bool,
-        fits: Option<Declared<'_, 'a>>,
         classes: &C,
     ) -> Answer<'a>
-        requires fits { IfSome fits (AreFit (C.content classes.now) declared.now
-            (held_locals locals.now (length (declared_view declared.now).locals))) }
         requires known { AreStackFittingFor (C.content classes.now) declared.now (map type_of stack.now) self.old }
-        ensures told { let d = declared_view declared.now in
-            outcome_of result ≡ frame_answer (C.content classes.now)
-            (held_frame locals.now (length d.locals) stack.now flag) d }
+        ensures told { (types : List VerificationType) → let d = declared_view declared.now in
+            let f : FrameFact = record { locals = types; stack = reverse (map type_of stack.now); flag = flag } in
+            outcome_of locals.entry ≡ list_answer (type_answer (C.content classes.now)) types d.locals
+            → outcome_of result ≡ frame_answer (C.content classes.now) f d }
         ensures known { (t : DeclaredFrames) → IsOf t declared.now
             → AreStackFitting (C.content classes.now) t (map type_of stack.now) self.new }
     {
         let chains = declared.chains;
         let top = declared.tops.stack;
         let floor = self.floor(chains, top);
-        let answer = declared.assignable_from(locals, stack, flag, fits, floor, classes);
+        let answer = declared.assignable_from(locals, stack, flag, floor, classes);
         if let Answer::Yes = answer {
             self.see(top);
         }

@@ -1,11 +1,12 @@
 //! TypeChains gone through from the top down.
-ghost use Rattle.std.specs.Prelude.{◌≡◌, ◌+◌, ◌++◌, ℕ, map, reverse, get_or, OnOk};
-ghost use Rattle.hierarchy.specs.Answer.{yes, outcome_of};
+ghost use Rattle.std.specs.Prelude.{◌≡◌, ◌+◌, ◌++◌, ℕ, List, if◌then◌else◌, map, reverse, get_or, OnOk};
+ghost use Rattle.hierarchy.specs.Answer.{missing, outcome_of};
 ghost use Rattle.frames.specs.VerificationType.{type_of, top};
-ghost use Rattle.frames.specs.FrameAssignable.{slot_answer, width_of};
+ghost use Rattle.frames.specs.Differences.{is_missing};
+ghost use Rattle.frames.specs.FrameAssignable.{both, width_of};
 ghost use Rattle.frames.specs.Slots.{units_of};
 ghost use Rattle.frames.specs.Locals.{local};
-ghost use Rattle.frames.specs.TypeChains.{types_at, chain_answer, place, IsOn, one_set, AreBelow, AreTopFrom, AreOfChain};
+ghost use Rattle.frames.specs.TypeChains.{types_at, place, slots_answer, IsOn, IsLowest, one_set, AreBelow, AreTopFrom, AreOfChain};
 
 use crate::chain::TypeChains;
 use crate::frame_assignability::{both, slot_assignable, width};
@@ -35,33 +36,73 @@ fn place_of(chains: &TypeChains<'_>, below: usize, on_stack: bool) -> usize
     }
 }
 
-/// The slots from the bottom up to those of a chain, of which the lowest that lacks a class names it. From the floor
-/// down they are known to be assignable, and not looked at.
+/// A place of a chain from which down an answer is known.
+#[derive(Clone, Copy)]
+pub struct KnownBelow<'a> {
+    pub place: usize,
+    pub answer: Answer<'a>,
+}
+
+/// An answer to the types of a chain.
+#[derive(Clone, Copy)]
+pub struct ChainAnswer<'a> {
+    pub answer: Answer<'a>,
+    /// Where the answer is a missing class, the lowest place of the chain from which down it is.
+    pub lowest: usize,
+}
+
+/// An answer with that to the types from a place down, which stand in front of it.
+fn with_below<'a>(below: KnownBelow<'a>, so_far: ChainAnswer<'a>) -> ChainAnswer<'a>
+    ensures answer { outcome_of result.answer ≡ both (outcome_of below.entry.answer) (outcome_of so_far.entry.answer) }
+    ensures lowest { result.lowest ≡ (if is_missing (outcome_of below.entry.answer) then below.entry.place
+        else so_far.entry.lowest) }
+{
+    let lowest = match below.answer {
+        Answer::Missing(_) => below.place,
+        Answer::Yes | Answer::No => so_far.lowest,
+    };
+    ChainAnswer {
+        answer: both(below.answer, so_far.answer),
+        lowest,
+    }
+}
+
+/// The slots from the bottom up to those of a chain, of which the lowest that lacks a class names it. From the known
+/// place down they are not looked at.
 pub fn chain_assignable<'a, C: Classes>(
     from: &[VType<'a>],
     chains: &TypeChains<'a>,
     top: usize,
-    floor: usize,
+    known: KnownBelow<'a>,
     on_stack: bool,
     classes: &C,
-) -> Answer<'a>
-    requires { chain_answer (slot_answer (C.content classes.now) on_stack) (place on_stack) (map type_of from.now)
-        (types_at chains.now.links.items floor) ≡ yes }
-    ensures { outcome_of result ≡ chain_answer (slot_answer (C.content classes.now) on_stack) (place on_stack)
-        (map type_of from.now) (types_at chains.now.links.items top) }
+) -> ChainAnswer<'a>
+    requires { slots_answer (C.content classes.now) on_stack (map type_of from.now) chains.now.links.items known.place
+        ≡ outcome_of known.answer }
+    ensures answer { outcome_of result.answer
+        ≡ slots_answer (C.content classes.now) on_stack (map type_of from.now) chains.now.links.items top }
+    ensures lowest { (name : List ℕ) → outcome_of result.answer ≡ missing name
+        → IsLowest (C.content classes.now) on_stack (map type_of from.now) chains.now.links.items top name result.lowest
+        (outcome_of known.entry.answer) }
 {
     let mut at = top;
-    let mut so_far = Answer::Yes;
+    let mut so_far = ChainAnswer {
+        answer: Answer::Yes,
+        lowest: top,
+    };
     while let Some(link) = chains.link(at) {
-        if at == floor {
-            return so_far;
+        if at == known.place {
+            return with_below(known, so_far);
         }
         let slot = at_or_top(from, place_of(chains, link.below, on_stack));
         let answer = slot_assignable(&slot, &link.vtype, on_stack, classes);
         if let Answer::No = answer {
-            return Answer::No;
+            return ChainAnswer {
+                answer: Answer::No,
+                lowest: top,
+            };
         }
-        so_far = both(answer, so_far);
+        so_far = with_below(KnownBelow { place: at, answer }, so_far);
         at = link.below;
     }
     so_far

@@ -41,8 +41,9 @@ impl<'a> Working<'a> {
     ghost use Rattle.frames.specs.OperandStacks.{item};
     ghost use Rattle.frames.specs.Holders.{number_of};
     ghost use Rattle.hierarchy.specs.Answer.{outcome_of};
-    ghost use Rattle.frames.specs.FrameAssignable.{frame_answer};
-    ghost use Rattle.frames.specs.DeclaredTables.{declared_view, IsOf, AreKept, AreFit};
+    ghost use Rattle.frames.specs.Assignable.{type_answer};
+    ghost use Rattle.frames.specs.FrameAssignable.{list_answer, frame_answer};
+    ghost use Rattle.frames.specs.DeclaredTables.{declared_view, IsOf, AreKept};
     ghost use Rattle.frames.specs.StackFitting.{AreStackFitting, AreStackFittingFor};
     ghost use Rattle.frames.specs.declared.declared_frames.DeclaredFrames.{DeclaredFrames};
 
@@ -193,18 +194,17 @@ impl<'a> Working<'a> {
         set_all(locals, &mut self.locals)
     }
 
-    /// Whether this frame is assignable to a declared one (JVMS 4.10.1.4). Where its locals are known to fit another
-    /// frame of the same stack map, only the locals are compared that the two declared frames do not share; of its
-    /// items, only the items are compared that are not known to fit.
+    /// Whether this frame, whose locals have this answer, is assignable to a declared one (JVMS 4.10.1.4). Of its items,
+    /// only those are compared that are not known to fit.
     pub fn answer_for<C: Classes>(
         &self,
         declared: &Declared<'_, 'a>,
-        fits: Option<Declared<'_, 'a>>,
+        locals: Answer<'a>,
         items: &mut StackFitting,
         classes: &C,
     ) -> Answer<'a>
-        requires size { length (declared_view declared.now).locals ≡ length (held self.now).locals }
-        requires fits { IfSome fits (AreFit (C.content classes.now) declared.now (held self.now).locals) }
+        requires locals { outcome_of locals ≡ list_answer (type_answer (C.content classes.now)) (held self.now).locals
+            (declared_view declared.now).locals }
         requires items { AreStackFittingFor (C.content classes.now) declared.now
             (reverse (held self.now).stack) items.old }
         ensures told { outcome_of result
@@ -212,14 +212,7 @@ impl<'a> Working<'a> {
         ensures items { (t : DeclaredFrames) → IsOf t declared.now
             → AreStackFitting (C.content classes.now) t (reverse (held self.now).stack) items.new }
     {
-        items.answer(
-            declared,
-            self.locals(),
-            self.stack.types(),
-            self.flag,
-            fits,
-            classes,
-        )
+        items.answer(declared, locals, self.stack.types(), self.flag, classes)
     }
 
     /// Becomes a declared frame, in the memory that it has. Where it has the locals of another frame of the same stack

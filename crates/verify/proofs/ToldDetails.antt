@@ -32,14 +32,14 @@ use Rattle.verify.specs.Details.{DetailFact, arriving, taken, target, handler, e
 use Rattle.verify.specs.Coming.{FramesFact, frames_with, before, frame_if, going, met, frames_at}
 use Rattle.verify.specs.JudgedFrames.{entry_by, IsJudgedBy}
 use Rattle.verify.specs.DetailLaws.{told_numbers, IsTold, HasNoFormAt, DetailsAreTold}
-use Rattle.verify.proofs.Breaks.{conditions_are_fields, least_held, holds_front}
+use Rattle.verify.proofs.verdicts.Breaks.{conditions_are_fields, least_held, holds_front}
 use Rattle.verify.proofs.Declared.{none_least}
 use Rattle.verify.proofs.FullFrames.{after_length, declared_full}
 use Rattle.verify.proofs.FoundPlaces.{differs, targets_found, handlers_found, covering_found, refused_found}
 use Rattle.verify.proofs.Going.{IsEarly, IsCalm, ways}
 use Rattle.verify.proofs.Meeting.{frames_are, started_length}
 use Rattle.verify.proofs.Premises.{sound_of}
-use Rattle.verify.proofs.Refusing.{told}
+use Rattle.verify.proofs.verdicts.Refusing.{told}
 use Rattle.verify.proofs.Shown.{frames_are_judged}
 
 -- ---- numbers

@@ -38,28 +38,6 @@ fn stack_answer<'a, C: Classes>(caught: RefType<'a>, stack: &[VType<'a>], classe
     }
 }
 
-/// The locals of a frame to those of a declared one. They are not compared where they are known to fit them.
-fn declared_answer<'n, 'a, C: Classes>(
-    frame: &Working<'a>,
-    declared: &Declared<'n, 'a>,
-    frames: &'n DeclaredFrames<'a>,
-    known: &mut KnownLocals<'n, 'a>,
-    classes: &C,
-) -> Answer<'a>
-    requires size { length (declared_view declared.now).locals ≡ length (held frame.now).locals }
-    requires own { IsOf frames.now declared.now }
-    requires known { AreKnown (C.content classes.now) frames.now (held frame.now) known.old }
-    ensures told { outcome_of result
-        ≡ list_answer (type_answer (C.content classes.now)) (held frame.now).locals
-        (declared_view declared.now).locals }
-    ensures known { AreKnown (C.content classes.now) frames.now (held frame.now) known.new }
-{
-    if known.fits(declared, frames, frame, classes) {
-        return Answer::Yes;
-    }
-    declared.locals_answer(frame.locals(), classes)
-}
-
 /// The frame with what is caught alone on its stack, to a declared frame.
 pub fn frame_answer<'n, 'a, C: Classes>(
     caught: RefType<'a>,
@@ -86,7 +64,7 @@ pub fn frame_answer<'n, 'a, C: Classes>(
     if let Answer::No = stack {
         return Ok(Answer::No);
     }
-    let locals = declared_answer(frame, declared, frames, known, classes);
+    let locals = known.answer(declared, frames, frame, classes);
     Ok(both(locals, stack))
 }
 

@@ -67,10 +67,8 @@ impl<'n, 'a> Known<'n, 'a> {
         ensures told { outcome_of result
             ≡ frame_answer (C.content classes.now) (held frame.now) (declared_view declared.now) }
     {
-        if self.locals.fits(declared, frames, frame, classes) {
-            return frame.answer_for(declared, Some(*declared), &mut self.items, classes);
-        }
-        frame.answer_for(declared, None, &mut self.items, classes)
+        let locals = self.locals.answer(declared, frames, frame, classes);
+        frame.answer_for(declared, locals, &mut self.items, classes)
     }
 
     /// A frame becomes a declared one of a table.

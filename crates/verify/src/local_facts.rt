@@ -7,7 +7,7 @@ ghost use Rattle.frames.specs.VerificationType.{VerificationType, top};
 ghost use Rattle.frames.specs.declared.declared_frames.DeclaredFrames.{DeclaredFrames};
 
 use frames::{Declared, DeclaredFrames, Fitting, VType, is_object};
-use hierarchy::Classes;
+use hierarchy::{Answer, Classes};
 use insn::Act;
 use rules::{Working, stored_to};
 use std::alloc::{AllocError, Global};
@@ -32,7 +32,7 @@ pub struct KnownLocals<'n, 'a> {
     /// The locals that were replaced, the earliest first.
     pub replaced: Vec<Replaced<'a>>,
     /// Which declared frames the locals fit.
-    pub fitting: Fitting,
+    pub fitting: Fitting<'a>,
 }
 
 impl<'n, 'a> KnownLocals<'n, 'a> {
@@ -90,23 +90,23 @@ impl<'n, 'a> KnownLocals<'n, 'a> {
         Some(from)
     }
 
-    /// Whether the locals of a frame are seen to fit those of a declared one. They may fit where the answer is no.
-    pub fn fits<C: Classes>(
+    /// Whether the locals of a frame may stand where those of a declared one are wanted (JVMS 4.10.1.4).
+    pub fn answer<C: Classes>(
         &mut self,
         declared: &Declared<'n, 'a>,
         frames: &DeclaredFrames<'a>,
         frame: &Working<'a>,
         classes: &C,
-    ) -> bool
+    ) -> Answer<'a>
         requires size { length (declared_view declared.now).locals ≡ length (held frame.now).locals }
         requires own { IsOf frames.now declared.now }
         requires known { AreKnown (C.content classes.now) frames.now (held frame.now) self.old }
         ensures known { AreKnown (C.content classes.now) frames.now (held frame.now) self.new }
-        ensures fit { result ≡ true → list_answer (type_answer (C.content classes.now)) (held frame.now).locals
-            (declared_view declared.now).locals ≡ yes }
+        ensures told { outcome_of result ≡ list_answer (type_answer (C.content classes.now)) (held frame.now).locals
+            (declared_view declared.now).locals }
     {
         let _frames = frames;
-        self.fitting.fits(declared, frame.locals(), classes)
+        self.fitting.answer(declared, frame.locals(), classes)
     }
 
     // Puts the locals that were replaced back, the latest first.

@@ -15,5 +15,5 @@ pub returns : goal.returns
 returns c = λ classes t locals all a.
     let up : c.args.place ≡ suc (c.args.place - 1) = omega (arith, c.if-place-eq0.false) in
     seen_one classes t locals c.args.self.now _ (c.args.place - 1) c.ok.result refl refl refl
-    (λ moment e. let same = told _ c.len-2.result c.try_from.result c.try_from.ensures moment (sym c.ok.ensures.value ∙ e) in omega (arith, same, c.len-2.ensures, c.args.self.now.changes.ok.0))
+    (λ moment e. let same = told _ c.len-2.result c.try_from.result c.try_from.ensures moment (sym c.ok.ensures.value ∙ e) in omega (arith, same, c.len-2.ensures, c.args.self.now.changes.ok.0)) refl refl
     (subst (λ p. FitAll false classes locals (types_at t.chains.links.items p)) up all) a

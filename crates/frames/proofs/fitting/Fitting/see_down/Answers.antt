@@ -15,3 +15,11 @@ loop-link-preserved c = λ classes t locals same all a.
       lower_all false classes locals links c.args.chains.now.linked c.loop-link.at c.in-Some.link (sym c.link.ensures ∙ c.in-Some.is) now.0,
       c.see.ensures classes t locals (subst (λ l. FitAll false classes locals (types_at l c.loop-link.at)) (sym same) now.0) now.1,
     )
+
+pub returns-then-at-floor : goal.returns-then-at-floor
+returns-then-at-floor c = λ classes t locals same all a.
+    let now = c.loop-link.invariant classes t locals same all a in
+    c.see.ensures classes t locals (subst (λ l. FitAll false classes locals (types_at l c.loop-link.at)) (sym same) now.0) now.1
+
+pub returns : goal.returns
+returns c = λ classes t locals same all a. (c.loop-link.invariant classes t locals same all a).1

@@ -7,11 +7,11 @@ use Rattle.frames.proofs.Fits.{yes_all}
 use Rattle.frames.proofs.StackFits.{stack_known_for}
 use Rattle.frames.proofs.stack_fitting.StackFitting.answer.Goals as goal
 
-pub assignable_from-answer-requires-clause-floor : goal.assignable_from-answer-requires-clause-floor
+pub assignable_from-answer-requires : goal.assignable_from-answer-requires
 unfolding IsOf
-assignable_from-answer-requires-clause-floor g c =
+assignable_from-answer-requires g c =
     let known = c.requires.known in
-    c.floor-floor.ensures (g.C.Classes.content c.args.classes.now) known.table (map type_of c.args.stack.now) (sym known.own.0) known.fitting
+    record { floor = c.floor-floor.ensures (g.C.Classes.content c.args.classes.now) known.table (map type_of c.args.stack.now) (sym known.own.0) known.fitting }
 
 pub returns-in-Yes-clause-known : goal.returns-in-Yes-clause-known
 unfolding IsOf

@@ -10,13 +10,15 @@ use Rattle.rules.proofs.working.Working.answer_for.Goals as goal
 upwards : (types : List VType) (stack : List VerificationType) → reverse (map type_of types) ≡ stack → reverse stack ≡ map type_of types
 upwards types stack e = ap reverse (sym e) ∙ reverse-reverse (map type_of types)
 
-pub answer-requires-clause-known : goal.answer-requires-clause-known
-answer-requires-clause-known g c =
+pub answer-requires : goal.answer-requires
+answer-requires g c =
     let known = c.requires.items in
     record {
-      table = known.table;
-      own = known.own;
-      fitting = subst (λ ts. AreStackFitting (g.C.Classes.content c.args.classes.now) known.table ts c.args.items.now) (upwards c.types.result.now (held c.args.self.now).stack c.types.ensures) known.fitting;
+      known = record {
+        table = known.table;
+        own = known.own;
+        fitting = subst (λ ts. AreStackFitting (g.C.Classes.content c.args.classes.now) known.table ts c.args.items.now) (upwards c.types.result.now (held c.args.self.now).stack c.types.ensures) known.fitting;
+      };
     }
 
 pub returns-clause-items : goal.returns-clause-items

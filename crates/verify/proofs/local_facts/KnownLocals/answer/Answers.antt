@@ -3,10 +3,10 @@ use Rattle.frames.specs.HeldFrames.{held_locals}
 use Rattle.frames.specs.DeclaredTables.{declared_view}
 use Rattle.frames.specs.Fitting.{AreFitting}
 use Rattle.rules.specs.Held.{held}
-use Rattle.verify.proofs.local_facts.KnownLocals.fits.Goals as goal
+use Rattle.verify.proofs.local_facts.KnownLocals.answer.Goals as goal
 
-pub fits-requires : goal.fits-requires
-fits-requires g c =
+pub answer-requires : goal.answer-requires
+answer-requires g c =
     let declared = (declared_view c.args.declared.now).locals in
     let same : held_locals c.locals.result.now (length declared) ≡ (held c.args.frame.now).locals = ap (held_locals c.locals.result.now) c.requires.size ∙ c.locals.ensures.same in
     record {
