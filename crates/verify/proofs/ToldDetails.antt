@@ -40,7 +40,7 @@ use Rattle.verify.proofs.Going.{IsEarly, IsCalm, ways}
 use Rattle.verify.proofs.Meeting.{frames_are, started_length}
 use Rattle.verify.proofs.Premises.{sound_of}
 use Rattle.verify.proofs.verdicts.Refusing.{told}
-use Rattle.verify.proofs.Shown.{frames_are_judged}
+use Rattle.verify.proofs.verdicts.Shown.{frames_are_judged}
 
 -- ---- numbers
 
