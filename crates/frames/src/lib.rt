@@ -11,7 +11,7 @@
 //! - `declared_frames`: the frames that a stack map declares.
 //! - `declaring`: these frames made from the entries, and the first entry that is refused.
 //! - `difference`: what differs first of two frames, and where a class is missing first.
-//! - `faulty_entry`: the entry that bytes do not spell.
+//! - `entry_faults`: the entry that bytes do not spell.
 //! - `fitting`: which declared frames running locals are known to fit.
 //! - `frame`: frames.
 //! - `frame_fault`: why an entry is refused.
@@ -42,7 +42,7 @@ mod constants;
 mod declared_frames;
 mod declaring;
 mod difference;
-mod faulty_entry;
+mod entry_faults;
 mod fitting;
 mod frame;
 mod frame_assignability;
@@ -73,7 +73,7 @@ pub use code_starts::CodeStarts;
 pub use declared_frames::{Declared, DeclaredFrames};
 pub use declaring::{RefusedEntry, declare, refused_entry};
 pub use difference::{Difference, Mismatch, Sought, first_difference, first_missing, is_sought};
-pub use faulty_entry::faulty_entry;
+pub use entry_faults::faulty_entry;
 pub use fitting::Fitting;
 pub use frame::Frame;
 pub use frame_assignability::{both, frame_assignable, width};

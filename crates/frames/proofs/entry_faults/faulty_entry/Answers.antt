@@ -1,7 +1,7 @@
 use Rattle.std.proofs.Common.{◌∙◌}
 use Rattle.frames.specs.MapViews.{entry_of}
 use Rattle.frames.proofs.FaultyEntries.{faulty_next}
-use Rattle.frames.proofs.faulty_entry.faulty_entry.Goals as goal
+use Rattle.frames.proofs.entry_faults.faulty_entry.Goals as goal
 
 pub loop-place-preserved : goal.loop-place-preserved
 loop-place-preserved c =
