@@ -16,6 +16,7 @@ pub mod Breaks
 pub mod FullFrames
 pub mod FoundPlaces
 pub mod ToldDetails
+pub mod ToldEntries
 pub mod MapReading
 pub mod Decoded
 pub mod Caught
