@@ -8,6 +8,7 @@ pub mod Premises
 pub mod FullFrames
 pub mod FoundPlaces
 pub mod ToldDetails
+pub mod ToldEntries
 pub mod MapReading
 pub mod Decoded
 pub mod Caught

@@ -1,7 +1,7 @@
 //! The meaning of the verdict on a method, and the breadth of class runs.
 ghost use Rattle.verify.specs.Breaks.{ConditionsAreFields, MapRefusedBreaks, RefusedBreaks};
 ghost use Rattle.verify.specs.Refusals.{MapRefusedWhere, RefusedWhere};
-ghost use Rattle.verify.specs.DetailLaws.{DetailsAreTold};
+ghost use Rattle.verify.specs.DetailLaws.{DetailsAreTold, MapDetailsAreTold};
 ghost use Rattle.verify.specs.FitsBreadth.{FitsBreadth};
 ghost use Rattle.verify.specs.ClassRunBreadth.{ClassRunBreadth};
 ghost use Rattle.verify.specs.JudgedFrames.{FramesAreJudged};
@@ -71,6 +71,12 @@ pub fn frames_are_judged()
 /// of an earlier pass is still on the stack.
 pub fn details_are_told()
     ensures { DetailsAreTold }
+{}
+
+/// Where a stack map is refused, it is told which entry is at fault, but where the number of the entries is cut, or
+/// bytes stand behind the last one.
+pub fn map_details_are_told()
+    ensures { MapDetailsAreTold }
 {}
 
 /// In the machine a type takes all values that the verifier lets it take: null, and what is of a type that is

@@ -87,9 +87,9 @@ pub use explanation::Explained;
 pub use files::{FileFault, FileRead, class_file};
 pub use frames_at::FramesAt;
 pub use laws::{
-    class_run_breadth, details_are_told, fits_breadth, frames_are_judged, map_refused_where,
-    one_frames, one_report, one_verdict, refused_breaks, refused_where, type_safe_is_verified,
-    verified_is_type_safe, walks_are_runs,
+    class_run_breadth, details_are_told, fits_breadth, frames_are_judged, map_details_are_told,
+    map_refused_where, one_frames, one_report, one_verdict, refused_breaks, refused_where,
+    type_safe_is_verified, verified_is_type_safe, walks_are_runs,
 };
 pub use method::verify_method;
 pub use play::{PlayFault, PlayRule, verify_play};

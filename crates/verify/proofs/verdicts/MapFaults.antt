@@ -117,7 +117,7 @@ faulty_map m body fault f (Err other) r =
     let there : MapFault body other = body_fault body other (reads stack_map 0 body) refl r in
     ap (λ (z : ReadFault). unreadable_map z) (one_whole_fault stack_map AttributeLength body other fault there f)
 
-fault_refused : (m : Method Act) (why : MapRefusal) → IsMapFault m why → frames_declared m ≡ Err why
+pub fault_refused : (m : Method Act) (why : MapRefusal) → IsMapFault m why → frames_declared m ≡ Err why
 fault_refused m (unreadable fault) (body, map, f) = ap (λ z. frames_of m (entries_read z)) map ∙ faulty_map m body fault f (entries_read (Some body)) refl
 fault_refused m (undeclared why) (entries, spelled, d) = ap (frames_of m) (entries_there m.stack_map entries spelled) ∙ ap or_undeclared d
 
