@@ -22,9 +22,8 @@ use Rattle.frames.specs.declared.fitting.Fitting.{Fitting}
 use Rattle.frames.specs.declared.fitting.Floor.{Floor}
 use Rattle.frames.specs.Fitting.{IsMarked, IsSeen, IsNoted, IsFloorBy, IsFloor, HasChanged, AreFitBut, FitAll, AreFitting, AreFittingFor, AreSameBut}
 use Rattle.frames.proofs.TypeChains.{types_step, types_bottom}
-use Rattle.frames.proofs.Walks.{locals_walked}
 use Rattle.frames.proofs.Finding.{locals_filled}
-use Rattle.frames.proofs.Comparison.{get_padded, chain_same, held_length, locals_are}
+use Rattle.frames.proofs.Comparison.{get_padded, chain_same, locals_are}
 use Rattle.frames.proofs.Sharing.{both_left, both_right}
 use Rattle.frames.proofs.Units.{not_empty, at_start, at_lower}
 

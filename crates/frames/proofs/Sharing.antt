@@ -1,26 +1,17 @@
 -- Places that two chains share, and frames of one table.
-use Rattle.std.proofs.Common.{◌≡◌, ◌≢◌, ◌∙◌, ℕ, zero, suc, ◌+◌, ◌-◌, ◌≤◌, false, List, [], ◌∷◌, ◌++◌, map, length, get_or, Option, Some, None, IfSome, MatchOption, refl, sym, ap, subst, arith}
+use Rattle.std.proofs.Common.{◌≡◌, ◌≢◌, ◌∙◌, ℕ, zero, suc, ◌+◌, ◌-◌, ◌≤◌, List, [], ◌∷◌, ◌++◌, length, Option, Some, None, refl, sym, ap, arith}
 use Rattle.std.proofs.lemmas.List.{length-append}
-use Rattle.hierarchy.specs.Class.{ClassFact}
 use Rattle.hierarchy.specs.Answer.{Outcome, yes, no, missing}
-use Rattle.frames.specs.declared.vtype.VType.{VType}
-use Rattle.frames.specs.VerificationType.{VerificationType, type_of, top}
+use Rattle.frames.specs.VerificationType.{VerificationType, type_of}
 use Rattle.frames.specs.Slots.{all_locals}
-use Rattle.frames.specs.Assignable.{type_answer}
-use Rattle.frames.specs.FrameAssignable.{both, slot_answer, item_answer, list_answer, stack_answer, flag_answer, frame_answer}
-use Rattle.frames.specs.FrameFact.{FrameFact}
-use Rattle.frames.specs.HeldFrames.{held_locals}
-use Rattle.frames.specs.TypeChains.{link_at, types_at, below_of, down, AreLinked, IsOn, LeadsTo, chain_answer, place}
-use Rattle.frames.specs.DeclaredViews.{locals_at, fact_of, IsInside}
+use Rattle.frames.specs.FrameAssignable.{both}
+use Rattle.frames.specs.TypeChains.{link_at, types_at, below_of, down, AreLinked, IsOn, LeadsTo, place}
+use Rattle.frames.specs.DeclaredViews.{locals_at, fact_of}
 use Rattle.frames.specs.DeclaredTables.{declared_view, IsOf, AreOfOne}
 use Rattle.frames.specs.declared.chain.Link.{Link}
 use Rattle.frames.specs.declared.declared_frames.DeclaredFrames.{DeclaredFrames}
 use Rattle.frames.specs.declared.declared_frames.Declared.{Declared}
 use Rattle.frames.proofs.TypeChains.{linked_lower, linked_skip, link_nowhere, types_step, types_none, types_bottom}
-use Rattle.frames.proofs.Frames.{list_itself}
-use Rattle.frames.proofs.Walks.{locals_walked}
-use Rattle.frames.proofs.Finding.{locals_filled}
-use Rattle.frames.proofs.Comparison.{padded}
 
 -- ---- down a chain
 

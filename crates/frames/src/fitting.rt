@@ -75,9 +75,9 @@ fn clear(notes: &mut Vec<Option<&[u8]>>, links: usize)
 }
 
 impl<'a> Fitting<'a> {
-    ghost use Rattle.std.specs.Prelude.{◌⊎◌, ◌≤◌, false, IfOk, OnOk};
+    ghost use Rattle.std.specs.Prelude.{◌≤◌, false, IfOk, OnOk};
     ghost use Rattle.hierarchy.specs.Class.{ClassFact};
-    ghost use Rattle.hierarchy.specs.Answer.{yes, missing};
+    ghost use Rattle.hierarchy.specs.Answer.{missing};
     ghost use Rattle.frames.specs.VerificationType.{VerificationType};
     ghost use Rattle.frames.specs.Assignable.{type_answer};
     ghost use Rattle.frames.specs.FrameAssignable.{list_answer};
@@ -85,7 +85,7 @@ impl<'a> Fitting<'a> {
     ghost use Rattle.frames.specs.DeclaredTables.{declared_view, IsOf, AreOfOne};
     ghost use Rattle.frames.specs.declared.declared_frames.DeclaredFrames.{DeclaredFrames};
     ghost use Rattle.frames.specs.Fitting.{HasChanged, IsSeen, IsNoted, IsFloor, FitAll, AreFitting, AreFittingFor, AreSameBut};
-    ghost use Rattle.frames.specs.TypeChains.{IsOn, IsLowest, below_of, link_at};
+    ghost use Rattle.frames.specs.TypeChains.{IsOn, IsLowest};
 
     /// Nothing is known yet of the frames of a table.
     pub fn new(alloc: Global, frames: &DeclaredFrames<'_>) -> Result<Fitting<'a>, AllocError>

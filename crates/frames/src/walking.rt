@@ -9,7 +9,7 @@ ghost use Rattle.frames.specs.Locals.{local};
 ghost use Rattle.frames.specs.TypeChains.{types_at, place, slots_answer, IsOn, IsLowest, one_set, AreBelow, AreTopFrom, AreOfChain};
 
 use crate::chain::TypeChains;
-use crate::frame_assignability::{both, slot_assignable, width};
+use crate::frame_assignability::{both, slot_assignable};
 use crate::locals::Locals;
 use crate::vtype::VType;
 use hierarchy::{Answer, Classes};

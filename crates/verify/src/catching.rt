@@ -1,13 +1,12 @@
 //! The frame in which an instruction raises, where an entry of the exception table leads (JVMS 4.10.1.6).
-ghost use Rattle.std.specs.Prelude.{◌≡◌, ◌≤◌, ◌∷◌, [], ℕ, true, get_or, length, map, reverse, option_map, IfOk, IfSome, OnOk};
+ghost use Rattle.std.specs.Prelude.{◌≡◌, ◌∷◌, [], true, get_or, length, map, reverse, IfOk};
 ghost use Rattle.hierarchy.specs.Answer.{outcome_of, yes};
 ghost use Rattle.names.specs.References.{reference_view};
 ghost use Rattle.frames.specs.VerificationType.{type_of, top};
 ghost use Rattle.frames.specs.Slots.{to_reference};
 ghost use Rattle.frames.specs.Assignable.{type_answer};
-ghost use Rattle.frames.specs.FrameAssignable.{item_answer, list_answer, stack_answer, frame_answer};
+ghost use Rattle.frames.specs.FrameAssignable.{item_answer, stack_answer, frame_answer};
 ghost use Rattle.frames.specs.DeclaredTables.{frames_in, locals_in, declared_view, IsOf};
-ghost use Rattle.frames.specs.HeldFrames.{held_locals};
 ghost use Rattle.rules.specs.After.{with_stack};
 ghost use Rattle.rules.specs.Held.{held};
 ghost use Rattle.verify.specs.private.ExceptionTables.{entry_view};

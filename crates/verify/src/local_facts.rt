@@ -36,14 +36,14 @@ pub struct KnownLocals<'n, 'a> {
 }
 
 impl<'n, 'a> KnownLocals<'n, 'a> {
-    ghost use Rattle.std.specs.Prelude.{◌≤◌, [], true, false, length, option_map, Some, None, IfSome, IfOk};
+    ghost use Rattle.std.specs.Prelude.{[], false, length, option_map, Some, None, IfSome, IfOk};
     ghost use Rattle.classfile.specs.Methods.{Method};
-    ghost use Rattle.hierarchy.specs.Answer.{yes, outcome_of};
+    ghost use Rattle.hierarchy.specs.Answer.{outcome_of};
     ghost use Rattle.insn.specs.Meanings as acts;
     ghost use Rattle.insn.specs.Views.{act_view};
     ghost use Rattle.frames.specs.DeclaredTables.{declared_view, IsOf, AreOfOne};
     ghost use Rattle.frames.specs.Assignable.{type_answer};
-    ghost use Rattle.frames.specs.FrameAssignable.{list_answer, frame_answer};
+    ghost use Rattle.frames.specs.FrameAssignable.{list_answer};
     ghost use Rattle.frames.specs.Fitting.{AreFitting};
     ghost use Rattle.frames.specs.Objects.{is_initialized};
     ghost use Rattle.frames.specs.VerificationType.{type_of};

@@ -1,13 +1,12 @@
-use Rattle.std.proofs.Common.{◌≡◌, ◌∙◌, if◌then◌else◌, map, get_or, sym, ap, subst}
+use Rattle.std.proofs.Common.{◌≡◌, ◌∙◌, map, get_or, sym, ap, subst}
 use Rattle.hierarchy.specs.Answer.{outcome_of}
 use Rattle.frames.specs.VerificationType.{type_of, top}
-use Rattle.frames.specs.Differences.{is_missing}
 use Rattle.frames.specs.FrameAssignable.{both, slot_answer}
-use Rattle.frames.specs.TypeChains.{types_at, slots_answer, chain_answer, place, below_of, IsOn, IsLowest}
+use Rattle.frames.specs.TypeChains.{types_at, slots_answer, place, below_of, IsLowest}
 use Rattle.frames.proofs.TypeChains.{linked_lower}
 use Rattle.frames.proofs.Sharing.{on_itself, on_below}
 use Rattle.frames.proofs.Comparison.{walk_begins, walk_goes_on, walk_says_no, walk_ends}
-use Rattle.frames.proofs.Lacking.{IsKnownSoFar, yes_not_missing, no_not_missing, one_link, one_lower, at_known, at_bottom}
+use Rattle.frames.proofs.Lacking.{yes_not_missing, no_not_missing, one_link, one_lower, at_known, at_bottom}
 use Rattle.frames.proofs.walking.chain_assignable.Goals as goal
 
 pub loop-link-init : goal.loop-link-init

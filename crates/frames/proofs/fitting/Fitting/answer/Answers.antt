@@ -1,4 +1,4 @@
-use Rattle.std.proofs.Common.{◌≡◌, ◌≤◌, ◌∙◌, length, map, sym, ap, arith}
+use Rattle.std.proofs.Common.{◌≤◌, ◌∙◌, length, map, sym, ap, arith}
 use Rattle.hierarchy.specs.Answer.{outcome_of}
 use Rattle.frames.specs.VerificationType.{type_of}
 use Rattle.frames.specs.Assignable.{type_answer}

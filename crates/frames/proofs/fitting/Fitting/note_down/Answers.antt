@@ -1,5 +1,4 @@
-use Rattle.std.proofs.Common.{◌≡◌, ◌∙◌, false, sym, ap, subst}
-use Rattle.hierarchy.specs.Answer.{missing}
+use Rattle.std.proofs.Common.{◌∙◌, false, sym, ap}
 use Rattle.frames.specs.TypeChains.{slots_answer}
 use Rattle.frames.proofs.TypeChains.{linked_lower}
 use Rattle.frames.proofs.Sharing.{on_step}

@@ -1,4 +1,4 @@
-use Rattle.std.proofs.Common.{◌≡◌, ℕ, false, List}
+use Rattle.std.proofs.Common.{◌≡◌, false, List}
 use Rattle.hierarchy.specs.Class.{ClassFact}
 use Rattle.hierarchy.specs.Answer.{missing}
 use Rattle.frames.specs.VerificationType.{VerificationType}
