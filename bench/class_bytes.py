@@ -9,10 +9,14 @@ def utf8(text):
     return b"\x01" + struct.pack(">H", len(text)) + text
 
 
-def class_file(methods, names=()):
-    """A class K under java/lang/Object with these methods. Index 5 is `()V`, 6 `Code`, 7 `StackMapTable`, and from 8 on come the names."""
+def class_file(methods, names=(), other=None):
+    """A class K under java/lang/Object with these methods. Index 5 is `()V`, 6 `Code`, 7 `StackMapTable`, and from 8 on come the names; behind
+    them comes the name of another class, if there is one, and then that class."""
     pool = b"\x07\x00\x02" + utf8(b"K") + b"\x07\x00\x04" + utf8(b"java/lang/Object") + utf8(b"()V") + utf8(b"Code") + utf8(b"StackMapTable")
-    head = b"\xca\xfe\xba\xbe" + struct.pack(">HHH", 0, 52, POOL + len(names)) + pool + b"".join(map(utf8, names))
+    texts = [*names, *([other] if other else [])]
+    class_of_other = b"\x07" + struct.pack(">H", POOL + len(names)) if other else b""
+    count = POOL + len(texts) + bool(other)
+    head = b"\xca\xfe\xba\xbe" + struct.pack(">HHH", 0, 52, count) + pool + b"".join(map(utf8, texts)) + class_of_other
     return head + struct.pack(">HHHHHH", 0x21, 1, 3, 0, 0, len(methods)) + b"".join(methods) + bytes(2)
 
 

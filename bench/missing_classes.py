@@ -1,0 +1,54 @@
+"""Class files with one instruction under very many handlers, or with very many targets, whose frames ask for a class that is missing, for
+`bench/hostile`. The class K comes in local 0, and Y is declared there."""
+import struct
+
+from class_bytes import POOL, class_file, handler, method, stack_map
+
+RETURN, NOP, ICONST_0 = b"\xb1", b"\x00", b"\x03"
+INT = b"\x01"
+OWN, MISSING = b"\x07" + struct.pack(">H", 1), b"\x07" + struct.pack(">H", POOL + 2)  # behind the one name of a method and that of Y
+TOP_ON_STACK, APPEND_INT, CHOP_ONE = b"\x40\x00", b"\xfc\x00\x00\x01", b"\xfa\x00\x00"
+
+
+def full_frame(delta, first, locals_given, stack_given=b""):
+    """An entry that gives so many locals: this type, and ints behind it."""
+    return b"\xff" + struct.pack(">HH", delta, locals_given) + first + INT * (locals_given - 1) + struct.pack(">H", len(stack_given)) + stack_given
+
+
+def refused(at):
+    return b"method m0 ()V refused 77 at %d missing Y\n" % at
+
+
+def made(code, max_locals, entries, handlers=()):
+    return class_file([method(POOL, code, 1, max_locals, stack_map(entries), handlers)], [b"m0"], b"Y")
+
+
+def targets(cases, returns, locals_given, behind_first):
+    """A switch to so many frames: the first one, and those that come of these entries in turn."""
+    behind = 16 + 4 * cases  # the switch stands at 2
+    to = b"".join(struct.pack(">i", behind + i % returns - 2) for i in range(cases))
+    code = RETURN + ICONST_0 + b"\xaa\x00" + struct.pack(">iii", behind - 2, 0, cases - 1) + to + RETURN * returns
+    others = [behind_first[i % len(behind_first)] for i in range(returns - 1)]
+    first = [full_frame(1, OWN, locals_given), full_frame(behind - 2, MISSING, locals_given)]
+    return made(code, locals_given + 1, first + others), refused(2)
+
+
+def handlers(count, locals_given):
+    """An instruction under so many handlers, whose frames have the same locals."""
+    entries = [full_frame(1, OWN, locals_given), full_frame(0, MISSING, locals_given, b"\x00"), *[TOP_ON_STACK] * (count - 1)]
+    return made(RETURN + NOP + RETURN * count, locals_given, entries, [handler(1, 2, 2 + i) for i in range(count)]), refused(1)
+
+
+def appending_handlers(count, locals_given):
+    """An instruction under so many handlers, each of whose frames has one local more than the one before."""
+    entries = [full_frame(1, OWN, locals_given + count), full_frame(0, MISSING, locals_given, b"\x00"), *[APPEND_INT, TOP_ON_STACK] * (count - 1)]
+    return made(RETURN + NOP + RETURN * 2 * count, locals_given + count, entries, [handler(1, 2, 2 + 2 * i) for i in range(count)]), refused(1)
+
+
+# by its name: a file, and what is printed
+FILES = {
+    "a switch to 1,500 frames of 65,000 locals that ask for a missing class": lambda: targets(15000, 1500, 65000, [b"\x00"]),
+    "a switch to 1,500 such frames that append a local and chop it in turn": lambda: targets(15000, 1500, 65000, [APPEND_INT, CHOP_ONE]),
+    "4,000 handlers of frames of 60,000 locals that ask for a missing class": lambda: handlers(4000, 60000),
+    "2,700 such handlers whose frames have a local more each": lambda: appending_handlers(2700, 60000),
+}
