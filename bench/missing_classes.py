@@ -29,7 +29,7 @@ def targets(cases, returns, locals_given, behind_first):
     to = b"".join(struct.pack(">i", behind + i % returns - 2) for i in range(cases))
     code = RETURN + ICONST_0 + b"\xaa\x00" + struct.pack(">iii", behind - 2, 0, cases - 1) + to + RETURN * returns
     others = [behind_first[i % len(behind_first)] for i in range(returns - 1)]
-    first = [full_frame(1, OWN, locals_given), full_frame(behind - 2, MISSING, locals_given)]
+    first = [full_frame(1, OWN, locals_given + 1), full_frame(behind - 2, MISSING, locals_given)]
     return made(code, locals_given + 1, first + others), refused(2)
 
 
