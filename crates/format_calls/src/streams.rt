@@ -137,8 +137,8 @@ fn memory_for_a_class(rt: HostRuntime) {
 
 /// Whether K with one byte changed is cut short behind so many bytes, for this reason.
 fn is_changed(alloc: Global, place: usize, byte: u8, taken: usize, why: ReadFault) -> bool
-    requires { place < 97 }
-    requires { taken ≤ 97 }
+    requires place { place < 97 }
+    requires taken { taken ≤ 97 }
 {
     let mut bytes = K;
     bytes[place] = byte;
@@ -210,8 +210,9 @@ fn numbers_of_a_stream(rt: HostRuntime) {
     assert!(rt; matches!(reading.u1(&mut reader), Ok(1)));
     assert!(rt; matches!(reading.u2(&mut reader), Ok(0x0203)));
     assert!(rt; matches!(reading.more(&mut reader, 2), Ok(2)));
-    let part = reading.part(&mut reader, 3);
-    assert!(rt; is_refused(part, 7, ReadFault::EndsEarly { at: 5 }));
+    let taken = 7;
+    let why = ReadFault::EndsEarly { at: 5 };
+    assert!(rt; reading.part(&mut reader, 3) == Err(StreamFault { taken, why }));
     assert!(rt; reading.bytes().len() == 7);
 }
 
