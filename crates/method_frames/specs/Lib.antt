@@ -1,2 +1,3 @@
 pub mod TypeRows
+pub mod NumberedStacks
 pub mod private

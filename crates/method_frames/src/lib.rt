@@ -1,9 +1,16 @@
 //! The frames of one method, with types by their numbers: the running frame, which instructions change, and the declared
 //! frames, which stay as they are.
 //!
+//! - `items`: the items of an operand stack.
+//! - `stack_rows`: operand stacks, of the running frame and of the declared frames, and the answer of one to another.
 //! - `type_rows`: rows of types, of the running frame and of the declared frames, and the answer of one to another.
+//! - `widths`: how many units types take.
 #![tactic(auto)]
 
+mod items;
+mod stack_rows;
 mod type_rows;
+mod widths;
 
+pub use stack_rows::StackRows;
 pub use type_rows::TypeRows;
