@@ -3,3 +3,8 @@ pub mod Knowing
 pub mod Answering
 pub mod Walking
 pub mod Counting
+pub mod StackGiven
+pub mod StackWriting
+pub mod StackAnswers
+pub mod Heights
+pub mod Stacks

@@ -34,7 +34,7 @@ pub record AreStacks (items : List ℕ) (rows : NumberedRows) (written high : �
   pub low : high ≤ length rows.running
   pub same : (place : ℕ) → place < written → slice_index rows.running place ≡ slice_index (reverse items) place
   pub tops : (place : ℕ) → high ≤ place → slice_index rows.running place ≡ 0
-  pub heights : (k : ℕ) (h : Height) → slice_get heights k ≡ Some h → IsHeight rows h
+  pub declared : (k : ℕ) (h : Height) → slice_get heights k ≡ Some h → IsHeight rows h
 
 -- the running row has changed at places from one on and in front of another one only, if at all
 pub record Changes (from to : ℕ) (old new : NumberedRows) : Type 0 where

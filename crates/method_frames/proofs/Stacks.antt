@@ -1,0 +1,118 @@
+-- Operand stacks as they are kept, and as they change.
+use Rattle.std.proofs.Common.{◌≡◌, ◌∙◌, ℕ, ◌+◌, ◌<◌, ◌≤◌, List, [], ◌∷◌, ◌++◌, Some, length, map, take, get_or, slice_get, reverse, Result, Ok, Err, OnOk, OnErr, refl, sym, ap, subst, inl, inr, arith}
+use Rattle.std.proofs.lemmas.Bool.{cases_lt}
+use Rattle.std.proofs.lemmas.List.{length-reverse, length-take-le, get_or_append_left, get_or_past, get_or-take, reverse-append, reverse-reverse}
+use Rattle.type_numbers.specs.Numbers.{IsGiven}
+use Rattle.method_frames.specs.TypeRows.{NumberedRows, declared_in}
+use Rattle.method_frames.specs.NumberedStacks.{NumberedStacks}
+use Rattle.method_frames.specs.private.Known.{AreGiven}
+use Rattle.method_frames.specs.private.Stacks.{stack_at, stacks_of, IsHeight, AreStacks, Changes, Holds}
+use Rattle.method_frames.specs.declared.stack_rows.Height.{Height}
+use Rattle.method_frames.proofs.StackGiven.{pushed_given, popped_given}
+use Rattle.method_frames.proofs.Heights.{height_kept}
+
+-- one more on top leaves what is beneath
+beneath : (xs : List ℕ) (n k : ℕ) → k < length xs → get_or (reverse (n ∷ xs)) k 0 ≡ get_or (reverse xs) k 0
+beneath xs n k lt =
+    let long = length-reverse xs in
+    ap (λ ys. get_or ys k 0) (reverse-append (n ∷ []) xs) ∙ get_or_append_left (reverse xs) (n ∷ []) 0 k (omega (arith, lt, long))
+
+pub stacks_popped : (items new : List ℕ) (n : ℕ) (rows : NumberedRows) (written high less : ℕ) (hs : List Height) → items ≡ n ∷ new → AreStacks items rows written high hs
+    → less ≤ written → less ≤ length new → AreStacks new rows less high hs
+stacks_popped items new n rows written high less hs e k le few = record {
+  given = popped_given rows.types new n (subst (AreGiven rows.types) e k.given);
+  few = few;
+  low = k.low;
+  same = λ p lt. k.same p (omega (arith, lt, le)) ∙ ap (λ xs. get_or (reverse xs) p 0) e ∙ beneath new n p (omega (arith, lt, few));
+  tops = k.tops;
+  declared = k.declared;
+}
+
+pub stacks_pushed : (items : List ℕ) (n : ℕ) (rows : NumberedRows) (written high : ℕ) (hs : List Height) → AreStacks items rows written high hs → IsGiven rows.types n → AreStacks (n ∷ items) rows written high hs
+stacks_pushed items n rows written high hs k given = record {
+  given = pushed_given rows.types items n k.given given;
+  few = omega (arith, k.few);
+  low = k.low;
+  same = λ p lt. k.same p lt ∙ sym (beneath items n p (omega (arith, lt, k.few)));
+  tops = k.tops;
+  declared = k.declared;
+}
+
+pub pushed_or_kept : {E : Type 0} (items new : List ℕ) (n : ℕ) (rows : NumberedRows) (written high : ℕ) (hs : List Height) (r : Result Unit E) → AreStacks items rows written high hs → IsGiven rows.types n
+    → OnOk r (new ≡ n ∷ items) → OnErr r (new ≡ items) → AreStacks new rows written high hs
+pushed_or_kept items new n rows written high hs (Ok u) k given ok err = subst (λ xs. AreStacks xs rows written high hs) (sym ok) (stacks_pushed items n rows written high hs k given)
+pushed_or_kept items new n rows written high hs (Err e) k given ok err = subst (λ xs. AreStacks xs rows written high hs) (sym err) k
+
+-- ---- the running row is written
+
+module _ (items : List ℕ) (rows new : NumberedRows) (written high to : ℕ) (hs : List Height) (k : AreStacks items rows written high hs) (c : Changes written to rows new) where
+  pub stacks_changed : (w h : ℕ) → w ≤ length items → h ≤ length rows.running → ((p : ℕ) → p < w → get_or new.running p 0 ≡ get_or (reverse items) p 0)
+      → ((p : ℕ) → h ≤ p → get_or new.running p 0 ≡ 0) → AreStacks items new w h hs
+  stacks_changed w h few low same tops = record {
+    given = subst (λ s. AreGiven s items) (sym (ap (λ r. r.types) c.rest)) k.given;
+    few = few;
+    low = omega (arith, low, c.even);
+    same = same;
+    tops = tops;
+    declared = λ j g e. height_kept rows new g (ap (λ r. r.declared) c.rest) c.even (k.declared j g e);
+  }
+
+  pub same_below : (p : ℕ) → p < written → get_or new.running p 0 ≡ get_or (reverse items) p 0
+  same_below p lt = c.below p lt ∙ k.same p lt
+
+  pub same_written : Holds items written to new → (p : ℕ) → p < to → get_or new.running p 0 ≡ get_or (reverse items) p 0
+  same_written held p lt = elim (cases_lt p written) [
+    | inl low ↦ same_below p low
+    | inr le ↦ held.here p le lt
+  ]
+
+  pub tops_above : (h : ℕ) → high ≤ h → to ≤ h → (p : ℕ) → h ≤ p → get_or new.running p 0 ≡ 0
+  tops_above h le above p lt = c.above p (omega (arith, above, lt)) ∙ k.tops p (omega (arith, le, lt))
+
+  -- all places up to the highest are written
+  pub tops_written : Holds items written to new → high ≤ to → (p : ℕ) → length items ≤ p → get_or new.running p 0 ≡ 0
+  tops_written held le p lt =
+      let long = length-reverse items in
+      elim (cases_lt p to) [
+        | inl low ↦ held.here p (omega (arith, k.few, lt)) low ∙ get_or_past (reverse items) p 0 (omega (arith, lt, long))
+        | inr high_up ↦ tops_above to le (omega arith) p high_up
+      ]
+
+  pub view_changed : (x : NumberedStacks) → stacks_of items rows hs ≡ x → stacks_of items new hs ≡ x
+  view_changed x is =
+      ap (λ r. stacks_of items r hs) c.rest
+      ∙ ap {B = NumberedStacks} (λ n. record { types = rows.types; limit = n; running = items; declared = map (stack_at rows) hs }) c.even ∙ is
+
+-- ---- the running row becomes a declared one
+
+module _ (items : List ℕ) (rows new : NumberedRows) (written high : ℕ) (hs : List Height) (k : AreStacks items rows written high hs) (h : Height) (height : IsHeight rows h) (e : new ≡ record rows { running = declared_in rows h.row }) where
+  row : new.running ≡ declared_in rows h.row
+  row = ap (λ r. r.running) e
+
+  pub taken_long : length new.running ≡ length rows.running
+  taken_long = ap length row ∙ height.even
+
+  pub taken_deep : h.depth ≤ length new.running
+  taken_deep = omega (arith, taken_long, height.depth)
+
+  pub stacks_taken : (its : List ℕ) (w : ℕ) → AreGiven new.types its → w ≤ length its → ((p : ℕ) → p < w → get_or new.running p 0 ≡ get_or (reverse its) p 0) → AreStacks its new w h.depth hs
+  stacks_taken its w given few same = record {
+    given = given;
+    few = few;
+    low = taken_deep;
+    same = same;
+    tops = λ p le. ap (λ r. get_or r p 0) row ∙ height.tops p le;
+    declared = λ j g q. height_kept rows new g (ap (λ r. r.declared) e) taken_long (k.declared j g q);
+  }
+
+  pub all_taken : (its : List ℕ) → AreGiven new.types its → its ≡ reverse (take h.depth new.running) → AreStacks its new h.depth h.depth hs
+  all_taken its given q =
+      let long : length its ≡ h.depth = ap length q ∙ length-reverse (take h.depth new.running) ∙ length-take-le h.depth new.running taken_deep in
+      stacks_taken its h.depth given (omega (arith, long))
+      (λ p lt. sym (ap (λ xs. get_or (reverse xs) p 0) q ∙ ap (λ xs. get_or xs p 0) (reverse-reverse (take h.depth new.running)) ∙ get_or-take h.depth new.running p 0 lt))
+
+  pub view_taken : (its : List ℕ) (x : NumberedStacks) → stacks_of items rows hs ≡ x → stacks_of its new hs ≡ record x { running = its }
+  view_taken its x is =
+      ap (λ r. stacks_of its r hs) e
+      ∙ ap {B = NumberedStacks} (λ n. record { types = rows.types; limit = n; running = its; declared = map (stack_at rows) hs }) height.even
+      ∙ ap {A = NumberedStacks} {B = NumberedStacks} (λ y. record y { running = its }) is
