@@ -25,7 +25,7 @@ height_kept rows new h d l k = record {
 }
 
 module _ (rows : NumberedRows) where
-  abbrev declared_more : NumberedRows
+  abbrev pub declared_more : NumberedRows
   declared_more = record rows { declared = rows.declared ++ rows.running ∷ [] }
 
   before : (h : Height) → IsHeight rows h → declared_in declared_more h.row ≡ declared_in rows h.row

@@ -8,3 +8,4 @@ pub mod StackWriting
 pub mod StackAnswers
 pub mod Heights
 pub mod Stacks
+pub mod StackComparing

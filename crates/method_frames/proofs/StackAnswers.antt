@@ -62,7 +62,7 @@ module _ (classes : List ClassFact) where
   item_no a b e = ap (both (yes_if (width_of a == width_of b))) e ∙ both_no (yes_if (width_of a == width_of b))
 
   item_even : (a b : VerificationType) → width_of a ≡ width_of b → item a b ≡ type a b
-  item_even a b e = ap (λ t. both (yes_if t) (type a b)) (eq-eqb e)
+  item_even a b e = ap (λ t. both (yes_if t) (type a b)) (eq-eqb (width_of a) (width_of b) e)
 
   item_uneven : (a b : VerificationType) → width_of a ≢ width_of b → item a b ≡ no
   item_uneven a b ne = ap (λ t. both (yes_if t) (type a b)) (ne_eqb (width_of a) (width_of b) ne)

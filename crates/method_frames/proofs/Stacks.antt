@@ -2,14 +2,16 @@
 use Rattle.std.proofs.Common.{◌≡◌, ◌∙◌, ℕ, ◌+◌, ◌<◌, ◌≤◌, List, [], ◌∷◌, ◌++◌, Some, length, map, take, get_or, slice_get, reverse, Result, Ok, Err, OnOk, OnErr, refl, sym, ap, subst, inl, inr, arith}
 use Rattle.std.proofs.lemmas.Bool.{cases_lt}
 use Rattle.std.proofs.lemmas.List.{length-reverse, length-take-le, get_or_append_left, get_or_past, get_or-take, reverse-append, reverse-reverse}
-use Rattle.type_numbers.specs.Numbers.{IsGiven}
+use Rattle.frames.specs.Slots.{units_of}
+use Rattle.type_numbers.specs.Numbers.{Numbering, IsGiven}
+use Rattle.type_numbers.specs.Decoding.{types_by}
 use Rattle.method_frames.specs.TypeRows.{NumberedRows, declared_in}
 use Rattle.method_frames.specs.NumberedStacks.{NumberedStacks}
 use Rattle.method_frames.specs.private.Known.{AreGiven}
 use Rattle.method_frames.specs.private.Stacks.{stack_at, stacks_of, IsHeight, AreStacks, Changes, Holds}
 use Rattle.method_frames.specs.declared.stack_rows.Height.{Height}
 use Rattle.method_frames.proofs.StackGiven.{pushed_given, popped_given}
-use Rattle.method_frames.proofs.Heights.{height_kept}
+use Rattle.method_frames.proofs.Heights.{height_kept, declared_more, height_before, stacks_before, heights_now, stacks_now}
 
 -- one more on top leaves what is beneath
 beneath : (xs : List ℕ) (n k : ℕ) → k < length xs → get_or (reverse (n ∷ xs)) k 0 ≡ get_or (reverse xs) k 0
@@ -116,3 +118,63 @@ module _ (items : List ℕ) (rows new : NumberedRows) (written high : ℕ) (hs :
       ap (λ r. stacks_of its r hs) e
       ∙ ap {B = NumberedStacks} (λ n. record { types = rows.types; limit = n; running = its; declared = map (stack_at rows) hs }) height.even
       ∙ ap {A = NumberedStacks} {B = NumberedStacks} (λ y. record y { running = its }) is
+
+-- ---- one more is declared
+
+-- all items are written, with Top above
+pub stacks_level : (items : List ℕ) (rows new : NumberedRows) (written high to : ℕ) (hs : List Height) → AreStacks items rows written high hs → Changes written to rows new → Holds items written to new
+    → high ≤ to → length items ≤ to → to ≤ length rows.running → (depth : ℕ) → depth ≡ length items → AreStacks items new depth depth hs
+stacks_level items rows new written high to hs k c held le long low depth d =
+    stacks_changed items rows new written high to hs k c depth depth (omega (arith, d)) (omega (arith, d, long, low))
+    (λ p lt. same_written items rows new written high to hs k c held p (omega (arith, lt, d, long)))
+    (λ p lt. tops_written items rows new written high to hs k c held le p (omega (arith, lt, d)))
+
+module _ (items : List ℕ) (rows : NumberedRows) (written high : ℕ) (hs : List Height) (k : AreStacks items rows written high hs) (new : NumberedRows) (e : new ≡ declared_more rows) (news : List Height) where
+  -- the row alone
+  module _ (q : news ≡ hs) where
+    pub stacks_more : AreStacks items new written high news
+    stacks_more =
+        let more : AreStacks items (declared_more rows) written high hs = record {
+          given = k.given;
+          few = k.few;
+          low = k.low;
+          same = k.same;
+          tops = k.tops;
+          declared = λ j g f. height_before rows g (k.declared j g f);
+        } in
+        subst (λ r. AreStacks items r written high news) (sym e) (subst (λ gs. AreStacks items (declared_more rows) written high gs) (sym q) more)
+
+    pub view_more : (x : NumberedStacks) → stacks_of items rows hs ≡ x → stacks_of items new news ≡ x
+    view_more x is =
+        ap (λ r. stacks_of items r news) e ∙ ap (stacks_of items (declared_more rows)) q
+        ∙ ap {B = NumberedStacks} (λ ds. record { types = rows.types; limit = length rows.running; running = items; declared = ds }) (stacks_before rows hs k.declared) ∙ is
+
+  -- and how high it is
+  module _ (h : Height) (row : h.row ≡ length rows.declared) (deep : h.depth ≡ length items) (level : written ≡ length items) (top : high ≡ length items)
+      (units : (s : Numbering) → units_of (types_by s items) ≡ length items + h.wides) (q : news ≡ hs ++ h ∷ []) where
+    few : length items ≤ length rows.running
+    few = omega (arith, k.low, top)
+
+    same : (p : ℕ) → p < length items → get_or rows.running p 0 ≡ get_or (reverse items) p 0
+    same p lt = k.same p (omega (arith, lt, level))
+
+    tops : (p : ℕ) → length items ≤ p → get_or rows.running p 0 ≡ 0
+    tops p le = k.tops p (omega (arith, le, top))
+
+    pub stacks_declared : AreStacks items new written high news
+    stacks_declared =
+        let more : AreStacks items (declared_more rows) written high (hs ++ h ∷ []) = record {
+          given = k.given;
+          few = k.few;
+          low = k.low;
+          same = k.same;
+          tops = k.tops;
+          declared = heights_now rows items h row deep few same tops units hs k.declared;
+        } in
+        subst (λ r. AreStacks items r written high news) (sym e) (subst (λ gs. AreStacks items (declared_more rows) written high gs) (sym q) more)
+
+    pub view_declared : (x : NumberedStacks) → stacks_of items rows hs ≡ x → stacks_of items new news ≡ record x { declared = x.declared ++ x.running ∷ [] }
+    view_declared x is =
+        ap (λ r. stacks_of items r news) e ∙ ap (stacks_of items (declared_more rows)) q
+        ∙ ap {B = NumberedStacks} (λ ds. record { types = rows.types; limit = length rows.running; running = items; declared = ds }) (stacks_now rows items h row deep few same tops units hs k.declared)
+        ∙ ap {A = NumberedStacks} {B = NumberedStacks} (λ y. record y { declared = y.declared ++ y.running ∷ [] }) is
