@@ -2,15 +2,18 @@
 //! frames, which stay as they are.
 //!
 //! - `items`: the items of an operand stack.
+//! - `method`: the frames of a method, put together of the others.
 //! - `stack_rows`: operand stacks, of the running frame and of the declared frames, and the answer of one to another.
 //! - `type_rows`: rows of types, of the running frame and of the declared frames, and the answer of one to another.
 //! - `widths`: how many units types take.
 #![tactic(auto)]
 
 mod items;
+mod method;
 mod stack_rows;
 mod type_rows;
 mod widths;
 
+pub use method::MethodFrames;
 pub use stack_rows::StackRows;
 pub use type_rows::TypeRows;

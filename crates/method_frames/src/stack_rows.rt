@@ -153,9 +153,10 @@ impl<'t, 'n, C: Classes, S: BuildHasher> StackRows<'t, 'n, C, S> {
         self.written = 0;
     }
 
-    /// Declares a stack that holds what the running one does. The only refusal is 1.
-    pub fn declare(&mut self) -> Result<(), AllocError>
+    /// Declares a stack that holds what the running one does, and tells its place. The only refusal is 1.
+    pub fn declare(&mut self) -> Result<usize, AllocError>
         requires { length self.old.running ≤ self.old.limit }
+        ensures place { IfOk result (λ stack. stack ≡ length self.old.declared) }
         ensures ok { OnOk result (self.new
             ≡ record self.old { declared = self.old.declared ++ self.old.running ∷ [] }) }
         ensures err { OnErr result (self.new ≡ self.old) }
@@ -170,8 +171,9 @@ impl<'t, 'n, C: Classes, S: BuildHasher> StackRows<'t, 'n, C, S> {
             depth,
             wides: self.items.wides(),
         };
+        let stack = self.declared.len();
         self.declared.push(height)?;
-        Ok(())
+        Ok(stack)
     }
 
     /// The running stack becomes a declared one, item by item. The only refusal is 1, and nothing is said of the running
