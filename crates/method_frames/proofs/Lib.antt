@@ -9,3 +9,5 @@ pub mod StackAnswers
 pub mod Heights
 pub mod Stacks
 pub mod StackComparing
+pub mod Offsets
+pub mod MethodParts

@@ -61,6 +61,13 @@ fn reach(offset: u16, places: &mut Vec<usize>) -> Result<(), AllocError>
     Ok(())
 }
 
+/// What a table has for an offset; 0 beyond its end.
+fn place_at(offset: u16, places: &[usize]) -> usize
+    ensures { result ≡ slice_index places.now offset }
+{
+    places.get(usize::from(offset)).copied().unwrap_or(0)
+}
+
 impl<'t, 'n, C: Classes, S: BuildHasher> MethodFrames<'t, 'n, C, S> {
     ghost use Rattle.std.specs.Prelude.{◌↔◌, ◌≤◌, [], ◌∷◌, ◌++◌, None, Some, IsTrue, replicate, slice_set, slice_get, IfOk, IfSome, IsSomeAnd, MatchOption, OnErr};
     ghost use Rattle.hierarchy.specs.Answer.{outcome_of};
@@ -211,10 +218,11 @@ impl<'t, 'n, C: Classes, S: BuildHasher> MethodFrames<'t, 'n, C, S> {
             (λ frame. IsSomeAnd (slice_get self.now.declared frame)
             (λ x. (x.0 ≡ offset) × (at_offset self.now.declared offset ≡ Some x.1))) }
     {
-        match self.places.get(usize::from(offset)) {
-            Some(&place) => place.checked_sub(1),
-            None => None,
+        let place = place_at(offset, &self.places);
+        if place == 0 {
+            return None;
         }
+        Some(place - 1)
     }
 
     /// The running frame becomes a declared one: its locals at once, its stack item by item.
