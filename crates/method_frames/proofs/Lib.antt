@@ -11,3 +11,4 @@ pub mod Stacks
 pub mod StackComparing
 pub mod Offsets
 pub mod MethodParts
+pub mod ItemMoves

@@ -77,6 +77,10 @@ pub stacks_pushed : {E : Type 0} (old new : NumberedStacks) (stack : List ℕ) (
 stacks_pushed old new stack (Ok u) ok err = stacks_run old new stack ok
 stacks_pushed old new stack (Err e) ok err = stacks_stay old new err
 
+pub stacks_moved : {E : Type 0} (old new : NumberedStacks) (stack : List ℕ) (r : Result Unit E) → OnOk r (new ≡ record old { running = stack }) → OnErr r (new ≡ record old { running = [] }) → StacksGrow old new
+stacks_moved old new stack (Ok u) ok err = stacks_run old new stack ok
+stacks_moved old new stack (Err e) ok err = stacks_run old new [] err
+
 pub stacks_popped : (old new : NumberedStacks) (r : Option ℕ) → MatchOption r ((old.running ≡ []) × (new ≡ old)) (λ n. old ≡ record new { running = n ∷ new.running }) → StacksGrow old new
 stacks_popped old new None h = stacks_stay old new h.1
 stacks_popped old new (Some n) h = record {

@@ -1,7 +1,9 @@
 -- Operand stacks as they are kept, and as they change.
-use Rattle.std.proofs.Common.{◌≡◌, ◌∙◌, ℕ, ◌+◌, ◌<◌, ◌≤◌, List, [], ◌∷◌, ◌++◌, Some, length, map, take, get_or, slice_get, reverse, Result, Ok, Err, OnOk, OnErr, refl, sym, ap, subst, inl, inr, arith}
+use Rattle.std.proofs.Common.{◌≡◌, ◌∙◌, ℕ, ◌+◌, ◌-◌, ◌<◌, ◌≤◌, List, [], ◌∷◌, ◌++◌, Some, length, map, take, drop, get_or, slice_get, reverse, Result, Ok, Err, OnOk, OnErr, refl, sym, ap, subst, inl, inr, arith}
 use Rattle.std.proofs.lemmas.Bool.{cases_lt}
-use Rattle.std.proofs.lemmas.List.{length-reverse, length-take-le, get_or_append_left, get_or_past, get_or-take, reverse-append, reverse-reverse}
+use Rattle.std.proofs.lemmas.List.{length-append, length-reverse, length-drop, length-take-le, take-append-drop, get_or_append_left, get_or_past, get_or-take, reverse-append, reverse-reverse}
+use Rattle.insn.specs.Acts.{StackForm}
+use Rattle.insn.specs.Stacks.{chosen, rearranged}
 use Rattle.frames.specs.Slots.{units_of}
 use Rattle.type_numbers.specs.Numbers.{Numbering, IsGiven}
 use Rattle.type_numbers.specs.Decoding.{types_by}
@@ -10,7 +12,7 @@ use Rattle.method_frames.specs.NumberedStacks.{NumberedStacks}
 use Rattle.method_frames.specs.private.Known.{AreGiven}
 use Rattle.method_frames.specs.private.Stacks.{stack_at, stacks_of, IsHeight, AreStacks, Changes, Holds}
 use Rattle.method_frames.specs.declared.stack_rows.Height.{Height}
-use Rattle.method_frames.proofs.StackGiven.{pushed_given, popped_given}
+use Rattle.method_frames.proofs.StackGiven.{pushed_given, popped_given, form_given, beneath_drop}
 use Rattle.method_frames.proofs.Heights.{height_kept, declared_more, height_before, stacks_before, heights_now, stacks_now}
 
 -- one more on top leaves what is beneath
@@ -44,6 +46,37 @@ pub pushed_or_kept : {E : Type 0} (items new : List ℕ) (n : ℕ) (rows : Numbe
     → OnOk r (new ≡ n ∷ items) → OnErr r (new ≡ items) → AreStacks new rows written high hs
 pushed_or_kept items new n rows written high hs (Ok u) k given ok err = subst (λ xs. AreStacks xs rows written high hs) (sym ok) (stacks_pushed items n rows written high hs k given)
 pushed_or_kept items new n rows written high hs (Err e) k given ok err = subst (λ xs. AreStacks xs rows written high hs) (sym err) k
+
+-- ---- items are moved
+
+module _ (form : StackForm) (items new : List ℕ) (e : new ≡ rearranged form items) (fits : length form.takes ≤ length items) where
+  abbrev left : List ℕ
+  left = drop (length form.takes) items
+
+  left_long : length (reverse left) ≡ length items - length form.takes
+  left_long = length-reverse left ∙ length-drop (length form.takes) items
+
+  parts : new ≡ chosen items form.leaves ++ left
+  parts = e ∙ ap (λ xs. chosen items form.leaves ++ xs) (beneath_drop form.takes items)
+
+  beneath_kept : (p : ℕ) → p < length items - length form.takes → get_or (reverse new) p 0 ≡ get_or (reverse items) p 0
+  beneath_kept p lt =
+      let low : p < length (reverse left) = omega (arith, lt, left_long) in
+      ap (λ xs. get_or (reverse xs) p 0) parts ∙ ap (λ xs. get_or xs p 0) (reverse-append (chosen items form.leaves) left) ∙ get_or_append_left (reverse left) (reverse (chosen items form.leaves)) 0 p low
+      ∙ sym (ap (λ xs. get_or (reverse xs) p 0) (sym (take-append-drop (length form.takes) items)) ∙ ap (λ xs. get_or xs p 0) (reverse-append (take (length form.takes) items) left)
+      ∙ get_or_append_left (reverse left) (reverse (take (length form.takes) items)) 0 p low)
+
+  pub stacks_rearranged : (rows : NumberedRows) (written high less : ℕ) (hs : List Height) → AreStacks items rows written high hs → less ≤ written → less ≤ length items - length form.takes → AreStacks new rows less high hs
+  stacks_rearranged rows written high less hs k le few =
+      let long : length new ≡ length (chosen items form.leaves) + length left = ap length parts ∙ length-append (chosen items form.leaves) left in
+      record {
+        given = subst (AreGiven rows.types) (sym e) (form_given rows.types form items k.given);
+        few = omega (arith, few, long, length-drop (length form.takes) items);
+        low = k.low;
+        same = λ p lt. k.same p (omega (arith, lt, le)) ∙ sym (beneath_kept p (omega (arith, lt, few)));
+        tops = k.tops;
+        declared = k.declared;
+      }
 
 -- ---- the running row is written
 

@@ -3,3 +3,4 @@ pub mod Known
 pub mod Counted
 pub mod Stacks
 pub mod Frames
+pub mod Moves

@@ -1,6 +1,8 @@
 //! The items of an operand stack, by the numbers of their types.
 
-use crate::widths::extra;
+use crate::moves::rearrange;
+use crate::widths::{extra, wides};
+use insn::StackForm;
 use std::alloc::{AllocError, Global};
 use std::marker::Model;
 
@@ -26,7 +28,9 @@ impl Model for Items {
 }
 
 impl Items {
-    ghost use Rattle.std.specs.Prelude.{◌≡◌, ◌↔◌, ◌+◌, ◌<◌, ◌≤◌, [], ◌∷◌, IsTrue, MatchOption, length, reverse, slice_index, OnOk, OnErr};
+    ghost use Rattle.std.specs.Prelude.{◌≡◌, ◌↔◌, ◌+◌, ◌<◌, ◌≤◌, [], ◌∷◌, IsTrue, MatchOption, length, reverse, slice_index, slice_get, OnOk, OnErr};
+    ghost use Rattle.insn.specs.Stacks.{rearranged};
+    ghost use Rattle.insn.specs.Views.{stack_form_view};
     ghost use Rattle.frames.specs.Slots.{units_of};
     ghost use Rattle.type_numbers.specs.Numbers.{Numbering};
     ghost use Rattle.type_numbers.specs.Decoding.{types_by};
@@ -95,5 +99,31 @@ impl Items {
     {
         self.numbers.clear();
         self.wides = 0;
+    }
+    /// The item that so many stand above.
+    pub fn item(&self, above: usize) -> Option<u32>
+        ensures { result ≡ slice_get self.now above }
+    {
+        if above >= self.numbers.len() {
+            return None;
+        }
+        Some(self.get(self.numbers.len() - 1 - above))
+    }
+
+    /// Takes the items of a form off, and pushes what it leaves (JVMS 2.11.4). Nothing is left where memory ran out.
+    pub fn rearrange(&mut self, form: StackForm) -> Result<(), AllocError>
+        requires { length form.takes.now ≤ length self.old }
+        ensures ok { OnOk result (self.new ≡ rearranged (stack_form_view form) self.old) }
+        ensures err { OnErr result (self.new ≡ []) }
+    {
+        let below = self.numbers.len() - form.takes.len();
+        let before = wides(&self.numbers[below..]);
+        if let Err(error) = rearrange(form, &mut self.numbers) {
+            self.numbers.clear();
+            self.wides = 0;
+            return Err(error);
+        }
+        self.wides = self.wides - before + wides(&self.numbers[below..]);
+        Ok(())
     }
 }

@@ -3,6 +3,7 @@
 //!
 //! - `items`: the items of an operand stack.
 //! - `method`: the frames of a method, put together of the others.
+//! - `moves`: items as the instructions for the stack move them.
 //! - `stack_rows`: operand stacks, of the running frame and of the declared frames, and the answer of one to another.
 //! - `type_rows`: rows of types, of the running frame and of the declared frames, and the answer of one to another.
 //! - `widths`: how many units types take.
@@ -10,6 +11,7 @@
 
 mod items;
 mod method;
+mod moves;
 mod stack_rows;
 mod type_rows;
 mod widths;

@@ -6,6 +6,7 @@ use crate::type_rows::TypeRows;
 use blocks::Row;
 use frames::both;
 use hierarchy::{Answer, Classes};
+use insn::StackForm;
 use std::alloc::{AllocError, Global};
 use std::hash::BuildHasher;
 use std::marker::Model;
@@ -25,8 +26,9 @@ struct Declared {
 ///
 /// A declared frame is found by its offset, and known from then on by its place, in the order in which frames were
 /// declared. A comparison of the running frame with it takes time for what changed since the two were compared before.
-/// Where memory runs out, which is the only refusal, 1, all frames stay as they were; [`take`](MethodFrames::take) alone
-/// says nothing of the running frame then.
+/// Where memory runs out, which is the only refusal, 1, all frames stay as they were, but for two calls:
+/// [`rearrange`](MethodFrames::rearrange) leaves the running frame without its stack, and [`take`](MethodFrames::take)
+/// says nothing of the running frame but how many locals it has.
 #[derive(Drop)]
 pub struct MethodFrames<'t, 'n, C: Classes, S: BuildHasher> {
     locals: TypeRows<'t, 'n, C, S>,
@@ -72,6 +74,8 @@ impl<'t, 'n, C: Classes, S: BuildHasher> MethodFrames<'t, 'n, C, S> {
     ghost use Rattle.std.specs.Prelude.{◌↔◌, ◌≤◌, [], ◌∷◌, ◌++◌, None, Some, IsTrue, replicate, slice_set, slice_get, IfOk, IfSome, IsSomeAnd, MatchOption, OnErr};
     ghost use Rattle.hierarchy.specs.Answer.{outcome_of};
     ghost use Rattle.insn.specs.Offsets.{at_offset};
+    ghost use Rattle.insn.specs.Stacks.{rearranged};
+    ghost use Rattle.insn.specs.Views.{stack_form_view};
     ghost use Rattle.frames.specs.Slots.{units_of};
     ghost use Rattle.frames.specs.FrameAssignable.{frame_answer};
     ghost use Rattle.type_numbers.specs.Numbers.{IsGiven};
@@ -181,6 +185,26 @@ impl<'t, 'n, C: Classes, S: BuildHasher> MethodFrames<'t, 'n, C, S> {
         ensures given { IfSome result (IsGiven self.old.types) }
     {
         self.stacks.pop()
+    }
+
+    /// The number of the item of the stack that so many stand above.
+    pub fn item(&self, above: usize) -> Option<u32>
+        ensures item { result ≡ slice_get self.now.running.stack above }
+        ensures given { IfSome result (IsGiven self.now.types) }
+    {
+        self.stacks.item(above)
+    }
+
+    /// Takes the items of a form off the stack, and pushes what it leaves (JVMS 2.11.4). Nothing is left on the stack
+    /// where memory runs out.
+    pub fn rearrange(&mut self, form: StackForm) -> Result<(), AllocError>
+        requires { length form.takes.now ≤ length self.old.running.stack }
+        ensures ok { OnOk result (self.new ≡ record self.old { running = record self.old.running {
+          stack = rearranged (stack_form_view form) self.old.running.stack } }) }
+        ensures err { OnErr result (self.new
+            ≡ record self.old { running = record self.old.running { stack = [] } }) }
+    {
+        self.stacks.rearrange(form)
     }
 
     /// Takes all items off the stack.

@@ -7,6 +7,7 @@ use crate::items::Items;
 use crate::type_rows::TypeRows;
 use blocks::Row;
 use hierarchy::{Answer, Classes};
+use insn::StackForm;
 use std::alloc::{AllocError, Global};
 use std::hash::BuildHasher;
 use std::marker::Model;
@@ -86,8 +87,10 @@ fn read<C: Classes, S: BuildHasher>(
 }
 
 impl<'t, 'n, C: Classes, S: BuildHasher> StackRows<'t, 'n, C, S> {
-    ghost use Rattle.std.specs.Prelude.{◌≡◌, ◌↔◌, ◌<◌, ◌≤◌, [], ◌∷◌, ◌++◌, length, slice_index, IsTrue, IfOk, IfSome, MatchOption, OnOk, OnErr};
+    ghost use Rattle.std.specs.Prelude.{◌≡◌, ◌↔◌, ◌<◌, ◌≤◌, [], ◌∷◌, ◌++◌, length, slice_index, slice_get, IsTrue, IfOk, IfSome, MatchOption, OnOk, OnErr};
     ghost use Rattle.hierarchy.specs.Answer.{outcome_of};
+    ghost use Rattle.insn.specs.Stacks.{rearranged};
+    ghost use Rattle.insn.specs.Views.{stack_form_view};
     ghost use Rattle.frames.specs.Slots.{units_of};
     ghost use Rattle.frames.specs.FrameAssignable.{item_answer, stack_answer};
     ghost use Rattle.type_numbers.specs.Numbers.{IsGiven};
@@ -143,6 +146,30 @@ impl<'t, 'n, C: Classes, S: BuildHasher> StackRows<'t, 'n, C, S> {
         let number = self.items.pop()?;
         self.written = self.written.min(self.items.count());
         Some(number)
+    }
+
+    /// The number of the item that so many stand above.
+    pub fn item(&self, above: usize) -> Option<u32>
+        ensures item { result ≡ slice_get self.now.running above }
+        ensures given { IfSome result (IsGiven self.now.types) }
+    {
+        self.items.item(above)
+    }
+
+    /// Takes the items of a form off, and pushes what it leaves (JVMS 2.11.4). The only refusal is 1, and nothing is
+    /// left on the stack then.
+    pub fn rearrange(&mut self, form: StackForm) -> Result<(), AllocError>
+        requires { length form.takes.now ≤ length self.old.running }
+        ensures ok { OnOk result (self.new
+            ≡ record self.old { running = rearranged (stack_form_view form) self.old.running }) }
+        ensures err { OnErr result (self.new ≡ record self.old { running = [] }) }
+    {
+        self.written = self.written.min(self.items.count() - form.takes.len());
+        if let Err(error) = self.items.rearrange(form) {
+            self.written = 0;
+            return Err(error);
+        }
+        Ok(())
     }
 
     /// Takes all items off.
