@@ -1,8 +1,8 @@
 -- The items of a stack by numbers, in place: what is pushed on it, and what is taken off from under that.
-use Rattle.std.proofs.Common.{◌≡◌, ℕ, ◌+◌, ◌-◌, ◌<◌, ◌≤◌, List, [], ◌∷◌, ◌++◌, length, get_or, take, drop, map, reverse, refl, sym, ◌∙◌, ap, arith, Some, slice_get}
-use Rattle.std.proofs.lemmas.List.{drop_more, drop_all, map-append, reverse-append, length-append, length-map, length-reverse, length-drop, take-append-drop, length-take-le, take_rest, append_assoc, get_or-reverse}
+use Rattle.std.proofs.Common.{◌≡◌, ℕ, ◌+◌, ◌-◌, ◌<◌, ◌≤◌, List, [], ◌∷◌, ◌++◌, length, get_or, take, drop, reverse, refl, sym, ◌∙◌, ap, arith, Some, slice_get}
+use Rattle.std.proofs.lemmas.List.{drop_more, drop_all, reverse-append, length-append, length-reverse, length-drop, take-append-drop, length-take-le, take_rest, append_assoc, get_or-reverse}
 use Rattle.std.proofs.Math.Seq.{drop-append-add, take-append_seam}
-use Rattle.std.proofs.Math.ListN.{get_or-append, get_or-map}
+use Rattle.std.proofs.Math.ListN.{get_or-append}
 use Rattle.std.proofs.lemmas.Option.{slice_get-get_or, slice_get_past}
 use Rattle.insn.specs.Acts.{StackForm}
 use Rattle.insn.specs.Stacks.{beneath, chosen, with_item, rearranged}

@@ -1,5 +1,5 @@
 -- Operand stacks as they are kept, and as they change.
-use Rattle.std.proofs.Common.{◌≡◌, ◌∙◌, ℕ, ◌+◌, ◌-◌, ◌<◌, ◌≤◌, List, [], ◌∷◌, ◌++◌, Some, length, map, take, drop, get_or, slice_get, reverse, Result, Ok, Err, OnOk, OnErr, refl, sym, ap, subst, inl, inr, arith}
+use Rattle.std.proofs.Common.{◌≡◌, ◌∙◌, ℕ, ◌+◌, ◌-◌, ◌<◌, ◌≤◌, List, [], ◌∷◌, ◌++◌, length, map, take, drop, get_or, reverse, Result, Ok, Err, OnOk, OnErr, sym, ap, subst, inl, inr, arith}
 use Rattle.std.proofs.lemmas.Bool.{cases_lt}
 use Rattle.std.proofs.lemmas.List.{length-append, length-reverse, length-drop, length-take-le, take-append-drop, get_or_append_left, get_or_past, get_or-take, reverse-append, reverse-reverse}
 use Rattle.insn.specs.Acts.{StackForm}

@@ -110,7 +110,7 @@ impl Items {
         Some(self.get(self.numbers.len() - 1 - above))
     }
 
-    /// Takes the items of a form off, and pushes what it leaves (JVMS 2.11.4). Nothing is left where memory ran out.
+    /// Takes the items of a form off, and pushes what it leaves (JVMS 2.11.6). Nothing is left where memory ran out.
     pub fn rearrange(&mut self, form: StackForm) -> Result<(), AllocError>
         requires { length form.takes.now ≤ length self.old }
         ensures ok { OnOk result (self.new ≡ rearranged (stack_form_view form) self.old) }

@@ -17,5 +17,3 @@ mod type_rows;
 mod widths;
 
 pub use method::MethodFrames;
-pub use stack_rows::StackRows;
-pub use type_rows::TypeRows;

@@ -195,7 +195,7 @@ impl<'t, 'n, C: Classes, S: BuildHasher> MethodFrames<'t, 'n, C, S> {
         self.stacks.item(above)
     }
 
-    /// Takes the items of a form off the stack, and pushes what it leaves (JVMS 2.11.4). Nothing is left on the stack
+    /// Takes the items of a form off the stack, and pushes what it leaves (JVMS 2.11.6). Nothing is left on the stack
     /// where memory runs out.
     pub fn rearrange(&mut self, form: StackForm) -> Result<(), AllocError>
         requires { length form.takes.now ≤ length self.old.running.stack }

@@ -25,7 +25,7 @@ fn push_chosen(places: &[usize], stack: &mut Vec<u32>) -> Result<(), AllocError>
     }
 }
 
-/// Takes the items of a form off, and pushes what it leaves (JVMS 2.11.4). Nothing is said of the items where memory
+/// Takes the items of a form off, and pushes what it leaves (JVMS 2.11.6). Nothing is said of the items where memory
 /// ran out.
 pub fn rearrange(form: StackForm, stack: &mut Vec<u32>) -> Result<(), AllocError>
     requires { length form.takes.now ≤ length stack.old.items }

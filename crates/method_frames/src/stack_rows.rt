@@ -156,7 +156,7 @@ impl<'t, 'n, C: Classes, S: BuildHasher> StackRows<'t, 'n, C, S> {
         self.items.item(above)
     }
 
-    /// Takes the items of a form off, and pushes what it leaves (JVMS 2.11.4). The only refusal is 1, and nothing is
+    /// Takes the items of a form off, and pushes what it leaves (JVMS 2.11.6). The only refusal is 1, and nothing is
     /// left on the stack then.
     pub fn rearrange(&mut self, form: StackForm) -> Result<(), AllocError>
         requires { length form.takes.now ≤ length self.old.running }

@@ -1,6 +1,5 @@
-use Rattle.std.proofs.Common.{◌∙◌, length, sym, ap, subst, arith}
+use Rattle.std.proofs.Common.{sym, ap, subst, arith}
 use Rattle.type_numbers.specs.Numbers.{IsGiven}
-use Rattle.method_frames.specs.private.Stacks.{Changes}
 use Rattle.method_frames.proofs.StackGiven.{reversed_given}
 use Rattle.method_frames.proofs.StackWriting.{no_change, holds_none, changes_set, holds_set}
 use Rattle.method_frames.proofs.stack_rows.write.Goals as goal

@@ -1,4 +1,4 @@
-use Rattle.std.proofs.Common.{◌∙◌, ◌+◌, length, sym, ap, arith}
+use Rattle.std.proofs.Common.{◌∙◌, ◌+◌, length, sym, ap}
 use Rattle.std.proofs.lemmas.List.{length-reverse}
 use Rattle.frames.specs.Slots.{units_of}
 use Rattle.type_numbers.specs.Decoding.{types_by}

@@ -1,4 +1,3 @@
-use Rattle.std.proofs.Common.{◌<◌, length}
 use Rattle.method_frames.proofs.MethodParts.{is_declared}
 use Rattle.method_frames.proofs.method.MethodFrames.answer.Goals as goal
 

@@ -1,4 +1,4 @@
-use Rattle.std.proofs.Common.{◌≡◌, ◌∙◌, ◌+◌, Result, Ok, Err, OnErr, length, set, refl, sym, subst, arith}
+use Rattle.std.proofs.Common.{◌≡◌, ◌+◌, Result, Ok, Err, OnErr, length, set, refl, sym, subst, arith}
 use Rattle.method_frames.specs.private.Frames.{AreFrames}
 use Rattle.method_frames.specs.declared.method.Declared.{Declared}
 use Rattle.method_frames.proofs.MethodParts.{rows_stay, rows_declared, stacks_stay, grown, places_kept, view_rows, view_parts, parts_declared, view_declared, frames_declared}

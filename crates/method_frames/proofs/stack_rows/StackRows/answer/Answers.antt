@@ -1,4 +1,4 @@
-use Rattle.std.proofs.Common.{◌≡◌, ◌∙◌, ◌<◌, ◌≤◌, length, sym, ap, subst, arith}
+use Rattle.std.proofs.Common.{◌∙◌, ◌<◌, length, sym, ap, subst, arith}
 use Rattle.method_frames.specs.private.Stacks.{AreStacks}
 use Rattle.method_frames.proofs.Heights.{is_height}
 use Rattle.method_frames.proofs.Stacks.{stacks_changed, same_below, same_written, tops_above}

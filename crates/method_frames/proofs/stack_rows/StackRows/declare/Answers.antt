@@ -1,5 +1,5 @@
-use Rattle.std.proofs.Common.{◌≡◌, ◌∙◌, ◌≤◌, length, Result, Ok, Err, OnErr, sym, subst, arith}
-use Rattle.method_frames.specs.private.Stacks.{stacks_of, AreStacks}
+use Rattle.std.proofs.Common.{◌≤◌, length, Result, Ok, Err, OnErr, sym, subst, arith}
+use Rattle.method_frames.specs.private.Stacks.{AreStacks}
 use Rattle.method_frames.specs.declared.stack_rows.Height.{Height}
 use Rattle.method_frames.proofs.Stacks.{stacks_changed, same_below, tops_above, view_changed, stacks_level, stacks_more, view_more, stacks_declared, view_declared}
 use Rattle.method_frames.proofs.stack_rows.StackRows.declare.Goals as goal

@@ -1,4 +1,4 @@
-use Rattle.std.proofs.Common.{subst, Option, slice_get, ap, ◌∙◌}
+use Rattle.std.proofs.Common.{subst}
 use Rattle.std.specs.Prelude.{IfSome}
 use Rattle.type_numbers.specs.Numbers.{IsGiven}
 use Rattle.method_frames.proofs.StackGiven.{item_given}

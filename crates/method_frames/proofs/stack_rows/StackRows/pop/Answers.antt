@@ -1,4 +1,4 @@
-use Rattle.std.proofs.Common.{◌≤◌, length, arith}
+use Rattle.std.proofs.Common.{arith}
 use Rattle.method_frames.proofs.Stacks.{stacks_popped}
 use Rattle.method_frames.proofs.stack_rows.StackRows.pop.Goals as goal
 

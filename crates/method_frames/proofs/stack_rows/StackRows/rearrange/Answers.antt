@@ -1,4 +1,4 @@
-use Rattle.std.proofs.Common.{◌≤◌, ◌-◌, length, sym, subst, arith}
+use Rattle.std.proofs.Common.{◌≤◌, length, sym, subst, arith}
 use Rattle.insn.specs.Views.{stack_form_view}
 use Rattle.method_frames.proofs.Stacks.{stacks_rearranged}
 use Rattle.method_frames.proofs.stack_rows.StackRows.rearrange.Goals as goal

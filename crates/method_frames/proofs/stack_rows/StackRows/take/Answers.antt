@@ -1,5 +1,4 @@
-use Rattle.std.proofs.Common.{◌≡◌, ◌∙◌, ◌≤◌, length, arith, ap, sym, reverse, take}
-use Rattle.method_frames.specs.TypeRows.{declared_in}
+use Rattle.std.proofs.Common.{◌∙◌, arith, ap, sym, reverse, take}
 use Rattle.method_frames.proofs.Heights.{is_height, its_stack}
 use Rattle.method_frames.proofs.Stacks.{taken_deep, stacks_taken, all_taken, view_taken}
 use Rattle.method_frames.proofs.stack_rows.StackRows.take.Goals as goal
