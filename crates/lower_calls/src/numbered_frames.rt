@@ -37,7 +37,7 @@ fn given_numbers<'n, C: Classes, S: BuildHasher + Drop>(
 
 /// Gives a local variable of the running frame a type, if it has that local.
 fn put<C: Classes, S: BuildHasher>(
-    frames: &mut MethodFrames<'_, '_, C, S>,
+    frames: &mut MethodFrames<'_, '_, '_, C, S>,
     place: usize,
     number: u32,
 ) -> Result<(), AllocError>
@@ -53,7 +53,7 @@ fn put<C: Classes, S: BuildHasher>(
 
 /// Makes all local variables of the running frame ints, but for one.
 fn fill<C: Classes, S: BuildHasher>(
-    frames: &mut MethodFrames<'_, '_, C, S>,
+    frames: &mut MethodFrames<'_, '_, '_, C, S>,
     int: u32,
     other: u32,
     place: usize,
@@ -72,7 +72,7 @@ fn fill<C: Classes, S: BuildHasher>(
 
 /// Puts so many ints on the stack of the running frame in place of what it holds, but for one item.
 fn stand<C: Classes, S: BuildHasher>(
-    frames: &mut MethodFrames<'_, '_, C, S>,
+    frames: &mut MethodFrames<'_, '_, '_, C, S>,
     int: u32,
     other: u32,
     place: usize,
@@ -91,9 +91,9 @@ fn stand<C: Classes, S: BuildHasher>(
     Ok(())
 }
 
-/// The answers of the running frame to one that was declared, when they are first compared and when they are again. Each
-/// has so many locals and so many items, ints but for one place, counted from local 0 up and then from the bottom item
-/// up.
+/// The answers of the running frame to one that was declared, when they are first compared and when they are again.
+/// Each has so many locals and so many items, ints but for one place, counted from local 0 up and then from the bottom
+/// item up.
 fn answers<'n, C: Classes, S: BuildHasher>(
     alloc: Global,
     types: &TypeNumbers<'_, 'n, C, S>,
@@ -108,7 +108,11 @@ fn answers<'n, C: Classes, S: BuildHasher>(
 {
     let mut frames = MethodFrames::new(alloc, types, locals, items, false)?;
     let item = place.saturating_sub(usize::from(locals));
-    let item = if place < usize::from(locals) { usize::MAX } else { item };
+    let item = if place < usize::from(locals) {
+        usize::MAX
+    } else {
+        item
+    };
     fill(&mut frames, n.int, n.theirs, place)?;
     stand(&mut frames, n.int, n.theirs, item, items)?;
     let declared = frames.declare(3)?;
@@ -193,26 +197,49 @@ fn all_agree<C: Classes>(alloc: Global, classes: &C) -> Result<bool, AllocError>
     Ok(true)
 }
 
+/// Frames of which one is declared at 7: a long at local 18 of 20, an int above a long on the stack, and the flag.
+fn declared_at_7<'t, 'c, 'n, C: Classes, S: BuildHasher>(
+    alloc: Global,
+    types: &'t TypeNumbers<'c, 'n, C, S>,
+    n: Numbers,
+) -> Result<MethodFrames<'t, 'c, 'n, C, S>, AllocError>
+    requires int { IsGiven types.now n.int }
+    requires ours { IsGiven types.now n.ours }
+    ensures types { IfOk result (λ x. x.types ≡ types.now) }
+    ensures declared { IfOk result (λ x. length x.declared ≡ 1) }
+{
+    let mut frames = MethodFrames::new(alloc, types, 20, 2, true)?;
+    put(&mut frames, 18, n.ours)?;
+    frames.push(n.ours)?;
+    frames.push(n.int)?;
+    frames.declare(7)?;
+    Ok(frames)
+}
+
+/// Whether the running frame is the one that is declared there.
+fn is_as_declared<C: Classes, S: BuildHasher>(
+    frames: &MethodFrames<'_, '_, '_, C, S>,
+    n: Numbers,
+) -> bool {
+    let locals = frames.local(18) == n.ours && frames.local(20) == 0;
+    let items = [frames.item(0), frames.item(1), frames.item(2)];
+    let size = frames.depth() == 2 && frames.has_units(3) && !frames.has_units(4);
+    locals && items == [Some(n.int), Some(n.ours), None] && size && frames.flag()
+}
+
 /// Whether a frame that was declared is found, and the running one becomes it, whatever it was before.
 fn is_taken<C: Classes>(alloc: Global, classes: &C) -> Result<bool, AllocError> {
     let mut types = TypeNumbers::new(alloc, classes, hasher());
     let n = given_numbers(&mut types, (VType::Long, A))?;
-    let mut frames = MethodFrames::new(alloc, &types, 20, 2, true)?;
-    put(&mut frames, 18, n.ours)?;
-    frames.push(n.ours)?;
-    frames.push(n.int)?;
-    let declared = frames.declare(7)?;
+    let mut frames = declared_at_7(alloc, &types, n)?;
+    let found = frames.find(7) == Some(0) && frames.find(8).is_none();
     put(&mut frames, 18, n.theirs)?;
     frames.pop();
     frames.set_flag(false);
-    let other = frames.find(7) == Some(declared) && frames.find(8).is_none();
-    let changed = frames.answer(declared)? == Answer::No && frames.item(0) == Some(n.ours);
-    frames.take(declared)?;
-    let locals = frames.local(18) == n.ours && frames.local(20) == 0;
-    let items = [frames.item(0), frames.item(1), frames.item(2)] == [Some(n.int), Some(n.ours), None];
-    let size = frames.depth() == 2 && frames.has_units(3) && !frames.has_units(4);
-    let taken = locals && items && size && frames.flag();
-    Ok(other && changed && taken && frames.answer(declared)? == Answer::Yes)
+    let changed = frames.answer(0)?;
+    frames.take(0)?;
+    let taken = is_as_declared(&frames, n);
+    Ok(found && changed == Answer::No && taken && frames.answer(0)? == Answer::Yes)
 }
 
 /// Whether the flag of an uninitialized `this` is compared.
@@ -225,22 +252,28 @@ fn flags_count<C: Classes>(alloc: Global, classes: &C) -> Result<bool, AllocErro
     Ok(without == Answer::Yes && frames.answer(declared)? == Answer::No)
 }
 
-/// Whether items are moved, and what is beneath them stays as it was compared.
-fn is_moved<C: Classes>(alloc: Global, classes: &C) -> Result<bool, AllocError> {
-    let mut types = TypeNumbers::new(alloc, classes, hasher());
-    let n = given_numbers(&mut types, (VType::Long, A))?;
-    let mut frames = MethodFrames::new(alloc, &types, 0, 3, false)?;
-    for number in [n.ours, n.int, n.theirs] {
-        frames.push(number)?;
-    }
-    let declared = frames.declare(0)?;
+/// Swaps the two items at the top, where there are two.
+fn swap<C: Classes, S: BuildHasher>(
+    frames: &mut MethodFrames<'_, '_, '_, C, S>,
+) -> Result<(), AllocError>
+    ensures { frames.new.declared ≡ frames.old.declared }
+{
     for form in StackOperator::Swap.forms() {
         if form.takes.len() <= frames.depth() {
             frames.rearrange(*form)?;
         }
     }
-    let swapped = [frames.item(0), frames.item(1), frames.item(2)] == [Some(n.int), Some(n.theirs), Some(n.ours)];
-    Ok(swapped && frames.has_units(4) && frames.answer(declared)? == Answer::No)
+    Ok(())
+}
+
+/// Whether items are moved, and those that were declared before stay.
+fn is_moved<C: Classes>(alloc: Global, classes: &C) -> Result<bool, AllocError> {
+    let mut types = TypeNumbers::new(alloc, classes, hasher());
+    let n = given_numbers(&mut types, (VType::Long, A))?;
+    let mut frames = declared_at_7(alloc, &types, n)?;
+    swap(&mut frames)?;
+    let items = [frames.item(0), frames.item(1), frames.item(2)];
+    Ok(items == [Some(n.ours), Some(n.int), None] && frames.answer(0)? == Answer::No)
 }
 
 fn all_hold<C: Classes>(alloc: Global, classes: &C) -> Result<bool, AllocError> {

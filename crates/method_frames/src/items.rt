@@ -86,7 +86,8 @@ impl Items {
 
     /// Takes the top off.
     pub fn pop(&mut self) -> Option<u32>
-        ensures { MatchOption result ((self.old ≡ []) × (self.new ≡ self.old)) (λ number. self.old ≡ number ∷ self.new) }
+        ensures { MatchOption result ((self.old ≡ []) × (self.new ≡ self.old))
+            (λ number. self.old ≡ number ∷ self.new) }
     {
         let number = self.numbers.pop()?;
         self.wides -= extra(number);

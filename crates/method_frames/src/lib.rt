@@ -1,5 +1,5 @@
-//! The frames of one method, with types by their numbers: the running frame, which instructions change, and the declared
-//! frames, which stay as they are.
+//! The frames of one method, with types by their numbers: the running frame, which instructions change, and the
+//! declared frames, which stay as they are.
 //!
 //! - `items`: the items of an operand stack.
 //! - `method`: the frames of a method, put together of the others.

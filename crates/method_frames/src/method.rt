@@ -30,17 +30,17 @@ struct Declared {
 /// [`rearrange`](MethodFrames::rearrange) leaves the running frame without its stack, and [`take`](MethodFrames::take)
 /// says nothing of the running frame but how many locals it has.
 #[derive(Drop)]
-pub struct MethodFrames<'t, 'n, C: Classes, S: BuildHasher> {
-    locals: TypeRows<'t, 'n, C, S>,
+pub struct MethodFrames<'t, 'c, 'n, C: Classes, S: BuildHasher> {
+    locals: TypeRows<'t, 'c, 'n, C, S>,
     max_locals: u16,
-    stacks: StackRows<'t, 'n, C, S>,
+    stacks: StackRows<'t, 'c, 'n, C, S>,
     flag: bool,
     declared: Vec<Declared>,
     /// By offsets, the place of the declared frame, counted from 1; 0 where there is none.
     places: Vec<usize>,
 }
 
-impl<'t, 'n, C: Classes, S: BuildHasher> Model for MethodFrames<'t, 'n, C, S> {
+impl<'t, 'c, 'n, C: Classes, S: BuildHasher> Model for MethodFrames<'t, 'c, 'n, C, S> {
     ghost use Rattle.method_frames.specs.NumberedFrames.{NumberedFrames};
     ghost use Rattle.method_frames.specs.private.Frames.{frames_of, AreFrames};
 
@@ -70,7 +70,7 @@ fn place_at(offset: u16, places: &[usize]) -> usize
     places.get(usize::from(offset)).copied().unwrap_or(0)
 }
 
-impl<'t, 'n, C: Classes, S: BuildHasher> MethodFrames<'t, 'n, C, S> {
+impl<'t, 'c, 'n, C: Classes, S: BuildHasher> MethodFrames<'t, 'c, 'n, C, S> {
     ghost use Rattle.std.specs.Prelude.{◌↔◌, ◌≤◌, [], ◌∷◌, ◌++◌, None, Some, IsTrue, replicate, slice_set, slice_get, IfOk, IfSome, IsSomeAnd, MatchOption, OnErr};
     ghost use Rattle.hierarchy.specs.Answer.{outcome_of};
     ghost use Rattle.insn.specs.Offsets.{at_offset};
@@ -86,11 +86,11 @@ impl<'t, 'n, C: Classes, S: BuildHasher> MethodFrames<'t, 'n, C, S> {
     /// none will have more than so many items on its stack.
     pub fn new(
         alloc: Global,
-        types: &'t TypeNumbers<'t, 'n, C, S>,
+        types: &'t TypeNumbers<'c, 'n, C, S>,
         max_locals: u16,
         max_stack: u16,
         flag: bool,
-    ) -> Result<MethodFrames<'t, 'n, C, S>, AllocError>
+    ) -> Result<MethodFrames<'t, 'c, 'n, C, S>, AllocError>
         ensures { IfOk result (λ x. x ≡ record {
           types = types.now;
           limit = max_stack;
@@ -132,8 +132,11 @@ impl<'t, 'n, C: Classes, S: BuildHasher> MethodFrames<'t, 'n, C, S> {
     pub fn set_local(&mut self, place: usize, number: u32) -> Result<(), AllocError>
         requires place { place < length self.old.running.locals }
         requires given { IsGiven self.old.types number }
-        ensures ok { OnOk result (self.new ≡ record self.old { running = record self.old.running {
-          locals = slice_set self.old.running.locals place number } }) }
+        ensures ok { OnOk result (self.new ≡ record self.old {
+          running = record self.old.running {
+            locals = slice_set self.old.running.locals place number;
+          };
+        }) }
         ensures err { OnErr result (self.new ≡ self.old) }
     {
         self.locals.set(place, number)
@@ -170,8 +173,11 @@ impl<'t, 'n, C: Classes, S: BuildHasher> MethodFrames<'t, 'n, C, S> {
     /// Pushes a type.
     pub fn push(&mut self, number: u32) -> Result<(), AllocError>
         requires { IsGiven self.old.types number }
-        ensures ok { OnOk result (self.new ≡ record self.old { running = record self.old.running {
-          stack = number ∷ self.old.running.stack } }) }
+        ensures ok { OnOk result (self.new ≡ record self.old {
+          running = record self.old.running {
+            stack = number ∷ self.old.running.stack;
+          };
+        }) }
         ensures err { OnErr result (self.new ≡ self.old) }
     {
         self.stacks.push(number)
@@ -180,8 +186,11 @@ impl<'t, 'n, C: Classes, S: BuildHasher> MethodFrames<'t, 'n, C, S> {
     /// Takes the top of the stack off.
     pub fn pop(&mut self) -> Option<u32>
         ensures taken { MatchOption result ((self.old.running.stack ≡ []) × (self.new ≡ self.old))
-            (λ number. self.old ≡ record self.new { running = record self.new.running {
-              stack = number ∷ self.new.running.stack } }) }
+            (λ number. self.old ≡ record self.new {
+              running = record self.new.running {
+                stack = number ∷ self.new.running.stack;
+              };
+            }) }
         ensures given { IfSome result (IsGiven self.old.types) }
     {
         self.stacks.pop()
@@ -199,8 +208,11 @@ impl<'t, 'n, C: Classes, S: BuildHasher> MethodFrames<'t, 'n, C, S> {
     /// where memory runs out.
     pub fn rearrange(&mut self, form: StackForm) -> Result<(), AllocError>
         requires { length form.takes.now ≤ length self.old.running.stack }
-        ensures ok { OnOk result (self.new ≡ record self.old { running = record self.old.running {
-          stack = rearranged (stack_form_view form) self.old.running.stack } }) }
+        ensures ok { OnOk result (self.new ≡ record self.old {
+          running = record self.old.running {
+            stack = rearranged (stack_form_view form) self.old.running.stack;
+          };
+        }) }
         ensures err { OnErr result (self.new
             ≡ record self.old { running = record self.old.running { stack = [] } }) }
     {

@@ -30,9 +30,9 @@ struct Height {
 /// where it is compared or declared, and then only from the least depth on that it had since it was last written: so a
 /// comparison takes time for what changed and not for the depth of a stack.
 #[derive(Drop)]
-pub struct StackRows<'t, 'n, C: Classes, S: BuildHasher> {
+pub struct StackRows<'t, 'c, 'n, C: Classes, S: BuildHasher> {
     items: Items,
-    rows: TypeRows<'t, 'n, C, S>,
+    rows: TypeRows<'t, 'c, 'n, C, S>,
     /// The running row holds the items in front of this place.
     written: usize,
     /// The running row holds Top from this place on.
@@ -40,7 +40,7 @@ pub struct StackRows<'t, 'n, C: Classes, S: BuildHasher> {
     declared: Vec<Height>,
 }
 
-impl<'t, 'n, C: Classes, S: BuildHasher> Model for StackRows<'t, 'n, C, S> {
+impl<'t, 'c, 'n, C: Classes, S: BuildHasher> Model for StackRows<'t, 'c, 'n, C, S> {
     ghost use Rattle.method_frames.specs.NumberedStacks.{NumberedStacks};
     ghost use Rattle.method_frames.specs.private.Stacks.{stacks_of, AreStacks};
 
@@ -56,7 +56,7 @@ fn write<C: Classes, S: BuildHasher>(
     items: &Items,
     from: usize,
     to: usize,
-    rows: &mut TypeRows<'_, '_, C, S>,
+    rows: &mut TypeRows<'_, '_, '_, C, S>,
 ) -> Result<(), AllocError>
     requires places { to ≤ length rows.old.running }
     requires given { AreGiven rows.old.types items.now }
@@ -71,7 +71,7 @@ fn write<C: Classes, S: BuildHasher>(
 
 /// Takes the first places of the running row as items.
 fn read<C: Classes, S: BuildHasher>(
-    rows: &TypeRows<'_, '_, C, S>,
+    rows: &TypeRows<'_, '_, '_, C, S>,
     depth: usize,
     items: &mut Items,
 ) -> Result<(), AllocError>
@@ -86,7 +86,7 @@ fn read<C: Classes, S: BuildHasher>(
     Ok(())
 }
 
-impl<'t, 'n, C: Classes, S: BuildHasher> StackRows<'t, 'n, C, S> {
+impl<'t, 'c, 'n, C: Classes, S: BuildHasher> StackRows<'t, 'c, 'n, C, S> {
     ghost use Rattle.std.specs.Prelude.{◌≡◌, ◌↔◌, ◌<◌, ◌≤◌, [], ◌∷◌, ◌++◌, length, slice_index, slice_get, IsTrue, IfOk, IfSome, MatchOption, OnOk, OnErr};
     ghost use Rattle.hierarchy.specs.Answer.{outcome_of};
     ghost use Rattle.insn.specs.Stacks.{rearranged};
@@ -100,9 +100,9 @@ impl<'t, 'n, C: Classes, S: BuildHasher> StackRows<'t, 'n, C, S> {
     /// Stacks of which none that is declared has more items than this; the running one has none.
     pub fn new(
         alloc: Global,
-        types: &'t TypeNumbers<'t, 'n, C, S>,
+        types: &'t TypeNumbers<'c, 'n, C, S>,
         limit: u16,
-    ) -> Result<StackRows<'t, 'n, C, S>, AllocError>
+    ) -> Result<StackRows<'t, 'c, 'n, C, S>, AllocError>
         ensures { IfOk result (λ x. x ≡ record { types = types.now; limit = limit; running = []; declared = [] }) }
     {
         Ok(StackRows {
@@ -203,8 +203,8 @@ impl<'t, 'n, C: Classes, S: BuildHasher> StackRows<'t, 'n, C, S> {
         Ok(stack)
     }
 
-    /// The running stack becomes a declared one, item by item. The only refusal is 1, and nothing is said of the running
-    /// stack then.
+    /// The running stack becomes a declared one, item by item. The only refusal is 1, and nothing is said of the
+    /// running stack then.
     pub fn take(&mut self, stack: usize) -> Result<(), AllocError>
         requires { stack < length self.old.declared }
         ensures rest { self.new ≡ record self.old { running = self.new.running } }
