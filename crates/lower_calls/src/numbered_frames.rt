@@ -234,12 +234,21 @@ fn is_taken<C: Classes>(alloc: Global, classes: &C) -> Result<bool, AllocError> 
     let mut frames = declared_at_7(alloc, &types, n)?;
     let found = frames.find(7) == Some(0) && frames.find(8).is_none();
     put(&mut frames, 18, n.theirs)?;
-    frames.pop();
+    frames.clear_stack();
     frames.set_flag(false);
     let changed = frames.answer(0)?;
     frames.take(0)?;
     let taken = is_as_declared(&frames, n);
     Ok(found && changed == Answer::No && taken && frames.answer(0)? == Answer::Yes)
+}
+
+/// Whether items come off from the top down.
+fn are_popped<C: Classes>(alloc: Global, classes: &C) -> Result<bool, AllocError> {
+    let mut types = TypeNumbers::new(alloc, classes, hasher());
+    let n = given_numbers(&mut types, (VType::Long, A))?;
+    let mut frames = declared_at_7(alloc, &types, n)?;
+    let items = [frames.pop(), frames.pop(), frames.pop()];
+    Ok(items == [Some(n.int), Some(n.ours), None])
 }
 
 /// Whether the flag of an uninitialized `this` is compared.
@@ -277,7 +286,8 @@ fn is_moved<C: Classes>(alloc: Global, classes: &C) -> Result<bool, AllocError> 
 }
 
 fn all_hold<C: Classes>(alloc: Global, classes: &C) -> Result<bool, AllocError> {
-    Ok(is_taken(alloc, classes)? && flags_count(alloc, classes)? && is_moved(alloc, classes)?)
+    let frames = is_taken(alloc, classes)? && flags_count(alloc, classes)?;
+    Ok(frames && are_popped(alloc, classes)? && is_moved(alloc, classes)?)
 }
 
 /// Whether all that is said of frames by numbers holds; or memory ran out, where it may.
