@@ -10,6 +10,7 @@
 //! | `differences` | `frames`: the first difference of two frames, and the first class that is missing |
 //! | `packed_frames` | `frames`: types as slots, and frames compared by them |
 //! | `numbered_types` | `type_numbers`: types as numbers, and tables of constants by them |
+//! | `numbered_frames` | `method_frames`: frames by numbers, changed, declared, found, taken on and compared |
 //! | `stack_maps`, `declared_frames` | `frames`: stack maps both ways, their frames, and entries at fault |
 //! | `operand_stacks` | `frames`: the operand stack of a running frame, and the objects on it |
 //! | `running_locals` | `frames`: the local variables of a running frame, and the objects in them |
@@ -37,6 +38,8 @@ mod instruction_rules;
 #[cfg(test)]
 mod instructions_in_place;
 pub mod making;
+#[cfg(test)]
+mod numbered_frames;
 #[cfg(test)]
 mod numbered_types;
 #[cfg(test)]

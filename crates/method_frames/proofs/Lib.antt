@@ -2,3 +2,13 @@ pub mod Given
 pub mod Knowing
 pub mod Answering
 pub mod Walking
+pub mod Counting
+pub mod StackGiven
+pub mod StackWriting
+pub mod StackAnswers
+pub mod Heights
+pub mod Stacks
+pub mod StackComparing
+pub mod Offsets
+pub mod MethodParts
+pub mod ItemMoves

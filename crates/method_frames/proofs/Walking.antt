@@ -1,5 +1,5 @@
 -- A walk along the places of the running row that are not known to fit a declared one.
-use Rattle.std.proofs.Common.{◌≡◌, ◌∙◌, ℕ, ◌+◌, ◌-◌, ◌<◌, ◌≤◌, true, List, [], Some, None, length, drop, slice_get, get_or, sym, ap, subst, arith}
+use Rattle.std.proofs.Common.{◌≡◌, ◌∙◌, ℕ, ◌+◌, ◌-◌, ◌<◌, ◌≤◌, List, [], Some, None, length, drop, slice_get, get_or, sym, ap, subst, arith}
 use Rattle.hierarchy.specs.Answer.{Outcome, yes, no}
 use Rattle.frames.specs.Assignable.{type_answer}
 use Rattle.frames.specs.FrameAssignable.{both, list_answer}

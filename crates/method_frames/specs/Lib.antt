@@ -1,2 +1,4 @@
 pub mod TypeRows
+pub mod NumberedStacks
+pub mod NumberedFrames
 pub mod private

@@ -8,18 +8,18 @@ use std::hash::BuildHasher;
 use std::marker::Model;
 use type_numbers::TypeNumbers;
 
-/// Rows of types by their numbers, such as the local variables of the frames of one method (JVMS 4.10.1.2): the row of the
-/// running frame, and those of the declared frames.
+/// Rows of types by their numbers, such as the local variables of the frames of one method (JVMS 4.10.1.2): the row of
+/// the running frame, and those of the declared frames.
 ///
-/// Rows share what they have in common ([`Arena`]). A running row that was seen to fit a declared one is compared with it
-/// again only where it changed, so that a comparison takes time for what changed and not for the length of a row.
+/// Rows share what they have in common ([`Arena`]). A running row that was seen to fit a declared one is compared with
+/// it again only where it changed, so that a comparison takes time for what changed and not for the length of a row.
 #[derive(Drop)]
-pub struct TypeRows<'t, 'n, C: Classes, S: BuildHasher> {
-    types: &'t TypeNumbers<'t, 'n, C, S>,
+pub struct TypeRows<'t, 'c, 'n, C: Classes, S: BuildHasher> {
+    types: &'t TypeNumbers<'c, 'n, C, S>,
     rows: Arena,
 }
 
-impl<'t, 'n, C: Classes, S: BuildHasher> Model for TypeRows<'t, 'n, C, S> {
+impl<'t, 'c, 'n, C: Classes, S: BuildHasher> Model for TypeRows<'t, 'c, 'n, C, S> {
     ghost use Rattle.method_frames.specs.TypeRows.{NumberedRows};
     ghost use Rattle.method_frames.specs.private.Known.{AreKnown};
 
@@ -34,7 +34,7 @@ impl<'t, 'n, C: Classes, S: BuildHasher> Model for TypeRows<'t, 'n, C, S> {
     ghost invariant = { λ x. AreKnown (x.types.now) x.rows };
 }
 
-impl<'t, 'n, C: Classes, S: BuildHasher> TypeRows<'t, 'n, C, S> {
+impl<'t, 'c, 'n, C: Classes, S: BuildHasher> TypeRows<'t, 'c, 'n, C, S> {
     ghost use Rattle.std.specs.Prelude.{◌≡◌, ◌<◌, ◌∷◌, ◌++◌, [], length, replicate, slice_index, slice_set, IfOk, OnOk, OnErr};
     ghost use Rattle.hierarchy.specs.Answer.{outcome_of};
     ghost use Rattle.frames.specs.Assignable.{type_answer};
@@ -46,9 +46,9 @@ impl<'t, 'n, C: Classes, S: BuildHasher> TypeRows<'t, 'n, C, S> {
     /// Rows with so many places; the running one holds Top throughout.
     pub fn new(
         alloc: Global,
-        types: &'t TypeNumbers<'t, 'n, C, S>,
+        types: &'t TypeNumbers<'c, 'n, C, S>,
         count: u16,
-    ) -> Result<TypeRows<'t, 'n, C, S>, AllocError>
+    ) -> Result<TypeRows<'t, 'c, 'n, C, S>, AllocError>
         ensures { IfOk result (λ x. x ≡ record {
           types = types.now;
           running = replicate count 0;
@@ -70,8 +70,8 @@ impl<'t, 'n, C: Classes, S: BuildHasher> TypeRows<'t, 'n, C, S> {
         self.rows.get(place)
     }
 
-    /// Puts a type, by its number, at a place of the running row. The only refusal is 1, where memory runs out; a number
-    /// that is there already takes none.
+    /// Puts a type, by its number, at a place of the running row. The only refusal is 1, where memory runs out; a
+    /// number that is there already takes none.
     pub fn set(&mut self, place: usize, number: u32) -> Result<(), AllocError>
         requires place { place < length self.old.running }
         requires given { IsGiven self.old.types number }
@@ -104,7 +104,8 @@ impl<'t, 'n, C: Classes, S: BuildHasher> TypeRows<'t, 'n, C, S> {
         requires row { row < length self.now.declared }
         requires place { place < length self.now.running }
         ensures { let s = self.now.types in outcome_of result ≡ type_answer s.classes
-            (type_by s (slice_index self.now.running place)) (type_by s (slice_index (declared_in self.now row) place)) }
+            (type_by s (slice_index self.now.running place))
+            (type_by s (slice_index (declared_in self.now row) place)) }
     {
         let from = self.rows.get(place);
         let to = self.rows.get_declared(row, place);
@@ -130,8 +131,8 @@ impl<'t, 'n, C: Classes, S: BuildHasher> TypeRows<'t, 'n, C, S> {
         so_far
     }
 
-    /// Whether the types of the running row may stand where those of a declared one are wanted (JVMS 4.10.1.4): no before
-    /// missing, and then the first class that is missing. Takes no memory.
+    /// Whether the types of the running row may stand where those of a declared one are wanted (JVMS 4.10.1.4): no
+    /// before missing, and then the first class that is missing. Takes no memory.
     pub fn answer(&mut self, row: Row) -> Answer<'n>
         requires row { row < length self.old.declared }
         ensures same { self.new ≡ self.old }

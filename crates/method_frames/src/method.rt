@@ -1,0 +1,294 @@
+//! The running frame of a method, and its declared frames.
+ghost use Rattle.std.specs.Prelude.{◌≡◌, ◌+◌, ◌<◌, ◌^◌, ℕ, length, slice_index, OnOk};
+
+use crate::stack_rows::StackRows;
+use crate::type_rows::TypeRows;
+use blocks::Row;
+use frames::both;
+use hierarchy::{Answer, Classes};
+use insn::StackForm;
+use std::alloc::{AllocError, Global};
+use std::hash::BuildHasher;
+use std::marker::Model;
+use type_numbers::TypeNumbers;
+
+/// A declared frame: its offset, and where its parts are.
+#[derive(Clone, Copy)]
+struct Declared {
+    offset: u16,
+    locals: Row,
+    stack: usize,
+    flag: bool,
+}
+
+/// The frames of one method (JVMS 4.10.1.4), their types by numbers: the running frame, which instructions change, and
+/// the declared frames, which stay.
+///
+/// A declared frame is found by its offset, and known from then on by its place, in the order in which frames were
+/// declared. A comparison of the running frame with it takes time for what changed since the two were compared before.
+/// Where memory runs out, which is the only refusal, 1, all frames stay as they were, but for two calls:
+/// [`rearrange`](MethodFrames::rearrange) leaves the running frame without its stack, and [`take`](MethodFrames::take)
+/// says nothing of the running frame but how many locals it has.
+#[derive(Drop)]
+pub struct MethodFrames<'t, 'c, 'n, C: Classes, S: BuildHasher> {
+    locals: TypeRows<'t, 'c, 'n, C, S>,
+    max_locals: u16,
+    stacks: StackRows<'t, 'c, 'n, C, S>,
+    flag: bool,
+    declared: Vec<Declared>,
+    /// By offsets, the place of the declared frame, counted from 1; 0 where there is none.
+    places: Vec<usize>,
+}
+
+impl<'t, 'c, 'n, C: Classes, S: BuildHasher> Model for MethodFrames<'t, 'c, 'n, C, S> {
+    ghost use Rattle.method_frames.specs.NumberedFrames.{NumberedFrames};
+    ghost use Rattle.method_frames.specs.private.Frames.{frames_of, AreFrames};
+
+    ghost Value = { NumberedFrames };
+
+    ghost view = { λ x. frames_of x.locals x.stacks x.flag x.declared.items };
+
+    ghost invariant = { λ x. AreFrames x.locals x.stacks x.max_locals x.declared.items x.places.items };
+}
+
+/// Makes room for an offset.
+fn reach(offset: u16, places: &mut Vec<usize>) -> Result<(), AllocError>
+    ensures same { (at : ℕ) → slice_index places.new.items at ≡ slice_index places.old.items at }
+    ensures room { OnOk result (offset < length places.new.items) }
+{
+    let offset = usize::from(offset);
+    if places.len() <= offset {
+        places.resize(offset + 1, 0)?;
+    }
+    Ok(())
+}
+
+/// What a table has for an offset; 0 beyond its end.
+fn place_at(offset: u16, places: &[usize]) -> usize
+    ensures { result ≡ slice_index places.now offset }
+{
+    places.get(usize::from(offset)).copied().unwrap_or(0)
+}
+
+impl<'t, 'c, 'n, C: Classes, S: BuildHasher> MethodFrames<'t, 'c, 'n, C, S> {
+    ghost use Rattle.std.specs.Prelude.{◌↔◌, ◌≤◌, [], ◌∷◌, ◌++◌, None, Some, IsTrue, replicate, slice_set, slice_get, IfOk, IfSome, IsSomeAnd, MatchOption, OnErr};
+    ghost use Rattle.hierarchy.specs.Answer.{outcome_of};
+    ghost use Rattle.insn.specs.Offsets.{at_offset};
+    ghost use Rattle.insn.specs.Stacks.{rearranged};
+    ghost use Rattle.insn.specs.Views.{stack_form_view};
+    ghost use Rattle.frames.specs.Slots.{units_of};
+    ghost use Rattle.frames.specs.FrameAssignable.{frame_answer};
+    ghost use Rattle.type_numbers.specs.Numbers.{IsGiven};
+    ghost use Rattle.type_numbers.specs.Decoding.{types_by};
+    ghost use Rattle.method_frames.specs.NumberedFrames.{frame_by, declared_frame};
+
+    /// The running frame has so many locals, all of them top, and nothing on its stack. No frame is declared yet, and
+    /// none will have more than so many items on its stack.
+    pub fn new(
+        alloc: Global,
+        types: &'t TypeNumbers<'c, 'n, C, S>,
+        max_locals: u16,
+        max_stack: u16,
+        flag: bool,
+    ) -> Result<MethodFrames<'t, 'c, 'n, C, S>, AllocError>
+        ensures { IfOk result (λ x. x ≡ record {
+          types = types.now;
+          limit = max_stack;
+          running = record { locals = replicate max_locals 0; stack = []; flag = flag };
+          declared = [];
+        }) }
+    {
+        Ok(MethodFrames {
+            locals: TypeRows::new(alloc, types, max_locals)?,
+            max_locals,
+            stacks: StackRows::new(alloc, types, max_stack)?,
+            flag,
+            declared: Vec::new(alloc),
+            places: Vec::new(alloc),
+        })
+    }
+
+    /// How many local variables the frames have.
+    pub fn max_locals(&self) -> u16
+        ensures { result ≡ length self.now.running.locals }
+    {
+        self.max_locals
+    }
+
+    /// The number of a local variable of the running frame; 0, which is that of top, where there is no such local.
+    pub fn local(&self, place: usize) -> u32
+        ensures number { result ≡ slice_index self.now.running.locals place }
+        ensures given { IsGiven self.now.types result }
+    {
+        if place < usize::from(self.max_locals) {
+            self.locals.get(place)
+        } else {
+            0
+        }
+    }
+
+    /// Gives a local variable of the running frame a type, and no other one: a long or double that is stored changes
+    /// its neighbours by calls of their own. A type that is there already takes no memory.
+    pub fn set_local(&mut self, place: usize, number: u32) -> Result<(), AllocError>
+        requires place { place < length self.old.running.locals }
+        requires given { IsGiven self.old.types number }
+        ensures ok { OnOk result (self.new ≡ record self.old {
+          running = record self.old.running {
+            locals = slice_set self.old.running.locals place number;
+          };
+        }) }
+        ensures err { OnErr result (self.new ≡ self.old) }
+    {
+        self.locals.set(place, number)
+    }
+
+    /// Whether the own object is uninitialized in the running frame.
+    pub fn flag(&self) -> bool
+        ensures { result ≡ self.now.running.flag }
+    {
+        self.flag
+    }
+
+    /// Says whether the own object is uninitialized in the running frame.
+    pub fn set_flag(&mut self, flag: bool)
+        ensures { self.new ≡ record self.old { running = record self.old.running { flag = flag } } }
+    {
+        self.flag = flag;
+    }
+
+    /// How many items are on the stack of the running frame.
+    pub fn depth(&self) -> usize
+        ensures { result ≡ length self.now.running.stack }
+    {
+        self.stacks.depth()
+    }
+
+    /// Whether the stack of the running frame has at least so many units.
+    pub fn has_units(&self, count: usize) -> bool
+        ensures { IsTrue result ↔ (count ≤ units_of (types_by self.now.types self.now.running.stack)) }
+    {
+        self.stacks.has_units(count)
+    }
+
+    /// Pushes a type.
+    pub fn push(&mut self, number: u32) -> Result<(), AllocError>
+        requires { IsGiven self.old.types number }
+        ensures ok { OnOk result (self.new ≡ record self.old {
+          running = record self.old.running {
+            stack = number ∷ self.old.running.stack;
+          };
+        }) }
+        ensures err { OnErr result (self.new ≡ self.old) }
+    {
+        self.stacks.push(number)
+    }
+
+    /// Takes the top of the stack off.
+    pub fn pop(&mut self) -> Option<u32>
+        ensures taken { MatchOption result ((self.old.running.stack ≡ []) × (self.new ≡ self.old))
+            (λ number. self.old ≡ record self.new {
+              running = record self.new.running {
+                stack = number ∷ self.new.running.stack;
+              };
+            }) }
+        ensures given { IfSome result (IsGiven self.old.types) }
+    {
+        self.stacks.pop()
+    }
+
+    /// The number of the item of the stack that so many stand above.
+    pub fn item(&self, above: usize) -> Option<u32>
+        ensures item { result ≡ slice_get self.now.running.stack above }
+        ensures given { IfSome result (IsGiven self.now.types) }
+    {
+        self.stacks.item(above)
+    }
+
+    /// Takes the items of a form off the stack, and pushes what it leaves (JVMS 2.11.6). Nothing is left on the stack
+    /// where memory runs out.
+    pub fn rearrange(&mut self, form: StackForm) -> Result<(), AllocError>
+        requires { length form.takes.now ≤ length self.old.running.stack }
+        ensures ok { OnOk result (self.new ≡ record self.old {
+          running = record self.old.running {
+            stack = rearranged (stack_form_view form) self.old.running.stack;
+          };
+        }) }
+        ensures err { OnErr result (self.new
+            ≡ record self.old { running = record self.old.running { stack = [] } }) }
+    {
+        self.stacks.rearrange(form)
+    }
+
+    /// Takes all items off the stack.
+    pub fn clear_stack(&mut self)
+        ensures { self.new ≡ record self.old { running = record self.old.running { stack = [] } } }
+    {
+        self.stacks.clear();
+    }
+
+    /// Declares a frame at an offset in bytes: the running one, as it is now. Tells its place.
+    pub fn declare(&mut self, offset: u16) -> Result<usize, AllocError>
+        requires stack { length self.old.running.stack ≤ self.old.limit }
+        requires other { at_offset self.old.declared offset ≡ None }
+        ensures place { IfOk result (λ frame. frame ≡ length self.old.declared) }
+        ensures ok { OnOk result (self.new
+            ≡ record self.old { declared = self.old.declared ++ (offset, self.old.running) ∷ [] }) }
+        ensures err { OnErr result (self.new ≡ self.old) }
+    {
+        reach(offset, &mut self.places)?;
+        let declared = Declared {
+            offset,
+            locals: self.locals.declare()?,
+            stack: self.stacks.declare()?,
+            flag: self.flag,
+        };
+        let frame = self.declared.len();
+        self.declared.push(declared)?;
+        self.places[usize::from(offset)] = frame + 1;
+        Ok(frame)
+    }
+
+    /// The place of the frame that is declared at an offset in bytes. Takes no memory.
+    pub fn find(&self, offset: u16) -> Option<usize>
+        ensures { MatchOption result (at_offset self.now.declared offset ≡ None)
+            (λ frame. IsSomeAnd (slice_get self.now.declared frame)
+            (λ x. (x.0 ≡ offset) × (at_offset self.now.declared offset ≡ Some x.1))) }
+    {
+        let place = place_at(offset, &self.places);
+        if place == 0 {
+            return None;
+        }
+        Some(place - 1)
+    }
+
+    /// The running frame becomes a declared one: its locals at once, its stack item by item.
+    pub fn take(&mut self, frame: usize) -> Result<(), AllocError>
+        requires { frame < length self.old.declared }
+        ensures rest { self.new ≡ record self.old { running = self.new.running } }
+        ensures size { length self.new.running.locals ≡ length self.old.running.locals }
+        ensures ok { OnOk result (self.new.running ≡ declared_frame self.old frame) }
+    {
+        let declared = self.declared[frame];
+        self.locals.take(declared.locals);
+        self.flag = declared.flag;
+        self.stacks.take(declared.stack)
+    }
+
+    /// Whether the running frame may stand where a declared one is wanted (JVMS 4.10.1.4): no before missing, and then
+    /// the first class that is missing, of the locals from 0 up, then of the stack from the bottom up.
+    pub fn answer(&mut self, frame: usize) -> Result<Answer<'n>, AllocError>
+        requires { frame < length self.old.declared }
+        ensures same { self.new ≡ self.old }
+        ensures told { IfOk result (λ answer. outcome_of answer
+            ≡ frame_answer self.old.types.classes (frame_by self.old.types self.old.running)
+            (frame_by self.old.types (declared_frame self.old frame))) }
+    {
+        let declared = self.declared[frame];
+        if self.flag && !declared.flag {
+            return Ok(Answer::No);
+        }
+        let locals = self.locals.answer(declared.locals);
+        let stack = self.stacks.answer(declared.stack)?;
+        Ok(both(locals, stack))
+    }
+}

@@ -1,0 +1,246 @@
+//! Operand stacks: of the running frame of a method, and of its declared frames.
+ghost use Rattle.std.specs.Prelude.{◌≡◌, ◌≤◌, length, take, reverse, OnOk};
+ghost use Rattle.method_frames.specs.private.Known.{AreGiven};
+ghost use Rattle.method_frames.specs.private.Stacks.{Changes, Holds};
+
+use crate::items::Items;
+use crate::type_rows::TypeRows;
+use blocks::Row;
+use hierarchy::{Answer, Classes};
+use insn::StackForm;
+use std::alloc::{AllocError, Global};
+use std::hash::BuildHasher;
+use std::marker::Model;
+use type_numbers::TypeNumbers;
+
+/// How high a declared stack is, and the row that holds its items.
+#[derive(Clone, Copy)]
+struct Height {
+    row: Row,
+    /// How many items it has.
+    depth: usize,
+    /// How many of them are a long or a double.
+    wides: usize,
+}
+
+/// The operand stacks of one method (JVMS 2.6.2), their items by the numbers of their types: that of the running frame,
+/// and those of its declared frames.
+///
+/// The running stack is a row of its own, which instructions change at its top. It is written to a [`TypeRows`] only
+/// where it is compared or declared, and then only from the least depth on that it had since it was last written: so a
+/// comparison takes time for what changed and not for the depth of a stack.
+#[derive(Drop)]
+pub struct StackRows<'t, 'c, 'n, C: Classes, S: BuildHasher> {
+    items: Items,
+    rows: TypeRows<'t, 'c, 'n, C, S>,
+    /// The running row holds the items in front of this place.
+    written: usize,
+    /// The running row holds Top from this place on.
+    high: usize,
+    declared: Vec<Height>,
+}
+
+impl<'t, 'c, 'n, C: Classes, S: BuildHasher> Model for StackRows<'t, 'c, 'n, C, S> {
+    ghost use Rattle.method_frames.specs.NumberedStacks.{NumberedStacks};
+    ghost use Rattle.method_frames.specs.private.Stacks.{stacks_of, AreStacks};
+
+    ghost Value = { NumberedStacks };
+
+    ghost view = { λ x. stacks_of x.items x.rows x.declared.items };
+
+    ghost invariant = { λ x. AreStacks x.items x.rows x.written x.high x.declared.items };
+}
+
+/// Writes items, and Top above them, to the places of the running row from one on and in front of another one.
+fn write<C: Classes, S: BuildHasher>(
+    items: &Items,
+    from: usize,
+    to: usize,
+    rows: &mut TypeRows<'_, '_, '_, C, S>,
+) -> Result<(), AllocError>
+    requires places { to ≤ length rows.old.running }
+    requires given { AreGiven rows.old.types items.now }
+    ensures only { Changes from to rows.old rows.new }
+    ensures held { OnOk result (Holds items.now from to rows.new) }
+{
+    for place in from..to {
+        rows.set(place, items.get(place))?;
+    }
+    Ok(())
+}
+
+/// Takes the first places of the running row as items.
+fn read<C: Classes, S: BuildHasher>(
+    rows: &TypeRows<'_, '_, '_, C, S>,
+    depth: usize,
+    items: &mut Items,
+) -> Result<(), AllocError>
+    requires { depth ≤ length rows.now.running }
+    ensures given { AreGiven rows.now.types items.new }
+    ensures all { OnOk result (items.new ≡ reverse (take depth rows.now.running)) }
+{
+    items.clear();
+    for place in 0..depth {
+        items.push(rows.get(place))?;
+    }
+    Ok(())
+}
+
+impl<'t, 'c, 'n, C: Classes, S: BuildHasher> StackRows<'t, 'c, 'n, C, S> {
+    ghost use Rattle.std.specs.Prelude.{◌≡◌, ◌↔◌, ◌<◌, ◌≤◌, [], ◌∷◌, ◌++◌, length, slice_index, slice_get, IsTrue, IfOk, IfSome, MatchOption, OnOk, OnErr};
+    ghost use Rattle.hierarchy.specs.Answer.{outcome_of};
+    ghost use Rattle.insn.specs.Stacks.{rearranged};
+    ghost use Rattle.insn.specs.Views.{stack_form_view};
+    ghost use Rattle.frames.specs.Slots.{units_of};
+    ghost use Rattle.frames.specs.FrameAssignable.{item_answer, stack_answer};
+    ghost use Rattle.type_numbers.specs.Numbers.{IsGiven};
+    ghost use Rattle.type_numbers.specs.Decoding.{types_by};
+    ghost use Rattle.method_frames.specs.NumberedStacks.{declared_stack};
+
+    /// Stacks of which none that is declared has more items than this; the running one has none.
+    pub fn new(
+        alloc: Global,
+        types: &'t TypeNumbers<'c, 'n, C, S>,
+        limit: u16,
+    ) -> Result<StackRows<'t, 'c, 'n, C, S>, AllocError>
+        ensures { IfOk result (λ x. x ≡ record { types = types.now; limit = limit; running = []; declared = [] }) }
+    {
+        Ok(StackRows {
+            items: Items::new(alloc),
+            rows: TypeRows::new(alloc, types, limit)?,
+            written: 0,
+            high: 0,
+            declared: Vec::new(alloc),
+        })
+    }
+
+    /// How many items the running stack has.
+    pub fn depth(&self) -> usize
+        ensures { result ≡ length self.now.running }
+    {
+        self.items.count()
+    }
+
+    /// Whether the running stack has at least so many units, of which a long or a double takes two.
+    pub fn has_units(&self, count: usize) -> bool
+        ensures { IsTrue result ↔ (count ≤ units_of (types_by self.now.types self.now.running)) }
+    {
+        self.items.has_units(count)
+    }
+
+    /// Pushes a type, by its number. The only refusal is 1, where memory runs out.
+    pub fn push(&mut self, number: u32) -> Result<(), AllocError>
+        requires { IsGiven self.old.types number }
+        ensures ok { OnOk result (self.new ≡ record self.old { running = number ∷ self.old.running }) }
+        ensures err { OnErr result (self.new ≡ self.old) }
+    {
+        self.items.push(number)
+    }
+
+    /// Takes the top off.
+    pub fn pop(&mut self) -> Option<u32>
+        ensures taken { MatchOption result ((self.old.running ≡ []) × (self.new ≡ self.old))
+            (λ number. self.old ≡ record self.new { running = number ∷ self.new.running }) }
+        ensures given { IfSome result (IsGiven self.old.types) }
+    {
+        let number = self.items.pop()?;
+        self.written = self.written.min(self.items.count());
+        Some(number)
+    }
+
+    /// The number of the item that so many stand above.
+    pub fn item(&self, above: usize) -> Option<u32>
+        ensures item { result ≡ slice_get self.now.running above }
+        ensures given { IfSome result (IsGiven self.now.types) }
+    {
+        self.items.item(above)
+    }
+
+    /// Takes the items of a form off, and pushes what it leaves (JVMS 2.11.6). The only refusal is 1, and nothing is
+    /// left on the stack then.
+    pub fn rearrange(&mut self, form: StackForm) -> Result<(), AllocError>
+        requires { length form.takes.now ≤ length self.old.running }
+        ensures ok { OnOk result (self.new
+            ≡ record self.old { running = rearranged (stack_form_view form) self.old.running }) }
+        ensures err { OnErr result (self.new ≡ record self.old { running = [] }) }
+    {
+        self.written = self.written.min(self.items.count() - form.takes.len());
+        if let Err(error) = self.items.rearrange(form) {
+            self.written = 0;
+            return Err(error);
+        }
+        Ok(())
+    }
+
+    /// Takes all items off.
+    pub fn clear(&mut self)
+        ensures { self.new ≡ record self.old { running = [] } }
+    {
+        self.items.clear();
+        self.written = 0;
+    }
+
+    /// Declares a stack that holds what the running one does, and tells its place. The only refusal is 1.
+    pub fn declare(&mut self) -> Result<usize, AllocError>
+        requires { length self.old.running ≤ self.old.limit }
+        ensures place { IfOk result (λ stack. stack ≡ length self.old.declared) }
+        ensures ok { OnOk result (self.new
+            ≡ record self.old { declared = self.old.declared ++ self.old.running ∷ [] }) }
+        ensures err { OnErr result (self.new ≡ self.old) }
+    {
+        let depth = self.items.count();
+        self.high = self.high.max(depth);
+        write(&self.items, self.written, self.high, &mut self.rows)?;
+        self.written = depth;
+        self.high = depth;
+        let height = Height {
+            row: self.rows.declare()?,
+            depth,
+            wides: self.items.wides(),
+        };
+        let stack = self.declared.len();
+        self.declared.push(height)?;
+        Ok(stack)
+    }
+
+    /// The running stack becomes a declared one, item by item. The only refusal is 1, and nothing is said of the
+    /// running stack then.
+    pub fn take(&mut self, stack: usize) -> Result<(), AllocError>
+        requires { stack < length self.old.declared }
+        ensures rest { self.new ≡ record self.old { running = self.new.running } }
+        ensures ok { OnOk result (self.new.running ≡ declared_stack self.old stack) }
+    {
+        let height = self.declared[stack];
+        self.rows.take(height.row);
+        self.high = height.depth;
+        self.written = 0;
+        read(&self.rows, height.depth, &mut self.items)?;
+        self.written = height.depth;
+        Ok(())
+    }
+
+    /// Whether the items of the running stack may stand where those of a declared one are wanted (JVMS 4.10.1.4): no
+    /// before missing, and then the first class that is missing, from the bottom up. The only refusal is 1.
+    ///
+    /// Where two stacks have as many items and as many units, it is enough to compare their types: no narrow type is
+    /// assignable to a long or a double, and a long or double that stood for Top would leave fewer units.
+    pub fn answer(&mut self, stack: usize) -> Result<Answer<'n>, AllocError>
+        requires { stack < length self.old.declared }
+        ensures same { self.new ≡ self.old }
+        ensures told { IfOk result (λ answer. let s = self.old.types in outcome_of answer
+            ≡ stack_answer (item_answer s.classes) (types_by s self.old.running)
+            (types_by s (declared_stack self.old stack))) }
+    {
+        let height = self.declared[stack];
+        if height.depth != self.items.count() {
+            return Ok(Answer::No);
+        }
+        if height.wides != self.items.wides() {
+            return Ok(Answer::No);
+        }
+        self.high = self.high.max(height.depth);
+        write(&self.items, self.written, height.depth, &mut self.rows)?;
+        self.written = height.depth;
+        Ok(self.rows.answer(height.row))
+    }
+}
