@@ -160,6 +160,16 @@ module _ (es : List Entry) (i : ℕ) (d : Entry) (within : i < length es) (numbe
       (some_more (λ x. (i, x)) (at_handler s classes frames at f (entry_view here)) n)
       ∙ ap (λ (k : ℕ). option_map (λ (x : DifferenceAtFact). (k, x)) (at_handler s classes frames at f (entry_view here))) place_is
 
+  -- there is none
+  pub alike_there : (s : Sought) (classes : List ClassFact) (frames : Frames) (at : ℕ) (f : FrameFact) → at_handler s classes frames at f (entry_view here) ≡ None
+      → at_handlers s classes frames at f i (map entry_view (drop i es)) ≡ at_handlers s classes frames at f (i + 1) (map entry_view (drop (i + 1) es))
+  alike_there s classes frames at f n =
+      let next : suc i ≡ i + 1 = omega arith in
+      let others : List ExceptionEntry = map entry_view (drop (i + 1) es) in
+      ap (λ xs. at_handlers s classes frames at f i (map entry_view xs)) next_is
+      ∙ second_is (option_map (λ x. (i, x)) (at_handler s classes frames at f (entry_view here))) (at_handlers s classes frames at f (suc i) others) (ap (option_map (λ (x : DifferenceAtFact). (i, x))) n)
+      ∙ ap (λ k. at_handlers s classes frames at f k others) next
+
 -- the answer where an entry was refused
 pub refused_told : (e : RuleReason) (r : Result (Option ℕ) AllocError) (x : Option ℕ) (place : ℕ) → IfOk r (λ o. (o ≡ Some place) × (e ≢ OutOfMemory)) → (e ≡ OutOfMemory) ⊎ (x ≡ Some place)
     → IfOk r (λ o. o ≡ x)
