@@ -205,8 +205,8 @@ impl<'a> Fitting<'a> {
         }
     }
 
-    // Of a floor and a place that has so many types above it the one by which less is compared, where the place was seen
-    // at a moment that is not before this one.
+    // The floor or this place, which has so many types above it, whichever leaves less to compare. The place counts only if
+    // it was seen at a moment that is not before this one.
     fn lesser(&self, floor: Floor<'a>, place: usize, above: usize, since: usize) -> Floor<'a>
         requires known { IsFloor self.now floor }
         requires late { since ≤ floor.moment }

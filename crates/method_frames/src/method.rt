@@ -63,7 +63,7 @@ fn reach(offset: u16, places: &mut Vec<usize>) -> Result<(), AllocError>
     Ok(())
 }
 
-/// What a table has for an offset; 0 beyond its end.
+/// The entry of a table for an offset; 0 beyond its end.
 fn place_at(offset: u16, places: &[usize]) -> usize
     ensures { result ≡ slice_index places.now offset }
 {
