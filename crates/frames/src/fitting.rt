@@ -16,8 +16,8 @@ use std::alloc::{AllocError, Global};
 /// Which chains of declared frames locals that change are known to fit, and which ask for a class that is missing.
 ///
 /// A moment is the number of changes in front of it. Each link has the moment, if there is one, at which the locals
-/// were last seen to fit the chain from there down: since then they do, but for those that changed. Notes hold until the
-/// next change.
+/// were last seen to fit the chain from there down: since then they do, but for those that changed. Notes hold until
+/// the next change.
 #[derive(Drop)]
 pub struct Fitting<'a> {
     /// One for each link of the table's chains; none where it has no room in four bytes.
@@ -26,8 +26,8 @@ pub struct Fitting<'a> {
     changes: Vec<u16>,
     /// Marks of moments before this one say nothing any more.
     known_from: usize,
-    /// For each link, the missing class that the locals ask for by the chain from there down, if that was noted; nothing
-    /// at all as long as no class was missing.
+    /// For each link, the missing class that the locals ask for by the chain from there down, if that was noted;
+    /// nothing at all as long as no class was missing.
     notes: Vec<Option<&'a [u8]>>,
     /// The moment of the notes.
     noted: usize,
@@ -205,8 +205,8 @@ impl<'a> Fitting<'a> {
         }
     }
 
-    // The floor or this place, which has so many types above it, whichever leaves less to compare. The place counts only if
-    // it was seen at a moment that is not before this one.
+    // The floor or this place, which has so many types above it, whichever leaves less to compare. The place counts
+    // only if it was seen at a moment that is not before this one.
     fn lesser(&self, floor: Floor<'a>, place: usize, above: usize, since: usize) -> Floor<'a>
         requires known { IsFloor self.now floor }
         requires late { since ≤ floor.moment }
