@@ -211,13 +211,13 @@ ends_kept None name n body = ends_done _
 ends_kept (Some layout) name n body = ends_if _ _ _ (ends_done _) (ends_refuse _)
 
 covers_attribute : (entries_of : List Entry) (place : Location) → Covers (layouts.attribute entries_of place) attribute Any
-unfolding layouts.attribute
+unfolding layouts.attribute layouts.attribute_info
 covers_attribute entries_of place = covers_body_of
     (λ name n body. if is_code entries_of place name then inside n body (layouts.code entries_of) (λ c. done (of_parts name c)) else layouts.kept (layout_at entries_of place name) name n body)
     (λ name n body. ends_if _ _ _ (ends_inside n body (layouts.code entries_of) _) (ends_kept (layout_at entries_of place name) name n body))
 
 covers_class_attribute : (entries_of : List Entry) (place : Location) → Covers (layouts.class_attribute entries_of place) attribute Any
-unfolding layouts.class_attribute
+unfolding layouts.class_attribute layouts.attribute_info
 covers_class_attribute entries_of place = covers_body_of
     (λ name n body. if is_record entries_of place name then inside n body (layouts.components entries_of) (λ c. done (of_parts name c)) else layouts.kept (layout_at entries_of place name) name n body)
     (λ name n body. ends_if _ _ _ (ends_inside n body (layouts.components entries_of) _) (ends_kept (layout_at entries_of place name) name n body))

@@ -31,11 +31,21 @@ kept (Some layout) name n body =
     if has_layout layout body then done (of_numbers name (record { layout = layout; body = body }))
     else refuse (λ at. AttributeLength (at - n - 6))
 
--- an attribute of a Code attribute: its name's index, the length of its body, and the body, as it is or as numbers
+-- what all attributes have (4.7): the name's index, the length of the body, and the body
+pub record AttributeInfo : Type 0 where
+  pub name : ℕ
+  pub size : ℕ
+  pub body : List ℕ
+
+unfoldable pub attribute_info : Format AttributeInfo
+attribute_info = andthen (number 2) (λ name. andthen (number 4) (λ n. part n (λ body.
+    done (record { name = name; size = n; body = body }))))
+
+-- an attribute of a Code attribute, whose body is kept as it is or as numbers
 unfoldable pub nested : List Entry → Format Nested
-nested pool = andthen (number 2) (λ name. andthen (number 4) (λ n. part n (λ body.
-    if is_stack_map pool location.Code name then done (of_parts name body)
-    else kept (layout_at pool location.Code name) name n body)))
+nested pool = andthen attribute_info (λ a.
+    if is_stack_map pool location.Code a.name then done (of_parts a.name a.body)
+    else kept (layout_at pool location.Code a.name) a.name a.size a.body)
 
 -- what stands before the exception table of a Code attribute
 pub record Sizes : Type 0 where
@@ -65,12 +75,11 @@ code pool = andthen sizes (λ s. andthen handlers (λ handlers. andthen (nested_
       attributes = attributes;
     }))))
 
--- an attribute: its name's index, the length of its body, and the body, whose parts are read where it is a Code
--- attribute
+-- an attribute, the parts of whose body are read where it is a Code attribute
 unfoldable pub attribute : List Entry → Location → Format Attribute
-attribute pool place = andthen (number 2) (λ name. andthen (number 4) (λ n. part n (λ body.
-    if is_code pool place name then inside n body (code pool) (λ c. done (of_parts name c))
-    else kept (layout_at pool place name) name n body)))
+attribute pool place = andthen attribute_info (λ a.
+    if is_code pool place a.name then inside a.size a.body (code pool) (λ c. done (of_parts a.name c))
+    else kept (layout_at pool place a.name) a.name a.size a.body)
 
 unfoldable pub attributes : List Entry → Location → Format (List Attribute)
 attributes pool place = table (attribute pool place)
@@ -98,12 +107,11 @@ component pool = andthen two (λ head. andthen (attributes pool location.RecordC
 unfoldable pub components : List Entry → Format (List Component)
 components pool = table (component pool)
 
--- an attribute of a class: its name's index, the length of its body, and the body, whose parts are read where it is a
--- Record attribute
+-- an attribute of a class, the parts of whose body are read where it is a Record attribute
 unfoldable pub class_attribute : List Entry → Location → Format ClassAttribute
-class_attribute pool place = andthen (number 2) (λ name. andthen (number 4) (λ n. part n (λ body.
-    if is_record pool place name then inside n body (components pool) (λ c. done (of_parts name c))
-    else kept (layout_at pool place name) name n body)))
+class_attribute pool place = andthen attribute_info (λ a.
+    if is_record pool place a.name then inside a.size a.body (components pool) (λ c. done (of_parts a.name c))
+    else kept (layout_at pool place a.name) a.name a.size a.body)
 
 unfoldable pub class_attributes : List Entry → Location → Format (List ClassAttribute)
 class_attributes pool place = table (class_attribute pool place)

@@ -4,6 +4,7 @@ ghost use Rattle.layout.specs.Pieces.{Goes, field, lengthened, marked};
 ghost use Rattle.classfile.specs.private.Pieces.{code_pieces};
 ghost use Rattle.classfile.specs.Views.{code_view};
 
+use crate::attribute_info::{AttributeInfo, take_info};
 use crate::code::{CodeAttr, put_code, whole_code};
 use crate::layouts::{has_layout, layout_at};
 use crate::location::{Location, is_code};
@@ -70,20 +71,22 @@ impl<'a> Item<'a> for Attribute<'a> {
 
     ghost pieces = { attribute_pieces };
 
-    #[tactic(auto, unfolding(crate::specs::ClassFile::attribute))]
+    #[tactic(auto, using(crate::proofs::Steps::steps), unfolding(crate::specs::ClassFile::attribute))]
     fn take(
         alloc: Global,
         pool: &Pool<'a>,
         location: Location,
         cursor: &mut Cursor<'a>,
     ) -> Result<Self, ReadFault> {
-        let name_at = cursor.at();
-        let name = cursor.u2()?;
-        let length = cursor.u4()?;
-        let start = cursor.at();
-        let body = cursor.part(length as usize)?;
+        let AttributeInfo {
+            at,
+            name,
+            start,
+            body,
+            ..
+        } = take_info(cursor)?;
         if is_code(pool, location, name) {
-            let code = whole_code(alloc, pool, name_at, start, body)?;
+            let code = whole_code(alloc, pool, at, start, body)?;
             Ok(Attribute::Code {
                 name,
                 code: Box::new(alloc, code)?,
@@ -95,7 +98,7 @@ impl<'a> Item<'a> for Attribute<'a> {
                     name,
                     numbers: Numbers { layout, body },
                 }),
-                Some(_) => Err(ReadFault::AttributeLength { at: name_at }),
+                Some(_) => Err(ReadFault::AttributeLength { at }),
             }
         }
     }

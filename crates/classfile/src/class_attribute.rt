@@ -5,6 +5,7 @@ ghost use Rattle.layout.specs.Pieces.{Goes, field, lengthened, marked};
 ghost use Rattle.classfile.specs.private.Pieces.{component_pieces};
 ghost use Rattle.classfile.specs.Views.{component_view, class_attribute_view};
 
+use crate::attribute_info::{AttributeInfo, take_info};
 use crate::component::{Component, put_components, whole_components};
 use crate::layouts::{has_layout, layout_at};
 use crate::location::{Location, is_record};
@@ -81,20 +82,22 @@ impl<'a> Item<'a> for ClassAttribute<'a> {
 
     ghost pieces = { class_attribute_pieces };
 
-    #[tactic(auto, unfolding(crate::specs::ClassFile::class_attribute))]
+    #[tactic(auto, using(crate::proofs::Steps::steps), unfolding(crate::specs::ClassFile::class_attribute))]
     fn take(
         alloc: Global,
         pool: &Pool<'a>,
         location: Location,
         cursor: &mut Cursor<'a>,
     ) -> Result<Self, ReadFault> {
-        let name_at = cursor.at();
-        let name = cursor.u2()?;
-        let length = cursor.u4()?;
-        let start = cursor.at();
-        let body = cursor.part(length as usize)?;
+        let AttributeInfo {
+            at,
+            name,
+            start,
+            body,
+            ..
+        } = take_info(cursor)?;
         if is_record(pool, location, name) {
-            let components = whole_components(alloc, pool, name_at, start, body)?;
+            let components = whole_components(alloc, pool, at, start, body)?;
             Ok(ClassAttribute::Record { name, components })
         } else {
             match layout_at(pool, location, name) {
@@ -103,7 +106,7 @@ impl<'a> Item<'a> for ClassAttribute<'a> {
                     name,
                     numbers: Numbers { layout, body },
                 }),
-                Some(_) => Err(ReadFault::AttributeLength { at: name_at }),
+                Some(_) => Err(ReadFault::AttributeLength { at }),
             }
         }
     }

@@ -12,6 +12,7 @@
 //! | `class_file` | [`ClassFile`], its version and what stands behind its pool |
 //! | `member` | [`Member`], a field or a method |
 //! | `attribute` | [`Attribute`] of a field, a method or a component of a record |
+//! | `attribute_info` | the name and the body of an attribute, whatever it is |
 //! | `class_attribute`, `component` | [`ClassAttribute`], and the [`Component`]s of a record |
 //! | `bootstraps` | [`Bootstraps`], which bootstrap methods of a class may be used |
 //! | `code` | [`CodeAttr`] and its [`ExceptionHandler`]s |
@@ -44,6 +45,7 @@
 mod attribute;
 mod attribute_fault;
 mod attribute_form;
+mod attribute_info;
 mod bootstraps;
 mod class_attribute;
 mod class_file;

@@ -2,6 +2,7 @@
 ghost use Rattle.std.specs.Prelude.{◌≡◌, ◌++◌, [], ◌∷◌};
 ghost use Rattle.layout.specs.Pieces.{Goes, field, plain, marked, lengthened};
 
+use crate::attribute_info::{AttributeInfo, take_info};
 use crate::layouts::{has_layout, layout_at};
 use crate::location::{Location, is_stack_map};
 use crate::numbers::{Numbers, is_laid_out};
@@ -54,17 +55,14 @@ impl<'a> Item<'a> for NestedAttribute<'a> {
 
     ghost pieces = { λ pool _. nested_pieces pool };
 
-    #[tactic(auto, unfolding(crate::specs::ClassFile::nested))]
+    #[tactic(auto, using(crate::proofs::Steps::steps), unfolding(crate::specs::ClassFile::nested))]
     fn take(
         _alloc: Global,
         pool: &Pool<'a>,
         _location: Location,
         cursor: &mut Cursor<'a>,
     ) -> Result<Self, ReadFault> {
-        let name_at = cursor.at();
-        let name = cursor.u2()?;
-        let length = cursor.u4()?;
-        let body = cursor.part(length as usize)?;
+        let AttributeInfo { at, name, body, .. } = take_info(cursor)?;
         if is_stack_map(pool, Location::Code, name) {
             Ok(NestedAttribute::StackMapTable { name, body })
         } else {
@@ -74,7 +72,7 @@ impl<'a> Item<'a> for NestedAttribute<'a> {
                     name,
                     numbers: Numbers { layout, body },
                 }),
-                Some(_) => Err(ReadFault::AttributeLength { at: name_at }),
+                Some(_) => Err(ReadFault::AttributeLength { at }),
             }
         }
     }

@@ -17,7 +17,7 @@ use Rattle.classfile.specs.Layouts.{AttributeLayout, has_layout, layout_at}
 use Rattle.classfile.specs.Numbers.{Numbers, is_laid_out}
 use Rattle.classfile.specs.private.NumbersLaws.{laid_out_parts, laid_out_as_it_is}
 use Rattle.classfile.specs.Values.{AttributeOf, of_parts, of_numbers, raw, name_of, Handler, Nested, CodeBody, Attribute, Member, Component, ClassAttribute, Class}
-use Rattle.classfile.specs.ClassFile.{Sizes, kept, handler, nested, sizes, handlers, nested_attributes, code, attribute, attributes, three, member, members, two, component, components, class_attribute, class_attributes, is_version, version, interfaces, class}
+use Rattle.classfile.specs.ClassFile.{attribute_info, Sizes, kept, handler, nested, sizes, handlers, nested_attributes, code, attribute, attributes, three, member, members, two, component, components, class_attribute, class_attributes, is_version, version, interfaces, class}
 
 -- ---- what each part is written as
 
@@ -246,7 +246,7 @@ inside_of_parts {A = A} {f = f} {p = p} m = record {
 }
 
 pub writes_nested : (pool : List Entry) → Writes (nested pool) (nested_pieces pool)
-unfolding nested
+unfolding nested attribute_info
 writes_nested pool = made_headed number_2 number_4
     (bodies_of (is_stack_map pool location.Code) (layout_at pool location.Code) kept_of_parts)
 
@@ -273,7 +273,7 @@ writes_code pool = made_whole {A = Sizes × (List Handler × List Nested)}
     (made_then _ writes_sizes (λ s. made_then _ writes_handlers (λ h. made_last _ (writes_nested_attributes pool))))
 
 pub writes_of : (pool : List Entry) (place : Location) → Writes (attribute pool place) (attribute_pieces pool place)
-unfolding attribute
+unfolding attribute attribute_info
 writes_of pool place = made_headed number_2 number_4
     (bodies_of (is_code pool place) (layout_at pool place) (inside_of_parts (writes_code pool)))
 
@@ -322,7 +322,7 @@ writes_components pool = made_counted number_2 (writes_component pool)
 
 pub writes_class_attribute : (pool : List Entry) (place : Location)
     → Writes (class_attribute pool place) (class_attribute_pieces pool place)
-unfolding class_attribute
+unfolding class_attribute attribute_info
 writes_class_attribute pool place =
     made_headed number_2 number_4
     (bodies_of (is_record pool place) (layout_at pool place) (inside_of_parts (writes_components pool)))
