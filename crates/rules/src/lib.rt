@@ -107,6 +107,7 @@ pub use protected_members::check_member;
 pub use reason::Reason;
 pub use replacing::replaced_object;
 pub use running::{run, run_plain};
+pub use stacks::units_taken;
 pub use unmet::{Unmet, UnmetOperand, first_unknown, first_unmet, unmet_is_found};
 pub use ways::{
     branches, branches_by, falls, goes_on, is_plain, keeps_locals, stored_to,

@@ -1,0 +1,37 @@
+//! The rules by which an instruction is verified (JVMS 4.10.1.9), on the running frame of a `MethodFrames`, whose types
+//! are numbers. Proved against the conditions and the frame after of the crate `rules` (specs/Rules.antt and
+//! specs/After.antt there), for the types that the numbers stand for. Each call changes the running frame in place, and
+//! nothing else of the frames. The calls to know are [`Expected::meets`] and [`pops`].
+//!
+//! - `computing`: plain instructions, each with a function of its own.
+//! - `expected`: the expected types of operands, and whether a type meets one.
+//! - `families`: what several families of instructions share; loads and increments.
+//! - `kinds`: the numbers of the types that every method may name.
+//! - `operands`: how operands are taken.
+//! - `slots`: local variables in place; `storing`: stores to them.
+//! - `stacks`: instructions that move items of the stack, such as `dup` and `swap`.
+//!
+//! Definitions: `specs/Expected.antt` has the expected types by numbers, and which expected types of `rules` they stand
+//! for; `specs/Held.antt` the frame that the running frame stands for.
+#![tactic(auto)]
+
+mod computing;
+mod expected;
+mod families;
+mod kinds;
+mod operands;
+mod slots;
+mod stacks;
+mod storing;
+
+pub use computing::{
+    array_length, gives_null, gives_number, loads_number, loads_reference, stores_number,
+    stores_reference, takes_int, takes_ints, takes_nothing, takes_reference, takes_references,
+    throws,
+};
+pub use expected::Expected;
+pub use families::{counts, give, gives, judge_left, loads, pops, settle};
+pub use kinds::{DOUBLE, FLOAT, INT, LONG, NULL, TOP, number_of};
+pub use operands::take;
+pub use stacks::rearranges;
+pub use storing::stores;
