@@ -1,22 +1,40 @@
 -- Which expected types those by numbers stand for.
-use Rattle.std.proofs.Common.{◌≡◌, ◌∙◌, ℕ, List, refl, ap}
+use Rattle.std.proofs.Common.{◌≡◌, ◌∙◌, ℕ, List, [], ◌∷◌, map, refl, ap}
+use Rattle.std.specs.List.{AllZip}
+use Rattle.std.proofs.lemmas.List.Elements.{All-nil, All-cons}
 use Rattle.names.specs.declared.base.Primitive.{Primitive}
 use Rattle.names.specs.ReferenceTypes.{ReferenceType}
 use Rattle.hierarchy.specs.Class.{ClassFact}
 use Rattle.insn.specs.declared.operation.Kind.{Kind}
+use Rattle.insn.specs.declared.operation.Kind.TheVariants.{Int, Long, Float, Double}
 use Rattle.frames.specs.VerificationType.{VerificationType, class, uninit_this}
 use Rattle.frames.specs.Assignable.{type_answer}
 use Rattle.frames.specs.Slots.{number_type, to_reference}
 use Rattle.type_numbers.specs.Numbers.{Numbering, IsNumber}
 use Rattle.type_numbers.proofs.Decoded.{number_read}
-use Rattle.rules.specs.TypingRules.{number, assignable_to, any_reference, any_array, any_array_for, own_or_assignable_to}
+use Rattle.rules.specs.TypingRules.{number, numbers, assignable_to, any_reference, any_array, any_array_for, own_or_assignable_to}
 use Rattle.rules.specs.Rules.{own_or_answer}
 use Rattle.numbered_rules.specs.declared.expected.Expected.TheVariants.{Assignable, Reference, Array, ArrayFor, OwnOr}
-use Rattle.numbered_rules.specs.Expected.{own_or, StandsFor}
+use Rattle.numbered_rules.specs.Expected.{kind_number, number_asked, own_or, AreExpected, IsExpected, StandsFor}
 
 -- the number of the type of a kind, for a number of this kind
 pub kind_stands : (s : Numbering) (n : ℕ) (kind : Kind) → IsNumber s n (number_type kind) → StandsFor s (Assignable n) (number kind)
 kind_stands s n kind h t = ap (type_answer s.classes t) (number_read s n (number_type kind) h)
+
+pub kind_is_number : (s : Numbering) (kind : Kind) → IsNumber s (kind_number kind) (number_type kind)
+kind_is_number s Int = record { number = refl; noted = tt }
+kind_is_number s Long = record { number = refl; noted = tt }
+kind_is_number s Float = record { number = refl; noted = tt }
+kind_is_number s Double = record { number = refl; noted = tt }
+
+-- several numbers of kinds
+pub kinds_stand : (s : Numbering) (kinds : List Kind) → AllZip (StandsFor s) (map number_asked kinds) (numbers kinds)
+kinds_stand s [] = tt
+kinds_stand s (kind ∷ kinds) = (kind_stands s (kind_number kind) kind (kind_is_number s kind), kinds_stand s kinds)
+
+pub kinds_expected : (s : Numbering) (kinds : List Kind) → AreExpected s (map number_asked kinds)
+kinds_expected s [] = All-nil (IsExpected s)
+kinds_expected s (kind ∷ kinds) = All-cons (IsExpected s) (number_asked kind) (map number_asked kinds) (number_type kind, kind_is_number s kind) (kinds_expected s kinds)
 
 -- the number of a class or an array, for what is assignable to it
 pub type_stands : (s : Numbering) (n : ℕ) (type : ReferenceType) → IsNumber s n (to_reference type) → StandsFor s (Assignable n) (assignable_to type)
