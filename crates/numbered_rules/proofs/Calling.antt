@@ -1,11 +1,13 @@
 -- Arguments taken off the running frame, the last one first, and the receiver beneath them.
-use Rattle.std.proofs.Common.{◌≡◌, ◌∙◌, ℕ, zero, suc, ◌+◌, ◌-◌, ◌<◌, ◌≤◌, true, List, [], ◌∷◌, ◌++◌, Option, Some, None, option_map, length, get_or, take, map, refl, sym, ap, subst, arith}
+use Rattle.std.proofs.Common.{◌≡◌, ◌∙◌, ℕ, zero, suc, ◌+◌, ◌-◌, ◌<◌, ◌≤◌, nat_eq, true, false, List, [], ◌∷◌, ◌++◌, Option, Some, None, option_map, length, get_or, take, map, refl, sym, ap, subst, arith}
+use Rattle.std.specs.Prelude.{MatchOption}
 use Rattle.std.specs.List.{All}
+use Rattle.std.proofs.lemmas.Bool.Decides.{nat_tests}
 use Rattle.std.proofs.lemmas.List.{take_all, take_more, length-map}
 use Rattle.std.proofs.lemmas.List.Elements.{All-nil, All-cons}
 use Rattle.names.specs.declared.base.Primitive.TheVariants.{Int}
-use Rattle.names.specs.Descriptors.{FieldDescriptor, MethodDescriptor, primitive, class as class_descriptor, array as array_descriptor}
-use Rattle.names.specs.ReferenceTypes.{ReferenceType, class_type, array_type}
+use Rattle.names.specs.Descriptors.{FieldDescriptor, dimensions, primitive, class as class_descriptor, array as array_descriptor}
+use Rattle.names.specs.ReferenceTypes.{ReferenceType, class_type, array_type, dimensions_of, is_class_type}
 use Rattle.hierarchy.specs.Class.{ClassFact}
 use Rattle.hierarchy.specs.Answer.{Outcome, yes}
 use Rattle.frames.specs.VerificationType.{VerificationType}
@@ -28,6 +30,10 @@ use Rattle.rules.proofs.Taking.{Rest, RestOff, rest_more, rest_end, others_kept}
 use Rattle.numbered_rules.specs.Held.{held, IsRunning}
 use Rattle.numbered_rules.specs.private.Calls.{receivers, IsOneTaken}
 use Rattle.numbered_rules.proofs.Taking.{running_same, running_then, types_stay}
+
+pub match_on : {A P Q : Type 0} {F G : A → Type 0} → (P → Q) → ((a : A) → F a → G a) → (o : Option A) → MatchOption o P F → MatchOption o Q G
+match_on f g None h = f h
+match_on f g (Some a) h = g a h
 
 -- ---- one operand after the other
 
@@ -152,3 +158,9 @@ module _ (ns : List ℕ) (old was : NumberedFrames) (i : ℕ) (a : Outcome) (non
         → is_short (arguments_on ts (receivers r)) (held old).stack ≡ true
     receiver_none empty ts None z k = absurd k
     receiver_none empty ts (Some t) z k = off_none old.types.classes (arguments_on ts (receivers (Some t))) (held old) (held was) a (assignable_to t) [] (last ts t z k) (ap (types_by was.types) empty)
+
+-- ---- whether a type is a class
+
+pub class_by_dims : (t : ReferenceType) (d : ℕ) → d ≡ dimensions_of t → nat_eq d 0 ≡ is_class_type t
+class_by_dims (class_type name) d e = ap (λ k. nat_eq k 0) e
+class_by_dims (array_type x) d e = let some : nat_eq (dimensions x + 1) 0 ≡ false = grind (arith, nat_tests) in ap (λ k. nat_eq k 0) e ∙ some

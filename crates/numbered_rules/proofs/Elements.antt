@@ -1,20 +1,32 @@
 -- Numbers of arrays, of their elements, and of arrays of them.
-use Rattle.std.proofs.Common.{◌≡◌, ◌≢◌, ◌∙◌, ℕ, zero, suc, ◌+◌, ◌-◌, ◌*◌, ◌/◌, ◌%◌, ◌<◌, ◌≤◌, Bool, true, false, cond, nat_lt, nat_eq, ◌&&◌, ◌||◌, List, Option, Some, None, position, refl, sym, ap, subst, arith}
+use Rattle.std.proofs.Common.{◌≡◌, ◌≢◌, ◌∙◌, ℕ, zero, suc, ◌+◌, ◌-◌, ◌*◌, ◌/◌, ◌%◌, ◌<◌, ◌≤◌, Bool, true, false, cond, nat_lt, nat_eq, ◌&&◌, ◌||◌, List, [], ◌∷◌, Option, Some, None, slice_get, position, Result, refl, sym, ap, subst, arith}
 use Rattle.std.specs.Str.{bytes_eq}
 use Rattle.std.proofs.lemmas.Bool.{lt-ltb, true≢false}
 use Rattle.std.proofs.lemmas.Bool.Decides.{nat_tests}
 use Rattle.names.specs.Descriptors.{FieldDescriptor, primitive, class as class_type, array as array_type, dimensions, dimensioned}
 use Rattle.names.specs.ReferenceTypes.{ReferenceType, class_type as of_class, array_type as of_array, descriptor_of, dimensions_of}
+use Rattle.classfile.specs.Methods.{Method}
+use Rattle.hierarchy.specs.Class.{ClassFact}
 use Rattle.hierarchy.specs.Places.{place_in}
 use Rattle.hierarchy.proofs.Names.{none_some, some_same}
+use Rattle.insn.specs.Meanings.{Act}
+use Rattle.insn.specs.Stacks.{beneath}
+use Rattle.insn.specs.declared.operation.Kind.TheVariants.{Int}
+use Rattle.frames.specs.Conditions.{reason}
+use Rattle.frames.specs.FrameFact.{FrameFact}
 use Rattle.frames.specs.VerificationType.{VerificationType, top, int, float, long, double, null, class, array, uninit_this, uninit}
 use Rattle.frames.specs.Packing.{element_code}
 use Rattle.frames.specs.Slots.{to_reference}
 use Rattle.type_numbers.specs.Numbers.{Numbering, IsNumber, absent_limit, number_by, numbered, array_number}
-use Rattle.type_numbers.specs.Decoding.{type_with, type_at, element_at}
+use Rattle.type_numbers.specs.Decoding.{type_with, type_at, type_by, types_by, element_at}
 use Rattle.type_numbers.proofs.Decoded.{far, one_type, read_back}
 use Rattle.type_numbers.proofs.NumberParts.{HasParts, parts_of, dims_back}
-use Rattle.rules.specs.After.{element_of}
+use Rattle.rules.specs.declared.reason.Reason.{Reason}
+use Rattle.rules.specs.Table.{object_array}
+use Rattle.rules.specs.TypingRules.{ExpectedType, number, pops, loads_element}
+use Rattle.rules.specs.After.{after, element_of, top_of, rest_of, with_stack}
+use Rattle.rules.specs.Outcomes.{Done}
+use Rattle.rules.specs.Rules.{conditions, gives_frame, is_too_wide, operand_conditions}
 use Rattle.numbered_rules.specs.private.Kinds.{holds_references, holds_references_by}
 
 -- ---- one dimension less, or more
@@ -93,6 +105,41 @@ module _ (s : Numbering) where
   pub null_element_number : (n : ℕ) (t : VerificationType) → IsNumber s n t → n ≡ 83886080 → IsNumber s 83886080 (element_of t)
   null_element_number n t h e = subst (λ u. IsNumber s 83886080 (element_of u)) (one_type s 83886080 null t null_number (subst (λ k. IsNumber s k t) e h)) null_number
 
+-- ---- the dimensions of a reference type
+
+numbered_dims : (tag dims rest n : ℕ) → numbered tag dims rest ≡ Some n → n / 65536 % 256 ≡ dims
+numbered_dims tag dims rest n e = dims_back tag dims rest n (parts_of tag dims rest n e)
+
+dims_by : (d n : ℕ) (o k : Option ℕ) → number_by d o k ≡ Some n → n / 65536 % 256 ≡ d
+dims_by d n (Some place) k e = numbered_dims 7 d place n e
+dims_by d n None None e = absurd (none_some e)
+dims_by d n None (Some k) e = by (nat_lt k absent_limit) e
+  where
+    by : (b : Bool) → cond b (numbered (10 + k / 65536) d (k % 65536)) None ≡ Some n → n / 65536 % 256 ≡ d
+    by true e = numbered_dims (10 + k / 65536) d (k % 65536) n e
+    by false e = absurd (none_some e)
+
+array_dims : (s : Numbering) (d n : ℕ) (x : FieldDescriptor) → array_number s.classes s.absent d x ≡ Some n → n / 65536 % 256 ≡ d + dimensions x
+array_dims s d n (primitive p) e = let is = numbered_dims 9 d (element_code p) n e in omega (arith, is)
+array_dims s d n (class_type name) e = let is = dims_by d n (place_in s.classes name) (position (bytes_eq name) s.absent) e in omega (arith, is)
+array_dims s d n (array_type x) e = let is = array_dims s (d + 1) n x e in omega (arith, is)
+
+pub reference_dims : (s : Numbering) (n : ℕ) (t : ReferenceType) → IsNumber s n (to_reference t) → n / 65536 % 256 ≡ dimensions_of t
+reference_dims s n (of_class name) h = dims_by 0 n (place_in s.classes name) (position (bytes_eq name) s.absent) h.number
+reference_dims s n (of_array x) h = let is = array_dims s 1 n x h.number in omega (arith, is)
+
+-- ---- the item beneath the top of a stack
+
+pub second_some : (s : Numbering) (stack : List ℕ) (n : ℕ) → Some n ≡ slice_get stack 1 → top_of (rest_of (types_by s stack)) ≡ type_by s n
+second_some s [] n e = absurd (none_some (sym e))
+second_some s (x ∷ []) n e = absurd (none_some (sym e))
+second_some s (x ∷ y ∷ stack) n e = ap (type_by s) (sym (some_same e))
+
+pub second_none : (s : Numbering) (stack : List ℕ) → None ≡ slice_get stack 1 → top_of (rest_of (types_by s stack)) ≡ top
+second_none s [] e = refl
+second_none s (x ∷ []) e = refl
+second_none s (x ∷ y ∷ stack) e = absurd (none_some e)
+
 -- ---- arrays of references, by the parts of a number
 
 named_holds : (dims : ℕ) (o : Option (List ℕ)) (t : VerificationType) → type_with dims o ≡ Some t → nat_lt 0 dims ≡ holds_references t
@@ -132,3 +179,18 @@ module _ (s : Numbering) (dims rest : ℕ) (t : VerificationType) where
 
 pub holds_parts : (s : Numbering) (n : ℕ) (t : VerificationType) → IsNumber s n t → holds_references_by (n / 16777216) (n / 65536 % 256) ≡ holds_references t
 holds_parts s n t h = holds_tag s (n / 65536 % 256) (n % 65536) t (n / 16777216) (read_back s n t h)
+
+-- ---- aaload
+
+beneath_two : (a b : ExpectedType) (ts : List VerificationType) → beneath (a ∷ b ∷ []) ts ≡ rest_of (rest_of ts)
+beneath_two a b [] = refl
+beneath_two a b (t ∷ []) = refl
+beneath_two a b (t ∷ u ∷ ts) = refl
+
+pub element_loaded : (cs : List ClassFact) (m : Method Act) (at : ℕ) (f now : FrameFact) (r : Result Unit Reason) (u : VerificationType) → u ≡ element_of (top_of (rest_of f.stack))
+    → Done (conditions cs m 0 (pops (number Int ∷ object_array ∷ []) (u ∷ []) [] true) f) (after m 0 (pops (number Int ∷ object_array ∷ []) (u ∷ []) [] true) f) now r
+    → Done (conditions cs m at loads_element f) (after m at loads_element f) now r
+element_loaded cs m at f now r u is d =
+    let ws = number Int ∷ object_array ∷ [] in
+    let same : after m 0 (pops ws (u ∷ []) [] true) f ≡ after m at loads_element f = λ i. with_stack f (is i ∷ beneath_two (number Int) object_array f.stack i) in
+    subst (λ z. Done ((reason 65, gives_frame (operand_conditions cs ws f.stack) && is_too_wide m z) ∷ operand_conditions cs ws f.stack) z now r) same d

@@ -9,3 +9,4 @@ pub mod Judging
 pub mod Naming
 pub mod Elements
 pub mod Calling
+pub mod Loading

@@ -1,11 +1,10 @@
 //! Instructions that load constants.
-ghost use Rattle.std.specs.Prelude.{◌≡◌, ℕ, Bool, if◌then◌else◌, option_map};
+ghost use Rattle.std.specs.Prelude.{◌≡◌, ℕ, Option, option_map};
 ghost use Rattle.names.specs.Descriptors.{FieldDescriptor};
 ghost use Rattle.pool.specs.ConstantMeanings.{constant_at, dynamic_type_at};
 ghost use Rattle.frames.specs.Slots.{descriptor_type};
 ghost use Rattle.type_numbers.specs.Numbers.{IsNumberOf};
 ghost use Rattle.type_numbers.specs.Constants.{IsTable};
-ghost use Rattle.rules.specs.TypingRules.{where_judged};
 ghost use Rattle.rules.specs.Constants.{is_bootstrapped, load_constant, load_dynamic, load_wide_constant};
 ghost use Rattle.numbered_rules.specs.private.Loading.{load_computed, units_by};
 ghost use Rattle.rules.specs.After.{after};

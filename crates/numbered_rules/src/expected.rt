@@ -4,7 +4,8 @@ ghost use Rattle.hierarchy.specs.Answer.{outcome_of};
 ghost use Rattle.type_numbers.specs.Numbers.{Numbering, IsGiven};
 ghost use Rattle.type_numbers.specs.Decoding.{type_by};
 ghost use Rattle.rules.specs.TypingRules.{number};
-ghost use Rattle.numbered_rules.specs.Expected.{Expected, accepts_by, number_asked, IsExpected, StandsFor};
+ghost use Rattle.numbered_rules.specs.declared.expected.Expected.{Expected};
+ghost use Rattle.numbered_rules.specs.Expected.{accepts_by, number_asked, IsExpected, StandsFor};
 ghost use Rattle.numbered_rules.specs.private.Kinds.{is_array_by, is_array_for_by, is_own_by, is_reference_by};
 
 use crate::kinds::number_of;

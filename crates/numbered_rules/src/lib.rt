@@ -17,27 +17,39 @@
 //! for; `specs/Held.antt` the frame that the running frame stands for.
 #![tactic(auto)]
 
+mod arguments;
 mod arrays;
+mod calls;
+mod class_names;
 mod computing;
+mod constants;
 mod expected;
 mod families;
+mod fields;
 mod kinds;
+mod named;
 mod operands;
 mod returning;
 mod slots;
+mod special_calls;
 mod stacks;
 mod storing;
 
+pub use arguments::take_arguments;
 pub use arrays::{
     load_element, load_reference_element, new_array, store_element, store_reference_element,
 };
+pub use calls::{invoke_dynamic, invoke_interface, invoke_static, invoke_virtual};
+pub use class_names::{check_cast, instance_of, new_multi_array, new_reference_array};
 pub use computing::{
     array_length, computes, gives_null, gives_number, loads_number, loads_reference, stores_number,
     stores_reference, takes_int, takes_ints, takes_nothing, takes_reference, takes_references,
     throws,
 };
+pub use constants::{load_constant, load_wide_constant};
 pub use expected::{Asked, Expected};
 pub use families::{counts, give, gives, judge_left, loads, pops, settle};
+pub use fields::{get_field, get_static, put_field, put_static};
 pub use kinds::{DOUBLE, FLOAT, INT, LONG, NULL, TOP, number_of};
 pub use operands::take;
 pub use returning::{return_nothing, return_number, return_reference};
