@@ -10,3 +10,4 @@ pub mod Naming
 pub mod Elements
 pub mod Calling
 pub mod Loading
+pub mod Results

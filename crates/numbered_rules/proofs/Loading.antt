@@ -1,5 +1,7 @@
 -- Constants that are loaded, by the types that their kinds give them.
-use Rattle.std.proofs.Common.{◌≡◌, ◌∙◌, ℕ, Bool, true, false, Option, Some, None, refl, sym, ap}
+use Rattle.std.proofs.Common.{◌≡◌, ◌∙◌, ℕ, Bool, true, false, nat_eq, Option, Some, None, refl, sym, ap}
+use Rattle.std.specs.Prelude.{not}
+use Rattle.std.proofs.Math.Bool.{beq}
 use Rattle.std.specs.Option.{option_and_then}
 use Rattle.names.specs.declared.base.Primitive.TheVariants as primitives
 use Rattle.names.specs.Descriptors.{FieldDescriptor, primitive, field_width}
@@ -117,3 +119,15 @@ width_by (primitive primitives.Char) = refl
 width_by (primitive primitives.Short) = refl
 width_by (primitive primitives.Boolean) = refl
 width_by _ = refl
+
+pub units_same : (a b : Bool) → not (beq a b) ≡ false → nat_eq (units_by a) (units_by b) ≡ true
+units_same true true h = refl
+units_same false false h = refl
+units_same true false h = cc
+units_same false true h = cc
+
+pub units_differ : (a b : Bool) → not (beq a b) ≡ true → nat_eq (units_by a) (units_by b) ≡ false
+units_differ true true h = cc
+units_differ false false h = cc
+units_differ true false h = refl
+units_differ false true h = refl

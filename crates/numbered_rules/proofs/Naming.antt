@@ -1,4 +1,5 @@
 -- The constants that instructions name, by their descriptions in a table.
+use Rattle.std.specs.Prelude.{IfSome}
 use Rattle.std.proofs.Common.{◌≡◌, ℕ, List, Option, Some, None, option_map, [], ◌∷◌, refl, ap}
 use Rattle.names.specs.Descriptors.{FieldDescriptor}
 use Rattle.pool.specs.ConstantMeanings.{FieldConstant, MethodConstant, CallSite}
@@ -29,6 +30,24 @@ module _ {A : Type 0} (s : Numbering) (f : A → VerificationType) where
   pub number_named : (n : ℕ) (o : Option A) → IsNumberOf s (Some n) (option_map f o) → IsNamed n o
   number_named n None h = absurd h
   number_named n (Some x) h = record { value = x; is = refl; number = h }
+
+pub none_numbered : (s : Numbering) (o : Option VerificationType) → IsNumberOf s None o → o ≡ None
+none_numbered s None h = refl
+none_numbered s (Some t) h = absurd h
+
+pub record IsTyped (s : Numbering) (n : ℕ) (o : Option VerificationType) : Type 0 where
+  pub type : VerificationType
+  pub is : o ≡ Some type
+  pub number : IsNumber s n type
+
+pub typed : (s : Numbering) (n : ℕ) (o : Option VerificationType) → IsNumberOf s (Some n) o → IsTyped s n o
+typed s n None h = absurd h
+typed s n (Some t) h = record { type = t; is = refl; number = h }
+
+pub if_number_given : (s : Numbering) (n : Option ℕ) (o : Option VerificationType) → IsNumberOf s n o → IfSome n (IsGiven s)
+if_number_given s None o h = tt
+if_number_given s (Some n) None h = absurd h
+if_number_given s (Some n) (Some t) h = (t, h)
 
 pub number_given : (s : Numbering) (n : ℕ) (o : Option VerificationType) → IsNumberOf s (Some n) o → IsGiven s n
 number_given s n None h = absurd h
