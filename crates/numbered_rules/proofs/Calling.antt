@@ -15,9 +15,8 @@ use Rattle.frames.specs.Assignable.{type_answer}
 use Rattle.frames.specs.FrameAssignable.{both}
 use Rattle.frames.specs.FrameFact.{FrameFact}
 use Rattle.frames.specs.Slots.{descriptor_type, to_reference}
-use Rattle.type_numbers.specs.declared.method_numbers.MethodNumbers.{MethodNumbers}
 use Rattle.type_numbers.specs.Numbers.{Numbering, IsGiven, IsNumber, IsNumberOf}
-use Rattle.type_numbers.specs.MethodNumbers.{AreNumbers, AreTypes, arguments_in}
+use Rattle.type_numbers.specs.MethodNumbers.{AreNumbers}
 use Rattle.type_numbers.specs.Decoding.{type_by, types_by}
 use Rattle.type_numbers.proofs.Decoded.{number_read}
 use Rattle.type_numbers.proofs.MethodReadings.{numbers_length}

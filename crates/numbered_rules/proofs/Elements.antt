@@ -1,7 +1,7 @@
 -- Numbers of arrays, of their elements, and of arrays of them.
 use Rattle.std.proofs.Common.{◌≡◌, ◌≢◌, ◌∙◌, ℕ, zero, suc, ◌+◌, ◌-◌, ◌*◌, ◌/◌, ◌%◌, ◌<◌, ◌≤◌, Bool, true, false, cond, nat_lt, nat_eq, ◌&&◌, ◌||◌, List, [], ◌∷◌, Option, Some, None, slice_get, position, Result, refl, sym, ap, subst, arith}
 use Rattle.std.specs.Str.{bytes_eq}
-use Rattle.std.proofs.lemmas.Bool.{lt-ltb, true≢false}
+use Rattle.std.proofs.lemmas.Bool.{lt-ltb}
 use Rattle.std.proofs.lemmas.Bool.Decides.{nat_tests}
 use Rattle.names.specs.Descriptors.{FieldDescriptor, primitive, class as class_type, array as array_type, dimensions, dimensioned}
 use Rattle.names.specs.ReferenceTypes.{ReferenceType, class_type as of_class, array_type as of_array, descriptor_of, dimensions_of}
@@ -14,13 +14,13 @@ use Rattle.insn.specs.Stacks.{beneath}
 use Rattle.insn.specs.declared.operation.Kind.TheVariants.{Int}
 use Rattle.frames.specs.Conditions.{reason}
 use Rattle.frames.specs.FrameFact.{FrameFact}
-use Rattle.frames.specs.VerificationType.{VerificationType, top, int, float, long, double, null, class, array, uninit_this, uninit}
+use Rattle.frames.specs.VerificationType.{VerificationType, top, null, array}
 use Rattle.frames.specs.Packing.{element_code}
 use Rattle.frames.specs.Slots.{to_reference}
 use Rattle.type_numbers.specs.Numbers.{Numbering, IsNumber, absent_limit, number_by, numbered, array_number}
 use Rattle.type_numbers.specs.Decoding.{type_with, type_at, type_by, types_by, element_at}
 use Rattle.type_numbers.proofs.Decoded.{far, one_type, read_back}
-use Rattle.type_numbers.proofs.NumberParts.{HasParts, parts_of, dims_back}
+use Rattle.type_numbers.proofs.NumberParts.{parts_of, dims_back}
 use Rattle.rules.specs.declared.reason.Reason.{Reason}
 use Rattle.rules.specs.Table.{object_array}
 use Rattle.rules.specs.TypingRules.{ExpectedType, number, pops, loads_element}

@@ -1,5 +1,5 @@
 -- Constants that are loaded, by the types that their kinds give them.
-use Rattle.std.proofs.Common.{◌≡◌, ◌∙◌, ℕ, Bool, true, false, nat_eq, Option, Some, None, refl, sym, ap}
+use Rattle.std.proofs.Common.{◌≡◌, ◌∙◌, Bool, true, false, nat_eq, Option, Some, None, refl, sym, ap}
 use Rattle.std.specs.Prelude.{not}
 use Rattle.std.proofs.Math.Bool.{beq}
 use Rattle.std.specs.Option.{option_and_then}

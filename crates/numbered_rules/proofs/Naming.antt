@@ -5,7 +5,6 @@ use Rattle.names.specs.Descriptors.{FieldDescriptor}
 use Rattle.pool.specs.ConstantMeanings.{FieldConstant, MethodConstant, CallSite}
 use Rattle.frames.specs.VerificationType.{VerificationType}
 use Rattle.frames.specs.Slots.{descriptor_type}
-use Rattle.type_numbers.specs.declared.named_constant.NamedConstant.TheVariants.{Field, Method, Site}
 use Rattle.type_numbers.specs.Numbers.{Numbering, IsNumber, IsNumberOf, IsGiven}
 use Rattle.type_numbers.proofs.Decoded.{number_read}
 use Rattle.rules.specs.TypingRules.{result_types}

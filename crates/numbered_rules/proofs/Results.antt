@@ -1,5 +1,5 @@
 -- Results of methods, by their kinds and by the numbers of their types.
-use Rattle.std.proofs.Common.{◌≡◌, ◌∙◌, ℕ, ◌/◌, Bool, true, false, cond, Option, Some, None, option_map, refl, sym, ap}
+use Rattle.std.proofs.Common.{◌≡◌, ◌∙◌, ℕ, ◌/◌, true, false, cond, Option, Some, None, option_map, refl, sym}
 use Rattle.std.proofs.lemmas.Bool.{cond-true, true≢false}
 use Rattle.names.specs.Descriptors.{FieldDescriptor, primitive, class as class_descriptor, array as array_descriptor}
 use Rattle.names.specs.ReferenceTypes.{ReferenceType, class_type, array_type}

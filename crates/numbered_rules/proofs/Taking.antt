@@ -10,7 +10,7 @@ use Rattle.type_numbers.specs.Numbers.{Numbering}
 use Rattle.type_numbers.specs.Decoding.{type_by, types_by}
 use Rattle.method_frames.specs.NumberedFrames.{NumberedFrame, NumberedFrames}
 use Rattle.rules.specs.TypingRules.{ExpectedType, any_reference}
-use Rattle.rules.specs.Rules.{is_short, accepts}
+use Rattle.rules.specs.Rules.{is_short}
 use Rattle.rules.specs.Outcomes.{TookOff, pushed}
 use Rattle.rules.proofs.Taking.{Rest, RestOff, rest_step, rest_none, off_end, others_kept}
 use Rattle.numbered_rules.specs.declared.expected.Expected.{Expected}

@@ -1,5 +1,5 @@
 -- Constants that are loaded, where their kind gives them no type.
-use Rattle.std.specs.Prelude.{ℕ, Bool, if◌then◌else◌, Option, Some, None}
+use Rattle.std.specs.Prelude.{ℕ, Bool, if◌then◌else◌, Option, Some}
 use Rattle.names.specs.Descriptors.{FieldDescriptor}
 use Rattle.pool.specs.Entries as entries
 use Rattle.pool.specs.Entries.{Entry}

@@ -6,7 +6,7 @@ use Rattle.type_numbers.specs.MethodNumbers.{AreNumbers}
 use Rattle.type_numbers.specs.Numbers.{IsGiven}
 use Rattle.rules.specs.Bodies.{method_view}
 use Rattle.rules.specs.Outcomes.{Done, pushed, settled}
-use Rattle.rules.specs.TypingRules.{numbers, arguments_on, result_types}
+use Rattle.rules.specs.TypingRules.{arguments_on, result_types}
 use Rattle.rules.proofs.Settling.{off_done, not_no}
 use Rattle.numbered_rules.specs.Expected.{types_given}
 use Rattle.numbered_rules.specs.Held.{held}

@@ -7,7 +7,7 @@ use Rattle.frames.specs.Slots.{to_reference}
 use Rattle.frames.specs.VerificationType.{class, int}
 use Rattle.rules.specs.Bodies.{method_view}
 use Rattle.rules.specs.Constants.{instance_of}
-use Rattle.rules.specs.TypingRules.{number, pops, expected_class}
+use Rattle.rules.specs.TypingRules.{pops, expected_class}
 use Rattle.rules.specs.declared.reason.Reason.TheVariants.{WrongConstant}
 use Rattle.rules.proofs.Settling.{by_typing_rule}
 use Rattle.numbered_rules.specs.Expected.{IsExpected}

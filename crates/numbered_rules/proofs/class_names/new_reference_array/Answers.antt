@@ -9,7 +9,7 @@ use Rattle.type_numbers.specs.Numbers.{IsNumberOf}
 use Rattle.type_numbers.proofs.Decoded.{below_absent, number_read}
 use Rattle.rules.specs.Bodies.{method_view}
 use Rattle.rules.specs.Constants.{new_reference_array}
-use Rattle.rules.specs.TypingRules.{number, numbers, pops}
+use Rattle.rules.specs.TypingRules.{numbers, pops}
 use Rattle.rules.specs.declared.reason.Reason.TheVariants.{WrongConstant}
 use Rattle.rules.proofs.Settling.{by_typing_rule, by_allowed, is_less, not_less}
 use Rattle.numbered_rules.specs.Held.{held}

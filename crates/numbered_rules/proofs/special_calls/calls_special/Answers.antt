@@ -10,7 +10,7 @@ use Rattle.type_numbers.specs.MethodNumbers.{AreNumbers}
 use Rattle.type_numbers.specs.Numbers.{IsNumber, IsGiven}
 use Rattle.rules.specs.Bodies.{method_view}
 use Rattle.rules.specs.Outcomes.{TookOff, Done, pushed, settled}
-use Rattle.rules.specs.TypingRules.{numbers, expected_class, arguments_on, result_types}
+use Rattle.rules.specs.TypingRules.{expected_class, arguments_on, result_types}
 use Rattle.rules.proofs.Settling.{not_no}
 use Rattle.rules.proofs.SpecialCalls.{special_short, special_no, special_done}
 use Rattle.numbered_rules.specs.Expected.{types_given}
