@@ -33,10 +33,10 @@ const NAMING: [u8; 169] = [
     202, 254, 186, 190, 0, 0, 0, 52, 0, 21, 7, 0, 2, 1, 0, 1, 75, 7, 0, 4, 1, 0, 16, 106, 97, 118,
     97, 47, 108, 97, 110, 103, 47, 79, 98, 106, 101, 99, 116, 1, 0, 6, 60, 105, 110, 105, 116, 62,
     1, 0, 3, 40, 41, 86, 1, 0, 4, 67, 111, 100, 101, 1, 0, 1, 102, 1, 0, 1, 73, 12, 0, 8, 0, 9, 9,
-    0, 1, 0, 10, 1, 0, 6, 40, 73, 41, 76, 75, 59, 12, 0, 8, 0, 12, 10, 0, 1, 0, 13, 11, 0, 3, 0, 13,
-    3, 0, 0, 0, 1, 5, 0, 0, 0, 0, 0, 0, 0, 1, 1, 0, 5, 91, 91, 76, 75, 59, 7, 0, 19, 0, 33, 0, 1, 0,
-    3, 0, 0, 0, 0, 0, 1, 0, 0, 0, 5, 0, 6, 0, 1, 0, 7, 0, 0, 0, 13, 0, 4, 0, 2, 0, 0, 0, 1, 177, 0,
-    0, 0, 0, 0, 0,
+    0, 1, 0, 10, 1, 0, 6, 40, 73, 41, 76, 75, 59, 12, 0, 8, 0, 12, 10, 0, 1, 0, 13, 11, 0, 3, 0,
+    13, 3, 0, 0, 0, 1, 5, 0, 0, 0, 0, 0, 0, 0, 1, 1, 0, 5, 91, 91, 76, 75, 59, 7, 0, 19, 0, 33, 0,
+    1, 0, 3, 0, 0, 0, 0, 0, 1, 0, 0, 0, 5, 0, 6, 0, 1, 0, 7, 0, 0, 0, 13, 0, 4, 0, 2, 0, 0, 0, 1,
+    177, 0, 0, 0, 0, 0, 0,
 ];
 
 /// The number of K.
@@ -144,26 +144,14 @@ const NAMED: [(&[Act<'static>], Act<'static>, Option<u32>); 22] = [
         Act::IfReferences { offset: 3 },
         None,
     ),
-    (
-        &[Act::ConstantNull],
-        Act::CheckCast { index: 1 },
-        Some(K),
-    ),
+    (&[Act::ConstantNull], Act::CheckCast { index: 1 }, Some(K)),
     (
         &[Act::ConstantNull],
         Act::InstanceOf { index: 1 },
         Some(INT),
     ),
-    (
-        &[Act::ConstantNull],
-        Act::GetField { index: 11 },
-        Some(INT),
-    ),
-    (
-        &[Act::ConstantNull, ONE],
-        Act::PutField { index: 11 },
-        None,
-    ),
+    (&[Act::ConstantNull], Act::GetField { index: 11 }, Some(INT)),
+    (&[Act::ConstantNull, ONE], Act::PutField { index: 11 }, None),
     (
         &[Act::ConstantNull, ONE],
         Act::InvokeVirtual { index: 14 },

@@ -168,11 +168,6 @@ pub fn new_array<'n, C: Classes, S: BuildHasher>(
 {
     match element {
         None => Err(Reason::WrongConstant),
-        Some(primitive) => pops(
-            method,
-            &[Kind::Int],
-            Some(array_of(primitive)),
-            frames,
-        ),
+        Some(primitive) => pops(method, &[Kind::Int], Some(array_of(primitive)), frames),
     }
 }

@@ -149,13 +149,7 @@ pub fn invoke_virtual<'n, C: Classes, S: BuildHasher>(
         return Err(Reason::WrongConstant);
     };
     if may_invoke_virtual(called) {
-        calls(
-            method,
-            called.types,
-            Some(called.class),
-            table,
-            frames,
-        )
+        calls(method, called.types, Some(called.class), table, frames)
     } else {
         Err(Reason::WrongConstant)
     }
@@ -179,13 +173,7 @@ pub fn invoke_interface<'n, C: Classes, S: BuildHasher>(
         return Err(Reason::WrongConstant);
     };
     if may_invoke_interface(count, called) {
-        calls(
-            method,
-            called.types,
-            Some(called.class),
-            table,
-            frames,
-        )
+        calls(method, called.types, Some(called.class), table, frames)
     } else {
         Err(Reason::WrongConstant)
     }

@@ -61,12 +61,7 @@ pub fn check_cast<'n, C: Classes, S: BuildHasher>(
 {
     match class_at(table, index) {
         None => Err(Reason::WrongConstant),
-        Some(to) => pops(
-            method,
-            &[Expected::Assignable(object)],
-            Some(to),
-            frames,
-        ),
+        Some(to) => pops(method, &[Expected::Assignable(object)], Some(to), frames),
     }
 }
 
@@ -87,12 +82,7 @@ pub fn instance_of<'n, C: Classes, S: BuildHasher>(
 {
     match class_at(table, index) {
         None => Err(Reason::WrongConstant),
-        Some(_) => pops(
-            method,
-            &[Expected::Assignable(object)],
-            Some(INT),
-            frames,
-        ),
+        Some(_) => pops(method, &[Expected::Assignable(object)], Some(INT), frames),
     }
 }
 
@@ -113,12 +103,7 @@ pub fn new_reference_array<'n, C: Classes, S: BuildHasher>(
         return Err(Reason::WrongConstant);
     };
     if dimensions(component) < 255 {
-        pops(
-            method,
-            &[Kind::Int],
-            Some(component + 0x1_0000),
-            frames,
-        )
+        pops(method, &[Kind::Int], Some(component + 0x1_0000), frames)
     } else {
         Err(Reason::WrongConstant)
     }

@@ -54,12 +54,7 @@ pub fn put_static<'n, C: Classes, S: BuildHasher>(
 {
     match field_at(table, index) {
         None => Err(Reason::WrongConstant),
-        Some(field) => pops(
-            method,
-            &[Expected::Assignable(field.held)],
-            None,
-            frames,
-        ),
+        Some(field) => pops(method, &[Expected::Assignable(field.held)], None, frames),
     }
 }
 

@@ -53,12 +53,7 @@ fn calls_special<'n, C: Classes, S: BuildHasher>(
     };
     match answer {
         Answer::No => Err(Reason::WrongOperand),
-        _ => settle(
-            method,
-            both(answer, own),
-            called.types.result,
-            frames,
-        ),
+        _ => settle(method, both(answer, own), called.types.result, frames),
     }
 }
 

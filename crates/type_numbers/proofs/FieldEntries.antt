@@ -183,12 +183,14 @@ module _ (pool : List Entry) (class name_and_type : ℕ) where
       class = tt;
       field_class = subst (IsNumberOf s None) (sym (class_is ∙ c)) tt;
       field_held = subst (IsNumberOf s None) (sym (held_is ∙ h)) tt;
-      method_interface = refl; method_init = refl;
+      method_interface = refl;
+      method_init = refl;
       method_class = tt;
       method_types = tt;
       loaded = tt;
       computed = tt;
-      site_special = refl; site = tt;
+      site_special = refl;
+      site = tt;
     }
 
     none_of : (o : Option ReferenceType) → IsNumberOf s None (option_map to_reference o) → o ≡ None
@@ -228,12 +230,14 @@ module _ (pool : List Entry) (class name_and_type : ℕ) where
           class = tt;
           field_class = subst (IsNumberOf s (Some n)) (sym (class_is ∙ ap₂ class_part e f)) h;
           field_held = subst (IsNumberOf s (Some m)) (sym (held_is ∙ ap₂ held_part e f)) k;
-          method_interface = refl; method_init = refl;
+          method_interface = refl;
+          method_init = refl;
           method_class = tt;
           method_types = tt;
           loaded = tt;
           computed = tt;
-          site_special = refl; site = tt;
+          site_special = refl;
+          site = tt;
         }
 
     pub described : (n m : Option ℕ) → IsNumberOf s n (type_in ClassName pool name) → IsNumberOf s m held → IsEntryDescribed s row pool (entries.Fieldref class name_and_type) (field_of n m)
@@ -252,12 +256,14 @@ no_field s row pool class name_and_type none =
       class = tt;
       field_class = subst (IsNumberOf s None) (sym (ap (option_map field_class) e)) tt;
       field_held = subst (IsNumberOf s None) (sym (ap (option_map field_held) e)) tt;
-      method_interface = refl; method_init = refl;
+      method_interface = refl;
+      method_init = refl;
       method_class = tt;
       method_types = tt;
       loaded = tt;
       computed = tt;
-      site_special = refl; site = tt;
+      site_special = refl;
+      site = tt;
     }
 
 -- ---- the others

@@ -293,12 +293,7 @@ impl Texts {
             return Ok(NamedConstant::Other);
         };
         let (class, types) = self.method_types(pool, name, descriptor, numbers)?;
-        Ok(method_of(
-            interface,
-            is_init_named(pool, name_and_type),
-            class,
-            types,
-        ))
+        Ok(method_of(interface, is_init_named(pool, name_and_type), class, types))
     }
 
     /// The Dynamic that leads to a NameAndType at this index, whatever its bootstrap method.

@@ -40,7 +40,7 @@ returns-in_default g c = record {
       let ws = arguments_on t.params (receivers r) in
       let numbers = subst (λ ns. AreNumbers s ns (map descriptor_type t.params)) (sym c.arguments.ensures) h.arguments in
       let same : types_given c.take_arguments.new.frames.types c.args.called.result ≡ result_types t.result =
-          ap (λ z. types_given z c.args.called.result) (types_stay c.args.frames.now c.take_arguments.new.frames c.in-Some.ensures.rest) ∙ result_given s c.args.called.result t.result h.result in
+      ap (λ z. types_given z c.args.called.result) (types_stay c.args.frames.now c.take_arguments.new.frames c.in-Some.ensures.rest) ∙ result_given s c.args.called.result t.result h.result in
       off_done s.classes m ws (result_types t.result) f a y (held c.settle.new.frames) c.settle.result
       (c.in-Some.ensures.taken t.params r numbers k) (not_no c.in-Some.answer c.in_default.not-No)
       (subst (λ gs. Done (settled m a (pushed gs y)) (pushed gs y) (held c.settle.new.frames) c.settle.result) same c.settle.ensures.done);

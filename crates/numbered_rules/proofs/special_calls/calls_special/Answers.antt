@@ -48,8 +48,8 @@ returns-in_default-take_arguments g c = record {
       let gs = result_types k.type.result in
       let types : c.types.result.now ≡ s = c.types.ensures in
       let told : outcome_of c.assignable-own.result ≡ type_answer s.classes me (to_reference k.class) =
-          c.assignable-own.ensures me (to_reference k.class) (subst (λ z. IsNumber z c.args.me me) (sym types) c.requires.me) (subst (λ z. IsNumber z c.args.called.class (to_reference k.class)) (sym types) h.class)
-          ∙ ap (λ z. type_answer z.classes me (to_reference k.class)) types in
+      c.assignable-own.ensures me (to_reference k.class) (subst (λ z. IsNumber z c.args.me me) (sym types) c.requires.me) (subst (λ z. IsNumber z c.args.called.class (to_reference k.class)) (sym types) h.class)
+      ∙ ap (λ z. type_answer z.classes me (to_reference k.class)) types in
       let may : type_answer s.classes me (to_reference k.class) ≡ no → ⊥ = λ e. not_no c.assignable-own.result c.in_default.not-No (told ∙ e) in
       let numbers = subst (λ ns. AreNumbers s ns (map descriptor_type k.type.params)) (sym c.arguments.ensures) h.types.arguments in
       record { outcome = inr (special_short s.classes m at k.class ws gs f may (c.in_default-take_arguments.ensures.taken k.type.params (Some (class_type m.class)) numbers c.requires.me)) };
@@ -67,8 +67,8 @@ returns-in-No-answer g c = record {
       let gs = result_types k.type.result in
       let types : c.types.result.now ≡ s = c.types.ensures in
       let told : outcome_of c.assignable-own.result ≡ type_answer s.classes me (to_reference k.class) =
-          c.assignable-own.ensures me (to_reference k.class) (subst (λ z. IsNumber z c.args.me me) (sym types) c.requires.me) (subst (λ z. IsNumber z c.args.called.class (to_reference k.class)) (sym types) h.class)
-          ∙ ap (λ z. type_answer z.classes me (to_reference k.class)) types in
+      c.assignable-own.ensures me (to_reference k.class) (subst (λ z. IsNumber z c.args.me me) (sym types) c.requires.me) (subst (λ z. IsNumber z c.args.called.class (to_reference k.class)) (sym types) h.class)
+      ∙ ap (λ z. type_answer z.classes me (to_reference k.class)) types in
       let may : type_answer s.classes me (to_reference k.class) ≡ no → ⊥ = λ e. not_no c.assignable-own.result c.in_default.not-No (told ∙ e) in
       let numbers = subst (λ ns. AreNumbers s ns (map descriptor_type k.type.params)) (sym c.arguments.ensures) h.types.arguments in
       let y = held c.take_arguments.new.frames in
@@ -88,15 +88,15 @@ returns-in_default-answer g c = record {
       let gs = result_types k.type.result in
       let types : c.types.result.now ≡ s = c.types.ensures in
       let told : outcome_of c.assignable-own.result ≡ type_answer s.classes me (to_reference k.class) =
-          c.assignable-own.ensures me (to_reference k.class) (subst (λ z. IsNumber z c.args.me me) (sym types) c.requires.me) (subst (λ z. IsNumber z c.args.called.class (to_reference k.class)) (sym types) h.class)
-          ∙ ap (λ z. type_answer z.classes me (to_reference k.class)) types in
+      c.assignable-own.ensures me (to_reference k.class) (subst (λ z. IsNumber z c.args.me me) (sym types) c.requires.me) (subst (λ z. IsNumber z c.args.called.class (to_reference k.class)) (sym types) h.class)
+      ∙ ap (λ z. type_answer z.classes me (to_reference k.class)) types in
       let may : type_answer s.classes me (to_reference k.class) ≡ no → ⊥ = λ e. not_no c.assignable-own.result c.in_default.not-No (told ∙ e) in
       let numbers = subst (λ ns. AreNumbers s ns (map descriptor_type k.type.params)) (sym c.arguments.ensures) h.types.arguments in
       let y = held c.take_arguments.new.frames in
       let a = outcome_of c.in-Some.answer in
       let b = outcome_of c.both.result in
       let same : types_given c.take_arguments.new.frames.types c.args.called.types.result ≡ gs =
-          ap (λ z. types_given z c.args.called.types.result) (types_stay c.args.frames.now c.take_arguments.new.frames c.in-Some.ensures.rest) ∙ result_given s c.args.called.types.result k.type.result h.types.result in
+      ap (λ z. types_given z c.args.called.types.result) (types_stay c.args.frames.now c.take_arguments.new.frames c.in-Some.ensures.rest) ∙ result_given s c.args.called.types.result k.type.result h.types.result in
       special_done s.classes m at k.class ws gs f may a b y (held c.settle.new.frames) c.settle.result
       (c.in-Some.ensures.taken k.type.params (Some (class_type m.class)) numbers c.requires.me) (not_no c.in-Some.answer c.in_default-answer.not-No)
       (c.both.ensures ∙ ap (both a) told)
