@@ -1,20 +1,29 @@
 //! The rules by which an instruction is verified (JVMS 4.10.1.9), on the running frame of a `MethodFrames`, whose types
 //! are numbers. Proved against the conditions and the frame after of the crate `rules` (specs/Rules.antt and
 //! specs/After.antt there), for the types that the numbers stand for. Each call changes the running frame in place, and
-//! nothing else of the frames. The calls to know are [`Expected::meets`] and [`pops`].
+//! nothing else of the frames. The calls to know are [`run`], [`Expected::meets`] and [`pops`].
 //!
+//! - `arguments`: how the arguments and the receiver of a call are taken.
 //! - `arrays`: instructions that make arrays of primitive types, and read and write elements of arrays.
-//! - `computing`: plain instructions, each with a function of its own.
+//! - `calls`: instructions that call methods; `special_calls`: `invokespecial` of methods that are not constructors.
+//! - `class_names`: casts, and instructions that make arrays of references and of arrays.
+//! - `computing`: instructions that take operands off the stack and push a result, and the loads and stores of numbers
+//!   and references.
+//! - `constants`: instructions that load constants.
 //! - `expected`: the expected types of operands, and whether a type meets one.
 //! - `families`: what several families of instructions share; loads and increments.
+//! - `fields`: instructions that read and write fields.
 //! - `kinds`: the numbers of the types that every method may name.
+//! - `named`: the constants that instructions name, by the table of a class's constants.
 //! - `operands`: how operands are taken.
 //! - `returning`: returns.
+//! - `rule_numbers`: the numbers of the types that the rules of a method's instructions ask for.
+//! - `running`: the rule of an instruction by its act, all but `new` and calls of constructors.
 //! - `slots`: local variables in place; `storing`: stores to them.
 //! - `stacks`: instructions that move items of the stack, such as `dup` and `swap`.
 //!
 //! Definitions: `specs/Expected.antt` has the expected types by numbers, and which expected types of `rules` they stand
-//! for; `specs/Held.antt` the frame that the running frame stands for.
+//! for; `specs/Held.antt` the frame that the running frame stands for; `specs/Running.antt` what [`run`] is given.
 #![tactic(auto)]
 
 mod arguments;
